@@ -1,0 +1,49 @@
+//! What a deposit says of itself.
+
+ghost use Rattle.std.specs.Prelude.{◌≡◌, IfOk};
+
+use crate::place::Place;
+use esc_bundle::NoMemory;
+use std::alloc::Global;
+use std::marker::Model;
+
+/// What a deposit says of itself (RFC 8909, section 4).
+#[derive(Debug, Drop)]
+pub struct Header {
+    /// 1 to 64 of `A-Z a-z 0-9 . _ -`.
+    pub id: String,
+    pub place: Place,
+    /// The id of an earlier deposit, which a Differential builds on.
+    pub prev: Option<String>,
+    /// How often the deposit was generated again: 0 to 999,999.
+    pub resend: u32,
+}
+
+impl Model for Header {
+    ghost use Rattle.std.specs.Prelude.{string_bytes};
+    ghost use Rattle.std.specs.Option.{option_map};
+    ghost use Rattle.esc_envelope.specs.HeaderValue.{HeaderValue};
+
+    ghost Value = { HeaderValue };
+
+    ghost view = { λ h. record { id = string_bytes h.id; place = h.place; prev = option_map string_bytes h.prev; resend = h.resend } };
+}
+
+impl Header {
+    /// An equal header.
+    pub fn copy(&self, alloc: Global) -> Result<Header, NoMemory>
+        ensures { IfOk result (λ h. h ≡ self.now) }
+    {
+        let id = String::from_str(alloc, self.id.as_str())?;
+        let prev = match &self.prev {
+            Some(prev) => Some(String::from_str(alloc, prev.as_str())?),
+            None => None,
+        };
+        Ok(Header {
+            id,
+            place: self.place,
+            prev,
+            resend: self.resend,
+        })
+    }
+}

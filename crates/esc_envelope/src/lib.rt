@@ -1,0 +1,14 @@
+//! The JSON envelope of a deposit, and watermarks.
+#![tactic(auto)]
+
+mod header;
+mod id;
+mod kind;
+mod moment;
+mod place;
+
+pub use header::Header;
+pub use id::is_id;
+pub use kind::Kind;
+pub use moment::{watermark, watermark_text};
+pub use place::{DepositType, Place};

@@ -1,0 +1,20 @@
+//! Places: a deposit's watermark and type.
+
+/// The type of a deposit, in the order that types have at equal watermarks (RFC 8909, section 2).
+#[derive(Clone, Copy, Debug, PartialEq, Eq, PartialOrd, Ord)]
+pub enum DepositType {
+    /// A Differential: what happened since the last deposit of any type.
+    Diff,
+    /// An Incremental: what happened since the last Full.
+    Incr,
+    /// A Full: the whole registry at its watermark.
+    Full,
+}
+
+/// A watermark and a type. Places are ordered by watermark, and at equal watermarks by type (this project's profile).
+#[derive(Clone, Copy, Debug, PartialEq, Eq, PartialOrd, Ord)]
+pub struct Place {
+    /// Nanoseconds since 1970-01-01T00:00:00Z.
+    pub watermark: i64,
+    pub kind: DepositType,
+}

@@ -1,0 +1,4 @@
+pub mod DepositValue
+pub mod KeyName
+pub mod ObjectValue
+pub mod Reading

@@ -1,0 +1,12 @@
+//! From a bundle to the deposit that it is.
+#![tactic(auto)]
+
+mod deposit;
+mod key;
+mod object;
+mod reading;
+
+pub use deposit::Deposit;
+pub use key::Key;
+pub use object::{Object, Row};
+pub use reading::read_deposit;
