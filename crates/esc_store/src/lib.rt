@@ -1,0 +1,2 @@
+//! (to be written)
+#![tactic(auto)]
