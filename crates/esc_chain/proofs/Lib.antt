@@ -1,0 +1,5 @@
+pub mod Chains
+pub mod LatestLemmas
+pub mod Members
+pub mod Places
+pub mod Rows

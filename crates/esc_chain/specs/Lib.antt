@@ -1,0 +1,4 @@
+pub mod Base
+pub mod Chain
+pub mod Laws
+pub mod Walk

@@ -1,0 +1,15 @@
+//! What follows from the definition of the latest chain alone.
+
+ghost use Rattle.esc_chain.specs.Laws.{OneLatestChain, LatestChainsAreHeldRows};
+
+/// The latest chain of a manifest is one, and depends on which rows are held and on nothing else. There is nothing
+/// to run: a caller calls it for what it ensures.
+pub fn latest_chain_is_one()
+    ensures { OneLatestChain }
+{}
+
+/// The latest chain of a manifest has rows that are held, each once, and at most 4,096. There is nothing to run: a
+/// caller calls it for what it ensures.
+pub fn latest_chain_rows_are_held()
+    ensures { LatestChainsAreHeldRows }
+{}
