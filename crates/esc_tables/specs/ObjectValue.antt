@@ -1,5 +1,7 @@
 -- Rows and objects as values; texts are their bytes.
-use Rattle.std.specs.Prelude.{ℕ, List}
+use Rattle.std.specs.Prelude.{ℕ, List, string_bytes}
+use Rattle.std.specs.declared.string.String.{String}
+use Rattle.std.specs.Global.{Global}
 
 -- a table's name, and of each cell its field and its text, in the declared order
 pub record RowValue : Type 0 where
@@ -10,3 +12,7 @@ pub record RowValue : Type 0 where
 pub record ObjectValue : Type 0 where
   pub parent : RowValue
   pub children : List RowValue
+
+-- a cell without where its texts lie in memory
+abbrev pub cell_texts : String Global × String Global → List ℕ × List ℕ
+cell_texts c = (string_bytes c.0, string_bytes c.1)

@@ -1,6 +1,7 @@
 //! Objects of the registry, and the rows that they are made of.
 
-ghost use Rattle.std.specs.Prelude.{◌≡◌, IfOk};
+ghost use Rattle.std.specs.Prelude.{◌≡◌, IfOk, map};
+ghost use Rattle.esc_tables.specs.ObjectValue.{cell_texts};
 
 use esc_bundle::NoMemory;
 use std::alloc::Global;
@@ -15,12 +16,12 @@ pub struct Row {
 }
 
 impl Model for Row {
-    ghost use Rattle.std.specs.Prelude.{string_bytes, map};
-    ghost use Rattle.esc_tables.specs.ObjectValue.{RowValue};
+    ghost use Rattle.std.specs.Prelude.{map, string_bytes};
+    ghost use Rattle.esc_tables.specs.ObjectValue.{RowValue, cell_texts};
 
     ghost Value = { RowValue };
 
-    ghost view = { λ r. record { table = string_bytes r.table; cells = map (λ c. (string_bytes c.0, string_bytes c.1)) r.cells.items } };
+    ghost view = { λ r. record { table = string_bytes r.table; cells = map cell_texts r.cells.items } };
 }
 
 /// An object: a parent row with the child rows of its key (this project's profile of RFC 9022's CSV model).
@@ -39,20 +40,48 @@ impl Model for Object {
     ghost view = { λ o. record { parent = o.parent; children = o.children.items } };
 }
 
+fn copy_cells(alloc: Global, cells: &[(String, String)]) -> Result<Vec<(String, String)>, NoMemory>
+    ensures { IfOk result (λ v. map cell_texts v.items ≡ map cell_texts cells.now) }
+{
+    let mut copies = Vec::with_capacity(alloc, cells.len())?;
+    for (field, text) in cells {
+        let field = String::from_str(alloc, field.as_str())?;
+        let text = String::from_str(alloc, text.as_str())?;
+        copies.push((field, text))?;
+    }
+    Ok(copies)
+}
+
+fn copy_rows(alloc: Global, rows: &[Row]) -> Result<Vec<Row>, NoMemory>
+    ensures { IfOk result (λ v. v.items ≡ rows.now) }
+{
+    let mut copies = Vec::with_capacity(alloc, rows.len())?;
+    for row in rows {
+        copies.push(row.copy(alloc)?)?;
+    }
+    Ok(copies)
+}
+
 impl Row {
     /// An equal row.
-    pub fn copy(&self, _alloc: Global) -> Result<Row, NoMemory>
+    pub fn copy(&self, alloc: Global) -> Result<Row, NoMemory>
         ensures { IfOk result (λ r. r ≡ self.now) }
     {
-        Err(NoMemory)
+        Ok(Row {
+            table: String::from_str(alloc, self.table.as_str())?,
+            cells: copy_cells(alloc, self.cells.as_slice())?,
+        })
     }
 }
 
 impl Object {
     /// An equal object.
-    pub fn copy(&self, _alloc: Global) -> Result<Object, NoMemory>
+    pub fn copy(&self, alloc: Global) -> Result<Object, NoMemory>
         ensures { IfOk result (λ o. o ≡ self.now) }
     {
-        Err(NoMemory)
+        Ok(Object {
+            parent: self.parent.copy(alloc)?,
+            children: copy_rows(alloc, self.children.as_slice())?,
+        })
     }
 }
