@@ -1,5 +1,7 @@
--- The kinds of objects in order.
-use Rattle.std.specs.Prelude.{ℕ}
+-- The kinds of objects in order, and their names.
+use Rattle.std.specs.Prelude.{ℕ, List, [], ◌∷◌, Bool, ◌==◌, Option, codes}
+use Rattle.std.specs.List.{find}
+use Rattle.std.specs.Str.{bytes_eq}
 use Rattle.esc_envelope.specs.declared.kind.Kind.{Kind}
 use Rattle.esc_envelope.specs.declared.kind.Kind.TheVariants.{Registrar, Contact, Host, Domain, Idn, Nndn}
 
@@ -11,3 +13,24 @@ kind_rank Host = 2
 kind_rank Domain = 3
 kind_rank Idn = 4
 kind_rank Nndn = 5
+
+-- whether two kinds are one
+abbrev pub is_kind : Kind → Kind → Bool
+is_kind k l = kind_rank k == kind_rank l
+
+-- the kinds in their order
+unfoldable pub kinds : List Kind
+kinds = Registrar ∷ Contact ∷ Host ∷ Domain ∷ Idn ∷ Nndn ∷ []
+
+-- the word for a kind
+abbrev pub kind_name : Kind → List ℕ
+kind_name Registrar = codes "registrar"
+kind_name Contact = codes "contact"
+kind_name Host = codes "host"
+kind_name Domain = codes "domain"
+kind_name Idn = codes "idn"
+kind_name Nndn = codes "nndn"
+
+-- the kind of this name
+abbrev pub kind_named : List ℕ → Option Kind
+kind_named name = find (λ k. bytes_eq (kind_name k) name) kinds

@@ -1,5 +1,10 @@
+pub mod Envelope
+pub mod EnvelopeValue
 pub mod HeaderValue
 pub mod Id
 pub mod Kinds
+pub mod Members
 pub mod Place
+pub mod Steps
+pub mod Tables
 pub mod Watermark
