@@ -1,0 +1,4 @@
+pub mod ArrivalValue
+pub mod Finding
+pub mod Receipts
+pub mod Stands

@@ -1,2 +1,7 @@
-//! (to be written)
+//! The desk: arrivals, receipts, and the registry's tables.
 #![tactic(auto)]
+
+mod arrival;
+mod finding;
+
+pub use arrival::Arrival;

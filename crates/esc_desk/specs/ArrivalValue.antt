@@ -1,0 +1,7 @@
+-- Arrivals as values.
+use Rattle.std.specs.Prelude.{ℕ, List}
+
+-- a number and a body, as bytes
+pub record ArrivalValue : Type 0 where
+  pub number : List ℕ
+  pub body : List ℕ

@@ -1,0 +1,102 @@
+//! What is found of a body: the verdict before it is told.
+
+ghost use Rattle.std.specs.Prelude.{◌≡◌, ◌<◌, length, IfOk, IfSome, string_bytes};
+ghost use Rattle.std.specs.Option.{option_map};
+ghost use Rattle.std.specs.Str.{bytes_eq};
+ghost use Rattle.sha2.specs.Sha256.{sha256};
+ghost use Rattle.esc_tables.specs.Reading.{reading};
+ghost use Rattle.esc_desk.specs.Finding.{as_listed, same_option, same_place, compared, finding, held_row};
+
+use esc_bundle::{Fault, NoMemory};
+use esc_envelope::{DepositType, Header, Place};
+use esc_manifest::{MRow, Manifest};
+use esc_tables::{Deposit, read_deposit};
+use std::alloc::Global;
+
+/// What is found of a body.
+#[derive(Debug, Drop)]
+pub(crate) enum Finding {
+    /// No row has its digest.
+    Unlisted,
+    /// At this row; no deposit reads from it, by the refusal with this number.
+    Unreadable(usize, u8),
+    /// At this row, but it is another deposit than the row tells.
+    Differing(usize),
+    /// It is the deposit of this row.
+    Holding(usize, Deposit),
+}
+
+/// What is found of a body with this digest.
+pub(crate) fn find(
+    alloc: Global,
+    manifest: &Manifest,
+    digest: &[u8; 32],
+    body: &[u8],
+) -> Result<Finding, NoMemory>
+    requires { digest.now ≡ sha256 body.now }
+    ensures found { IfOk result (λ f. f ≡ finding sha256 reading manifest.now body.now) }
+    ensures row { IfOk result (λ f. IfSome (held_row f) (λ r. r < length manifest.now)) }
+{
+    let Some(row) = manifest.row_by_digest(digest) else {
+        return Ok(Finding::Unlisted);
+    };
+    match read_deposit(alloc, body) {
+        Ok(deposit) => Ok(compare(manifest.rows(), row, deposit)),
+        Err(Fault::Refused(number)) => Ok(Finding::Unreadable(row, number)),
+        Err(Fault::NoMemory) => Err(NoMemory),
+    }
+}
+
+fn compare(rows: &[MRow], row: usize, deposit: Deposit) -> Finding
+    requires { row < length rows.now }
+    ensures compared { result ≡ compared rows.now row deposit }
+    ensures row { IfSome (held_row result) (λ r. r < length rows.now) }
+{
+    let listed = &rows[row].header;
+    if is_as_listed(listed, &deposit.header) {
+        Finding::Holding(row, deposit)
+    } else {
+        Finding::Differing(row)
+    }
+}
+
+fn is_as_listed(row: &Header, deposit: &Header) -> bool
+    ensures { result ≡ as_listed row.now deposit.now }
+{
+    is_same(&row.id, &deposit.id)
+        && is_same_place(row.place, deposit.place)
+        && row.resend == deposit.resend
+        && (row.place.kind != DepositType::Diff || is_same_option(&row.prev, &deposit.prev))
+}
+
+fn is_same(a: &String, b: &String) -> bool
+    ensures { result ≡ bytes_eq (string_bytes a.now) (string_bytes b.now) }
+{
+    a.as_str() == b.as_str()
+}
+
+fn is_same_place(a: Place, b: Place) -> bool
+    ensures { result ≡ same_place a b }
+{
+    a.watermark == b.watermark && a.kind as u8 == b.kind as u8
+}
+
+fn is_same_option(a: &Option<String>, b: &Option<String>) -> bool
+    ensures { result ≡ same_option (option_map string_bytes a.now) (option_map string_bytes b.now) }
+{
+    match (a, b) {
+        (None, None) => true,
+        (Some(a), Some(b)) => is_same(a, b),
+        _ => false,
+    }
+}
+
+/// The row whose deposit is held.
+pub(crate) fn held_row(finding: &Finding) -> Option<usize>
+    ensures { result ≡ held_row finding.now }
+{
+    match finding {
+        Finding::Holding(row, _) => Some(*row),
+        Finding::Unlisted | Finding::Unreadable(..) | Finding::Differing(_) => None,
+    }
+}
