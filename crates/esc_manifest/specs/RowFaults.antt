@@ -65,14 +65,15 @@ follows_later q r = is_diff r.header.place.kind && is_some_id (bytes_eq q.header
 abbrev pub same_digest : MRow → MRow → Bool
 same_digest q r = bytes_eq q.digest r.digest
 
+-- the first number, if there is one, or else the second
+abbrev pub or_else : Option ℕ → Option ℕ → Option ℕ
+or_else None next = next
+or_else (Some k) next = Some k
+
 -- the least number below n of which a test holds
 unfoldable pub least : (ℕ → Bool) → ℕ → Option ℕ
 least test zero = None
-least test (suc n) = or_at n (test n) (least test n)
-  where
-  or_at : ℕ → Bool → Option ℕ → Option ℕ
-  or_at n holds None = if holds then Some n else None
-  or_at n holds (Some k) = Some k
+least test (suc n) = or_else (least test n) (if test n then Some n else None)
 
 -- the least row that stands so to an earlier one
 abbrev pub first_against_earlier : (MRow → MRow → Bool) → List MRow → Option ℕ

@@ -62,3 +62,164 @@ fn is_same_revision(q: &MRow, r: &MRow) -> bool
     }
     is_same_place(q.header.place, r.header.place)
 }
+
+fn has_moved_id(q: &MRow, r: &MRow) -> bool
+    ensures { result ≡ moved_id q.now r.now }
+{
+    if q.header.id.as_str() != r.header.id.as_str() {
+        return false;
+    }
+    !is_same_place(q.header.place, r.header.place)
+}
+
+fn follows_later(q: &MRow, r: &MRow) -> bool
+    ensures { result ≡ follows_later q.now r.now }
+{
+    if r.header.place.kind != DepositType::Diff {
+        return false;
+    }
+    match &r.header.prev {
+        Some(prev) => {
+            if prev.as_str() != q.header.id.as_str() {
+                return false;
+            }
+            q.header.place.watermark >= r.header.place.watermark
+        }
+        None => false,
+    }
+}
+
+fn has_same_digest(q: &MRow, r: &MRow) -> bool
+    ensures { result ≡ same_digest q.now r.now }
+{
+    q.digest == r.digest
+}
+
+fn repeats_revision(earlier: &[MRow], row: &MRow) -> bool
+    ensures { result ≡ list_any (λ q. same_revision q row.now) earlier.now }
+{
+    earlier.iter().any(|q| is_same_revision(q, row))
+}
+
+fn moves_id(earlier: &[MRow], row: &MRow) -> bool
+    ensures { result ≡ list_any (λ q. moved_id q row.now) earlier.now }
+{
+    earlier.iter().any(|q| has_moved_id(q, row))
+}
+
+fn follows_any_later(rows: &[MRow], row: &MRow) -> bool
+    ensures { result ≡ list_any (λ q. follows_later q row.now) rows.now }
+{
+    rows.iter().any(|q| follows_later(q, row))
+}
+
+fn repeats_digest(earlier: &[MRow], row: &MRow) -> bool
+    ensures { result ≡ list_any (λ q. same_digest q row.now) earlier.now }
+{
+    earlier.iter().any(|q| has_same_digest(q, row))
+}
+
+fn first_bad_id(rows: &[MRow]) -> Option<usize>
+    ensures first { result ≡ position has_bad_id rows.now }
+    ensures within { IfSome result (λ r. r < length rows.now) }
+{
+    rows.iter().position(|row| has_bad_id(row))
+}
+
+fn first_bad_watermark(rows: &[MRow]) -> Option<usize>
+    ensures first { result ≡ position has_bad_watermark rows.now }
+    ensures within { IfSome result (λ r. r < length rows.now) }
+{
+    rows.iter().position(|row| has_bad_watermark(row))
+}
+
+fn first_without_prev(rows: &[MRow]) -> Option<usize>
+    ensures first { result ≡ position lacks_prev rows.now }
+    ensures within { IfSome result (λ r. r < length rows.now) }
+{
+    rows.iter().position(|row| lacks_prev(row))
+}
+
+fn first_bad_resend(rows: &[MRow]) -> Option<usize>
+    ensures first { result ≡ position has_bad_resend rows.now }
+    ensures within { IfSome result (λ r. r < length rows.now) }
+{
+    rows.iter().position(|row| row.header.resend > MOST_RESEND)
+}
+
+fn first_repeated_revision(rows: &[MRow]) -> Option<usize>
+    ensures first { result ≡ first_against_earlier same_revision rows.now }
+    ensures within { IfSome result (λ r. r < length rows.now) }
+{
+    for (i, row) in rows.iter().enumerate() {
+        if repeats_revision(&rows[..i], row) {
+            return Some(i);
+        }
+    }
+    None
+}
+
+fn first_moved_id(rows: &[MRow]) -> Option<usize>
+    ensures first { result ≡ first_against_earlier moved_id rows.now }
+    ensures within { IfSome result (λ r. r < length rows.now) }
+{
+    for (i, row) in rows.iter().enumerate() {
+        if moves_id(&rows[..i], row) {
+            return Some(i);
+        }
+    }
+    None
+}
+
+fn first_after_later(rows: &[MRow]) -> Option<usize>
+    ensures first { result ≡ first_against_any follows_later rows.now }
+    ensures within { IfSome result (λ r. r < length rows.now) }
+{
+    rows.iter().position(|row| follows_any_later(rows, row))
+}
+
+fn first_repeated_digest(rows: &[MRow]) -> Option<usize>
+    ensures first { result ≡ first_against_earlier same_digest rows.now }
+    ensures within { IfSome result (λ r. r < length rows.now) }
+{
+    for (i, row) in rows.iter().enumerate() {
+        if repeats_digest(&rows[..i], row) {
+            return Some(i);
+        }
+    }
+    None
+}
+
+#[tactic(auto, unfolding(crate::specs::RowFaults::rows_fault))]
+fn rows_fault(rows: &[MRow]) -> Option<(u8, u32)>
+    ensures { result ≡ rows_fault rows.now }
+{
+    if rows.len() > MOST_ROWS {
+        return Some((1, 0));
+    }
+    if let Some(row) = first_bad_id(rows) {
+        return Some((4, row as u32 + 1));
+    }
+    if let Some(row) = first_bad_watermark(rows) {
+        return Some((6, row as u32 + 1));
+    }
+    if let Some(row) = first_without_prev(rows) {
+        return Some((7, row as u32 + 1));
+    }
+    if let Some(row) = first_bad_resend(rows) {
+        return Some((8, row as u32 + 1));
+    }
+    if let Some(row) = first_repeated_revision(rows) {
+        return Some((10, row as u32 + 1));
+    }
+    if let Some(row) = first_moved_id(rows) {
+        return Some((11, row as u32 + 1));
+    }
+    if let Some(row) = first_after_later(rows) {
+        return Some((12, row as u32 + 1));
+    }
+    if let Some(row) = first_repeated_digest(rows) {
+        return Some((13, row as u32 + 1));
+    }
+    None
+}

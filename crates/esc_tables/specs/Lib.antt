@@ -2,3 +2,4 @@ pub mod DepositValue
 pub mod KeyName
 pub mod ObjectValue
 pub mod Reading
+pub mod Rows

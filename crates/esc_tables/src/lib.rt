@@ -5,6 +5,7 @@ mod deposit;
 mod key;
 mod object;
 mod reading;
+mod rows;
 
 pub use deposit::Deposit;
 pub use key::Key;
