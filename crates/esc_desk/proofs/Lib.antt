@@ -1,0 +1,4 @@
+pub mod Distinct
+pub mod HeldRows
+pub mod OneArrival
+pub mod Searches
