@@ -1,0 +1,5 @@
+pub mod Front
+pub mod Images
+pub mod Moves
+pub mod Registry
+pub mod Tables

@@ -1,0 +1,25 @@
+-- What a move from one chain to another costs.
+use Rattle.std.specs.Prelude.{ℕ, ◌+◌, ◌-◌, ◌&&◌, ◌==◌, nat_lt, Bool, if◌then◌else◌, List, [], length, drop, sum_by}
+use Rattle.esc_tables.specs.DepositValue.{DepositValue}
+use Rattle.esc_apply.specs.declared.front.Step.{Step}
+use Rattle.esc_apply.specs.declared.moves.Work.{Work}
+use Rattle.esc_apply.specs.Tables.{mention_count}
+use Rattle.esc_apply.specs.Front.{common_front}
+
+-- a chain of which nothing stays is cleared
+abbrev pub is_cleared : ℕ → ℕ → Bool
+is_cleared steps front = (front == 0) && nat_lt 0 steps
+
+-- the deposits that are taken back one by one: those past the front, and none where all is cleared
+abbrev pub undone_of : List DepositValue → ℕ → List DepositValue
+undone_of c front = if is_cleared (length c) front then [] else drop front c
+
+-- the cost of going from the deposits c of the old steps to the new steps, whose deposits past the common front are these:
+-- one write for each key that a deposit mentions which is taken back or applied
+abbrev pub cost : List DepositValue → List Step → List Step → List DepositValue → Work
+cost c old new deposits = record {
+  cleared = is_cleared (length old) (common_front old new);
+  undone = (if is_cleared (length old) (common_front old new) then 0 else length old - common_front old new);
+  applied = length new - common_front old new;
+  writes = sum_by mention_count (undone_of c (common_front old new)) + sum_by mention_count deposits;
+}

@@ -1,0 +1,81 @@
+-- What a registry contains, and what its calls do to that.
+use Rattle.std.specs.Prelude.{◌≡◌, ℕ, ◌+◌, ◌-◌, ◌^◌, min, Bool, ◌==◌, if◌then◌else◌, List, length, Option, Some, None}
+use Rattle.std.specs.List.{IsDistinct}
+use Rattle.std.specs.Map.{lookup, keys_of}
+use Rattle.std.specs.Option.{unwrap_or}
+use Rattle.esc_tables.specs.KeyName.{KeyName, key_eq}
+use Rattle.esc_tables.specs.ObjectValue.{ObjectValue}
+use Rattle.esc_tables.specs.DepositValue.{DepositValue}
+use Rattle.esc_apply.specs.Tables.{mentions, says}
+
+-- of each key its object, or none
+abbrev pub Content : Type 0
+Content = KeyName → Option ObjectValue
+
+-- of each key what stood there before a step, if that was noted
+abbrev pub Befores : Type 0
+Befores = KeyName → Option (Option ObjectValue)
+
+-- the objects, and for each step what stood before it at the keys that it changed
+pub record State : Type 0 where
+  pub content : Content
+  pub undo : ℕ → Befores
+
+-- nothing was noted
+abbrev pub nothing : Befores
+nothing q = None
+
+-- a registry without objects and notes
+abbrev pub empty : State
+empty = record { content = λ q. None; undo = λ j q. None }
+
+-- a function with another value at one key
+abbrev pub with_key : {X : Type 0} → (KeyName → X) → KeyName → X → KeyName → X
+with_key f k w q = if key_eq k q then w else f q
+
+-- notes with others at one step
+abbrev pub with_step : (ℕ → Befores) → ℕ → Befores → ℕ → KeyName → Option (Option ObjectValue)
+with_step f j g i q = if j == i then g q else f i q
+
+-- an object at a key, or none
+abbrev pub written : State → KeyName → Option ObjectValue → State
+written s k w = record { content = with_key s.content k w; undo = s.undo }
+
+-- what stood at a key before step j
+abbrev pub noted : State → ℕ → KeyName → Option ObjectValue → State
+noted s j k w = record { content = s.content; undo = with_step s.undo j (with_key (s.undo j) k (Some w)) }
+
+-- without what was noted for step j
+abbrev pub taken : State → ℕ → State
+taken s j = record { content = s.content; undo = with_step s.undo j nothing }
+
+-- what stands at a key is noted for step j, and then changed
+abbrev pub changed : State → ℕ → KeyName → Option ObjectValue → State
+changed s j k w = written (noted s j k (s.content k)) k w
+
+-- each key that a deposit mentions has what the deposit says, and what stood there is noted for step j
+abbrev pub stepped : State → ℕ → DepositValue → State
+stepped s j d = record {
+  content = λ q. if mentions q d then says q d else s.content q;
+  undo = with_step s.undo j (λ q. if mentions q d then Some (s.content q) else None);
+}
+
+-- each key for which step j noted something has that again, and nothing is noted for the step
+abbrev pub restored : State → ℕ → State
+restored s j = record {
+  content = λ q. unwrap_or (s.undo j q) (s.content q);
+  undo = with_step s.undo j nothing;
+}
+
+-- these entries, each key once, are what a function has
+pub record IsEntriesOf {X : Type 0} (f : KeyName → Option X) (es : List (KeyName × X)) : Type 0 where
+  pub once : IsDistinct key_eq (keys_of es)
+  pub each : (q : KeyName) → lookup (key_eq q) es ≡ f q
+
+-- a function has something at n keys
+abbrev pub HasSize : {X : Type 0} → (KeyName → Option X) → ℕ → Type 0
+HasSize {X} f n = (es : List (KeyName × X)) × IsEntriesOf f es × (length es ≡ n)
+
+-- a count of 64 bits, which stays at its greatest value once there
+abbrev pub saturated : ℕ → ℕ
+saturated n = min n (2 ^ 64 - 1)

@@ -1,0 +1,52 @@
+//! A registry goes from one chain to another.
+
+ghost use Rattle.std.specs.Prelude.{◌≡◌, ◌+◌, ◌-◌, ◌<◌, ◌≤◌, ◌^◌, ◌++◌, List, length, take, sum_by, IfOk, OnOk};
+ghost use Rattle.esc_tables.specs.DepositValue.{DepositValue};
+ghost use Rattle.esc_apply.specs.Tables.{mention_count};
+ghost use Rattle.esc_apply.specs.Registry.{saturated};
+ghost use Rattle.esc_apply.specs.Images.{chain_state};
+ghost use Rattle.esc_apply.specs.Front.{common_front};
+ghost use Rattle.esc_apply.specs.Moves.{cost};
+
+use crate::front::Step;
+use crate::registry::Registry;
+use esc_bundle::NoMemory;
+use esc_tables::Deposit;
+use std::alloc::Global;
+
+/// What a move did.
+#[derive(Clone, Copy, Debug, PartialEq, Eq)]
+pub struct Work {
+    /// All objects and before-images were taken away at once.
+    pub cleared: bool,
+    /// How many steps were taken back one by one.
+    pub undone: u32,
+    /// How many steps were applied.
+    pub applied: u32,
+    /// How many objects were written or removed, one by one.
+    pub writes: u64,
+}
+
+/// Goes from the chain `old` to the chain `new`, each of at most 4,096 steps, where `deposits` are those of the new
+/// steps past the common front, in order.
+///
+/// A registry that holds the tables and before-images of deposits of the old steps holds afterwards those of the first
+/// of them, as many as are common, followed by `deposits`. The work is what the move costs, and the registry's count
+/// has grown by its writes.
+pub fn move_chain<R: Registry>(
+    r: &mut R,
+    alloc: Global,
+    old: &[Step],
+    new: &[Step],
+    deposits: &[Deposit],
+) -> Result<Work, R::Error>
+    requires few_old { length old.now ≤ 4096 }
+    requires few_new { length new.now ≤ 4096 }
+    requires deposits { length deposits.now ≡ length new.now - common_front old.now new.now }
+    ensures follows { R.follows r.old r.new }
+    ensures counted { IfOk result (λ work. R.count r.new ≡ saturated (R.count r.old + work.writes)) }
+    ensures moved { OnOk result (R.is_honest r.new → (c : List DepositValue) → length c ≡ length old.now → R.holds r.old (chain_state c) → R.holds r.new (chain_state (take (common_front old.now new.now) c ++ deposits.now))) }
+    ensures cost { IfOk result (λ work. R.is_honest r.new → (c : List DepositValue) → length c ≡ length old.now → R.holds r.old (chain_state c) → sum_by mention_count (c ++ deposits.now) < 2 ^ 64 → work ≡ cost c old.now new.now deposits.now) }
+{
+    Err(R::Error::from(NoMemory))
+}
