@@ -2,7 +2,11 @@
 #![tactic(auto)]
 
 mod fault;
+mod laws;
+mod reading;
 mod section;
 
 pub use fault::{Fault, NoMemory};
+pub use laws::{each_text_has_one_reading, frame_is_exact, no_bundle_begins_another};
+pub use reading::sections;
 pub use section::Section;

@@ -1,0 +1,3 @@
+pub mod Fractions
+pub mod RealParts
+pub mod Years

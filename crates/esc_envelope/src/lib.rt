@@ -6,6 +6,7 @@ mod header;
 mod id;
 mod kind;
 mod moment;
+mod parts;
 mod place;
 mod table;
 

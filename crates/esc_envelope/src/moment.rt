@@ -1,10 +1,53 @@
 //! Watermarks: moments in UTC, to the nanosecond.
 
-ghost use Rattle.std.specs.Prelude.{◌≡◌, IfOk, IfSome, option_map, string_bytes};
-ghost use Rattle.esc_envelope.specs.Watermark.{IsInYears, watermark_of, watermark_text_of};
+ghost use Rattle.std.specs.Prelude.{◌≡◌, ◌<◌, IfOk, IfSome, option_map, string_bytes, pos, ◌≤ℤ◌};
+ghost use Rattle.jiff.specs.Words.{civil_nanos, IsBetween};
+ghost use Rattle.esc_envelope.specs.Watermark.{IsInYears, value_if, watermark_of, watermark_text_of};
 
+use crate::parts::{Clock, Day, after_byte, before_z, billionths, read_clock, read_day};
 use esc_bundle::NoMemory;
+use jiff::civil::DateTime;
+use jiff::tz::Offset;
 use std::alloc::Global;
+
+fn nanoseconds_at(civil: DateTime) -> i64
+    requires { IsBetween (pos 1970) (pos 2261) civil.date.year }
+    ensures value { result ≡ civil_nanos civil }
+    ensures range { IsInYears result }
+{
+    match Offset::UTC.to_timestamp(civil) {
+        Ok(timestamp) => timestamp.as_nanosecond() as i64,
+        Err(_) => unreachable!(),
+    }
+}
+
+fn nanoseconds(day: Day, clock: Clock, nanosecond: u32) -> Option<i64>
+    requires month { day.month < 100 }
+    requires day { day.day < 100 }
+    requires hour { clock.hour < 100 }
+    requires minute { clock.minute < 100 }
+    requires second { clock.second < 100 }
+    requires nanosecond { nanosecond < 1_000_000_000 }
+    ensures value { result ≡ value_if day clock nanosecond }
+    ensures range { IfSome result IsInYears }
+{
+    if day.year < 1970 || day.year > 2261 {
+        return None;
+    }
+    let civil = DateTime::new(
+        day.year as i16,
+        day.month as i8,
+        day.day as i8,
+        clock.hour as i8,
+        clock.minute as i8,
+        clock.second as i8,
+        nanosecond as i32,
+    );
+    match civil {
+        Ok(civil) => Some(nanoseconds_at(civil)),
+        Err(_) => None,
+    }
+}
 
 /// The nanoseconds since 1970-01-01T00:00:00Z that a text `YYYY-MM-DDThh:mm:ss[.fraction]Z` writes, of a real date
 /// of the years 1970 to 2261, with 1 to 9 digits of fraction. Takes no memory.
@@ -13,8 +56,12 @@ pub fn watermark(text: &str) -> Option<i64>
     ensures value { result ≡ watermark_of text.now }
     ensures range { IfSome result IsInYears }
 {
-    let _ = text;
-    None
+    let moment = before_z(text.as_bytes())?;
+    let (day, rest) = read_day(moment)?;
+    let rest = after_byte(rest, b'T')?;
+    let (clock, rest) = read_clock(rest)?;
+    let nanosecond = billionths(rest)?;
+    nanoseconds(day, clock, nanosecond)
 }
 
 /// The text of a moment of the years 1970 to 2261, else `None`. A fraction is written only if it isn't zero, without

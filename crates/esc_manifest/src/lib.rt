@@ -2,11 +2,14 @@
 #![tactic(auto)]
 
 mod fault;
+mod laws;
 mod manifest;
+mod record;
 mod row;
 mod rows;
 
 pub use fault::MFault;
+pub use laws::rows_without_fault_are_accepted;
 pub use manifest::Manifest;
 pub use row::MRow;
-
+pub use rows::from_rows;

@@ -1,12 +1,16 @@
 //! Manifests of rows.
 
-ghost use Rattle.std.specs.Prelude.{◌≡◌, ◌<◌, ◌≤◌, ℕ, length, not, position, IfSome, IfOk, Some, None, option_map, Err, ◌&&◌, ◌||◌, take};
+ghost use Rattle.std.specs.Prelude.{◌≡◌, ◌<◌, ◌≤◌, ℕ, length, not, position, IfSome, IfOk, Some, None, Ok, Err};
 ghost use Rattle.std.specs.List.{list_any};
 ghost use Rattle.esc_envelope.specs.Id.{is_id};
+ghost use Rattle.esc_manifest.specs.declared.fault.MFault.TheVariants as MFault;
 ghost use Rattle.esc_manifest.specs.RowFaults.{has_bad_id, has_bad_watermark, lacks_prev, has_bad_resend, same_place, same_revision, moved_id, follows_later, same_digest, first_against_earlier, first_against_any, rows_fault};
 
+use crate::fault::MFault;
+use crate::manifest::Manifest;
 use crate::row::MRow;
 use esc_envelope::{DepositType, Place, is_id};
+use std::alloc::Global;
 
 /// The end of the years that watermarks lie in, 2262-01-01T00:00:00Z in nanoseconds.
 const END_OF_YEARS: i64 = 9_214_646_400_000_000_000;
@@ -15,7 +19,7 @@ const END_OF_YEARS: i64 = 9_214_646_400_000_000_000;
 const MOST_RESEND: u32 = 999_999;
 
 /// The most rows of a manifest.
-const MOST_ROWS: usize = 4_096;
+pub(crate) const MOST_ROWS: usize = 4_096;
 
 fn has_bad_id(row: &MRow) -> bool
     ensures { result ≡ has_bad_id row.now }
@@ -222,4 +226,16 @@ fn rows_fault(rows: &[MRow]) -> Option<(u8, u32)>
         return Some((13, row as u32 + 1));
     }
     None
+}
+
+/// The manifest of these rows. Refuses with the least of M1 (more than 4,096 rows), M4, M6 to M8 and M10 to M13 that
+/// stands in them; a `prev` of an empty text is M4. Takes no memory.
+pub fn from_rows(_alloc: Global, rows: Vec<MRow>) -> Result<Manifest, MFault>
+    ensures accepted { rows_fault rows.items ≡ None → result ≡ Ok rows.items }
+    ensures refused { (code row : ℕ) → rows_fault rows.items ≡ Some (code, row) → result ≡ Err (MFault.Refused code row) }
+{
+    match rows_fault(rows.as_slice()) {
+        Some((code, row)) => Err(MFault::Refused { code, row }),
+        None => Ok(Manifest::of_accepted(rows)),
+    }
 }

@@ -1,0 +1,5 @@
+pub mod Faults
+pub mod Kept
+pub mod ReplyValue
+pub mod Standing
+pub mod Tables

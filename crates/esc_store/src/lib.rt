@@ -1,2 +1,18 @@
-//! (to be written)
-#![tactic(auto)]
+//! The desk's database: what a store keeps, and changes of it that are made whole or not at all.
+#![tactic(auto, using(sqlite::proofs::StateLemmas::survives_weaker, sqlite::proofs::StateLemmas::survives_then))]
+
+mod change;
+mod fault;
+mod form;
+mod numbers;
+mod reads;
+mod registry;
+mod reply;
+mod store;
+
+pub use change::Change;
+pub use fault::SFault;
+pub use form::number;
+pub use numbers::{N1, Number};
+pub use reply::{Receipt, Reply, Verdict};
+pub use store::Store;

@@ -5,6 +5,7 @@ mod deposit;
 mod key;
 mod object;
 mod reading;
+mod row;
 mod rows;
 
 pub use deposit::Deposit;

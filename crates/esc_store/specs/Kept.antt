@@ -1,0 +1,79 @@
+-- What a store keeps.
+use Rattle.std.specs.Prelude.{◌≡◌, ℕ, ◌<◌, Bool, ◌==◌, if◌then◌else◌, List, [], ◌∷◌, ◌++◌, map, All, Option, None, Some, IsSome, ◌↔◌}
+use Rattle.std.specs.List.{Contains}
+use Rattle.esc_envelope.specs.declared.kind.Kind.{Kind}
+use Rattle.esc_envelope.specs.declared.kind.Kind.TheVariants.{Registrar, Contact, Host, Domain, Idn, Nndn}
+use Rattle.esc_envelope.specs.Kinds.{kind_rank}
+use Rattle.esc_manifest.specs.declared.row.MRow.{MRow}
+use Rattle.esc_manifest.specs.Rows.{place_at, resend_at}
+use Rattle.esc_apply.specs.declared.front.Step.{Step}
+use Rattle.esc_apply.specs.Registry.{State, Content, empty, HasSize}
+use Rattle.esc_store.specs.ReplyValue.{ReceiptValue, ReplyValue, replies_from, reply_alike}
+
+-- the manifest's rows, a receipt for each distinct arrival in order, the bodies of held rows, the rows of the chain in
+-- order, and its tables with their before-images
+pub record Kept : Type 0 where
+  pub listed : List MRow
+  pub receipts : List ReceiptValue
+  pub bodies : ℕ → Option (List ℕ)
+  pub steps : List ℕ
+  pub registry : State
+
+-- what a new store keeps
+abbrev pub fresh : List MRow → Kept
+fresh listed = record { listed = listed; receipts = []; bodies = λ row. None; steps = []; registry = empty }
+
+-- with one receipt more
+abbrev pub with_receipt : Kept → ReceiptValue → Kept
+with_receipt k r = record { listed = k.listed; receipts = k.receipts ++ r ∷ []; bodies = k.bodies; steps = k.steps; registry = k.registry }
+
+-- bodies with one more, or another at this row
+abbrev pub body_put : (ℕ → Option (List ℕ)) → ℕ → List ℕ → ℕ → Option (List ℕ)
+body_put bodies row body n = if n == row then Some body else bodies n
+
+-- with the body of a row
+abbrev pub with_body : Kept → ℕ → List ℕ → Kept
+with_body k row body = record { listed = k.listed; receipts = k.receipts; bodies = body_put k.bodies row body; steps = k.steps; registry = k.registry }
+
+-- with another chain
+abbrev pub with_steps : Kept → List ℕ → Kept
+with_steps k steps = record { listed = k.listed; receipts = k.receipts; bodies = k.bodies; steps = steps; registry = k.registry }
+
+-- with other tables and before-images
+abbrev pub with_registry : Kept → State → Kept
+with_registry k s = record { listed = k.listed; receipts = k.receipts; bodies = k.bodies; steps = k.steps; registry = s }
+
+-- the replies of all receipts
+abbrev pub kept_replies : Kept → List ReplyValue
+kept_replies k = replies_from k.listed 1 k.receipts
+
+-- the reply to an arrival with this number and this digest, if one was kept
+abbrev pub kept_reply : Kept → List ℕ → List ℕ → Option ReplyValue
+kept_reply k number digest = reply_alike k.listed 1 number digest k.receipts
+
+-- the step of a listed row
+abbrev pub step_at : List MRow → ℕ → Step
+step_at listed row = record { row = row; place = place_at listed row; resend = resend_at listed row }
+
+-- the steps of the chain
+abbrev pub kept_chain : Kept → List Step
+kept_chain k = map (step_at k.listed) k.steps
+
+-- each number is below the ones behind it
+abbrev pub IsRising : List ℕ → Type 0
+IsRising [] = Unit {0}
+IsRising (n ∷ ns) = All (λ m. n < m) ns × IsRising ns
+
+-- these are the rows that have a body, rising
+pub record AreHeld (bodies : ℕ → Option (List ℕ)) (rows : List ℕ) : Type 0 where
+  pub rising : IsRising rows
+  pub each : (row : ℕ) → Contains rows row ↔ IsSome (bodies row)
+
+-- the objects of one kind
+abbrev pub of_kind : Kind → Content → Content
+of_kind kind content q = if kind_rank q.kind == kind_rank kind then content q else None
+
+-- how many objects there are of each kind, in the order of kinds
+pub record AreCounts (content : Content) (counts : List (Kind × ℕ)) : Type 0 where
+  pub kinds : map (λ (c : Kind × ℕ). c.0) counts ≡ Registrar ∷ Contact ∷ Host ∷ Domain ∷ Idn ∷ Nndn ∷ []
+  pub each : All (λ (c : Kind × ℕ). HasSize (of_kind c.0 content) c.1) counts

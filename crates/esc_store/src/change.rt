@@ -1,0 +1,82 @@
+//! A change of the store.
+
+ghost use Rattle.std.specs.Prelude.{◌≡◌, ◌≤◌, ◌<◌, ◌+◌, ◌-◌, ◌^◌, ◌↔◌, ℕ, None, min, map, length, IsTrue, OnOk, OnErr, IfErr};
+ghost use Rattle.sqlite.specs.Held.{state};
+ghost use Rattle.sqlite.specs.State.{HasCleanDisk};
+ghost use Rattle.esc_apply.specs.Registry.{State};
+ghost use Rattle.esc_store.specs.Kept.{Kept, with_receipt, with_body, with_steps};
+ghost use Rattle.esc_store.specs.Standing.{Stands, Began, Rest, HoldsNow, GoesOn, LeavesOnly, LeavesOr, LeavesNoMore};
+
+use crate::fault::SFault;
+use crate::reply::Receipt;
+use crate::store::Store;
+use esc_apply::Step;
+use sqlite::Alter;
+
+/// A change of a store: one transaction. It is made whole by `commit`, and leaves all as before where it is dropped.
+pub struct Change<'a, S: Alter> {
+    pub(crate) store: &'a mut Store<S>,
+    pub(crate) count: u64,
+}
+
+impl<'a, S: Alter> Change<'a, S> {
+    /// Keeps the receipt with this number, the next one. `S4` if it is past 1,000,000,000; `S1`, `S2`.
+    pub fn record_receipt(&mut self, _number: u64, _receipt: &Receipt<'_>) -> Result<(), SFault>
+        ensures goes_on { GoesOn S.Store self.old self.new }
+        ensures count { self.new.count ≡ self.old.count }
+        ensures recorded { OnOk result ((before k : Kept) → length k.receipts + 1 ≡ _number → Rest S.Store self.old before k → Rest S.Store self.new before (with_receipt k _receipt.now)) }
+        ensures holds { OnOk result ((s : State) → HoldsNow S.Store self.old s → HoldsNow S.Store self.new s) }
+        ensures room { OnOk result (_number ≤ 1_000_000_000) }
+        ensures full { IfErr result (λ e. e ≡ SFault.S4 → 1_000_000_000 < _number) }
+    {
+        Err(SFault::S2)
+    }
+
+    /// Holds the body of a listed row, of which no body is held. `S1`, `S2`.
+    pub fn hold(&mut self, _row: usize, _body: &[u8]) -> Result<(), SFault>
+        ensures goes_on { GoesOn S.Store self.old self.new }
+        ensures count { self.new.count ≡ self.old.count }
+        ensures held { OnOk result ((before k : Kept) → k.bodies _row ≡ None → Rest S.Store self.old before k → Rest S.Store self.new before (with_body k _row _body.now)) }
+        ensures holds { OnOk result ((s : State) → HoldsNow S.Store self.old s → HoldsNow S.Store self.new s) }
+        ensures cause { IfErr result (λ e. e ≡ SFault.S4 → ⊥) }
+    {
+        Err(SFault::S2)
+    }
+
+    /// Makes these the steps of the chain, each of a row of its own that is held. `S1`, `S2`.
+    pub fn set_chain(&mut self, _steps: &[Step]) -> Result<(), SFault>
+        ensures goes_on { GoesOn S.Store self.old self.new }
+        ensures count { self.new.count ≡ self.old.count }
+        ensures set { OnOk result ((before k : Kept) → Rest S.Store self.old before k → Rest S.Store self.new before (with_steps k (map (λ step. step.row) _steps.now))) }
+        ensures holds { OnOk result ((s : State) → HoldsNow S.Store self.old s → HoldsNow S.Store self.new s) }
+        ensures cause { IfErr result (λ e. e ≡ SFault.S4 → ⊥) }
+    {
+        Err(SFault::S2)
+    }
+
+    /// Makes the whole change at once. At `Err` nothing is changed: `S1`, `S2`.
+    pub fn commit(self) -> Result<(), SFault>
+        ensures manifest { self.exit.0.now.manifest ≡ self.entry.store.now.manifest }
+        ensures written { OnOk result (self.exit.0.now.writes ≡ min (self.entry.store.now.writes + self.entry.count) (2 ^ 64 - 1)) }
+        ensures unwritten { OnErr result (self.exit.0.now.writes ≡ self.entry.store.now.writes) }
+        ensures committed { OnOk result ((before k : Kept) → Rest S.Store self.entry before k → HoldsNow S.Store self.entry k.registry → Stands S.Store self.exit.0.now k) }
+        ensures kept { OnErr result ((before : Kept) → Began S.Store self.entry before → Stands S.Store self.exit.0.now before) }
+        ensures crash { (before k : Kept) → Rest S.Store self.entry before k → HoldsNow S.Store self.entry k.registry → LeavesOr S.Store self.entry.store.now.conn self.exit.0.now.conn k }
+        ensures left { OnOk result ((before k : Kept) → Rest S.Store self.entry before k → HoldsNow S.Store self.entry k.registry → LeavesOnly S.Store self.exit.0.now k) }
+        ensures cause { IfErr result (λ e. e ≡ SFault.S4 → ⊥) }
+    {
+        let Change { store: _, count: _ } = self;
+        Err(SFault::S2)
+    }
+}
+
+impl<S: Alter> Drop for Change<'_, S> {
+    fn drop(self)
+        ensures manifest { self.exit.0.now.manifest ≡ self.entry.store.now.manifest }
+        ensures writes { self.exit.0.now.writes ≡ self.entry.store.now.writes }
+        ensures kept { (before : Kept) → Began S.Store self.entry before → Stands S.Store self.exit.0.now before }
+        ensures survives { LeavesNoMore S.Store self.entry.store.now.conn self.exit.0.now.conn }
+    {
+        let Change { store: _, count: _ } = self;
+    }
+}

@@ -1,0 +1,71 @@
+//! Why a call of the store fails.
+
+ghost use Rattle.std.specs.Prelude.{◌≡◌};
+ghost use Rattle.esc_store.specs.Faults.{fault_of};
+ghost use Rattle.esc_store.specs.declared.fault.SFault.TheVariants.{S2 as out_of_memory};
+
+use esc_bundle::NoMemory;
+use sqlite::{Error, ErrorCode};
+use std::alloc::{AllocError, AllocFailed};
+use std::fmt;
+
+/// Why a call of the store fails.
+#[derive(Clone, Copy, Debug, PartialEq, Eq)]
+pub enum SFault {
+    /// The database failed for another cause than want of memory, or an object has no record.
+    S1,
+    /// Memory was refused, or the database wanted memory.
+    S2,
+    /// `create`: the database isn't empty. `open`: it is no store of this version.
+    S3,
+    /// The store has 1,000,000,000 receipts.
+    S4,
+}
+
+impl fmt::Display for SFault {
+    fn fmt<W: fmt::Write>(&self, f: &mut fmt::Formatter<W>) -> fmt::Result {
+        f.write_str(match *self {
+            SFault::S1 => "S1",
+            SFault::S2 => "S2",
+            SFault::S3 => "S3",
+            SFault::S4 => "S4",
+        })
+    }
+}
+
+impl std::error::Error for SFault {}
+
+impl From<Error> for SFault {
+    ghost from_gives = { λ error fault. fault ≡ fault_of error };
+
+    fn from(error: Error) -> SFault {
+        match error {
+            Error::SqliteFailure(ErrorCode::OutOfMemory) => SFault::S2,
+            _ => SFault::S1,
+        }
+    }
+}
+
+impl From<NoMemory> for SFault {
+    ghost from_gives = { λ _ fault. fault ≡ out_of_memory };
+
+    fn from(_error: NoMemory) -> SFault {
+        SFault::S2
+    }
+}
+
+impl From<AllocError> for SFault {
+    ghost from_gives = { λ _ fault. fault ≡ out_of_memory };
+
+    fn from(_error: AllocError) -> SFault {
+        SFault::S2
+    }
+}
+
+impl<T: Drop> From<AllocFailed<T>> for SFault {
+    ghost from_gives = { λ _ fault. fault ≡ out_of_memory };
+
+    fn from(_error: AllocFailed<T>) -> SFault {
+        SFault::S2
+    }
+}

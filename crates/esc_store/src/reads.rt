@@ -1,0 +1,88 @@
+//! What a store answers of itself.
+
+ghost use Rattle.std.specs.Prelude.{◌≡◌, ℕ, map, length, IfOk, option_map};
+ghost use Rattle.esc_apply.specs.Registry.{IsEntriesOf};
+ghost use Rattle.esc_store.specs.Kept.{Kept, kept_replies, kept_reply, kept_chain, AreHeld, AreCounts};
+ghost use Rattle.esc_store.specs.Standing.{Stands, IsHonest, IsAsBefore};
+
+use crate::fault::SFault;
+use crate::numbers::Number;
+use crate::reply::Reply;
+use crate::store::Store;
+use esc_apply::Step;
+use esc_envelope::Kind;
+use esc_tables::{Key, Object};
+use sqlite::Alter;
+use std::alloc::Global;
+use std::collections::BTreeMap;
+
+impl<S: Alter> Store<S> {
+    /// The reply that was kept for an arrival with this number and a body of this SHA-256. `S1`, `S2`.
+    pub fn receipt_of(
+        &mut self,
+        _alloc: Global,
+        _number: &Number<'_>,
+        _digest: &[u8; 32],
+    ) -> Result<Option<Reply>, SFault>
+        ensures same { IsAsBefore S.Store self.old self.new }
+        ensures found { IsHonest S.Store self.new → (k : Kept) → Stands S.Store self.old k → IfOk result (λ reply. reply ≡ kept_reply k _number.now _digest.now) }
+    {
+        Err(SFault::S2)
+    }
+
+    /// All replies that were kept, in order. `S1`, `S2`.
+    pub fn receipts(&mut self, _alloc: Global) -> Result<Vec<Reply>, SFault>
+        ensures same { IsAsBefore S.Store self.old self.new }
+        ensures all { IsHonest S.Store self.new → (k : Kept) → Stands S.Store self.old k → IfOk result (λ replies. replies.items ≡ kept_replies k) }
+    {
+        Err(SFault::S2)
+    }
+
+    /// How many receipts there are. `S1`, `S2`.
+    pub fn receipt_count(&mut self) -> Result<u64, SFault>
+        ensures same { IsAsBefore S.Store self.old self.new }
+        ensures count { IsHonest S.Store self.new → (k : Kept) → Stands S.Store self.old k → IfOk result (λ count. count ≡ length k.receipts) }
+    {
+        Err(SFault::S2)
+    }
+
+    /// The body that is held of a row, from 0, if one is. `S1`, `S2`.
+    pub fn body_of(&mut self, _alloc: Global, _row: usize) -> Result<Option<Vec<u8>>, SFault>
+        ensures same { IsAsBefore S.Store self.old self.new }
+        ensures found { IsHonest S.Store self.new → (k : Kept) → Stands S.Store self.old k → IfOk result (λ body. option_map (λ b. b.items) body ≡ k.bodies _row) }
+    {
+        Err(SFault::S2)
+    }
+
+    /// The rows of which a body is held, from 0, rising. `S1`, `S2`.
+    pub fn held(&mut self, _alloc: Global) -> Result<Vec<usize>, SFault>
+        ensures same { IsAsBefore S.Store self.old self.new }
+        ensures rows { IsHonest S.Store self.new → (k : Kept) → Stands S.Store self.old k → IfOk result (λ rows. AreHeld k.bodies rows.items) }
+    {
+        Err(SFault::S2)
+    }
+
+    /// The steps of the chain, in order. `S1`, `S2`.
+    pub fn chain(&mut self, _alloc: Global) -> Result<Vec<Step>, SFault>
+        ensures same { IsAsBefore S.Store self.old self.new }
+        ensures steps { IsHonest S.Store self.new → (k : Kept) → Stands S.Store self.old k → IfOk result (λ steps. steps.items ≡ kept_chain k) }
+    {
+        Err(SFault::S2)
+    }
+
+    /// The objects of the chain's tables. `S1`, `S2`.
+    pub fn tables(&mut self, _alloc: Global) -> Result<BTreeMap<Key, Object>, SFault>
+        ensures same { IsAsBefore S.Store self.old self.new }
+        ensures objects { IsHonest S.Store self.new → (k : Kept) → Stands S.Store self.old k → IfOk result (λ tables. IsEntriesOf k.registry.content tables.entries) }
+    {
+        Err(SFault::S2)
+    }
+
+    /// How many objects the tables have of each of the six kinds. `S1`, `S2`.
+    pub fn counts_by_kind(&mut self, _alloc: Global) -> Result<BTreeMap<Kind, u64>, SFault>
+        ensures same { IsAsBefore S.Store self.old self.new }
+        ensures counts { IsHonest S.Store self.new → (k : Kept) → Stands S.Store self.old k → IfOk result (λ counts. AreCounts k.registry.content counts.entries) }
+    {
+        Err(SFault::S2)
+    }
+}

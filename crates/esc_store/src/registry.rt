@@ -1,0 +1,73 @@
+//! A change as a registry of objects.
+
+ghost use Rattle.std.specs.Prelude.{◌≡◌};
+
+use crate::change::Change;
+use crate::fault::SFault;
+use esc_apply::Registry;
+use esc_tables::{Key, Object};
+use sqlite::Alter;
+use std::alloc::Global;
+
+impl<'a, S: Alter> Registry for Change<'a, S> {
+    ghost use Rattle.sqlite.specs.State.{HasCleanDisk};
+    ghost use Rattle.sqlite.specs.Held.{state};
+    ghost use Rattle.esc_store.specs.Kept.{Kept};
+    ghost use Rattle.esc_store.specs.Standing.{HoldsNow, Follows};
+    ghost use Rattle.std.proofs.Common.{inl, refl, ◌∙◌, arith};
+    ghost use Rattle.sqlite.proofs.StateLemmas.{survives_then};
+
+    type Error = SFault;
+
+    ghost holds = { λ r s. HoldsNow S.Store r s };
+
+    ghost count = { λ r. r.count };
+
+    ghost is_honest = { λ r. HasCleanDisk (state S.Store r.store.now.conn) };
+
+    ghost follows = { λ a b. Follows S.Store a b };
+
+    fn get(&mut self, _alloc: Global, _k: &Key) -> Result<Option<Object>, SFault> {
+        Err(SFault::S2)
+    }
+
+    fn put(&mut self, _alloc: Global, _k: &Key, _o: &Object) -> Result<(), SFault> {
+        Err(SFault::S2)
+    }
+
+    fn remove(&mut self, _k: &Key) -> Result<(), SFault> {
+        Err(SFault::S2)
+    }
+
+    fn clear(&mut self) -> Result<(), SFault> {
+        Err(SFault::S2)
+    }
+
+    fn put_undo(
+        &mut self,
+        _alloc: Global,
+        _step: u32,
+        _k: &Key,
+        _before: Option<&Object>,
+    ) -> Result<(), SFault> {
+        Err(SFault::S2)
+    }
+
+    fn take_undo(
+        &mut self,
+        _alloc: Global,
+        _step: u32,
+    ) -> Result<Vec<(Key, Option<Object>)>, SFault> {
+        Err(SFault::S2)
+    }
+
+    fn writes(&self) -> u64 {
+        self.count
+    }
+
+    ghost stays = { λ r. record { goes_on = record { same_reference = refl; manifest = refl; writes = refl; survives = record { clean = Prim.omega arith; shield = λ h. h; counts = Prim.omega arith; limit = refl; closes = λ _ up. inl up; crash = λ _ db may. inl may }; began = λ k h. h }; rest = λ before k h. h } };
+
+    ghost goes_on = { λ a b c p q. record { goes_on = record { same_reference = q.goes_on.same_reference ∙ p.goes_on.same_reference; manifest = q.goes_on.manifest ∙ p.goes_on.manifest; writes = q.goes_on.writes ∙ p.goes_on.writes; survives = survives_then _ _ _ _ _ _ (λ _ db none. none) (λ _ db none. none) p.goes_on.survives q.goes_on.survives; began = λ k h. q.goes_on.began k (p.goes_on.began k h) }; rest = λ before k h. q.rest before k (p.rest before k h) } };
+
+    ghost was_honest = { λ a b p clean. Prim.omega (arith, p.goes_on.survives.clean, clean) };
+}

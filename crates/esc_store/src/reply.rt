@@ -1,0 +1,90 @@
+//! What the desk answers a sender, and what the store keeps of it.
+
+ghost use Rattle.std.specs.Prelude.{◌≡◌, IfOk};
+
+use esc_bundle::NoMemory;
+use std::alloc::Global;
+use std::marker::Model;
+
+/// What an arrival is found to be.
+#[derive(Clone, Copy, Debug, PartialEq, Eq)]
+pub enum Verdict {
+    /// The deposit is held.
+    A1,
+    /// The body isn't listed.
+    A2,
+    /// No deposit reads from the body: the refusal of this number, from U1 to U11.
+    A3(u8),
+    /// The deposit says another id, place, resend or previous id than the manifest.
+    A4,
+}
+
+/// The reply to an arrival.
+#[derive(Debug, Drop)]
+pub struct Reply {
+    /// From 1, without a hole.
+    pub receipt: u64,
+    /// The number that the sender gave.
+    pub number: String,
+    pub verdict: Verdict,
+    /// The id of the manifest's row, if the body is listed.
+    pub id: Option<String>,
+    /// The resend of that row.
+    pub resend: Option<u32>,
+    /// Whether an earlier receipt held the same row. Of a held deposit alone.
+    pub again: Option<bool>,
+    /// How many child rows had no parent row. Of a held deposit alone.
+    pub orphans: Option<u64>,
+}
+
+impl Model for Reply {
+    ghost use Rattle.std.specs.Prelude.{string_bytes, option_map};
+    ghost use Rattle.esc_store.specs.ReplyValue.{ReplyValue};
+
+    ghost Value = { ReplyValue };
+
+    ghost view = { λ r. record { receipt = r.receipt; number = string_bytes r.number; verdict = r.verdict; id = option_map string_bytes r.id; resend = r.resend; again = r.again; orphans = r.orphans } };
+}
+
+impl Reply {
+    /// An equal reply.
+    pub fn copy(&self, alloc: Global) -> Result<Reply, NoMemory>
+        ensures { IfOk result (λ r. r ≡ self.now) }
+    {
+        let number = String::from_str(alloc, self.number.as_str())?;
+        let id = match &self.id {
+            Some(id) => Some(String::from_str(alloc, id.as_str())?),
+            None => None,
+        };
+        Ok(Reply {
+            receipt: self.receipt,
+            number,
+            verdict: self.verdict,
+            id,
+            resend: self.resend,
+            again: self.again,
+            orphans: self.orphans,
+        })
+    }
+}
+
+/// What a store keeps of an arrival.
+#[derive(Debug, Drop)]
+pub struct Receipt<'a> {
+    pub number: &'a str,
+    /// The SHA-256 of the body.
+    pub digest: [u8; 32],
+    pub verdict: Verdict,
+    /// The row of the manifest that lists the digest, from 0.
+    pub row: Option<usize>,
+    pub again: Option<bool>,
+    pub orphans: Option<u64>,
+}
+
+impl<'a> Model for Receipt<'a> {
+    ghost use Rattle.esc_store.specs.ReplyValue.{ReceiptValue};
+
+    ghost Value = { ReceiptValue };
+
+    ghost view = { λ r. record { number = r.number.now; digest = r.digest; verdict = r.verdict; row = r.row; again = r.again; orphans = r.orphans } };
+}

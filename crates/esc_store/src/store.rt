@@ -1,0 +1,115 @@
+//! The store.
+
+ghost use Rattle.std.specs.Prelude.{◌≡◌, ◌≢◌, ◌↔◌, IsTrue, IfOk, IfErr, OnOk, OnErr, MatchResult};
+ghost use Rattle.std.specs.Borrow.{sem, RestsIfErr};
+ghost use Rattle.sqlite.specs.Held.{state};
+ghost use Rattle.esc_store.specs.Kept.{Kept, fresh};
+ghost use Rattle.esc_store.specs.Tables.{IsBlank, IsStore};
+ghost use Rattle.esc_store.specs.Standing.{Stands, Began, Rest, HoldsNow, BeganIn, RestIn, HoldsIn, HoldsKept, LeavesOnly, LeavesOr, LeavesNoMore, IsHonest};
+ghost use Rattle.sqlite.specs.State.{HasCleanDisk};
+
+use crate::change::Change;
+use crate::fault::SFault;
+use esc_manifest::Manifest;
+use sqlite::{Alter, Connection};
+use std::alloc::Global;
+
+/// A store: a database of seven tables. Contracts see what it *stands for*: the rows of its manifest, a receipt for
+/// each distinct arrival, the bodies of the held rows, and the chain with its tables and before-images.
+#[derive(Drop)]
+pub struct Store<S: Alter> {
+    pub(crate) conn: Connection<S>,
+    pub(crate) manifest: Manifest,
+    pub(crate) writes: u64,
+}
+
+impl<S: Alter> Store<S> {
+    ghost use Rattle.esc_store.specs.contracts.store.Store.{the_row};
+
+    /// A new store of a manifest, over a database without any table, index or view, in one change. At `Err` the
+    /// connection is given back, and its database is as before: `S3` where it has a table, an index or a view; `S1`,
+    /// `S2`.
+    pub fn create(
+        _alloc: Global,
+        connection: Connection<S>,
+        manifest: &Manifest,
+    ) -> Result<Store<S>, (SFault, Connection<S>)>
+        ensures created { IfOk result (λ store. Stands S.Store store (fresh manifest.now)) }
+        ensures left { IfOk result (λ store. LeavesOnly S.Store store (fresh manifest.now)) }
+        ensures writes { IfOk result (λ store. store.writes ≡ 0) }
+        ensures refused { IfErr result (λ e. HasCleanDisk (state S.Store e.1) → IsTrue (state S.Store e.1).is_open → (e.0 ≡ SFault.S3) → IsBlank (state S.Store connection).now → ⊥) }
+        ensures neither { IfErr result (λ e. HasCleanDisk (state S.Store e.1) → IsTrue (state S.Store e.1).is_open → (state S.Store e.1).committed ≡ (state S.Store connection).committed) }
+        ensures crash { MatchResult result (λ store. LeavesOr S.Store connection store.conn (fresh manifest.now)) (λ e. LeavesOr S.Store connection e.1 (fresh manifest.now)) }
+    {
+        Err((SFault::S2, connection))
+    }
+
+    /// The store that a database is. `S3` where it is no store of this version; `S1`, `S2`.
+    pub fn open(
+        _alloc: Global,
+        connection: Connection<S>,
+    ) -> Result<Store<S>, (SFault, Connection<S>)>
+        ensures stands { IfOk result (λ store. IsHonest S.Store store → (k : Kept) → HoldsKept S.Store connection k → Stands S.Store store k) }
+        ensures writes { IfOk result (λ store. store.writes ≡ 0) }
+        ensures never { IfErr result (λ e. e.0 ≡ SFault.S3 → HasCleanDisk (state S.Store e.1) → IsTrue (state S.Store e.1).is_open → (k : Kept) → IsStore (state S.Store connection).committed.trees k → ⊥) }
+        ensures survives { MatchResult result (λ store. LeavesNoMore S.Store connection store.conn) (λ e. LeavesNoMore S.Store connection e.1) }
+    {
+        Err((SFault::S2, connection))
+    }
+
+    /// The connection, with the store as it is. Takes no memory.
+    pub fn into_connection(self) -> Connection<S>
+        ensures same { result ≡ self.conn }
+        ensures holds { (k : Kept) → Stands S.Store self k → HoldsKept S.Store result k }
+    {
+        self.conn
+    }
+
+    /// The manifest that the store was made with. Takes no memory.
+    pub fn manifest(&self) -> &Manifest
+        ensures manifest { result.now ≡ self.now.manifest }
+        ensures kept { (k : Kept) → Stands S.Store self.now k → result.now ≡ k.listed }
+    {
+        &self.manifest
+    }
+
+    /// How many objects were written or removed by the changes that were committed since the store was opened; it
+    /// stays at its greatest value. Takes no memory.
+    pub fn writes(&self) -> u64
+        ensures { result ≡ self.now.writes }
+    {
+        self.writes
+    }
+
+    /// Begins a change.
+    pub fn begin(&mut self) -> Result<Change<'_, S>, SFault>
+        ensures* refused { sem 𝓛 (RestsIfErr (the_row S.row S.Store) self.entry (λ change. change.store.ghost_name) result (λ last. (last.manifest ≡ self.old.manifest) × (last.writes ≡ self.old.writes) × LeavesNoMore S.Store self.old.conn last.conn × ((k : Kept) → Stands S.Store self.old k → Stands S.Store last k))) }
+        ensures same_reference { IfOk result (λ change. change.store.ghost_name ≡ self.entry.ghost_name) }
+        ensures count { IfOk result (λ change. change.count ≡ 0) }
+        ensures writes { IfOk result (λ change. change.store.now.writes ≡ self.old.writes) }
+        ensures manifest { IfOk result (λ change. change.store.now.manifest ≡ self.old.manifest) }
+        ensures began { IfOk result (λ change. (k : Kept) → Stands S.Store self.old k → Began S.Store change k) }
+        ensures rest { IfOk result (λ change. (k : Kept) → Stands S.Store self.old k → Rest S.Store change k k) }
+        ensures holds { IfOk result (λ change. (k : Kept) → Stands S.Store self.old k → HoldsNow S.Store change k.registry) }
+        ensures survives { IfOk result (λ change. LeavesNoMore S.Store self.old.conn change.store.now.conn) }
+    {
+        self.begin_here()?;
+        Ok(Change {
+            store: self,
+            count: 0,
+        })
+    }
+
+    // Begins the transaction of a change.
+    fn begin_here(&mut self) -> Result<(), SFault>
+        ensures manifest { self.new.manifest ≡ self.old.manifest }
+        ensures writes { self.new.writes ≡ self.old.writes }
+        ensures survives { LeavesNoMore S.Store self.old.conn self.new.conn }
+        ensures stands { OnErr result ((k : Kept) → Stands S.Store self.old k → Stands S.Store self.new k) }
+        ensures began { OnOk result ((k : Kept) → Stands S.Store self.old k → BeganIn S.Store self.new k) }
+        ensures rest { OnOk result ((k : Kept) → Stands S.Store self.old k → RestIn S.Store self.new k k) }
+        ensures holds { OnOk result ((k : Kept) → Stands S.Store self.old k → HoldsIn S.Store self.new k.registry) }
+    {
+        Err(SFault::S2)
+    }
+}
