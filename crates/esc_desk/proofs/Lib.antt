@@ -1,4 +1,6 @@
 pub mod Distinct
 pub mod HeldRows
 pub mod OneArrival
+pub mod PlanLemmas
 pub mod Searches
+pub mod StoreFacts

@@ -1,5 +1,5 @@
 -- Distinct arrivals, and the receipts and replies that a list of arrivals leaves (this project's profile).
-use Rattle.std.specs.Prelude.{◌≡◌, ℕ, ◌+◌, Bool, true, false, ◌&&◌, ◌||◌, ◌==◌, if◌then◌else◌, List, [], ◌∷◌, ◌++◌, length, Option, Some, None, Result}
+use Rattle.std.specs.Prelude.{◌≡◌, ℕ, ◌+◌, Bool, true, false, ◌&&◌, ◌||◌, ◌==◌, nat_eq, if◌then◌else◌, List, [], ◌∷◌, ◌++◌, length, Option, Some, None, Result}
 use Rattle.std.specs.List.{list_any, find}
 use Rattle.std.specs.Str.{bytes_eq}
 use Rattle.esc_tables.specs.DepositValue.{DepositValue}
@@ -14,6 +14,11 @@ use Rattle.esc_desk.specs.Finding.{finding, held_row}
 abbrev pub is_row : ℕ → Option ℕ → Bool
 is_row r None = false
 is_row r (Some q) = q == r
+
+-- a row, if any, is one of these
+abbrev pub is_among : List ℕ → Option ℕ → Bool
+is_among rows None = false
+is_among rows (Some r) = list_any (λ q. nat_eq q r) rows
 
 -- row r is held by what was found
 abbrev pub holds_row : ℕ → Finding → Bool

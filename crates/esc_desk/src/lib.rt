@@ -2,6 +2,9 @@
 #![tactic(auto)]
 
 mod arrival;
+mod desk;
 mod finding;
+mod plan;
+mod receipt;
 
 pub use arrival::Arrival;

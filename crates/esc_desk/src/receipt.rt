@@ -1,0 +1,81 @@
+//! The receipt of a new arrival, and the reply that tells it.
+
+ghost use Rattle.std.specs.Prelude.{◌≡◌, ◌<◌, length, IfOk, IfSome};
+ghost use Rattle.esc_store.specs.ReplyValue.{reply_kept};
+ghost use Rattle.esc_desk.specs.Finding.{held_row};
+ghost use Rattle.esc_desk.specs.Receipts.{receipt_by, is_among};
+
+use crate::finding::Finding;
+use esc_bundle::NoMemory;
+use esc_manifest::MRow;
+use esc_store::{Number, Receipt, Reply, Verdict};
+use std::alloc::Global;
+
+/// The receipt by what was found, where `again` says whether the row was held before.
+pub(crate) fn receipt_by<'a>(
+    number: &Number<'a>,
+    digest: [u8; 32],
+    finding: &Finding,
+    again: bool,
+) -> Receipt<'a>
+    ensures { result ≡ receipt_by number.now digest finding.now again }
+{
+    let (verdict, row, again, orphans) = match finding {
+        Finding::Unlisted => (Verdict::A2, None, None, None),
+        Finding::Unreadable(row, fault) => (Verdict::A3(*fault), Some(*row), None, None),
+        Finding::Differing(row) => (Verdict::A4, Some(*row), None, None),
+        Finding::Holding(row, deposit) => (
+            Verdict::A1,
+            Some(*row),
+            Some(again),
+            Some(deposit.orphans),
+        ),
+    };
+    Receipt {
+        number: number.text(),
+        digest,
+        verdict,
+        row,
+        again,
+        orphans,
+    }
+}
+
+/// The reply of a receipt with this number.
+pub(crate) fn reply_of(
+    alloc: Global,
+    rows: &[MRow],
+    number: u64,
+    receipt: &Receipt<'_>,
+) -> Result<Reply, NoMemory>
+    requires { IfSome receipt.now.row (λ r. r < length rows.now) }
+    ensures { IfOk result (λ r. r ≡ reply_kept rows.now number receipt.now) }
+{
+    let (id, resend) = match receipt.row {
+        Some(row) => {
+            let header = &rows[row].header;
+            let id = String::from_str(alloc, header.id.as_str())?;
+            (Some(id), Some(header.resend))
+        }
+        None => (None, None),
+    };
+    Ok(Reply {
+        receipt: number,
+        number: String::from_str(alloc, receipt.number)?,
+        verdict: receipt.verdict,
+        id,
+        resend,
+        again: receipt.again,
+        orphans: receipt.orphans,
+    })
+}
+
+/// Whether a row, if any, is one of these.
+pub(crate) fn is_among(rows: &[usize], row: Option<usize>) -> bool
+    ensures { result ≡ is_among rows.now row }
+{
+    match row {
+        Some(row) => rows.contains(&row),
+        None => false,
+    }
+}
