@@ -1,3 +1,4 @@
+pub mod Changes
 pub mod Front
 pub mod Images
 pub mod Moves
