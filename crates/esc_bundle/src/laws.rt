@@ -6,6 +6,7 @@ ghost use Rattle.std.specs.Prelude.{◌≡◌, ◌≤◌, ◌⊎◌, ◌↔◌, 
 ghost use Rattle.esc_bundle.specs.Bundle.{Named, IsBundle};
 ghost use Rattle.esc_bundle.specs.Reading.{IsFault};
 ghost use Rattle.esc_bundle.specs.Frame.{frame};
+ghost use Rattle.esc_bundle.specs.Writing.{bundle_of};
 
 /// No bundle begins another.
 pub fn no_bundle_begins_another()
@@ -25,4 +26,10 @@ pub fn each_text_has_one_reading()
 pub fn frame_is_exact()
     ensures bundle { (body : List ℕ) (ss : List Named) → (frame body ≡ Ok ss) ↔ IsBundle body ss }
     ensures fault { (body : List ℕ) (n : ℕ) → (frame body ≡ Err n) ↔ IsFault body n }
+{}
+
+/// The function `bundle_of` of a list of sections gives its bundle, or a fault where no bundle has these sections.
+pub fn bundle_of_is_exact()
+    ensures bundle { (ss : List Named) (body : List ℕ) → (bundle_of ss ≡ Ok body) ↔ IsBundle body ss }
+    ensures fault { (ss : List Named) (n : ℕ) → bundle_of ss ≡ Err n → (body : List ℕ) → IsBundle body ss → ⊥ }
 {}
