@@ -1,3 +1,6 @@
+pub mod Calendar
 pub mod Fractions
+pub mod MomentReads
+pub mod Printed
 pub mod RealParts
 pub mod Years

@@ -1,7 +1,8 @@
 //! Watermarks: moments in UTC, to the nanosecond.
 
-ghost use Rattle.std.specs.Prelude.{◌≡◌, ◌<◌, IfOk, IfSome, option_map, string_bytes, pos, ◌≤ℤ◌};
+ghost use Rattle.std.specs.Prelude.{◌≡◌, ◌<◌, ◌↔◌, ℕ, ℤ, List, Some, IsSome, IfOk, IfSome, option_map, string_bytes, pos, ◌≤ℤ◌};
 ghost use Rattle.jiff.specs.Words.{civil_nanos, IsBetween};
+ghost use Rattle.esc_envelope.specs.Moment.{IsWatermark};
 ghost use Rattle.esc_envelope.specs.Watermark.{IsInYears, value_if, watermark_of, watermark_text_of};
 
 use crate::parts::{Clock, Day, after_byte, before_z, billionths, read_clock, read_day};
@@ -70,4 +71,17 @@ pub fn watermark_text(_alloc: Global, _watermark: i64) -> Result<Option<String>,
     ensures { IfOk result (λ o. option_map string_bytes o ≡ watermark_text_of _watermark) }
 {
     Err(NoMemory)
+}
+
+/// What `watermark` reads is exactly the texts of moments: a law of the definitions.
+pub fn watermarks_are_moments()
+    ensures { (text : List ℕ) (w : ℤ) → (watermark_of text ≡ Some w) ↔ IsWatermark text w }
+{
+}
+
+/// Printing and reading undo each other, and every moment of these years has a text: laws of the definitions.
+pub fn printed_watermarks_are_read()
+    ensures read { (w : ℤ) (text : List ℕ) → watermark_text_of w ≡ Some text → watermark_of text ≡ Some w }
+    ensures printed { (w : ℤ) → IsInYears w → IsSome (watermark_text_of w) }
+{
 }
