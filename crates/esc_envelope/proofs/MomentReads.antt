@@ -25,7 +25,7 @@ pub both_true : (a b : Bool) → (a && b) ≡ true → (a ≡ true) × (b ≡ tr
 both_true true b e = (refl, e)
 both_true false b e = absurd cc
 
-abbrev some_of : {A : Type 0} → A → Option A
+abbrev pub some_of : {A : Type 0} → A → Option A
 some_of x = Some x
 
 pub some_is : {A : Type 0} (x y : A) → some_of x ≡ some_of y → x ≡ y

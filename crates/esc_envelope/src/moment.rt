@@ -7,9 +7,13 @@ ghost use Rattle.esc_envelope.specs.Watermark.{IsInYears, value_if, watermark_of
 
 use crate::parts::{Clock, Day, after_byte, before_z, billionths, read_clock, read_day};
 use esc_bundle::NoMemory;
+use jiff::Timestamp;
 use jiff::civil::DateTime;
 use jiff::tz::Offset;
 use std::alloc::Global;
+
+/// 2262-01-01T00:00:00Z.
+const END: i64 = 9_214_646_400_000_000_000;
 
 fn nanoseconds_at(civil: DateTime) -> i64
     requires { IsBetween (pos 1970) (pos 2261) civil.date.year }
@@ -65,12 +69,27 @@ pub fn watermark(text: &str) -> Option<i64>
     nanoseconds(day, clock, nanosecond)
 }
 
+fn civil_at(watermark: i64) -> DateTime
+    requires { IsInYears watermark }
+    ensures { civil_nanos result ≡ watermark }
+{
+    match Timestamp::from_nanosecond(watermark as i128) {
+        Ok(timestamp) => Offset::UTC.to_datetime(timestamp),
+        Err(_) => unreachable!(),
+    }
+}
+
 /// The text of a moment of the years 1970 to 2261, else `None`. A fraction is written only if it isn't zero, without
 /// trailing zeros.
-pub fn watermark_text(_alloc: Global, _watermark: i64) -> Result<Option<String>, NoMemory>
-    ensures { IfOk result (λ o. option_map string_bytes o ≡ watermark_text_of _watermark) }
+pub fn watermark_text(alloc: Global, watermark: i64) -> Result<Option<String>, NoMemory>
+    ensures { IfOk result (λ o. option_map string_bytes o ≡ watermark_text_of watermark) }
 {
-    Err(NoMemory)
+    if watermark < 0 || watermark >= END {
+        return Ok(None);
+    }
+    let civil = civil_at(watermark);
+    let text = format!(in alloc; "{civil}Z")?;
+    Ok(Some(text))
 }
 
 /// What `watermark` reads is exactly the texts of moments: a law of the definitions.
