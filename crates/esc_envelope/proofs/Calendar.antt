@@ -29,10 +29,10 @@ year_is_at (suc count) first last n ends before =
     elim (cases_Bool (nat_lt n (days_in_year (pos first)))) [
       | inl here ↦ rw here (record { low = omega arith; high = omega arith; inside = ltb-true _ _ here; same = refl })
       | inr later ↦
-        let past : days_in_year (pos first) ≤ n = ltb-false _ _ later in
-        let start = next_start first in
-        let rest = year_is_at count (suc first) last (n - days_in_year (pos first)) (omega arith) (omega (arith, start, past)) in
-        rw later (record { low = omega (arith, rest.low); high = rest.high; inside = rest.inside; same = omega (arith, rest.same, start, past) })
+          let past : days_in_year (pos first) ≤ n = ltb-false _ _ later in
+          let start = next_start first in
+          let rest = year_is_at count (suc first) last (n - days_in_year (pos first)) (omega arith) (omega (arith, start, past)) in
+          rw later (record { low = omega (arith, rest.low); high = rest.high; inside = rest.inside; same = omega (arith, rest.same, start, past) })
     ]
 
 -- m is the month and the place in it of day n of the months of the year from `first` on
@@ -51,11 +51,11 @@ month_is_at (suc count) year first n some ends before =
     elim (cases_Bool (nat_lt n (days_in_month year first))) [
       | inl here ↦ rw here (record { low = omega arith; high = omega arith; inside = ltb-true _ _ here; same = refl })
       | inr later ↦
-        let past : days_in_month year first ≤ n = ltb-false _ _ later in
-        let more = days_of_months_more year first some in
-        let start : days_of_months year (suc first - 1) ≡ days_of_months year first = ap (days_of_months year) (omega arith) in
-        let rest = month_is_at count year (suc first) (n - days_in_month year first) (omega arith) (omega arith) (omega (arith, start, more, past)) in
-        rw later (record { low = omega (arith, rest.low); high = rest.high; inside = rest.inside; same = omega (arith, rest.same, start, more, past) })
+          let past : days_in_month year first ≤ n = ltb-false _ _ later in
+          let more = days_of_months_more year first some in
+          let start : days_of_months year (suc first - 1) ≡ days_of_months year first = ap (days_of_months year) (omega arith) in
+          let rest = month_is_at count year (suc first) (n - days_in_month year first) (omega arith) (omega arith) (omega (arith, start, more, past)) in
+          rw later (record { low = omega (arith, rest.low); high = rest.high; inside = rest.inside; same = omega (arith, rest.same, start, more, past) })
     ]
 
 last_day : day_count (pos 2262) 1 1 ≡ 4_478_604

@@ -70,10 +70,12 @@ unfolding day_at
 day_again d rest real =
     let short = short_day d real in
     let whole : d.year / 100 * 100 + d.year % 100 ≡ d.year = omega arith in
-    rw (two_again (d.year / 100) (two_digits (d.year % 100) ++ (45 ∷ (two_digits d.month ++ (45 ∷ (two_digits d.day ++ rest))))) (omega (arith, short.year)),
+    rw (
+      two_again (d.year / 100) (two_digits (d.year % 100) ++ (45 ∷ (two_digits d.month ++ (45 ∷ (two_digits d.day ++ rest))))) (omega (arith, short.year)),
       two_again (d.year % 100) (45 ∷ (two_digits d.month ++ (45 ∷ (two_digits d.day ++ rest)))) (omega arith),
       two_again d.month (45 ∷ (two_digits d.day ++ rest)) short.month,
-      two_again d.day rest short.day)
+      two_again d.day rest short.day,
+    )
     (ap (λ (y : ℕ). some_of (the_day y d.month d.day, rest)) whole)
 
 abbrev the_clock : ℕ → ℕ → ℕ → Clock
@@ -87,9 +89,11 @@ clock_again c rest timed =
     let hour = ltb-true _ _ first.0 in
     let minute = ltb-true _ _ first.1 in
     let second = ltb-true _ _ last.1 in
-    rw (two_again c.hour (58 ∷ (two_digits c.minute ++ (58 ∷ (two_digits c.second ++ rest)))) (omega arith),
+    rw (
+      two_again c.hour (58 ∷ (two_digits c.minute ++ (58 ∷ (two_digits c.second ++ rest)))) (omega arith),
       two_again c.minute (58 ∷ (two_digits c.second ++ rest)) (omega arith),
-      two_again c.second rest (omega arith)) refl
+      two_again c.second rest (omega arith),
+    ) refl
 
 z_again : (moment : List ℕ) → before_z (moment ++ (90 ∷ [])) ≡ Some moment
 z_again moment =
@@ -106,8 +110,14 @@ unfolding watermark_of
 watermark_again text w m =
     let moment = day_text m.day ++ (84 ∷ (clock_text m.clock ++ fraction_text m.fraction)) in
     let real : (is_day m.day && is_clock m.clock) ≡ true = rw (m.real, m.timed) refl in
-    rw (m.written, z_again moment, day_again m.day (84 ∷ (clock_text m.clock ++ fraction_text m.fraction)) m.real,
-      clock_again m.clock (fraction_text m.fraction) m.timed, billionths_again m.fraction m.digits, real) (ap (λ (z : ℤ). some_of z) (sym m.value))
+    rw (
+      m.written,
+      z_again moment,
+      day_again m.day (84 ∷ (clock_text m.clock ++ fraction_text m.fraction)) m.real,
+      clock_again m.clock (fraction_text m.fraction) m.timed,
+      billionths_again m.fraction m.digits,
+      real,
+    ) (ap (λ (z : ℤ). some_of z) (sym m.value))
 
 -- ---- what is read is a text
 

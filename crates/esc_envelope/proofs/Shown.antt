@@ -105,7 +105,7 @@ not_shown (negsuc n) out = refl
 not_shown (pos n) out =
     elim (cases_Bool (nat_lt n 9_214_646_400_000_000_000)) [
       | inl inside ↦
-        let low : n < 9_214_646_400_000_000_000 = ltb-true _ _ inside in
-        absurd (out (omega (arith, signed_arith), omega (arith, signed_arith)))
+          let low : n < 9_214_646_400_000_000_000 = ltb-true _ _ inside in
+          absurd (out (omega (arith, signed_arith), omega (arith, signed_arith)))
       | inr outside ↦ rw outside refl
     ]

@@ -37,3 +37,31 @@ impl Place {
         self <= other
     }
 }
+
+impl DepositType {
+    ghost use Rattle.std.specs.Prelude.{◌≡◌};
+    ghost use Rattle.esc_envelope.specs.Members.{type_name, type_named};
+
+    /// The word for a type, as `FULL` (RFC 8909, section 5).
+    pub fn name(self) -> &'static str
+        ensures { result.now ≡ type_name self }
+    {
+        match self {
+            DepositType::Diff => "DIFF",
+            DepositType::Incr => "INCR",
+            DepositType::Full => "FULL",
+        }
+    }
+
+    /// The type of this name.
+    pub fn from_name(name: &str) -> Option<DepositType>
+        ensures { result ≡ type_named name.now }
+    {
+        match name {
+            "FULL" => Some(DepositType::Full),
+            "INCR" => Some(DepositType::Incr),
+            "DIFF" => Some(DepositType::Diff),
+            _ => None,
+        }
+    }
+}
