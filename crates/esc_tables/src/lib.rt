@@ -2,6 +2,7 @@
 #![tactic(auto)]
 
 mod deposit;
+mod files;
 mod key;
 mod object;
 mod reading;
