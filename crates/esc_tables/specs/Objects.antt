@@ -1,8 +1,7 @@
 -- Objects, as selections from lists of rows with their keys.
-use Rattle.std.specs.Prelude.{◌≡◌, ℕ, List, [], ◌∷◌, ◌++◌, map, filter, Bool, not, Option, Some, None, option_map, count_by}
+use Rattle.std.specs.Prelude.{ℕ, List, [], map, filter, Bool, not, Option, None, option_map, count_by}
 use Rattle.std.specs.List.{list_any, last_or, fold}
 use Rattle.std.specs.BTreeMap.{insert_entry}
-use Rattle.std.specs.declared.cmp.Ordering.{Ordering}
 use Rattle.esc_tables.specs.KeyName.{KeyName, key_cmp, key_eq}
 use Rattle.esc_tables.specs.ObjectValue.{RowValue, ObjectValue}
 

@@ -8,6 +8,7 @@ mod object;
 mod reading;
 mod row;
 mod rows;
+mod survey;
 
 pub use deposit::Deposit;
 pub use key::Key;
