@@ -4,6 +4,7 @@
 mod deposit;
 mod files;
 mod key;
+mod laws;
 mod object;
 mod reading;
 mod row;
