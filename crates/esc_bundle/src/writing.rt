@@ -46,7 +46,8 @@ fn push_section(alloc: Global, text: &mut Vec<u8>, section: &Section<'_>) -> Res
 
 // The text of a bundle with these sections. It is given up as soon as it is too long.
 fn join(alloc: Global, sections: &[Section<'_>]) -> Result<Vec<u8>, Fault>
-    ensures { GivesOrNoMemory (λ v. v.items) result (within_limit (bundle_text (views sections.now))) }
+    ensures { GivesOrNoMemory (λ v. v.items) result
+        (within_limit (bundle_text (views sections.now))) }
 {
     let mut text = Vec::from_slice(alloc, FIRST_LINE)?;
     for section in sections {
@@ -66,20 +67,24 @@ fn join(alloc: Global, sections: &[Section<'_>]) -> Result<Vec<u8>, Fault>
 ///
 /// # Errors
 ///
-/// `Refused` exactly where no bundle has these sections:
+/// Exactly where no bundle has these sections:
 ///
 /// - `Refused(1)`: there is none, or the first is not `envelope.json`;
 /// - `Refused(2)`: a name is not 1 to 32 of `a-z 0-9 . _ -`;
 /// - `Refused(3)`: a name stood before;
-/// - `Refused(4)`: there are more than 64, or one of them or the whole is over 16,777,216 bytes.
+/// - `Refused(4)`: a section or the whole has more than 16,777,216 bytes, or there is a 65th section.
 ///
-/// Of several faults the first section's counts, in the order 2, 3, 4, 1; the whole's comes last. `NoMemory` if there was none for
-/// the text.
+/// The faults of the first section that has one count before those of later sections, and its own in
+/// the order 2, 3, 4, 1; the length of the whole comes last. `NoMemory`, for any list, if there was
+/// none for the text.
 pub fn write_bundle(alloc: Global, list: &[(String, Vec<u8>)]) -> Result<Vec<u8>, Fault>
     ensures written { IfOk result (λ v. IsBundle v.items (map named list.now)) }
-    ensures refused { IfErr result (λ e. (n : ℕ) → e ≡ Fault.Refused n → (body : List ℕ) → IsBundle body (map named list.now) → ⊥) }
-    ensures bundle_written { (body : List ℕ) → IsBundle body (map named list.now) → MatchResult result (λ v. v.items ≡ body) (λ e. e ≡ Fault.NoMemory) }
-    ensures fault_told { (n : ℕ) → bundle_of (map named list.now) ≡ Err n → IsErrAnd result (λ e. (e ≡ Fault.Refused n) ⊎ (e ≡ Fault.NoMemory)) }
+    ensures refused { IfErr result (λ e. (n : ℕ) → e ≡ Fault.Refused n →
+        (body : List ℕ) → IsBundle body (map named list.now) → ⊥) }
+    ensures bundle_written { (body : List ℕ) → IsBundle body (map named list.now) →
+        MatchResult result (λ v. v.items ≡ body) (λ e. e ≡ Fault.NoMemory) }
+    ensures fault_told { (n : ℕ) → bundle_of (map named list.now) ≡ Err n →
+        IsErrAnd result (λ e. (e ≡ Fault.Refused n) ⊎ (e ≡ Fault.NoMemory)) }
     ensures made { IfOk result (λ v. bundle_of (map named list.now) ≡ Ok v.items) }
     ensures unmade { IfErr result (λ e. (n : ℕ) → e ≡ Fault.Refused n → bundle_of (map named list.now) ≡ Err n) }
 {
