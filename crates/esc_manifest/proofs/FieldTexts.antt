@@ -46,10 +46,10 @@ digits_are_text ds h = IsUtf8-from_ascii ds (ascii_digits ds h)
 
 -- what is no text is no id and no moment
 pub no_text_no_id : (text : List ℕ) → (IsUtf8 text → ⊥) → id_of text ≡ None
-no_text_no_id text bad = elim (cases_Bool (is_id text)) [ | inl good ↦ absurd (bad (id_is_text text good)) | inr other ↦ rw other refl ]
+no_text_no_id text bad = elim (cases_Bool (is_id text)) [ inl good ↦ absurd (bad (id_is_text text good)) | inr other ↦ rw other refl ]
 
 pub no_text_no_moment : (text : List ℕ) → (IsUtf8 text → ⊥) → moment_of text ≡ None
-no_text_no_moment text bad = elim (cases_Bool (is_utf8 text)) [ | inl good ↦ absurd (bad (IsUtf8-from_is_utf8 text good)) | inr other ↦ rw other refl ]
+no_text_no_moment text bad = elim (cases_Bool (is_utf8 text)) [ inl good ↦ absurd (bad (IsUtf8-from_is_utf8 text good)) | inr other ↦ rw other refl ]
 
 pub text_moment : (text : List ℕ) → IsUtf8 text → moment_of text ≡ watermark_of text
 text_moment text good = let test = is_utf8-from_IsUtf8 text good in rw test refl
