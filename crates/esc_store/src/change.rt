@@ -57,6 +57,7 @@ impl<'a, S: Alter> Change<'a, S> {
     /// Makes the whole change at once. At `Err` nothing is changed: `S1`, `S2`.
     pub fn commit(self) -> Result<(), SFault>
         ensures manifest { self.exit.0.now.manifest ≡ self.entry.store.now.manifest }
+        ensures honest { HasCleanDisk (state S.Store self.exit.0.now.conn) → HasCleanDisk (state S.Store self.entry.store.now.conn) }
         ensures written { OnOk result (self.exit.0.now.writes ≡ min (self.entry.store.now.writes + self.entry.count) (2 ^ 64 - 1)) }
         ensures unwritten { OnErr result (self.exit.0.now.writes ≡ self.entry.store.now.writes) }
         ensures committed { OnOk result ((before k : Kept) → Rest S.Store self.entry before k → HoldsNow S.Store self.entry k.registry → Stands S.Store self.exit.0.now k) }
