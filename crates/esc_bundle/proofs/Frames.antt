@@ -67,17 +67,17 @@ next_has_room before rest x next = (section_takes before rest x (next_section_ta
 -- ---- from a place on
 
 -- the equations of `frame_after`
-pub frame_at_end : (places : ℕ) (before : List Named) (rest : List ℕ) → next_at before rest ≡ no_more → frame_after (suc places) before rest ≡ Ok before
+pub frame_at_end : (steps : ℕ) (before : List Named) (rest : List ℕ) → next_at before rest ≡ no_more → frame_after (suc steps) before rest ≡ Ok before
 unfolding frame_after
-frame_at_end places before rest next = rw next refl
+frame_at_end steps before rest next = rw next refl
 
-pub frame_at_section : (places : ℕ) (before : List Named) (rest : List ℕ) (x : Named × List ℕ) → next_at before rest ≡ more_of x → frame_after (suc places) before rest ≡ frame_after places (before ++ (x.0 ∷ [])) x.1
+pub frame_at_section : (steps : ℕ) (before : List Named) (rest : List ℕ) (x : Named × List ℕ) → next_at before rest ≡ more_of x → frame_after (suc steps) before rest ≡ frame_after steps (before ++ (x.0 ∷ [])) x.1
 unfolding frame_after
-frame_at_section places before rest x next = rw next refl
+frame_at_section steps before rest x next = rw next refl
 
-pub frame_at_fault : (places : ℕ) (before : List Named) (rest : List ℕ) (n : ℕ) → next_at before rest ≡ Err n → frame_after (suc places) before rest ≡ Err n
+pub frame_at_fault : (steps : ℕ) (before : List Named) (rest : List ℕ) (n : ℕ) → next_at before rest ≡ Err n → frame_after (suc steps) before rest ≡ Err n
 unfolding frame_after
-frame_at_fault places before rest n next = rw next refl
+frame_at_fault steps before rest n next = rw next refl
 
 -- what a result says of a body: its sections, or its fault behind the first line
 abbrev Says : List ℕ → Result (List Named) ℕ → Type 0
@@ -87,16 +87,16 @@ Says body (Err n) = FaultBehind body n
 at_end : (body : List ℕ) (before : List Named) (rest : List ℕ) → body ≡ beginning_text before ++ rest → AreSections before → Ends before rest → Says body (Ok before)
 at_end body before rest e old ends = (e ∙ ap (λ (l : List ℕ). beginning_text before ++ l) ends.rest_is, old, ends.some)
 
-says_by : (places : ℕ) (body : List ℕ) (before : List Named) (rest : List ℕ) (next : Result (Option (Named × List ℕ)) ℕ) → next_at before rest ≡ next → length before + suc places ≡ 65 → body ≡ beginning_text before ++ rest → AreSections before
-    → ((s : Named) (after : List ℕ) → More body before s after → Says body (frame_after places (before ++ (s ∷ [])) after)) → Says body (frame_after (suc places) before rest)
-says_by places body before rest (Ok None) next len e old more = rw (frame_at_end places before rest next) (at_end body before rest e old (next_end_takes before rest next))
-says_by places body before rest (Ok (Some x)) next len e old more = rw (frame_at_section places before rest x next) (more x.0 x.1 (one_more body before rest x e old next))
-says_by places body before rest (Err n) next len e old more = rw (frame_at_fault places before rest n next) (record { before = before; rest = rest; text = e; sections = old; fault = next })
+says_by : (steps : ℕ) (body : List ℕ) (before : List Named) (rest : List ℕ) (next : Result (Option (Named × List ℕ)) ℕ) → next_at before rest ≡ next → length before + suc steps ≡ 65 → body ≡ beginning_text before ++ rest → AreSections before
+    → ((s : Named) (after : List ℕ) → More body before s after → Says body (frame_after steps (before ++ (s ∷ [])) after)) → Says body (frame_after (suc steps) before rest)
+says_by steps body before rest (Ok None) next len e old more = rw (frame_at_end steps before rest next) (at_end body before rest e old (next_end_takes before rest next))
+says_by steps body before rest (Ok (Some x)) next len e old more = rw (frame_at_section steps before rest x next) (more x.0 x.1 (one_more body before rest x e old next))
+says_by steps body before rest (Err n) next len e old more = rw (frame_at_fault steps before rest n next) (record { before = before; rest = rest; text = e; sections = old; fault = next })
 
-says : (places : ℕ) (body : List ℕ) (before : List Named) (rest : List ℕ) → length before + places ≡ 65 → body ≡ beginning_text before ++ rest → AreSections before → Says body (frame_after places before rest)
+says : (steps : ℕ) (body : List ℕ) (before : List Named) (rest : List ℕ) → length before + steps ≡ 65 → body ≡ beginning_text before ++ rest → AreSections before → Says body (frame_after steps before rest)
 says zero body before rest len e old = absurd (omega (arith, len, old.few))
-says (suc places) body before rest len e old = says_by places body before rest (next_at before rest) refl len e old
-    (λ s after m. says places body (before ++ (s ∷ [])) after (omega (arith, len, length_push before s)) m.text m.sections)
+says (suc steps) body before rest len e old = says_by steps body before rest (next_at before rest) refl len e old
+    (λ s after m. says steps body (before ++ (s ∷ [])) after (omega (arith, len, length_push before s)) m.text m.sections)
 
 -- ---- from the first line on
 

@@ -7,3 +7,4 @@ pub mod Frames
 pub mod Gathering
 pub mod Answered
 pub mod FaultNumbers
+pub mod Written

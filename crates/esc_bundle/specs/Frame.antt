@@ -6,12 +6,12 @@ use Rattle.esc_bundle.specs.Bundle.{Named, limit, first_line}
 use Rattle.esc_bundle.specs.Steps.{◌>>=◌, check}
 use Rattle.esc_bundle.specs.Reading.{next_at}
 
--- the sections from here on, behind these, by looking at so many places at most
+-- these sections and those that stand behind them, told within so many steps
 unfoldable pub frame_after : ℕ → List Named → List ℕ → Result (List Named) ℕ
 frame_after zero before rest = Err 4
-frame_after (suc places) before rest = next_at before rest >>= λ next. option_map_or (λ p. frame_after places (before ++ (p.0 ∷ [])) p.1) next (Ok before)
+frame_after (suc steps) before rest = next_at before rest >>= λ next. option_map_or (λ found. frame_after steps (before ++ (found.0 ∷ [])) found.1) next (Ok before)
 
--- the sections of a bundle; of any other text the number of its fault. At most 64 sections come before the place where it ends
+-- the sections of a bundle, or the number of the fault of any other text: 64 steps for sections, and one for the end
 unfoldable pub frame : List ℕ → Result (List Named) ℕ
 frame body = do
   fits ← check (nat_le (length body) limit) 4

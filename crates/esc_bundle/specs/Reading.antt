@@ -11,8 +11,8 @@ abbrev pub parted : ℕ → List ℕ → Option (List ℕ × List ℕ)
 parted c [] = None
 parted c (b ∷ bs) = if b == c then Some ([], bs) else option_map (λ p. (b ∷ p.0, p.1)) (parted c bs)
 
--- a section of this name and length may stand behind these: the name has its form and is new, there is room for one more,
--- the length is not over the limit, and the first section is the envelope
+-- a section of this name and length may stand behind these: the name has its form and is new,
+-- there is room for it and its bytes, and the first section is the envelope
 unfoldable pub stands_at : List Named → List ℕ → ℕ → Result (Unit {0}) ℕ
 stands_at before name size = do
   named ← check (is_name name) 2

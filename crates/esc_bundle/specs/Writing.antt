@@ -1,20 +1,27 @@
--- What a list of sections is refused for.
-use Rattle.std.specs.Prelude.{ℕ, List, [], ◌∷◌, ◌++◌, length, ◌==◌, nat_lt, if◌then◌else◌, Option, Some, None, String, string_bytes}
-use Rattle.std.specs.Option.{option_or}
-use Rattle.std.specs.Result.{result_err}
+-- The bundle of a list of sections, or the number of the fault for which there is none, as a function.
+use Rattle.std.specs.Prelude.{ℕ, List, [], ◌∷◌, ◌++◌, length, nat_lt, nat_le, String, string_bytes, Result, Ok}
 use Rattle.std.specs.Global.{Vec}
 use Rattle.std.specs.declared.alloc.Global.{Global}
 use Rattle.esc_bundle.specs.Bundle.{Named, limit, bundle_text}
+use Rattle.esc_bundle.specs.Steps.{◌>>=◌, check}
 use Rattle.esc_bundle.specs.Reading.{stands_at}
 
+-- a name and bytes, as a section
 abbrev pub named : String Global × Vec ℕ → Named
 named p = record { name = string_bytes p.0; bytes = p.1.items }
 
--- the fault of the first section that may not stand behind those before it
-unfoldable pub list_fault_after : List Named → List Named → Option ℕ
-list_fault_after before [] = None
-list_fault_after before (s ∷ ss) = option_or (result_err (stands_at before s.name (length s.bytes))) (list_fault_after (before ++ (s ∷ [])) ss)
+-- these sections, and then the others, each of which may stand behind those before it
+unfoldable pub in_order : List Named → List Named → Result (List Named) ℕ
+in_order before [] = Ok before
+in_order before (s ∷ ss) = stands_at before s.name (length s.bytes) >>= λ stands. in_order (before ++ (s ∷ [])) ss
 
--- no section at all; then section by section; then the length of the whole
-abbrev pub list_fault : List Named → Option ℕ
-list_fault ss = if length ss == 0 then Some 1 else option_or (list_fault_after [] ss) (if nat_lt limit (length (bundle_text ss)) then Some 4 else None)
+-- the text, if a bundle may be so long
+unfoldable pub within_limit : List ℕ → Result (List ℕ) ℕ
+within_limit text = check (nat_le (length text) limit) 4 >>= λ fits. Ok text
+
+-- the text of a bundle: there is a section; then section by section; then the whole
+unfoldable pub bundle_of : List Named → Result (List ℕ) ℕ
+bundle_of ss = do
+  some ← check (nat_lt 0 (length ss)) 1
+  sections ← in_order [] ss
+  within_limit (bundle_text sections)

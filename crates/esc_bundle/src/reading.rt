@@ -45,7 +45,7 @@ const REPEATED_NAME: Fault = Fault::Refused(3);
 /// There are too many sections or bytes.
 pub(crate) const OVER_LIMIT: Fault = Fault::Refused(4);
 
-fn place_of(bytes: &[u8], byte: u8) -> Option<usize>
+fn index_of(bytes: &[u8], byte: u8) -> Option<usize>
     ensures { result ≡ position (λ b. b == byte) bytes.now }
 {
     bytes.iter().position(|b| *b == byte)
@@ -55,7 +55,7 @@ fn place_of(bytes: &[u8], byte: u8) -> Option<usize>
 fn split_at_byte(bytes: &[u8], separator: u8) -> Option<(&[u8], &[u8])>
     ensures { option_map (λ p. (p.0.now, p.1.now)) result ≡ parted separator bytes.now }
 {
-    match place_of(bytes, separator) {
+    match index_of(bytes, separator) {
         Some(at) => Some((&bytes[..at], &bytes[at + 1..])),
         None => None,
     }
@@ -135,11 +135,7 @@ fn is_repeated(before: &[Section<'_>], name: &[u8]) -> bool
 fn is_in_order(before: &[Section<'_>], name: &[u8]) -> bool
     ensures { result ≡ (not (length (views before.now) == 0) || bytes_eq name.now envelope_name) }
 {
-    if before.is_empty() {
-        name == ENVELOPE
-    } else {
-        true
-    }
+    !before.is_empty() || name == ENVELOPE
 }
 
 // Refuses a section of this name and length that may not stand behind these.
@@ -192,7 +188,8 @@ fn front_section<'a>(
     before: &[Section<'_>],
     rest: &'a [u8],
 ) -> Result<(Section<'a>, &'a [u8]), Fault>
-    ensures { Gives (λ found. (view found.0, found.1.now)) result (section_at (views before.now) rest.now) }
+    ensures { Gives (λ found. (view found.0, found.1.now)) result
+        (section_at (views before.now) rest.now) }
 {
     let Some((line, after)) = split_at_byte(rest, b'\n') else {
         return Err(BROKEN_FRAME);
@@ -217,7 +214,8 @@ fn next_section<'a>(
     before: &[Section<'_>],
     rest: &'a [u8],
 ) -> Result<Option<(Section<'a>, &'a [u8])>, Fault>
-    ensures { Gives (option_map {U = Named × List ℕ} (λ found. (view found.0, found.1.now))) result (next_at (views before.now) rest.now) }
+    ensures { Gives (option_map {U = Named × List ℕ} (λ found. (view found.0, found.1.now))) result
+        (next_at (views before.now) rest.now) }
 {
     if !rest.starts_with(LAST_LINE) {
         let found = front_section(before, rest)?;
@@ -242,26 +240,30 @@ fn gather(alloc: Global, text: &[u8]) -> Result<Vec<Section<'_>>, Fault>
     Ok(found)
 }
 
-/// The sections of a bundle, in order. Names and bytes are slices of `body`, and nothing of it is copied.
+/// The sections of a bundle, in order. Their names and bytes are slices of `body`: nothing is
+/// copied.
 ///
-/// A bundle is the line `escrow-bundle 1`, then one or more sections, then the line `end` (this project's profile). A section is its
-/// name, a space, its length in bytes, a line feed, the bytes and a line feed.
+/// A bundle is the line `escrow-bundle 1`, then one or more sections, then the line `end`. A section
+/// is its name, a space, its length in bytes, a line feed, the bytes and a line feed (this project's
+/// profile).
 ///
 /// # Errors
 ///
-/// The fault of a body that is no bundle, read from the front:
+/// Of a body that is no bundle the first fault, read from the front:
 ///
-/// - `Refused(1)`: it has not that frame, or the first section is not `envelope.json`;
+/// - `Refused(1)`: it has another frame, or its first section is not `envelope.json`;
 /// - `Refused(2)`: a name is not 1 to 32 of `a-z 0-9 . _ -`;
 /// - `Refused(3)`: a name stood before;
-/// - `Refused(4)`: the body or a section is over 16,777,216 bytes, or there are more than 64 sections.
+/// - `Refused(4)`: the body or a section has more than 16,777,216 bytes, or there is a 65th section.
 ///
-/// `NoMemory` if there was none for the list of sections.
+/// `NoMemory`, of any body, if there was none for the list of sections.
 pub fn sections(alloc: Global, body: &[u8]) -> Result<Vec<Section<'_>>, Fault>
     ensures found { IfOk result (λ v. IsBundle body.now (views v.items)) }
     ensures refused { IfErr result (λ e. (n : ℕ) → e ≡ Fault.Refused n → IsFault body.now n) }
-    ensures bundle_found { (ss : List Named) → IsBundle body.now ss → MatchResult result (λ v. views v.items ≡ ss) (λ e. e ≡ Fault.NoMemory) }
-    ensures fault_told { (n : ℕ) → IsFault body.now n → IsErrAnd result (λ e. (e ≡ Fault.Refused n) ⊎ (e ≡ Fault.NoMemory)) }
+    ensures bundle_found { (ss : List Named) → IsBundle body.now ss →
+        MatchResult result (λ v. views v.items ≡ ss) (λ e. e ≡ Fault.NoMemory) }
+    ensures fault_told { (n : ℕ) → IsFault body.now n →
+        IsErrAnd result (λ e. (e ≡ Fault.Refused n) ⊎ (e ≡ Fault.NoMemory)) }
     ensures framed { IfOk result (λ v. frame body.now ≡ Ok (views v.items)) }
     ensures unframed { IfErr result (λ e. (n : ℕ) → e ≡ Fault.Refused n → frame body.now ≡ Err n) }
 {

@@ -13,7 +13,6 @@ use Rattle.esc_chain.specs.declared.base.Base.{Base}
 use Rattle.esc_chain.specs.declared.base.Base.TheVariants.{Whole, At, Unlisted}
 use Rattle.esc_chain.specs.Base.{IsFullBefore, IsLastFull, IsNamed, IsNamedBy, IsBaseOf, IsBase}
 use Rattle.esc_chain.specs.Chain.{Rows, IsHeld, InRange, IsUsed, NoneHeld, LeadsBack}
-use Rattle.esc_chain.specs.Walk.{LeadsFrom, LeadsNowhere}
 
 -- one row of a place is used
 pub used_same : (m : List MRow) (h : Rows) → IsAccepted m → InRange m h → (r s : ℕ) → IsUsed m h r → IsUsed m h s → place_at m r ≡ place_at m s → r ≡ s

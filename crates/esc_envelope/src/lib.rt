@@ -5,6 +5,7 @@ mod envelope;
 mod header;
 mod id;
 mod kind;
+mod members;
 mod moment;
 mod parts;
 mod place;

@@ -13,21 +13,8 @@ use Rattle.esc_manifest.specs.Rows.{no_row, row_at}
 use Rattle.esc_manifest.specs.Accepted.{IsAccepted}
 use Rattle.esc_manifest.specs.RowFaults.{most_rows, has_bad_id, has_bad_watermark, lacks_prev, has_bad_resend, same_revision, moved_id, follows_later, same_digest, least, first_against_earlier, first_against_any, fault_or, rows_fault}
 use Rattle.esc_manifest.proofs.Least.{least_none, none_holds}
+use Rattle.esc_manifest.proofs.Positions.{fails_at, no_first}
 use Rattle.esc_manifest.proofs.RowTests.{ids_are_good, has_good_ids, watermark_is_good, has_good_watermark, prev_is_there, has_prev, resend_is_good, has_good_resend, same_revision-Decides, same_digest-Decides, stays_in_place, not_moved_id, names_earlier, not_follows_later}
-
--- a test fails at each row exactly if it has no first row
-pub fails_at : (test : MRow → Bool) (m : List MRow) → position test m ≡ None → (r : ℕ) → r < length m → test (row_at m r) ≡ false
-fails_at test m none r lt =
-    elim (cases_lt (position_or_len test m) (length m)) [
-      | inl below ↦ let found : ltb (position_or_len test m) (length m) ≡ true = grind (arith, nat_tests) in absurd (cc (rw found at none))
-      | inr above ↦ fails_before_first test m r no_row (omega arith)
-    ]
-
-pub no_first : (test : MRow → Bool) (m : List MRow) → ((r : ℕ) → r < length m → test (row_at m r) ≡ false) → position test m ≡ None
-no_first test m fails =
-    let end : position_or_len test m ≡ length m = position_or_len_is test m (length m) no_row (omega arith) fails (λ lt. absurd (omega arith)) in
-    let past : ltb (position_or_len test m) (length m) ≡ false = grind (arith, nat_tests) in
-    rw past refl
 
 -- no row of a list passes a test
 none_passes : (test : MRow → Bool) (m : List MRow) (r : ℕ) → list_any test m ≡ false → r < length m → test (row_at m r) ≡ false
@@ -57,10 +44,10 @@ no_earlier against m fails =
 -- no row stands against any
 pub any_fails : (against : MRow → MRow → Bool) (m : List MRow) → first_against_any against m ≡ None → (q r : ℕ) → q < length m → r < length m → against (row_at m q) (row_at m r) ≡ false
 any_fails against m none q r in_q in_r =
-    none_passes (λ q. against q (row_at m r)) m q (fails_at (λ r. list_any (λ q. against q r) m) m none r in_r) in_q
+    none_passes (λ q. against q (row_at m r)) m q (fails_at (λ r. list_any (λ q. against q r) m) m no_row none r in_r) in_q
 
 pub against_none : (against : MRow → MRow → Bool) (m : List MRow) → ((q r : ℕ) → q < length m → r < length m → against (row_at m q) (row_at m r) ≡ false) → first_against_any against m ≡ None
-against_none against m fails = no_first (λ r. list_any (λ q. against q r) m) m (λ r in_r. passes_none (λ q. against q (row_at m r)) m (λ q in_q. fails q r in_q in_r))
+against_none against m fails = no_first (λ r. list_any (λ q. against q r) m) m no_row (λ r in_r. passes_none (λ q. against q (row_at m r)) m (λ q in_q. fails q r in_q in_r))
 
 -- rows without a fault, part by part
 pub record HasNoFault (m : List MRow) : Type 0 where
@@ -75,11 +62,11 @@ pub record HasNoFault (m : List MRow) : Type 0 where
   pub digests : first_against_earlier same_digest m ≡ None
 
 -- no fault of this number, and none next
-neither_fault : (code : ℕ) (o : Option ℕ) (next : Option (ℕ × ℕ)) → fault_or code o next ≡ None → (o ≡ None) × (next ≡ None)
+pub neither_fault : (code : ℕ) (o : Option ℕ) (next : Option (ℕ × ℕ)) → fault_or code o next ≡ None → (o ≡ None) × (next ≡ None)
 neither_fault code None next e = (refl, e)
 neither_fault code (Some r) next e = absurd cc
 
-not_too_many : (many : Bool) (next : Option (ℕ × ℕ)) → (if many then Some (1, 0) else next) ≡ None → (many ≡ false) × (next ≡ None)
+pub not_too_many : (many : Bool) (next : Option (ℕ × ℕ)) → (if many then Some (1, 0) else next) ≡ None → (many ≡ false) × (next ≡ None)
 not_too_many true next e = absurd cc
 not_too_many false next e = (refl, e)
 
@@ -129,10 +116,10 @@ are_accepted m p =
     let digests = earlier_fails same_digest m p.digests in
     record {
       few = grind (arith, nat_tests);
-      ids = λ r lt. (ids_are_good (row_at m r) (fails_at has_bad_id m p.ids r lt)).0;
-      prevs = λ r lt. (ids_are_good (row_at m r) (fails_at has_bad_id m p.ids r lt)).1;
-      watermarks = λ r lt. watermark_is_good (row_at m r) (fails_at has_bad_watermark m p.watermarks r lt);
-      resends = λ r lt. resend_is_good (row_at m r) (fails_at has_bad_resend m p.resends r lt);
+      ids = λ r lt. (ids_are_good (row_at m r) (fails_at has_bad_id m no_row p.ids r lt)).0;
+      prevs = λ r lt. (ids_are_good (row_at m r) (fails_at has_bad_id m no_row p.ids r lt)).1;
+      watermarks = λ r lt. watermark_is_good (row_at m r) (fails_at has_bad_watermark m no_row p.watermarks r lt);
+      resends = λ r lt. resend_is_good (row_at m r) (fails_at has_bad_resend m no_row p.resends r lt);
       one_revision = λ q r in_q in_r place resend. one_row same_revision m revisions q r in_q in_r ((same_revision-Decides (row_at m q) (row_at m r)).1 (place, resend)) ((same_revision-Decides (row_at m r) (row_at m q)).1 (sym place, sym resend));
       one_place = λ q r in_q in_r id. elim (cases_lt q r) [
         | inl below ↦ stays_in_place (row_at m q) (row_at m r) (places q r below in_r) id
@@ -141,7 +128,7 @@ are_accepted m p =
           | inr equal ↦ let same : q ≡ r = omega arith in ap (λ (k : ℕ). (row_at m k).header.place) same
         ]
       ];
-      has_prev = λ r lt kind. prev_is_there (row_at m r) (fails_at lacks_prev m p.prevs r lt) kind;
+      has_prev = λ r lt kind. prev_is_there (row_at m r) (fails_at lacks_prev m no_row p.prevs r lt) kind;
       prev_earlier = λ q r in_q in_r kind named. names_earlier (row_at m q) (row_at m r) (any_fails follows_later m p.later q r in_q in_r) kind named;
       one_digest = λ q r in_q in_r digest. one_row same_digest m digests q r in_q in_r ((same_digest-Decides (row_at m q) (row_at m r)).1 digest) ((same_digest-Decides (row_at m r) (row_at m q)).1 (sym digest));
     }
@@ -155,12 +142,12 @@ pub have_no_fault : (m : List MRow) → IsAccepted m → HasNoFault m
 have_no_fault m a =
     record {
       few = let few : length m ≤ 4096 = a.few in grind (arith, nat_tests);
-      ids = no_first has_bad_id m (λ r lt. has_good_ids (row_at m r) (a.ids r lt) (a.prevs r lt));
-      watermarks = no_first has_bad_watermark m (λ r lt. has_good_watermark (row_at m r) (a.watermarks r lt));
-      prevs = no_first lacks_prev m (λ r lt. has_prev (row_at m r) (a.has_prev r lt));
-      resends = no_first has_bad_resend m (λ r lt. has_good_resend (row_at m r) (a.resends r lt));
+      ids = no_first has_bad_id m no_row (λ r lt. has_good_ids (row_at m r) (a.ids r lt) (a.prevs r lt));
+      watermarks = no_first has_bad_watermark m no_row (λ r lt. has_good_watermark (row_at m r) (a.watermarks r lt));
+      prevs = no_first lacks_prev m no_row (λ r lt. has_prev (row_at m r) (a.has_prev r lt));
+      resends = no_first has_bad_resend m no_row (λ r lt. has_good_resend (row_at m r) (a.resends r lt));
       revisions = no_earlier same_revision m (λ q r before lt. tells_apart (same_revision (row_at m q) (row_at m r)) q r before
-      (λ e. let parts = (same_revision-Decides (row_at m q) (row_at m r)).0 e in a.one_revision q r (omega arith) lt parts.0 parts.1));
+          (λ e. let parts = (same_revision-Decides (row_at m q) (row_at m r)).0 e in a.one_revision q r (omega arith) lt parts.0 parts.1));
       places = no_earlier moved_id m (λ q r before lt. not_moved_id (row_at m q) (row_at m r) (a.one_place q r (omega arith) lt));
       later = against_none follows_later m (λ q r in_q in_r. not_follows_later (row_at m q) (row_at m r) (a.prev_earlier q r in_q in_r));
       digests = no_earlier same_digest m (λ q r before lt. tells_apart (same_digest (row_at m q) (row_at m r)) q r before (λ e. a.one_digest q r (omega arith) lt ((same_digest-Decides (row_at m q) (row_at m r)).0 e)));

@@ -25,7 +25,7 @@ goes_on : (s : State) (a : Action) → is_end a ≡ false → EndsBetween (s, a)
 goes_on s a h e = absurd cc
 
 after_line : (t : Terminator) (c : ℕ) → ends_at_end (after_end t c) ≡ false
-after_line term.CRLF c = elim (cases_Bool (c == 13)) [ | inl e ↦ rw e refl | inr e ↦ rw e refl ]
+after_line term.CRLF c = elim (cases_Bool (c == 13)) [ inl e ↦ rw e refl | inr e ↦ rw e refl ]
 after_line (term.Any b) c = refl
 
 in_field_ends : (cfg : Config) (c : ℕ) → EndsBetween (in_field cfg c)

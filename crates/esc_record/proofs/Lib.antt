@@ -1,0 +1,4 @@
+pub mod Objects
+pub mod Pieces
+pub mod Pushed
+pub mod Readings

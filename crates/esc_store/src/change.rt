@@ -4,7 +4,7 @@ ghost use Rattle.std.specs.Prelude.{◌≡◌, ◌≤◌, ◌<◌, ◌+◌, ◌-
 ghost use Rattle.sqlite.specs.Held.{state};
 ghost use Rattle.sqlite.specs.State.{HasCleanDisk};
 ghost use Rattle.esc_apply.specs.Registry.{State};
-ghost use Rattle.esc_store.specs.Kept.{Kept, with_receipt, with_body, with_steps};
+ghost use Rattle.esc_store.specs.Kept.{Kept, with_receipt, with_body, with_steps, with_registry};
 ghost use Rattle.esc_store.specs.Standing.{Stands, Began, Rest, HoldsNow, GoesOn, LeavesOnly, LeavesOr, LeavesNoMore};
 
 use crate::fault::SFault;
@@ -57,12 +57,13 @@ impl<'a, S: Alter> Change<'a, S> {
     /// Makes the whole change at once. At `Err` nothing is changed: `S1`, `S2`.
     pub fn commit(self) -> Result<(), SFault>
         ensures manifest { self.exit.0.now.manifest ≡ self.entry.store.now.manifest }
+        ensures honest { HasCleanDisk (state S.Store self.exit.0.now.conn) → HasCleanDisk (state S.Store self.entry.store.now.conn) }
         ensures written { OnOk result (self.exit.0.now.writes ≡ min (self.entry.store.now.writes + self.entry.count) (2 ^ 64 - 1)) }
         ensures unwritten { OnErr result (self.exit.0.now.writes ≡ self.entry.store.now.writes) }
-        ensures committed { OnOk result ((before k : Kept) → Rest S.Store self.entry before k → HoldsNow S.Store self.entry k.registry → Stands S.Store self.exit.0.now k) }
+        ensures committed { OnOk result ((before k : Kept) (s : State) → Rest S.Store self.entry before k → HoldsNow S.Store self.entry s → Stands S.Store self.exit.0.now (with_registry k s)) }
         ensures kept { OnErr result ((before : Kept) → Began S.Store self.entry before → Stands S.Store self.exit.0.now before) }
-        ensures crash { (before k : Kept) → Rest S.Store self.entry before k → HoldsNow S.Store self.entry k.registry → LeavesOr S.Store self.entry.store.now.conn self.exit.0.now.conn k }
-        ensures left { OnOk result ((before k : Kept) → Rest S.Store self.entry before k → HoldsNow S.Store self.entry k.registry → LeavesOnly S.Store self.exit.0.now k) }
+        ensures crash { (before k : Kept) (s : State) → Rest S.Store self.entry before k → HoldsNow S.Store self.entry s → LeavesOr S.Store self.entry.store.now.conn self.exit.0.now.conn (with_registry k s) }
+        ensures left { OnOk result ((before k : Kept) (s : State) → Rest S.Store self.entry before k → HoldsNow S.Store self.entry s → LeavesOnly S.Store self.exit.0.now (with_registry k s)) }
         ensures cause { IfErr result (λ e. e ≡ SFault.S4 → ⊥) }
     {
         let Change { store: _, count: _ } = self;

@@ -1,0 +1,64 @@
+-- Reading a record from the front of a list, of texts that pass a test.
+use Rattle.std.specs.Prelude.{ℕ, zero, suc, Bool, nat_lt, if◌then◌else◌, List, [], ◌∷◌, length, take, drop, Option, None, Some}
+use Rattle.std.specs.Int.{from_be_bytes, w32}
+use Rattle.esc_tables.specs.ObjectValue.{RowValue, ObjectValue}
+
+infixl 10 ◌>>=◌
+abbrev pub ◌>>=◌ : {A B : Type 0} → Option A → (A → Option B) → Option B
+None >>= f = None
+(Some x) >>= f = f x
+
+-- the first n bytes and the rest, if there are so many
+abbrev pub cut : ℕ → List ℕ → Option (List ℕ × List ℕ)
+cut n bytes = if nat_lt (length bytes) n then None else Some (take n bytes, drop n bytes)
+
+-- a number and the rest
+abbrev pub number_at : List ℕ → Option (ℕ × List ℕ)
+number_at bytes = do
+  p ← cut 4 bytes
+  Some (from_be_bytes w32 p.0, p.1)
+
+-- a list of n things and the rest
+abbrev pub many : {A : Type 0} → (List ℕ → Option (A × List ℕ)) → ℕ → List ℕ → Option (List A × List ℕ)
+many one zero bytes = Some ([], bytes)
+many one (suc n) bytes = do
+  x ← one bytes
+  xs ← many one n x.1
+  Some (x.0 ∷ xs.0, xs.1)
+
+module _ (is_text : List ℕ → Bool) where
+  -- a text and the rest
+  abbrev pub text_at : List ℕ → Option (List ℕ × List ℕ)
+  text_at bytes = do
+    n ← number_at bytes
+    p ← cut n.0 n.1
+    text ← if is_text p.0 then Some p.0 else None
+    Some (text, p.1)
+
+  -- a cell and the rest
+  unfoldable pub cell_at : List ℕ → Option ((List ℕ × List ℕ) × List ℕ)
+  cell_at bytes = do
+    field ← text_at bytes
+    value ← text_at field.1
+    Some ((field.0, value.0), value.1)
+
+  -- a row and the rest
+  unfoldable pub row_at : List ℕ → Option (RowValue × List ℕ)
+  row_at bytes = do
+    table ← text_at bytes
+    count ← number_at table.1
+    cells ← many cell_at count.0 count.1
+    Some (record { table = table.0; cells = cells.0 }, cells.1)
+
+  -- an object of its rows
+  abbrev pub of_rows : List RowValue → Option ObjectValue
+  of_rows [] = None
+  of_rows (parent ∷ children) = Some (record { parent = parent; children = children })
+
+  -- the object whose record this is
+  unfoldable pub object_of : List ℕ → Option ObjectValue
+  object_of bytes = do
+    count ← number_at bytes
+    rows ← many row_at count.0 count.1
+    ends ← cut (length rows.1) []
+    of_rows rows.0

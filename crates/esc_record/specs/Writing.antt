@@ -1,0 +1,7 @@
+-- What the pieces of a record's writer do.
+use Rattle.std.specs.Prelude.{◌≡◌, ℕ, Bool, true, List, ◌++◌, Result, IfOk}
+use Rattle.esc_bundle.specs.declared.fault.NoMemory.{NoMemory}
+
+-- it answers whether the thing fits, and has then put its bytes behind the others
+abbrev pub Pushes : Bool → List ℕ → List ℕ → List ℕ → Result Bool NoMemory → Type 0
+Pushes fits bytes old new result = IfOk result (λ answer. (answer ≡ fits) × (answer ≡ true → new ≡ old ++ bytes))

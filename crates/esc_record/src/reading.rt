@@ -1,0 +1,159 @@
+//! Reading a record.
+
+ghost use Rattle.std.specs.Prelude.{◌≡◌, ◌≢◌, Some, None, if◌then◌else◌, option_map, map, IfOk, IfSome, IfNone};
+ghost use Rattle.std.specs.Str.{is_utf8};
+ghost use Rattle.esc_tables.specs.ObjectValue.{ObjectValue, cell_texts};
+ghost use Rattle.esc_record.specs.Record.{record_of, IsOfTexts};
+ghost use Rattle.esc_record.specs.Reading.{cut, number_at, text_at, cell_at, row_at, many, object_of, of_rows};
+
+use esc_bundle::NoMemory;
+use esc_tables::{Object, Row};
+use std::alloc::Global;
+use std::str;
+
+/// Field and text of a cell.
+type Cell = (String, String);
+
+// A number, and the rest.
+fn number_at(bytes: &[u8]) -> Option<(u32, &[u8])>
+    ensures { option_map (λ p. (p.0, p.1.now)) result ≡ number_at bytes.now }
+{
+    let (number, rest) = bytes.split_first_chunk::<4>()?;
+    Some((u32::from_be_bytes(*number), rest))
+}
+
+// The first bytes, so many, and the rest.
+fn cut(count: usize, bytes: &[u8]) -> Option<(&[u8], &[u8])>
+    ensures { option_map (λ p. (p.0.now, p.1.now)) result ≡ cut count bytes.now }
+{
+    if bytes.len() < count {
+        return None;
+    }
+    Some((&bytes[..count], &bytes[count..]))
+}
+
+// The text that bytes are, if they are UTF-8.
+fn as_text(bytes: &[u8]) -> Option<&str>
+    ensures { option_map (λ t. t.now) result ≡ (if is_utf8 bytes.now then Some bytes.now else None) }
+{
+    match str::from_utf8(bytes) {
+        Ok(text) => Some(text),
+        Err(_) => None,
+    }
+}
+
+// A text, and the rest.
+fn text_at(bytes: &[u8]) -> Option<(&str, &[u8])>
+    ensures { option_map (λ p. (p.0.now, p.1.now)) result ≡ text_at is_utf8 bytes.now }
+{
+    let (count, rest) = number_at(bytes)?;
+    let (text, rest) = cut(count as usize, rest)?;
+    let text = as_text(text)?;
+    Some((text, rest))
+}
+
+// A cell, and the rest.
+#[tactic(auto, unfolding(crate::specs::Reading::cell_at))]
+fn cell_at(alloc: Global, bytes: &[u8]) -> Result<Option<(Cell, &[u8])>, NoMemory>
+    ensures { IfOk result (λ found. option_map (λ p. (cell_texts p.0, p.1.now)) found ≡ cell_at is_utf8 bytes.now) }
+{
+    let Some((field, rest)) = text_at(bytes) else {
+        return Ok(None);
+    };
+    let Some((value, rest)) = text_at(rest) else {
+        return Ok(None);
+    };
+    let field = String::from_str(alloc, field)?;
+    let value = String::from_str(alloc, value)?;
+    Ok(Some(((field, value), rest)))
+}
+
+// So many cells, and the rest.
+fn cells_at(alloc: Global, count: u32, bytes: &[u8]) -> Result<Option<(Vec<Cell>, &[u8])>, NoMemory>
+    ensures { IfOk result (λ found. option_map (λ p. (map cell_texts p.0.items, p.1.now)) found ≡ many (cell_at is_utf8) count bytes.now) }
+{
+    let mut rest = bytes;
+    let mut cells = Vec::new(alloc);
+    for _ in 0..count {
+        let Some((cell, behind)) = cell_at(alloc, rest)? else {
+            return Ok(None);
+        };
+        cells.push(cell)?;
+        rest = behind;
+    }
+    Ok(Some((cells, rest)))
+}
+
+// A row, and the rest.
+#[tactic(auto, unfolding(crate::specs::Reading::row_at))]
+fn row_at(alloc: Global, bytes: &[u8]) -> Result<Option<(Row, &[u8])>, NoMemory>
+    ensures { IfOk result (λ found. option_map (λ p. (p.0, p.1.now)) found ≡ row_at is_utf8 bytes.now) }
+{
+    let Some((table, rest)) = text_at(bytes) else {
+        return Ok(None);
+    };
+    let Some((count, rest)) = number_at(rest) else {
+        return Ok(None);
+    };
+    let Some((cells, rest)) = cells_at(alloc, count, rest)? else {
+        return Ok(None);
+    };
+    let table = String::from_str(alloc, table)?;
+    Ok(Some((Row { table, cells }, rest)))
+}
+
+// So many rows, and the rest.
+fn rows_at(alloc: Global, count: u32, bytes: &[u8]) -> Result<Option<(Vec<Row>, &[u8])>, NoMemory>
+    ensures { IfOk result (λ found. option_map (λ p. (p.0.items, p.1.now)) found ≡ many (row_at is_utf8) count bytes.now) }
+{
+    let mut rest = bytes;
+    let mut rows = Vec::new(alloc);
+    for _ in 0..count {
+        let Some((row, behind)) = row_at(alloc, rest)? else {
+            return Ok(None);
+        };
+        rows.push(row)?;
+        rest = behind;
+    }
+    Ok(Some((rows, rest)))
+}
+
+// The object of its rows, the parent first.
+fn of_rows(rows: Vec<Row>) -> Option<Object>
+    ensures { result ≡ of_rows is_utf8 rows.items }
+{
+    let mut rows = rows;
+    if rows.is_empty() {
+        return None;
+    }
+    let parent = rows.remove(0);
+    Some(Object {
+        parent,
+        children: rows,
+    })
+}
+
+/// The object whose record the bytes are, if they are one.
+pub fn read_record(alloc: Global, bytes: &[u8]) -> Result<Option<Object>, NoMemory>
+    ensures found { IfOk result (λ found. IfSome found (λ o. record_of o ≡ Some bytes.now)) }
+    ensures none { IfOk result (λ found. IfNone found ((o : ObjectValue) → IsOfTexts o → record_of o ≢ Some bytes.now)) }
+{
+    object_of(alloc, bytes)
+}
+
+// The object that a list function reads.
+#[tactic(auto, unfolding(crate::specs::Reading::object_of))]
+fn object_of(alloc: Global, bytes: &[u8]) -> Result<Option<Object>, NoMemory>
+    ensures { IfOk result (λ found. found ≡ object_of is_utf8 bytes.now) }
+{
+    let Some((count, rest)) = number_at(bytes) else {
+        return Ok(None);
+    };
+    let Some((rows, rest)) = rows_at(alloc, count, rest)? else {
+        return Ok(None);
+    };
+    if !rest.is_empty() {
+        return Ok(None);
+    }
+    Ok(of_rows(rows))
+}

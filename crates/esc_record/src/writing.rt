@@ -1,0 +1,105 @@
+//! Writing a record.
+
+ghost use Rattle.std.specs.Prelude.{◌≡◌, ◌++◌, ℕ, List, [], true, false, Some, option_map, IfOk, length, map};
+ghost use Rattle.std.specs.List.{list_all, flat_map};
+ghost use Rattle.esc_tables.specs.ObjectValue.{ObjectValue, cell_texts};
+ghost use Rattle.esc_record.specs.Record.{number_bytes, text_bytes, cell_bytes, row_bytes, object_bytes, is_small, is_small_cell, is_small_row, is_small_object, record_of, rows_of};
+ghost use Rattle.esc_record.specs.Writing.{Pushes};
+
+use esc_bundle::NoMemory;
+use esc_tables::{Object, Row};
+use std::alloc::Global;
+
+// Each of these answers whether the lengths and counts fit; where one doesn't, what was pushed is of no use.
+
+#[tactic(auto, unfolding(crate::specs::Record::number_bytes))]
+fn push_number(bytes: &mut Vec<u8>, number: usize) -> Result<bool, NoMemory>
+    ensures { Pushes (is_small number) (number_bytes number) bytes.old.items bytes.new.items result }
+{
+    let Ok(number) = u32::try_from(number) else {
+        return Ok(false);
+    };
+    bytes.extend_from_slice(&number.to_be_bytes())?;
+    Ok(true)
+}
+
+fn push_text(bytes: &mut Vec<u8>, text: &str) -> Result<bool, NoMemory>
+    ensures { Pushes (is_small (length text.now)) (text_bytes text.now) bytes.old.items bytes.new.items result }
+{
+    if !push_number(bytes, text.len())? {
+        return Ok(false);
+    }
+    bytes.extend_from_slice(text.as_bytes())?;
+    Ok(true)
+}
+
+fn push_cell(bytes: &mut Vec<u8>, cell: &(String, String)) -> Result<bool, NoMemory>
+    ensures { Pushes (is_small_cell (cell_texts cell.now)) (cell_bytes (cell_texts cell.now)) bytes.old.items bytes.new.items result }
+{
+    if !push_text(bytes, cell.0.as_str())? {
+        return Ok(false);
+    }
+    push_text(bytes, cell.1.as_str())
+}
+
+fn push_cells(bytes: &mut Vec<u8>, cells: &[(String, String)]) -> Result<bool, NoMemory>
+    ensures { Pushes (list_all (λ c. is_small_cell (cell_texts c)) cells.now) (flat_map (λ c. cell_bytes (cell_texts c)) cells.now) bytes.old.items bytes.new.items result }
+{
+    for cell in cells {
+        if !push_cell(bytes, cell)? {
+            return Ok(false);
+        }
+    }
+    Ok(true)
+}
+
+fn push_row(bytes: &mut Vec<u8>, row: &Row) -> Result<bool, NoMemory>
+    ensures { Pushes (is_small_row row.now) (row_bytes row.now) bytes.old.items bytes.new.items result }
+{
+    let cells = row.cells.as_slice();
+    if !push_text(bytes, row.table.as_str())? {
+        return Ok(false);
+    }
+    if !push_number(bytes, cells.len())? {
+        return Ok(false);
+    }
+    push_cells(bytes, cells)
+}
+
+fn push_rows(bytes: &mut Vec<u8>, rows: &[Row]) -> Result<bool, NoMemory>
+    ensures { Pushes (list_all is_small_row rows.now) (flat_map row_bytes rows.now) bytes.old.items bytes.new.items result }
+{
+    for row in rows {
+        if !push_row(bytes, row)? {
+            return Ok(false);
+        }
+    }
+    Ok(true)
+}
+
+fn push_object(bytes: &mut Vec<u8>, o: &Object) -> Result<bool, NoMemory>
+    ensures { Pushes (is_small_object o.now) (object_bytes o.now) bytes.old.items bytes.new.items result }
+{
+    let children = o.children.as_slice();
+    if !push_number(bytes, children.len() + 1)? {
+        return Ok(false);
+    }
+    if !push_row(bytes, &o.parent)? {
+        return Ok(false);
+    }
+    push_rows(bytes, children)
+}
+
+/// The record of an object, or `None` where a length or a count needs more than four bytes.
+#[tactic(auto, unfolding(crate::specs::Record::record_of))]
+pub fn to_record(alloc: Global, o: &Object) -> Result<Option<Vec<u8>>, NoMemory>
+    ensures record { IfOk result (λ bytes. option_map (λ b. b.items) bytes ≡ record_of o.now) }
+    ensures alone { (o p : ObjectValue) (bytes more : List ℕ) → record_of o ≡ Some bytes → record_of p ≡ Some (bytes ++ more) → (more ≡ []) × (o ≡ p) }
+{
+    let mut bytes = Vec::new(alloc);
+    if push_object(&mut bytes, o)? {
+        Ok(Some(bytes))
+    } else {
+        Ok(None)
+    }
+}
