@@ -1,6 +1,9 @@
 pub mod Distinct
+pub mod FrontLemmas
 pub mod HeldRows
+pub mod Holding
 pub mod OneArrival
 pub mod PlanLemmas
 pub mod Searches
 pub mod StoreFacts
+pub mod TakingIn

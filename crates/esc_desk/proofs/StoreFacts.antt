@@ -1,6 +1,7 @@
 -- What follows of a store from one call to the next.
 use Rattle.std.proofs.Common.{◌≡◌, ◌∙◌, arith}
 use Rattle.sqlite_trees.specs.declared.store.Store.{Ghosts}
+use Rattle.sqlite.specs.State.{State, HasCleanDisk, Survives}
 use Rattle.sqlite.proofs.StateLemmas.{survives_then}
 use Rattle.esc_store.specs.declared.store.Store.{Store}
 use Rattle.esc_store.specs.declared.change.Change.{Change}
@@ -28,3 +29,7 @@ goes_then g a b c p q = record {
   survives = survives_then _ _ _ _ _ _ (λ _ db none. none) (λ _ db none. none) p.survives q.survives;
   began = λ k h. q.began k (p.began k h);
 }
+
+-- a disk that is clean was clean before
+pub clean_before : (old new : State) → Survives old new (λ _. ⊥) → HasCleanDisk new → HasCleanDisk old
+clean_before old new survives clean = omega (arith, survives.clean, clean)

@@ -4,5 +4,7 @@ pub mod Finding
 pub mod Given
 pub mod Plans
 pub mod Receipts
+pub mod Running
 pub mod Serving
 pub mod Stands
+pub mod Taking

@@ -3,7 +3,8 @@ use Rattle.std.specs.Prelude.{◌≡◌, ℕ, ◌≤◌, List, length, map, drop
 use Rattle.std.specs.FinSet as set
 use Rattle.esc_tables.specs.DepositValue.{DepositValue}
 use Rattle.esc_manifest.specs.declared.row.MRow.{MRow}
-use Rattle.esc_chain.specs.Chain.{Rows, AreHeldRows, IsLatestChain}
+use Rattle.esc_manifest.specs.Accepted.{IsAccepted}
+use Rattle.esc_chain.specs.Chain.{Rows, InRange, IsLatestChain}
 use Rattle.esc_apply.specs.declared.front.Step.{Step}
 use Rattle.esc_apply.specs.Front.{common_front}
 use Rattle.esc_store.specs.Kept.{Kept, body_put, kept_chain, step_at}
@@ -22,5 +23,7 @@ with_held rows row = set.insert (set.from_list rows) row
 pub record IsPlanned (reads : List ℕ → Result DepositValue ℕ) (k : Kept) (rows : List ℕ) (row : ℕ) (body : List ℕ) (plan : Plan) : Type 0 where
   pub old : plan.old.items ≡ kept_chain k
   pub new : plan.new.items ≡ map (step_at k.listed) (rows_in plan.new.items)
+  pub accepted : IsAccepted k.listed
+  pub in_range : InRange k.listed (with_held rows row)
   pub latest : IsLatestChain k.listed (with_held rows row) (rows_in plan.new.items)
   pub deposits : plan.deposits.items ≡ deposits_of reads (body_put k.bodies row body) (rows_in (drop (common_front plan.old.items plan.new.items) plan.new.items))

@@ -1,94 +1,165 @@
 //! The desk: arrivals, one after another.
 
-ghost use Rattle.std.specs.Prelude.{◌≡◌, ◌+◌, ◌<◌, ◌≤◌, ◌-◌, ◌++◌, ◌∷◌, [], ℕ, List, Ok, None, length, map, take, min, ◌^◌, IfOk, IfSome, OnOk, OnErr};
-ghost use Rattle.esc_tables.specs.DepositValue.{DepositValue};
+ghost use Rattle.std.specs.Prelude.{◌≡◌, ◌+◌, ◌<◌, ◌++◌, ◌∷◌, [], ℕ, List, length, false, Some, None, IfOk, IfSome, OnOk, OnErr};
+ghost use Rattle.sha2.specs.Sha256.{sha256};
 ghost use Rattle.esc_tables.specs.Reading.{reading};
 ghost use Rattle.esc_manifest.specs.declared.row.MRow.{MRow};
-ghost use Rattle.esc_apply.specs.Registry.{State};
-ghost use Rattle.esc_apply.specs.Images.{chain_state};
-ghost use Rattle.esc_apply.specs.Front.{common_front};
-ghost use Rattle.esc_store.specs.Kept.{Kept, with_receipt, with_body, with_steps, with_registry};
+ghost use Rattle.esc_store.specs.Kept.{Kept};
+ghost use Rattle.esc_store.specs.ReplyValue.{reply_alike};
 ghost use Rattle.esc_store.specs.Standing.{Stands, IsHonest, IsAsBefore};
-ghost use Rattle.esc_desk.specs.Plans.{rows_in};
+ghost use Rattle.esc_desk.specs.Finding.{held_row};
+ghost use Rattle.esc_desk.specs.Receipts.{is_among};
+ghost use Rattle.esc_desk.specs.Stands.{StandsFor};
+ghost use Rattle.esc_desk.specs.Taking.{IsNew};
+ghost use Rattle.esc_desk.specs.declared.finding.Finding.TheVariants.{Holding};
+ghost use Rattle.esc_desk.specs.ArrivalValue.{ArrivalValue};
+ghost use Rattle.esc_desk.specs.Serving.{Serves, Answers};
 
-ghost use Rattle.esc_store.specs.Standing.{Began, Rest, HoldsNow, GoesOn};
-ghost use Rattle.esc_desk.specs.Filled.{IsFilled};
-
-use crate::plan::Plan;
-use esc_apply::{Work, move_chain};
-use esc_store::{Change, Receipt, SFault, Store};
+use crate::changes::{hold_deposit, note_receipt};
+use crate::finding::{Finding, find, held_row};
+use crate::plan::plan_move;
+use crate::receipt::{is_among, is_old, receipt_by, reply_of};
+use esc_apply::Work;
+use esc_chain::latest_chain_rows_are_held;
+use esc_store::{Number, Receipt, Reply, SFault, Store};
+use esc_tables::Deposit;
+use sha2::{Digest, Sha256};
 use sqlite::Alter;
 use std::alloc::Global;
 
-// Keeps a receipt alone.
-pub(crate) fn note_receipt<S: Alter>(
-    store: &mut Store<S>,
-    number: u64,
-    receipt: &Receipt<'_>,
-) -> Result<(), SFault>
-    ensures manifest { store.new.manifest ≡ store.old.manifest }
-    ensures recorded { OnOk result ((k : Kept) → length k.receipts + 1 ≡ number → Stands S.Store store.old k → Stands S.Store store.new (with_receipt k receipt.now)) }
-    ensures kept { OnErr result ((k : Kept) → Stands S.Store store.old k → Stands S.Store store.new k) }
-{
-    let mut change = store.begin()?;
-    change.record_receipt(number, receipt)?;
-    change.commit()
+/// The most receipts of a store.
+const MOST_RECEIPTS: u64 = 1_000_000_000;
+
+/// A desk over a store.
+#[derive(Drop)]
+pub struct Desk<S: Alter> {
+    pub(crate) store: Store<S>,
 }
 
-// Keeps a receipt and a body, and moves the chain.
-pub(crate) fn hold_deposit<S: Alter>(
+const NO_WORK: Work = Work {
+    cleared: false,
+    undone: 0,
+    applied: 0,
+    writes: 0,
+};
+
+impl<S: Alter> Desk<S> {
+    /// A desk over a store. Takes no memory.
+    pub fn open(store: Store<S>) -> Desk<S>
+        ensures { result.store ≡ store }
+    {
+        Desk { store }
+    }
+
+    /// The desk's store. Takes no memory.
+    pub fn into_store(self) -> Store<S>
+        ensures { result ≡ self.store }
+    {
+        self.store
+    }
+
+    /// Takes an arrival.
+    #[tactic(auto, using(crate::proofs::StoreFacts::was_honest))]
+    pub fn arrive(
+        &mut self,
+        alloc: Global,
+        number: &Number<'_>,
+        body: &[u8],
+    ) -> Result<(Reply, Work), SFault>
+        ensures answered { IsHonest S.Store self.new.store → (m : List MRow) (l : List ArrivalValue) → Serves S.Store self.old.store m l → IfOk result (λ p. Answers S.Store self.new.store m l (record { number = number.now; body = body.now }) p.0) }
+        ensures honest { IsHonest S.Store self.new.store → IsHonest S.Store self.old.store }
+    ensures lost { OnErr result ((m : List MRow) (l : List ArrivalValue) → Serves S.Store self.old.store m l → Serves S.Store self.new.store m l) }
+    {
+        let digest = Sha256::digest(body);
+        match self.store.receipt_of(alloc, number, &digest)? {
+            Some(reply) => Ok((reply, NO_WORK)),
+            None => take_in(&mut self.store, alloc, number, digest, body),
+        }
+    }
+}
+
+// Takes in an arrival for which no receipt is kept.
+#[tactic(auto, using(crate::proofs::StoreFacts::was_honest))]
+fn take_in<S: Alter>(
+    store: &mut Store<S>,
+    alloc: Global,
+    number: &Number<'_>,
+    digest: [u8; 32],
+    body: &[u8],
+) -> Result<(Reply, Work), SFault>
+    requires { digest ≡ sha256 body.now }
+    ensures answered { IsHonest S.Store store.new → (m : List MRow) (l : List ArrivalValue) (k : Kept) → Stands S.Store store.old k → StandsFor sha256 reading m l k → reply_alike m 1 number.now digest k.receipts ≡ None
+        → IfOk result (λ p. Answers S.Store store.new m l (record { number = number.now; body = body.now }) p.0) }
+    ensures lost { OnErr result ((k : Kept) → Stands S.Store store.old k → Stands S.Store store.new k) }
+    ensures honest { IsHonest S.Store store.new → IsHonest S.Store store.old }
+{
+    let next = next_receipt(store)?;
+    let held = store.held(alloc)?;
+    let found = find(alloc, store.manifest(), &digest, body)?;
+    let again = is_among(&held, held_row(&found));
+    let receipt = receipt_by(number, digest, &found, again);
+    let reply = reply_of(alloc, store.manifest().rows(), next, &receipt)?;
+    let work = keep(store, alloc, next, &receipt, &held, found, body)?;
+    Ok((reply, work))
+}
+
+// The number of the next receipt.
+fn next_receipt<S: Alter>(store: &mut Store<S>) -> Result<u64, SFault>
+    ensures same { IsAsBefore S.Store store.old store.new }
+    ensures next { IsHonest S.Store store.new → (k : Kept) → Stands S.Store store.old k → IfOk result (λ n. length k.receipts + 1 ≡ n) }
+{
+    let count = store.receipt_count()?;
+    if count >= MOST_RECEIPTS {
+        return Err(SFault::S4);
+    }
+    Ok(count + 1)
+}
+
+// Keeps the receipt of a new arrival, and the deposit that was found if its row was not held.
+fn keep<S: Alter>(
     store: &mut Store<S>,
     alloc: Global,
     number: u64,
     receipt: &Receipt<'_>,
-    row: usize,
+    held: &[usize],
+    found: Finding,
     body: &[u8],
-    plan: &Plan,
 ) -> Result<Work, SFault>
-    requires few_old { length plan.now.old.items ≤ 4096 }
-    requires few_new { length plan.now.new.items ≤ 4096 }
-    requires deposits { length plan.now.deposits.items ≡ length plan.now.new.items - common_front plan.now.old.items plan.now.new.items }
-    ensures manifest { store.new.manifest ≡ store.old.manifest }
-    ensures held { OnOk result (IsHonest S.Store store.new → (k : Kept) (c : List DepositValue) → length k.receipts + 1 ≡ number → k.bodies row ≡ None → length c ≡ length plan.now.old.items → Stands S.Store store.old (with_registry k (chain_state c))
-        → Stands S.Store store.new (with_registry (with_steps (with_body (with_receipt k receipt.now) row body.now) (rows_in plan.now.new.items)) (chain_state (take (common_front plan.now.old.items plan.now.new.items) c ++ plan.now.deposits.items)))) }
-    ensures kept { OnErr result ((k : Kept) → Stands S.Store store.old k → Stands S.Store store.new k) }
+    requires { IfSome (held_row found) (λ r. r < length store.old.manifest) }
+    ensures lost { OnErr result ((k : Kept) → Stands S.Store store.old k → Stands S.Store store.new k) }
+    ensures kept { OnOk result (IsHonest S.Store store.new → (m : List MRow) (l : List ArrivalValue) (n : List ℕ) (k : Kept) → Stands S.Store store.old k → IsNew m l (record { number = n; body = body.now }) k found held.now number receipt.now → Serves S.Store store.new m (l ++ record { number = n; body = body.now } ∷ [])) }
+    ensures honest { IsHonest S.Store store.new → IsHonest S.Store store.old }
 {
-    let mut change = store.begin()?;
-    let work = fill_change(&mut change, alloc, number, receipt, row, body, plan)?;
-    commit_filled(change)?;
-    Ok(work)
+    if is_old(held, held_row(&found)) {
+        note_receipt(store, number, receipt)?;
+        return Ok(NO_WORK);
+    }
+    match found {
+        Finding::Holding(row, deposit) => {
+            keep_deposit(store, alloc, number, receipt, held, row, deposit, body)
+        }
+        Finding::Unlisted | Finding::Unreadable(..) | Finding::Differing(_) => unreachable!(),
+    }
 }
 
-// Makes all of a change but its commit.
-#[tactic(auto, using(crate::proofs::StoreFacts::goes_then))]
-fn fill_change<S: Alter>(
-    change: &mut Change<'_, S>,
+// Keeps the receipt and the deposit of a row that was not held.
+#[tactic(auto, using(crate::proofs::StoreFacts::was_honest))]
+fn keep_deposit<S: Alter>(
+    store: &mut Store<S>,
     alloc: Global,
     number: u64,
     receipt: &Receipt<'_>,
+    held: &[usize],
     row: usize,
+    deposit: Deposit,
     body: &[u8],
-    plan: &Plan,
 ) -> Result<Work, SFault>
-    requires few_old { length plan.now.old.items ≤ 4096 }
-    requires few_new { length plan.now.new.items ≤ 4096 }
-    requires deposits { length plan.now.deposits.items ≡ length plan.now.new.items - common_front plan.now.old.items plan.now.new.items }
-    ensures goes_on { GoesOn S.Store change.old change.new }
-    ensures filled { OnOk result ((k : Kept) (c : List DepositValue) → length k.receipts + 1 ≡ number → k.bodies row ≡ None → length c ≡ length plan.now.old.items → Began S.Store change.old (with_registry k (chain_state c)) → Rest S.Store change.old (with_registry k (chain_state c)) (with_registry k (chain_state c)) → HoldsNow S.Store change.old (chain_state c)
-        → IsFilled S.Store change.new (with_registry k (chain_state c)) (with_steps (with_body (with_receipt (with_registry k (chain_state c)) receipt.now) row body.now) (rows_in plan.now.new.items)) (chain_state (take (common_front plan.now.old.items plan.now.new.items) c ++ plan.now.deposits.items))) }
+    requires { row < length store.old.manifest }
+    ensures lost { OnErr result ((k : Kept) → Stands S.Store store.old k → Stands S.Store store.new k) }
+    ensures kept { OnOk result (IsHonest S.Store store.new → (m : List MRow) (l : List ArrivalValue) (n : List ℕ) (k : Kept) → Stands S.Store store.old k → is_among held.now (Some row) ≡ false → IsNew m l (record { number = n; body = body.now }) k (Holding row deposit) held.now number receipt.now → Serves S.Store store.new m (l ++ record { number = n; body = body.now } ∷ [])) }
+    ensures honest { IsHonest S.Store store.new → IsHonest S.Store store.old }
 {
-    change.record_receipt(number, receipt)?;
-    change.hold(row, body)?;
-    let work = move_chain(change, alloc, &plan.old, &plan.new, &plan.deposits)?;
-    change.set_chain(&plan.new)?;
-    Ok(work)
-}
-
-// Makes a change whole.
-fn commit_filled<S: Alter>(change: Change<'_, S>) -> Result<(), SFault>
-    ensures manifest { change.exit.0.now.manifest ≡ change.entry.store.now.manifest }
-    ensures committed { OnOk result (IsHonest S.Store change.exit.0.now → (before k : Kept) (s : State) → IsFilled S.Store change.entry before (with_registry k s) k.registry → Stands S.Store change.exit.0.now k) }
-    ensures kept { OnErr result ((before : Kept) → Began S.Store change.entry before → Stands S.Store change.exit.0.now before) }
-{
-    change.commit()
+    latest_chain_rows_are_held();
+    let plan = plan_move(store, alloc, held, row, deposit)?;
+    hold_deposit(store, alloc, number, receipt, row, body, &plan)
 }

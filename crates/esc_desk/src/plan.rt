@@ -4,6 +4,7 @@ ghost use Rattle.std.specs.Prelude.{◌≡◌, ◌<◌, ◌≤◌, ◌-◌, ℕ,
 ghost use Rattle.std.specs.FinSet as set;
 ghost use Rattle.esc_tables.specs.Reading.{reading};
 ghost use Rattle.esc_manifest.specs.declared.row.MRow.{MRow};
+ghost use Rattle.esc_manifest.specs.Accepted.{IsAccepted};
 ghost use Rattle.esc_chain.specs.Chain.{InRange, AllInRange};
 ghost use Rattle.esc_apply.specs.Front.{common_front};
 ghost use Rattle.esc_store.specs.Kept.{Kept, body_put, step_at};
@@ -67,6 +68,8 @@ fn next_steps(
     ensures few { IfOk result (λ steps. length steps.items ≤ 4096) }
     ensures steps { IfOk result (λ steps. steps.items ≡ map (step_at manifest.now) (rows_in steps.items)) }
     ensures latest { IfOk result (λ steps. IsLatestChain manifest.now (with_held held.now row) (rows_in steps.items)) }
+    ensures in_range { OnOk result (InRange manifest.now (with_held held.now row)) }
+    ensures accepted { OnOk result (IsAccepted manifest.now) }
 {
     let rows = held_with(alloc, manifest, held, row)?;
     let chain = latest_chain(alloc, manifest, &rows)?;

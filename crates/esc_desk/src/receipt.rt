@@ -3,7 +3,7 @@
 ghost use Rattle.std.specs.Prelude.{◌≡◌, ◌<◌, length, IfOk, IfSome};
 ghost use Rattle.esc_store.specs.ReplyValue.{reply_kept};
 ghost use Rattle.esc_desk.specs.Finding.{held_row};
-ghost use Rattle.esc_desk.specs.Receipts.{receipt_by, is_among};
+ghost use Rattle.esc_desk.specs.Receipts.{receipt_by, is_among, is_old};
 
 use crate::finding::Finding;
 use esc_bundle::NoMemory;
@@ -77,5 +77,15 @@ pub(crate) fn is_among(rows: &[usize], row: Option<usize>) -> bool
     match row {
         Some(row) => rows.contains(&row),
         None => false,
+    }
+}
+
+/// Whether holding this row, if any, where these rows are held, holds nothing new.
+pub(crate) fn is_old(rows: &[usize], row: Option<usize>) -> bool
+    ensures { result ≡ is_old rows.now row }
+{
+    match row {
+        Some(row) => rows.contains(&row),
+        None => true,
     }
 }

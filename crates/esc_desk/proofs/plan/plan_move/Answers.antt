@@ -2,7 +2,8 @@ use Rattle.std.proofs.Common.{◌≡◌, List, ℕ, drop, map, length, sym, ap, 
 use Rattle.std.proofs.lemmas.List.{take_rest}
 use Rattle.esc_tables.specs.Reading.{reading}
 use Rattle.esc_manifest.specs.declared.row.MRow.{MRow}
-use Rattle.esc_chain.specs.Chain.{IsLatestChain}
+use Rattle.esc_manifest.specs.Accepted.{IsAccepted}
+use Rattle.esc_chain.specs.Chain.{InRange, IsLatestChain}
 use Rattle.esc_apply.specs.declared.front.Step.{Step}
 use Rattle.esc_apply.specs.Front.{common_front}
 use Rattle.esc_store.specs.Kept.{body_put, step_at}
@@ -19,6 +20,8 @@ returns-clause-planned g c = λ clean k stood body reads.
     record {
       old = c.in_ok-old.ensures.steps before k stood;
       new = c.in_ok-new.ensures.steps ∙ ap (λ (m : List MRow). map (step_at m) (rows_in c.in_ok-new.new.items)) listed;
+      accepted = subst IsAccepted listed c.in_ok-new.ensures.accepted;
+      in_range = subst (λ (m : List MRow). InRange m (with_held c.args.held.now c.args.row)) listed c.in_ok-new.ensures.in_range;
       latest = subst (λ (m : List MRow). IsLatestChain m (with_held c.args.held.now c.args.row) (rows_in c.in_ok-new.new.items)) listed c.in_ok-new.ensures.latest;
       deposits = c.in_ok-deposits.ensures.read clean k there body reads ∙ ap (λ (l : List Step). deposits_of reading (body_put k.bodies c.args.row body) (rows_in l)) (take_rest c.deref-3.result.now c.common_front-front.result ∙ ap₂ (λ (n : ℕ) (l : List Step). drop n l) (c.common_front-front.ensures.front ∙ ap₂ common_front c.deref.ensures.value c.deref-2.ensures.value) c.deref-3.ensures.value);
     }

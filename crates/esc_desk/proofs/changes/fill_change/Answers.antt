@@ -7,7 +7,7 @@ use Rattle.esc_apply.specs.Front.{common_front}
 use Rattle.esc_store.specs.Standing.{IsHonest, Rest, HoldsNow}
 use Rattle.esc_store.specs.Kept.{with_receipt, with_body, with_steps, with_registry}
 use Rattle.esc_desk.specs.Plans.{rows_in}
-use Rattle.esc_desk.proofs.desk.fill_change.Goals as goal
+use Rattle.esc_desk.proofs.changes.fill_change.Goals as goal
 
 pub returns-clause-filled : goal.returns-clause-filled
 returns-clause-filled g c = λ k held number none size began rest stood.
@@ -23,6 +23,7 @@ returns-clause-filled g c = λ k held number none size began rest stood.
         ap₂ (λ (n : ℕ) (ds : List DepositValue). take n held ++ ds) (ap₂ common_front old new) deposits in
     let before = c.in_ok-hold.ensures.holds (chain_state held) (c.in_ok-record_receipt.ensures.holds (chain_state held) stood) in
     record {
+      tables = chain_state held;
       rest = subst (λ (rows : List ℕ). Rest g.S.Store c.set_chain.new.self start (with_steps kept rows)) steps (c.in_ok-set_chain.ensures.set start kept parts);
       holds = λ clean.
         let honest : IsHonest g.S.Store c.move_chain.new.r.store.now = omega (arith, c.in_ok-set_chain.ensures.goes_on.survives.clean, clean) in

@@ -1,0 +1,111 @@
+//! What a new arrival changes in the store, whole or not at all.
+
+ghost use Rattle.std.specs.Prelude.{◌≡◌, ◌+◌, ◌<◌, ◌≤◌, ◌-◌, ◌++◌, ◌∷◌, [], ℕ, List, Ok, None, length, map, take, min, ◌^◌, IfOk, IfSome, OnOk, OnErr};
+ghost use Rattle.esc_tables.specs.DepositValue.{DepositValue};
+ghost use Rattle.esc_tables.specs.Reading.{reading};
+ghost use Rattle.esc_manifest.specs.declared.row.MRow.{MRow};
+ghost use Rattle.esc_apply.specs.Registry.{State};
+ghost use Rattle.esc_apply.specs.Images.{chain_state};
+ghost use Rattle.esc_apply.specs.Front.{common_front};
+ghost use Rattle.esc_store.specs.Kept.{Kept, with_receipt, with_body, with_steps, with_registry};
+ghost use Rattle.esc_store.specs.Standing.{Stands, IsHonest, IsAsBefore};
+ghost use Rattle.esc_desk.specs.Plans.{rows_in};
+
+ghost use Rattle.esc_store.specs.Standing.{Began, Rest, HoldsNow, GoesOn};
+ghost use Rattle.esc_desk.specs.Filled.{IsFilled};
+
+use crate::plan::Plan;
+use esc_apply::{Work, move_chain};
+use esc_store::{Change, Receipt, SFault, Store};
+use sqlite::Alter;
+use std::alloc::Global;
+
+// Keeps a receipt alone.
+#[tactic(auto, using(crate::proofs::StoreFacts::clean_before))]
+pub(crate) fn note_receipt<S: Alter>(
+    store: &mut Store<S>,
+    number: u64,
+    receipt: &Receipt<'_>,
+) -> Result<(), SFault>
+    ensures manifest { store.new.manifest ≡ store.old.manifest }
+    ensures honest { IsHonest S.Store store.new → IsHonest S.Store store.old }
+    ensures recorded { OnOk result (IsHonest S.Store store.new → (k : Kept) → length k.receipts + 1 ≡ number → Stands S.Store store.old k → Stands S.Store store.new (with_receipt k receipt.now)) }
+    ensures kept { OnErr result ((k : Kept) → Stands S.Store store.old k → Stands S.Store store.new k) }
+{
+    let mut change = store.begin()?;
+    note_in(&mut change, number, receipt)?;
+    commit_filled(change)
+}
+
+fn note_in<S: Alter>(
+    change: &mut Change<'_, S>,
+    number: u64,
+    receipt: &Receipt<'_>,
+) -> Result<(), SFault>
+    ensures goes_on { GoesOn S.Store change.old change.new }
+    ensures filled { OnOk result ((k : Kept) → length k.receipts + 1 ≡ number → Rest S.Store change.old k k → HoldsNow S.Store change.old k.registry → IsFilled S.Store change.new k (with_receipt k receipt.now)) }
+{
+    change.record_receipt(number, receipt)?;
+    Ok(())
+}
+
+// Keeps a receipt and a body, and moves the chain.
+#[tactic(auto, using(crate::proofs::StoreFacts::clean_before))]
+pub(crate) fn hold_deposit<S: Alter>(
+    store: &mut Store<S>,
+    alloc: Global,
+    number: u64,
+    receipt: &Receipt<'_>,
+    row: usize,
+    body: &[u8],
+    plan: &Plan,
+) -> Result<Work, SFault>
+    requires few_old { length plan.now.old.items ≤ 4096 }
+    requires few_new { length plan.now.new.items ≤ 4096 }
+    requires deposits { length plan.now.deposits.items ≡ length plan.now.new.items - common_front plan.now.old.items plan.now.new.items }
+    ensures manifest { store.new.manifest ≡ store.old.manifest }
+    ensures honest { IsHonest S.Store store.new → IsHonest S.Store store.old }
+    ensures held { OnOk result (IsHonest S.Store store.new → (k : Kept) (c : List DepositValue) → length k.receipts + 1 ≡ number → k.bodies row ≡ None → length c ≡ length plan.now.old.items → Stands S.Store store.old (with_registry k (chain_state c))
+        → Stands S.Store store.new (with_registry (with_steps (with_body (with_receipt k receipt.now) row body.now) (rows_in plan.now.new.items)) (chain_state (take (common_front plan.now.old.items plan.now.new.items) c ++ plan.now.deposits.items)))) }
+    ensures kept { OnErr result ((k : Kept) → Stands S.Store store.old k → Stands S.Store store.new k) }
+{
+    let mut change = store.begin()?;
+    let work = fill_change(&mut change, alloc, number, receipt, row, body, plan)?;
+    commit_filled(change)?;
+    Ok(work)
+}
+
+// Makes all of a change but its commit.
+#[tactic(auto, using(crate::proofs::StoreFacts::goes_then))]
+fn fill_change<S: Alter>(
+    change: &mut Change<'_, S>,
+    alloc: Global,
+    number: u64,
+    receipt: &Receipt<'_>,
+    row: usize,
+    body: &[u8],
+    plan: &Plan,
+) -> Result<Work, SFault>
+    requires few_old { length plan.now.old.items ≤ 4096 }
+    requires few_new { length plan.now.new.items ≤ 4096 }
+    requires deposits { length plan.now.deposits.items ≡ length plan.now.new.items - common_front plan.now.old.items plan.now.new.items }
+    ensures goes_on { GoesOn S.Store change.old change.new }
+    ensures filled { OnOk result ((k : Kept) (c : List DepositValue) → length k.receipts + 1 ≡ number → k.bodies row ≡ None → length c ≡ length plan.now.old.items → Began S.Store change.old (with_registry k (chain_state c)) → Rest S.Store change.old (with_registry k (chain_state c)) (with_registry k (chain_state c)) → HoldsNow S.Store change.old (chain_state c)
+        → IsFilled S.Store change.new (with_registry k (chain_state c)) (with_registry (with_steps (with_body (with_receipt k receipt.now) row body.now) (rows_in plan.now.new.items)) (chain_state (take (common_front plan.now.old.items plan.now.new.items) c ++ plan.now.deposits.items)))) }
+{
+    change.record_receipt(number, receipt)?;
+    change.hold(row, body)?;
+    let work = move_chain(change, alloc, &plan.old, &plan.new, &plan.deposits)?;
+    change.set_chain(&plan.new)?;
+    Ok(work)
+}
+
+// Makes a change whole.
+fn commit_filled<S: Alter>(change: Change<'_, S>) -> Result<(), SFault>
+    ensures manifest { change.exit.0.now.manifest ≡ change.entry.store.now.manifest }
+    ensures honest { IsHonest S.Store change.exit.0.now → IsHonest S.Store change.entry.store.now }
+    ensures committed { OnOk result (IsHonest S.Store change.exit.0.now → (before k : Kept) → IsFilled S.Store change.entry before k → Stands S.Store change.exit.0.now k) }
+    ensures kept { OnErr result ((before : Kept) → Began S.Store change.entry before → Stands S.Store change.exit.0.now before) }
+{
+    change.commit()
+}
