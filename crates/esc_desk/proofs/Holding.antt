@@ -70,7 +70,7 @@ pub stands_noted : (m : List MRow) (l : List ArrivalValue) (a : ArrivalValue) (k
     → ((q : ℕ) → held_row found ≡ Some q → is_among rows (Some q) ≡ true) → StandsFor sha256 reading m (l ++ a ∷ []) (with_receipt k receipt)
 stands_noted m l a k found rows number receipt is old =
     subst (λ (r : ReceiptValue). StandsFor sha256 reading m (l ++ a ∷ []) (with_receipt k r)) (sym (new_receipt m l a k found rows number receipt is))
-      (noted sha256 reading m l k a is.stood is.none (λ q here. sym (among_held sha256 reading m l k is.stood rows is.held q) ∙ old q (ap held_row is.found_is ∙ here)))
+    (noted sha256 reading m l k a is.stood is.none (λ q here. sym (among_held sha256 reading m l k is.stood rows is.held q) ∙ old q (ap held_row is.found_is ∙ here)))
 
 -- ---- a deposit is held
 module _ (law : LatestChainsAreHeldRows) (m : List MRow) (accepted : IsAccepted m) (l : List ArrivalValue) (a : ArrivalValue) (k : Kept) (rows : List ℕ) (number : ℕ) (receipt : ReceiptValue)
@@ -121,7 +121,7 @@ module _ (law : LatestChainsAreHeldRows) (m : List MRow) (accepted : IsAccepted 
       let same : take f k.steps ≡ take f new = subst (λ (n : ℕ). take n k.steps ≡ take n new) (sym front) (same_front m accepted k.steps new (are_of m k.steps (each_of (λ r. r < length m) k.steps old_rows.in_range)) (are_of m new (each_of (λ r. r < length m) new new_rows.in_range))) in
       let g : ℕ → DepositValue = λ r. deposit_of reading (body_put k.bodies row a.body r) in
       let first : take f (deposits_of reading k.bodies k.steps) ≡ map g (take f new) =
-          ap (λ (ds : List DepositValue). take f ds) (sym (same_maps g (λ r. deposit_of reading (k.bodies r)) k.steps kept)) ∙ take-map g f k.steps ∙ ap (map g) same in
+      ap (λ (ds : List DepositValue). take f ds) (sym (same_maps g (λ r. deposit_of reading (k.bodies r)) k.steps kept)) ∙ take-map g f k.steps ∙ ap (map g) same in
       let second : plan.deposits.items ≡ map g (drop f new) = planned.deposits ∙ ap (map g) (sym (drop-map (λ (s : Step). s.row) f plan.new.items)) in
       ap₂ (λ (xs ys : List DepositValue). xs ++ ys) first second ∙ sym (map-append g (take f new) (drop f new)) ∙ ap (map g) (take-append-drop f new)
 
@@ -129,8 +129,8 @@ module _ (law : LatestChainsAreHeldRows) (m : List MRow) (accepted : IsAccepted 
   pub stands_held : StandsFor sha256 reading m (l ++ a ∷ []) (with_registry (with_steps (with_body (with_receipt k receipt) row a.body) (rows_in plan.new.items)) (chain_state (take (common_front plan.old.items plan.new.items) (deposits_of reading k.bodies k.steps) ++ plan.deposits.items)))
   stands_held =
       subst (λ (ds : List DepositValue). StandsFor sha256 reading m (l ++ a ∷ []) (with_registry (with_steps (with_body (with_receipt k receipt) row a.body) (rows_in plan.new.items)) (chain_state ds))) (sym deposits_are)
-        (subst (λ (r : ReceiptValue). StandsFor sha256 reading m (l ++ a ∷ []) (with_registry (with_steps (with_body (with_receipt k r) row a.body) (rows_in plan.new.items)) (chain_state (deposits_of reading (body_put k.bodies row a.body) (rows_in plan.new.items))))) (sym (new_receipt m l a k (Holding row d) rows number receipt is))
-          (taken_in sha256 reading m l k a is.stood is.none row (ap held_row (sym is.found_is)) at_row (rows_in plan.new.items) latest))
+      (subst (λ (r : ReceiptValue). StandsFor sha256 reading m (l ++ a ∷ []) (with_registry (with_steps (with_body (with_receipt k r) row a.body) (rows_in plan.new.items)) (chain_state (deposits_of reading (body_put k.bodies row a.body) (rows_in plan.new.items))))) (sym (new_receipt m l a k (Holding row d) rows number receipt is))
+      (taken_in sha256 reading m l k a is.stood is.none row (ap held_row (sym is.found_is)) at_row (rows_in plan.new.items) latest))
 
   pub no_body_yet : k.bodies row ≡ None
   no_body_yet = no_body sha256 reading m l k is.stood rows is.held row at_row

@@ -4,6 +4,7 @@ pub mod HeldRows
 pub mod Holding
 pub mod OneArrival
 pub mod PlanLemmas
+pub mod RunLemmas
 pub mod Searches
 pub mod StoreFacts
 pub mod TakingIn

@@ -40,7 +40,7 @@ module _ (digest : List ℕ → List ℕ) (reads : List ℕ → Result DepositVa
       no_more =
           distinct-push digest reads m [] l a
           ∙ ap (λ b. cond b (distinct digest reads m l) (distinct digest reads m l ++ a ∷ []))
-            (any_kept l a ∙ ap (list_any (is_alike a.number (digest a.body))) (sym stood.receipts) ∙ some_alike m a.number (digest a.body) 1 k.receipts y there)
+          (any_kept l a ∙ ap (list_any (is_alike a.number (digest a.body))) (sym stood.receipts) ∙ some_alike m a.number (digest a.body) 1 k.receipts y there)
 
       pub repeated : StandsFor digest reads m (l ++ a ∷ []) k
       repeated = record {
@@ -63,7 +63,7 @@ module _ (digest : List ℕ → List ℕ) (reads : List ℕ → Result DepositVa
       one_more =
           distinct-push digest reads m [] l a
           ∙ ap (λ b. cond b (distinct digest reads m l) (distinct digest reads m l ++ a ∷ []))
-            (any_kept l a ∙ ap (list_any (is_alike a.number (digest a.body))) (sym stood.receipts) ∙ none_alike m a.number (digest a.body) 1 k.receipts none)
+          (any_kept l a ∙ ap (list_any (is_alike a.number (digest a.body))) (sym stood.receipts) ∙ none_alike m a.number (digest a.body) 1 k.receipts none)
 
       more_receipts : receipts_of digest reads m (l ++ a ∷ []) ≡ k.receipts ++ receipt_for digest reads m (distinct digest reads m l) a ∷ []
       more_receipts =

@@ -10,7 +10,6 @@ ghost use Rattle.esc_apply.specs.Front.{common_front};
 ghost use Rattle.esc_store.specs.Kept.{Kept, with_receipt, with_body, with_steps, with_registry};
 ghost use Rattle.esc_store.specs.Standing.{Stands, IsHonest, IsAsBefore};
 ghost use Rattle.esc_desk.specs.Plans.{rows_in};
-
 ghost use Rattle.esc_store.specs.Standing.{Began, Rest, HoldsNow, GoesOn};
 ghost use Rattle.esc_desk.specs.Filled.{IsFilled};
 

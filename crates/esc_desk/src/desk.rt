@@ -68,7 +68,7 @@ impl<S: Alter> Desk<S> {
     ) -> Result<(Reply, Work), SFault>
         ensures answered { IsHonest S.Store self.new.store → (m : List MRow) (l : List ArrivalValue) → Serves S.Store self.old.store m l → IfOk result (λ p. Answers S.Store self.new.store m l (record { number = number.now; body = body.now }) p.0) }
         ensures honest { IsHonest S.Store self.new.store → IsHonest S.Store self.old.store }
-    ensures lost { OnErr result ((m : List MRow) (l : List ArrivalValue) → Serves S.Store self.old.store m l → Serves S.Store self.new.store m l) }
+        ensures lost { OnErr result ((m : List MRow) (l : List ArrivalValue) → Serves S.Store self.old.store m l → Serves S.Store self.new.store m l) }
     {
         let digest = Sha256::digest(body);
         match self.store.receipt_of(alloc, number, &digest)? {

@@ -11,5 +11,5 @@ mod running;
 
 pub use arrival::Arrival;
 pub use desk::Desk;
-pub use running::Outcome;
 pub use esc_store::{N1, Number, Reply, SFault, Verdict, number};
+pub use running::Outcome;

@@ -31,11 +31,7 @@ impl<S: Alter> Desk<S> {
     /// that arrived, each at its highest arrived revision; and arrivals alike in number and body get one receipt and
     /// the first one's reply. Where the store stood for a manifest and a list of arrivals before, it stands for that
     /// list followed by the answered arrivals, so runs compose. `NoMemory` is answered before the first arrival.
-    pub fn run(
-        &mut self,
-        alloc: Global,
-        arrivals: &[Arrival<'_>],
-    ) -> Result<Vec<Outcome>, NoMemory>
+    pub fn run(&mut self, alloc: Global, arrivals: &[Arrival<'_>]) -> Result<Vec<Outcome>, NoMemory>
         ensures ran { IsHonest S.Store self.new.store → IfOk result (λ outcomes. (m : List MRow) (before : List ArrivalValue) → Serves S.Store self.old.store m before → Ran S.Store self.new.store m before arrivals.now outcomes.items) }
         ensures refused { OnErr result (self.new ≡ self.old) }
         ensures honest { IsHonest S.Store self.new.store → IsHonest S.Store self.old.store }

@@ -20,13 +20,13 @@ returns-clause-filled g c = λ k held number none size began rest stood.
     let parts = c.in_ok-work.ensures.follows.rest start kept (c.in_ok-hold.ensures.held start noted none (c.in_ok-record_receipt.ensures.recorded start start number rest)) in
     let steps : map (λ (s : Step). s.row) c.deref-4.result.now ≡ rows_in c.args.plan.now.new.items = ap rows_in c.deref-4.ensures.value in
     let all : take (common_front c.deref.result.now c.deref-2.result.now) held ++ c.deref-3.result.now ≡ take (common_front c.args.plan.now.old.items c.args.plan.now.new.items) held ++ c.args.plan.now.deposits.items =
-        ap₂ (λ (n : ℕ) (ds : List DepositValue). take n held ++ ds) (ap₂ common_front old new) deposits in
+    ap₂ (λ (n : ℕ) (ds : List DepositValue). take n held ++ ds) (ap₂ common_front old new) deposits in
     let before = c.in_ok-hold.ensures.holds (chain_state held) (c.in_ok-record_receipt.ensures.holds (chain_state held) stood) in
     record {
       tables = chain_state held;
       rest = subst (λ (rows : List ℕ). Rest g.S.Store c.set_chain.new.self start (with_steps kept rows)) steps (c.in_ok-set_chain.ensures.set start kept parts);
       holds = λ clean.
-        let honest : IsHonest g.S.Store c.move_chain.new.r.store.now = omega (arith, c.in_ok-set_chain.ensures.goes_on.survives.clean, clean) in
-        let moved = c.in_ok-work.ensures.moved honest held (size ∙ ap length (sym old)) before in
-        c.in_ok-set_chain.ensures.holds _ (subst (λ (ds : List DepositValue). HoldsNow g.S.Store c.move_chain.new.r (chain_state ds)) all moved);
+          let honest : IsHonest g.S.Store c.move_chain.new.r.store.now = omega (arith, c.in_ok-set_chain.ensures.goes_on.survives.clean, clean) in
+          let moved = c.in_ok-work.ensures.moved honest held (size ∙ ap length (sym old)) before in
+          c.in_ok-set_chain.ensures.holds _ (subst (λ (ds : List DepositValue). HoldsNow g.S.Store c.move_chain.new.r (chain_state ds)) all moved);
     }

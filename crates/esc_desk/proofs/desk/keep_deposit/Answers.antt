@@ -14,7 +14,7 @@ use Rattle.esc_desk.proofs.desk.keep_deposit.Goals as goal
 
 pub returns-clause-kept : goal.returns-clause-kept
 returns-clause-kept g c = on_ok_weaker c.hold_deposit.result
-  (λ held. λ clean m l n k stood new is.
+    (λ held. λ clean m l n k stood new is.
     let a : ArrivalValue = record { number = n; body = c.args.body.now } in
     let plan = c.in_ok-plan.plan in
     let honest = c.hold_deposit.ensures.honest clean in
@@ -27,4 +27,4 @@ returns-clause-kept g c = on_ok_weaker c.hold_deposit.result
       stands = held clean k (deposits_of reading k.bodies k.steps) is.next (no_body_yet law m accepted l a k c.args.held.now c.args.number c.args.receipt.now c.args.row c.args.deposit is new plan planned) (old_count law m accepted l a k c.args.held.now c.args.number c.args.receipt.now c.args.row c.args.deposit is new plan planned) before;
       stands_for = stands_held law m accepted l a k c.args.held.now c.args.number c.args.receipt.now c.args.row c.args.deposit is new plan planned;
     })
-  c.hold_deposit.ensures.held
+    c.hold_deposit.ensures.held

@@ -14,7 +14,7 @@ loop-step-preserved g c =
       count = omega (arith, now.count, ap length c.in_ok-push.ensures.items, length-append c.loop-step.deposits.items (c.in_ok-next.next ∷ []));
       given = λ body reads. given_still c.loop-step.given c.next_deposit.new.given body c.in_ok-next.ensures.given (now.given body reads);
       read = λ clean k stood body reads.
-        one_more_deposit (λ (r : ℕ). deposit_of reading (body_put k.bodies c.args.row body r)) c.args.steps.now c.loop-step.step-index _ c.loop-step.deposits.items c.push.new.self.items _ c.in_ok-next.next c.loop-step-test.true
+          one_more_deposit (λ (r : ℕ). deposit_of reading (body_put k.bodies c.args.row body r)) c.args.steps.now c.loop-step.step-index _ c.loop-step.deposits.items c.push.new.self.items _ c.in_ok-next.next c.loop-step-test.true
           (c.in_ok-next.ensures.read clean k (now.same.stands k stood) body (now.given body reads))
           c.in_ok-push.ensures.items
           (now.read (was_honest g.S.Store c.loop-step.store c.next_deposit.new.store c.next_deposit.ensures.same clean) k stood body reads);

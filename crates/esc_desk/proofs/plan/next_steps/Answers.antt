@@ -20,4 +20,4 @@ returns-clause-latest c =
     let made : c.in_ok-steps_of.field-0.items ≡ map (step_at m) c.deref.result.now = c.in_ok-steps_of.ensures ∙ ap (λ (k : List MRow). map (step_at k) c.deref.result.now) c.rows-2.ensures.rows in
     let rows : c.in_ok-chain.chain.items ≡ rows_in c.in_ok-steps_of.field-0.items = sym (ap rows_in made ∙ rows_of_steps m c.deref.result.now ∙ c.deref.ensures.value) in
     subst (λ (l : List ℕ). IsLatestChain m (with_held c.args.held.now c.args.row) l) rows
-      (subst (λ (h : Rows). IsLatestChain m h c.in_ok-chain.chain.items) c.in_ok-rows.ensures.held c.in_ok-chain.ensures.latest)
+    (subst (λ (h : Rows). IsLatestChain m h c.in_ok-chain.chain.items) c.in_ok-rows.ensures.held c.in_ok-chain.ensures.latest)

@@ -12,17 +12,17 @@ use Rattle.esc_desk.proofs.desk.Desk.arrive.Goals as goal
 
 pub returns-in-Some-clause-answered : goal.returns-in-Some-clause-answered
 returns-in-Some-clause-answered g c = λ clean m l serves.
-  let a : ArrivalValue = record { number = c.args.number.now; body = c.args.body.now } in
-  let there : reply_alike m 1 a.number (sha256 a.body) serves.kept.receipts ≡ Some c.in-Some.reply =
-      sym (c.in_ok-reply.ensures.found clean serves.kept serves.stands ∙ ap₂ (λ (x : List MRow) (d : List ℕ). reply_alike x 1 a.number d serves.kept.receipts) serves.stands_for.listed c.digest-digest.ensures) ∙ c.in-Some.is in
-  record {
-    serves = record { kept = serves.kept; stands = c.in_ok-reply.ensures.same.stands serves.kept serves.stands; stands_for = repeated sha256 reading m l serves.kept a serves.stands_for c.in-Some.reply there };
-    told = repeated_reply sha256 reading m l serves.kept a serves.stands_for c.in-Some.reply there;
-  }
+    let a : ArrivalValue = record { number = c.args.number.now; body = c.args.body.now } in
+    let there : reply_alike m 1 a.number (sha256 a.body) serves.kept.receipts ≡ Some c.in-Some.reply =
+    sym (c.in_ok-reply.ensures.found clean serves.kept serves.stands ∙ ap₂ (λ (x : List MRow) (d : List ℕ). reply_alike x 1 a.number d serves.kept.receipts) serves.stands_for.listed c.digest-digest.ensures) ∙ c.in-Some.is in
+    record {
+      serves = record { kept = serves.kept; stands = c.in_ok-reply.ensures.same.stands serves.kept serves.stands; stands_for = repeated sha256 reading m l serves.kept a serves.stands_for c.in-Some.reply there };
+      told = repeated_reply sha256 reading m l serves.kept a serves.stands_for c.in-Some.reply there;
+    }
 
 pub returns-in-None-clause-answered : goal.returns-in-None-clause-answered
 returns-in-None-clause-answered g c = λ clean m l serves.
-  let honest = c.take_in.ensures.honest clean in
-  let none : reply_alike m 1 c.args.number.now c.digest-digest.result serves.kept.receipts ≡ None =
-      sym (c.in_ok-reply.ensures.found honest serves.kept serves.stands ∙ ap (λ (x : List MRow). reply_alike x 1 c.args.number.now c.digest-digest.result serves.kept.receipts) serves.stands_for.listed) ∙ c.in-None.is in
-  c.take_in.ensures.answered clean m l serves.kept (c.in_ok-reply.ensures.same.stands serves.kept serves.stands) serves.stands_for none
+    let honest = c.take_in.ensures.honest clean in
+    let none : reply_alike m 1 c.args.number.now c.digest-digest.result serves.kept.receipts ≡ None =
+    sym (c.in_ok-reply.ensures.found honest serves.kept serves.stands ∙ ap (λ (x : List MRow). reply_alike x 1 c.args.number.now c.digest-digest.result serves.kept.receipts) serves.stands_for.listed) ∙ c.in-None.is in
+    c.take_in.ensures.answered clean m l serves.kept (c.in_ok-reply.ensures.same.stands serves.kept serves.stands) serves.stands_for none

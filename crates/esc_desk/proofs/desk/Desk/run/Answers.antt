@@ -1,0 +1,21 @@
+use Rattle.std.proofs.Common.{◌≡◌, ◌+◌, ◌++◌, [], ◌∷◌, List, take, ap, sym, ◌∙◌, arith}
+use Rattle.std.proofs.lemmas.List.{take_more}
+use Rattle.std.proofs.lemmas.Grind.{common_steps}
+use Rattle.esc_desk.specs.ArrivalValue.{ArrivalValue}
+use Rattle.esc_desk.proofs.RunLemmas.{ran_more}
+use Rattle.esc_desk.proofs.desk.Desk.run.Goals as goal
+
+pub loop-arrival-preserved : goal.loop-arrival-preserved
+loop-arrival-preserved g c =
+    let all = c.args.arrivals.now in
+    let i = c.loop-arrival.arrival-index in
+    let a : ArrivalValue = c.arrival-item.result in
+    let more : take (i + 1) all ≡ take i all ++ a ∷ [] = take_more all i a c.loop-arrival-test.true ∙ ap (λ (x : ArrivalValue). take i all ++ x ∷ []) (sym c.arrival-item.is) in
+    record {
+      counted = grind (arith, common_steps);
+      room = omega arith;
+      honest = λ clean. c.loop-arrival.invariant.honest (c.take-outcome.ensures.honest clean);
+      ran = λ clean m before served.
+          let past = c.take-outcome.ensures.honest clean in
+          rw (more, c.push_reserved.ensures.items) (ran_more g.S.Store c.loop-arrival.self.store c.take-outcome.new.self.store m before (take i all) c.loop-arrival.outcomes.items a c.take-outcome.result (c.loop-arrival.invariant.ran past m before served) (c.take-outcome.ensures.taken clean m));
+    }

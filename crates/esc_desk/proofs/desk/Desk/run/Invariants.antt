@@ -1,0 +1,16 @@
+use Rattle.std.proofs.Common.{◌≡◌, ◌+◌, ◌≤◌, List, length, take, vec_capacity}
+use Rattle.esc_manifest.specs.declared.row.MRow.{MRow}
+use Rattle.esc_store.specs.Standing.{IsHonest}
+use Rattle.esc_desk.specs.ArrivalValue.{ArrivalValue}
+use Rattle.esc_desk.specs.Running.{Ran}
+use Rattle.esc_desk.specs.Serving.{Serves}
+use Rattle.esc_desk.proofs.desk.Desk.run.Given as goal
+
+-- the run so far
+abbrev pub invariant-loop-arrival : goal.invariant-loop-arrival
+invariant-loop-arrival g l = record {
+  counted : length l.outcomes.items ≡ l.arrival-index;
+  room : length l.arrivals ≤ vec_capacity l.outcomes;
+  honest : IsHonest g.S.Store l.self.store → IsHonest g.S.Store l.fn.self.store;
+  ran : IsHonest g.S.Store l.self.store → (m : List MRow) (before : List ArrivalValue) → Serves g.S.Store l.fn.self.store m before → Ran g.S.Store l.self.store m before (take l.arrival-index l.arrivals) l.outcomes.items;
+}
