@@ -1,5 +1,7 @@
 pub mod Calendar
+pub mod CountLoop
 pub mod Fractions
+pub mod KindOrder
 pub mod MomentReads
 pub mod Printed
 pub mod RealParts

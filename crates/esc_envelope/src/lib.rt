@@ -1,6 +1,7 @@
 //! The JSON envelope of a deposit, and watermarks.
 #![tactic(auto)]
 
+mod counts;
 mod envelope;
 mod header;
 mod id;
