@@ -1,6 +1,10 @@
 pub mod Calendar
 pub mod CountLoop
+pub mod Distinct
 pub mod Fractions
+pub mod Gather
+pub mod JsonLists
+pub mod JsonTexts
 pub mod KindOrder
 pub mod MomentReads
 pub mod Printed

@@ -11,6 +11,8 @@ mod moment;
 mod parts;
 mod place;
 mod table;
+mod tables;
+mod texts;
 
 pub use envelope::{Envelope, read_envelope};
 pub use header::Header;
