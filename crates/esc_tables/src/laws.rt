@@ -11,5 +11,4 @@ ghost use Rattle.esc_tables.specs.Objects.{objects_of, object_of};
 pub fn one_object()
     ensures found { (parents children : List (KeyName × RowValue)) (k : KeyName) → find key_cmp k (objects_of parents children) ≡ object_of parents children k }
     ensures sorted { (parents children : List (KeyName × RowValue)) → T (is_sorted key_cmp (objects_of parents children)) }
-{
-}
+{}

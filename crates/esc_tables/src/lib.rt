@@ -3,6 +3,7 @@
 
 mod deposit;
 mod files;
+mod gather;
 mod key;
 mod laws;
 mod object;
