@@ -7,10 +7,12 @@ mod gather;
 mod key;
 mod laws;
 mod object;
+mod order;
 mod reading;
 mod row;
 mod rows;
 mod survey;
+mod tables;
 
 pub use deposit::Deposit;
 pub use key::Key;
