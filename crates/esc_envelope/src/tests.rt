@@ -1,5 +1,5 @@
 //! The calls from outside: published rows, each fault of each member, and the printed texts.
-use crate::{DepositType, Kind, Place, is_id, read_envelope, watermark, watermark_text};
+use crate::{DepositType, Envelope, Kind, Place, is_id, read_envelope, watermark, watermark_text};
 use esc_bundle::Fault;
 use std::alloc::Global;
 use std::test::Fail;
@@ -20,16 +20,21 @@ fn answer(alloc: Global, json: &[u8]) -> u8 {
 #[test]
 fn the_sample(rt: HostRuntime) -> Result<(), Fail> {
     assert_eq!(rt; SAMPLE.len(), 174);
-    let envelope = read_envelope(rt.alloc(), SAMPLE.as_bytes())?;
-    assert_eq!(rt; envelope.header.id.as_str(), "F1");
-    assert!(rt; envelope.header.place.kind == DepositType::Full);
-    assert_eq!(rt; envelope.header.place.watermark, 1_709_424_000_000_000_000);
-    assert!(rt; envelope.header.prev.is_none());
-    assert_eq!(rt; envelope.header.resend, 0);
-    assert_eq!(rt; envelope.counts.len(), 0);
-    assert_eq!(rt; envelope.deletes.len(), 0);
-    assert_eq!(rt; envelope.contents.len(), 1);
-    let table = &envelope.contents[0];
+    let Envelope {
+        header,
+        counts,
+        contents,
+        deletes,
+    } = read_envelope(rt.alloc(), SAMPLE.as_bytes())?;
+    assert_eq!(rt; header.id.as_str(), "F1");
+    assert!(rt; header.place.kind == DepositType::Full);
+    assert_eq!(rt; header.place.watermark, 1_709_424_000_000_000_000);
+    assert!(rt; header.prev.is_none());
+    assert_eq!(rt; header.resend, 0);
+    assert_eq!(rt; counts.len(), 0);
+    assert_eq!(rt; deletes.len(), 0);
+    assert_eq!(rt; contents.len(), 1);
+    let table = &contents[0];
     assert_eq!(rt; table.name.as_str(), "contact");
     assert!(rt; table.kind == Kind::Contact);
     assert!(rt; table.parent);
@@ -37,8 +42,8 @@ fn the_sample(rt: HostRuntime) -> Result<(), Fail> {
     assert_eq!(rt; table.fields.len(), 2);
     assert_eq!(rt; table.fields[1].as_str(), "clID");
     assert_eq!(rt; table.file.as_str(), "c.csv");
-    let header = envelope.header.copy(rt.alloc())?;
-    assert_eq!(rt; header.id.as_str(), "F1");
+    let copy = header.copy(rt.alloc())?;
+    assert_eq!(rt; copy.id.as_str(), "F1");
     Ok(())
 }
 

@@ -1,4 +1,4 @@
-use Rattle.std.proofs.Common.{◌∙◌, sym, ap, refl}
+use Rattle.std.proofs.Common.{sym}
 use Rattle.serde_json.specs.View.{view}
 use Rattle.esc_envelope.proofs.CountLoop.{started, next, fails, ended, all_ranks, counted_of}
 use Rattle.esc_envelope.proofs.counts.counts_in.Goals as goal

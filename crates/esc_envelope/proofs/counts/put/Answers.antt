@@ -1,4 +1,4 @@
-use Rattle.std.proofs.Common.{◌∙◌, sym, ap, ℕ, List, Option, ◌++◌}
+use Rattle.std.proofs.Common.{◌∙◌, sym, ap, ℕ, Option, ◌++◌}
 use Rattle.esc_envelope.specs.Members.{count_entry}
 use Rattle.esc_envelope.proofs.KindOrder.{insert_last}
 use Rattle.esc_envelope.proofs.counts.put.Goals as goal

@@ -1,4 +1,3 @@
-use Rattle.std.proofs.Common.{◌≡◌, ◌∙◌, sym, ℕ, true, false}
 use Rattle.serde_json.specs.View.{view}
 use Rattle.esc_envelope.proofs.JsonTexts.{is_json, is_no_json}
 use Rattle.esc_envelope.proofs.envelope.parsed.Goals as goal

@@ -1,5 +1,4 @@
-use Rattle.std.proofs.Common.{◌≡◌, ◌∙◌, ap, sym, get_or, false, true, Bool}
-use Rattle.std.specs.Prelude.{not}
+use Rattle.std.proofs.Common.{◌≡◌, ◌∙◌, ap, sym, get_or}
 use Rattle.esc_envelope.specs.EnvelopeValue.{TableValue}
 use Rattle.esc_envelope.proofs.Distinct.{none_seen, one_seen, seen_twice, not_true, not_false}
 use Rattle.esc_envelope.proofs.tables.have_distinct_names.Goals as goal

@@ -1,4 +1,4 @@
-use Rattle.std.proofs.Common.{◌∙◌, ap, sym, List}
+use Rattle.std.proofs.Common.{◌∙◌, ap, sym}
 use Rattle.serde_json.specs.View.{view}
 use Rattle.esc_envelope.specs.Tables.{table_of}
 use Rattle.esc_envelope.proofs.Gather.{next, fails, ended}

@@ -1,4 +1,4 @@
-use Rattle.std.proofs.Common.{◌∙◌, ap, sym, List, map, string_bytes}
+use Rattle.std.proofs.Common.{◌∙◌, ap, sym, map, string_bytes}
 use Rattle.serde_json.specs.View.{view}
 use Rattle.esc_envelope.specs.Tables.{field_of}
 use Rattle.esc_envelope.proofs.Gather.{next, fails, ended}

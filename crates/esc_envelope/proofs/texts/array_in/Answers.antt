@@ -1,4 +1,3 @@
-use Rattle.std.proofs.Common.{◌∙◌, ap, sym, List, map}
 use Rattle.esc_envelope.proofs.JsonLists.{array_is}
 use Rattle.esc_envelope.proofs.texts.array_in.Goals as goal
 
