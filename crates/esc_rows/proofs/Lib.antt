@@ -1,0 +1,3 @@
+pub mod RowTexts
+pub mod WithinLemmas
+pub mod EndLemmas
