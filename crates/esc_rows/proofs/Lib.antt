@@ -1,3 +1,5 @@
 pub mod RowTexts
 pub mod WithinLemmas
 pub mod EndLemmas
+pub mod Forms
+pub mod PartLemmas

@@ -5,3 +5,4 @@ pub mod Part
 pub mod Rows
 pub mod Content
 pub mod ContentIs
+pub mod Changes
