@@ -67,8 +67,8 @@ module _ (limit : Option ℕ) (mode : Mode) (enforced : mode.keys ≡ Enforced) 
   ended w tally h = through h (λ in_doubt _ shows. through shows (λ rows _ is.
       record { is = ap (λ (p : Tally × Database). p.1) (same_value is); counted = ap (λ (p : Tally × Database). p.0.rows) (same_value is) }))
 
-  stepped : (next : Trees) (edit : Edit) → edit.table ≡ table → Edited db.schema mode.keys db.trees edit (Ok next) → Applies store_schema Enforced db.trees edit next
-  stepped next edit on h = one_step store_schema Enforced db.trees next edit (rw on (idle table (taken_by db.trees edit) edit.news)) (rw (has, enforced) at h)
+  stepped : (next : Trees) (edit : Edit) → Edited db.schema mode.keys db.trees edit (Ok next) → Applies store_schema Enforced db.trees edit next
+  stepped next edit h = one_step store_schema Enforced db.trees next edit (idle edit.table (taken_by db.trees edit) edit.news) (rw (has, enforced) at h)
 
   -- ---- INSERT of one row
   one_row : (terms : List Term) (width : ℕ) (row : Row) (w : Written) → value_rows (stamped base params) width (length terms / width) terms ≡ row ∷ []
@@ -91,7 +91,7 @@ module _ (limit : Option ℕ) (mode : Mode) (enforced : mode.keys ≡ Enforced) 
       record {
         same_schema = ap (λ (d : Database). d.schema) now;
         applies = subst (Applies store_schema Enforced db.trees (edit_of db.trees table [] Chosen 0 (row ∷ []))) (sym (ap (λ (d : Database). d.trees) now))
-            (stepped w.trees _ refl (one_row terms width row w given writes));
+            (stepped w.trees _ (one_row terms width row w given writes));
       })
 
   -- ---- DELETE and UPDATE, whose queries find the rowids and, of an UPDATE, the new rows
@@ -115,7 +115,7 @@ module _ (limit : Option ℕ) (mode : Mode) (enforced : mode.keys ≡ Enforced) 
           found = found;
           edited = record {
             same_schema = ap (λ (d : Database). d.schema) now;
-            applies = subst (Applies store_schema Enforced db.trees (edit_of db.trees table (ids_of rows) Given 0 [])) (sym left) (stepped next (edit_of db.trees table (ids_of rows) Given 0 []) refl edit);
+            applies = subst (Applies store_schema Enforced db.trees (edit_of db.trees table (ids_of rows) Given 0 [])) (sym left) (stepped next (edit_of db.trees table (ids_of rows) Given 0 []) edit);
           };
         })))
 
@@ -139,7 +139,7 @@ module _ (limit : Option ℕ) (mode : Mode) (enforced : mode.keys ≡ Enforced) 
           found = found;
           edited = record {
             same_schema = ap (λ (d : Database). d.schema) now.is;
-            applies = subst (Applies store_schema Enforced db.trees (edit_of db.trees table (ids_of rows) Given 1 rows)) (sym left) (stepped next (edit_of db.trees table (ids_of rows) Given 1 rows) refl edit);
+            applies = subst (Applies store_schema Enforced db.trees (edit_of db.trees table (ids_of rows) Given 1 rows)) (sym left) (stepped next (edit_of db.trees table (ids_of rows) Given 1 rows) edit);
           };
           counted = now.counted ∙ ap (λ (x : Written). Some (length x.rows)) (same_value is);
         })))
