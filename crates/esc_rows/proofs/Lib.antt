@@ -6,3 +6,8 @@ pub mod PartLemmas
 pub mod Scan
 pub mod Typed
 pub mod Compiled
+pub mod Frame
+pub mod Values
+pub mod Finds
+pub mod Statements
+pub mod ObjectLemmas

@@ -96,7 +96,7 @@ short_rises R (x ∷ y ∷ xs) few = absurd (omega arith)
 
 -- ---- the tests
 
-true_back : (b : Bool) → is_true (from_truth (Some b)) ≡ b
+pub true_back : (b : Bool) → is_true (from_truth (Some b)) ≡ b
 true_back true = refl
 true_back false = refl
 

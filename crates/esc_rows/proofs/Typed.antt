@@ -39,7 +39,7 @@ not_or false b = refl
 
 -- each stored row begins with its number
 module _ {X : Type 0} (key : X → ℤ) (rest : X → Row) where
-  abbrev stored : X → Row
+  abbrev pub stored : X → Row
   stored x = Int (key x) ∷ rest x
 
   pub put_typed : (new : X) (xs : List X) → put_row (stored new) (map stored xs) ≡ map stored (insert_by key xs new)
