@@ -1,5 +1,5 @@
 -- A table of typed rows in the order of a number, under the edits of a tree.
-use Rattle.std.proofs.Common.{◌≡◌, inl, inr, ℕ, ℤ, pos, ◌+ℤ◌, ◌<ℤ◌, Bool, true, false, not, cond, ◌||◌, ◌&&◌, List, [], ◌∷◌, map, filter, fold, refl, sym, ap, ◌∙◌, arith, Ordering, Less, Equal, Greater, int_cmp, int_eq}
+use Rattle.std.proofs.Common.{◌≡◌, inl, inr, ℤ, pos, ◌+ℤ◌, ◌<ℤ◌, Bool, true, false, not, cond, ◌||◌, ◌&&◌, List, [], ◌∷◌, map, filter, fold, refl, sym, ap, ◌∙◌, arith, Ordering, Less, Equal, Greater, int_cmp, int_eq}
 use Rattle.std.specs.Prelude.{IsPermutation}
 use Rattle.std.specs.List.{AllByRecursion, list_any}
 use Rattle.std.specs.Ordering.{match_ordering, is_eq}
@@ -12,7 +12,7 @@ use Rattle.sqlite_value.proofs.OrderLemmas.{value_cmp-Int}
 use Rattle.sqlite_value.specs.Order.{Row, value_cmp}
 use Rattle.sqlite.specs.Tree.{put_row, rowid, without_rowid}
 use Rattle.sqlite.specs.Edit.{id_in, without_all}
-use Rattle.sqlite_keyed.specs.Keyed.{IsKeyedBy, has_key, insert_by, next_key}
+use Rattle.sqlite_keyed.specs.Keyed.{IsKeyedBy, has_key, insert_by}
 use Rattle.sqlite_keyed.specs.Lists.{without_key, delete_where, update_where}
 use Rattle.sqlite_keyed.proofs.ListLemmas.{all_weaker, filter_all, filter_same}
 use Rattle.sqlite_keyed.proofs.WriteLemmas.{removes_delete, puts_update}
