@@ -14,3 +14,4 @@ pub mod ObjectLemmas
 pub mod Sorts
 pub mod ObjectLists
 pub mod DecodeLemmas
+pub mod UndoLemmas

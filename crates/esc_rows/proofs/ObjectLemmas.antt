@@ -62,7 +62,7 @@ ne_is Less = refl
 ne_is Equal = refl
 ne_is Greater = refl
 
-differ_int : (a b : ℤ) → differ (Int a) (Int b) ≡ not (int_eq a b)
+pub differ_int : (a b : ℤ) → differ (Int a) (Int b) ≡ not (int_eq a b)
 unfolding binary
 differ_int a b = true_back _ ∙ ap is_ne (value_cmp-Int a b) ∙ ne_is _
 
@@ -78,7 +78,7 @@ clash_is : (a b : ObjectRow) → (agree rising (1 ∷ 2 ∷ []) (stored_object a
 unfolding first_key
 clash_is a b = rw (same_number a.kind b.kind, same_blob a.key b.key, differ_int (pos a.id) (pos b.id)) (swapped (a.kind == b.kind) (bytes_eq a.key b.key) (not (int_eq (pos a.id) (pos b.id))))
 
-two_true : (b : Bool) → (b && true) ≡ true → b ≡ true
+pub two_true : (b : Bool) → (b && true) ≡ true → b ≡ true
 two_true true h = refl
 two_true false h = absurd cc
 
@@ -89,11 +89,11 @@ objects_apart trees os sound holds up =
 
 -- ---- keys
 
-and_both : (a b : Bool) → (a && b) ≡ true → (a ≡ true) × (b ≡ true)
+pub and_both : (a b : Bool) → (a && b) ≡ true → (a ≡ true) × (b ≡ true)
 and_both true b h = (refl, h)
 and_both false b h = absurd cc
 
-number_is : (a b : ℕ) → (a == b) ≡ true → a ≡ b
+pub number_is : (a b : ℕ) → (a == b) ≡ true → a ≡ b
 number_is a b h = grind (arith, h)
 
 -- the two keys that a test compares are one

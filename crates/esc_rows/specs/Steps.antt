@@ -6,9 +6,9 @@ use Rattle.sqlite_value.specs.Order.{Row}
 use Rattle.sqlite.specs.Effect.{Database}
 use Rattle.sqlite_keyed.specs.Keyed.{insert_by}
 use Rattle.sqlite_keyed.specs.Lists.{update_where, sort_by}
-use Rattle.esc_rows.specs.Rows.{ObjectRow, object_number}
+use Rattle.esc_rows.specs.Rows.{ObjectRow, UndoRow, object_number, blob_or_null}
 use Rattle.esc_rows.specs.Content.{Content, HoldsContent, is_object_at}
-use Rattle.esc_rows.specs.Changes.{by_key}
+use Rattle.esc_rows.specs.Changes.{by_key, by_image}
 
 abbrev pub with_bytes : List ℕ → ObjectRow → ObjectRow
 with_bytes bytes o = record o { bytes = bytes }
@@ -53,3 +53,9 @@ shown_kind o = Int (pos o.kind) ∷ []
 
 abbrev pub ShowsKinds : Content → List Row → Type 0
 ShowsKinds c rows = rows ≡ map shown_kind (sort_by by_key c.objects)
+
+abbrev pub shown_image : UndoRow → Row
+shown_image u = Int (pos u.kind) ∷ Blob u.key ∷ blob_or_null u.bytes ∷ []
+
+abbrev pub ShowsImages : ℕ → Content → List Row → Type 0
+ShowsImages at c rows = rows ≡ map shown_image (sort_by by_image (filter (λ (u : UndoRow). u.pos == at) c.undo))

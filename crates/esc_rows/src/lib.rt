@@ -4,4 +4,5 @@
 mod numbers;
 pub mod object;
 pub mod transaction;
+pub mod undo;
 mod within;
