@@ -1,2 +1,5 @@
 //! (to be written)
-#![tactic(auto)]
+#![tactic(auto, using(sqlite::proofs::StateLemmas::survives_weaker, sqlite::proofs::StateLemmas::survives_then))]
+
+pub mod transaction;
+mod within;
