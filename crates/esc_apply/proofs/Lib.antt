@@ -1,1 +1,6 @@
+pub mod Chains
+pub mod Counts
 pub mod Fronts
+pub mod Keys
+pub mod Mentions
+pub mod Runs

@@ -1,5 +1,7 @@
+pub mod Changes
 pub mod Front
 pub mod Images
+pub mod Memory
 pub mod Moves
 pub mod Registry
 pub mod Tables

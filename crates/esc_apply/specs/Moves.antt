@@ -14,12 +14,18 @@ is_cleared steps front = (front == 0) && nat_lt 0 steps
 abbrev pub undone_of : List DepositValue → ℕ → List DepositValue
 undone_of c front = if is_cleared (length c) front then [] else drop front c
 
--- the cost of going from the deposits c of the old steps to the new steps, whose deposits past the common front are these:
+-- the work of going from so many steps to the first `front` of them and so many others, by these writes
+abbrev pub work_of : ℕ → ℕ → ℕ → ℕ → Work
+work_of steps front applied writes = record {
+  cleared = is_cleared steps front;
+  undone = (if is_cleared steps front then 0 else steps - front);
+  applied = applied;
+  writes = writes;
+}
+
+-- the cost of going from the deposits c of the old steps to the new steps, of which these are the deposits past the common front:
 -- one write for each key that a deposit mentions which is taken back or applied
 abbrev pub cost : List DepositValue → List Step → List Step → List DepositValue → Work
-cost c old new deposits = record {
-  cleared = is_cleared (length old) (common_front old new);
-  undone = (if is_cleared (length old) (common_front old new) then 0 else length old - common_front old new);
-  applied = length new - common_front old new;
-  writes = sum_by mention_count (undone_of c (common_front old new)) + sum_by mention_count deposits;
-}
+cost c old new deposits =
+    let front = common_front old new in
+    work_of (length old) front (length new - front) (sum_by mention_count (undone_of c front) + sum_by mention_count deposits)

@@ -1,10 +1,12 @@
 //! Steps are taken back.
 
-ghost use Rattle.std.specs.Prelude.{◌≡◌, ◌+◌, IfOk, OnOk};
+ghost use Rattle.std.specs.Prelude.{◌≡◌, ◌+◌, ◌≤◌, List, length, take, drop, sum_by, IfOk};
+ghost use Rattle.esc_tables.specs.DepositValue.{DepositValue};
+ghost use Rattle.esc_apply.specs.Tables.{mention_count};
 ghost use Rattle.esc_apply.specs.Registry.{State, restored, saturated, HasSize};
+ghost use Rattle.esc_apply.specs.Images.{chain_state};
 
 use crate::registry::Registry;
-use esc_bundle::NoMemory;
 use std::alloc::Global;
 
 /// Puts back what stood before step `pos` at each key of which it was noted. Answers the number of writes: one for
@@ -14,5 +16,35 @@ pub fn undo_step<R: Registry>(r: &mut R, alloc: Global, pos: u32) -> Result<u64,
     ensures counted { IfOk result (λ n. R.count r.new ≡ saturated (R.count r.old + n)) }
     ensures restored { IfOk result (λ n. R.is_honest r.new → (s : State) → R.holds r.old s → HasSize (s.undo pos) n × R.holds r.new (restored s pos)) }
 {
-    Err(R::Error::from(NoMemory))
+    let befores = r.take_undo(alloc, pos)?;
+    for entry in &befores {
+        let (key, before) = entry;
+        match before {
+            Some(object) => r.put(alloc, key, object)?,
+            None => r.remove(key)?,
+        }
+    }
+    Ok(befores.len() as u64)
+}
+
+/// Takes the last steps of a chain back, down to a front. Answers the number of writes (at most 2^64 - 1).
+pub(crate) fn undo_to<R: Registry>(
+    r: &mut R,
+    alloc: Global,
+    steps: u32,
+    front: u32,
+) -> Result<u64, R::Error>
+    requires { front ≤ steps }
+    ensures follows { R.follows r.old r.new }
+    ensures counted { IfOk result (λ n. R.count r.new ≡ saturated (R.count r.old + n)) }
+    ensures undone { IfOk result (λ n. R.is_honest r.new → (c : List DepositValue) → length c ≡ steps → R.holds r.old (chain_state c)
+        → R.holds r.new (chain_state (take front c)) × (n ≡ saturated (sum_by mention_count (drop front c)))) }
+{
+    let mut writes: u64 = 0;
+    let mut left = steps;
+    while left > front {
+        writes = writes.saturating_add(undo_step(r, alloc, left)?);
+        left -= 1;
+    }
+    Ok(writes)
 }

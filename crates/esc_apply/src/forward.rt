@@ -1,16 +1,26 @@
-//! One deposit is applied.
+//! Deposits are applied.
 
-ghost use Rattle.std.specs.Prelude.{◌≡◌, ◌+◌, IfOk, OnOk};
-ghost use Rattle.esc_apply.specs.Registry.{State, nothing, stepped, saturated};
-ghost use Rattle.esc_apply.specs.Tables.{mention_count};
+ghost use Rattle.std.specs.Prelude.{◌≡◌, ◌+◌, ◌<◌, ◌^◌, ◌&&◌, ◌++◌, not, is_some, Some, None, List, length, map, sum_by, IfOk, OnOk};
+ghost use Rattle.std.specs.List.{list_any};
+ghost use Rattle.std.specs.Map.{lookup};
+ghost use Rattle.std.specs.Option.{option_copied};
+ghost use Rattle.std.specs.BTreeSet as sorted;
+ghost use Rattle.esc_tables.specs.KeyName.{KeyName, key_cmp, key_eq};
+ghost use Rattle.esc_tables.specs.DepositValue.{DepositValue};
+ghost use Rattle.esc_apply.specs.Tables.{deletes_of, mention_count};
+ghost use Rattle.esc_apply.specs.Registry.{State, nothing, changed, stepped, saturated};
+ghost use Rattle.esc_apply.specs.Changes.{with_object, without, changed_by, AreNew};
+ghost use Rattle.esc_apply.specs.Images.{chain_state};
 
 use crate::registry::Registry;
 use esc_bundle::NoMemory;
-use esc_tables::Deposit;
+use esc_envelope::DepositType;
+use esc_tables::{Deposit, Key, Object};
 use std::alloc::Global;
+use std::collections::{BTreeMap, BTreeSet};
 
 /// Applies a deposit as step `pos`, and notes what stood at each key that it mentions. Answers the number of writes:
-/// one for each key that it mentions (at most 2^64 - 1).
+/// one for each key that it mentions.
 pub fn apply_step<R: Registry>(
     r: &mut R,
     alloc: Global,
@@ -18,9 +28,119 @@ pub fn apply_step<R: Registry>(
     d: &Deposit,
 ) -> Result<u64, R::Error>
     ensures follows { R.follows r.old r.new }
-    ensures number { IfOk result (λ n. n ≡ saturated (mention_count d.now)) }
+    ensures number { IfOk result (λ n. n ≡ mention_count d.now) }
     ensures counted { OnOk result (R.count r.new ≡ saturated (R.count r.old + mention_count d.now)) }
     ensures stepped { OnOk result (R.is_honest r.new → (s : State) → R.holds r.old s → s.undo pos ≡ nothing → R.holds r.new (stepped s pos d.now)) }
 {
-    Err(R::Error::from(NoMemory))
+    let deletes = plain_deletes(alloc, deletes_of(d), &d.contents)?;
+    put_contents(r, alloc, pos, &d.contents)?;
+    remove_deletes(r, alloc, pos, &deletes)?;
+    Ok((d.contents.len() + deletes.len()) as u64)
+}
+
+/// Applies deposits behind a chain of so many steps. Answers the number of writes (at most 2^64 - 1).
+pub(crate) fn apply_all<R: Registry>(
+    r: &mut R,
+    alloc: Global,
+    steps: u32,
+    deposits: &[Deposit],
+) -> Result<u64, R::Error>
+    requires few { steps + length deposits.now < 2 ^ 32 }
+    ensures follows { R.follows r.old r.new }
+    ensures number { IfOk result (λ n. n ≡ saturated (sum_by mention_count deposits.now)) }
+    ensures counted { OnOk result (R.count r.new ≡ saturated (R.count r.old + sum_by mention_count deposits.now)) }
+    ensures applied { OnOk result (R.is_honest r.new → (c : List DepositValue) → length c ≡ steps → R.holds r.old (chain_state c)
+        → R.holds r.new (chain_state (c ++ deposits.now))) }
+{
+    let mut pos = steps;
+    let mut writes: u64 = 0;
+    for d in deposits {
+        pos += 1;
+        writes = writes.saturating_add(apply_step(r, alloc, pos, d)?);
+    }
+    Ok(writes)
+}
+
+fn deletes_of(d: &Deposit) -> &[Key]
+    ensures { result.now ≡ deletes_of d.now }
+{
+    match d.header.place.kind {
+        DepositType::Full => &[],
+        DepositType::Incr | DepositType::Diff => &d.deletes,
+    }
+}
+
+// The keys that are deleted and have no content: a key in both is put, since deletes come first.
+fn plain_deletes(
+    alloc: Global,
+    deletes: &[Key],
+    contents: &BTreeMap<Key, Object>,
+) -> Result<BTreeSet<Key>, NoMemory>
+    ensures ordered { IfOk result (λ s. sorted.IsOrdered key_cmp s) }
+    ensures each { IfOk result (λ s. (q : KeyName) → sorted.contains key_cmp s q
+        ≡ (list_any (key_eq q) deletes.now && not (is_some (lookup (key_eq q) contents.now.entries)))) }
+{
+    let mut plain = BTreeSet::new(alloc);
+    for key in deletes {
+        if contents.contains_key(key) {
+            continue;
+        }
+        plain.insert(key.copy(alloc)?)?;
+    }
+    Ok(plain)
+}
+
+fn put_contents<R: Registry>(
+    r: &mut R,
+    alloc: Global,
+    pos: u32,
+    contents: &BTreeMap<Key, Object>,
+) -> Result<(), R::Error>
+    ensures follows { R.follows r.old r.new }
+    ensures counted { OnOk result (R.count r.new ≡ saturated (R.count r.old + length contents.now.entries)) }
+    ensures put { OnOk result (R.is_honest r.new → (s : State) → R.holds r.old s → AreNew s pos (map with_object contents.now.entries)
+        → R.holds r.new (changed_by s pos (map with_object contents.now.entries))) }
+{
+    for (key, object) in contents.iter() {
+        change(r, alloc, pos, key, Some(object))?;
+    }
+    Ok(())
+}
+
+fn remove_deletes<R: Registry>(
+    r: &mut R,
+    alloc: Global,
+    pos: u32,
+    deletes: &BTreeSet<Key>,
+) -> Result<(), R::Error>
+    ensures follows { R.follows r.old r.new }
+    ensures counted { OnOk result (R.count r.new ≡ saturated (R.count r.old + length deletes.now.keys)) }
+    ensures removed { OnOk result (R.is_honest r.new → (s : State) → R.holds r.old s → AreNew s pos (map without deletes.now.keys)
+        → R.holds r.new (changed_by s pos (map without deletes.now.keys))) }
+{
+    for key in deletes.iter() {
+        change(r, alloc, pos, key, None)?;
+    }
+    Ok(())
+}
+
+// Notes what stands at a key, and writes what shall stand there.
+fn change<R: Registry>(
+    r: &mut R,
+    alloc: Global,
+    pos: u32,
+    key: &Key,
+    after: Option<&Object>,
+) -> Result<(), R::Error>
+    ensures follows { R.follows r.old r.new }
+    ensures counted { OnOk result (R.count r.new ≡ saturated (R.count r.old + 1)) }
+    ensures changed { OnOk result (R.is_honest r.new → (s : State) → R.holds r.old s → s.undo pos key.now ≡ None
+        → R.holds r.new (changed s pos key.now (option_copied after.entry))) }
+{
+    let before = r.get(alloc, key)?;
+    r.put_undo(alloc, pos, key, before.as_ref())?;
+    match after {
+        Some(object) => r.put(alloc, key, object),
+        None => r.remove(key),
+    }
 }

@@ -26,11 +26,13 @@
 mod back;
 mod forward;
 mod front;
+mod memory;
 mod moves;
 mod registry;
 
 pub use back::undo_step;
 pub use forward::apply_step;
 pub use front::{Step, common_front};
+pub use memory::MemRegistry;
 pub use moves::{Work, move_chain};
 pub use registry::Registry;

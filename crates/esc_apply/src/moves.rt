@@ -6,11 +6,12 @@ ghost use Rattle.esc_apply.specs.Tables.{mention_count};
 ghost use Rattle.esc_apply.specs.Registry.{saturated};
 ghost use Rattle.esc_apply.specs.Images.{chain_state};
 ghost use Rattle.esc_apply.specs.Front.{common_front};
-ghost use Rattle.esc_apply.specs.Moves.{cost};
+ghost use Rattle.esc_apply.specs.Moves.{is_cleared, undone_of, work_of, cost};
 
-use crate::front::Step;
+use crate::back::undo_to;
+use crate::forward::apply_all;
+use crate::front::{Step, common_front};
 use crate::registry::Registry;
-use esc_bundle::NoMemory;
 use esc_tables::Deposit;
 use std::alloc::Global;
 
@@ -48,5 +49,44 @@ pub fn move_chain<R: Registry>(
     ensures moved { OnOk result (R.is_honest r.new → (c : List DepositValue) → length c ≡ length old.now → R.holds r.old (chain_state c) → R.holds r.new (chain_state (take (common_front old.now new.now) c ++ deposits.now))) }
     ensures cost { IfOk result (λ work. R.is_honest r.new → (c : List DepositValue) → length c ≡ length old.now → R.holds r.old (chain_state c) → sum_by mention_count (c ++ deposits.now) < 2 ^ 64 → work ≡ cost c old.now new.now deposits.now) }
 {
-    Err(R::Error::from(NoMemory))
+    let steps = old.len() as u32;
+    let front = common_front(old, new) as u32;
+    let undone = go_back(r, alloc, steps, front)?;
+    let applied = apply_all(r, alloc, front, deposits)?;
+    let writes = undone.saturating_add(applied);
+    Ok(work_of(steps, front, deposits.len() as u32, writes))
+}
+
+// Takes a chain back to a front: all at once where nothing of it stays.
+fn go_back<R: Registry>(r: &mut R, alloc: Global, steps: u32, front: u32) -> Result<u64, R::Error>
+    requires { front ≤ steps }
+    ensures follows { R.follows r.old r.new }
+    ensures counted { IfOk result (λ n. R.count r.new ≡ saturated (R.count r.old + n)) }
+    ensures gone { IfOk result (λ n. R.is_honest r.new → (c : List DepositValue) → length c ≡ steps → R.holds r.old (chain_state c)
+        → R.holds r.new (chain_state (take front c)) × (n ≡ saturated (sum_by mention_count (undone_of c front)))) }
+{
+    if is_cleared(steps, front) {
+        r.clear()?;
+        return Ok(0);
+    }
+    undo_to(r, alloc, steps, front)
+}
+
+fn is_cleared(steps: u32, front: u32) -> bool
+    ensures { result ≡ is_cleared steps front }
+{
+    front == 0 && steps > 0
+}
+
+fn work_of(steps: u32, front: u32, applied: u32, writes: u64) -> Work
+    requires { front ≤ steps }
+    ensures { result ≡ work_of steps front applied writes }
+{
+    let cleared = is_cleared(steps, front);
+    Work {
+        cleared,
+        undone: if cleared { 0 } else { steps - front },
+        applied,
+        writes,
+    }
 }

@@ -1,6 +1,6 @@
 //! Registries of objects.
 
-ghost use Rattle.std.specs.Prelude.{◌≡◌, ℕ, ◌+◌, Option, Some, None, IfOk, OnOk};
+ghost use Rattle.std.specs.Prelude.{◌≡◌, ℕ, ◌+◌, ◌<◌, ◌^◌, Option, Some, None, IfOk, OnOk};
 ghost use Rattle.std.specs.Option.{option_copied};
 ghost use Rattle.esc_apply.specs.Registry.{State, empty, written, noted, taken, saturated, IsEntriesOf};
 
@@ -16,7 +16,7 @@ pub trait Registry {
     /// What the registry contains. A relation, since it may hold of no content or of several.
     ghost holds: { Self → State → Type 0 };
 
-    /// How many writes were made: it grows by one for each `put` or `remove`, and stays at its greatest value.
+    /// How many writes were made: it grows by one for each `put` or `remove`, and stays at 2^64 - 1 once there.
     ghost count: { Self → ℕ };
 
     /// What it answered so far is what was written to it (for instance: the disk gave back what it was given).
@@ -74,6 +74,9 @@ pub trait Registry {
     /// How many writes were made.
     fn writes(&self) -> u64
         ensures { result ≡ count self.now };
+
+    /// The count is one of 64 bits (an impl whose count is a field says `saturated` of it).
+    ghost bounded: { (r : Self) → count r < 2 ^ 64 };
 
     ghost stays: { (r : Self) → follows r r };
 

@@ -1,0 +1,10 @@
+pub mod StepFacts
+pub mod Words
+pub mod Standing
+pub mod SectionTexts
+pub mod OneReading
+pub mod Frames
+pub mod Gathering
+pub mod Answered
+pub mod FaultNumbers
+pub mod Written

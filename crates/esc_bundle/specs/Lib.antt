@@ -1,1 +1,5 @@
 pub mod Bundle
+pub mod Steps
+pub mod Reading
+pub mod Frame
+pub mod Writing

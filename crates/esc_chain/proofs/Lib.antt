@@ -1,5 +1,9 @@
 pub mod Chains
-pub mod LatestLemmas
 pub mod Members
+pub mod OneChain
+pub mod PlaceMaps
 pub mod Places
 pub mod Rows
+pub mod ListedMaps
+pub mod Ways
+pub mod LatestEnd

@@ -7,7 +7,7 @@ use Rattle.esc_envelope.specs.declared.place.DepositType.TheVariants.{Diff, Incr
 use Rattle.esc_envelope.specs.declared.place.Place.{Place}
 use Rattle.esc_envelope.specs.Place.{rank, IsBefore, IsUpTo}
 
-same_rank : (a b : DepositType) → rank a ≡ rank b → a ≡ b
+pub same_rank : (a b : DepositType) → rank a ≡ rank b → a ≡ b
 same_rank Diff Diff e = refl
 same_rank Diff Incr e = absurd (omega arith)
 same_rank Diff Full e = absurd (omega arith)

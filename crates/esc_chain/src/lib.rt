@@ -25,9 +25,11 @@
 #![tactic(auto)]
 
 mod base;
+mod bases;
 mod held;
 mod latest;
 mod laws;
+mod links;
 mod revision;
 
 pub use base::{Base, base_of};

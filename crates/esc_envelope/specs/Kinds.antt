@@ -1,6 +1,5 @@
 -- The kinds of objects in order, and their names.
-use Rattle.std.specs.Prelude.{ℕ, List, [], ◌∷◌, Bool, ◌==◌, Option, codes}
-use Rattle.std.specs.List.{find}
+use Rattle.std.specs.Prelude.{ℕ, List, [], ◌∷◌, Bool, ◌==◌, if◌then◌else◌, Option, Some, None, codes}
 use Rattle.std.specs.Str.{bytes_eq}
 use Rattle.esc_envelope.specs.declared.kind.Kind.{Kind}
 use Rattle.esc_envelope.specs.declared.kind.Kind.TheVariants.{Registrar, Contact, Host, Domain, Idn, Nndn}
@@ -33,4 +32,10 @@ kind_name Nndn = codes "nndn"
 
 -- the kind of this name
 abbrev pub kind_named : List ℕ → Option Kind
-kind_named name = find (λ k. bytes_eq (kind_name k) name) kinds
+kind_named name =
+    if bytes_eq name (codes "registrar") then Some Registrar
+    else (if bytes_eq name (codes "contact") then Some Contact
+    else (if bytes_eq name (codes "host") then Some Host
+    else (if bytes_eq name (codes "domain") then Some Domain
+    else (if bytes_eq name (codes "idn") then Some Idn
+    else (if bytes_eq name (codes "nndn") then Some Nndn else None)))))

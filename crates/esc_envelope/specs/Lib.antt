@@ -4,6 +4,7 @@ pub mod HeaderValue
 pub mod Id
 pub mod Kinds
 pub mod Members
+pub mod Moment
 pub mod Place
 pub mod Steps
 pub mod Tables

@@ -24,6 +24,12 @@ if_id text = if is_id text then Some text else None
 abbrev pub id_of : Data → Option (List ℕ)
 id_of json = option_and_then if_id (text_at (codes "id") json)
 
+-- the word for a type
+abbrev pub type_name : DepositType → List ℕ
+type_name Diff = codes "DIFF"
+type_name Incr = codes "INCR"
+type_name Full = codes "FULL"
+
 -- the type of this name
 abbrev pub type_named : List ℕ → Option DepositType
 type_named name =

@@ -5,7 +5,9 @@ mod envelope;
 mod header;
 mod id;
 mod kind;
+mod members;
 mod moment;
+mod parts;
 mod place;
 mod table;
 

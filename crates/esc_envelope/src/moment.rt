@@ -1,10 +1,58 @@
 //! Watermarks: moments in UTC, to the nanosecond.
 
-ghost use Rattle.std.specs.Prelude.{◌≡◌, IfOk, IfSome, option_map, string_bytes};
-ghost use Rattle.esc_envelope.specs.Watermark.{IsInYears, watermark_of, watermark_text_of};
+ghost use Rattle.std.specs.Prelude.{◌≡◌, ◌<◌, ◌↔◌, ℕ, ℤ, List, Some, IsSome, IfOk, IfSome, option_map, string_bytes, pos, ◌≤ℤ◌};
+ghost use Rattle.jiff.specs.Words.{civil_nanos, IsBetween};
+ghost use Rattle.esc_envelope.specs.Moment.{IsWatermark};
+ghost use Rattle.esc_envelope.specs.Watermark.{IsInYears, value_if, watermark_of, watermark_text_of};
 
+use crate::parts::{Clock, Day, after_byte, before_z, billionths, read_clock, read_day};
 use esc_bundle::NoMemory;
+use jiff::Timestamp;
+use jiff::civil::DateTime;
+use jiff::tz::Offset;
 use std::alloc::Global;
+
+/// 2262-01-01T00:00:00Z.
+const END: i64 = 9_214_646_400_000_000_000;
+
+fn nanoseconds_at(civil: DateTime) -> i64
+    requires { IsBetween (pos 1970) (pos 2261) civil.date.year }
+    ensures value { result ≡ civil_nanos civil }
+    ensures range { IsInYears result }
+{
+    match Offset::UTC.to_timestamp(civil) {
+        Ok(timestamp) => timestamp.as_nanosecond() as i64,
+        Err(_) => unreachable!(),
+    }
+}
+
+fn nanoseconds(day: Day, clock: Clock, nanosecond: u32) -> Option<i64>
+    requires month { day.month < 100 }
+    requires day { day.day < 100 }
+    requires hour { clock.hour < 100 }
+    requires minute { clock.minute < 100 }
+    requires second { clock.second < 100 }
+    requires nanosecond { nanosecond < 1_000_000_000 }
+    ensures value { result ≡ value_if day clock nanosecond }
+    ensures range { IfSome result IsInYears }
+{
+    if day.year < 1970 || day.year > 2261 {
+        return None;
+    }
+    let civil = DateTime::new(
+        day.year as i16,
+        day.month as i8,
+        day.day as i8,
+        clock.hour as i8,
+        clock.minute as i8,
+        clock.second as i8,
+        nanosecond as i32,
+    );
+    match civil {
+        Ok(civil) => Some(nanoseconds_at(civil)),
+        Err(_) => None,
+    }
+}
 
 /// The nanoseconds since 1970-01-01T00:00:00Z that a text `YYYY-MM-DDThh:mm:ss[.fraction]Z` writes, of a real date
 /// of the years 1970 to 2261, with 1 to 9 digits of fraction. Takes no memory.
@@ -13,14 +61,44 @@ pub fn watermark(text: &str) -> Option<i64>
     ensures value { result ≡ watermark_of text.now }
     ensures range { IfSome result IsInYears }
 {
-    let _ = text;
-    None
+    let moment = before_z(text.as_bytes())?;
+    let (day, rest) = read_day(moment)?;
+    let rest = after_byte(rest, b'T')?;
+    let (clock, rest) = read_clock(rest)?;
+    let nanosecond = billionths(rest)?;
+    nanoseconds(day, clock, nanosecond)
+}
+
+fn civil_at(watermark: i64) -> DateTime
+    requires { IsInYears watermark }
+    ensures { civil_nanos result ≡ watermark }
+{
+    match Timestamp::from_nanosecond(watermark as i128) {
+        Ok(timestamp) => Offset::UTC.to_datetime(timestamp),
+        Err(_) => unreachable!(),
+    }
 }
 
 /// The text of a moment of the years 1970 to 2261, else `None`. A fraction is written only if it isn't zero, without
 /// trailing zeros.
-pub fn watermark_text(_alloc: Global, _watermark: i64) -> Result<Option<String>, NoMemory>
-    ensures { IfOk result (λ o. option_map string_bytes o ≡ watermark_text_of _watermark) }
+pub fn watermark_text(alloc: Global, watermark: i64) -> Result<Option<String>, NoMemory>
+    ensures { IfOk result (λ o. option_map string_bytes o ≡ watermark_text_of watermark) }
 {
-    Err(NoMemory)
+    if watermark < 0 || watermark >= END {
+        return Ok(None);
+    }
+    let civil = civil_at(watermark);
+    let text = format!(in alloc; "{civil}Z")?;
+    Ok(Some(text))
 }
+
+/// What `watermark` reads is exactly the texts of moments: a law of the definitions.
+pub fn watermarks_are_moments()
+    ensures { (text : List ℕ) (w : ℤ) → (watermark_of text ≡ Some w) ↔ IsWatermark text w }
+{}
+
+/// Printing and reading undo each other, and every moment of these years has a text: laws of the definitions.
+pub fn printed_watermarks_are_read()
+    ensures read { (w : ℤ) (text : List ℕ) → watermark_text_of w ≡ Some text → watermark_of text ≡ Some w }
+    ensures printed { (w : ℤ) → IsInYears w → IsSome (watermark_text_of w) }
+{}

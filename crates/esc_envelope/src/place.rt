@@ -18,3 +18,50 @@ pub struct Place {
     pub watermark: i64,
     pub kind: DepositType,
 }
+
+impl Place {
+    ghost use Rattle.std.specs.Prelude.{IsTrue, ◌↔◌};
+    ghost use Rattle.esc_envelope.specs.Place.{IsBefore, IsUpTo};
+
+    /// Whether this place stands before another.
+    pub fn is_before(self, other: Place) -> bool
+        ensures { IsTrue result ↔ IsBefore self other }
+    {
+        self < other
+    }
+
+    /// Whether this place stands before another, or is the same.
+    pub fn is_up_to(self, other: Place) -> bool
+        ensures { IsTrue result ↔ IsUpTo self other }
+    {
+        self <= other
+    }
+}
+
+impl DepositType {
+    ghost use Rattle.std.specs.Prelude.{◌≡◌};
+    ghost use Rattle.esc_envelope.specs.Members.{type_name, type_named};
+
+    /// The word for a type, as `FULL` (RFC 8909, section 5).
+    pub fn name(self) -> &'static str
+        ensures { result.now ≡ type_name self }
+    {
+        match self {
+            DepositType::Diff => "DIFF",
+            DepositType::Incr => "INCR",
+            DepositType::Full => "FULL",
+        }
+    }
+
+    /// The type of this name.
+    pub fn from_name(name: &str) -> Option<DepositType>
+        ensures { result ≡ type_named name.now }
+    {
+        match name {
+            "FULL" => Some(DepositType::Full),
+            "INCR" => Some(DepositType::Incr),
+            "DIFF" => Some(DepositType::Diff),
+            _ => None,
+        }
+    }
+}

@@ -1,12 +1,51 @@
-//! The release manifest.
+//! The release manifest: which deposits a registry's operator released, and what their bundles' bytes hash to.
+//!
+//! # In and out
+//!
+//! `read_manifest` takes the bytes of a manifest, which is CSV. The first record is the heading
+//! `id,type,watermark,prevId,resend,sha256`; each further record is one row, a deposit that was released at its place
+//! (its watermark and type) with a number of resends, under the SHA-256 of its bundle. It gives a `Manifest`, a list of
+//! typed rows in the order of the text, or an `MFault`. `from_rows` gives the `Manifest` of rows that are there already,
+//! as a store keeps them.
+//!
+//! A fault has a number from M1 to M13 and a row, counted from 1; row 0 is the heading or the whole file:
+//!
+//! - M1: more than 4,096 rows, or more than 4,194,304 bytes (row 0);
+//! - M2: a record has not six fields; M3: the heading is missing or another (row 0);
+//! - M4: an id is not 1 to 64 of `A-Z a-z 0-9 . _ -`, or a prevId is neither empty nor of that form;
+//! - M5: the type is not `FULL`, `INCR` or `DIFF`; M6: the watermark is no moment of its form;
+//! - M7: a `DIFF` has no prevId; M8: resend is neither empty, which is 0, nor 1 to 6 digits;
+//! - M9: the digest is not 64 hexadecimal digits, of either case;
+//! - M10: place and resend stand twice; M11: an id stands in two places;
+//! - M12: the prevId of a `DIFF` names a listed row whose watermark isn't earlier than its own; M13: a digest stands
+//!   twice.
+//!
+//! Of the faults that stand anywhere in a text the one of least number is answered, at the least row that has it; the
+//! row of M10, M11 and M13 is the least that repeats or contradicts an earlier one.
+//!
+//! # What the contracts mean
+//!
+//! `specs/Manifest.antt` and `specs/RowFaults.antt` say for each number which rows have that fault, over the whole list
+//! of records (as the crate `csv` reads them) or of typed rows; `manifest_of` is the rows of a text or its least fault,
+//! and `rows_fault` the least fault of rows. `read_manifest` and `from_rows` answer exactly these, but for want of
+//! memory. What the rows of an accepted manifest are is the one fact `IsAccepted` of `specs/Accepted.antt`, which each
+//! `Manifest` carries and `Manifest::rows` gives on; by a law it holds of exactly the rows without a fault.
 #![tactic(auto)]
 
 mod fault;
+mod fields;
+mod laws;
 mod manifest;
+mod reading;
+mod record;
 mod row;
 mod rows;
+#[cfg(test)]
+mod tests;
 
 pub use fault::MFault;
+pub use laws::{accepted_texts_are_read_whole, rows_without_fault_are_accepted};
 pub use manifest::Manifest;
+pub use reading::read_manifest;
 pub use row::MRow;
-
+pub use rows::from_rows;

@@ -1,12 +1,16 @@
 //! Manifests of rows.
 
-ghost use Rattle.std.specs.Prelude.{◌≡◌, ◌<◌, ◌≤◌, ℕ, length, not, position, IfSome, IfOk, Some, None, option_map, Err, ◌&&◌, ◌||◌, take};
+ghost use Rattle.std.specs.Prelude.{◌≡◌, ◌<◌, ◌≤◌, ℕ, length, not, position, IfSome, IfOk, Some, None, Ok, Err};
 ghost use Rattle.std.specs.List.{list_any};
 ghost use Rattle.esc_envelope.specs.Id.{is_id};
+ghost use Rattle.esc_manifest.specs.declared.fault.MFault.TheVariants as MFault;
 ghost use Rattle.esc_manifest.specs.RowFaults.{has_bad_id, has_bad_watermark, lacks_prev, has_bad_resend, same_place, same_revision, moved_id, follows_later, same_digest, first_against_earlier, first_against_any, rows_fault};
 
+use crate::fault::MFault;
+use crate::manifest::Manifest;
 use crate::row::MRow;
 use esc_envelope::{DepositType, Place, is_id};
+use std::alloc::Global;
 
 /// The end of the years that watermarks lie in, 2262-01-01T00:00:00Z in nanoseconds.
 const END_OF_YEARS: i64 = 9_214_646_400_000_000_000;
@@ -15,7 +19,7 @@ const END_OF_YEARS: i64 = 9_214_646_400_000_000_000;
 const MOST_RESEND: u32 = 999_999;
 
 /// The most rows of a manifest.
-const MOST_ROWS: usize = 4_096;
+pub(crate) const MOST_ROWS: usize = 4_096;
 
 fn has_bad_id(row: &MRow) -> bool
     ensures { result ≡ has_bad_id row.now }
@@ -61,4 +65,177 @@ fn is_same_revision(q: &MRow, r: &MRow) -> bool
         return false;
     }
     is_same_place(q.header.place, r.header.place)
+}
+
+fn has_moved_id(q: &MRow, r: &MRow) -> bool
+    ensures { result ≡ moved_id q.now r.now }
+{
+    if q.header.id.as_str() != r.header.id.as_str() {
+        return false;
+    }
+    !is_same_place(q.header.place, r.header.place)
+}
+
+fn follows_later(q: &MRow, r: &MRow) -> bool
+    ensures { result ≡ follows_later q.now r.now }
+{
+    if r.header.place.kind != DepositType::Diff {
+        return false;
+    }
+    match &r.header.prev {
+        Some(prev) => {
+            if prev.as_str() != q.header.id.as_str() {
+                return false;
+            }
+            q.header.place.watermark >= r.header.place.watermark
+        }
+        None => false,
+    }
+}
+
+fn has_same_digest(q: &MRow, r: &MRow) -> bool
+    ensures { result ≡ same_digest q.now r.now }
+{
+    q.digest == r.digest
+}
+
+fn repeats_revision(earlier: &[MRow], row: &MRow) -> bool
+    ensures { result ≡ list_any (λ q. same_revision q row.now) earlier.now }
+{
+    earlier.iter().any(|q| is_same_revision(q, row))
+}
+
+fn moves_id(earlier: &[MRow], row: &MRow) -> bool
+    ensures { result ≡ list_any (λ q. moved_id q row.now) earlier.now }
+{
+    earlier.iter().any(|q| has_moved_id(q, row))
+}
+
+fn follows_any_later(rows: &[MRow], row: &MRow) -> bool
+    ensures { result ≡ list_any (λ q. follows_later q row.now) rows.now }
+{
+    rows.iter().any(|q| follows_later(q, row))
+}
+
+fn repeats_digest(earlier: &[MRow], row: &MRow) -> bool
+    ensures { result ≡ list_any (λ q. same_digest q row.now) earlier.now }
+{
+    earlier.iter().any(|q| has_same_digest(q, row))
+}
+
+fn first_bad_id(rows: &[MRow]) -> Option<usize>
+    ensures first { result ≡ position has_bad_id rows.now }
+    ensures within { IfSome result (λ r. r < length rows.now) }
+{
+    rows.iter().position(|row| has_bad_id(row))
+}
+
+fn first_bad_watermark(rows: &[MRow]) -> Option<usize>
+    ensures first { result ≡ position has_bad_watermark rows.now }
+    ensures within { IfSome result (λ r. r < length rows.now) }
+{
+    rows.iter().position(|row| has_bad_watermark(row))
+}
+
+fn first_without_prev(rows: &[MRow]) -> Option<usize>
+    ensures first { result ≡ position lacks_prev rows.now }
+    ensures within { IfSome result (λ r. r < length rows.now) }
+{
+    rows.iter().position(|row| lacks_prev(row))
+}
+
+fn first_bad_resend(rows: &[MRow]) -> Option<usize>
+    ensures first { result ≡ position has_bad_resend rows.now }
+    ensures within { IfSome result (λ r. r < length rows.now) }
+{
+    rows.iter().position(|row| row.header.resend > MOST_RESEND)
+}
+
+fn first_repeated_revision(rows: &[MRow]) -> Option<usize>
+    ensures first { result ≡ first_against_earlier same_revision rows.now }
+    ensures within { IfSome result (λ r. r < length rows.now) }
+{
+    for (i, row) in rows.iter().enumerate() {
+        if repeats_revision(&rows[..i], row) {
+            return Some(i);
+        }
+    }
+    None
+}
+
+fn first_moved_id(rows: &[MRow]) -> Option<usize>
+    ensures first { result ≡ first_against_earlier moved_id rows.now }
+    ensures within { IfSome result (λ r. r < length rows.now) }
+{
+    for (i, row) in rows.iter().enumerate() {
+        if moves_id(&rows[..i], row) {
+            return Some(i);
+        }
+    }
+    None
+}
+
+fn first_after_later(rows: &[MRow]) -> Option<usize>
+    ensures first { result ≡ first_against_any follows_later rows.now }
+    ensures within { IfSome result (λ r. r < length rows.now) }
+{
+    rows.iter().position(|row| follows_any_later(rows, row))
+}
+
+fn first_repeated_digest(rows: &[MRow]) -> Option<usize>
+    ensures first { result ≡ first_against_earlier same_digest rows.now }
+    ensures within { IfSome result (λ r. r < length rows.now) }
+{
+    for (i, row) in rows.iter().enumerate() {
+        if repeats_digest(&rows[..i], row) {
+            return Some(i);
+        }
+    }
+    None
+}
+
+#[tactic(auto, unfolding(crate::specs::RowFaults::rows_fault))]
+fn rows_fault(rows: &[MRow]) -> Option<(u8, u32)>
+    ensures { result ≡ rows_fault rows.now }
+{
+    if rows.len() > MOST_ROWS {
+        return Some((1, 0));
+    }
+    if let Some(row) = first_bad_id(rows) {
+        return Some((4, row as u32 + 1));
+    }
+    if let Some(row) = first_bad_watermark(rows) {
+        return Some((6, row as u32 + 1));
+    }
+    if let Some(row) = first_without_prev(rows) {
+        return Some((7, row as u32 + 1));
+    }
+    if let Some(row) = first_bad_resend(rows) {
+        return Some((8, row as u32 + 1));
+    }
+    if let Some(row) = first_repeated_revision(rows) {
+        return Some((10, row as u32 + 1));
+    }
+    if let Some(row) = first_moved_id(rows) {
+        return Some((11, row as u32 + 1));
+    }
+    if let Some(row) = first_after_later(rows) {
+        return Some((12, row as u32 + 1));
+    }
+    if let Some(row) = first_repeated_digest(rows) {
+        return Some((13, row as u32 + 1));
+    }
+    None
+}
+
+/// The manifest of these rows. Refuses with the least of M1 (more than 4,096 rows), M4, M6 to M8 and M10 to M13 that
+/// stands in them; a `prev` of an empty text is M4. Takes no memory.
+pub fn from_rows(_alloc: Global, rows: Vec<MRow>) -> Result<Manifest, MFault>
+    ensures accepted { rows_fault rows.items ≡ None → result ≡ Ok rows.items }
+    ensures refused { (code row : ℕ) → rows_fault rows.items ≡ Some (code, row) → result ≡ Err (MFault.Refused code row) }
+{
+    match rows_fault(rows.as_slice()) {
+        Some((code, row)) => Err(MFault::Refused { code, row }),
+        None => Ok(Manifest::of_accepted(rows)),
+    }
 }

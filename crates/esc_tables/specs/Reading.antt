@@ -1,6 +1,84 @@
--- The deposit of a bundle, or its least fault.
-use Rattle.std.specs.Prelude.{ℕ, List, Result, Err}
+-- The deposit of a bundle, or its least fault (RFC 8909, section 2, and this project's profile).
+use Rattle.std.specs.Prelude.{ℕ, List, [], ◌∷◌, ◌++◌, length, map, filter, Bool, not, nat_le, if◌then◌else◌, Result, Ok, Err}
+use Rattle.std.specs.List.{list_all, fold}
+use Rattle.std.specs.Cmp.Lexicographic.{slice_cmp}
+use Rattle.std.specs.Ordering.{nat_cmp, is_lt}
+use Rattle.esc_bundle.specs.Bundle.{Named}
+use Rattle.esc_envelope.specs.EnvelopeValue.{TableValue, EnvelopeValue}
+use Rattle.esc_envelope.specs.Envelope.{envelope_of}
 use Rattle.esc_tables.specs.DepositValue.{DepositValue}
+use Rattle.esc_tables.specs.KeyName.{KeyName}
+use Rattle.esc_tables.specs.ObjectValue.{RowValue}
+use Rattle.esc_tables.specs.TableRow.{TableRow, are_filed, rows_in, is_whole, has_key, key_of, keyed}
+use Rattle.esc_tables.specs.Objects.{objects_of, orphans_of}
+
+infixl 10 ◌>>=◌
+-- the next step, on the value of the one before, unless that had a fault
+abbrev pub ◌>>=◌ : {A B : Type 0} → Result A ℕ → (A → Result B ℕ) → Result B ℕ
+(Ok x) >>= next = next x
+(Err n) >>= next = Err n
+
+-- the fault n, unless the test passes
+abbrev pub check : Bool → ℕ → Result (Unit {0}) ℕ
+check b n = if b then Ok tt else Err n
+
+-- the most rows of a bundle
+abbrev pub most_rows : ℕ
+most_rows = 100_000
+
+-- all tables that an envelope declares
+abbrev pub tables_of : EnvelopeValue → List TableValue
+tables_of e = e.contents ++ e.deletes
+
+-- the name of a table comes before another's, by bytes
+abbrev pub is_before : TableValue → TableValue → Bool
+is_before t u = is_lt (slice_cmp nat_cmp t.name u.name)
+
+-- a table put behind those whose names are not after its own
+abbrev pub placed : List TableValue → TableValue → List TableValue
+placed [] t = t ∷ []
+placed (u ∷ us) t = if is_before t u then t ∷ u ∷ us else u ∷ placed us t
+
+-- tables in the order of their names
+abbrev pub by_name : List TableValue → List TableValue
+by_name tables = fold placed [] tables
+
+-- the rows that are objects, with their keys
+abbrev pub parent_rows : List Named → EnvelopeValue → List (KeyName × RowValue)
+parent_rows files e = map keyed (rows_in files (filter (λ t. t.parent) e.contents))
+
+-- the rows that are parts of objects, with the keys of these: by table name, and then as in the file
+abbrev pub child_rows : List Named → EnvelopeValue → List (KeyName × RowValue)
+child_rows files e = map keyed (rows_in files (by_name (filter (λ t. not t.parent) e.contents)))
+
+-- what the rows make
+unfoldable pub deposit_of : List Named → EnvelopeValue → DepositValue
+deposit_of files e = record {
+  header = e.header;
+  counts = e.counts;
+  deletes = map key_of (rows_in files e.deletes);
+  contents = objects_of (parent_rows files e) (child_rows files e);
+  orphans = orphans_of (parent_rows files e) (child_rows files e);
+}
+
+-- 9 is a row of another length or a field that is no UTF-8, 10 a key that is empty or too long, 11 too many rows
+unfoldable pub check_rows : List TableRow → Result (Unit {0}) ℕ
+check_rows rows = do
+  whole ← check (list_all is_whole rows) 9
+  named ← check (list_all has_key rows) 10
+  check (nat_le (length rows) most_rows) 11
+
+-- 8 is a declared file that is no section behind the envelope, or such a section that is not declared once
+unfoldable pub deposit_in : List Named → EnvelopeValue → Result DepositValue ℕ
+deposit_in files e = do
+  filed ← check (are_filed files (tables_of e)) 8
+  right ← check_rows (rows_in files (tables_of e))
+  Ok (deposit_of files e)
+
+-- the deposit that sections are, the first of which is the envelope
+unfoldable pub sections_deposit : List Named → Result DepositValue ℕ
+sections_deposit [] = Err 5
+sections_deposit (first ∷ files) = envelope_of first.bytes >>= deposit_in files
 
 -- the deposit that a body is, or the number of the refusal (not yet written down)
 unfoldable pub reading : List ℕ → Result DepositValue ℕ

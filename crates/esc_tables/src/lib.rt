@@ -2,9 +2,14 @@
 #![tactic(auto)]
 
 mod deposit;
+mod files;
 mod key;
+mod laws;
 mod object;
 mod reading;
+mod row;
+mod rows;
+mod survey;
 
 pub use deposit::Deposit;
 pub use key::Key;

@@ -1,45 +1,120 @@
-use Rattle.std.proofs.Common.{List, ℕ, sym, ap, subst, ◌∙◌, arith, ◌≡◌, length, reverse, refl}
+use Rattle.std.proofs.Common.{◌≡◌, ℕ, ◌<◌, List, [], ◌∷◌, ◌++◌, length, reverse, Option, Some, None, refl, sym, ap, subst, ◌∙◌, append_assoc, arith}
+use Rattle.std.specs.Prelude.{slice_index}
 use Rattle.std.proofs.lemmas.List.{reverse-reverse}
-use mathlib.Core.Bool.{false≢true}
+use Rattle.esc_manifest.specs.Rows.{watermark_at}
+use Rattle.esc_chain.specs.declared.links.Link.{Link}
+use Rattle.esc_chain.specs.declared.links.Link.TheVariants.{Start, To, Broken}
 use Rattle.esc_chain.specs.Chain.{IsLatestBack, IsLatestChain}
-use Rattle.esc_chain.specs.Walk.{IsLaterThan}
-use Rattle.esc_chain.proofs.LatestLemmas.{IsLatestBelow, latest_stays, latest_moves, latest_in_range, latest_of_all, not_later}
+use Rattle.esc_chain.specs.Walk.{link_at, HasWay, BasesStandFirst}
+use Rattle.esc_chain.proofs.Chains.{earlier_falls}
 use Rattle.esc_chain.proofs.Members.{latest_is_held}
+use Rattle.esc_chain.proofs.LatestEnd.{prepared, rows_have_links, end_in_range, none_is_latest, last_is_latest, last_of, no_end, bases_first, to_earlier}
+use Rattle.esc_chain.proofs.Ways.{way_behind, no_way_broken, link_read}
 use Rattle.esc_chain.proofs.latest.latest_chain.Goals as goal
 
-pub loop-row-preserved-then-not-is_used : goal.loop-row-preserved-then-not-is_used
-loop-row-preserved-then-not-is_used c =
-    latest_stays c.args.m.now c.args.h.now c.loop-row.row c.loop-row.latest.items c.loop-row.invariant
-    (λ rest is. absurd (false≢true (c.if-not-is_used.ensures.1 is.0)))
-
-pub is_later-requires-clause-back : goal.is_later-requires-clause-back
-is_later-requires-clause-back c = rw c.deref.ensures.value (latest_in_range c.args.m.now c.args.h.now c.requires _ _ c.loop-row.invariant)
-
-pub loop-row-preserved-then-not-is_later : goal.loop-row-preserved-then-not-is_later
-loop-row-preserved-then-not-is_later c =
+pub last_with_way-requires-clause-in_range : goal.last_with_way-requires-clause-in_range
+last_with_way-requires-clause-in_range c =
     let m = c.args.m.now in
-    let never : IsLaterThan m c.loop-row.latest.items c.loop-row.row → ⊥ =
-    λ later. false≢true (c.if-not-is_later.ensures.1 (subst (λ (l : List ℕ). IsLaterThan m l c.loop-row.row) (sym c.deref.ensures.value) later)) in
-    latest_stays m c.args.h.now c.loop-row.row c.loop-row.latest.items c.loop-row.invariant
-    (λ rest is. not_later m c.loop-row.latest.items c.loop-row.row never)
+    let h = c.args.h.now in
+    let links = c.in_ok-links.links.items in
+    let order = c.in_ok-order.order.items in
+    let ready = prepared m h c.in_ok-used.used links order c.in_ok-links.ensures.accepted c.requires c.in_ok-used.ensures c.in_ok-order.ensures.rows c.in_ok-order.ensures.ordered c.in_ok-links.ensures.links in
+    let listed = rows_have_links m h links order ready in
+    subst (λ (o : List ℕ). (k : ℕ) → k < length o → slice_index o k < length c.deref.result.now) (sym c.deref-2.ensures.value)
+    (subst (λ (l : List Link). (k : ℕ) → k < length order → slice_index order k < length l) (sym c.deref.ensures.value) listed)
 
-pub loop-row-preserved-in-None : goal.loop-row-preserved-in-None
-loop-row-preserved-in-None c =
-    latest_stays c.args.m.now c.args.h.now c.loop-row.row c.loop-row.latest.items c.loop-row.invariant
-    (λ rest is. absurd ((rw c.in-None.is at c.in_ok-back.ensures) rest is.1))
-
-pub loop-row-preserved : goal.loop-row-preserved
-loop-row-preserved c =
+pub last_with_way-requires-clause-bases_first : goal.last_with_way-requires-clause-bases_first
+last_with_way-requires-clause-bases_first c =
     let m = c.args.m.now in
-    let later = subst (λ (l : List ℕ). IsLaterThan m l c.loop-row.row) c.deref.ensures.value (c.if-not-is_later.ensures.0 refl) in
-    latest_moves m c.args.h.now c.loop-row.row c.loop-row.latest.items _ c.loop-row.invariant (c.if-not-is_used.ensures.0 refl) later (rw c.in-Some.is at c.in_ok-back.ensures)
+    let h = c.args.h.now in
+    let links = c.in_ok-links.links.items in
+    let order = c.in_ok-order.order.items in
+    let ready = prepared m h c.in_ok-used.used links order c.in_ok-links.ensures.accepted c.requires c.in_ok-used.ensures c.in_ok-order.ensures.rows c.in_ok-order.ensures.ordered c.in_ok-links.ensures.links in
+    let first = bases_first m h ready.accepted ready.range links ready.linked order ready.ordered in
+    subst (λ (l : List Link). BasesStandFirst l c.deref-2.result.now) (sym c.deref.ensures.value) (subst (BasesStandFirst links) (sym c.deref-2.ensures.value) first)
+
+pub returns-in_default-clause-latest : goal.returns-in_default-clause-latest
+returns-in_default-clause-latest c =
+    let m = c.args.m.now in
+    let h = c.args.h.now in
+    let links = c.in_ok-links.links.items in
+    let order = c.in_ok-order.order.items in
+    let ready = prepared m h c.in_ok-used.used links order c.in_ok-links.ensures.accepted c.requires c.in_ok-used.ensures c.in_ok-order.ensures.rows c.in_ok-order.ensures.ordered c.in_ok-links.ensures.links in
+    let last = last_of _ links _ order _ None c.deref.ensures.value c.deref-2.ensures.value (no_end _ c.in_default.not-Some) c.in_ok-end.ensures in
+    let back = none_is_latest m h ready.accepted ready.range links ready.linked order ready.ordered last in
+    subst (λ (l : List ℕ). IsLatestChain m h l) (sym c.new-chain.ensures.items) back
+
+pub loop-chain-init : goal.loop-chain-init
+loop-chain-init c =
+    let m = c.args.m.now in
+    let h = c.args.h.now in
+    let links = c.in_ok-links.links.items in
+    let order = c.in_ok-order.order.items in
+    let ready = prepared m h c.in_ok-used.used links order c.in_ok-links.ensures.accepted c.requires c.in_ok-used.ensures c.in_ok-order.ensures.rows c.in_ok-order.ensures.ordered c.in_ok-links.ensures.links in
+    let last = last_of _ links _ order _ (Some c.in-Some.end) c.deref.ensures.value c.deref-2.ensures.value c.in-Some.is c.in_ok-end.ensures in
+    record {
+      in_range = end_in_range m h links order ready c.in-Some.end last;
+      way = last.0;
+      onward = λ rest follows. (rest, ap (λ (l : List ℕ). l ++ c.in-Some.end ∷ rest) c.new-chain.ensures.items, follows);
+    }
+
+pub loop-chain-smaller : goal.loop-chain-smaller
+loop-chain-smaller c =
+    let m = c.args.m.now in
+    let h = c.args.h.now in
+    let links = c.in_ok-links.links.items in
+    let order = c.in_ok-order.order.items in
+    let ready = prepared m h c.in_ok-used.used links order c.in_ok-links.ensures.accepted c.requires c.in_ok-used.ensures c.in_ok-order.ensures.rows c.in_ok-order.ensures.ordered c.in_ok-links.ensures.links in
+    let row = c.loop-chain.row in
+    let base = c.in-To.base in
+    let listed : row < length links = subst (λ (n : ℕ). row < n) (sym ready.as_many) c.loop-chain.invariant.in_range in
+    let to = link_read links row c.index.result.now listed c.index.ensures ∙ c.in-To.is in
+    let step = to_earlier m h ready.accepted ready.range links ready.linked row base c.loop-chain.invariant.in_range to in
+    earlier_falls (watermark_at m row) m base (ready.range base step.1.held) step.2
+
+pub loop-chain-preserved : goal.loop-chain-preserved
+loop-chain-preserved c =
+    let m = c.args.m.now in
+    let h = c.args.h.now in
+    let links = c.in_ok-links.links.items in
+    let order = c.in_ok-order.order.items in
+    let ready = prepared m h c.in_ok-used.used links order c.in_ok-links.ensures.accepted c.requires c.in_ok-used.ensures c.in_ok-order.ensures.rows c.in_ok-order.ensures.ordered c.in_ok-links.ensures.links in
+    let row = c.loop-chain.row in
+    let base = c.in-To.base in
+    let known = c.loop-chain.invariant in
+    let listed : row < length links = subst (λ (n : ℕ). row < n) (sym ready.as_many) known.in_range in
+    let to = link_read links row c.index.result.now listed c.index.ensures ∙ c.in-To.is in
+    let step = to_earlier m h ready.accepted ready.range links ready.linked row base known.in_range to in
+    record {
+      in_range = ready.range base step.1.held;
+      way = way_behind links row base known.way to;
+      onward = λ rest follows.
+          let way = known.onward (base ∷ rest) (to, follows) in
+          (way.0, ap (λ (l : List ℕ). l ++ base ∷ rest) c.in_ok-push.ensures.items ∙ append_assoc c.loop-chain.chain.items (row ∷ []) (base ∷ rest) ∙ way.1, way.2);
+    }
+
+pub unreachable-requires : goal.unreachable-requires
+unreachable-requires c =
+    let links = c.in_ok-links.links.items in
+    let row = c.loop-chain.row in
+    let count : length links ≡ length c.args.m.now = c.in_ok-links.ensures.links.0 in
+    let listed : row < length links = subst (λ (n : ℕ). row < n) (sym count) c.loop-chain.invariant.in_range in
+    no_way_broken links row c.loop-chain.invariant.way (link_read links row c.index.result.now listed c.index.ensures ∙ c.in-Broken.is)
 
 pub returns : goal.returns
 returns c =
     let m = c.args.m.now in
     let h = c.args.h.now in
-    let count : length c.rows-row-end.result.now ≡ length m = ap length c.rows-row-end.ensures.rows in
-    let all : c.loop-row.row ≡ length m = omega arith in
-    let back : reverse c.reverse.new.self.items ≡ c.loop-row.latest.items = ap reverse c.reverse.ensures.items ∙ reverse-reverse _ in
-    let latest : IsLatestChain m h c.reverse.new.self.items = rw back (latest_of_all m h c.requires _ (subst (λ (n : ℕ). IsLatestBelow m h n c.loop-row.latest.items) all c.loop-row.invariant)) in
-    record { latest = latest; rows = latest_is_held m h _ c.rows-row-end.ensures.accepted c.requires latest }
+    let links = c.in_ok-links.links.items in
+    let order = c.in_ok-order.order.items in
+    let ready = prepared m h c.in_ok-used.used links order c.in_ok-links.ensures.accepted c.requires c.in_ok-used.ensures c.in_ok-order.ensures.rows c.in_ok-order.ensures.ordered c.in_ok-links.ensures.links in
+    let row = c.loop-chain.row in
+    let known = c.loop-chain.invariant in
+    let last = last_of _ links _ order _ (Some c.in-Some.end) c.deref.ensures.value c.deref-2.ensures.value c.in-Some.is c.in_ok-end.ensures in
+    let listed : row < length links = subst (λ (n : ℕ). row < n) (sym ready.as_many) known.in_range in
+    let start = link_read links row c.index.result.now listed c.index.ensures ∙ c.in-Start.is in
+    let way = known.onward [] start in
+    let back = last_is_latest m h ready.accepted ready.range links ready.linked order ready.ordered c.in-Some.end last way.0 way.2 in
+    let turned : reverse c.reverse.new.self.items ≡ c.in-Some.end ∷ way.0 = ap reverse c.reverse.ensures.items ∙ reverse-reverse _ ∙ c.in_ok-push.ensures.items ∙ way.1 in
+    let latest : IsLatestChain m h c.reverse.new.self.items = subst (IsLatestBack m h) (sym turned) back in
+    record { latest = latest; rows = latest_is_held m h _ ready.accepted c.requires latest }

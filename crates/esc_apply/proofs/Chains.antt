@@ -1,0 +1,159 @@
+-- A registry that holds a chain of deposits, one step further and one step back.
+use Rattle.std.proofs.Common.{◌≡◌, ℕ, zero, suc, ◌+◌, ◌<◌, ◌≤◌, Bool, true, false, cond, eqb, List, [], ◌∷◌, ◌++◌, length, reverse, take, drop, sum_by, Option, Some, None, is_some, refl, sym, ap, ap₂, subst, ◌∙◌, arith, append_assoc, append-nil, length-append, length-take}
+use Rattle.std.specs.List.{find}
+use Rattle.std.specs.Option.{option_and_then, unwrap_or}
+use Rattle.std.proofs.lemmas.List.{reverse-append}
+use Rattle.std.proofs.lemmas.List.Sums.{sum_by_push, sum_by-cons}
+use Rattle.std.proofs.lemmas.Bool.Decides.{nat_tests}
+use Rattle.esc_tables.specs.KeyName.{KeyName, key_eq}
+use Rattle.esc_tables.specs.ObjectValue.{ObjectValue}
+use Rattle.esc_tables.specs.DepositValue.{DepositValue}
+use Rattle.esc_apply.specs.Tables.{mentions, says, tables, mention_count}
+use Rattle.esc_apply.specs.Registry.{State, Befores, nothing, empty, with_step, stepped, restored, saturated, HasSize}
+use Rattle.esc_apply.specs.Images.{images_after, before_images, chain_state}
+use Rattle.esc_apply.proofs.Mentions.{count_mentions}
+use Rattle.esc_apply.proofs.Runs.{itself}
+
+abbrev Noted : Type 0
+Noted = Option (Option ObjectValue)
+
+-- the last deposit decides what it mentions
+tables-push : (c : List DepositValue) (d : DepositValue) (q : KeyName) → tables (c ++ d ∷ []) q ≡ cond (mentions q d) (says q d) (tables c q)
+tables-push c d q = ap (λ (l : List DepositValue). option_and_then (says q) (find (mentions q) l)) (reverse-append c (d ∷ [])) ∙ by_mention (mentions q d)
+  where
+    by_mention : (b : Bool) → option_and_then (says q) (cond b (Some d) (find (mentions q) (reverse c))) ≡ cond b (says q d) (tables c q)
+    by_mention true = refl
+    by_mention false = refl
+
+zero_suc : (n : ℕ) → eqb zero (suc n) ≡ false
+zero_suc n = grind (arith, nat_tests)
+
+suc_zero : (n : ℕ) → eqb (suc n) zero ≡ false
+suc_zero n = grind (arith, nat_tests)
+
+suc_suc : (n i : ℕ) → eqb (suc n) (suc i) ≡ eqb n i
+suc_suc n i = grind (arith, nat_tests)
+
+-- what one more deposit adds to the before-images
+images-push : (b c : List DepositValue) (d : DepositValue) (i : ℕ) (q : KeyName) → images_after b (c ++ d ∷ []) i q ≡ cond (eqb (length c) i) (cond (mentions q d) (Some (tables (b ++ c) q)) None) (images_after b c i q)
+images-push b [] d zero q = ap (λ (l : List DepositValue). cond {A = Noted} (mentions q d) (Some (tables l q)) None) (sym (append-nil b))
+images-push b [] d (suc i) q = rw (zero_suc i) refl
+images-push b (x ∷ c) d zero q = rw (suc_zero (length c)) refl
+images-push b (x ∷ c) d (suc i) q =
+    images-push (b ++ x ∷ []) c d i q
+    ∙ ap (λ (l : List DepositValue). cond {A = Noted} (eqb (length c) i) (cond (mentions q d) (Some (tables l q)) None) (images_after (b ++ x ∷ []) c i q)) (append_assoc b (x ∷ []) c)
+    ∙ ap (λ t. cond {A = Noted} t (cond (mentions q d) (Some (tables (b ++ x ∷ c) q)) None) (images_after (b ++ x ∷ []) c i q)) (sym (suc_suc (length c) i))
+
+-- the next step goes from the state of a chain to that of the chain with one deposit more
+stepped-chain : (c : List DepositValue) (d : DepositValue) → stepped (chain_state c) (suc (length c)) d ≡ chain_state (c ++ d ∷ [])
+stepped-chain c d = λ i. record { content = λ q. content q i; undo = λ j q. undo j q i }
+  where
+    content : (q : KeyName) → cond (mentions q d) (says q d) (tables c q) ≡ tables (c ++ d ∷ []) q
+    content q = sym (tables-push c d q)
+
+    undo : (j : ℕ) (q : KeyName) → with_step (before_images c) (suc (length c)) (λ q. cond (mentions q d) (Some (tables c q)) None) j q ≡ before_images (c ++ d ∷ []) j q
+    undo zero q = rw (suc_zero (length c)) refl
+    undo (suc i) q =
+        ap (λ t. cond {A = Noted} t (cond (mentions q d) (Some (tables c q)) None) (images_after [] c i q)) (suc_suc (length c) i)
+        ∙ sym (images-push [] c d i q)
+
+images_past : (b c : List DepositValue) (q : KeyName) → images_after b c (length c) q ≡ None
+images_past b [] q = refl
+images_past b (x ∷ c) q = images_past (b ++ x ∷ []) c q
+
+-- past the end of a chain nothing is noted
+pub fresh-chain : (c : List DepositValue) (j : ℕ) → j ≡ suc (length c) → (chain_state c).undo j ≡ nothing
+fresh-chain c j is = subst (λ (n : ℕ). (chain_state c).undo n ≡ nothing) (sym is) (λ i q. images_past [] c q i)
+
+-- a registry without anything holds the chain of no deposits
+pub empty-chain : empty ≡ chain_state []
+empty-chain = λ i. record { content = λ q. None; undo = λ j q. none j q i }
+  where
+    none : (j : ℕ) (q : KeyName) → None ≡ before_images [] j q
+    none zero q = refl
+    none (suc j) q = refl
+
+-- the step back undoes a step
+restored-stepped : (s : State) (j : ℕ) (d : DepositValue) → s.undo j ≡ nothing → restored (stepped s j d) j ≡ s
+restored-stepped s j d none = λ i. record { content = λ q. content q i; undo = λ k q. undo k q i }
+  where
+    content : (q : KeyName) → unwrap_or (cond {A = Noted} (eqb j j) (cond (mentions q d) (Some (s.content q)) None) (s.undo j q)) (cond (mentions q d) (says q d) (s.content q)) ≡ s.content q
+    content q = ap (λ t. unwrap_or (cond {A = Noted} t (cond (mentions q d) (Some (s.content q)) None) (s.undo j q)) (cond (mentions q d) (says q d) (s.content q))) (itself j) ∙ by_mention (mentions q d)
+      where
+        by_mention : (b : Bool) → unwrap_or (cond {A = Noted} b (Some (s.content q)) None) (cond b (says q d) (s.content q)) ≡ s.content q
+        by_mention true = refl
+        by_mention false = refl
+
+    undo : (k : ℕ) (q : KeyName) → with_step (stepped s j d).undo j nothing k q ≡ s.undo k q
+    undo k q = by_step (eqb j k) refl
+      where
+        by_step : (b : Bool) → eqb j k ≡ b → cond {A = Noted} b None (cond {A = Noted} b (cond (mentions q d) (Some (s.content q)) None) (s.undo k q)) ≡ s.undo k q
+        by_step true e = let is : j ≡ k = grind (arith, nat_tests) in subst (λ (n : ℕ). None ≡ s.undo n q) is (λ i. sym none i q)
+        by_step false e = refl
+
+-- the step back goes from the state of a chain to that of the chain without its last deposit
+restored-chain : (c : List DepositValue) (d : DepositValue) → restored (chain_state (c ++ d ∷ [])) (suc (length c)) ≡ chain_state c
+restored-chain c d = ap (λ (s : State). restored s (suc (length c))) (sym (stepped-chain c d)) ∙ restored-stepped (chain_state c) (suc (length c)) d (fresh-chain c (suc (length c)) refl)
+
+-- what the last step of a chain noted has as many keys as its deposit mentions
+size_last : (c : List DepositValue) (d : DepositValue) (n : ℕ) → HasSize ((chain_state (c ++ d ∷ [])).undo (suc (length c))) n → n ≡ mention_count d
+size_last c d n (es, are, len) = sym len ∙ count_mentions d es are.once (λ q. ap is_some (are.each q ∙ images-push [] c d (length c) q) ∙ by_mention q (mentions q d))
+  where
+    by_mention : (q : KeyName) (b : Bool) → is_some (cond {A = Noted} (eqb (length c) (length c)) (cond b (Some (tables c q)) None) (images_after [] c (length c) q)) ≡ b
+    by_mention q true = ap (λ t. is_some (cond {A = Noted} t (Some (tables c q)) (images_after [] c (length c) q))) (itself (length c))
+    by_mention q false = ap (λ t. is_some (cond {A = Noted} t None (images_after [] c (length c) q))) (itself (length c))
+
+-- ---- forward
+-- the next step of a chain k with the first i of the deposits
+pub next_step : (k ds : List DepositValue) (steps i pos : ℕ) → length k ≡ steps → i ≤ length ds → pos ≡ steps + i → pos + 1 ≡ suc (length (k ++ take i ds))
+next_step k ds steps i pos len within at = omega (arith, length-append k (take i ds), length-take i ds)
+
+-- one of the deposits more is applied
+pub one_more : (Held : State → Type 0) (k ds : List DepositValue) (i j : ℕ) (d : DepositValue) → Held (stepped (chain_state (k ++ take i ds)) j d) → j ≡ suc (length (k ++ take i ds)) → take (i + 1) ds ≡ take i ds ++ d ∷ [] → Held (chain_state (k ++ take (i + 1) ds))
+one_more Held k ds i j d held at more =
+    subst Held
+    (ap (λ (n : ℕ). stepped (chain_state (k ++ take i ds)) n d) at
+    ∙ stepped-chain (k ++ take i ds) d
+    ∙ ap chain_state (append_assoc k (take i ds) (d ∷ []) ∙ ap (λ (l : List DepositValue). k ++ l) (sym more)))
+    held
+
+-- so many writes more
+pub one_more_sum : (ds : List DepositValue) (i before now : ℕ) (d : DepositValue) → take (i + 1) ds ≡ take i ds ++ d ∷ [] → before ≡ saturated (now + sum_by mention_count (take i ds)) → saturated (before + mention_count d) ≡ saturated (now + sum_by mention_count (take (i + 1) ds))
+one_more_sum ds i before now d more was =
+    let sum : sum_by mention_count (take (i + 1) ds) ≡ sum_by mention_count (take i ds) + mention_count d = ap (sum_by mention_count) more ∙ sum_by_push mention_count (take i ds) d in
+    omega (arith, sum, was)
+
+-- ---- back
+-- a chain at a place: what is before, and the deposit there
+split_at : (c : List DepositValue) (j : ℕ) → j < length c → (d : DepositValue) × (take (suc j) c ≡ take j c ++ d ∷ []) × (drop j c ≡ d ∷ drop (suc j) c) × (length (take j c) ≡ j)
+split_at [] j below = absurd (omega arith)
+split_at (x ∷ c) zero below = (x, refl, refl, refl)
+split_at (x ∷ c) (suc j) below =
+    let rest = split_at c j (omega arith) in
+    (rest.0, ap (λ (l : List DepositValue). x ∷ l) rest.1, rest.2, ap suc rest.3)
+
+-- one step less: the state of the shorter chain is held, and so many writes more were made
+pub one_less : (Held : State → Type 0) (k : List DepositValue) (left j writes n : ℕ) → left ≡ suc j → j < length k → writes ≡ saturated (sum_by mention_count (drop left k)) → HasSize ((chain_state (take left k)).undo left) n → Held (restored (chain_state (take left k)) left)
+    → Held (chain_state (take j k)) × (saturated (writes + n) ≡ saturated (sum_by mention_count (drop j k)))
+one_less Held k left j writes n is below counted size held = (subst Held back held, omega (arith, many, rest, same, counted))
+  where
+    last : (d : DepositValue) × (take (suc j) k ≡ take j k ++ d ∷ []) × (drop j k ≡ d ∷ drop (suc j) k) × (length (take j k) ≡ j)
+    last = split_at k j below
+
+    whole : take left k ≡ take j k ++ last.0 ∷ []
+    whole = ap (λ i. take i k) is ∙ last.1
+
+    at : left ≡ suc (length (take j k))
+    at = is ∙ ap suc (sym last.3)
+
+    back : restored (chain_state (take left k)) left ≡ chain_state (take j k)
+    back = ap₂ (λ (l : List DepositValue) (i : ℕ). restored (chain_state l) i) whole at ∙ restored-chain (take j k) last.0
+
+    many : n ≡ mention_count last.0
+    many = size_last (take j k) last.0 n (subst (λ (i : ℕ). HasSize ((chain_state (take j k ++ last.0 ∷ [])).undo i) n) at (subst (λ (l : List DepositValue). HasSize ((chain_state l).undo left) n) whole size))
+
+    rest : sum_by mention_count (drop j k) ≡ mention_count last.0 + sum_by mention_count (drop (suc j) k)
+    rest = ap (sum_by mention_count) last.2 ∙ sum_by-cons mention_count last.0 (drop (suc j) k)
+
+    same : sum_by mention_count (drop left k) ≡ sum_by mention_count (drop (suc j) k)
+    same = ap (λ i. sum_by mention_count (drop i k)) is

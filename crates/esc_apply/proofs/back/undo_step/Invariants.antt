@@ -1,0 +1,14 @@
+use Rattle.std.proofs.Common.{◌≡◌, ◌+◌, drop, length}
+use Rattle.esc_apply.specs.Registry.{State, restored, saturated, IsEntriesOf}
+use Rattle.esc_apply.proofs.Runs.{Returns}
+use Rattle.esc_apply.proofs.back.undo_step.Given as goal
+
+abbrev pub invariant-loop-entry : goal.invariant-loop-entry
+invariant-loop-entry g l =
+    let registry = g.R.Registry in
+    let left = drop l.entry-index l.entry-items in
+    record {
+      follows : registry.follows l.fn.r l.r;
+      counted : saturated (registry.count l.r + length left) ≡ saturated (registry.count l.fn.r + length l.entry-items);
+      returns : registry.is_honest l.r → (s : State) → registry.holds l.fn.r s → IsEntriesOf (s.undo l.pos) l.entry-items × Returns (registry.holds l.r) (restored s l.pos) left;
+    }

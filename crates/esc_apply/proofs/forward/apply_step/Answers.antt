@@ -1,0 +1,42 @@
+use Rattle.std.proofs.Common.{◌≡◌, ◌+◌, ◌++◌, map, length, ap, sym, subst, ◌∙◌, arith}
+use Rattle.std.proofs.lemmas.Map.Keys.{IsDistinct-from_sorted}
+use Rattle.esc_tables.specs.KeyName.{key_cmp}
+use Rattle.esc_tables.specs.DepositValue.{DepositValue}
+use Rattle.esc_apply.specs.Tables.{mention_count}
+use Rattle.esc_apply.specs.Registry.{saturated}
+use Rattle.esc_apply.specs.Changes.{with_object, without, changed_by}
+use Rattle.esc_apply.proofs.Mentions.{changes_made, changes_counted}
+use Rattle.esc_apply.proofs.Runs.{AreChangesOf, new_all, new_first, new_then, changed_by-append, changed_by-all}
+use Rattle.esc_apply.proofs.forward.apply_step.Given as given
+use Rattle.esc_apply.proofs.forward.apply_step.Goals as goal
+
+abbrev Made : (g : given.Over) (c : goal.After-drop-deletes-2 g) → Type 0
+Made g c = AreChangesOf c.args.d.now (map with_object c.d.inside.contents.entries ++ map without c.in_ok-deletes.deletes.keys)
+
+made : (g : given.Over) (c : goal.After-drop-deletes-2 g) → Made g c
+made g c = changes_made c.args.d.now c.d.inside.contents.entries c.deletes_of.result.now c.in_ok-deletes.deletes.keys
+    (ap (λ (d : DepositValue). d.contents) c.d.view_is) c.deletes_of.ensures
+    (IsDistinct-from_sorted key_cmp _ c.len.ensures.ordered)
+    (IsDistinct-from_sorted key_cmp _ c.in_ok-deletes.ensures.ordered)
+    c.in_ok-deletes.ensures.each
+
+pub returns-clause-number : goal.returns-clause-number
+returns-clause-number g c =
+    let all = changes_counted c.args.d.now c.d.inside.contents.entries c.in_ok-deletes.deletes.keys (made g c) in
+    omega (arith, all, c.len.ensures.len, c.len-2.ensures.len)
+
+pub returns-clause-counted : goal.returns-clause-counted
+returns-clause-counted g c =
+    let all = changes_counted c.args.d.now c.d.inside.contents.entries c.in_ok-deletes.deletes.keys (made g c) in
+    omega (arith, all, c.in_ok-put_contents.ensures.counted, c.in_ok-remove_deletes.ensures.counted)
+
+pub returns-clause-stepped : goal.returns-clause-stepped
+returns-clause-stepped g c = λ honest s held none.
+    let d = c.args.d.now in
+    let contents = map with_object c.d.inside.contents.entries in
+    let deletes = map without c.in_ok-deletes.deletes.keys in
+    let are = made g c in
+    let all = new_all s c.args.pos d (contents ++ deletes) are none in
+    let put = c.in_ok-put_contents.ensures.put (g.met.R.Registry.was_honest _ _ c.in_ok-remove_deletes.ensures.follows honest) s held (new_first s c.args.pos contents deletes all) in
+    let removed = c.in_ok-remove_deletes.ensures.removed honest (changed_by s c.args.pos contents) put (new_then s c.args.pos contents deletes all) in
+    subst (g.R.Registry.holds c.remove_deletes.new.r) (sym (changed_by-append s c.args.pos contents deletes) ∙ changed_by-all s c.args.pos d (contents ++ deletes) are none) removed

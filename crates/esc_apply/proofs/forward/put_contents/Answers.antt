@@ -1,0 +1,27 @@
+use Rattle.std.proofs.Common.{◌≡◌, ◌+◌, List, map, length, ap, arith}
+use Rattle.esc_tables.specs.KeyName.{KeyName}
+use Rattle.esc_tables.specs.ObjectValue.{ObjectValue}
+use Rattle.esc_apply.specs.Changes.{with_object}
+use Rattle.esc_apply.proofs.Counts.{one_counted}
+use Rattle.esc_apply.proofs.Runs.{leads_more}
+use Rattle.esc_apply.proofs.forward.put_contents.Goals as goal
+
+pub loop-key-preserved : goal.loop-key-preserved
+loop-key-preserved g c =
+    let registry = g.R.Registry in
+    let before = c.loop-key.invariant in
+    let made = c.in_ok-change.ensures in
+    let one = ap length c.in-Some.ensures.steps in
+    let more : length c.loop-key.key-iterator ≡ length c.next.new.self + 1 = omega (arith, one) in
+    record {
+      follows = g.met.R.Registry.goes_on _ _ _ before.follows made.follows;
+      counted = one_counted (registry.count c.loop-key.r) _ _ _ _ more before.counted made.counted;
+      leads = λ honest s held new.
+          leads_more _ (registry.holds c.change.new.r) _ c.args.pos (with_object (c.in-Some.key.now, c.in-Some.object.now)) _ _
+          (ap (λ (l : List (KeyName × ObjectValue)). map with_object l) c.in-Some.ensures.steps)
+          (before.leads (g.met.R.Registry.was_honest _ _ made.follows honest) s held new)
+          (λ t. made.changed honest t);
+    }
+
+pub returns-in_err-change-clause-follows : goal.returns-in_err-change-clause-follows
+returns-in_err-change-clause-follows g c = g.met.R.Registry.goes_on _ _ _ c.loop-key.invariant.follows c.change.ensures.follows

@@ -1,0 +1,61 @@
+-- What a text is refused for, read from the front.
+use Rattle.std.specs.Prelude.{◌≡◌, ◌≢◌, ◌⊎◌, ◌<◌, ◌≤◌, ◌+◌, ℕ, List, [], ◌∷◌, ◌++◌, length, take, drop, ◌==◌, ◌&&◌, ◌||◌, not, nat_lt, nat_le, slice_index, nat_eq, if◌then◌else◌, Option, Some, None, option_map, Result, Ok, Err}
+use Rattle.std.specs.List.{list_any, starts_with}
+use Rattle.std.specs.Str.{bytes_eq}
+use Rattle.std.specs.Str.Parse.{digits_value}
+use Rattle.esc_bundle.specs.Bundle.{Named, limit, first_line, last_line, envelope_name, is_name, is_length, AreSections, beginning_text}
+use Rattle.esc_bundle.specs.Steps.{◌>>=◌, check, or_fault}
+
+-- what stands before and after the first c, if there is one
+abbrev pub parted : ℕ → List ℕ → Option (List ℕ × List ℕ)
+parted c [] = None
+parted c (b ∷ bs) = if b == c then Some ([], bs) else option_map (λ p. (b ∷ p.0, p.1)) (parted c bs)
+
+-- a section of this name and length may stand behind these: the name has its form and is new,
+-- there is room for it and its bytes, and the first section is the envelope
+unfoldable pub stands_at : List Named → List ℕ → ℕ → Result (Unit {0}) ℕ
+stands_at before name size = do
+  named ← check (is_name name) 2
+  new ← check (not (list_any (λ s. bytes_eq s.name name) before)) 3
+  room ← check (nat_lt (length before) 64 && nat_le size limit) 4
+  check (not (length before == 0) || bytes_eq name envelope_name) 1
+
+-- the length that a section's line tells, behind these sections
+unfoldable pub length_at : List Named → List ℕ → List ℕ → Result ℕ ℕ
+length_at before name size = do
+  form ← check (is_length size) 1
+  stands ← stands_at before name (digits_value 10 size)
+  Ok (digits_value 10 size)
+
+-- the section at the front of the rest, and what follows it
+unfoldable pub section_at : List Named → List ℕ → Result (Named × List ℕ) ℕ
+section_at before rest = do
+  line ← or_fault 1 (parted 10 rest)
+  words ← or_fault 1 (parted 32 line.0)
+  size ← length_at before words.0 words.1
+  ends ← check (nat_lt size (length line.1) && (slice_index line.1 size == 10)) 1
+  Ok (record { name = words.0; bytes = take size line.1 }, drop (size + 1) line.1)
+
+-- the last line stands here: nothing may follow it, and it follows a section
+unfoldable pub end_at : List Named → List ℕ → Result (Option (Named × List ℕ)) ℕ
+end_at before rest = do
+  last ← check ((length rest == 4) && nat_lt 0 (length before)) 1
+  Ok None
+
+-- what stands behind these sections: no more of them, or a section and what follows it
+unfoldable pub next_at : List Named → List ℕ → Result (Option (Named × List ℕ)) ℕ
+next_at before rest = if starts_with nat_eq rest last_line then end_at before rest else (section_at before rest >>= λ next. Ok (Some next))
+
+-- the text begins with the first line and these sections, and there a fault stands
+pub record FaultBehind (body : List ℕ) (n : ℕ) : Type 0 where
+  pub before : List Named
+  pub rest : List ℕ
+  pub text : body ≡ beginning_text before ++ rest
+  pub sections : AreSections before
+  pub fault : next_at before rest ≡ Err n
+
+-- a text is refused with n: by its length, by its first line, or by what follows the sections that it begins with
+abbrev pub IsFault : List ℕ → ℕ → Type 0
+IsFault body n = ((limit < length body) × (n ≡ 4))
+    ⊎ ((length body ≤ limit) × ((rest : List ℕ) → body ≢ first_line ++ rest) × (n ≡ 1))
+    ⊎ ((length body ≤ limit) × FaultBehind body n)

@@ -1,0 +1,43 @@
+//! What holds of all texts and all lists of sections, by the definitions alone.
+//!
+//! The functions here do nothing. Each has a law as its contract: a caller who needs the law calls it.
+
+ghost use Rattle.std.specs.Prelude.{◌≡◌, ◌≤◌, ◌⊎◌, ◌↔◌, ◌++◌, List, [], ℕ, Ok, Err};
+ghost use Rattle.esc_bundle.specs.Bundle.{Named, IsBundle};
+ghost use Rattle.esc_bundle.specs.Reading.{IsFault};
+ghost use Rattle.esc_bundle.specs.Frame.{frame};
+ghost use Rattle.esc_bundle.specs.Writing.{bundle_of};
+
+/// No bundle begins another.
+pub fn no_bundle_begins_another()
+    ensures { (body more : List ℕ) (ss ts : List Named) →
+        IsBundle body ss → IsBundle (body ++ more) ts → more ≡ [] }
+{}
+
+/// A text is a bundle of one list of sections, or it has one fault, from U1 to U4: one of the two,
+/// and never both.
+pub fn each_text_has_one_reading()
+    ensures either { (body : List ℕ) →
+        ((ss : List Named) × IsBundle body ss) ⊎ ((n : ℕ) × IsFault body n) }
+    ensures never_both { (body : List ℕ) (ss : List Named) (n : ℕ) →
+        IsBundle body ss → IsFault body n → ⊥ }
+    ensures one_list { (body : List ℕ) (ss ts : List Named) →
+        IsBundle body ss → IsBundle body ts → ss ≡ ts }
+    ensures one_fault { (body : List ℕ) (m n : ℕ) → IsFault body m → IsFault body n → m ≡ n }
+    ensures numbers { (body : List ℕ) (n : ℕ) → IsFault body n → (1 ≤ n) × (n ≤ 4) }
+{}
+
+/// The function `frame` of a text's bytes gives what the relations say.
+pub fn frame_is_exact()
+    ensures bundle { (body : List ℕ) (ss : List Named) → (frame body ≡ Ok ss) ↔ IsBundle body ss }
+    ensures fault { (body : List ℕ) (n : ℕ) → (frame body ≡ Err n) ↔ IsFault body n }
+{}
+
+/// The function `bundle_of` of a list of sections gives its bundle, or a fault where no bundle has
+/// these sections.
+pub fn bundle_of_is_exact()
+    ensures bundle { (ss : List Named) (body : List ℕ) →
+        (bundle_of ss ≡ Ok body) ↔ IsBundle body ss }
+    ensures fault { (ss : List Named) (n : ℕ) →
+        bundle_of ss ≡ Err n → (body : List ℕ) → IsBundle body ss → ⊥ }
+{}

@@ -1,0 +1,96 @@
+//! From sections to bytes.
+
+ghost use Rattle.std.specs.Prelude.{◌≡◌, ◌++◌, [], ℕ, List, Ok, Err, OnOk, IfOk, IfErr, MatchResult, IsErrAnd, ◌⊎◌, map};
+ghost use Rattle.esc_bundle.specs.Bundle.{view, views, section_text, bundle_text, IsBundle};
+ghost use Rattle.esc_bundle.specs.Steps.{GivesOrNoMemory};
+ghost use Rattle.esc_bundle.specs.Writing.{named, in_order, within_limit, bundle_of};
+
+use crate::fault::{Fault, NoMemory};
+use crate::reading::{BROKEN_FRAME, FIRST_LINE, LAST_LINE, LIMIT, OVER_LIMIT, check_stand};
+use crate::section::Section;
+use std::alloc::Global;
+
+// The sections of a list, if each may stand behind those before it.
+fn in_order(alloc: Global, list: &[(String, Vec<u8>)]) -> Result<Vec<Section<'_>>, Fault>
+    ensures { GivesOrNoMemory (λ v. views v.items) result (in_order [] (map named list.now)) }
+{
+    let mut before: Vec<Section<'_>> = Vec::new(alloc);
+    for part in list {
+        let section = Section {
+            name: part.0.as_str(),
+            bytes: part.1.as_slice(),
+        };
+        check_stand(
+            before.as_slice(),
+            section.name.as_bytes(),
+            section.bytes.len(),
+        )?;
+        before.push(section)?;
+    }
+    Ok(before)
+}
+
+fn push_section(alloc: Global, text: &mut Vec<u8>, section: &Section<'_>) -> Result<(), NoMemory>
+    ensures { OnOk result (text.new.items ≡ text.old.items ++ section_text (view section.now)) }
+{
+    let len = section.bytes.len();
+    let size = format!(in alloc; "{len}")?;
+    text.extend_from_slice(section.name.as_bytes())?;
+    text.push(b' ')?;
+    text.extend_from_slice(size.as_bytes())?;
+    text.push(b'\n')?;
+    text.extend_from_slice(section.bytes)?;
+    text.push(b'\n')?;
+    Ok(())
+}
+
+// The text of a bundle with these sections. It is given up as soon as it is too long.
+fn join(alloc: Global, sections: &[Section<'_>]) -> Result<Vec<u8>, Fault>
+    ensures { GivesOrNoMemory (λ v. v.items) result
+        (within_limit (bundle_text (views sections.now))) }
+{
+    let mut text = Vec::from_slice(alloc, FIRST_LINE)?;
+    for section in sections {
+        push_section(alloc, &mut text, section)?;
+        if text.len() > LIMIT {
+            return Err(OVER_LIMIT);
+        }
+    }
+    text.extend_from_slice(LAST_LINE)?;
+    if text.len() > LIMIT {
+        return Err(OVER_LIMIT);
+    }
+    Ok(text)
+}
+
+/// The bundle of these names and bytes, in their order: the one text that `sections` reads as them.
+///
+/// # Errors
+///
+/// Exactly where no bundle has these sections:
+///
+/// - `Refused(1)`: there is none, or the first is not `envelope.json`;
+/// - `Refused(2)`: a name is not 1 to 32 of `a-z 0-9 . _ -`;
+/// - `Refused(3)`: a name stood before;
+/// - `Refused(4)`: a section or the whole has more than 16,777,216 bytes, or there is a 65th section.
+///
+/// The faults of the first section that has one count before those of later sections, and its own in
+/// the order 2, 3, 4, 1; the length of the whole comes last. `NoMemory`, for any list, if there was
+/// none for the text.
+pub fn write_bundle(alloc: Global, list: &[(String, Vec<u8>)]) -> Result<Vec<u8>, Fault>
+    ensures written { IfOk result (λ v. IsBundle v.items (map named list.now)) }
+    ensures refused { IfErr result (λ e. (n : ℕ) → e ≡ Fault.Refused n →
+        (body : List ℕ) → IsBundle body (map named list.now) → ⊥) }
+    ensures bundle_written { (body : List ℕ) → IsBundle body (map named list.now) →
+        MatchResult result (λ v. v.items ≡ body) (λ e. e ≡ Fault.NoMemory) }
+    ensures fault_told { (n : ℕ) → bundle_of (map named list.now) ≡ Err n →
+        IsErrAnd result (λ e. (e ≡ Fault.Refused n) ⊎ (e ≡ Fault.NoMemory)) }
+    ensures made { IfOk result (λ v. bundle_of (map named list.now) ≡ Ok v.items) }
+    ensures unmade { IfErr result (λ e. (n : ℕ) → e ≡ Fault.Refused n → bundle_of (map named list.now) ≡ Err n) }
+{
+    if list.is_empty() {
+        return Err(BROKEN_FRAME);
+    }
+    let sections = in_order(alloc, list)?;
+    join(alloc, sections.as_slice())
+}

@@ -1,0 +1,47 @@
+-- From a row there is one way back, and there is one latest chain.
+use Rattle.std.proofs.Common.{◌≡◌, ◌↔◌, ℕ, Bool, true, false, IsTrue, List, [], ◌∷◌, reverse, refl, sym, ap, subst, ◌∙◌}
+use Rattle.std.specs.FinSet as set
+use Rattle.std.specs.Cmp.{nat_cmp_total}
+use Rattle.std.proofs.lemmas.List.{reverse-reverse}
+use Rattle.esc_manifest.specs.declared.row.MRow.{MRow}
+use Rattle.esc_manifest.specs.Rows.{place_at}
+use Rattle.esc_manifest.specs.Accepted.{IsAccepted}
+use Rattle.esc_chain.specs.Chain.{Rows, IsHeld, InRange, LeadsBack, IsLatestBack, IsLatestChain}
+use Rattle.esc_chain.proofs.Chains.{used_same, base_same, base_not_full}
+use Rattle.esc_chain.proofs.Places.{up_to_both}
+
+-- from a row there is one way back
+leads_same : (m : List MRow) (h : Rows) → IsAccepted m → InRange m h → (r : ℕ) (c d : List ℕ) → LeadsBack m h r c → LeadsBack m h r d → c ≡ d
+leads_same m h ok range r [] [] a b = refl
+leads_same m h ok range r [] (t ∷ d) a b = absurd (base_not_full m r (place_at m t) b.0 a)
+leads_same m h ok range r (s ∷ c) [] a b = absurd (base_not_full m r (place_at m s) a.0 b)
+leads_same m h ok range r (s ∷ c) (t ∷ d) a b =
+    let e = used_same m h ok range s t a.1 b.1 (base_same m ok r _ _ a.0 b.0) in
+    let rest = leads_same m h ok range t c d (subst (λ (q : ℕ). LeadsBack m h q c) e a.2) b.2 in
+    λ i. e i ∷ rest i
+
+-- there is one latest chain
+pub latest_same : (m : List MRow) (h : Rows) → IsAccepted m → InRange m h → (c d : List ℕ) → IsLatestBack m h c → IsLatestBack m h d → c ≡ d
+latest_same m h ok range [] [] a b = refl
+latest_same m h ok range [] (q ∷ d) a b = absurd (a (q ∷ d) b.0)
+latest_same m h ok range (r ∷ c) [] a b = absurd (b (r ∷ c) a.0)
+latest_same m h ok range (r ∷ c) (q ∷ d) a b =
+    let e = used_same m h ok range r q a.0.0 b.0.0 (up_to_both _ _ (b.1 r c a.0) (a.1 q d b.0)) in
+    let rest = leads_same m h ok range q c d (subst (λ (x : ℕ). LeadsBack m h x c) e a.0.1) b.0.1 in
+    λ i. e i ∷ rest i
+
+-- sets of the same rows are one
+same_rows : (h g : Rows) → ((r : ℕ) → IsHeld h r ↔ IsHeld g r) → h ≡ g
+same_rows h g same = set.same_set nat_cmp_total set.nat_cmp-IsAntisymmetric h g (λ r. same_test _ _ (same r))
+  where
+    same_test : (a b : Bool) → IsTrue a ↔ IsTrue b → a ≡ b
+    same_test true true e = refl
+    same_test true false e = sym (e.0 refl)
+    same_test false true e = e.1 refl
+    same_test false false e = refl
+
+-- there is one latest chain, by the rows that are held
+pub latest_is_one : (m : List MRow) (h g : Rows) (c d : List ℕ) → IsAccepted m → InRange m h → ((r : ℕ) → IsHeld h r ↔ IsHeld g r) → IsLatestChain m h c → IsLatestChain m g d → c ≡ d
+latest_is_one m h g c d ok range same a b =
+    let back = latest_same m h ok range (reverse c) (reverse d) a (subst (λ (x : Rows). IsLatestChain m x d) (sym (same_rows h g same)) b) in
+    sym (reverse-reverse c) ∙ ap reverse back ∙ reverse-reverse d

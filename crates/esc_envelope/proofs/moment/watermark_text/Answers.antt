@@ -1,0 +1,25 @@
+use Rattle.std.proofs.Common.{◌≡◌, ◌∙◌, sym, ap, List, ℕ, arith, pos, ℤ, FitsSigned, w64, ◌<ℤ◌, ◌≤ℤ◌}
+use Rattle.std.proofs.lemmas.Int.{to_z-of_z, ints}
+use Rattle.jiff_core.proofs.SignedLemmas.{signed_arith}
+use Rattle.esc_envelope.specs.Watermark.{IsInYears}
+use Rattle.esc_envelope.proofs.MomentReads.{some_of}
+use Rattle.esc_envelope.proofs.Shown.{shown, not_shown}
+use Rattle.esc_envelope.proofs.moment.watermark_text.Goals as goal
+use Rattle.esc_envelope.proofs.moment.watermark_text.Goals.{then-watermark-lt0-via-then-watermark-lt0, then-watermark-lt0-via-else-watermark-lt0+then-watermark-ge-END}
+
+pub returns-then-watermark-lt0 : goal.returns-then-watermark-lt0
+returns-then-watermark-lt0 c =
+    let fits : FitsSigned w64 c.args.watermark = c.ranges.watermark in
+    not_shown c.args.watermark (λ years. elim c.then-watermark-lt0.branch [
+      | then-watermark-lt0-via-then-watermark-lt0 w ↦ let low = simp to_z-of_z at w.if-watermark-lt0.true in omega (arith, ints, low)
+      | then-watermark-lt0-via-else-watermark-lt0+then-watermark-ge-END w ↦ let high = simp to_z-of_z at w.if-watermark-ge-END.true in omega (arith, ints, high)
+    ])
+
+pub returns : goal.returns
+returns c =
+    let fits : FitsSigned w64 c.args.watermark = c.ranges.watermark in
+    let low = simp to_z-of_z at c.if-watermark-lt0.false in
+    let high = simp to_z-of_z at c.if-watermark-ge-END.false in
+    let value = simp to_z-of_z at c.civil_at-civil.ensures in
+    let years : IsInYears c.args.watermark = (omega (arith, ints, low), omega (arith, ints, high)) in
+    ap (λ (l : List ℕ). some_of l) c.in_ok-text.ensures.ok ∙ sym (shown c.civil_at-civil.result c.args.watermark value years)

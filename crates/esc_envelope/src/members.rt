@@ -1,0 +1,98 @@
+//! The members of an envelope outside its tables: each function answers what one function on JSON data gives.
+
+ghost use Rattle.std.specs.Prelude.{◌≡◌, IfOk, IfSome, option_map, string_bytes};
+ghost use Rattle.serde_json.specs.View.{view};
+ghost use Rattle.esc_envelope.specs.Members.{text_at, id_of, type_of, moment_of, prev_of, prev_from, id_if_any, resend_of, resend_from, whole_number, header_of};
+
+use crate::header::Header;
+use crate::id::is_id;
+use crate::moment::watermark;
+use crate::place::{DepositType, Place};
+use esc_bundle::NoMemory;
+use serde_json::Value;
+use std::alloc::Global;
+
+/// The text of a member that has to stand.
+pub(crate) fn text_at<'a>(object: &'a Value, name: &str) -> Option<&'a str>
+    ensures { option_map (λ t. t.now) result ≡ text_at name.now (view object.now) }
+{
+    object.get(name)?.as_str()
+}
+
+fn id_in(envelope: &Value) -> Option<&str>
+    ensures { option_map (λ t. t.now) result ≡ id_of (view envelope.now) }
+{
+    let text = text_at(envelope, "id")?;
+    if is_id(text) { Some(text) } else { None }
+}
+
+fn type_in(envelope: &Value) -> Option<DepositType>
+    ensures { result ≡ type_of (view envelope.now) }
+{
+    DepositType::from_name(text_at(envelope, "type")?)
+}
+
+fn moment_in(envelope: &Value) -> Option<i64>
+    ensures { result ≡ moment_of (view envelope.now) }
+{
+    watermark(text_at(envelope, "watermark")?)
+}
+
+fn id_if_any(text: &str) -> Option<Option<&str>>
+    ensures { option_map (λ o. option_map (λ t. t.now) o) result ≡ id_if_any text.now }
+{
+    if text.is_empty() {
+        return Some(None);
+    }
+    if is_id(text) { Some(Some(text)) } else { None }
+}
+
+fn prev_from(value: &Value) -> Option<Option<&str>>
+    ensures { option_map (λ o. option_map (λ t. t.now) o) result ≡ prev_from (Some (view value.now)) }
+{
+    if value.is_null() {
+        return Some(None);
+    }
+    id_if_any(value.as_str()?)
+}
+
+fn prev_in(envelope: &Value) -> Option<Option<&str>>
+    ensures { option_map (λ o. option_map (λ t. t.now) o) result ≡ prev_of (view envelope.now) }
+{
+    match envelope.get("prevId") {
+        None => Some(None),
+        Some(value) => prev_from(value),
+    }
+}
+
+fn resend_from(value: &Value) -> Option<u32>
+    ensures { result ≡ resend_from (Some (view value.now)) }
+{
+    if value.is_null() {
+        return Some(0);
+    }
+    let times = value.as_u64()?;
+    if times <= 999_999 {
+        Some(times as u32)
+    } else {
+        None
+    }
+}
+
+fn resend_in(envelope: &Value) -> Option<u32>
+    ensures { result ≡ resend_of (view envelope.now) }
+{
+    match envelope.get("resend") {
+        None => Some(0),
+        Some(value) => resend_from(value),
+    }
+}
+
+/// What a header says, with texts that lie in the envelope.
+#[derive(Clone, Copy)]
+struct Told<'a> {
+    id: &'a str,
+    place: Place,
+    prev: Option<&'a str>,
+    resend: u32,
+}

@@ -1,0 +1,15 @@
+use Rattle.std.proofs.Common.{◌≡◌, map, length}
+use Rattle.std.specs.List.{list_all, fold}
+use Rattle.esc_bundle.specs.Bundle.{views}
+use Rattle.esc_tables.specs.TableRow.{in_table, table_rows, is_whole}
+use Rattle.esc_tables.specs.Survey.{noted}
+use Rattle.esc_tables.proofs.survey.survey_table.Given as goal
+
+abbrev pub invariant-loop-row : goal.invariant-loop-row
+invariant-loop-row l = record {
+  seen : fold noted l.survey (map (in_table l.table) l.rows) ≡ fold noted l.fn.survey (table_rows (views l.files) l.table);
+  whole : list_all is_whole (map (in_table l.table) l.rows) ≡ list_all is_whole (table_rows (views l.files) l.table);
+}
+
+abbrev pub decreases-loop-row : goal.decreases-loop-row
+decreases-loop-row l = length l.rows

@@ -1,0 +1,12 @@
+use Rattle.std.proofs.Common.{◌≡◌, take, true}
+use Rattle.std.specs.List.{list_all, fold}
+use Rattle.esc_bundle.specs.Bundle.{views}
+use Rattle.esc_tables.specs.TableRow.{rows_in, is_whole}
+use Rattle.esc_tables.specs.Survey.{noted}
+use Rattle.esc_tables.proofs.survey.survey_tables.Given as goal
+
+abbrev pub invariant-loop-table : goal.invariant-loop-table
+invariant-loop-table l = record {
+  seen : l.survey ≡ fold noted l.fn.survey (rows_in (views l.files) (take l.table-index l.tables));
+  whole : list_all is_whole (rows_in (views l.files) (take l.table-index l.tables)) ≡ true;
+}
