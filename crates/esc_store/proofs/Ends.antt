@@ -1,6 +1,7 @@
 -- The beginning and the ends of a change.
 use Rattle.std.proofs.Common.{◌≡◌, ◌⊎◌, inl, inr, Bool, true, false, List, refl, sym, ap, subst, ◌∙◌, arith}
 use Rattle.std.specs.Prelude.{IsTrue, Result, Ok, Err, IfOk, OnOk, OnErr, IsErr}
+use Rattle.std.proofs.lemmas.Bool.{cases_Bool}
 use Rattle.sqlite_trees.specs.Tree.{Trees}
 use Rattle.sqlite.specs.Effect.{Database}
 use Rattle.sqlite.specs.State.{State, HasCleanDisk, Survives, KeepsCommit, Shows}
@@ -25,6 +26,9 @@ err_goes (Err e) P Q h f = f h
 
 pub at_ok : {X E : Type 0} (r : Result X E) (x : X) (P : Type 0) → r ≡ Ok x → OnOk r P → P
 at_ok r x P is h = rw is at h
+
+pub at_said : {X E : Type 0} (r : Result X E) (x : X) (P : X → Type 0) → r ≡ Ok x → IfOk r P → P x
+at_said r x P is h = rw is at h
 
 pub at_err : {X E : Type 0} (r : Result X E) (P : Type 0) → IsErr r → OnErr r P → P
 at_err (Ok x) P bad h = let no : ⊥ = cc in absurd no
@@ -58,15 +62,15 @@ module _ (old new : State) (m : List MRow) (k : Kept) (survives : Survives old n
   pub began : IsBegun new m k
   began = record {
     listed = stands.listed;
-    committed = λ clean up. subst (λ db. IsStoreDatabase db k) (sym (shown clean).committed_is) (rested clean).kept;
-    now_is = λ clean up. inl ((shown clean).mode, subst HoldsTables (sym ((shown clean).now_is ∙ (rested clean).same)) (tables_of old.committed k (rested clean).kept));
+    on = λ clean mode. ((shown clean).is_open, subst (λ db. IsStoreDatabase db k) (sym (shown clean).committed_is) (rested clean).kept, subst HoldsTables (sym ((shown clean).now_is ∙ (rested clean).same)) (tables_of old.committed k (rested clean).kept));
+    off = λ clean mode. let no : true ≡ false = sym (shown clean).mode ∙ mode in let none : ⊥ = cc in absurd none;
   }
 
   pub made : IsMade new m k k
   made = record {
     begun = began;
     listed = stands.listed;
-    books = λ clean up on. subst (λ (db : Database). IsBooks (content_in db.trees) k) (sym ((shown clean).now_is ∙ (rested clean).same)) (rested clean).kept.kept.books;
+    books = λ clean on. subst (λ (db : Database). IsBooks (content_in db.trees) k) (sym ((shown clean).now_is ∙ (rested clean).same)) (rested clean).kept.kept.books;
   }
 
   pub under_way : HasCleanDisk new → IsUnderWay new k.registry
@@ -97,7 +101,7 @@ keeps_then a b c p q = record { was_open = λ up. p.was_open (q.was_open up); co
 module _ (old new : State) (m : List MRow) (before k : Kept) (s : Tables) (made : IsMade old m before (with_registry k s)) (goes : HasCleanDisk old → IsUnderWay old k.registry) where
   -- what a change holds is a store
   pub whole : HasCleanDisk old → IsStoreDatabase old.now k
-  whole clean = both old.now k s (goes clean).tables_are (made.books clean (goes clean).is_open (goes clean).in_transaction) (goes clean).registry
+  whole clean = both old.now k s (goes clean).tables_are (made.books clean (goes clean).in_transaction) (goes clean).registry
 
   pub whole_trees : HasCleanDisk old → IsStore old.now.trees k
   unfolding IsStore
@@ -122,3 +126,10 @@ module _ (old new : State) (m : List MRow) (before k : Kept) (s : Tables) (made 
   left C survives shown only clean trees may =
       let sh = shown clean in
       subst (λ t. IsStore t k) (sym (only sh.is_open trees may ∙ ap (λ (db : Database). db.trees) sh.committed_is)) (whole_trees (was_clean old new C survives clean))
+
+-- what is committed while a change is on
+pub begun_committed : (s : State) (m : List MRow) (k : Kept) → IsBegun s m k → HasCleanDisk s → IsTrue s.is_open → IsStoreDatabase s.committed k
+begun_committed s m k begun clean up = elim (cases_Bool s.in_transaction) [
+  | inl on ↦ (begun.on clean on).1
+  | inr off ↦ (begun.off clean off up).0
+]

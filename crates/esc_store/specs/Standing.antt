@@ -1,12 +1,13 @@
 -- What a store stands for, and a change of it while it is on.
-use Rattle.std.specs.Prelude.{◌≡◌, ◌⊎◌, Bool, true, false, IsTrue, List, Result, OnOk, OnErr}
+use Rattle.std.specs.Prelude.{◌≡◌, Bool, true, false, IsTrue, List, Result, IfOk, OnOk, OnErr}
 use Rattle.sqlite_trees.specs.declared.store.Store.{Ghosts}
 use Rattle.sqlite_trees.specs.Tree.{Trees}
 use Rattle.sqlite.specs.Effect.{Database}
 use Rattle.sqlite.specs.Held.{Held, state}
-use Rattle.sqlite.specs.State.{State, HasCleanDisk, Survives, KeepsCommit}
+use Rattle.sqlite.specs.State.{State, HasCleanDisk, Survives, KeepsCommit, IsUnchanged}
 use Rattle.esc_manifest.specs.declared.row.MRow.{MRow}
 use Rattle.esc_apply.specs.Registry.{State as Tables}
+use Rattle.esc_rows.specs.Schema.{store_schema}
 use Rattle.esc_rows.specs.Content.{content_in}
 use Rattle.esc_store.specs.declared.store.Store.{Store}
 use Rattle.esc_store.specs.declared.change.Change.{Change}
@@ -58,11 +59,11 @@ LeavesNoMore g old new = Survives (state g old) (state g new) (λ trees. ⊥)
 
 -- ---- a change
 
--- nothing is committed yet: either the transaction is on, and has the store's tables, or it is given up
+-- nothing is committed yet: either the transaction is on, and has the store's tables, or it was given up
 pub record IsBegun (s : State) (manifest : List MRow) (k : Kept) : Type 0 where
   pub listed : manifest ≡ k.listed
-  pub committed : HasCleanDisk s → IsTrue s.is_open → IsStoreDatabase s.committed k
-  pub now_is : HasCleanDisk s → IsTrue s.is_open → ((s.in_transaction ≡ true) × HoldsTables s.now) ⊎ ((s.in_transaction ≡ false) × (s.now ≡ s.committed))
+  pub on : HasCleanDisk s → s.in_transaction ≡ true → IsTrue s.is_open × IsStoreDatabase s.committed k × HoldsTables s.now
+  pub off : HasCleanDisk s → s.in_transaction ≡ false → IsTrue s.is_open → IsStoreDatabase s.committed k × (s.now ≡ s.committed)
 
 -- a change was begun on this store, which stood for k, and nothing is committed of it yet
 unfoldable pub BeganIn : {S : Type 0} → Ghosts S → Store S → Kept → Type 0
@@ -71,7 +72,7 @@ BeganIn g store k = IsBegun (state g store.conn) store.manifest k
 pub record IsMade (s : State) (manifest : List MRow) (before k : Kept) : Type 0 where
   pub begun : IsBegun s manifest before
   pub listed : manifest ≡ k.listed
-  pub books : HasCleanDisk s → IsTrue s.is_open → s.in_transaction ≡ true → IsBooks (content_in s.now.trees) k
+  pub books : HasCleanDisk s → s.in_transaction ≡ true → IsBooks (content_in s.now.trees) k
 
 -- a change that was begun on a store of `before` has made this of its rows, receipts, bodies and chain
 unfoldable pub RestIn : {S : Type 0} → Ghosts S → Store S → Kept → Kept → Type 0
@@ -137,4 +138,12 @@ pub record IsStep {X E : Type 0} (old new : State) (Made : Database → Database
   pub survives : Survives old new (λ trees. ⊥)
   pub kept : HasCleanDisk new → KeepsCommit old new
   pub made : HasCleanDisk new → OnOk result ((old.in_transaction ≡ true) × Made old.now new.now × (new.in_transaction ≡ true) × IsTrue new.is_open)
+  pub failed : HasCleanDisk new → OnErr result ((new.in_transaction ≡ false) × (IsTrue new.is_open → new.now ≡ new.committed))
+
+-- a read of a database of the store's schema: where it succeeds nothing has changed, and where it fails no transaction is on
+pub record IsLook {X E : Type 0} (old new : State) (Says : Database → X → Type 0) (result : Result X E) : Type 0 where
+  pub survives : Survives old new (λ trees. ⊥)
+  pub autocommit : HasCleanDisk new → old.in_transaction ≡ false → new.in_transaction ≡ false
+  pub kept : HasCleanDisk new → old.now.schema ≡ store_schema → KeepsCommit old new
+  pub said : HasCleanDisk new → old.now.schema ≡ store_schema → IfOk result (λ x. Says old.now x × IsUnchanged old new)
   pub failed : HasCleanDisk new → OnErr result ((new.in_transaction ≡ false) × (IsTrue new.is_open → new.now ≡ new.committed))

@@ -4,7 +4,7 @@ use Rattle.sqlite.specs.Held.{state}
 use Rattle.sqlite.proofs.StateLemmas.{survives_then}
 use Rattle.esc_store.specs.Tables.{IsStore}
 use Rattle.esc_store.specs.Standing.{Stands, BeganIn, RestIn, HoldsIn, LeavesOr, LeavesOnly}
-use Rattle.esc_store.proofs.Ends.{ok_goes, err_goes, at_ok, at_err, committed, crash, left, given_up, keeps_then, was_clean}
+use Rattle.esc_store.proofs.Ends.{ok_goes, err_goes, at_ok, at_err, committed, crash, left, given_up, keeps_then, was_clean, begun_committed}
 use Rattle.esc_store.proofs.store.Store.commit_here.Goals as goal
 
 pub returns-clause-committed : goal.returns-clause-committed
@@ -38,4 +38,4 @@ returns-clause-kept g c = err_goes c.settle.result _ _ c.settle.ensures.err (λ 
     given_up old new _ before Stored
     (survives_then old mid new Stored (λ trees. ⊥) Stored (λ _ db is. is) (λ _ db none. absurd none) c.commit_in-committed.ensures.survives p.1.survives)
     (λ clean. keeps_then old mid new (at_err c.commit_in-committed.result _ p.0 (c.commit_in-committed.ensures.kept (was_clean mid new (λ trees. ⊥) p.1.survives clean))) (p.1.kept clean))
-    p.1.ended p.1.settled (c.settle.ensures.manifest ∙ begun.listed) begun.committed)
+    p.1.ended p.1.settled (c.settle.ensures.manifest ∙ begun.listed) (begun_committed old _ before begun))
