@@ -11,3 +11,7 @@ pub mod Values
 pub mod Finds
 pub mod Statements
 pub mod ObjectLemmas
+pub mod Sorts
+pub mod ObjectLists
+pub mod DecodeLemmas
+pub mod UndoLemmas

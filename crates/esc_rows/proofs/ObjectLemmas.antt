@@ -1,7 +1,6 @@
 -- What the statements on objects do.
-use Rattle.std.proofs.Common.{◌≡◌, ◌≢◌, inl, inr, ℕ, ℤ, pos, ◌+◌, ◌+ℤ◌, ◌≤◌, ◌==◌, ◌&&◌, Bool, true, false, not, cond, List, [], ◌∷◌, map, filter, length, slice_get, Option, Some, None, option_map, Ok, refl, sym, ap, subst, ◌∙◌, arith}
+use Rattle.std.proofs.Common.{◌≡◌, ◌≢◌, inl, inr, ℕ, ℤ, pos, ◌+◌, ◌+ℤ◌, ◌≤◌, ◌==◌, ◌&&◌, Bool, true, false, not, cond, List, [], ◌∷◌, map, filter, length, Option, Some, None, option_map, Ok, refl, sym, ap, subst, ◌∙◌, arith}
 use Rattle.std.specs.Prelude.{fold, find, bytes_eq, unwrap_or}
-use Rattle.std.specs.List.{AllByRecursion}
 use Rattle.std.specs.Option.{option_to_list}
 use Rattle.std.specs.Ordering.{int_eq, is_ne, is_eq}
 use Rattle.std.specs.declared.cmp.Ordering.{Ordering}
@@ -14,11 +13,8 @@ use Rattle.std.proofs.lemmas.Slice.Eq.{bytes_eq-Decides}
 use Rattle.sqlite_value.specs.declared.value.Value.TheVariants.{Null, Int, Blob}
 use Rattle.sqlite_value.proofs.OrderLemmas.{value_cmp-Int}
 use Rattle.sqlite_value.specs.Order.{Row}
-use Rattle.sqlite_schema.specs.Rules.{equal, differ, agree}
-use Rattle.sqlite_sql.specs.declared.ops.BinaryOp.TheVariants.{Compare}
-use Rattle.sqlite_sql.specs.declared.ops.CompareOp.TheVariants.{Ne}
-use Rattle.sqlite.specs.Ops.{binary, is_true, from_truth}
-use Rattle.sqlite.specs.Collation.TheVariants.{Binary}
+use Rattle.sqlite_schema.specs.Rules.{differ, agree}
+use Rattle.sqlite.specs.Ops.{binary}
 use Rattle.sqlite.specs.Tree.{Trees, rowid}
 use Rattle.sqlite.specs.State.{State, Executes, Shown}
 use Rattle.sqlite.specs.Effect.{Database}
@@ -29,14 +25,15 @@ use Rattle.esc_rows.specs.Schema.{store_schema, rising, object_table}
 use Rattle.esc_rows.specs.Texts.{find_object_text, update_object_text, insert_object_text, delete_object_text, clear_objects_text}
 use Rattle.esc_rows.specs.Rows.{ObjectRow, stored_object, object_number}
 use Rattle.esc_rows.specs.Content.{Content, HoldsContent, object_at, is_object_at, is_same_key}
+use Rattle.esc_rows.specs.Steps.{with_bytes, UpdatesObject, CountsObject, next_id, new_object, InsertsObject, shown_bytes, ShowsObject}
 use Rattle.esc_rows.specs.Changes.{PutsObject, RemovesObject, Becomes, without_objects}
 use Rattle.esc_rows.proofs.Compiled.{object_tests, object_sets, object_terms, find_object_is, update_object_is, insert_object_is, delete_object_is, clear_objects_is, program_of}
 use Rattle.esc_rows.proofs.Forms.{uncounted, updated}
-use Rattle.esc_rows.proofs.Frame.{IsWritten, written, objects_then}
+use Rattle.esc_rows.proofs.Frame.{written, objects_then}
 use Rattle.esc_rows.proofs.Typed.{put_typed, next_typed, set_typed}
 use Rattle.esc_rows.proofs.Values.{cast_null, cast_int, rowid_int}
-use Rattle.sqlite.specs.Term.{Term, col}
-use Rattle.esc_rows.proofs.Scan.{scan, no_limit, is_match, IsScanned, scanned, in_order, short_rises, same_number, same_blob, and_true, same_int, true_back}
+use Rattle.sqlite.specs.Term.{col}
+use Rattle.esc_rows.proofs.Scan.{scan, no_limit, is_match, scanned, in_order, short_rises, same_number, same_blob, and_true, true_back}
 use Rattle.esc_rows.proofs.Finds.{apart, at_most_one_apart, alone, find_same, find_never, find_is, find-filter, find-update, find-insert, find-insert_other}
 use Rattle.esc_rows.proofs.Statements.{asks, cuts, inserts}
 use Rattle.sqlite.specs.Command.TheVariants.{Update}
@@ -49,7 +46,7 @@ use Rattle.sqlite.specs.Listing.{understood}
 use Rattle.sqlite.proofs.Callers.{statement_of, runs_as}
 use Rattle.sqlite_rules.specs.Calls.{ids_of}
 use Rattle.sqlite.specs.Query.{Output}
-use Rattle.sqlite_keyed.specs.Keyed.{insert_by, has_key, next_key}
+use Rattle.sqlite_keyed.specs.Keyed.{insert_by, has_key}
 use Rattle.sqlite_keyed.specs.Lists.{update_where, delete_where}
 use Rattle.sqlite_keyed.proofs.KeyedLemmas.{IsKeyedBy-insert_by, IsKeyedBy-update_where, IsKeyedBy-delete_where, next_key_is_free}
 
@@ -65,7 +62,7 @@ ne_is Less = refl
 ne_is Equal = refl
 ne_is Greater = refl
 
-differ_int : (a b : ℤ) → differ (Int a) (Int b) ≡ not (int_eq a b)
+pub differ_int : (a b : ℤ) → differ (Int a) (Int b) ≡ not (int_eq a b)
 unfolding binary
 differ_int a b = true_back _ ∙ ap is_ne (value_cmp-Int a b) ∙ ne_is _
 
@@ -81,7 +78,7 @@ clash_is : (a b : ObjectRow) → (agree rising (1 ∷ 2 ∷ []) (stored_object a
 unfolding first_key
 clash_is a b = rw (same_number a.kind b.kind, same_blob a.key b.key, differ_int (pos a.id) (pos b.id)) (swapped (a.kind == b.kind) (bytes_eq a.key b.key) (not (int_eq (pos a.id) (pos b.id))))
 
-two_true : (b : Bool) → (b && true) ≡ true → b ≡ true
+pub two_true : (b : Bool) → (b && true) ≡ true → b ≡ true
 two_true true h = refl
 two_true false h = absurd cc
 
@@ -92,11 +89,11 @@ objects_apart trees os sound holds up =
 
 -- ---- keys
 
-and_both : (a b : Bool) → (a && b) ≡ true → (a ≡ true) × (b ≡ true)
+pub and_both : (a b : Bool) → (a && b) ≡ true → (a ≡ true) × (b ≡ true)
 and_both true b h = (refl, h)
 and_both false b h = absurd cc
 
-number_is : (a b : ℕ) → (a == b) ≡ true → a ≡ b
+pub number_is : (a b : ℕ) → (a == b) ≡ true → a ≡ b
 number_is a b h = grind (arith, h)
 
 -- the two keys that a test compares are one
@@ -142,11 +139,8 @@ at_key kind key more o = rw (same_number o.kind kind, same_blob o.key key, and_t
 
 -- ---- find
 
-abbrev pub shown_bytes : ObjectRow → Row
-shown_bytes o = Blob o.bytes ∷ []
-
 pub finds_object : (old new : State) (kind : ℕ) (key : List ℕ) (rows : List Row) (c : Content) → HoldsContent old.now c → Shown find_object_text (key_params kind key) old new rows
-    → rows ≡ map shown_bytes (option_to_list (find (is_object_at kind key) c.objects))
+    → ShowsObject kind key c rows
 finds_object old new kind key rows c h shown =
     let p = is_object_at kind key in
     let out : ObjectRow → Output = λ o. ([], shown_bytes o) in
@@ -155,16 +149,6 @@ finds_object old new kind key rows c h shown =
     in_order stored_object p out 9 object_tests (col 1 3 ∷ []) [] no_limit (key_params kind key) c.objects rows (short_rises _ (filter p c.objects) few) s ∙ ap (map shown_bytes) (alone p c.objects few)
 
 -- ---- update
-
-abbrev pub with_bytes : List ℕ → ObjectRow → ObjectRow
-with_bytes bytes o = record o { bytes = bytes }
-
-abbrev pub UpdatesObject : ℕ → List ℕ → List ℕ → Database → Database → Type 0
-UpdatesObject kind key bytes old new = (c : Content) → HoldsContent old c → HoldsContent new (record c { objects = update_where (is_object_at kind key) (with_bytes bytes) c.objects })
-
--- how many rows have the key
-abbrev pub CountsObject : ℕ → List ℕ → ℕ → Database → Type 0
-CountsObject kind key count db = (c : Content) → HoldsContent db c → count ≡ length (filter (is_object_at kind key) c.objects)
 
 -- the old rowid, and the new row
 abbrev shown_new : List ℕ → ObjectRow → Row
@@ -228,21 +212,12 @@ module _ (old new : State) (kind : ℕ) (key bytes : List ℕ) (count : ℕ) (ra
 
 -- ---- insert
 
-abbrev next_id : List ObjectRow → ℕ
-next_id = fold (λ (_ : ℕ) (o : ObjectRow). o.id + 1) 1
-
 next_is : (n : ℕ) (os : List ObjectRow) → fold (λ (_ : ℤ) (o : ObjectRow). object_number o +ℤ pos 1) (pos n) os ≡ pos (fold (λ (_ : ℕ) (o : ObjectRow). o.id + 1) n os)
 next_is n [] = refl
 next_is n (o ∷ os) = next_is (o.id + 1) os
 
-abbrev pub new_object : ℕ → List ℕ → List ℕ → List ObjectRow → ObjectRow
-new_object kind key bytes os = record { id = next_id os; kind = kind; key = key; bytes = bytes }
-
 free_id : (os : List ObjectRow) → IsKeyedBy object_number os → has_key object_number os (pos (next_id os)) ≡ false
 free_id os up = subst (λ n. has_key object_number os n ≡ false) (next_is 1 os) (next_key_is_free object_number os up)
-
-abbrev pub InsertsObject : ℕ → List ℕ → List ℕ → Database → Database → Type 0
-InsertsObject kind key bytes old new = (c : Content) → HoldsContent old c → HoldsContent new (record c { objects = insert_by object_number c.objects (new_object kind key bytes c.objects) })
 
 abbrev given : ℕ → List ℕ → List ℕ → Row
 given kind key bytes = Null ∷ Int (pos kind) ∷ Blob key ∷ Blob bytes ∷ []

@@ -1,5 +1,5 @@
 -- A fixed text over one table of typed rows: what its query finds, what its DELETE leaves, and the edit of its INSERT.
-use Rattle.std.proofs.Common.{◌≡◌, ℕ, ℤ, pos, ◌/◌, Bool, List, [], ◌∷◌, map, filter, length, slice_get, Option, Some, Ok, refl, sym, ap, subst, ◌∙◌}
+use Rattle.std.proofs.Common.{◌≡◌, ℕ, ℤ, ◌/◌, Bool, List, [], ◌∷◌, map, filter, length, slice_get, Some, Ok, refl, sym, ap, subst, ◌∙◌}
 use Rattle.std.specs.Prelude.{IsPermutation}
 use Rattle.std.proofs.lemmas.List.Sorted.{IsPermutation-map}
 use Rattle.sqlite_value.specs.declared.keys.Key.{Key}
@@ -11,13 +11,13 @@ use Rattle.sqlite.specs.Tree.{rowid}
 use Rattle.sqlite.specs.Query.{Output, output}
 use Rattle.sqlite.specs.Program.{overlay}
 use Rattle.sqlite.specs.Source.TheVariants.{Values}
-use Rattle.sqlite.specs.Command.TheVariants.{Select, Insert, Update, Delete}
+use Rattle.sqlite.specs.Command.TheVariants.{Select, Insert, Delete}
 use Rattle.sqlite.specs.Rowids.TheVariants.{Chosen, Given}
 use Rattle.sqlite.specs.Edit.{edit_of, id_in, without_all}
 use Rattle.sqlite.specs.Rows.{stamped}
 use Rattle.sqlite.specs.Effect.{value_rows}
 use Rattle.sqlite.specs.Listing.{understood}
-use Rattle.sqlite.specs.State.{State, mode_of, Executes, Shown, Writes}
+use Rattle.sqlite.specs.State.{State, mode_of, Executes, Shown}
 use Rattle.sqlite.proofs.Callers.{statement_of, runs_as, reads_as}
 use Rattle.sqlite_rules.specs.Calls.{ids_of}
 use Rattle.sqlite_keyed.specs.Keyed.{IsKeyedBy}
@@ -25,7 +25,7 @@ use Rattle.sqlite_keyed.specs.Lists.{delete_where}
 use Rattle.sqlite_keyed.proofs.ListLemmas.{map-map}
 use Rattle.esc_rows.specs.Schema.{store_schema}
 use Rattle.esc_rows.proofs.Compiled.{IsWrite, IsQuery, program_of}
-use Rattle.esc_rows.proofs.Forms.{uncounted, IsEdited, IsSet, inserted, updated, deleted}
+use Rattle.esc_rows.proofs.Forms.{uncounted, IsEdited, inserted, deleted}
 use Rattle.esc_rows.proofs.Frame.{IsWritten, written}
 use Rattle.esc_rows.proofs.Scan.{scan, no_limit, is_match, IsScanned, scanned}
 use Rattle.esc_rows.proofs.Typed.{stored, cut_typed}

@@ -6,3 +6,5 @@ pub mod Rows
 pub mod Content
 pub mod ContentIs
 pub mod Changes
+pub mod Steps
+pub mod Entries
