@@ -5,11 +5,11 @@ use Rattle.std.specs.Option.{option_and_then, unwrap_or}
 use Rattle.std.proofs.lemmas.List.{reverse-append}
 use Rattle.std.proofs.lemmas.List.Sums.{sum_by_push, sum_by-cons}
 use Rattle.std.proofs.lemmas.Bool.Decides.{nat_tests}
-use Rattle.esc_tables.specs.KeyName.{KeyName, key_eq}
+use Rattle.esc_tables.specs.KeyName.{KeyName}
 use Rattle.esc_tables.specs.ObjectValue.{ObjectValue}
 use Rattle.esc_tables.specs.DepositValue.{DepositValue}
 use Rattle.esc_apply.specs.Tables.{mentions, says, tables, mention_count}
-use Rattle.esc_apply.specs.Registry.{State, Befores, nothing, empty, with_step, stepped, restored, saturated, HasSize}
+use Rattle.esc_apply.specs.Registry.{State, nothing, empty, with_step, stepped, restored, saturated, HasSize}
 use Rattle.esc_apply.specs.Images.{images_after, before_images, chain_state}
 use Rattle.esc_apply.proofs.Mentions.{count_mentions}
 use Rattle.esc_apply.proofs.Runs.{itself}

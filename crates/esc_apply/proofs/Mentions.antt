@@ -1,5 +1,5 @@
 -- What a deposit says, as a list of changes: its contents, and then the deletes that have none.
-use Rattle.std.proofs.Common.{◌≡◌, ℕ, ◌+◌, Bool, true, false, cond, ◌&&◌, ◌||◌, not, true≢false, List, [], ◌∷◌, ◌++◌, map, length, Option, Some, None, is_some, refl, sym, ap, subst, ◌∙◌, arith, length-append}
+use Rattle.std.proofs.Common.{◌≡◌, ◌+◌, Bool, true, false, cond, ◌&&◌, ◌||◌, not, true≢false, List, [], ◌∷◌, ◌++◌, map, length, Option, Some, None, is_some, refl, sym, ap, subst, ◌∙◌, arith, length-append}
 use Rattle.std.proofs.lemmas.List.{length-map}
 use Rattle.std.specs.List.{IsDistinct, AllByRecursion, list_any}
 use Rattle.std.specs.Map.{lookup, keys_of}
@@ -10,7 +10,7 @@ use Rattle.esc_tables.specs.ObjectValue.{ObjectValue}
 use Rattle.esc_tables.specs.DepositValue.{DepositValue}
 use Rattle.esc_apply.specs.Tables.{deletes_of, mentioned, mentions, says, mention_count}
 use Rattle.esc_apply.specs.Changes.{Change, with_object, without}
-use Rattle.esc_apply.proofs.Keys.{keys_total, keys_exact, Keys, one, two, keys, key_itself, not_among}
+use Rattle.esc_apply.proofs.Keys.{keys_total, keys_exact, Keys, one, two, keys, key_itself}
 use Rattle.esc_apply.proofs.Runs.{AreChangesOf}
 
 -- what shall stand at a key, if a change is of it

@@ -9,7 +9,7 @@ use Rattle.esc_tables.specs.KeyName.{KeyName, key_eq}
 use Rattle.esc_tables.specs.ObjectValue.{ObjectValue}
 use Rattle.esc_tables.specs.DepositValue.{DepositValue}
 use Rattle.esc_apply.specs.Tables.{mentions, says, mention_count}
-use Rattle.esc_apply.specs.Registry.{State, Content, Befores, nothing, with_key, written, taken, changed, stepped, restored, IsEntriesOf}
+use Rattle.esc_apply.specs.Registry.{State, Content, nothing, with_key, written, taken, changed, stepped, restored, IsEntriesOf}
 use Rattle.esc_apply.specs.Changes.{Change, changed_by, AreNew, written_by}
 use Rattle.esc_apply.proofs.Keys.{Keys, one, two, keys, key_itself, not_among}
 

@@ -1,5 +1,5 @@
 -- What deposits mention and say, and the tables of a list of deposits (RFC 8909, section 2).
-use Rattle.std.specs.Prelude.{ℕ, Bool, List, [], ◌∷◌, ◌++◌, reverse, Option, Some, None}
+use Rattle.std.specs.Prelude.{ℕ, Bool, List, [], ◌++◌, reverse, Option}
 use Rattle.std.specs.List.{find, list_any}
 use Rattle.std.specs.Map.{lookup, keys_of}
 use Rattle.std.specs.FinSet as set

@@ -29,6 +29,8 @@ mod front;
 mod memory;
 mod moves;
 mod registry;
+#[cfg(test)]
+mod tests;
 
 pub use back::undo_step;
 pub use forward::apply_step;

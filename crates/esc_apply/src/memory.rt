@@ -107,10 +107,7 @@ impl Registry for MemRegistry {
     ghost was_honest = { λ a b p h. tt };
 
     fn get(&mut self, alloc: Global, k: &Key) -> Result<Option<Object>, NoMemory> {
-        match self.objects.get(k) {
-            Some(object) => Ok(Some(object.copy(alloc)?)),
-            None => Ok(None),
-        }
+        copied(alloc, self.objects.get(k))
     }
 
     fn put(&mut self, alloc: Global, k: &Key, o: &Object) -> Result<(), NoMemory> {

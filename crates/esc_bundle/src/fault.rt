@@ -1,6 +1,7 @@
 //! Why a text is refused.
 
-ghost use Rattle.std.specs.Prelude.{◌≡◌};
+ghost use Rattle.std.specs.Prelude.{◌≡◌, Some, codes};
+ghost use Rattle.esc_bundle.specs.Codes.{fault_text};
 ghost use Rattle.esc_bundle.specs.declared.fault.Fault.TheVariants.{NoMemory as no_memory};
 
 use std::alloc::{AllocError, AllocFailed};
@@ -17,6 +18,8 @@ pub enum Fault {
 }
 
 impl fmt::Display for Fault {
+    ghost output = { λ fault. Some (fault_text fault) };
+
     fn fmt<W: fmt::Write>(&self, f: &mut fmt::Formatter<W>) -> fmt::Result {
         match *self {
             Fault::Refused(number) => write!(f, "U{number}"),
@@ -56,6 +59,8 @@ impl From<NoMemory> for Fault {
 pub struct NoMemory;
 
 impl fmt::Display for NoMemory {
+    ghost output = { λ _. Some (codes "out of memory") };
+
     fn fmt<W: fmt::Write>(&self, f: &mut fmt::Formatter<W>) -> fmt::Result {
         f.write_str("out of memory")
     }

@@ -2,7 +2,7 @@
 //!
 //! The functions here do nothing. Each has a law as its contract: a caller who needs the law calls it.
 
-ghost use Rattle.std.specs.Prelude.{◌≡◌, ◌≤◌, ◌⊎◌, ◌↔◌, ◌++◌, List, [], ℕ, Ok, Err};
+ghost use Rattle.std.specs.Prelude.{◌≡◌, ◌≤◌, ◌⊎◌, ◌↔◌, ◌++◌, ◌∷◌, List, [], ℕ, codes, Ok, Err};
 ghost use Rattle.esc_bundle.specs.Bundle.{Named, IsBundle};
 ghost use Rattle.esc_bundle.specs.Reading.{IsFault};
 ghost use Rattle.esc_bundle.specs.Frame.{frame};
@@ -40,4 +40,25 @@ pub fn bundle_of_is_exact()
         (bundle_of ss ≡ Ok body) ↔ IsBundle body ss }
     ensures fault { (ss : List Named) (n : ℕ) →
         bundle_of ss ≡ Err n → (body : List ℕ) → IsBundle body ss → ⊥ }
+{}
+
+/// The definition at some texts: the shortest bundle, and one text for each kind of fault.
+pub fn worked_texts()
+    ensures shortest { frame (codes "escrow-bundle 1\nenvelope.json 2\n{}\nend\n")
+        ≡ Ok (record { name = codes "envelope.json"; bytes = codes "{}" } ∷ []) }
+    ensures two { frame (codes "escrow-bundle 1\nenvelope.json 2\n{}\nc.csv 6\nC1,R1\n\nend\n")
+        ≡ Ok (record { name = codes "envelope.json"; bytes = codes "{}" }
+        ∷ record { name = codes "c.csv"; bytes = codes "C1,R1\n" } ∷ []) }
+    ensures empty { frame [] ≡ Err 1 }
+    ensures no_section { frame (codes "escrow-bundle 1\nend\n") ≡ Err 1 }
+    ensures no_end { frame (codes "escrow-bundle 1\nenvelope.json 2\n{}\n") ≡ Err 1 }
+    ensures bytes_after_end { frame (codes "escrow-bundle 1\nenvelope.json 2\n{}\nend\n\n") ≡ Err 1 }
+    ensures leading_zero { frame (codes "escrow-bundle 1\nenvelope.json 02\n{}\nend\n") ≡ Err 1 }
+    ensures other_first { frame (codes "escrow-bundle 1\nc.csv 2\n{}\nend\n") ≡ Err 1 }
+    ensures wrong_name { frame (codes "escrow-bundle 1\nEnvelope.json 2\n{}\nend\n") ≡ Err 2 }
+    ensures zero_before_name { frame (codes "escrow-bundle 1\nEnvelope.json 02\n{}\nend\n") ≡ Err 1 }
+    ensures repeated { frame (codes "escrow-bundle 1\nenvelope.json 2\n{}\nenvelope.json 2\n{}\nend\n") ≡ Err 3 }
+    ensures too_long { frame (codes "escrow-bundle 1\nenvelope.json 16777217\n") ≡ Err 4 }
+    ensures limit_before_first { frame (codes "escrow-bundle 1\nc.csv 16777217\n") ≡ Err 4 }
+    ensures nothing_to_write { bundle_of [] ≡ Err 1 }
 {}

@@ -43,6 +43,7 @@ mod writing;
 pub use fault::{Fault, NoMemory};
 pub use laws::{
     bundle_of_is_exact, each_text_has_one_reading, frame_is_exact, no_bundle_begins_another,
+    worked_texts,
 };
 pub use reading::sections;
 pub use section::Section;

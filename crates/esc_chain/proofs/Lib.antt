@@ -7,3 +7,4 @@ pub mod Rows
 pub mod ListedMaps
 pub mod Ways
 pub mod LatestEnd
+pub mod HeldRows

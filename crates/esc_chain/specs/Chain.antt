@@ -1,4 +1,4 @@
--- The used rows, and chains of them.
+-- The used rows, and chains of them (this project's profile; the types are those of RFC 8909, section 2).
 use Rattle.std.specs.Prelude.{◌≡◌, ◌≢◌, ℕ, ◌<◌, ◌≤◌, List, [], ◌∷◌, length, reverse, slice_index, IsTrue}
 use Rattle.std.specs.FinSet as set
 use Rattle.std.specs.Ordering.{nat_cmp}
@@ -14,15 +14,13 @@ use Rattle.esc_chain.specs.Base.{IsBase}
 abbrev pub Rows : Type 0
 Rows = set.FinSet nat_cmp
 
+-- the row is in the set
 abbrev pub IsHeld : Rows → ℕ → Type 0
 IsHeld h r = IsTrue (set.contains h r)
 
 -- the rows are those of the manifest
 abbrev pub InRange : List MRow → Rows → Type 0
 InRange m h = (r : ℕ) → IsHeld h r → r < length m
-
-abbrev pub AllInRange : List MRow → List ℕ → Type 0
-AllInRange m c = (k : ℕ) → k < length c → slice_index c k < length m
 
 -- at most 4,096 rows, each held, in the manifest's range, and there once
 pub record AreHeldRows (m : List MRow) (h : Rows) (c : List ℕ) : Type 0 where
@@ -55,8 +53,10 @@ abbrev pub IsLatestBack : List MRow → Rows → List ℕ → Type 0
 IsLatestBack m h [] = (c : List ℕ) → IsChainBack m h c → ⊥
 IsLatestBack m h (r ∷ rest) = IsChainBack m h (r ∷ rest) × ((q : ℕ) (other : List ℕ) → IsChainBack m h (q ∷ other) → IsUpTo (place_at m q) (place_at m r))
 
+-- a chain, from its Full to its end
 abbrev pub IsChain : List MRow → Rows → List ℕ → Type 0
 IsChain m h c = IsChainBack m h (reverse c)
 
+-- the latest chain, from its Full to its end
 abbrev pub IsLatestChain : List MRow → Rows → List ℕ → Type 0
 IsLatestChain m h c = IsLatestBack m h (reverse c)

@@ -72,6 +72,7 @@ link_by order used Whole = Start
 link_by order used (At p) = link_to (tree.get order used p)
 link_by order used Unlisted = Broken
 
+-- the link of a row, and past the end a broken one
 abbrev pub link_at : List Link → ℕ → Link
 link_at links r = slice_index_or links r Broken
 

@@ -31,6 +31,8 @@ mod latest;
 mod laws;
 mod links;
 mod revision;
+#[cfg(test)]
+mod tests;
 
 pub use base::{Base, base_of};
 pub use held::Held;

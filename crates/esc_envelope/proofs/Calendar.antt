@@ -1,11 +1,11 @@
 -- The day that a day number names.
-use Rattle.std.proofs.Common.{◌≡◌, ◌⊎◌, ℕ, zero, suc, ◌+◌, ◌-◌, ◌*◌, ◌/◌, ◌%◌, ◌<◌, ◌≤◌, ◌&&◌, Bool, true, false, cond, refl, sym, ap, subst, ◌∙◌, arith, inl, inr, ℤ, pos, ◌≤ℤ◌}
+use Rattle.std.proofs.Common.{◌≡◌, ℕ, zero, suc, ◌+◌, ◌-◌, ◌<◌, ◌≤◌, true, refl, ap, arith, inl, inr, ℤ, pos}
 use Rattle.std.specs.Prelude.{nat_lt}
 use Rattle.std.proofs.lemmas.Bool.{cases_Bool, ltb-true, ltb-false}
 use Rattle.std.proofs.lemmas.Bool.Decides.{nat_tests}
-use Rattle.jiff_core.specs.Calendar.{IsCivilDate, day_count, day_of_year, days_of_years, days_of_months, days_in_month, days_in_year, days_from_civil}
+use Rattle.jiff_core.specs.Calendar.{day_count, days_of_years, days_of_months, days_in_month, days_in_year, days_from_civil}
 use Rattle.jiff_core.proofs.SignedLemmas.{signed_arith}
-use Rattle.jiff_core.proofs.CalendarLemmas.{day_count-epoch, day_count-next_year, day_count-day_of_year, days_of_months_more, days_of_months_all, days_of_months-zero, days_from_civil-day_count, days_in_year_bounds}
+use Rattle.jiff_core.proofs.CalendarLemmas.{day_count-epoch, day_count-next_year, day_count-day_of_year, days_of_months_more, days_of_months_all, days_of_months-zero, days_from_civil-day_count}
 use Rattle.esc_envelope.specs.declared.parts.Day.{Day}
 use Rattle.esc_envelope.specs.Moment.{is_day}
 use Rattle.esc_envelope.specs.Watermark.{year_at, month_at, day_of}

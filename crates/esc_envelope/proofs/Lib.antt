@@ -1,5 +1,11 @@
 pub mod Calendar
+pub mod CountLoop
+pub mod Distinct
 pub mod Fractions
+pub mod Gather
+pub mod JsonLists
+pub mod JsonTexts
+pub mod KindOrder
 pub mod MomentReads
 pub mod Printed
 pub mod RealParts

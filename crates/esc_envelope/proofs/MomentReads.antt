@@ -1,20 +1,20 @@
 -- What is read as a moment is its text, and the text of a moment is read.
-use Rattle.std.proofs.Common.{◌≡◌, ◌⊎◌, ℕ, zero, suc, ◌+◌, ◌-◌, ◌*◌, ◌/◌, ◌%◌, ◌<◌, ◌≤◌, ◌&&◌, Bool, true, false, List, [], ◌∷◌, ◌++◌, length, take, drop, get_or, Option, Some, None, refl, sym, ap, subst, ◌∙◌, ◌↔◌, arith, inl, inr, ℤ, pos}
+use Rattle.std.proofs.Common.{◌≡◌, ℕ, ◌+◌, ◌-◌, ◌*◌, ◌/◌, ◌%◌, ◌<◌, ◌≤◌, ◌&&◌, Bool, true, false, List, [], ◌∷◌, ◌++◌, length, take, drop, Option, Some, None, refl, sym, ap, subst, ◌∙◌, ◌↔◌, arith, ℤ, pos}
 use Rattle.std.specs.Prelude.{slice_index, ◌==◌, nat_le, nat_lt}
 use Rattle.std.specs.Char.{is_ascii_digit}
 use Rattle.std.proofs.lemmas.Bool.{eqb-true, leb-true, ltb-true}
 use Rattle.std.proofs.lemmas.Option.{cond_some}
 use Rattle.std.proofs.lemmas.Bool.Decides.{nat_tests}
-use Rattle.std.proofs.lemmas.List.{take-append-drop, drop_more, drop_all, take_at, get_or_at, length-append, append_assoc, append-nil}
+use Rattle.std.proofs.lemmas.List.{take-append-drop, drop_more, drop_all, take_at, get_or_at, length-append}
 use Rattle.jiff_core.specs.Calendar.{days_in_month}
 use Rattle.jiff_core.proofs.CalendarLemmas.{days_in_month_bounds}
 use Rattle.jiff_fmt.specs.Reader.{fraction_value}
 use Rattle.jiff_fmt.proofs.ReaderLemmas.{fraction_value-nil}
 use Rattle.esc_envelope.specs.declared.parts.Day.{Day}
 use Rattle.esc_envelope.specs.declared.parts.Clock.{Clock}
-use Rattle.esc_envelope.specs.Moment.{two_digits, day_text, clock_text, fraction_text, moment_text, is_day, is_clock, is_fraction, moment_value, IsWatermark}
+use Rattle.esc_envelope.specs.Moment.{two_digits, day_text, clock_text, fraction_text, is_day, is_clock, is_fraction, moment_value, IsWatermark}
 use Rattle.esc_envelope.specs.Steps.{◌>>=◌}
-use Rattle.esc_envelope.specs.Watermark.{two_at, byte_at, before_z, day_at, clock_at, billionths_of, value_if, watermark_of}
+use Rattle.esc_envelope.specs.Watermark.{two_at, byte_at, before_z, day_at, clock_at, billionths_of, watermark_of}
 
 -- the answer of a step that has one
 pub step_some : {A B : Type 0} (o : Option A) (f : A → Option B) (y : B) → (o >>= f) ≡ Some y → (x : A) × (o ≡ Some x) × (f x ≡ Some y)

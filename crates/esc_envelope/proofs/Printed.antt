@@ -1,19 +1,18 @@
 -- The text of a moment writes it.
-use Rattle.std.proofs.Common.{◌≡◌, ◌⊎◌, ℕ, zero, suc, ◌+◌, ◌-◌, ◌*◌, ◌/◌, ◌%◌, ◌^◌, ◌<◌, ◌≤◌, ◌&&◌, ◌++◌, [], ◌∷◌, List, length, Bool, true, false, Option, Some, None, refl, sym, ap, subst, ◌∙◌, arith, inl, inr, ℤ, pos, negsuc, ◌≤ℤ◌, ◌<ℤ◌, ◌+ℤ◌, ◌*ℤ◌}
+use Rattle.std.proofs.Common.{◌≡◌, ℕ, zero, suc, ◌+◌, ◌-◌, ◌*◌, ◌/◌, ◌%◌, ◌^◌, ◌<◌, ◌≤◌, [], ◌∷◌, List, length, Bool, true, Some, None, refl, sym, ap, ◌∙◌, arith, inl, inr, ℤ, pos, negsuc}
 use Rattle.std.specs.Prelude.{nat_lt, IsSome}
 use Rattle.std.specs.Char.{is_ascii_digit}
 use Rattle.std.specs.List.{list_all, prefix_len}
-use Rattle.std.proofs.lemmas.Bool.{cases_Bool, ltb-true, ltb-false, lt-ltb}
+use Rattle.std.proofs.lemmas.Bool.{cases_Bool, ltb-true, lt-ltb}
 use Rattle.std.proofs.lemmas.Bool.Decides.{nat_tests}
 use Rattle.std.proofs.lemmas.Option.{cond_some}
 use Rattle.std.proofs.lemmas.List.{append-nil}
-use Rattle.jiff_core.specs.Calendar.{days_from_civil}
 use Rattle.jiff_core.proofs.SignedLemmas.{signed_arith}
 use Rattle.jiff_fmt.specs.Reader.{fraction_value}
-use Rattle.jiff_fmt.specs.Text.{fraction, places, significant, trailing_zeros}
+use Rattle.jiff_fmt.specs.Text.{fraction, significant, trailing_zeros}
 use Rattle.jiff_fmt.proofs.ReaderLemmas.{fraction_value-nil}
 use Rattle.jiff_fmt.proofs.TextLemmas.{places-read, places-end, trailing_zeros-le, trailing_zeros-mod, significant-not_zero}
-use Rattle.esc_envelope.specs.Moment.{is_clock, is_fraction, moment_text, moment_value, IsWatermark}
+use Rattle.esc_envelope.specs.Moment.{is_clock, is_fraction, moment_text, IsWatermark}
 use Rattle.esc_envelope.specs.Watermark.{IsInYears, clock_of, day_of, watermark_of, watermark_text_of}
 use Rattle.esc_envelope.proofs.Calendar.{day_is_of}
 use Rattle.esc_envelope.proofs.MomentReads.{watermark_again}

@@ -1,25 +1,24 @@
 -- What `jiff` writes of a civil datetime is the text of its moment.
-use Rattle.std.proofs.Common.{◌≡◌, ◌⊎◌, ℕ, zero, suc, ◌+◌, ◌-◌, ◌*◌, ◌/◌, ◌%◌, ◌<◌, ◌≤◌, ◌&&◌, ◌++◌, [], ◌∷◌, List, length, Bool, true, false, Option, Some, None, refl, sym, ap, subst, ◌∙◌, ne_eqb, arith, inl, inr, ℤ, pos, negsuc, ◌≤ℤ◌, ◌<ℤ◌, ◌+ℤ◌, ◌*ℤ◌}
+use Rattle.std.proofs.Common.{◌≡◌, ℕ, zero, suc, ◌+◌, ◌*◌, ◌/◌, ◌%◌, ◌<◌, ◌≤◌, ◌++◌, [], ◌∷◌, List, length, true, false, Some, None, refl, sym, ap, ◌∙◌, ne_eqb, arith, inl, inr, ℤ, pos, negsuc}
 use Rattle.std.specs.Prelude.{nat_lt, nat_le, ◌==◌}
 use Rattle.std.proofs.lemmas.Bool.{leb-true, lt-ltb, cases_Bool, ltb-true}
 use Rattle.jiff.specs.Names.{iso_datetime_text}
 use Rattle.jiff_core.specs.declared.civil.date.Date.{Date}
 use Rattle.jiff_core.specs.declared.civil.time.Time.{Time}
 use Rattle.jiff_core.specs.declared.civil.datetime.DateTime.{DateTime}
-use Rattle.jiff_core.specs.Calendar.{IsYear, IsCivilDate, days_in_month}
+use Rattle.jiff_core.specs.Calendar.{days_in_month}
 use Rattle.jiff_core.specs.Date.{epoch_day}
 use Rattle.jiff_core.specs.DateTime.{civil_nanos}
 use Rattle.jiff_core.specs.Time.{time_nanos}
 use Rattle.jiff_core.proofs.SignedLemmas.{signed_arith}
 use Rattle.jiff_core.proofs.DateLemmas.{epoch_day_injective}
 use Rattle.jiff_core.proofs.DateTimeLemmas.{civil_nanos-parts, time_nanos_bound}
-use Rattle.jiff_fmt.specs.Text.{fraction, fraction_part, significant, places}
+use Rattle.jiff_fmt.specs.Text.{fraction, fraction_part, significant}
 use Rattle.jiff_fmt.proofs.TextLemmas.{places-end, places-read, significant-not_zero, trailing_zeros-le}
 use Rattle.esc_envelope.specs.declared.parts.Day.{Day}
-use Rattle.esc_envelope.specs.declared.parts.Clock.{Clock}
-use Rattle.esc_envelope.specs.Moment.{is_day, day_text, clock_text, fraction_text, moment_text}
+use Rattle.esc_envelope.specs.Moment.{is_day, fraction_text, moment_text}
 use Rattle.esc_envelope.specs.Watermark.{IsInYears, clock_of, day_of, watermark_text_of}
-use Rattle.esc_envelope.proofs.Calendar.{IsDayOf, day_is_of}
+use Rattle.esc_envelope.proofs.Calendar.{day_is_of}
 use Rattle.esc_envelope.proofs.MomentReads.{both_true, some_of}
 
 dotted : (digits : List ℕ) → 0 < length digits → fraction_text digits ≡ 46 ∷ digits

@@ -1,5 +1,5 @@
 -- The nanoseconds of the years 1970 to 2261.
-use Rattle.std.proofs.Common.{◌≡◌, ℕ, ◌+◌, ◌*◌, ◌<◌, ◌≤◌, ℤ, pos, ◌+ℤ◌, ◌*ℤ◌, ◌<ℤ◌, ◌≤ℤ◌, refl, sym, arith}
+use Rattle.std.proofs.Common.{◌≡◌, ℕ, ◌<◌, ℤ, pos, ◌<ℤ◌, ◌≤ℤ◌, refl, arith}
 use Rattle.jiff_core.specs.declared.civil.datetime.DateTime.{DateTime}
 use Rattle.jiff_core.specs.Calendar.{IsBetween, IsCivilDate, days_from_civil, day_count, days_of_years, days_of_months}
 use Rattle.jiff_core.specs.DateTime.{civil_nanos}

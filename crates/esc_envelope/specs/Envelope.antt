@@ -21,10 +21,9 @@ abbrev ◌>>=◌ : {A B : Type 0} → Result A ℕ → (A → Result B ℕ) → 
 unfoldable pub json_of : List ℕ → Option Data
 json_of text = if is_utf8 text then read text else None
 
--- the envelope: 5 is no JSON, 6 a member outside the tables that is missing or of another form, 7 a table that is not declared rightly
-unfoldable pub envelope_of : List ℕ → Result EnvelopeValue ℕ
-envelope_of text = do
-  json ← or_fault 5 (json_of text)
+-- the envelope that JSON data is: 6 is a member outside the tables that is missing or of another form, 7 a table that is not declared rightly
+unfoldable pub envelope_in : Data → Result EnvelopeValue ℕ
+envelope_in json = do
   header ← or_fault 6 (header_of json)
   counts ← or_fault 6 (counts_of json)
   declared ← or_fault 6 (array_of (codes "contents") json)
@@ -32,3 +31,9 @@ envelope_of text = do
   contents ← or_fault 7 (contents_in declared)
   deletes ← or_fault 7 (deletes_in deleted)
   Ok (record { header = header; counts = counts; contents = contents; deletes = deletes })
+
+-- the envelope that a text is: 5 is no JSON
+unfoldable pub envelope_of : List ℕ → Result EnvelopeValue ℕ
+envelope_of text = do
+  json ← or_fault 5 (json_of text)
+  envelope_in json

@@ -8,4 +8,5 @@ pub mod Moment
 pub mod Place
 pub mod Steps
 pub mod Tables
+pub mod Told
 pub mod Watermark

@@ -1,5 +1,5 @@
 -- The members of an envelope outside its tables (this project's profile of RFC 8909, section 4).
-use Rattle.std.specs.Prelude.{ℕ, ℤ, List, [], ◌∷◌, ◌++◌, length, ◌==◌, nat_le, if◌then◌else◌, Option, Some, None, option_map, option_and_then, is_some, codes}
+use Rattle.std.specs.Prelude.{ℕ, ◌<◌, ℤ, List, [], ◌∷◌, ◌++◌, length, ◌==◌, nat_le, if◌then◌else◌, Option, Some, None, option_map, option_and_then, is_some, codes}
 use Rattle.std.specs.Str.{bytes_eq}
 use Rattle.serde_json.specs.Data.{Data, Items, no_items, item}
 use Rattle.serde_json.specs.Find.{get, as_null, as_str, as_number, as_u64, as_array, as_object}
@@ -8,7 +8,7 @@ use Rattle.esc_envelope.specs.declared.place.DepositType.{DepositType}
 use Rattle.esc_envelope.specs.declared.place.DepositType.TheVariants.{Diff, Incr, Full}
 use Rattle.esc_envelope.specs.HeaderValue.{HeaderValue}
 use Rattle.esc_envelope.specs.Id.{is_id}
-use Rattle.esc_envelope.specs.Kinds.{kind_name, kinds}
+use Rattle.esc_envelope.specs.Kinds.{kind_name, kind_rank, kinds}
 use Rattle.esc_envelope.specs.Steps.{◌>>=◌}
 use Rattle.esc_envelope.specs.Watermark.{watermark_of}
 
@@ -83,13 +83,23 @@ header_of json = do
   resend ← resend_of json
   Some (record { id = id; place = record { watermark = watermark; kind = kind }; prev = prev; resend = resend })
 
-abbrev pub count_from : Kind → Option Data → Option (List (Kind × ℕ))
-count_from kind None = Some []
-count_from kind (Some value) = option_map (λ n. (kind, n) ∷ []) (whole_number value)
+abbrev pub count_from : Option Data → Option (Option ℕ)
+count_from None = Some None
+count_from (Some value) = option_map (λ n. Some n) (whole_number value)
 
 -- the declared number of one kind, if there is one
-abbrev pub count_of : Data → Kind → Option (List (Kind × ℕ))
-count_of counts kind = count_from kind (get (kind_name kind) counts)
+abbrev pub count_of : Data → Kind → Option (Option ℕ)
+count_of counts kind = count_from (get (kind_name kind) counts)
+
+-- the entry of a declared number
+abbrev pub count_entry : Kind → Option ℕ → List (Kind × ℕ)
+count_entry kind None = []
+count_entry kind (Some n) = (kind, n) ∷ []
+
+-- the entries are of kinds below a place in their order
+abbrev pub AreBelow : ℕ → List (Kind × ℕ) → Type 0
+AreBelow rank [] = Unit {0}
+AreBelow rank (entry ∷ others) = (kind_rank entry.0 < rank) × AreBelow rank others
 
 -- the declared numbers of these kinds
 unfoldable pub counts_among : Data → List Kind → Option (List (Kind × ℕ))
@@ -97,7 +107,7 @@ counts_among counts [] = Some []
 counts_among counts (kind ∷ others) = do
   count ← count_of counts kind
   more ← counts_among counts others
-  Some (count ++ more)
+  Some (count_entry kind count ++ more)
 
 abbrev pub counts_in : Data → Option (List (Kind × ℕ))
 counts_in value = if is_some (as_object value) then counts_among value kinds else None

@@ -1,5 +1,5 @@
 -- The tables that an envelope declares (this project's profile).
-use Rattle.std.specs.Prelude.{ℕ, List, [], ◌∷◌, length, map, Bool, true, false, not, ◌==◌, ◌&&◌, ◌||◌, nat_lt, nat_le, if◌then◌else◌, count_by, position, Option, Some, None, option_map, option_and_then, codes}
+use Rattle.std.specs.Prelude.{ℕ, List, [], ◌∷◌, length, map, Bool, true, false, not, ◌==◌, ◌&&◌, ◌||◌, nat_lt, nat_le, if◌then◌else◌, count_by, position, Option, Some, None, option_and_then, codes}
 use Rattle.std.specs.List.{list_all, list_any}
 use Rattle.std.specs.Str.{bytes_eq}
 use Rattle.serde_json.specs.Data.{Data}
@@ -18,10 +18,14 @@ all_of f (x ∷ xs) = do
   ys ← all_of f xs
   Some (y ∷ ys)
 
+-- whether a text is among others
+abbrev pub is_among : List ℕ → List (List ℕ) → Bool
+is_among text others = list_any (λ other. bytes_eq other text) others
+
 -- whether no text stands twice
 unfoldable pub are_distinct : List (List ℕ) → Bool
 are_distinct [] = true
-are_distinct (text ∷ others) = not (list_any (bytes_eq text) others) && are_distinct others
+are_distinct (text ∷ others) = not (is_among text others) && are_distinct others
 
 -- a byte of a table's name: A to Z, a to z, 0 to 9 or an underscore
 abbrev pub is_name_byte : ℕ → Bool
@@ -64,9 +68,13 @@ fields_in values = if nat_lt 0 (length values) && nat_le (length values) 64 then
 abbrev pub fields_of : Data → Option (List (List ℕ))
 fields_of json = option_and_then fields_in (option_and_then array_in (get (codes "fields") json))
 
+-- the place of a text
+abbrev pub place_of : List (List ℕ) → List ℕ → Option ℕ
+place_of texts text = position (λ other. bytes_eq other text) texts
+
 -- `key`: the place of one of the fields
 abbrev pub key_of : Data → List (List ℕ) → Option ℕ
-key_of json fields = option_and_then (λ key. position (bytes_eq key) fields) (text_at (codes "key") json)
+key_of json fields = option_and_then (place_of fields) (text_at (codes "key") json)
 
 -- the table of a declaration, if each member is of its form
 unfoldable pub table_of : Data → Option TableValue

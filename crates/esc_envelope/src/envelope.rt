@@ -1,12 +1,18 @@
 //! The envelope of a deposit.
 
-ghost use Rattle.std.specs.Prelude.{◌≡◌, ℕ, Ok, Err, IfOk, IfErr};
-ghost use Rattle.esc_envelope.specs.Envelope.{envelope_of};
+ghost use Rattle.std.specs.Prelude.{◌≡◌, ℕ, Ok, Err, Some, None, IfOk, IfErr};
+ghost use Rattle.serde_json.specs.View.{view};
+ghost use Rattle.esc_envelope.specs.Envelope.{json_of, envelope_in, envelope_of};
 
+use crate::counts::counts_of;
 use crate::header::Header;
 use crate::kind::Kind;
+use crate::members::header_in;
 use crate::table::Table;
+use crate::tables::{contents_in, deletes_in};
+use crate::texts::array_of;
 use esc_bundle::Fault;
+use serde_json::Value;
 use std::alloc::Global;
 use std::collections::BTreeMap;
 use std::marker::Model;
@@ -31,12 +37,60 @@ impl Model for Envelope {
     ghost view = { λ e. record { header = e.header; counts = e.counts.entries; contents = e.contents.items; deletes = e.deletes.items } };
 }
 
+fn parsed(alloc: Global, json: &[u8]) -> Result<Value, Fault>
+    ensures json { IfOk result (λ v. json_of json.now ≡ Some (view v)) }
+    ensures refused { IfErr result (λ e. (n : ℕ) → e ≡ Fault.Refused n → (n ≡ 5) × (json_of json.now ≡ None)) }
+{
+    match Value::from_slice(alloc, json) {
+        Ok(value) => Ok(value),
+        Err(error) => {
+            if error.is_memory() {
+                Err(Fault::NoMemory)
+            } else {
+                Err(Fault::Refused(5))
+            }
+        }
+    }
+}
+
+#[tactic(auto, unfolding(crate::specs::Envelope::envelope_in))]
+fn envelope_in(alloc: Global, json: &Value) -> Result<Envelope, Fault>
+    ensures envelope { IfOk result (λ e. envelope_in (view json.now) ≡ Ok e) }
+    ensures refused { IfErr result (λ e. (n : ℕ) → e ≡ Fault.Refused n → envelope_in (view json.now) ≡ Err n) }
+{
+    let Some(header) = header_in(alloc, json)? else {
+        return Err(Fault::Refused(6));
+    };
+    let Some(counts) = counts_of(alloc, json)? else {
+        return Err(Fault::Refused(6));
+    };
+    let Some(declared) = array_of(json, "contents") else {
+        return Err(Fault::Refused(6));
+    };
+    let Some(deleted) = array_of(json, "deletes") else {
+        return Err(Fault::Refused(6));
+    };
+    let Some(contents) = contents_in(alloc, declared)? else {
+        return Err(Fault::Refused(7));
+    };
+    let Some(deletes) = deletes_in(alloc, deleted)? else {
+        return Err(Fault::Refused(7));
+    };
+    Ok(Envelope {
+        header,
+        counts,
+        contents,
+        deletes,
+    })
+}
+
 /// The envelope that a JSON text is (RFC 8259, as `serde_json` reads it), or the least of U5, U6 and U7 that stands:
 /// no JSON; a member outside the tables is missing or of another form; a table is not declared rightly.
-pub fn read_envelope(_alloc: Global, json: &[u8]) -> Result<Envelope, Fault>
+#[tactic(auto, unfolding(crate::specs::Envelope::envelope_of))]
+pub fn read_envelope(alloc: Global, json: &[u8]) -> Result<Envelope, Fault>
     ensures envelope { IfOk result (λ e. envelope_of json.now ≡ Ok e) }
     ensures refused { IfErr result (λ e. (n : ℕ) → e ≡ Fault.Refused n → envelope_of json.now ≡ Err n) }
 {
-    let _ = json;
-    Err(Fault::NoMemory)
+    let json = parsed(alloc, json)?;
+    envelope_in(alloc, &json)
 }

@@ -3,6 +3,7 @@
 ghost use Rattle.std.specs.Prelude.{◌≡◌, IfOk, IfSome, option_map, string_bytes};
 ghost use Rattle.serde_json.specs.View.{view};
 ghost use Rattle.esc_envelope.specs.Members.{text_at, id_of, type_of, moment_of, prev_of, prev_from, id_if_any, resend_of, resend_from, whole_number, header_of};
+ghost use Rattle.esc_envelope.specs.Told.{told_value};
 
 use crate::header::Header;
 use crate::id::is_id;
@@ -95,4 +96,47 @@ struct Told<'a> {
     place: Place,
     prev: Option<&'a str>,
     resend: u32,
+}
+
+#[tactic(auto, unfolding(crate::specs::Members::header_of))]
+fn told_in(envelope: &Value) -> Option<Told<'_>>
+    ensures { option_map told_value result ≡ header_of (view envelope.now) }
+{
+    let id = id_in(envelope)?;
+    let kind = type_in(envelope)?;
+    let watermark = moment_in(envelope)?;
+    let prev = prev_in(envelope)?;
+    let resend = resend_in(envelope)?;
+    Some(Told {
+        id,
+        place: Place { watermark, kind },
+        prev,
+        resend,
+    })
+}
+
+fn copy_prev(alloc: Global, prev: Option<&str>) -> Result<Option<String>, NoMemory>
+    ensures { IfOk result (λ o. option_map string_bytes o ≡ option_map (λ t. t.now) prev.entry) }
+{
+    match prev {
+        Some(prev) => Ok(Some(String::from_str(alloc, prev)?)),
+        None => Ok(None),
+    }
+}
+
+/// The header, if each of its members is of its form.
+pub(crate) fn header_in(alloc: Global, envelope: &Value) -> Result<Option<Header>, NoMemory>
+    ensures { IfOk result (λ o. o ≡ header_of (view envelope.now)) }
+{
+    let Some(told) = told_in(envelope) else {
+        return Ok(None);
+    };
+    let id = String::from_str(alloc, told.id)?;
+    let prev = copy_prev(alloc, told.prev)?;
+    Ok(Some(Header {
+        id,
+        place: told.place,
+        prev,
+        resend: told.resend,
+    }))
 }

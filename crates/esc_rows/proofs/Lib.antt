@@ -1,0 +1,17 @@
+pub mod RowTexts
+pub mod WithinLemmas
+pub mod EndLemmas
+pub mod Forms
+pub mod PartLemmas
+pub mod Scan
+pub mod Typed
+pub mod Compiled
+pub mod Frame
+pub mod Values
+pub mod Finds
+pub mod Statements
+pub mod ObjectLemmas
+pub mod Sorts
+pub mod ObjectLists
+pub mod DecodeLemmas
+pub mod UndoLemmas

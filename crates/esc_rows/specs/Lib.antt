@@ -1,0 +1,10 @@
+pub mod Schema
+pub mod Texts
+pub mod RowText
+pub mod Part
+pub mod Rows
+pub mod Content
+pub mod ContentIs
+pub mod Changes
+pub mod Steps
+pub mod Entries

@@ -3,3 +3,4 @@ pub mod Kept
 pub mod ReplyValue
 pub mod Standing
 pub mod Tables
+pub mod TypedRows

@@ -1,20 +1,25 @@
 -- What a store stands for, and a change of it while it is on.
-use Rattle.std.specs.Prelude.{◌≡◌, Bool, true, false, IsTrue, List}
+use Rattle.std.specs.Prelude.{◌≡◌, Bool, true, false, IsTrue, List, Result, IfOk, OnOk, OnErr}
 use Rattle.sqlite_trees.specs.declared.store.Store.{Ghosts}
 use Rattle.sqlite_trees.specs.Tree.{Trees}
+use Rattle.sqlite.specs.Effect.{Database}
 use Rattle.sqlite.specs.Held.{Held, state}
-use Rattle.sqlite.specs.State.{State, HasCleanDisk, Survives}
+use Rattle.sqlite.specs.State.{State, HasCleanDisk, Survives, KeepsCommit, IsUnchanged}
 use Rattle.esc_manifest.specs.declared.row.MRow.{MRow}
 use Rattle.esc_apply.specs.Registry.{State as Tables}
+use Rattle.esc_rows.specs.Schema.{store_schema}
+use Rattle.esc_rows.specs.Content.{content_in}
 use Rattle.esc_store.specs.declared.store.Store.{Store}
 use Rattle.esc_store.specs.declared.change.Change.{Change}
 use Rattle.esc_store.specs.Kept.{Kept}
-use Rattle.esc_store.specs.Tables.{HoldsBooks, HoldsState, IsStore, HasStoreSchema}
+use Rattle.esc_store.specs.TypedRows.{IsBooks, IsRegistry}
+use Rattle.esc_store.specs.Tables.{IsStore, IsStoreDatabase, HoldsTables}
+
+-- ---- a store
 
 -- the database of a connection holds exactly this, and no transaction is on
 pub record IsAtRest (s : State) (k : Kept) : Type 0 where
-  pub schema : HasStoreSchema s.committed
-  pub holds : IsStore s.committed.trees k
+  pub kept : IsStoreDatabase s.committed k
   pub same : s.now ≡ s.committed
   pub autocommit : s.in_transaction ≡ false
 
@@ -34,6 +39,12 @@ pub record IsStanding (s : State) (manifest : List MRow) (k : Kept) : Type 0 whe
 unfoldable pub Stands : {S : Type 0} → Ghosts S → Store S → Kept → Type 0
 Stands g store k = IsStanding (state g store.conn) store.manifest k
 
+-- a store gave back what was written to it so far
+abbrev pub IsHonest : {S : Type 0} → Ghosts S → Store S → Type 0
+IsHonest g store = HasCleanDisk (state g store.conn)
+
+-- ---- what a crash leaves
+
 -- what the next open finds after a crash now is a store of this
 unfoldable pub LeavesOnly : {S : Type 0} → Ghosts S → Store S → Kept → Type 0
 LeavesOnly g store k = HasCleanDisk (state g store.conn) → (trees : Trees) → (state g store.conn).may_leave trees → IsStore trees k
@@ -46,23 +57,43 @@ LeavesOr g old new k = Survives (state g old) (state g new) (λ trees. IsStore t
 abbrev pub LeavesNoMore : {S : Type 0} → Ghosts S → Held S → Held S → Type 0
 LeavesNoMore g old new = Survives (state g old) (state g new) (λ trees. ⊥)
 
--- a change was begun on this store, which stood for k, and nothing is committed of it yet (not yet written down)
+-- ---- a change
+
+-- nothing is committed yet: either the transaction is on, and has the store's tables, or it was given up
+pub record IsBegun (s : State) (manifest : List MRow) (k : Kept) : Type 0 where
+  pub listed : manifest ≡ k.listed
+  pub on : HasCleanDisk s → s.in_transaction ≡ true → IsTrue s.is_open × IsStoreDatabase s.committed k × HoldsTables s.now
+  pub off : HasCleanDisk s → s.in_transaction ≡ false → IsTrue s.is_open → IsStoreDatabase s.committed k × (s.now ≡ s.committed)
+
+-- a change was begun on this store, which stood for k, and nothing is committed of it yet
 unfoldable pub BeganIn : {S : Type 0} → Ghosts S → Store S → Kept → Type 0
-BeganIn g store k = Stands g store k
+BeganIn g store k = IsBegun (state g store.conn) store.manifest k
 
--- a change that was begun on a store of `before` has made this of its rows, receipts, bodies and chain (not yet written down)
+pub record IsMade (s : State) (manifest : List MRow) (before k : Kept) : Type 0 where
+  pub begun : IsBegun s manifest before
+  pub listed : manifest ≡ k.listed
+  pub books : HasCleanDisk s → s.in_transaction ≡ true → IsBooks (content_in s.now.trees) k
+
+-- a change that was begun on a store of `before` has made this of its rows, receipts, bodies and chain
 unfoldable pub RestIn : {S : Type 0} → Ghosts S → Store S → Kept → Kept → Type 0
-RestIn g store before k = Stands g store before
+RestIn g store before k = IsMade (state g store.conn) store.manifest before k
 
--- a change goes on, and has made this of its tables and before-images (not yet written down)
+pub record IsUnderWay (s : State) (tables : Tables) : Type 0 where
+  pub is_open : IsTrue s.is_open
+  pub in_transaction : s.in_transaction ≡ true
+  pub tables_are : HoldsTables s.now
+  pub registry : IsRegistry (content_in s.now.trees) tables
+
+-- a change goes on, and has made this of its tables and before-images
 unfoldable pub HoldsIn : {S : Type 0} → Ghosts S → Store S → Tables → Type 0
-HoldsIn g store tables = Unit {0}
+HoldsIn g store tables = HasCleanDisk (state g store.conn) → IsUnderWay (state g store.conn) tables
 
 -- a change was begun on a store that stood for k, and nothing of it is committed yet
 abbrev pub Began : {S : Type 0} → Ghosts S → Change S → Kept → Type 0
 Began g change k = BeganIn g change.store.now k
 
--- a change that was begun on a store of `before` has made this of its rows, receipts, bodies and chain; this says nothing of k's registry
+-- a change that was begun on a store of `before` has made this of its rows, receipts, bodies and chain; this says
+-- nothing of k's registry
 abbrev pub Rest : {S : Type 0} → Ghosts S → Change S → Kept → Kept → Type 0
 Rest g change before k = RestIn g change.store.now before k
 
@@ -70,9 +101,7 @@ Rest g change before k = RestIn g change.store.now before k
 abbrev pub HoldsNow : {S : Type 0} → Ghosts S → Change S → Tables → Type 0
 HoldsNow g change tables = HoldsIn g change.store.now tables
 
--- a store gave back what was written to it so far
-abbrev pub IsHonest : {S : Type 0} → Ghosts S → Store S → Type 0
-IsHonest g store = HasCleanDisk (state g store.conn)
+-- ---- from one call to the next
 
 -- what a read leaves as it was, whatever it answers
 pub record IsAsBefore {S : Type 0} (g : Ghosts S) (old new : Store S) : Type 0 where
@@ -94,3 +123,27 @@ pub record GoesOn {S : Type 0} (g : Ghosts S) (old new : Change S) : Type 0 wher
 pub record Follows {S : Type 0} (g : Ghosts S) (old new : Change S) : Type 0 where
   pub goes_on : GoesOn g old new
   pub rest : (before k : Kept) → Rest g old before k → Rest g new before k
+
+-- ---- parts of a change, and reads, by the state of the connection
+
+-- what a failure left of a transaction is given up: none is on, and nothing was committed
+pub record IsGivenUp (old new : State) : Type 0 where
+  pub survives : Survives old new (λ trees. ⊥)
+  pub kept : HasCleanDisk new → KeepsCommit old new
+  pub ended : HasCleanDisk new → new.in_transaction ≡ false
+  pub settled : HasCleanDisk new → IsTrue new.is_open → new.now ≡ new.committed
+
+-- a part of a change: where it succeeds it is made within the transaction, and where it fails that is given up
+pub record IsStep {X E : Type 0} (old new : State) (Made : Database → Database → Type 0) (result : Result X E) : Type 0 where
+  pub survives : Survives old new (λ trees. ⊥)
+  pub kept : HasCleanDisk new → KeepsCommit old new
+  pub made : HasCleanDisk new → OnOk result ((old.in_transaction ≡ true) × Made old.now new.now × (new.in_transaction ≡ true) × IsTrue new.is_open)
+  pub failed : HasCleanDisk new → OnErr result ((new.in_transaction ≡ false) × (IsTrue new.is_open → new.now ≡ new.committed))
+
+-- a read of a database of the store's schema: where it succeeds nothing has changed, and where it fails no transaction is on
+pub record IsLook {X E : Type 0} (old new : State) (Says : Database → X → Type 0) (result : Result X E) : Type 0 where
+  pub survives : Survives old new (λ trees. ⊥)
+  pub autocommit : HasCleanDisk new → old.in_transaction ≡ false → new.in_transaction ≡ false
+  pub kept : HasCleanDisk new → old.now.schema ≡ store_schema → KeepsCommit old new
+  pub said : HasCleanDisk new → old.now.schema ≡ store_schema → IfOk result (λ x. Says old.now x × IsUnchanged old new)
+  pub failed : HasCleanDisk new → OnErr result ((new.in_transaction ≡ false) × (IsTrue new.is_open → new.now ≡ new.committed))

@@ -1,26 +1,32 @@
--- The seven tables of a store (this project's profile).
-use Rattle.std.specs.Prelude.{◌≡◌, List}
+-- The seven tables of a store.
+use Rattle.std.specs.Prelude.{◌≡◌}
 use Rattle.sqlite_trees.specs.Tree.{Trees}
 use Rattle.sqlite.specs.Effect.{Database}
-use Rattle.esc_apply.specs.Registry.{State}
+use Rattle.esc_rows.specs.Schema.{store_schema, no_schema}
+use Rattle.esc_rows.specs.Content.{Content, content_in, HoldsContent}
+use Rattle.esc_rows.specs.Content.{IsStore as HasTables}
 use Rattle.esc_store.specs.Kept.{Kept}
+use Rattle.esc_store.specs.TypedRows.{IsBooks, IsRegistry}
 
--- the tables of version, rows, receipts, bodies and steps (not yet written down)
-unfoldable pub HoldsBooks : Trees → Kept → Type 0
-HoldsBooks trees k = Unit {0}
+-- trees are the seven tables of version 1, in order and sound, and hold exactly this
+pub record IsKept (trees : Trees) (k : Kept) : Type 0 where
+  pub tables : HasTables trees (content_in trees)
+  pub books : IsBooks (content_in trees) k
+  pub registry : IsRegistry (content_in trees) k.registry
 
--- the tables of objects and before-images (not yet written down)
-unfoldable pub HoldsState : Trees → State → Type 0
-HoldsState trees s = Unit {0}
-
--- these trees are a store's, and hold exactly this (not yet written down)
+-- the next open of these trees finds a store of this
 unfoldable pub IsStore : Trees → Kept → Type 0
-IsStore trees k = HoldsBooks trees k × HoldsState trees k.registry
+IsStore trees k = IsKept trees k
 
--- the database has the store's schema (not yet written down)
-unfoldable pub HasStoreSchema : Database → Type 0
-HasStoreSchema db = Unit {0}
+-- a database has the store's tables, whatever they hold
+abbrev pub HoldsTables : Database → Type 0
+HoldsTables db = HoldsContent db (content_in db.trees)
 
--- a database without any table, index or view (not yet written down)
-unfoldable pub IsBlank : Database → Type 0
-IsBlank db = Unit {0}
+-- a database is a store of this
+pub record IsStoreDatabase (db : Database) (k : Kept) : Type 0 where
+  pub schema : db.schema ≡ store_schema
+  pub kept : IsKept db.trees k
+
+-- a database without any table, index or view
+abbrev pub IsBlank : Database → Type 0
+IsBlank db = db.schema ≡ no_schema

@@ -60,14 +60,16 @@ impl<'a, S: Alter> Change<'a, S> {
         ensures honest { HasCleanDisk (state S.Store self.exit.0.now.conn) → HasCleanDisk (state S.Store self.entry.store.now.conn) }
         ensures written { OnOk result (self.exit.0.now.writes ≡ min (self.entry.store.now.writes + self.entry.count) (2 ^ 64 - 1)) }
         ensures unwritten { OnErr result (self.exit.0.now.writes ≡ self.entry.store.now.writes) }
-        ensures committed { OnOk result ((before k : Kept) (s : State) → Rest S.Store self.entry before k → HoldsNow S.Store self.entry s → Stands S.Store self.exit.0.now (with_registry k s)) }
+        ensures committed { OnOk result ((before k : Kept) (s : State) → Rest S.Store self.entry before (with_registry k s) → HoldsNow S.Store self.entry k.registry → Stands S.Store self.exit.0.now k) }
         ensures kept { OnErr result ((before : Kept) → Began S.Store self.entry before → Stands S.Store self.exit.0.now before) }
-        ensures crash { (before k : Kept) (s : State) → Rest S.Store self.entry before k → HoldsNow S.Store self.entry s → LeavesOr S.Store self.entry.store.now.conn self.exit.0.now.conn (with_registry k s) }
-        ensures left { OnOk result ((before k : Kept) (s : State) → Rest S.Store self.entry before k → HoldsNow S.Store self.entry s → LeavesOnly S.Store self.exit.0.now (with_registry k s)) }
+        ensures crash { (before k : Kept) (s : State) → Rest S.Store self.entry before (with_registry k s) → HoldsNow S.Store self.entry k.registry → LeavesOr S.Store self.entry.store.now.conn self.exit.0.now.conn k }
+        ensures left { OnOk result ((before k : Kept) (s : State) → Rest S.Store self.entry before (with_registry k s) → HoldsNow S.Store self.entry k.registry → LeavesOnly S.Store self.exit.0.now k) }
         ensures cause { IfErr result (λ e. e ≡ SFault.S4 → ⊥) }
     {
-        let Change { store: _, count: _ } = self;
-        Err(SFault::S2)
+        let Change { store, count } = self;
+        store.commit_here()?;
+        store.writes = store.writes.saturating_add(count);
+        Ok(())
     }
 }
 
@@ -78,6 +80,7 @@ impl<S: Alter> Drop for Change<'_, S> {
         ensures kept { (before : Kept) → Began S.Store self.entry before → Stands S.Store self.exit.0.now before }
         ensures survives { LeavesNoMore S.Store self.entry.store.now.conn self.exit.0.now.conn }
     {
-        let Change { store: _, count: _ } = self;
+        let Change { store, count: _ } = self;
+        store.give_up();
     }
 }

@@ -12,6 +12,7 @@ use std::alloc::Global;
 impl<'a, S: Alter> Registry for Change<'a, S> {
     ghost use Rattle.sqlite.specs.State.{HasCleanDisk};
     ghost use Rattle.sqlite.specs.Held.{state};
+    ghost use Rattle.esc_apply.specs.Registry.{saturated};
     ghost use Rattle.esc_store.specs.Kept.{Kept};
     ghost use Rattle.esc_store.specs.Standing.{HoldsNow, Follows};
     ghost use Rattle.std.proofs.Common.{inl, refl, ◌∙◌, arith};
@@ -21,7 +22,7 @@ impl<'a, S: Alter> Registry for Change<'a, S> {
 
     ghost holds = { λ r s. HoldsNow S.Store r s };
 
-    ghost count = { λ r. r.count };
+    ghost count = { λ r. saturated r.count };
 
     ghost is_honest = { λ r. HasCleanDisk (state S.Store r.store.now.conn) };
 
@@ -64,6 +65,8 @@ impl<'a, S: Alter> Registry for Change<'a, S> {
     fn writes(&self) -> u64 {
         self.count
     }
+
+    ghost bounded = { λ r. Prim.omega arith };
 
     ghost stays = { λ r. record { goes_on = record { same_reference = refl; manifest = refl; writes = refl; survives = record { clean = Prim.omega arith; shield = λ h. h; counts = Prim.omega arith; limit = refl; closes = λ _ up. inl up; crash = λ _ db may. inl may }; began = λ k h. h }; rest = λ before k h. h } };
 

@@ -1,17 +1,19 @@
 //! The store.
 
-ghost use Rattle.std.specs.Prelude.{◌≡◌, ◌≢◌, ◌↔◌, IsTrue, IfOk, IfErr, OnOk, OnErr, MatchResult};
+ghost use Rattle.std.specs.Prelude.{◌≡◌, ◌⊎◌, true, false, Ok, IsErr, IsTrue, IfOk, IfErr, OnOk, OnErr, MatchResult};
 ghost use Rattle.std.specs.Borrow.{sem, RestsIfErr};
 ghost use Rattle.sqlite.specs.Held.{state};
-ghost use Rattle.esc_store.specs.Kept.{Kept, fresh};
+ghost use Rattle.esc_store.specs.Kept.{Kept, fresh, with_registry};
+ghost use Rattle.esc_apply.specs.Registry.{State};
 ghost use Rattle.esc_store.specs.Tables.{IsBlank, IsStore};
-ghost use Rattle.esc_store.specs.Standing.{Stands, Began, Rest, HoldsNow, BeganIn, RestIn, HoldsIn, HoldsKept, LeavesOnly, LeavesOr, LeavesNoMore, IsHonest};
+ghost use Rattle.esc_store.specs.Standing.{Stands, Began, Rest, HoldsNow, BeganIn, RestIn, HoldsIn, HoldsKept, LeavesOnly, LeavesOr, LeavesNoMore, IsHonest, IsGivenUp};
 ghost use Rattle.sqlite.specs.State.{HasCleanDisk};
 
 use crate::change::Change;
 use crate::fault::SFault;
 use esc_manifest::Manifest;
-use sqlite::{Alter, Connection};
+use esc_rows::transaction::{abandon_in, begin_in, commit_in};
+use sqlite::{Alter, Connection, Error};
 use std::alloc::Global;
 
 /// A store: a database of seven tables. Contracts see what it *stands for*: the rows of its manifest, a receipt for
@@ -110,6 +112,65 @@ impl<S: Alter> Store<S> {
         ensures rest { OnOk result ((k : Kept) → Stands S.Store self.old k → RestIn S.Store self.new k k) }
         ensures holds { OnOk result ((k : Kept) → Stands S.Store self.old k → HoldsIn S.Store self.new k.registry) }
     {
-        Err(SFault::S2)
+        let begun = begin_in(&mut self.conn);
+        self.settle(begun)
+    }
+
+    // Commits the transaction of a change.
+    pub(crate) fn commit_here(&mut self) -> Result<(), SFault>
+        ensures manifest { self.new.manifest ≡ self.old.manifest }
+        ensures writes { self.new.writes ≡ self.old.writes }
+        ensures honest { IsHonest S.Store self.new → IsHonest S.Store self.old }
+        ensures committed { OnOk result ((before k : Kept) (s : State) → RestIn S.Store self.old before (with_registry k s) → HoldsIn S.Store self.old k.registry → Stands S.Store self.new k) }
+        ensures kept { OnErr result ((before : Kept) → BeganIn S.Store self.old before → Stands S.Store self.new before) }
+        ensures crash { (before k : Kept) (s : State) → RestIn S.Store self.old before (with_registry k s) → HoldsIn S.Store self.old k.registry → LeavesOr S.Store self.old.conn self.new.conn k }
+        ensures left { OnOk result ((before k : Kept) (s : State) → RestIn S.Store self.old before (with_registry k s) → HoldsIn S.Store self.old k.registry → LeavesOnly S.Store self.new k) }
+        ensures cause { IfErr result (λ fault. (fault ≡ SFault.S1) ⊎ (fault ≡ SFault.S2)) }
+    {
+        let committed = commit_in(&mut self.conn);
+        self.settle(committed)
+    }
+
+    // Gives up what a failure left of a transaction.
+    pub(crate) fn give_up(&mut self)
+        ensures manifest { self.new.manifest ≡ self.old.manifest }
+        ensures writes { self.new.writes ≡ self.old.writes }
+        ensures given_up { IsGivenUp (state S.Store self.old.conn) (state S.Store self.new.conn) }
+    {
+        if self.conn.is_autocommit() {
+            return;
+        }
+        abandon_in(&mut self.conn);
+    }
+
+    // What the database answered. After a failure no transaction is on.
+    pub(crate) fn settle<T>(&mut self, outcome: Result<T, Error>) -> Result<T, SFault>
+        ensures manifest { self.new.manifest ≡ self.old.manifest }
+        ensures writes { self.new.writes ≡ self.old.writes }
+        ensures survives { LeavesNoMore S.Store self.old.conn self.new.conn }
+        ensures ok { IfOk result (λ x. (outcome ≡ Ok x) × (self.new ≡ self.old)) }
+        ensures err { OnErr result (IsErr outcome × IsGivenUp (state S.Store self.old.conn) (state S.Store self.new.conn)) }
+        ensures cause { IfErr result (λ fault. (fault ≡ SFault.S1) ⊎ (fault ≡ SFault.S2)) }
+    {
+        match outcome {
+            Ok(x) => Ok(x),
+            Err(error) => {
+                self.give_up();
+                Err(SFault::from(error))
+            }
+        }
+    }
+
+    // Whether a transaction is on: after a failure it is given up, and a change goes on no more.
+    pub(crate) fn goes_on(&self) -> Result<(), SFault>
+        ensures on { OnOk result (self.now.conn.in_transaction ≡ true) }
+        ensures off { OnErr result ((self.now.conn.in_transaction ≡ false) × (IsTrue (state S.Store self.now.conn).is_open → (state S.Store self.now.conn).now ≡ (state S.Store self.now.conn).committed)) }
+        ensures cause { IfErr result (λ fault. fault ≡ SFault.S1) }
+    {
+        if self.conn.is_autocommit() {
+            Err(SFault::S1)
+        } else {
+            Ok(())
+        }
     }
 }

@@ -1,12 +1,12 @@
 -- Objects as entries in the order of their keys, and as what each key has.
-use Rattle.std.proofs.Common.{◌≡◌, ◌∙◌, ℕ, Bool, true, false, cond, List, [], ◌∷◌, ◌++◌, map, filter, Option, Some, None, refl, sym, ap, subst, inl, inr}
-use Rattle.std.specs.Prelude.{option_map, is_some, T, ◌||◌, ◌&&◌, IsTrue}
-use Rattle.std.specs.List.{last_or, fold, list_any, AllByRecursion}
+use Rattle.std.proofs.Common.{◌≡◌, ◌∙◌, Bool, true, false, cond, List, [], ◌∷◌, map, Option, Some, None, refl, sym, ap, subst, inl, inr}
+use Rattle.std.specs.Prelude.{option_map, T, ◌&&◌}
+use Rattle.std.specs.List.{last_or, fold, AllByRecursion}
 use Rattle.std.specs.List.Sorted.{IsStrictlySortedBy}
 use Rattle.std.specs.Map.{lookup, keys_of}
 use Rattle.std.specs.BTreeMap.{is_at, insert_entry}
 use Rattle.std.specs.FinMap.Entries.{put, find, is_sorted, below_all, find-put, is_sorted-put, same_entries, by_order}
-use Rattle.std.specs.Ordering.{match_ordering, is_lt, is_eq}
+use Rattle.std.specs.Ordering.{match_ordering, is_lt}
 use Rattle.std.specs.declared.cmp.Ordering.{Ordering}
 use Rattle.std.specs.declared.cmp.Ordering.TheVariants.{Less, Equal, Greater}
 use Rattle.std.proofs.lemmas.Bool.{cases_Bool}
@@ -50,9 +50,9 @@ same_objects es fs first then same = same_entries key_cmp key_total key_cmp-IsAn
 -- ---- each key once, with its last value
 
 last_at : {X : Type 0} (k : KeyName) (p : KeyName × X) (ps : List (KeyName × X)) (o : Option X) → last_or o (at_key k (p ∷ ps)) ≡ last_or (cond (key_eq k p.0) (Some p.1) o) (at_key k ps)
-last_at k p ps o = elim (cases_Bool (key_eq k p.0)) [ | inl e ↦ rw e refl | inr e ↦ rw e refl ]
+last_at k p ps o = elim (cases_Bool (key_eq k p.0)) [ inl e ↦ rw e refl | inr e ↦ rw e refl ]
 
-abbrev putting : {X : Type 0} → List (KeyName × X) → KeyName × X → List (KeyName × X)
+abbrev pub putting : {X : Type 0} → List (KeyName × X) → KeyName × X → List (KeyName × X)
 putting entries p = put key_cmp p.0 p.1 entries
 
 found_from : {X : Type 0} (k : KeyName) (ps es : List (KeyName × X)) → find key_cmp k (fold putting es ps) ≡ last_or (find key_cmp k es) (at_key k ps)
@@ -78,9 +78,9 @@ object_at children e = (e.0, with_children (at_key e.0 children) e.1)
 found_object : (k : KeyName) (children es : List (KeyName × RowValue)) → find key_cmp k (map (object_at children) es) ≡ option_map (with_children (at_key k children)) (find key_cmp k es)
 found_object k children [] = refl
 found_object k children (e ∷ es) = elim (cases_Bool (key_eq k e.0)) [
-    | inl same ↦ rw same (ap (λ (l : KeyName). Some (with_children (at_key l children) e.1)) (sym (key_is k e.0 same)))
-    | inr other ↦ rw other (found_object k children es)
-  ]
+  | inl same ↦ rw same (ap (λ (l : KeyName). Some (with_children (at_key l children) e.1)) (sym (key_is k e.0 same)))
+  | inr other ↦ rw other (found_object k children es)
+]
 
 same_below : (k : KeyName) (children es : List (KeyName × RowValue)) → below_all key_cmp k (map (object_at children) es) ≡ below_all key_cmp k es
 same_below k children [] = refl

@@ -1,3 +1,4 @@
+pub mod DepositOf
 pub mod DepositValue
 pub mod KeyName
 pub mod ObjectValue

@@ -31,3 +31,11 @@ in_order pairs = fold (λ entries p. put key_cmp p.0 p.1 entries) [] pairs
 -- each key of a parent row, in order, with its object
 unfoldable pub objects_of : List (KeyName × RowValue) → List (KeyName × RowValue) → List (KeyName × ObjectValue)
 objects_of parents children = map (λ e. (e.0, with_children (at_key e.0 children) e.1)) (in_order parents)
+
+-- an object of a parent row alone, with its key
+abbrev pub alone : KeyName × RowValue → KeyName × ObjectValue
+alone p = (p.0, with_children [] p.1)
+
+-- an object with one more child row
+abbrev pub with_child : RowValue → ObjectValue → ObjectValue
+with_child row object = record object { children = object.children ++ (row ∷ []) }

@@ -4,6 +4,7 @@ use Rattle.std.specs.List.{list_all, fold}
 use Rattle.std.specs.Cmp.Lexicographic.{slice_cmp}
 use Rattle.std.specs.Ordering.{nat_cmp, is_lt}
 use Rattle.esc_bundle.specs.Bundle.{Named}
+use Rattle.esc_bundle.specs.Frame.{frame}
 use Rattle.esc_envelope.specs.EnvelopeValue.{TableValue, EnvelopeValue}
 use Rattle.esc_envelope.specs.Envelope.{envelope_of}
 use Rattle.esc_tables.specs.DepositValue.{DepositValue}
@@ -75,11 +76,11 @@ deposit_in files e = do
   right ← check_rows (rows_in files (tables_of e))
   Ok (deposit_of files e)
 
--- the deposit that sections are, the first of which is the envelope
+-- the deposit that sections are, the first of which is the envelope; no bundle has no section
 unfoldable pub sections_deposit : List Named → Result DepositValue ℕ
 sections_deposit [] = Err 5
 sections_deposit (first ∷ files) = envelope_of first.bytes >>= deposit_in files
 
--- the deposit that a body is, or the number of the refusal (not yet written down)
+-- the deposit that a body is, or the number of the refusal
 unfoldable pub reading : List ℕ → Result DepositValue ℕ
-reading body = Err 0
+reading body = frame body >>= sections_deposit

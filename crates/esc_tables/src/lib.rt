@@ -1,17 +1,51 @@
-//! From a bundle to the deposit that it is.
+//! From the bytes of a bundle to the deposit that it is.
+//!
+//! A bundle (`esc_bundle`) is an envelope and files. The envelope (`esc_envelope`) declares tables, each with a kind of objects,
+//! its fields, one of them the key, and the file that has its rows as CSV. This crate takes the bytes of a body and answers
+//!
+//! - the `Deposit`: header and counts of the envelope; the keys of the delete rows in the order of declarations and rows; a map
+//!   from keys to objects, where an object is the last parent row of its key with all child rows of that kind and key, by table
+//!   name in byte order and then as in the file; and the number of orphans, the child rows that have no parent row;
+//! - or the least refusal that stands in the whole bundle: U1 to U4 of its frame, U5 to U7 of its envelope, and then
+//!   U8: a declared file is no section behind the envelope, or such a section is not declared exactly once;
+//!   U9: a row has another number of fields than declared, or a field that is no UTF-8;
+//!   U10: a key is empty or longer than 255 bytes;
+//!   U11: there are more than 100,000 rows;
+//! - or `NoMemory`, where memory is refused.
+//!
+//! Keys of hosts and domains are the field's text with ASCII letters lowered (names of the DNS have no case), all others as they
+//! stand. Cells keep the text of the file. CSV is as the crate `csv` reads it, without a heading row: empty lines are no rows, and
+//! a byte order mark at the start of a file is dropped.
+//!
+//! # What is promised
+//!
+//! `read_deposit` answers exactly what the definition `reading` of `specs/Reading.antt` gives. That one selects from lists of rows;
+//! the code builds a map. `reading_is_exact` says that `reading` is what the relations of `specs/DepositOf.antt` say: which body is
+//! which deposit, and which refusal stands first.
+//!
+//! # Cost
+//!
+//! Two passes over the text: the first looks at every row and keeps none, the second copies each cell once. Objects are found by a
+//! map, so the time is the number of rows times its logarithm. Nothing passes over all rows for one object or one table.
 #![tactic(auto)]
 
 mod deposit;
 mod files;
+mod gather;
 mod key;
 mod laws;
 mod object;
+mod order;
 mod reading;
 mod row;
 mod rows;
 mod survey;
+mod tables;
+#[cfg(test)]
+mod tests;
 
 pub use deposit::Deposit;
 pub use key::Key;
+pub use laws::{reading_is_exact, tables_are_in_order};
 pub use object::{Object, Row};
 pub use reading::read_deposit;

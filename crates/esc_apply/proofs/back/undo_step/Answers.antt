@@ -1,4 +1,4 @@
-use Rattle.std.proofs.Common.{◌≡◌, ◌+◌, ◌∙◌, length, drop, ap, sym, subst, arith, length-drop}
+use Rattle.std.proofs.Common.{◌≡◌, ◌+◌, ◌∙◌, length, drop, ap, arith, length-drop}
 use Rattle.esc_apply.specs.Registry.{saturated}
 use Rattle.esc_apply.proofs.Counts.{all_counted}
 use Rattle.esc_apply.proofs.Runs.{returns_first}

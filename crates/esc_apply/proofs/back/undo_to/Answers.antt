@@ -1,5 +1,4 @@
-use Rattle.std.proofs.Common.{◌≡◌, ◌+◌, ◌-◌, ◌<◌, ℕ, suc, List, length, take, drop, sum_by, ap, sym, ◌∙◌, arith}
-use Rattle.esc_tables.specs.DepositValue.{DepositValue}
+use Rattle.std.proofs.Common.{◌≡◌, ◌+◌, ◌-◌, ◌<◌, ℕ, suc, length, take, ◌∙◌, arith}
 use Rattle.esc_apply.specs.Registry.{saturated}
 use Rattle.esc_apply.specs.Images.{chain_state}
 use Rattle.esc_apply.proofs.Chains.{one_less}
@@ -18,12 +17,12 @@ loop-left-preserved g c =
       above = omega arith;
       within = omega (arith, before.within);
       follows = g.met.R.Registry.goes_on _ _ _ before.follows made.follows;
-      counted = counted_on (registry.count c.args.r.now) (registry.count c.loop-left.r) _ _ c.loop-left.writes _ before.counted made.counted c.saturating_add-writes.ensures;
+      counted = counted_on (registry.count c.args.r.now) (registry.count c.loop-left.r) (registry.count c.undo_step.new.r) c.in_ok-undo_step.field-0 c.loop-left.writes c.saturating_add-writes.result before.counted made.counted c.saturating_add-writes.ensures;
       chain = λ honest k len held.
           let now = before.chain (g.met.R.Registry.was_honest _ _ made.follows honest) k len held in
           let undone = made.restored honest (chain_state (take left k)) now.0 in
           let is : left ≡ suc (left - 1) = omega arith in
           let below : left - 1 < length k = omega (arith, len, before.within) in
-          let less = one_less (registry.holds c.undo_step.new.r) k left (left - 1) c.loop-left.writes _ is below now.1 undone.0 undone.1 in
-          (less.0, c.saturating_add-writes.ensures ∙ less.1);
+          let less = one_less (registry.holds c.undo_step.new.r) k left (left - 1) c.loop-left.writes c.in_ok-undo_step.field-0 is below now.1 undone.0 undone.1 in
+          (less.0, let sum = less.1 in let made = c.saturating_add-writes.ensures in cc);
     }

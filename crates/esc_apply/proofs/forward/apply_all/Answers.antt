@@ -1,7 +1,6 @@
-use Rattle.std.proofs.Common.{◌≡◌, ◌+◌, ◌++◌, [], ◌∷◌, List, take, sum_by, ap, sym, ◌∙◌, arith}
+use Rattle.std.proofs.Common.{◌≡◌, ◌+◌, ◌++◌, [], ◌∷◌, take, ap, sym, ◌∙◌, arith}
 use Rattle.std.proofs.lemmas.List.{take_more}
 use Rattle.esc_tables.specs.DepositValue.{DepositValue}
-use Rattle.esc_apply.specs.Tables.{mention_count}
 use Rattle.esc_apply.specs.Registry.{saturated}
 use Rattle.esc_apply.specs.Images.{chain_state}
 use Rattle.esc_apply.proofs.Chains.{fresh-chain, next_step, one_more, one_more_sum}

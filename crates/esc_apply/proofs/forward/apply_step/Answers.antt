@@ -1,9 +1,7 @@
-use Rattle.std.proofs.Common.{◌≡◌, ◌+◌, ◌++◌, map, length, ap, sym, subst, ◌∙◌, arith}
+use Rattle.std.proofs.Common.{◌++◌, map, ap, sym, subst, ◌∙◌, arith}
 use Rattle.std.proofs.lemmas.Map.Keys.{IsDistinct-from_sorted}
 use Rattle.esc_tables.specs.KeyName.{key_cmp}
 use Rattle.esc_tables.specs.DepositValue.{DepositValue}
-use Rattle.esc_apply.specs.Tables.{mention_count}
-use Rattle.esc_apply.specs.Registry.{saturated}
 use Rattle.esc_apply.specs.Changes.{with_object, without, changed_by}
 use Rattle.esc_apply.proofs.Mentions.{changes_made, changes_counted}
 use Rattle.esc_apply.proofs.Runs.{AreChangesOf, new_all, new_first, new_then, changed_by-append, changed_by-all}

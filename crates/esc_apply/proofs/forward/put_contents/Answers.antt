@@ -1,7 +1,7 @@
 use Rattle.std.proofs.Common.{◌≡◌, ◌+◌, List, map, length, ap, arith}
 use Rattle.esc_tables.specs.KeyName.{KeyName}
 use Rattle.esc_tables.specs.ObjectValue.{ObjectValue}
-use Rattle.esc_apply.specs.Changes.{with_object}
+use Rattle.esc_apply.specs.Changes.{with_object, changed_by}
 use Rattle.esc_apply.proofs.Counts.{one_counted}
 use Rattle.esc_apply.proofs.Runs.{leads_more}
 use Rattle.esc_apply.proofs.forward.put_contents.Goals as goal
@@ -15,9 +15,9 @@ loop-key-preserved g c =
     let more : length c.loop-key.key-iterator ≡ length c.next.new.self + 1 = omega (arith, one) in
     record {
       follows = g.met.R.Registry.goes_on _ _ _ before.follows made.follows;
-      counted = one_counted (registry.count c.loop-key.r) _ _ _ _ more before.counted made.counted;
+      counted = one_counted (registry.count c.loop-key.r) (registry.count c.change.new.r) (length c.loop-key.key-iterator) (length c.next.new.self) _ more before.counted made.counted;
       leads = λ honest s held new.
-          leads_more _ (registry.holds c.change.new.r) _ c.args.pos (with_object (c.in-Some.key.now, c.in-Some.object.now)) _ _
+          leads_more (registry.holds c.loop-key.r) (registry.holds c.change.new.r) (changed_by s c.args.pos (map with_object c.args.contents.now.entries)) c.args.pos (with_object (c.in-Some.key.now, c.in-Some.object.now)) (map with_object c.next.new.self) (map with_object c.loop-key.key-iterator)
           (ap (λ (l : List (KeyName × ObjectValue)). map with_object l) c.in-Some.ensures.steps)
           (before.leads (g.met.R.Registry.was_honest _ _ made.follows honest) s held new)
           (λ t. made.changed honest t);

@@ -1,7 +1,6 @@
-use Rattle.std.proofs.Common.{◌≡◌, ℕ, ◌+◌, ◌-◌, ◌<◌, ◌≤◌, ◌^◌, ◌++◌, Bool, true, false, cond, List, [], length, take, drop, sum_by, refl, ap, ap₂, sym, subst, ◌∙◌, arith, length-take}
+use Rattle.std.proofs.Common.{◌≡◌, ℕ, ◌+◌, ◌-◌, ◌<◌, ◌≤◌, ◌^◌, ◌++◌, Bool, true, false, cond, List, [], length, take, drop, sum_by, ap, ap₂, subst, ◌∙◌, arith, length-take}
 use Rattle.std.proofs.lemmas.List.Sums.{sum_by-take-drop, sum_by-append}
 use Rattle.esc_tables.specs.DepositValue.{DepositValue}
-use Rattle.esc_apply.specs.declared.moves.Work.{Work}
 use Rattle.esc_apply.specs.Tables.{mention_count}
 use Rattle.esc_apply.specs.Registry.{saturated}
 use Rattle.esc_apply.specs.Images.{chain_state}

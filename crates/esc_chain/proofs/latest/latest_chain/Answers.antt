@@ -1,11 +1,10 @@
-use Rattle.std.proofs.Common.{◌≡◌, ℕ, ◌<◌, List, [], ◌∷◌, ◌++◌, length, reverse, Option, Some, None, refl, sym, ap, subst, ◌∙◌, append_assoc, arith}
+use Rattle.std.proofs.Common.{◌≡◌, ℕ, ◌<◌, List, [], ◌∷◌, ◌++◌, length, reverse, Some, None, sym, ap, subst, ◌∙◌, append_assoc}
 use Rattle.std.specs.Prelude.{slice_index}
 use Rattle.std.proofs.lemmas.List.{reverse-reverse}
 use Rattle.esc_manifest.specs.Rows.{watermark_at}
 use Rattle.esc_chain.specs.declared.links.Link.{Link}
-use Rattle.esc_chain.specs.declared.links.Link.TheVariants.{Start, To, Broken}
 use Rattle.esc_chain.specs.Chain.{IsLatestBack, IsLatestChain}
-use Rattle.esc_chain.specs.Walk.{link_at, HasWay, BasesStandFirst}
+use Rattle.esc_chain.specs.Walk.{BasesStandFirst}
 use Rattle.esc_chain.proofs.Chains.{earlier_falls}
 use Rattle.esc_chain.proofs.Members.{latest_is_held}
 use Rattle.esc_chain.proofs.LatestEnd.{prepared, rows_have_links, end_in_range, none_is_latest, last_is_latest, last_of, no_end, bases_first, to_earlier}

@@ -1,4 +1,4 @@
-use Rattle.std.proofs.Common.{◌≡◌, refl, arith, ◌∙◌, sym, ap, FitsSigned, w64, ℤ, Some}
+use Rattle.std.proofs.Common.{◌≡◌, refl, ◌∙◌, ap, FitsSigned, w64, ℤ, Some}
 use Rattle.std.proofs.lemmas.Int.{to_z-of_z}
 use Rattle.esc_envelope.proofs.RealParts.{IsShort, taken, refused}
 use Rattle.esc_envelope.proofs.moment.nanoseconds.Goals as goal

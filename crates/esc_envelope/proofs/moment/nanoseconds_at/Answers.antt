@@ -1,4 +1,4 @@
-use Rattle.std.proofs.Common.{◌≡◌, ℤ, pos, ◌∙◌, arith, FitsSigned, w64}
+use Rattle.std.proofs.Common.{◌≡◌, arith, FitsSigned, w64}
 use Rattle.std.specs.Int.{w128}
 use Rattle.std.proofs.lemmas.Int.{to_z-of_z}
 use Rattle.jiff.specs.Words.{civil_nanos}

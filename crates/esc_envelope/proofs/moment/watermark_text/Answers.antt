@@ -1,6 +1,5 @@
-use Rattle.std.proofs.Common.{◌≡◌, ◌∙◌, sym, ap, List, ℕ, arith, pos, ℤ, FitsSigned, w64, ◌<ℤ◌, ◌≤ℤ◌}
+use Rattle.std.proofs.Common.{◌∙◌, sym, ap, List, ℕ, arith, FitsSigned, w64}
 use Rattle.std.proofs.lemmas.Int.{to_z-of_z, ints}
-use Rattle.jiff_core.proofs.SignedLemmas.{signed_arith}
 use Rattle.esc_envelope.specs.Watermark.{IsInYears}
 use Rattle.esc_envelope.proofs.MomentReads.{some_of}
 use Rattle.esc_envelope.proofs.Shown.{shown, not_shown}

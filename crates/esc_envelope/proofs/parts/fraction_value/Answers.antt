@@ -1,6 +1,4 @@
-use Rattle.std.proofs.Common.{◌≡◌, ℕ, ◌+◌, ◌-◌, ◌*◌, ◌/◌, get_or, refl, sym, subst, arith}
-use Rattle.jiff_fmt.specs.Reader.{fraction_value}
-use Rattle.esc_envelope.proofs.Fractions.{IsReadUpTo, next_digit, all_read, stays_small}
+use Rattle.esc_envelope.proofs.Fractions.{next_digit, all_read, stays_small}
 use Rattle.esc_envelope.proofs.parts.fraction_value.Goals as goal
 
 pub loop-digit-preserved : goal.loop-digit-preserved

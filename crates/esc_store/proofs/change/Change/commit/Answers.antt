@@ -1,11 +1,10 @@
-use Rattle.esc_store.specs.Standing.{BeganIn, RestIn, Began, Rest, Stands}
-use Rattle.esc_store.specs.Kept.{with_registry}
-use Rattle.esc_store.proofs.Standings.{leaves_same}
+use Rattle.esc_store.specs.Standing.{Stands, LeavesOnly}
 use Rattle.esc_store.proofs.change.Change.commit.Goals as goal
 
-pub returns-clause-kept : goal.returns-clause-kept
-unfolding BeganIn
-returns-clause-kept g c = λ before began. began
+pub returns-clause-committed : goal.returns-clause-committed
+unfolding Stands
+returns-clause-committed g c = c.in_ok-commit_here.ensures.committed
 
-pub returns-clause-crash : goal.returns-clause-crash
-returns-clause-crash g c = λ before k tables rest holds. leaves_same g.S.Store _ (with_registry k tables)
+pub returns-clause-left : goal.returns-clause-left
+unfolding LeavesOnly
+returns-clause-left g c = c.in_ok-commit_here.ensures.left

@@ -1,0 +1,104 @@
+//! A registry that fails at one of its calls.
+
+use crate::{MemRegistry, Registry};
+use esc_bundle::NoMemory;
+use esc_tables::{Key, Object};
+use std::alloc::Global;
+
+/// Why a call failed.
+#[derive(Clone, Copy, Debug, PartialEq, Eq)]
+pub enum Stopped {
+    Here,
+    NoMemory,
+}
+
+impl From<NoMemory> for Stopped {
+    fn from(_error: NoMemory) -> Stopped {
+        Stopped::NoMemory
+    }
+}
+
+/// A registry in memory that fails once so many calls were made.
+#[derive(Drop)]
+pub struct Stopping {
+    pub inner: MemRegistry,
+    pub left: u32,
+}
+
+// One call more, if it is let through.
+fn pass(left: &mut u32) -> Result<(), Stopped> {
+    match left.checked_sub(1) {
+        Some(fewer) => {
+            *left = fewer;
+            Ok(())
+        }
+        None => Err(Stopped::Here),
+    }
+}
+
+impl Registry for Stopping {
+    ghost use Rattle.std.proofs.Common.{arith};
+    ghost use Rattle.esc_apply.specs.Registry.{saturated};
+
+    type Error = Stopped;
+
+    ghost holds = { λ r s. ⟦<MemRegistry as Registry>⟧.holds r.inner s };
+
+    ghost count = { λ r. saturated (⟦<MemRegistry as Registry>⟧.count r.inner) };
+
+    ghost is_honest = { λ r. Unit {0} };
+
+    ghost follows = { λ a b. Unit {0} };
+
+    fn get(&mut self, alloc: Global, k: &Key) -> Result<Option<Object>, Stopped> {
+        pass(&mut self.left)?;
+        Ok(self.inner.get(alloc, k)?)
+    }
+
+    fn put(&mut self, alloc: Global, k: &Key, o: &Object) -> Result<(), Stopped> {
+        pass(&mut self.left)?;
+        Ok(self.inner.put(alloc, k, o)?)
+    }
+
+    fn remove(&mut self, k: &Key) -> Result<(), Stopped> {
+        pass(&mut self.left)?;
+        Ok(self.inner.remove(k)?)
+    }
+
+    fn clear(&mut self) -> Result<(), Stopped> {
+        pass(&mut self.left)?;
+        Ok(self.inner.clear()?)
+    }
+
+    fn put_undo(
+        &mut self,
+        alloc: Global,
+        step: u32,
+        k: &Key,
+        before: Option<&Object>,
+    ) -> Result<(), Stopped> {
+        pass(&mut self.left)?;
+        Ok(self.inner.put_undo(alloc, step, k, before)?)
+    }
+
+    fn take_undo(
+        &mut self,
+        alloc: Global,
+        step: u32,
+    ) -> Result<Vec<(Key, Option<Object>)>, Stopped> {
+        pass(&mut self.left)?;
+        Ok(self.inner.take_undo(alloc, step)?)
+    }
+
+    fn writes(&self) -> u64 {
+        self.inner.writes()
+    }
+
+    ghost bounded = { λ r. Prim.omega arith };
+
+    ghost stays = { λ r. tt };
+
+    ghost goes_on = { λ a b c p q. tt };
+
+    ghost was_honest = { λ a b p h. tt };
+}

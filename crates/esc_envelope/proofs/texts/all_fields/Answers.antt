@@ -1,0 +1,18 @@
+use Rattle.std.proofs.Common.{◌∙◌, ap, sym, map, string_bytes}
+use Rattle.serde_json.specs.View.{view}
+use Rattle.esc_envelope.specs.Tables.{field_of}
+use Rattle.esc_envelope.proofs.Gather.{next, fails, ended}
+use Rattle.esc_envelope.proofs.texts.all_fields.Goals as goal
+
+pub returns-in_default : goal.returns-in_default
+returns-in_default c =
+    fails field_of view c.args.values.now c.loop-value.value-index c.value-item.result (map string_bytes c.loop-value.fields.items) c.loop-value-test.true
+    (ap (λ v. field_of (view v)) (sym c.value-item.is) ∙ sym c.in_default.ensures) c.loop-value.invariant
+
+pub loop-value-preserved : goal.loop-value-preserved
+loop-value-preserved c =
+    next field_of view c.args.values.now c.loop-value.value-index c.value-item.result c.in-Some.field.now (map string_bytes c.loop-value.fields.items) _ c.loop-value-test.true
+    (ap (λ v. field_of (view v)) (sym c.value-item.is) ∙ sym c.in-Some.ensures) c.in_ok-push_copy.ensures c.loop-value.invariant
+
+pub returns : goal.returns
+returns c = ended field_of view c.args.values.now c.loop-value.value-index (map string_bytes c.loop-value.fields.items) c.loop-value-test.false c.loop-value.invariant

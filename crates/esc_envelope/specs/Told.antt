@@ -1,0 +1,8 @@
+-- A header whose texts lie in the envelope.
+use Rattle.std.specs.Prelude.{option_map}
+use Rattle.esc_envelope.specs.declared.members.Told.{Told}
+use Rattle.esc_envelope.specs.HeaderValue.{HeaderValue}
+
+-- the header
+abbrev pub told_value : Told → HeaderValue
+told_value t = record { id = t.id.now; place = t.place; prev = option_map (λ p. p.now) t.prev; resend = t.resend }

@@ -1,0 +1,18 @@
+use Rattle.std.proofs.Common.{refl}
+use Rattle.sqlite.specs.Held.{state}
+use Rattle.esc_rows.specs.Texts.{select_undo_text}
+use Rattle.esc_rows.specs.Changes.{Tells}
+use Rattle.esc_rows.proofs.PartLemmas.{read_part, asked}
+use Rattle.esc_rows.proofs.Compiled.{select_undo_is}
+use Rattle.esc_rows.proofs.UndoLemmas.{shows_images}
+use Rattle.esc_rows.specs.Steps.{ShowsImages}
+use Rattle.std.proofs.Common.{pos, [], ◌∷◌}
+use Rattle.sqlite_value.specs.declared.value.Value.TheVariants.{Int}
+use Rattle.esc_rows.proofs.undo.ask_undo.Goals as goal
+
+pub returns : goal.returns
+returns g c =
+    let old = state g.S.Store c.args.conn.now in
+    let new = state g.S.Store c.read_all.new.conn in
+    record { read = read_part select_undo_text _ old new select_undo_is.plain (λ v. v.items) (λ db v. Tells (ShowsImages c.args.at) db v.items) c.read_all.result (c.read_all.ensures.survives select_undo_is.reads) c.read_all.ensures.autocommit c.read_all.ensures.ok c.read_all.ensures.err
+    (λ v has shown x h. shows_images old new c.args.at v.items x h (asked select_undo_text old new v.items _ (Int (pos c.args.at) ∷ []) shown (rw (c.params-to_sql.ensures) refl))) }

@@ -1,0 +1,155 @@
+-- What each statement does to what a store holds, and what each query says of it.
+use Rattle.std.specs.List.{AllByRecursion}
+use Rattle.std.specs.Ordering.{nat_cmp, ordering_then}
+use Rattle.std.specs.declared.cmp.Ordering.{Ordering}
+use Rattle.std.specs.Cmp.Lexicographic.{slice_cmp}
+use Rattle.std.specs.Prelude.{◌≡◌, ◌<◌, ◌==◌, ◌&&◌, ℕ, pos, Bool, false, List, [], ◌∷◌, ◌++◌, map, filter, find, length, Option, Some, None, option_map, bytes_eq, if◌then◌else◌}
+use Rattle.sqlite.specs.Effect.{Database}
+use Rattle.sqlite_keyed.specs.Keyed.{has_key, insert_by, get_by}
+use Rattle.sqlite_keyed.specs.Lists.{sort_by}
+use Rattle.esc_rows.specs.Rows.{ListedRow, ReceiptRow, HeldRow, StepRow, ObjectRow, UndoRow, held_number}
+use Rattle.esc_rows.specs.Content.{Content, HoldsContent, object_at, image_at, is_same_key, is_same_image}
+
+-- a store that holds a content holds this one then
+abbrev pub Becomes : (Content → Content) → Database → Database → Type 0
+Becomes change old new = (c : Content) → HoldsContent old c → HoldsContent new (change c)
+
+-- of a store the answer is this
+abbrev pub Tells : {X : Type 0} → (Content → X → Type 0) → Database → X → Type 0
+Tells Says db x = (c : Content) → HoldsContent db c → Says c x
+
+-- ---- objects
+
+-- the record is put at the key, and each other key keeps its own
+abbrev pub PutsObject : ℕ → List ℕ → List ℕ → Database → Database → Type 0
+PutsObject kind key bytes old new =
+    (c : Content) → HoldsContent old c
+    → (os : List ObjectRow) × HoldsContent new (record c { objects = os }) × ((k : ℕ) (q : List ℕ) → object_at k q os ≡ (if is_same_key kind key k q then Some bytes else object_at k q c.objects))
+
+-- there is none at the key, and each other key keeps its own
+abbrev pub RemovesObject : ℕ → List ℕ → Database → Database → Type 0
+RemovesObject kind key old new =
+    (c : Content) → HoldsContent old c
+    → (os : List ObjectRow) × HoldsContent new (record c { objects = os }) × ((k : ℕ) (q : List ℕ) → object_at k q os ≡ (if is_same_key kind key k q then None else object_at k q c.objects))
+
+abbrev pub without_objects : Content → Content
+without_objects c = record c { objects = [] }
+
+-- an object without its rowid
+pub record ObjectEntry : Type 0 where
+  pub kind : ℕ
+  pub key : List ℕ
+  pub bytes : List ℕ
+
+abbrev pub object_entry : ObjectRow → ObjectEntry
+object_entry o = record { kind = o.kind; key = o.key; bytes = o.bytes }
+
+-- by kind, then by key
+abbrev pub by_key : ObjectRow → ObjectRow → Ordering
+by_key a b = ordering_then (nat_cmp a.kind b.kind) (slice_cmp nat_cmp a.key b.key)
+
+abbrev pub is_entry_at : ℕ → List ℕ → ObjectEntry → Bool
+is_entry_at kind key e = (e.kind == kind) && bytes_eq e.key key
+
+abbrev pub entry_at : ℕ → List ℕ → List ObjectEntry → Option (List ℕ)
+entry_at kind key es = option_map (λ (e : ObjectEntry). e.bytes) (find (is_entry_at kind key) es)
+
+-- the objects in order: each key once, with its record
+pub record ListsObjects (c : Content) (found : List ObjectEntry) : Type 0 where
+  pub sorted : found ≡ map object_entry (sort_by by_key c.objects)
+  pub same : (k : ℕ) (q : List ℕ) → entry_at k q found ≡ object_at k q c.objects
+
+-- the objects of one kind, in order
+pub record ListsKind (kind : ℕ) (c : Content) (found : List ObjectEntry) : Type 0 where
+  pub sorted : found ≡ map object_entry (sort_by by_key (filter (λ (o : ObjectRow). o.kind == kind) c.objects))
+  pub same : (k : ℕ) (q : List ℕ) → entry_at k q found ≡ (if kind == k then object_at k q c.objects else None)
+
+-- the kind of each object, in order
+pub record ListsKinds (c : Content) (found : List ℕ) : Type 0 where
+  pub sorted : found ≡ map (λ (o : ObjectRow). o.kind) (sort_by by_key c.objects)
+  pub counts : (kind : ℕ) → length (filter (λ k. k == kind) found) ≡ length (filter (λ (o : ObjectRow). o.kind == kind) c.objects)
+
+-- ---- before-images
+
+-- the before-image is put where there was none
+abbrev pub PutsImage : ℕ → ℕ → List ℕ → Option (List ℕ) → Database → Database → Type 0
+PutsImage at kind key before old new =
+    (c : Content) → HoldsContent old c
+    → (us : List UndoRow) × HoldsContent new (record c { undo = us }) × (image_at at kind key c.undo ≡ None)
+    × ((p k : ℕ) (q : List ℕ) → image_at p k q us ≡ (if is_same_image at kind key p k q then Some before else image_at p k q c.undo))
+
+-- the step has none, and each other step keeps its own
+abbrev pub RemovesImages : ℕ → Database → Database → Type 0
+RemovesImages at old new =
+    (c : Content) → HoldsContent old c
+    → (us : List UndoRow) × HoldsContent new (record c { undo = us }) × ((p k : ℕ) (q : List ℕ) → image_at p k q us ≡ (if at == p then None else image_at p k q c.undo))
+
+abbrev pub without_undo : Content → Content
+without_undo c = record c { undo = [] }
+
+-- a before-image without its rowid and step
+pub record ImageEntry : Type 0 where
+  pub kind : ℕ
+  pub key : List ℕ
+  pub bytes : Option (List ℕ)
+
+abbrev pub image_entry : UndoRow → ImageEntry
+image_entry u = record { kind = u.kind; key = u.key; bytes = u.bytes }
+
+abbrev pub by_image : UndoRow → UndoRow → Ordering
+by_image a b = ordering_then (nat_cmp a.kind b.kind) (slice_cmp nat_cmp a.key b.key)
+
+abbrev pub is_image_entry_at : ℕ → List ℕ → ImageEntry → Bool
+is_image_entry_at kind key e = (e.kind == kind) && bytes_eq e.key key
+
+abbrev pub image_entry_at : ℕ → List ℕ → List ImageEntry → Option (Option (List ℕ))
+image_entry_at kind key es = option_map (λ (e : ImageEntry). e.bytes) (find (is_image_entry_at kind key) es)
+
+-- the before-images of one step, in order: each key once
+pub record ListsImages (at : ℕ) (c : Content) (found : List ImageEntry) : Type 0 where
+  pub sorted : found ≡ map image_entry (sort_by by_image (filter (λ (u : UndoRow). u.pos == at) c.undo))
+  pub same : (k : ℕ) (q : List ℕ) → image_entry_at k q found ≡ image_at at k q c.undo
+
+-- ---- receipts
+
+-- the receipt is added after the others, where its number is above theirs
+abbrev pub AddsReceipt : ReceiptRow → Database → Database → Type 0
+AddsReceipt r old new = (c : Content) → HoldsContent old c → AllByRecursion (λ (x : ReceiptRow). x.receipt < r.receipt) c.receipts → HoldsContent new (record c { receipts = c.receipts ++ r ∷ [] })
+
+abbrev pub is_receipt_of : List ℕ → List ℕ → ReceiptRow → Bool
+is_receipt_of number digest r = bytes_eq r.number number && bytes_eq r.digest digest
+
+-- the receipt of this number and digest, if there is one
+abbrev pub receipt_of : List ℕ → List ℕ → List ReceiptRow → Option ReceiptRow
+receipt_of number digest = find (is_receipt_of number digest)
+
+-- the number of the last receipt, or 0
+abbrev pub last_number : List ReceiptRow → ℕ
+last_number [] = 0
+last_number (r ∷ []) = r.receipt
+last_number (r ∷ s ∷ rs) = last_number (s ∷ rs)
+
+-- ---- held bodies
+
+-- the body is put in its place by number, where there was none
+abbrev pub HoldsBody : HeldRow → Database → Database → Type 0
+HoldsBody h old new = (c : Content) → HoldsContent old c → HoldsContent new (record c { held = insert_by held_number c.held h }) × (has_key held_number c.held (held_number h) ≡ false)
+
+-- the body of this row, if it is held
+abbrev pub body_of : ℕ → List HeldRow → Option (List ℕ)
+body_of row hs = option_map (λ (h : HeldRow). h.body) (get_by held_number hs (pos row))
+
+-- ---- the chain
+
+abbrev pub without_steps : Content → Content
+without_steps c = record c { steps = [] }
+
+-- the step is added after the others, where its number is above theirs
+abbrev pub AddsStep : StepRow → Database → Database → Type 0
+AddsStep s old new = (c : Content) → HoldsContent old c → AllByRecursion (λ (x : StepRow). x.pos < s.pos) c.steps → HoldsContent new (record c { steps = c.steps ++ s ∷ [] })
+
+-- ---- the manifest
+
+-- the row is added after the others, where its number is above theirs
+abbrev pub AddsListed : ListedRow → Database → Database → Type 0
+AddsListed r old new = (c : Content) → HoldsContent old c → AllByRecursion (λ (x : ListedRow). x.row < r.row) c.listed → HoldsContent new (record c { listed = c.listed ++ r ∷ [] })

@@ -1,0 +1,61 @@
+-- What the single statements do, of which the crate's calls are made.
+use Rattle.std.specs.Prelude.{◌≡◌, ◌+◌, ◌==◌, ℕ, pos, List, [], ◌∷◌, map, filter, find, fold, length}
+use Rattle.std.specs.Option.{option_to_list}
+use Rattle.sqlite_value.specs.declared.value.Value.TheVariants.{Int, Blob}
+use Rattle.sqlite_value.specs.Order.{Row}
+use Rattle.sqlite.specs.Effect.{Database}
+use Rattle.sqlite_keyed.specs.Keyed.{insert_by}
+use Rattle.sqlite_keyed.specs.Lists.{update_where, sort_by}
+use Rattle.esc_rows.specs.Rows.{ObjectRow, UndoRow, object_number, blob_or_null}
+use Rattle.esc_rows.specs.Content.{Content, HoldsContent, is_object_at}
+use Rattle.esc_rows.specs.Changes.{by_key, by_image}
+
+abbrev pub with_bytes : List ℕ → ObjectRow → ObjectRow
+with_bytes bytes o = record o { bytes = bytes }
+
+-- the row of this key, if there is one, has this record then
+abbrev pub UpdatesObject : ℕ → List ℕ → List ℕ → Database → Database → Type 0
+UpdatesObject kind key bytes old new = (c : Content) → HoldsContent old c → HoldsContent new (record c { objects = update_where (is_object_at kind key) (with_bytes bytes) c.objects })
+
+-- how many rows have the key
+abbrev pub CountsObject : ℕ → List ℕ → ℕ → Database → Type 0
+CountsObject kind key count db = (c : Content) → HoldsContent db c → count ≡ length (filter (is_object_at kind key) c.objects)
+
+-- one above the last rowid
+abbrev pub next_id : List ObjectRow → ℕ
+next_id = fold (λ (_ : ℕ) (o : ObjectRow). o.id + 1) 1
+
+abbrev pub new_object : ℕ → List ℕ → List ℕ → List ObjectRow → ObjectRow
+new_object kind key bytes os = record { id = next_id os; kind = kind; key = key; bytes = bytes }
+
+abbrev pub InsertsObject : ℕ → List ℕ → List ℕ → Database → Database → Type 0
+InsertsObject kind key bytes old new = (c : Content) → HoldsContent old c → HoldsContent new (record c { objects = insert_by object_number c.objects (new_object kind key bytes c.objects) })
+
+-- ---- the rows of each answer
+
+abbrev pub shown_bytes : ObjectRow → Row
+shown_bytes o = Blob o.bytes ∷ []
+
+abbrev pub ShowsObject : ℕ → List ℕ → Content → List Row → Type 0
+ShowsObject kind key c rows = rows ≡ map shown_bytes (option_to_list (find (is_object_at kind key) c.objects))
+
+abbrev pub shown_object : ObjectRow → Row
+shown_object o = Int (pos o.kind) ∷ Blob o.key ∷ Blob o.bytes ∷ []
+
+abbrev pub ShowsObjects : Content → List Row → Type 0
+ShowsObjects c rows = rows ≡ map shown_object (sort_by by_key c.objects)
+
+abbrev pub ShowsKind : ℕ → Content → List Row → Type 0
+ShowsKind kind c rows = rows ≡ map shown_object (sort_by by_key (filter (λ (o : ObjectRow). o.kind == kind) c.objects))
+
+abbrev pub shown_kind : ObjectRow → Row
+shown_kind o = Int (pos o.kind) ∷ []
+
+abbrev pub ShowsKinds : Content → List Row → Type 0
+ShowsKinds c rows = rows ≡ map shown_kind (sort_by by_key c.objects)
+
+abbrev pub shown_image : UndoRow → Row
+shown_image u = Int (pos u.kind) ∷ Blob u.key ∷ blob_or_null u.bytes ∷ []
+
+abbrev pub ShowsImages : ℕ → Content → List Row → Type 0
+ShowsImages at c rows = rows ≡ map shown_image (sort_by by_image (filter (λ (u : UndoRow). u.pos == at) c.undo))

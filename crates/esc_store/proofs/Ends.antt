@@ -1,0 +1,135 @@
+-- The beginning and the ends of a change.
+use Rattle.std.proofs.Common.{◌≡◌, ◌⊎◌, inl, inr, Bool, true, false, List, refl, sym, ap, subst, ◌∙◌, arith}
+use Rattle.std.specs.Prelude.{IsTrue, Result, Ok, Err, IfOk, OnOk, OnErr, IsErr}
+use Rattle.std.proofs.lemmas.Bool.{cases_Bool}
+use Rattle.sqlite_trees.specs.Tree.{Trees}
+use Rattle.sqlite.specs.Effect.{Database}
+use Rattle.sqlite.specs.State.{State, HasCleanDisk, Survives, KeepsCommit, Shows}
+use Rattle.sqlite.proofs.StateLemmas.{survives_then, survives_weaker}
+use Rattle.esc_manifest.specs.declared.row.MRow.{MRow}
+use Rattle.esc_apply.specs.Registry.{State as Tables}
+use Rattle.esc_rows.specs.Content.{content_in}
+use Rattle.esc_store.specs.Kept.{Kept, with_registry}
+use Rattle.esc_store.specs.TypedRows.{IsBooks, IsRegistry}
+use Rattle.esc_store.specs.Tables.{IsKept, IsStore, IsStoreDatabase, HoldsTables}
+use Rattle.esc_store.specs.Standing.{IsAtRest, IsStanding, IsBegun, IsMade, IsUnderWay, IsGivenUp}
+
+-- ---- results
+
+pub ok_goes : {X E : Type 0} (r : Result X E) (P : X → Type 0) (Q : Type 0) → IfOk r P → ((x : X) → P x → Q) → OnOk r Q
+ok_goes (Ok x) P Q h f = f x h
+ok_goes (Err e) P Q h f = tt
+
+pub err_goes : {X E : Type 0} (r : Result X E) (P Q : Type 0) → OnErr r P → (P → Q) → OnErr r Q
+err_goes (Ok x) P Q h f = tt
+err_goes (Err e) P Q h f = f h
+
+pub at_ok : {X E : Type 0} (r : Result X E) (x : X) (P : Type 0) → r ≡ Ok x → OnOk r P → P
+at_ok r x P is h = rw is at h
+
+pub at_said : {X E : Type 0} (r : Result X E) (x : X) (P : X → Type 0) → r ≡ Ok x → IfOk r P → P x
+at_said r x P is h = rw is at h
+
+pub at_err : {X E : Type 0} (r : Result X E) (P : Type 0) → IsErr r → OnErr r P → P
+at_err (Ok x) P bad h = let no : ⊥ = cc in absurd no
+at_err (Err e) P bad h = h
+
+pub was_clean : (old new : State) (C : Trees → Type 0) → Survives old new C → HasCleanDisk new → HasCleanDisk old
+was_clean old new C s clean = omega (arith, s.clean, clean)
+
+-- ---- databases
+
+pub tables_of : (db : Database) (k : Kept) → IsStoreDatabase db k → HoldsTables db
+tables_of db k it = record { schema_is = it.schema; store = it.kept.tables }
+
+-- what the tables of the books and those of the registry hold
+pub both : (db : Database) (k : Kept) (s : Tables) → HoldsTables db → IsBooks (content_in db.trees) (with_registry k s) → IsRegistry (content_in db.trees) k.registry → IsStoreDatabase db k
+both db k s tables books registry = record {
+  schema = tables.schema_is;
+  kept = record {
+    tables = tables.store;
+    books = record { listed = books.listed; receipts = books.receipts; held = books.held; steps = books.steps };
+    registry = registry;
+  };
+}
+
+-- ---- the beginning
+
+module _ (old new : State) (m : List MRow) (k : Kept) (survives : Survives old new (λ _. ⊥)) (shown : HasCleanDisk new → Shows old new old.now old.committed true) (stands : IsStanding old m k) where
+  rested : HasCleanDisk new → IsAtRest old k
+  rested clean = stands.rests (was_clean old new (λ _. ⊥) survives clean) (shown clean).was_open
+
+  pub began : IsBegun new m k
+  began = record {
+    listed = stands.listed;
+    on = λ clean mode. ((shown clean).is_open, subst (λ db. IsStoreDatabase db k) (sym (shown clean).committed_is) (rested clean).kept, subst HoldsTables (sym ((shown clean).now_is ∙ (rested clean).same)) (tables_of old.committed k (rested clean).kept));
+    off = λ clean mode. let no : true ≡ false = sym (shown clean).mode ∙ mode in let none : ⊥ = cc in absurd none;
+  }
+
+  pub made : IsMade new m k k
+  made = record {
+    begun = began;
+    listed = stands.listed;
+    books = λ clean on. subst (λ (db : Database). IsBooks (content_in db.trees) k) (sym ((shown clean).now_is ∙ (rested clean).same)) (rested clean).kept.kept.books;
+  }
+
+  pub under_way : HasCleanDisk new → IsUnderWay new k.registry
+  under_way clean = record {
+    is_open = (shown clean).is_open;
+    in_transaction = (shown clean).mode;
+    tables_are = subst HoldsTables (sym ((shown clean).now_is ∙ (rested clean).same)) (tables_of old.committed k (rested clean).kept);
+    registry = subst (λ (db : Database). IsRegistry (content_in db.trees) k.registry) (sym ((shown clean).now_is ∙ (rested clean).same)) (rested clean).kept.kept.registry;
+  }
+
+-- ---- the ends
+
+-- nothing was committed and no transaction is on: the store stands for what it stood for
+pub given_up : (old new : State) (m : List MRow) (k : Kept) (C : Trees → Type 0) → Survives old new C → (HasCleanDisk new → KeepsCommit old new) → (HasCleanDisk new → new.in_transaction ≡ false)
+    → (HasCleanDisk new → IsTrue new.is_open → new.now ≡ new.committed) → m ≡ k.listed → (HasCleanDisk old → IsTrue old.is_open → IsStoreDatabase old.committed k) → IsStanding new m k
+given_up old new m k C survives kept ended settled listed held = record {
+  listed = listed;
+  rests = λ clean up. record {
+    kept = subst (λ db. IsStoreDatabase db k) (sym ((kept clean).committed up)) (held (was_clean old new C survives clean) ((kept clean).was_open up));
+    same = settled clean up;
+    autocommit = ended clean;
+  };
+}
+
+pub keeps_then : (a b c : State) → KeepsCommit a b → KeepsCommit b c → KeepsCommit a c
+keeps_then a b c p q = record { was_open = λ up. p.was_open (q.was_open up); committed = λ up. q.committed up ∙ p.committed (q.was_open up) }
+
+module _ (old new : State) (m : List MRow) (before k : Kept) (s : Tables) (made : IsMade old m before (with_registry k s)) (goes : HasCleanDisk old → IsUnderWay old k.registry) where
+  -- what a change holds is a store
+  pub whole : HasCleanDisk old → IsStoreDatabase old.now k
+  whole clean = both old.now k s (goes clean).tables_are (made.books clean (goes clean).in_transaction) (goes clean).registry
+
+  pub whole_trees : HasCleanDisk old → IsStore old.now.trees k
+  unfolding IsStore
+  whole_trees clean = (whole clean).kept
+
+  pub committed : (C : Trees → Type 0) → Survives old new C → (HasCleanDisk new → Shows old new old.now old.now false) → IsStanding new m k
+  committed C survives shown = record {
+    listed = made.listed;
+    rests = λ clean up. record {
+      kept = subst (λ db. IsStoreDatabase db k) (sym (shown clean).committed_is) (whole (was_clean old new C survives clean));
+      same = (shown clean).now_is ∙ sym (shown clean).committed_is;
+      autocommit = (shown clean).mode;
+    };
+  }
+
+  pub crash : Survives old new (λ trees. trees ≡ old.now.trees) → Survives old new (λ trees. IsStore trees k)
+  crash survives = survives_weaker old new (λ trees. trees ≡ old.now.trees) (λ trees. IsStore trees k)
+      (λ clean trees is. subst (λ t. IsStore t k) (sym is) (whole_trees (was_clean old new (λ trees. trees ≡ old.now.trees) survives clean))) survives
+
+  pub left : (C : Trees → Type 0) → Survives old new C → (HasCleanDisk new → Shows old new old.now old.now false)
+      → (IsTrue new.is_open → (trees : Trees) → new.may_leave trees → trees ≡ new.committed.trees) → HasCleanDisk new → (trees : Trees) → new.may_leave trees → IsStore trees k
+  left C survives shown only clean trees may =
+      let sh = shown clean in
+      subst (λ t. IsStore t k) (sym (only sh.is_open trees may ∙ ap (λ (db : Database). db.trees) sh.committed_is)) (whole_trees (was_clean old new C survives clean))
+
+-- what is committed while a change is on
+pub begun_committed : (s : State) (m : List MRow) (k : Kept) → IsBegun s m k → HasCleanDisk s → IsTrue s.is_open → IsStoreDatabase s.committed k
+begun_committed s m k begun clean up = elim (cases_Bool s.in_transaction) [
+  | inl on ↦ (begun.on clean on).1
+  | inr off ↦ (begun.off clean off up).0
+]

@@ -1,0 +1,142 @@
+-- What a part of a change does to what the change has made.
+use Rattle.std.proofs.Common.{◌≡◌, ◌⊎◌, inl, inr, Bool, true, false, List, refl, sym, ap, subst, ◌∙◌, arith}
+use Rattle.std.specs.Prelude.{IsTrue, Result, Ok, Err, IfOk, OnOk, OnErr, IsErr}
+use Rattle.std.proofs.lemmas.Bool.{cases_Bool}
+use Rattle.sqlite_trees.specs.declared.store.Store.{Ghosts}
+use Rattle.sqlite_trees.specs.Tree.{Trees}
+use Rattle.sqlite.specs.Effect.{Database}
+use Rattle.sqlite.specs.Held.{Held, state}
+use Rattle.sqlite.specs.State.{State, HasCleanDisk, Survives, KeepsCommit, Shows, IsUnchanged}
+use Rattle.sqlite.proofs.StateLemmas.{survives_then}
+use Rattle.esc_manifest.specs.declared.row.MRow.{MRow}
+use Rattle.esc_apply.specs.Registry.{State as Tables}
+use Rattle.esc_rows.specs.Schema.{store_schema}
+use Rattle.esc_rows.specs.Content.{Content, content_in, HoldsContent}
+use Rattle.esc_rows.specs.ContentIs.{content_is}
+use Rattle.esc_rows.specs.Part.{IsPart, IsRead}
+use Rattle.esc_store.specs.declared.store.Store.{Store}
+use Rattle.esc_store.specs.Kept.{Kept}
+use Rattle.esc_store.specs.TypedRows.{IsBooks, IsRegistry}
+use Rattle.esc_store.specs.Tables.{IsKept, IsStore, IsStoreDatabase, HoldsTables}
+use Rattle.esc_store.specs.Standing.{IsAtRest, IsStanding, IsBegun, IsMade, IsUnderWay, IsGivenUp, IsStep, IsLook}
+use Rattle.esc_store.proofs.Standings.{survives_same}
+use Rattle.esc_store.proofs.Ends.{at_ok, at_said, at_err, was_clean, keeps_then, tables_of, begun_committed}
+
+keeps_same : (s : State) → KeepsCommit s s
+keeps_same s = record { was_open = λ up. up; committed = λ up. refl }
+
+-- ---- from statements to steps
+
+-- no transaction is on, and nothing is done
+pub step_off : {X E : Type 0} (s : State) (Made : Database → Database → Type 0) (e : E) → (s.in_transaction ≡ false) × (IsTrue s.is_open → s.now ≡ s.committed) → IsStep {X = X} s s Made (Err e)
+step_off s Made e off = record { survives = survives_same s (λ trees. ⊥); kept = λ clean. keeps_same s; made = λ clean. tt; failed = λ clean. off }
+
+module _ {S : Type 0} (g : Ghosts S) (old : Held S) (mid new : Store S) {X D E : Type 0} (outcome : Result X D) (result : Result X E)
+  (survives : Survives (state g mid.conn) (state g new.conn) (λ trees. ⊥)) (ok : IfOk result (λ x. (outcome ≡ Ok x) × (new ≡ mid))) (err : OnErr result (IsErr outcome × IsGivenUp (state g mid.conn) (state g new.conn))) where
+  -- a statement within the transaction, settled
+  pub step_is : (Made : Database → Database → Type 0) → old.in_transaction ≡ true → IsPart (state g old) (state g mid.conn) Made outcome → IsStep (state g old) (state g new.conn) Made result
+  step_is Made on part = elim result as (λ r. IfOk r (λ x. (outcome ≡ Ok x) × (new ≡ mid)) → OnErr r (IsErr outcome × IsGivenUp (state g mid.conn) (state g new.conn)) → IsStep (state g old) (state g new.conn) Made r) [
+    | Ok x ↦ λ ok err. subst (λ (s : Store S). IsStep {X = X} {E = E} (state g old) (state g s.conn) Made (Ok x)) (sym ok.1) (record {
+      survives = part.survives;
+      kept = part.kept;
+      made = λ clean. let m = at_ok outcome x _ ok.0 (part.made clean) in (on, m.0, m.1, m.2);
+      failed = λ clean. tt;
+    })
+    | Err e ↦ λ ok err. record {
+      survives = survives_then (state g old) (state g mid.conn) (state g new.conn) (λ trees. ⊥) (λ trees. ⊥) (λ trees. ⊥) (λ _ db none. none) (λ _ db none. none) part.survives err.1.survives;
+      kept = λ clean. keeps_then (state g old) (state g mid.conn) (state g new.conn) (part.kept (was_clean (state g mid.conn) (state g new.conn) (λ trees. ⊥) err.1.survives clean)) (err.1.kept clean);
+      made = λ clean. tt;
+      failed = λ clean. (err.1.ended clean, err.1.settled clean);
+    }
+  ] ok err
+
+  -- a read, settled
+  pub look_is : (Says : Database → X → Type 0) → IsRead (state g old) (state g mid.conn) Says outcome → IsLook (state g old) (state g new.conn) Says result
+  look_is Says read = elim result as (λ r. IfOk r (λ x. (outcome ≡ Ok x) × (new ≡ mid)) → OnErr r (IsErr outcome × IsGivenUp (state g mid.conn) (state g new.conn)) → IsLook (state g old) (state g new.conn) Says r) [
+    | Ok x ↦ λ ok err. subst (λ (s : Store S). IsLook {X = X} {E = E} (state g old) (state g s.conn) Says (Ok x)) (sym ok.1) (record {
+      survives = read.survives;
+      autocommit = λ clean off. read.autocommit off;
+      kept = read.kept;
+      said = λ clean schema. at_said outcome x _ ok.0 (read.said clean schema);
+      failed = λ clean. tt;
+    })
+    | Err e ↦ λ ok err. record {
+      survives = survives_then (state g old) (state g mid.conn) (state g new.conn) (λ trees. ⊥) (λ trees. ⊥) (λ trees. ⊥) (λ _ db none. none) (λ _ db none. none) read.survives err.1.survives;
+      autocommit = λ clean off. err.1.ended clean;
+      kept = λ clean schema. keeps_then (state g old) (state g mid.conn) (state g new.conn) (read.kept (was_clean (state g mid.conn) (state g new.conn) (λ trees. ⊥) err.1.survives clean) schema) (err.1.kept clean);
+      said = λ clean schema. tt;
+      failed = λ clean. (err.1.ended clean, err.1.settled clean);
+    }
+  ] ok err
+
+-- ---- a step
+
+-- what a step makes of tables and what they hold
+abbrev pub Turns : (Content → Content → Type 0) → Database → Database → Type 0
+Turns R old new = HoldsTables old → HoldsTables new × R (content_in old.trees) (content_in new.trees)
+
+-- a database that holds a content has tables that hold it
+pub becomes : (new : Database) (c : Content) → HoldsContent new c → HoldsTables new × (content_in new.trees ≡ c)
+becomes new c holds = let e = content_is new.trees c holds.store.rows in (subst (HoldsContent new) (sym e) holds, e)
+
+pub step_turns : {X E : Type 0} (old new : State) (Made Other : Database → Database → Type 0) (r : Result X E) → (Made old.now new.now → Other old.now new.now) → IsStep old new Made r → IsStep old new Other r
+step_turns {X} {E} old new Made Other (Ok x) f step = record { survives = step.survives; kept = step.kept; made = λ clean. let m = step.made clean in (m.0, f m.1, m.2, m.3); failed = step.failed }
+step_turns {X} {E} old new Made Other (Err e) f step = record { survives = step.survives; kept = step.kept; made = λ clean. tt; failed = step.failed }
+
+module _ {X E : Type 0} (old new : State) (R : Content → Content → Type 0) (r : Result X E) (step : IsStep old new (Turns R) r) where
+  record Made : Type 0 where
+    was_on : old.in_transaction ≡ true
+    turns : Turns R old.now new.now
+    on : new.in_transaction ≡ true
+    is_open : IsTrue new.is_open
+
+  made_of : (x : X) → r ≡ Ok x → HasCleanDisk new → Made
+  made_of x is clean = let m = at_ok r x _ is (step.made clean) in record { was_on = m.0; turns = m.1; on = m.2; is_open = m.3 }
+
+  clean_before : HasCleanDisk new → HasCleanDisk old
+  clean_before = was_clean old new (λ trees. ⊥) step.survives
+
+  not_both : (b : Bool) → b ≡ true → b ≡ false → ⊥
+  not_both b is_on is_off = let e : true ≡ false = sym is_on ∙ is_off in cc
+
+  pub begun_on : (m : List MRow) (k : Kept) → IsBegun old m k → IsBegun new m k
+  begun_on m k begun = elim r as (λ x. r ≡ x → IsBegun new m k) [
+    | Ok x ↦ λ is. record {
+      listed = begun.listed;
+      on = λ clean on. let it = made_of x is clean in let was = begun.on (clean_before clean) it.was_on in (it.is_open, subst (λ db. IsStoreDatabase db k) (sym ((step.kept clean).committed it.is_open)) was.1, (it.turns was.2).0);
+      off = λ clean off. absurd (not_both new.in_transaction (made_of x is clean).on off);
+    }
+    | Err e ↦ λ is. record {
+      listed = begun.listed;
+      on = λ clean on. absurd (not_both new.in_transaction on (at_bad e is (step.failed clean)).0);
+      off = λ clean off up. (subst (λ db. IsStoreDatabase db k) (sym ((step.kept clean).committed up)) (begun_committed old m k begun (clean_before clean) ((step.kept clean).was_open up)), (at_bad e is (step.failed clean)).1 up);
+    }
+  ] refl where
+    at_bad : {P : Type 0} (e : E) → r ≡ Err e → OnErr r P → P
+    at_bad e is h = rw is at h
+
+  pub made_on : (m : List MRow) (before k k' : Kept) (x : X) → r ≡ Ok x → k'.listed ≡ k.listed → ((c c' : Content) → R c c' → IsBooks c k → IsBooks c' k') → IsMade old m before k → IsMade new m before k'
+  made_on m before k k' x is same turn made = record {
+    begun = begun_on m before made.begun;
+    listed = made.listed ∙ sym same;
+    books = λ clean on. let it = made_of x is clean in let was = made.begun.on (clean_before clean) it.was_on in turn _ _ (it.turns was.2).1 (made.books (clean_before clean) it.was_on);
+  }
+
+  pub made_kept : (m : List MRow) (before k : Kept) → ((c c' : Content) → R c c' → IsBooks c k → IsBooks c' k) → IsMade old m before k → IsMade new m before k
+  made_kept m before k turn made = elim r as (λ x. r ≡ x → IsMade new m before k) [
+    | Ok x ↦ λ is. made_on m before k k x is refl turn made
+    | Err e ↦ λ is. record {
+      begun = begun_on m before made.begun;
+      listed = made.listed;
+      books = λ clean on. absurd (not_both new.in_transaction on (at_bad e is (step.failed clean)).0);
+    }
+  ] refl where
+    at_bad : {P : Type 0} (e : E) → r ≡ Err e → OnErr r P → P
+    at_bad e is h = rw is at h
+
+  pub under_way_on : (s s' : Tables) (x : X) → r ≡ Ok x → ((c c' : Content) → R c c' → IsRegistry c s → IsRegistry c' s') → (HasCleanDisk old → IsUnderWay old s) → HasCleanDisk new → IsUnderWay new s'
+  under_way_on s s' x is turn goes clean =
+      let it = made_of x is clean in
+      let was = goes (clean_before clean) in
+      let now = it.turns was.tables_are in
+      record { is_open = it.is_open; in_transaction = it.on; tables_are = now.0; registry = turn _ _ now.1 was.registry }

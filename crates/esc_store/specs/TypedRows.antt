@@ -1,0 +1,88 @@
+-- How what a store keeps stands in the rows of its tables (this project's profile).
+use Rattle.std.specs.Prelude.{◌≡◌, ℕ, suc, ◌==◌, Bool, true, false, if◌then◌else◌, List, [], ◌∷◌, Option, None, Some, IsSome, IfSome, option_map}
+use Rattle.std.specs.Option.{option_and_then}
+use Rattle.esc_envelope.specs.declared.kind.Kind.{Kind}
+use Rattle.esc_envelope.specs.declared.kind.Kind.TheVariants.{Registrar, Contact, Host, Domain, Idn, Nndn}
+use Rattle.esc_envelope.specs.Kinds.{kind_rank}
+use Rattle.esc_envelope.specs.Place.{rank}
+use Rattle.esc_manifest.specs.declared.row.MRow.{MRow}
+use Rattle.esc_tables.specs.KeyName.{KeyName}
+use Rattle.esc_tables.specs.ObjectValue.{ObjectValue}
+use Rattle.esc_record.specs.Record.{record_of}
+use Rattle.esc_apply.specs.Registry.{State, Befores}
+use Rattle.esc_apply.specs.Registry.{Content as Objects}
+use Rattle.esc_rows.specs.Rows.{ListedRow, ReceiptRow, StepRow}
+use Rattle.esc_rows.specs.Content.{Content, object_at, image_at}
+use Rattle.esc_rows.specs.Changes.{body_of}
+use Rattle.esc_store.specs.declared.reply.Verdict.{Verdict}
+use Rattle.esc_store.specs.declared.reply.Verdict.TheVariants.{A1, A2, A3, A4}
+use Rattle.esc_store.specs.ReplyValue.{ReceiptValue}
+use Rattle.esc_store.specs.Kept.{Kept}
+
+-- a row of the manifest in the table of listed rows, at this place from 0
+abbrev pub listed_row : ℕ → MRow → ListedRow
+listed_row n r = record { row = n; id = r.header.id; kind = rank r.header.place.kind; watermark = r.header.place.watermark; prev = r.header.prev; resend = r.header.resend; digest = r.digest }
+
+abbrev pub listed_from : ℕ → List MRow → List ListedRow
+listed_from n [] = []
+listed_from n (r ∷ rs) = listed_row n r ∷ listed_from (suc n) rs
+
+-- A1 to A4 as 1 to 4
+abbrev pub verdict_number : Verdict → ℕ
+verdict_number A1 = 1
+verdict_number A2 = 2
+verdict_number (A3 n) = 3
+verdict_number A4 = 4
+
+-- the number of the refusal of a body that doesn't read
+abbrev pub fault_number : Verdict → Option ℕ
+fault_number A1 = None
+fault_number A2 = None
+fault_number (A3 n) = Some n
+fault_number A4 = None
+
+abbrev pub bit : Bool → ℕ
+bit b = if b then 1 else 0
+
+-- a receipt in its table, under its number
+abbrev pub receipt_row : ℕ → ReceiptValue → ReceiptRow
+receipt_row n r = record { receipt = n; number = r.number; digest = r.digest; verdict = verdict_number r.verdict; fault = fault_number r.verdict; row = r.row; again = option_map bit r.again; orphans = r.orphans }
+
+abbrev pub receipts_from : ℕ → List ReceiptValue → List ReceiptRow
+receipts_from n [] = []
+receipts_from n (r ∷ rs) = receipt_row n r ∷ receipts_from (suc n) rs
+
+-- the rows of a chain in the table of steps
+abbrev pub steps_from : ℕ → List ℕ → List StepRow
+steps_from n [] = []
+steps_from n (row ∷ rows) = record { pos = n; row = row } ∷ steps_from (suc n) rows
+
+-- the kind that a number is for
+abbrev pub kind_at : ℕ → Option Kind
+kind_at n = if n == 0 then Some Registrar else if n == 1 then Some Contact else if n == 2 then Some Host else if n == 3 then Some Domain else if n == 4 then Some Idn else if n == 5 then Some Nndn else None
+
+-- what a function of keys has at a kind's number and a key's bytes
+abbrev pub at_key : {X : Type 0} → (KeyName → Option X) → ℕ → List ℕ → Option X
+at_key {X} f n text = option_and_then (λ kind. f (record { kind = kind; text = text })) (kind_at n)
+
+-- the record of the object at a key
+abbrev pub record_at : Objects → ℕ → List ℕ → Option (List ℕ)
+record_at content n text = option_and_then record_of (at_key content n text)
+
+-- the record of what stood at a key before a step, or that nothing stood there, if that was noted
+abbrev pub image_kept : Befores → ℕ → List ℕ → Option (Option (List ℕ))
+image_kept before n text = option_map (λ o. option_and_then record_of o) (at_key before n text)
+
+-- the rows, receipts, bodies and chain
+pub record IsBooks (c : Content) (k : Kept) : Type 0 where
+  pub listed : c.listed ≡ listed_from 0 k.listed
+  pub receipts : c.receipts ≡ receipts_from 1 k.receipts
+  pub held : (row : ℕ) → body_of row c.held ≡ k.bodies row
+  pub steps : c.steps ≡ steps_from 1 k.steps
+
+-- the objects and before-images: of each key its record, and nothing else
+pub record IsRegistry (c : Content) (s : State) : Type 0 where
+  pub objects : (n : ℕ) (text : List ℕ) → object_at n text c.objects ≡ record_at s.content n text
+  pub images : (step n : ℕ) (text : List ℕ) → image_at step n text c.undo ≡ image_kept (s.undo step) n text
+  pub recorded : (q : KeyName) → IfSome (s.content q) (λ o. IsSome (record_of o))
+  pub noted : (step : ℕ) (q : KeyName) (o : ObjectValue) → s.undo step q ≡ Some (Some o) → IsSome (record_of o)

@@ -1,0 +1,96 @@
+-- From the tests in order to the deposit or its fault.
+use Rattle.std.proofs.Common.{◌≡◌, ◌∙◌, ◌≤◌, ◌-◌, ℕ, Bool, true, false, List, [], ◌∷◌, ◌++◌, length, map, get_or, take, drop, refl, sym, ap, arith}
+use Rattle.std.specs.Prelude.{Ok, Err, All}
+use Rattle.std.specs.List.{list_all}
+use Rattle.std.proofs.lemmas.List.Folds.{list_all-append}
+use Rattle.std.proofs.lemmas.List.Elements.{All-nil, All-cons}
+use Rattle.esc_bundle.specs.Bundle.{Named, view, views}
+use Rattle.esc_bundle.specs.declared.section.Section.{Section}
+use Rattle.esc_bundle.specs.Frame.{frame}
+use Rattle.esc_envelope.specs.EnvelopeValue.{TableValue, EnvelopeValue}
+use Rattle.esc_envelope.specs.Envelope.{envelope_of}
+use Rattle.esc_tables.specs.DepositValue.{DepositValue}
+use Rattle.esc_tables.specs.TableRow.{TableRow, are_filed, table_rows, rows_in, is_whole, key_of}
+use Rattle.esc_tables.specs.Objects.{objects_of, orphans_of}
+use Rattle.esc_tables.specs.Reading.{tables_of, check_rows, deposit_of, deposit_in, parent_rows, child_rows, sections_deposit, reading}
+use Rattle.esc_tables.proofs.FieldFacts.{both}
+use Rattle.esc_tables.proofs.SurveyFacts.{all_in_each}
+
+-- ---- the rows that passed are whole, table by table
+
+whole_from : (rows : List TableRow) (b : Bool) → list_all is_whole rows ≡ b → check_rows rows ≡ Ok tt → list_all is_whole rows ≡ true
+unfolding check_rows
+whole_from rows true is passed = is
+whole_from rows false is passed = absurd (cc (rw is at passed))
+
+pub whole_rows : (rows : List TableRow) → check_rows rows ≡ Ok tt → list_all is_whole rows ≡ true
+whole_rows rows passed = whole_from rows (list_all is_whole rows) refl passed
+
+abbrev pub AreWhole : List Named → List TableValue → Type 0
+AreWhole files tables = All (λ t. list_all is_whole (table_rows files t) ≡ true) tables
+
+all_from : {X : Type 0} (test : X → Bool) (xs : List X) → list_all test xs ≡ true → All (λ x. test x ≡ true) xs
+all_from test [] h = All-nil (λ x. test x ≡ true)
+all_from test (x ∷ xs) h = let parts = both (test x) (list_all test xs) h in All-cons (λ y. test y ≡ true) x xs parts.0 (all_from test xs parts.1)
+
+pub whole_tables : (files : List Named) (e : EnvelopeValue) → list_all is_whole (rows_in files (tables_of e)) ≡ true → AreWhole files e.contents × AreWhole files e.deletes
+whole_tables files e whole =
+    let each : list_all (λ t. list_all is_whole (table_rows files t)) (e.contents ++ e.deletes) ≡ true = sym (all_in_each is_whole (table_rows files) (e.contents ++ e.deletes)) ∙ whole in
+    let parts = both (list_all (λ t. list_all is_whole (table_rows files t)) e.contents) (list_all (λ t. list_all is_whole (table_rows files t)) e.deletes) (sym (list_all-append (λ t. list_all is_whole (table_rows files t)) e.contents e.deletes) ∙ each) in
+    (all_from (λ t. list_all is_whole (table_rows files t)) e.contents parts.0, all_from (λ t. list_all is_whole (table_rows files t)) e.deletes parts.1)
+
+-- ---- the tests in order
+
+pub told_8 : (files : List Named) (e : EnvelopeValue) → are_filed files (tables_of e) ≡ false → deposit_in files e ≡ Err 8
+unfolding deposit_in
+told_8 files e wrong = rw wrong refl
+
+pub told_rows : (files : List Named) (e : EnvelopeValue) (n : ℕ) → are_filed files (tables_of e) ≡ true → check_rows (rows_in files (tables_of e)) ≡ Err n → deposit_in files e ≡ Err n
+unfolding deposit_in
+told_rows files e n filed wrong = rw (filed, wrong) refl
+
+pub told_deposit : (files : List Named) (e : EnvelopeValue) → are_filed files (tables_of e) ≡ true → check_rows (rows_in files (tables_of e)) ≡ Ok tt → deposit_in files e ≡ Ok (deposit_of files e)
+unfolding deposit_in
+told_deposit files e filed right = rw (filed, right) refl
+
+pub no_frame : (body : List ℕ) (n : ℕ) → frame body ≡ Err n → reading body ≡ Err n
+unfolding reading
+no_frame body n wrong = rw wrong refl
+
+pub no_envelope : (body : List ℕ) (first : Named) (files : List Named) (n : ℕ) → frame body ≡ Ok (first ∷ files) → envelope_of first.bytes ≡ Err n → reading body ≡ Err n
+unfolding reading sections_deposit
+no_envelope body first files n framed wrong = rw (framed, wrong) refl
+
+pub same_reading : (body : List ℕ) (first : Named) (files : List Named) (e : EnvelopeValue) → frame body ≡ Ok (first ∷ files) → envelope_of first.bytes ≡ Ok e → reading body ≡ deposit_in files e
+unfolding reading sections_deposit
+same_reading body first files e framed told = rw (framed, told) refl
+
+-- ---- a deposit is its parts
+
+pub made_of : (files : List Named) (e : EnvelopeValue) (d : DepositValue) → d.header ≡ e.header → d.counts ≡ e.counts → d.deletes ≡ map key_of (rows_in files e.deletes)
+    → d.contents ≡ objects_of (parent_rows files e) (child_rows files e) → d.orphans ≡ orphans_of (parent_rows files e) (child_rows files e) → d ≡ deposit_of files e
+unfolding deposit_of
+made_of files e d header counts deletes contents orphans = λ i. record { header = header i; counts = counts i; deletes = deletes i; contents = contents i; orphans = orphans i }
+
+take_whole : {X : Type 0} (xs : List X) → take (length xs) xs ≡ xs
+take_whole [] = refl
+take_whole {X = X} (x ∷ xs) = ap (λ (ys : List X). x ∷ ys) (take_whole xs)
+
+abbrev no_section : Section
+no_section = record { name = record { ref_ptr = (0, 0); now = [] }; bytes = record { ref_ptr = (0, 0); now = [] } }
+
+abbrev pub first_of : List Section → Named
+first_of ss = view (get_or ss 0 no_section)
+
+abbrev pub rest_of : List Section → List Named
+rest_of ss = views (take (length ss - 1) (drop 1 ss))
+
+-- sections are the first of them and the rest
+first_and_rest : (ss : List Section) → 1 ≤ length ss → views ss ≡ first_of ss ∷ rest_of ss
+first_and_rest [] some = absurd (omega arith)
+first_and_rest (s ∷ ss) some =
+    let others : length (s ∷ ss) - 1 ≡ length ss = omega arith in
+    ap (λ (us : List Section). view s ∷ views us) (sym (ap (λ (n : ℕ). take n ss) others ∙ take_whole ss))
+
+pub framed_as : (body : List ℕ) (items now : List Section) → frame body ≡ Ok (views items) → now ≡ items → 1 ≤ length now → frame body ≡ Ok (first_of now ∷ rest_of now)
+framed_as body items now framed same some = framed ∙ ap (λ (ss : List Section). Ok (views ss)) (sym same) ∙ ap (λ (ns : List Named). Ok ns) (first_and_rest now some)

@@ -1,0 +1,263 @@
+-- The reading of a body is what the relations say.
+use Rattle.std.proofs.Common.{◌≡◌, ◌∙◌, ◌≤◌, ◌<◌, ℕ, Bool, true, false, List, [], ◌∷◌, length, refl, sym, ap, subst, arith, inl, inr}
+use Rattle.std.specs.Prelude.{Result, Ok, Err, ◌↔◌, nat_le, ◌⊎◌}
+use Rattle.std.specs.List.{list_all}
+use Rattle.std.proofs.lemmas.Bool.{cases_Bool}
+use Rattle.std.proofs.lemmas.Bool.Decides.{nat_tests}
+use Rattle.esc_bundle.specs.Bundle.{Named, IsBundle}
+use Rattle.esc_bundle.specs.Reading.{IsFault}
+use Rattle.esc_bundle.specs.Frame.{frame}
+use Rattle.esc_envelope.specs.EnvelopeValue.{EnvelopeValue}
+use Rattle.esc_envelope.specs.Envelope.{envelope_of}
+use Rattle.esc_tables.specs.DepositValue.{DepositValue}
+use Rattle.esc_tables.specs.TableRow.{TableRow, are_filed, is_whole, has_key}
+use Rattle.esc_tables.specs.Objects.{objects_of}
+use Rattle.esc_tables.specs.Reading.{tables_of, check_rows, check, deposit_of, deposit_in, sections_deposit, reading, most_rows, parent_rows, child_rows, ◌>>=◌}
+use Rattle.esc_tables.specs.DepositOf.{all_rows, Makes, IsDepositOf, Stands, IsLeast, IsRefusedAt, IsRefused}
+use Rattle.esc_tables.proofs.ObjectFacts.{same_objects, objects_found, objects_sorted}
+use Rattle.esc_tables.proofs.DepositFacts.{made_of, told_8, told_rows, told_deposit, same_reading, no_frame, no_envelope}
+
+-- ---- one deposit is made
+
+made_is : (files : List Named) (e : EnvelopeValue) → Makes files e (deposit_of files e)
+unfolding deposit_of
+made_is files e = record {
+  header = refl;
+  counts = refl;
+  deletes = refl;
+  sorted = objects_sorted (parent_rows files e) (child_rows files e);
+  objects = objects_found (parent_rows files e) (child_rows files e);
+  orphans = refl;
+}
+
+made_only : (files : List Named) (e : EnvelopeValue) (d : DepositValue) → Makes files e d → d ≡ deposit_of files e
+made_only files e d made =
+    let contents : d.contents ≡ objects_of (parent_rows files e) (child_rows files e) = same_objects d.contents (objects_of (parent_rows files e) (child_rows files e)) made.sorted (objects_sorted (parent_rows files e) (child_rows files e)) (λ k. made.objects k ∙ sym (objects_found (parent_rows files e) (child_rows files e) k)) in
+    made_of files e d made.header made.counts made.deletes contents made.orphans
+
+-- ---- the tests in order
+
+abbrev Steps : {A B : Type 0} → Result A ℕ → (A → Result B ℕ) → B → Type 0
+Steps {A} r next y = (x : A) × (r ≡ Ok x) × (next x ≡ Ok y)
+
+steps_of : {A B : Type 0} (r : Result A ℕ) (next : A → Result B ℕ) (y : B) → (r >>= next) ≡ Ok y → Steps r next y
+steps_of (Ok x) next y h = (x, refl, h)
+steps_of (Err n) next y h = absurd cc
+
+passes : (b : Bool) (n : ℕ) → check b n ≡ Ok tt → b ≡ true
+passes true n h = refl
+passes false n h = absurd cc
+
+pub record Right (rows : List TableRow) : Type 0 where
+  pub whole : list_all is_whole rows ≡ true
+  pub named : list_all has_key rows ≡ true
+  pub few : length rows ≤ most_rows
+
+right_rows : (rows : List TableRow) → check_rows rows ≡ Ok tt → Right rows
+unfolding check_rows
+right_rows rows h =
+    let first = steps_of (check (list_all is_whole rows) 9) (λ _. check (list_all has_key rows) 10 >>= λ _. check (nat_le (length rows) most_rows) 11) tt h in
+    let second = steps_of (check (list_all has_key rows) 10) (λ _. check (nat_le (length rows) most_rows) 11) tt first.2 in
+    let test = passes (nat_le (length rows) most_rows) 11 second.2 in
+    record { whole = passes (list_all is_whole rows) 9 first.1; named = passes (list_all has_key rows) 10 second.1; few = grind (arith, nat_tests) }
+
+rows_right : (rows : List TableRow) → list_all is_whole rows ≡ true → list_all has_key rows ≡ true → length rows ≤ most_rows → check_rows rows ≡ Ok tt
+unfolding check_rows
+rows_right rows whole named few = let test : nat_le (length rows) most_rows ≡ true = grind (arith, nat_tests) in rw (whole, named, test) refl
+
+same_ok : {A : Type 0} (x y : A) → ◌≡◌ {A = Result A ℕ} (Ok x) (Ok y) → x ≡ y
+same_ok x y h = cc
+
+-- ---- a deposit is read
+
+abbrev Parts : List Named → EnvelopeValue → DepositValue → Type 0
+Parts files e d = (are_filed files (tables_of e) ≡ true) × (check_rows (all_rows files e) ≡ Ok tt) × (d ≡ deposit_of files e)
+
+parts_of : (files : List Named) (e : EnvelopeValue) (d : DepositValue) → deposit_in files e ≡ Ok d → Parts files e d
+unfolding deposit_in
+parts_of files e d h =
+    let first = steps_of (check (are_filed files (tables_of e)) 8) (λ _. check_rows (all_rows files e) >>= λ _. Ok (deposit_of files e)) d h in
+    let second = steps_of (check_rows (all_rows files e)) (λ _. Ok (deposit_of files e)) d first.2 in
+    (passes (are_filed files (tables_of e)) 8 first.1, second.1, sym (same_ok (deposit_of files e) d second.2))
+
+is_deposit_in : (body : List ℕ) (first : Named) (files : List Named) (e : EnvelopeValue) (d : DepositValue) → IsBundle body (first ∷ files) → envelope_of first.bytes ≡ Ok e → Parts files e d → IsDepositOf body d
+is_deposit_in body first files e d bundle told parts =
+    let right = right_rows (all_rows files e) parts.1 in
+    record {
+      first = first;
+      files = files;
+      bundle = bundle;
+      envelope = e;
+      told = told;
+      filed = parts.0;
+      whole = right.whole;
+      named = right.named;
+      few = right.few;
+      made = rw parts.2 (made_is files e);
+    }
+
+is_deposit_at : (body : List ℕ) (ss : List Named) (d : DepositValue) → IsBundle body ss → sections_deposit ss ≡ Ok d → IsDepositOf body d
+unfolding sections_deposit
+is_deposit_at body [] d bundle h = absurd cc
+is_deposit_at body (first ∷ files) d bundle h =
+    let step = steps_of (envelope_of first.bytes) (deposit_in files) d h in
+    is_deposit_in body first files step.0 d bundle step.1 (parts_of files step.0 d step.2)
+
+abbrev pub FrameIsExact : Type 0
+FrameIsExact = (body : List ℕ) (ss : List Named) → (frame body ≡ Ok ss) ↔ IsBundle body ss
+
+is_deposit : FrameIsExact → (body : List ℕ) (d : DepositValue) → reading body ≡ Ok d → IsDepositOf body d
+unfolding reading
+is_deposit exact body d h = let step = steps_of (frame body) sections_deposit d h in is_deposit_at body step.0 d ((exact body step.0).0 step.1) step.2
+
+reads : FrameIsExact → (body : List ℕ) (d : DepositValue) → IsDepositOf body d → reading body ≡ Ok d
+reads exact body d is =
+    same_reading body is.first is.files is.envelope ((exact body (is.first ∷ is.files)).1 is.bundle) is.told
+    ∙ told_deposit is.files is.envelope is.filed (rows_right (all_rows is.files is.envelope) is.whole is.named is.few)
+    ∙ ap (λ (x : DepositValue). Ok x) (sym (made_only is.files is.envelope d is.made))
+
+pub reading_exact : FrameIsExact → (body : List ℕ) (d : DepositValue) → (reading body ≡ Ok d) ↔ IsDepositOf body d
+reading_exact exact body d = (is_deposit exact body d, reads exact body d)
+
+-- ---- one refusal stands first
+
+abbrev NoneStands : List Named → EnvelopeValue → Type 0
+NoneStands files e = (m : ℕ) → Stands files e m → ⊥
+
+abbrev Told : List Named → EnvelopeValue → Type 0
+Told files e = ((deposit_in files e ≡ Ok (deposit_of files e)) × NoneStands files e) ⊎ ((n : ℕ) × (deposit_in files e ≡ Err n) × IsLeast files e n)
+
+-- a test that passes and fails
+never : {P : Type 0} (b : Bool) → b ≡ true → b ≡ false → P
+never b passed failed = absurd cc
+
+broken_rows : (rows : List TableRow) → list_all is_whole rows ≡ false → check_rows rows ≡ Err 9
+unfolding check_rows
+broken_rows rows broken = rw broken refl
+
+nameless_rows : (rows : List TableRow) → list_all is_whole rows ≡ true → list_all has_key rows ≡ false → check_rows rows ≡ Err 10
+unfolding check_rows
+nameless_rows rows whole nameless = rw (whole, nameless) refl
+
+many_rows : (rows : List TableRow) → list_all is_whole rows ≡ true → list_all has_key rows ≡ true → most_rows < length rows → check_rows rows ≡ Err 11
+unfolding check_rows
+many_rows rows whole named many = let test : nat_le (length rows) most_rows ≡ false = grind (arith, nat_tests) in rw (whole, named, test) refl
+
+abbrev Below : List Named → EnvelopeValue → ℕ → Type 0
+Below files e n = (m : ℕ) → Stands files e m → n ≤ m
+
+below_8 : (files : List Named) (e : EnvelopeValue) → Below files e 8
+below_8 files e m (inl h) = omega (arith, h.0)
+below_8 files e m (inr (inl h)) = omega (arith, h.0)
+below_8 files e m (inr (inr (inl h))) = omega (arith, h.0)
+below_8 files e m (inr (inr (inr h))) = omega (arith, h.0)
+
+below_9 : (files : List Named) (e : EnvelopeValue) → are_filed files (tables_of e) ≡ true → Below files e 9
+below_9 files e filed m (inl h) = never (are_filed files (tables_of e)) filed h.1
+below_9 files e filed m (inr (inl h)) = omega (arith, h.0)
+below_9 files e filed m (inr (inr (inl h))) = omega (arith, h.0)
+below_9 files e filed m (inr (inr (inr h))) = omega (arith, h.0)
+
+below_10 : (files : List Named) (e : EnvelopeValue) → are_filed files (tables_of e) ≡ true → list_all is_whole (all_rows files e) ≡ true → Below files e 10
+below_10 files e filed whole m (inl h) = never (are_filed files (tables_of e)) filed h.1
+below_10 files e filed whole m (inr (inl h)) = never (list_all is_whole (all_rows files e)) whole h.1
+below_10 files e filed whole m (inr (inr (inl h))) = omega (arith, h.0)
+below_10 files e filed whole m (inr (inr (inr h))) = omega (arith, h.0)
+
+below_11 : (files : List Named) (e : EnvelopeValue) → are_filed files (tables_of e) ≡ true → list_all is_whole (all_rows files e) ≡ true → list_all has_key (all_rows files e) ≡ true → Below files e 11
+below_11 files e filed whole named m (inl h) = never (are_filed files (tables_of e)) filed h.1
+below_11 files e filed whole named m (inr (inl h)) = never (list_all is_whole (all_rows files e)) whole h.1
+below_11 files e filed whole named m (inr (inr (inl h))) = never (list_all has_key (all_rows files e)) named h.1
+below_11 files e filed whole named m (inr (inr (inr h))) = omega (arith, h.0)
+
+none_stands : (files : List Named) (e : EnvelopeValue) → are_filed files (tables_of e) ≡ true → list_all is_whole (all_rows files e) ≡ true → list_all has_key (all_rows files e) ≡ true → length (all_rows files e) ≤ most_rows → NoneStands files e
+none_stands files e filed whole named few m (inl h) = never (are_filed files (tables_of e)) filed h.1
+none_stands files e filed whole named few m (inr (inl h)) = never (list_all is_whole (all_rows files e)) whole h.1
+none_stands files e filed whole named few m (inr (inr (inl h))) = never (list_all has_key (all_rows files e)) named h.1
+none_stands files e filed whole named few m (inr (inr (inr h))) = omega (arith, h.1)
+
+told_number : (files : List Named) (e : EnvelopeValue) → are_filed files (tables_of e) ≡ true → list_all is_whole (all_rows files e) ≡ true → list_all has_key (all_rows files e) ≡ true → Told files e
+told_number files e filed whole named = elim (cases_Bool (nat_le (length (all_rows files e)) most_rows)) [
+  | inl test ↦
+      let few : length (all_rows files e) ≤ most_rows = grind (arith, nat_tests) in
+      inl (told_deposit files e filed (rows_right (all_rows files e) whole named few), none_stands files e filed whole named few)
+  | inr test ↦
+      let many : most_rows < length (all_rows files e) = grind (arith, nat_tests) in
+      inr (11, told_rows files e 11 filed (many_rows (all_rows files e) whole named many), (inr (inr (inr (refl, many))), below_11 files e filed whole named))
+]
+
+told_keys : (files : List Named) (e : EnvelopeValue) → are_filed files (tables_of e) ≡ true → list_all is_whole (all_rows files e) ≡ true → Told files e
+told_keys files e filed whole = elim (cases_Bool (list_all has_key (all_rows files e))) [
+  | inl named ↦ told_number files e filed whole named
+  | inr nameless ↦ inr (10, told_rows files e 10 filed (nameless_rows (all_rows files e) whole nameless), (inr (inr (inl (refl, nameless))), below_10 files e filed whole))
+]
+
+told_whole : (files : List Named) (e : EnvelopeValue) → are_filed files (tables_of e) ≡ true → Told files e
+told_whole files e filed = elim (cases_Bool (list_all is_whole (all_rows files e))) [
+  | inl whole ↦ told_keys files e filed whole
+  | inr broken ↦ inr (9, told_rows files e 9 filed (broken_rows (all_rows files e) broken), (inr (inl (refl, broken)), below_9 files e filed))
+]
+
+told : (files : List Named) (e : EnvelopeValue) → Told files e
+told files e = elim (cases_Bool (are_filed files (tables_of e))) [
+  | inl filed ↦ told_whole files e filed
+  | inr unfiled ↦ inr (8, told_8 files e unfiled, (inl (refl, unfiled), below_8 files e))
+]
+
+not_both : {P A : Type 0} (r : Result A ℕ) (x : A) (n : ℕ) → r ≡ Ok x → r ≡ Err n → P
+not_both r x n found refused = absurd cc
+
+same_number : {A : Type 0} (r : Result A ℕ) (m n : ℕ) → r ≡ Err m → r ≡ Err n → m ≡ n
+same_number r m n first then = cc
+
+least_from : (files : List Named) (e : EnvelopeValue) (n : ℕ) → Told files e → deposit_in files e ≡ Err n → IsLeast files e n
+least_from files e n (inl right) h = not_both (deposit_in files e) (deposit_of files e) n right.0 h
+least_from files e n (inr wrong) h = subst (IsLeast files e) (same_number (deposit_in files e) wrong.0 n wrong.1 h) wrong.2
+
+refused_from : (files : List Named) (e : EnvelopeValue) (n : ℕ) → Told files e → IsLeast files e n → deposit_in files e ≡ Err n
+refused_from files e n (inl right) least = absurd (right.1 n least.0)
+refused_from files e n (inr wrong) least =
+    let up : n ≤ wrong.0 = least.1 wrong.0 wrong.2.0 in
+    let down : wrong.0 ≤ n = wrong.2.1 n least.0 in
+    let same : wrong.0 ≡ n = omega arith in
+    wrong.1 ∙ ap (λ (m : ℕ). Err m) same
+
+-- ---- a body is refused
+
+abbrev Stops : {A B : Type 0} → Result A ℕ → (A → Result B ℕ) → ℕ → Type 0
+Stops {A} r next n = (r ≡ Err n) ⊎ ((x : A) × (r ≡ Ok x) × (next x ≡ Err n))
+
+stops_of : {A B : Type 0} (r : Result A ℕ) (next : A → Result B ℕ) (n : ℕ) → (r >>= next) ≡ Err n → Stops r next n
+stops_of (Ok x) next n h = inr (x, refl, h)
+stops_of (Err m) next n h = inl (ap (λ (k : ℕ). Err k) (same_number (Err m) m n refl h))
+
+refused_envelope : (first : Named) (files : List Named) (n : ℕ) → Stops (envelope_of first.bytes) (deposit_in files) n → IsRefusedAt first files n
+refused_envelope first files n (inl wrong) = inl wrong
+refused_envelope first files n (inr step) = inr (step.0, step.1, least_from files step.0 n (told files step.0) step.2)
+
+refused_sections : (body : List ℕ) (ss : List Named) (n : ℕ) → IsBundle body ss → sections_deposit ss ≡ Err n → IsRefused body n
+unfolding sections_deposit
+refused_sections body [] n bundle h = absurd (omega (arith, bundle.some))
+refused_sections body (first ∷ files) n bundle h = inr (first, files, bundle, refused_envelope first files n (stops_of (envelope_of first.bytes) (deposit_in files) n h))
+
+abbrev pub FaultIsExact : Type 0
+FaultIsExact = (body : List ℕ) (n : ℕ) → (frame body ≡ Err n) ↔ IsFault body n
+
+refused_frame : FrameIsExact → FaultIsExact → (body : List ℕ) (n : ℕ) → Stops (frame body) sections_deposit n → IsRefused body n
+refused_frame exact fault body n (inl wrong) = inl ((fault body n).0 wrong)
+refused_frame exact fault body n (inr step) = refused_sections body step.0 n ((exact body step.0).0 step.1) step.2
+
+is_refused : FrameIsExact → FaultIsExact → (body : List ℕ) (n : ℕ) → reading body ≡ Err n → IsRefused body n
+unfolding reading
+is_refused exact fault body n h = refused_frame exact fault body n (stops_of (frame body) sections_deposit n h)
+
+refuses_at : (body : List ℕ) (first : Named) (files : List Named) (n : ℕ) → frame body ≡ Ok (first ∷ files) → IsRefusedAt first files n → reading body ≡ Err n
+refuses_at body first files n framed (inl wrong) = no_envelope body first files n framed wrong
+refuses_at body first files n framed (inr step) = same_reading body first files step.0 framed step.1 ∙ refused_from files step.0 n (told files step.0) step.2
+
+refuses : FrameIsExact → FaultIsExact → (body : List ℕ) (n : ℕ) → IsRefused body n → reading body ≡ Err n
+refuses exact fault body n (inl wrong) = no_frame body n ((fault body n).1 wrong)
+refuses exact fault body n (inr step) = refuses_at body step.0 step.1 n ((exact body (step.0 ∷ step.1)).1 step.2) step.3
+
+pub refusal_exact : FrameIsExact → FaultIsExact → (body : List ℕ) (n : ℕ) → (reading body ≡ Err n) ↔ IsRefused body n
+refusal_exact exact fault body n = (is_refused exact fault body n, refuses exact fault body n)

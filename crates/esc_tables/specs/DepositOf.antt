@@ -1,0 +1,59 @@
+-- What it is for a body to be a deposit, and which refusal stands (RFC 8909, section 2, and this project's profile).
+use Rattle.std.specs.Prelude.{◌≡◌, ◌⊎◌, ◌≤◌, ◌<◌, ℕ, List, ◌∷◌, length, map, true, false, Ok, Err, T}
+use Rattle.std.specs.List.{list_all}
+use Rattle.std.specs.FinMap.Entries.{find, is_sorted}
+use Rattle.esc_bundle.specs.Bundle.{Named, IsBundle}
+use Rattle.esc_bundle.specs.Reading.{IsFault}
+use Rattle.esc_envelope.specs.EnvelopeValue.{EnvelopeValue}
+use Rattle.esc_envelope.specs.Envelope.{envelope_of}
+use Rattle.esc_tables.specs.DepositValue.{DepositValue}
+use Rattle.esc_tables.specs.KeyName.{KeyName, key_cmp}
+use Rattle.esc_tables.specs.TableRow.{TableRow, are_filed, rows_in, is_whole, has_key, key_of}
+use Rattle.esc_tables.specs.Objects.{object_of, orphans_of}
+use Rattle.esc_tables.specs.Reading.{tables_of, parent_rows, child_rows, most_rows}
+
+-- all rows of a bundle
+abbrev pub all_rows : List Named → EnvelopeValue → List TableRow
+all_rows files e = rows_in files (tables_of e)
+
+-- the rows make this deposit: its keys rise, and each has the object that the rows have for it
+pub record Makes (files : List Named) (e : EnvelopeValue) (d : DepositValue) : Type 0 where
+  pub header : d.header ≡ e.header
+  pub counts : d.counts ≡ e.counts
+  pub deletes : d.deletes ≡ map key_of (rows_in files e.deletes)
+  pub sorted : T (is_sorted key_cmp d.contents)
+  pub objects : (k : KeyName) → find key_cmp k d.contents ≡ object_of (parent_rows files e) (child_rows files e) k
+  pub orphans : d.orphans ≡ orphans_of (parent_rows files e) (child_rows files e)
+
+-- the body is a bundle of an envelope and of files with rows, and these make this deposit
+pub record IsDepositOf (body : List ℕ) (d : DepositValue) : Type 0 where
+  pub first : Named
+  pub files : List Named
+  pub bundle : IsBundle body (first ∷ files)
+  pub envelope : EnvelopeValue
+  pub told : envelope_of first.bytes ≡ Ok envelope
+  pub filed : are_filed files (tables_of envelope) ≡ true
+  pub whole : list_all is_whole (all_rows files envelope) ≡ true
+  pub named : list_all has_key (all_rows files envelope) ≡ true
+  pub few : length (all_rows files envelope) ≤ most_rows
+  pub made : Makes files envelope d
+
+-- the refusal of this number stands, of those that the files have
+abbrev pub Stands : List Named → EnvelopeValue → ℕ → Type 0
+Stands files e n =
+    ((n ≡ 8) × (are_filed files (tables_of e) ≡ false))
+    ⊎ ((n ≡ 9) × (list_all is_whole (all_rows files e) ≡ false))
+    ⊎ ((n ≡ 10) × (list_all has_key (all_rows files e) ≡ false))
+    ⊎ ((n ≡ 11) × (most_rows < length (all_rows files e)))
+
+-- it stands, and no lesser one does
+abbrev pub IsLeast : List Named → EnvelopeValue → ℕ → Type 0
+IsLeast files e n = Stands files e n × ((m : ℕ) → Stands files e m → n ≤ m)
+
+-- the envelope of this bundle is refused, or it is one and its files are
+abbrev pub IsRefusedAt : Named → List Named → ℕ → Type 0
+IsRefusedAt first files n = (envelope_of first.bytes ≡ Err n) ⊎ ((e : EnvelopeValue) × (envelope_of first.bytes ≡ Ok e) × IsLeast files e n)
+
+-- the body is refused with this number: it is no bundle, or one that is refused
+abbrev pub IsRefused : List ℕ → ℕ → Type 0
+IsRefused body n = IsFault body n ⊎ ((first : Named) × (files : List Named) × IsBundle body (first ∷ files) × IsRefusedAt first files n)
