@@ -37,13 +37,6 @@ pub rows_of_steps : (m : List MRow) (rows : List ℕ) → rows_in (map (step_at 
 rows_of_steps m [] = refl
 rows_of_steps m (r ∷ rows) = ap (λ (l : List ℕ). r ∷ l) (rows_of_steps m rows)
 
-pub none_in_range : (m : List MRow) → InRange m set.empty
-none_in_range m r held = absurd (true≢false (sym (true_of (set.contains set.empty r) held) ∙ set.contains-empty nat_cmp r))
-  where
-    true_of : (b : Bool) → IsTrue b → b ≡ true
-    true_of true is = refl
-    true_of false is = is
-
 -- what was given once is the same still, or gone
 pub given_still : (before after : Option DepositValue) (body : List ℕ) → IsSomeOrLost before after → IfSome before (λ d. reading body ≡ Ok d) → IfSome after (λ d. reading body ≡ Ok d)
 given_still before None body kept known = tt

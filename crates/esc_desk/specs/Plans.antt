@@ -1,5 +1,5 @@
 -- What a plan says of a move to the chain that one more held row makes.
-use Rattle.std.specs.Prelude.{◌≡◌, ℕ, ◌≤◌, List, length, map, drop, Result}
+use Rattle.std.specs.Prelude.{◌≡◌, ℕ, ◌<◌, List, slice_index, length, map, drop, Result}
 use Rattle.std.specs.FinSet as set
 use Rattle.esc_tables.specs.DepositValue.{DepositValue}
 use Rattle.esc_manifest.specs.declared.row.MRow.{MRow}
@@ -11,6 +11,11 @@ use Rattle.esc_store.specs.Kept.{Kept, body_put, kept_chain, step_at}
 use Rattle.esc_desk.specs.declared.plan.Plan.{Plan}
 use Rattle.esc_desk.specs.Stands.{deposits_of}
 
+-- each of these rows is the manifest's
+abbrev pub AllInRange : List MRow → List ℕ → Type 0
+AllInRange m rows = (i : ℕ) → i < length rows → slice_index rows i < length m
+
+-- the rows of steps
 abbrev pub rows_in : List Step → List ℕ
 rows_in steps = map (λ (s : Step). s.row) steps
 

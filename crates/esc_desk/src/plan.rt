@@ -5,12 +5,12 @@ ghost use Rattle.std.specs.FinSet as set;
 ghost use Rattle.esc_tables.specs.Reading.{reading};
 ghost use Rattle.esc_manifest.specs.declared.row.MRow.{MRow};
 ghost use Rattle.esc_manifest.specs.Accepted.{IsAccepted};
-ghost use Rattle.esc_chain.specs.Chain.{InRange, AllInRange};
+ghost use Rattle.esc_chain.specs.Chain.{InRange};
 ghost use Rattle.esc_apply.specs.Front.{common_front};
 ghost use Rattle.esc_store.specs.Kept.{Kept, body_put, step_at};
 ghost use Rattle.esc_store.specs.Standing.{Stands, IsHonest, IsAsBefore};
 ghost use Rattle.esc_desk.specs.Stands.{deposit_of, deposits_of};
-ghost use Rattle.esc_desk.specs.Plans.{rows_in, with_held, IsPlanned};
+ghost use Rattle.esc_desk.specs.Plans.{AllInRange, rows_in, with_held, IsPlanned};
 
 use esc_apply::{Step, common_front};
 use esc_bundle::{Fault, NoMemory};

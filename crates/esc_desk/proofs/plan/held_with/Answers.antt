@@ -3,14 +3,11 @@ use Rattle.std.specs.FinSet as set
 use Rattle.esc_manifest.specs.declared.row.MRow.{MRow}
 use Rattle.std.specs.Ordering.{nat_cmp}
 use Rattle.esc_chain.specs.Chain.{Rows, InRange}
-use Rattle.esc_desk.proofs.PlanLemmas.{insert_in_range, one_more_row, none_in_range}
+use Rattle.esc_desk.proofs.PlanLemmas.{insert_in_range, one_more_row}
 use Rattle.esc_desk.proofs.plan.held_with.Goals as goal
 
 pub loop-held_row-init : goal.loop-held_row-init
-loop-held_row-init c = record {
-  rows = c.new-held.ensures;
-  in_range = subst (λ (h : Rows). InRange c.args.manifest.now h) (sym c.new-held.ensures) (none_in_range c.args.manifest.now);
-}
+loop-held_row-init c = record { rows = c.new-held.ensures.empty; in_range = c.new-held.ensures.in_range c.args.manifest.now }
 
 pub loop-held_row-preserved : goal.loop-held_row-preserved
 loop-held_row-preserved c =
