@@ -18,3 +18,4 @@ pub mod UndoLemmas
 pub mod NumberLemmas
 pub mod ReceiptLemmas
 pub mod TableLemmas
+pub mod CreateLemmas

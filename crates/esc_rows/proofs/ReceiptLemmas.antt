@@ -1,8 +1,6 @@
 -- What the statements on receipts do.
-use Rattle.std.proofs.Common.{◌≡◌, inl, inr, ℕ, ◌<◌, ◌≤◌, ℤ, pos, negsuc, ◌&&◌, Bool, true, false, not, List, [], ◌∷◌, ◌++◌, map, filter, take, reverse, length, Option, Some, None, Ok, refl, sym, ap, subst, ◌∙◌, arith, int_eq}
-use Rattle.std.specs.Prelude.{find, bytes_eq, slice_get}
-use Rattle.std.specs.List.{AllByRecursion}
-use Rattle.std.specs.Option.{option_to_list}
+use Rattle.std.proofs.Common.{◌≡◌, ℕ, ◌≤◌, pos, ◌&&◌, Bool, true, false, not, List, [], ◌∷◌, ◌++◌, map, filter, take, reverse, length, Some, Ok, refl, sym, ap, subst, ◌∙◌, int_eq}
+use Rattle.std.specs.Prelude.{bytes_eq, slice_get}
 use Rattle.std.proofs.lemmas.Slice.Eq.{bytes_eq-Decides}
 use mathlib.Core.List.{reverse-cons}
 use Rattle.sqlite_value.specs.declared.keys.Key.{Key}
@@ -18,7 +16,6 @@ use Rattle.sqlite.specs.Tree.{Trees, rowid}
 use Rattle.sqlite.specs.Term.{Term, col, op2}
 use Rattle.sqlite.specs.Query.{Output}
 use Rattle.sqlite.specs.State.{State, Executes, Shown}
-use Rattle.sqlite.specs.Effect.{Database}
 use Rattle.sqlite.specs.Rowids.TheVariants.{Chosen}
 use Rattle.sqlite.specs.Edit.{edit_of, edited}
 use Rattle.sqlite_catalog.specs.Listing.{IsSound}
@@ -35,7 +32,7 @@ use Rattle.esc_rows.specs.Steps.{shown_receipt_number, ShowsReceipt, ShowsReceip
 use Rattle.esc_rows.proofs.Compiled.{receipt_terms, insert_receipt_is, find_receipt_is, select_receipts_is, last_receipt_is}
 use Rattle.esc_rows.proofs.Forms.{uncounted}
 use Rattle.esc_rows.proofs.Frame.{receipts_then}
-use Rattle.esc_rows.proofs.Scan.{scan, no_limit, is_match, IsScanned, in_order, in_reverse, short_rises, same_text, same_blob, and_true}
+use Rattle.esc_rows.proofs.Scan.{no_limit, in_order, in_reverse, short_rises, same_text, same_blob, and_true}
 use Rattle.esc_rows.proofs.Typed.{put_typed}
 use Rattle.esc_rows.proofs.Values.{cast_null, cast_int, cast_number}
 use Rattle.esc_rows.proofs.Finds.{apart, at_most_one_apart, alone}

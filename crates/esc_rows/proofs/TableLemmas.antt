@@ -1,5 +1,5 @@
 -- What the statements on held bodies, on the chain and on the manifest's rows do.
-use Rattle.std.proofs.Common.{◌≡◌, ℕ, ◌<◌, ◌≤◌, ℤ, pos, true, false, List, [], ◌∷◌, ◌++◌, map, filter, length, Ok, refl, sym, ap, subst, ◌∙◌, int_eq}
+use Rattle.std.proofs.Common.{◌≡◌, ℕ, pos, true, false, List, [], ◌∷◌, ◌++◌, map, filter, Ok, refl, sym, ap, subst, ◌∙◌, int_eq}
 use Rattle.sqlite_value.specs.declared.keys.Key.{Key}
 use Rattle.sqlite_value.specs.declared.value.Value.TheVariants.{Null, Int, Text, Blob}
 use Rattle.sqlite_value.specs.Order.{Row}
@@ -11,7 +11,7 @@ use Rattle.sqlite.specs.Query.{Output}
 use Rattle.sqlite.specs.State.{State, Executes, Shown}
 use Rattle.sqlite.specs.Rowids.TheVariants.{Chosen}
 use Rattle.sqlite.specs.Edit.{edit_of, edited}
-use Rattle.sqlite_keyed.specs.Keyed.{IsKeyedBy, insert_by, has_key}
+use Rattle.sqlite_keyed.specs.Keyed.{IsKeyedBy, insert_by}
 use Rattle.sqlite_keyed.proofs.KeyedLemmas.{IsKeyedBy-insert_by}
 use Rattle.esc_rows.specs.Schema.{held_table, step_table, listed_table}
 use Rattle.esc_rows.specs.Texts.{insert_held_text, select_held_text, find_body_text, clear_steps_text, insert_step_text, select_steps_text, insert_listed_text, select_listed_text}

@@ -1,8 +1,7 @@
 -- What the statements on before-images do.
-use Rattle.std.proofs.Common.{◌≡◌, inl, inr, ℕ, ℤ, pos, ◌+◌, ◌+ℤ◌, ◌≤◌, ◌==◌, ◌&&◌, Bool, true, false, not, cond, List, [], ◌∷◌, map, filter, length, Option, Some, None, option_map, Ok, refl, sym, ap, subst, ◌∙◌, arith, Ordering, Less, Equal, Greater, int_cmp, int_eq, is_eq}
+use Rattle.std.proofs.Common.{◌≡◌, inl, inr, ℕ, ℤ, pos, ◌+◌, ◌+ℤ◌, ◌==◌, ◌&&◌, Bool, true, false, not, cond, List, [], ◌∷◌, map, filter, Option, Some, None, option_map, Ok, refl, sym, ap, subst, ◌∙◌, arith, int_eq, is_eq}
 use Rattle.std.specs.Prelude.{fold, find, bytes_eq}
 use Rattle.std.specs.List.{AllByRecursion}
-use Rattle.std.specs.Ordering.{match_ordering}
 use Rattle.std.proofs.lemmas.Bool.{cases_Bool}
 use Rattle.sqlite_value.specs.declared.keys.Key.{Key}
 use Rattle.sqlite_value.specs.declared.value.Value.TheVariants.{Null, Int, Blob}
@@ -33,7 +32,7 @@ use Rattle.esc_rows.specs.Steps.{shown_image, ShowsImages}
 use Rattle.esc_rows.proofs.Compiled.{undo_tests, undo_terms, insert_undo_is, select_undo_is, delete_undo_is, clear_undo_is}
 use Rattle.esc_rows.proofs.Forms.{uncounted}
 use Rattle.esc_rows.proofs.Frame.{undo_then}
-use Rattle.esc_rows.proofs.Scan.{scan, no_limit, is_match, IsScanned, put_in_order, same_number, same_blob, and_true}
+use Rattle.esc_rows.proofs.Scan.{scan, no_limit, is_match, put_in_order, same_number, same_blob, and_true}
 use Rattle.esc_rows.proofs.Typed.{put_typed, next_typed}
 use Rattle.esc_rows.proofs.Values.{cast_null, cast_int, cast_blob}
 use Rattle.esc_rows.proofs.Finds.{apart, at_most_one_apart, find-map, find-filter, find_same, find_never, find-insert, find-insert_other, none_before}

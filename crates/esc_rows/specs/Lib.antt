@@ -8,3 +8,4 @@ pub mod ContentIs
 pub mod Changes
 pub mod Steps
 pub mod Entries
+pub mod Creation

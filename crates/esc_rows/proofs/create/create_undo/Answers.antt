@@ -1,0 +1,15 @@
+use Rattle.sqlite.specs.Held.{state}
+use Rattle.esc_rows.specs.Creation.{Builds}
+use Rattle.esc_rows.specs.Schema.{schema_6, store_schema}
+use Rattle.esc_rows.specs.Texts.{create_undo_text}
+use Rattle.esc_rows.proofs.Compiled.{create_undo_is}
+use Rattle.esc_rows.proofs.PartLemmas.{write_part}
+use Rattle.esc_rows.proofs.CreateLemmas.{builds_undo}
+use Rattle.esc_rows.proofs.create.create_undo.Goals as goal
+
+pub returns : goal.returns
+returns g c =
+    let old = c.args.conn.now in
+    let new = c.write_within.new.conn in
+    record { part = write_part g.S.Store create_undo_text _ old new (Builds schema_6 store_schema) c.write_within.result c.write_within.ensures.ended (c.write_within.ensures.runs create_undo_is.writes) (c.write_within.ensures.survives create_undo_is.writes)
+    (λ count ran. builds_undo (state g.S.Store old) (state g.S.Store new) count ran) }
