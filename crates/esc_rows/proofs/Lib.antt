@@ -19,3 +19,5 @@ pub mod NumberLemmas
 pub mod ReceiptLemmas
 pub mod TableLemmas
 pub mod CreateLemmas
+pub mod TermLemmas
+pub mod ShapeLemmas

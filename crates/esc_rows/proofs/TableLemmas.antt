@@ -43,8 +43,7 @@ holds_body old new b count ran c h =
     let done = inserts 3 held_table refl (shown_held b) insert_held_text held_terms 3 (stored_held b) insert_held_is refl old new count h.schema_is ran in
     let left : edited old.now.trees (edit_of old.now.trees (uncounted held_table) [] Chosen 0 (stored_held b ∷ [])) ≡ map stored_held (insert_by held_number c.held b) =
     rw (h.store.rows.held, cast_null, cast_int (pos b.row)) (put_typed held_number held_rest b c.held) in
-    let fresh = rw (h.store.rows.held, cast_null, cast_int (pos b.row)) at done.edited.applies.fresh in
-    (
+    let fresh = rw (h.store.rows.held, cast_null, cast_int (pos b.row)) at done.edited.applies.fresh in (
       held_then old.now new.now c h done.written (insert_by held_number c.held b) (done.edited.applies.rows ∙ left) (IsKeyedBy-insert_by held_number c.held b h.store.ordered.held),
       was_free held_number held_rest (held_number b) c.held fresh,
     )

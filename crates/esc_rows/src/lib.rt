@@ -8,6 +8,7 @@ pub mod listed;
 mod numbers;
 pub mod object;
 pub mod receipt;
+pub mod shape;
 pub mod step;
 pub mod transaction;
 pub mod undo;
