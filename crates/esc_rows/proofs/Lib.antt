@@ -15,3 +15,9 @@ pub mod Sorts
 pub mod ObjectLists
 pub mod DecodeLemmas
 pub mod UndoLemmas
+pub mod NumberLemmas
+pub mod ReceiptLemmas
+pub mod TableLemmas
+pub mod CreateLemmas
+pub mod TermLemmas
+pub mod ShapeLemmas
