@@ -1,0 +1,9 @@
+use Rattle.std.proofs.Common.{◌≡◌, ◌++◌, drop}
+use Rattle.esc_check.specs.Lines.{text_of}
+use Rattle.esc_check.specs.Export.{row_lines}
+use Rattle.esc_check.proofs.Writing.{cells_text}
+use Rattle.esc_check.proofs.export.write_row.Given as goal
+
+abbrev pub invariant-loop-field : goal.invariant-loop-field
+invariant-loop-field l =
+    l.lines ++ cells_text l.key l.fn.number l.row.table (drop l.field-index l.field-items) ≡ l.initial.lines ++ text_of (row_lines l.key l.fn.number l.row)

@@ -1,0 +1,153 @@
+//! The export of all objects of a kind.
+
+ghost use Rattle.std.specs.Prelude.{◌≡◌, ◌+◌, [], ◌<◌, ◌^◌, ◌∷◌, ◌++◌, map, length, count_by, IfOk, OnOk, string_bytes};
+ghost use Rattle.std.specs.Fmt.{decimal};
+ghost use Rattle.esc_envelope.specs.Kinds.{kind_name, is_kind};
+ghost use Rattle.esc_check.specs.Lines.{line_text, text_of};
+ghost use Rattle.esc_check.specs.Export.{heading, row_lines, is_in, child_lines, object_lines, export_text};
+
+use crate::lines::Lines;
+use esc_bundle::NoMemory;
+use esc_envelope::Kind;
+use esc_tables::{Key, Object, Row};
+use std::alloc::Global;
+use std::collections::BTreeMap;
+
+/// The export of a kind as CSV (this project's profile): by key in byte order; of an object the parent row first, with
+/// number 0, then its child rows, each with its place among the object's rows of that table, from 1; a line for each
+/// cell, in the declared order.
+pub fn export_rows(
+    alloc: Global,
+    t: &BTreeMap<Key, Object>,
+    kind: Kind,
+) -> Result<Vec<u8>, NoMemory>
+    ensures { IfOk result (λ text. text.items ≡ export_text kind t.now.entries) }
+{
+    let mut lines = Lines::new(alloc);
+    write_heading(&mut lines)?;
+    for (key, object) in t.iter() {
+        if !is_of(key, kind) {
+            continue;
+        }
+        write_object(alloc, &mut lines, key, object)?;
+    }
+    lines.into_text()
+}
+
+fn is_of(key: &Key, kind: Kind) -> bool
+    ensures { result ≡ is_kind key.now.kind kind }
+{
+    key.kind == kind
+}
+
+fn write_heading(lines: &mut Lines) -> Result<(), NoMemory>
+    ensures { OnOk result (lines.new ≡ lines.old ++ line_text heading) }
+{
+    lines.write(&[b"kind", b"key", b"table", b"row", b"field", b"value"])
+}
+
+fn write_object(
+    alloc: Global,
+    lines: &mut Lines,
+    key: &Key,
+    object: &Object,
+) -> Result<(), NoMemory>
+    ensures { OnOk result (lines.new ≡ lines.old ++ text_of (object_lines key.now object.now)) }
+{
+    write_row(alloc, lines, key, 0, &object.parent)?;
+    write_children(alloc, lines, key, &object.children)
+}
+
+fn write_children(
+    alloc: Global,
+    lines: &mut Lines,
+    key: &Key,
+    children: &[Row],
+) -> Result<(), NoMemory>
+    ensures { OnOk result (lines.new ≡ lines.old ++ text_of (child_lines key.now [] children.now)) }
+{
+    let mut table = "";
+    let mut number = 0;
+    for (index, row) in children.iter().enumerate() {
+        number = number_behind(&children[..index], table, number, row.table.as_str());
+        table = row.table.as_str();
+        write_row(alloc, lines, key, number, row)?;
+    }
+    Ok(())
+}
+
+// The place of a row of a table behind these rows, of which `last` has `number`. Where rows stand by table, as those of
+// a deposit do, each table is counted once.
+fn number_behind(earlier: &[Row], last: &str, number: usize, table: &str) -> usize
+    requires known { number ≡ count_by (is_in last.now) earlier.now }
+    requires room { length earlier.now + 1 < 2 ^ 64 }
+    ensures { result ≡ count_by (is_in table.now) earlier.now + 1 }
+{
+    if last == table {
+        return number + 1;
+    }
+    count_in(earlier, table) + 1
+}
+
+fn count_in(rows: &[Row], table: &str) -> usize
+    ensures { result ≡ count_by (is_in table.now) rows.now }
+{
+    rows.iter().filter(|row| row.table.as_str() == table).count()
+}
+
+fn decimal_text(alloc: Global, number: usize) -> Result<String, NoMemory>
+    ensures { IfOk result (λ text. string_bytes text ≡ decimal number) }
+{
+    Ok(format!(in alloc; "{number}")?)
+}
+
+fn write_row(
+    alloc: Global,
+    lines: &mut Lines,
+    key: &Key,
+    number: usize,
+    row: &Row,
+) -> Result<(), NoMemory>
+    ensures { OnOk result (lines.new ≡ lines.old ++ text_of (row_lines key.now number row.now)) }
+{
+    let text = decimal_text(alloc, number)?;
+    for (field, value) in &row.cells {
+        write_cell(lines, key, text.as_str(), row, field.as_str(), value.as_str())?;
+    }
+    Ok(())
+}
+
+fn write_cell(
+    lines: &mut Lines,
+    key: &Key,
+    number: &str,
+    row: &Row,
+    field: &str,
+    value: &str,
+) -> Result<(), NoMemory>
+    ensures { OnOk result (lines.new ≡ lines.old ++ line_text (kind_name key.now.kind ∷ key.now.text ∷ row.now.table ∷ number.now ∷ field.now ∷ value.now ∷ [])) }
+{
+    write_fields(
+        lines,
+        key.kind.name().as_bytes(),
+        key.text.as_str().as_bytes(),
+        row.table.as_str().as_bytes(),
+        number.as_bytes(),
+        field.as_bytes(),
+        value.as_bytes(),
+    )
+}
+
+fn write_fields<'x>(
+    lines: &mut Lines,
+    kind: &'x [u8],
+    key: &'x [u8],
+    table: &'x [u8],
+    row: &'x [u8],
+    field: &'x [u8],
+    value: &'x [u8],
+) -> Result<(), NoMemory>
+    ensures { OnOk result (lines.new ≡ lines.old ++ line_text (kind.now ∷ key.now ∷ table.now ∷ row.now ∷ field.now ∷ value.now ∷ [])) }
+{
+    lines.write(&[kind, key, table, row, field, value])
+}
