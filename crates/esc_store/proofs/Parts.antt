@@ -32,7 +32,7 @@ pub step_off : {X E : Type 0} (s : State) (Made : Database → Database → Type
 step_off s Made e off = record { survives = survives_same s (λ trees. ⊥); kept = λ clean. keeps_same s; made = λ clean. tt; failed = λ clean. off }
 
 module _ {S : Type 0} (g : Ghosts S) (old : Held S) (mid new : Store S) {X D E : Type 0} (outcome : Result X D) (result : Result X E)
-  (survives : Survives (state g mid.conn) (state g new.conn) (λ trees. ⊥)) (ok : IfOk result (λ x. (outcome ≡ Ok x) × (new ≡ mid))) (err : OnErr result (IsErr outcome × IsGivenUp (state g mid.conn) (state g new.conn))) where
+    (survives : Survives (state g mid.conn) (state g new.conn) (λ trees. ⊥)) (ok : IfOk result (λ x. (outcome ≡ Ok x) × (new ≡ mid))) (err : OnErr result (IsErr outcome × IsGivenUp (state g mid.conn) (state g new.conn))) where
   -- a statement within the transaction, settled
   pub step_is : (Made : Database → Database → Type 0) → old.in_transaction ≡ true → IsPart (state g old) (state g mid.conn) Made outcome → IsStep (state g old) (state g new.conn) Made result
   step_is Made on part = elim result as (λ r. IfOk r (λ x. (outcome ≡ Ok x) × (new ≡ mid)) → OnErr r (IsErr outcome × IsGivenUp (state g mid.conn) (state g new.conn)) → IsStep (state g old) (state g new.conn) Made r) [
