@@ -21,3 +21,4 @@ pub mod TableLemmas
 pub mod CreateLemmas
 pub mod TermLemmas
 pub mod ShapeLemmas
+pub mod OpenLemmas

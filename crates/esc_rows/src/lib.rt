@@ -37,9 +37,12 @@ pub mod info;
 pub mod listed;
 mod numbers;
 pub mod object;
+pub mod open;
 pub mod receipt;
 pub mod shape;
 pub mod step;
+#[cfg(test)]
+mod tests;
 pub mod transaction;
 pub mod undo;
 mod within;
