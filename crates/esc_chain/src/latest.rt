@@ -13,7 +13,7 @@ use std::alloc::Global;
 /// The latest chain, as row indices from its Full to its end: of all chains of held rows the one whose end is the
 /// greatest place, and the empty list where there is none (this project's profile).
 ///
-/// Takes time about as the number of rows, whatever chains there are.
+/// Takes time about as the number of rows, whatever chains there are. The one error is want of memory.
 pub fn latest_chain(alloc: Global, m: &Manifest, h: &Held) -> Result<Vec<usize>, NoMemory>
     requires { InRange m.now h.now }
     ensures latest { IfOk result (λ c. IsLatestChain m.now h.now c.items) }
