@@ -92,7 +92,9 @@ fn number_behind(earlier: &[Row], last: &str, number: usize, table: &str) -> usi
 fn count_in(rows: &[Row], table: &str) -> usize
     ensures { result ≡ count_by (is_in table.now) rows.now }
 {
-    rows.iter().filter(|row| row.table.as_str() == table).count()
+    rows.iter()
+        .filter(|row| row.table.as_str() == table)
+        .count()
 }
 
 fn decimal_text(alloc: Global, number: usize) -> Result<String, NoMemory>
@@ -112,7 +114,14 @@ fn write_row(
 {
     let text = decimal_text(alloc, number)?;
     for (field, value) in &row.cells {
-        write_cell(lines, key, text.as_str(), row, field.as_str(), value.as_str())?;
+        write_cell(
+            lines,
+            key,
+            text.as_str(),
+            row,
+            field.as_str(),
+            value.as_str(),
+        )?;
     }
     Ok(())
 }

@@ -19,10 +19,10 @@ loop-field-preserved c =
     let x = c.loop-field-item.result in
     let number : c.as_str.result.now ≡ decimal c.args.number = c.as_str.ensures.value ∙ c.in_ok-text.ensures in
     let fields : kind_name k.kind ∷ k.text ∷ c.args.row.now.table ∷ c.as_str.result.now ∷ c.as_str-in-loop-field.result.now ∷ c.as_str-in-loop-field-2.result.now ∷ [] ≡ cell_line k c.args.number c.args.row.now.table (cell_texts x) =
-        let first = c.as_str-in-loop-field.ensures.value in let second = c.as_str-in-loop-field-2.ensures.value in cc in
+    let first = c.as_str-in-loop-field.ensures.value in let second = c.as_str-in-loop-field-2.ensures.value in cc in
     front_added _ _ _ _ _ _ (cells_more c.args.key.now c.args.number c.args.row.now.table c.deref-field-items.result.now c.loop-field.field-index c.loop-field-item.result c.loop-field-test.true c.loop-field-item.is)
-        c.loop-field.invariant
-        (c.in_ok-write_cell.ensures ∙ ap (λ (l : List _). c.loop-field.lines ++ line_text l) fields)
+    c.loop-field.invariant
+    (c.in_ok-write_cell.ensures ∙ ap (λ (l : List _). c.loop-field.lines ++ line_text l) fields)
 
 pub returns : goal.returns
 returns c =
