@@ -1,3 +1,4 @@
 pub mod Ends
 pub mod Parts
+pub mod Registries
 pub mod Standings
