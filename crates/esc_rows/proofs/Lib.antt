@@ -15,3 +15,6 @@ pub mod Sorts
 pub mod ObjectLists
 pub mod DecodeLemmas
 pub mod UndoLemmas
+pub mod NumberLemmas
+pub mod ReceiptLemmas
+pub mod TableLemmas

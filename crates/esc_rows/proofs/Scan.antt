@@ -1,11 +1,12 @@
 -- What a SELECT over one table gives, and what its WHERE tests.
-use Rattle.std.proofs.Common.{◌≡◌, ℕ, ◌≤◌, ℤ, pos, negsuc, Bool, true, false, List, [], ◌∷◌, map, cond, ◌++◌, length, Some, None, refl, ap, subst, ◌∙◌, arith}
+use Rattle.std.proofs.Common.{◌≡◌, ℕ, ◌≤◌, ℤ, pos, negsuc, Bool, true, false, List, [], ◌∷◌, map, cond, ◌++◌, reverse, length, Some, None, refl, ap, subst, ◌∙◌, arith}
 use Rattle.std.specs.Prelude.{filter, bytes_eq, flat_map, IsPermutation, IsSorted, ◌&&◌, ◌==◌}
 use Rattle.std.specs.List.{list_all}
 use Rattle.std.specs.Ordering.{is_eq, int_eq}
 use Rattle.std.specs.declared.cmp.Ordering.{Ordering}
 use Rattle.std.specs.declared.cmp.Ordering.TheVariants.{Less}
 use Rattle.std.proofs.lemmas.Map.Text.{is_eq-slice_cmp}
+use Rattle.std.proofs.lemmas.List.Sorted.{IsPermutation-map, IsPermutation-sym, IsPermutation-trans, IsPermutation-reverse}
 use Rattle.sqlite_value.specs.declared.value.Value.TheVariants.{Int, Text, Blob}
 use Rattle.sqlite_value.specs.declared.keys.Key.{Key}
 use Rattle.sqlite.specs.Collation.TheVariants.{Binary}
@@ -81,6 +82,14 @@ module _ {X : Type 0} (stored : X → Row) (p : X → Bool) (out : X → Output)
   in_order xs rows up s =
       let one = sorted_unique (output_cmp query) (output_cmp_total query) (map out (filter p xs)) s.ordered (ascending-map (λ a b. output_cmp query a b ≡ Less) out (filter p xs) up) s.same s.sorted in
       s.shown ∙ ap (λ os. page query params (map (λ (o : Output). o.1) os)) one ∙ ap (page query params) (map-map (λ (o : Output). o.1) out (filter p xs))
+
+  -- rows that are in the order from the last on
+  pub in_reverse : (xs : List X) (rows : List Row) → IsAscending (λ a b. cmp a b ≡ Less) (reverse (filter p xs)) → IsScanned xs rows → rows ≡ page query params (map (λ x. (out x).1) (reverse (filter p xs)))
+  in_reverse xs rows up s =
+      let turned = IsPermutation-map out (reverse (filter p xs)) (filter p xs) (IsPermutation-sym _ _ (IsPermutation-reverse (filter p xs))) in
+      let one = sorted_unique (output_cmp query) (output_cmp_total query) (map out (reverse (filter p xs))) s.ordered (ascending-map (λ a b. output_cmp query a b ≡ Less) out (reverse (filter p xs)) up)
+      (IsPermutation-trans _ _ _ turned s.same) s.sorted in
+      s.shown ∙ ap (λ os. page query params (map (λ (o : Output). o.1) os)) one ∙ ap (page query params) (map-map (λ (o : Output). o.1) out (reverse (filter p xs)))
 
   -- rows of which no two are alike in the order
   pub put_in_order : (xs : List X) (rows : List Row) → IsAscending (λ a b. is_eq (cmp a b) ≡ false) (filter p xs) → IsScanned xs rows → rows ≡ page query params (map (λ x. (out x).1) (sort_by cmp (filter p xs)))

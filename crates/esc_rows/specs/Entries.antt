@@ -1,8 +1,11 @@
 -- The values that the calls take and answer, as typed rows.
-use Rattle.std.specs.Prelude.{option_map, ℕ, pos, [], ◌∷◌}
+use Rattle.std.specs.Prelude.{List, option_map, string_bytes, ℕ, pos, [], ◌∷◌}
 use Rattle.sqlite_value.specs.declared.value.Value.TheVariants.{Int, Blob}
 use Rattle.sqlite_value.specs.Order.{Row}
-use Rattle.esc_rows.specs.Rows.{blob_or_null}
+use Rattle.esc_rows.specs.Rows.{ListedRow, ReceiptRow, HeldRow, StepRow, blob_or_null}
+use Rattle.esc_rows.specs.declared.listed.Listed.{Listed}
+use Rattle.esc_rows.specs.declared.receipt.Receipt.{Receipt}
+use Rattle.esc_rows.specs.declared.step.ChainStep.{ChainStep}
 use Rattle.esc_rows.specs.Changes.{ObjectEntry, ImageEntry}
 use Rattle.esc_rows.specs.declared.object.StoredObject.{StoredObject}
 use Rattle.esc_rows.specs.declared.undo.StoredImage.{StoredImage}
@@ -25,3 +28,32 @@ image_of it = record { kind = it.kind; key = it.key.items; bytes = option_map (�
 
 abbrev pub shown_image_entry : ImageEntry → Row
 shown_image_entry e = Int (pos e.kind) ∷ Blob e.key ∷ blob_or_null e.bytes ∷ []
+
+abbrev pub listed_row : Listed → ListedRow
+listed_row r = record {
+  row = r.row;
+  id = string_bytes r.id;
+  kind = r.kind;
+  watermark = r.watermark;
+  prev = option_map string_bytes r.prev;
+  resend = r.resend;
+  digest = r.digest.items;
+}
+
+abbrev pub receipt_row : Receipt → ReceiptRow
+receipt_row r = record {
+  receipt = r.receipt;
+  number = string_bytes r.number;
+  digest = r.digest.items;
+  verdict = r.verdict;
+  fault = r.fault;
+  row = r.row;
+  again = r.again;
+  orphans = r.orphans;
+}
+
+abbrev pub held_row : ℕ → List ℕ → HeldRow
+held_row row body = record { row = row; body = body }
+
+abbrev pub step_row : ChainStep → StepRow
+step_row s = record { pos = s.pos; row = s.row }

@@ -1,14 +1,14 @@
 -- What the single statements do, of which the crate's calls are made.
-use Rattle.std.specs.Prelude.{◌≡◌, ◌+◌, ◌==◌, ℕ, pos, List, [], ◌∷◌, map, filter, find, fold, length}
+use Rattle.std.specs.Prelude.{◌≡◌, ◌+◌, ◌==◌, ℕ, pos, List, [], ◌∷◌, map, filter, find, fold, length, take, reverse}
 use Rattle.std.specs.Option.{option_to_list}
 use Rattle.sqlite_value.specs.declared.value.Value.TheVariants.{Int, Blob}
 use Rattle.sqlite_value.specs.Order.{Row}
 use Rattle.sqlite.specs.Effect.{Database}
-use Rattle.sqlite_keyed.specs.Keyed.{insert_by}
+use Rattle.sqlite_keyed.specs.Keyed.{insert_by, get_by}
 use Rattle.sqlite_keyed.specs.Lists.{update_where, sort_by}
-use Rattle.esc_rows.specs.Rows.{ObjectRow, UndoRow, object_number, blob_or_null}
+use Rattle.esc_rows.specs.Rows.{ListedRow, ReceiptRow, HeldRow, StepRow, ObjectRow, UndoRow, object_number, held_number, blob_or_null, shown_listed, shown_receipt, shown_step}
 use Rattle.esc_rows.specs.Content.{Content, HoldsContent, is_object_at}
-use Rattle.esc_rows.specs.Changes.{by_key, by_image}
+use Rattle.esc_rows.specs.Changes.{by_key, by_image, is_receipt_of}
 
 abbrev pub with_bytes : List ℕ → ObjectRow → ObjectRow
 with_bytes bytes o = record o { bytes = bytes }
@@ -59,3 +59,34 @@ shown_image u = Int (pos u.kind) ∷ Blob u.key ∷ blob_or_null u.bytes ∷ []
 
 abbrev pub ShowsImages : ℕ → Content → List Row → Type 0
 ShowsImages at c rows = rows ≡ map shown_image (sort_by by_image (filter (λ (u : UndoRow). u.pos == at) c.undo))
+
+abbrev pub ShowsReceipt : List ℕ → List ℕ → Content → List Row → Type 0
+ShowsReceipt number digest c rows = rows ≡ map shown_receipt (option_to_list (find (is_receipt_of number digest) c.receipts))
+
+abbrev pub ShowsReceipts : Content → List Row → Type 0
+ShowsReceipts c rows = rows ≡ map shown_receipt c.receipts
+
+abbrev pub shown_receipt_number : ReceiptRow → Row
+shown_receipt_number r = Int (pos r.receipt) ∷ []
+
+-- the last receipt alone
+abbrev pub ShowsLast : Content → List Row → Type 0
+ShowsLast c rows = rows ≡ take 1 (map shown_receipt_number (reverse c.receipts))
+
+abbrev pub shown_body : HeldRow → Row
+shown_body h = Blob h.body ∷ []
+
+abbrev pub ShowsBody : ℕ → Content → List Row → Type 0
+ShowsBody row c rows = rows ≡ map shown_body (option_to_list (get_by held_number c.held (pos row)))
+
+abbrev pub shown_held_row : HeldRow → Row
+shown_held_row h = Int (pos h.row) ∷ []
+
+abbrev pub ShowsHeld : Content → List Row → Type 0
+ShowsHeld c rows = rows ≡ map shown_held_row c.held
+
+abbrev pub ShowsSteps : Content → List Row → Type 0
+ShowsSteps c rows = rows ≡ map shown_step c.steps
+
+abbrev pub ShowsListed : Content → List Row → Type 0
+ShowsListed c rows = rows ≡ map shown_listed c.listed
