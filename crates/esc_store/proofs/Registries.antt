@@ -12,6 +12,8 @@ use Rattle.esc_envelope.specs.Kinds.{kind_rank}
 use Rattle.esc_tables.specs.KeyName.{KeyName, key_eq}
 use Rattle.esc_tables.specs.ObjectValue.{ObjectValue}
 use Rattle.esc_record.specs.Record.{record_of}
+use Rattle.esc_record.proofs.Objects.{alone}
+use Rattle.std.proofs.lemmas.List.{append-nil}
 use Rattle.esc_apply.specs.Registry.{State, Befores, empty, nothing, with_key, with_step, written, noted, taken}
 use Rattle.esc_apply.specs.Registry.{Content as Objects}
 use Rattle.esc_apply.proofs.Keys.{key_itself, same_key}
@@ -101,7 +103,7 @@ same_tests k q = elim (cases_Bool (key_eq k q)) [
 ]
 
 pub at_put : {X : Type 0} (f : KeyName → Option X) (k : KeyName) (w : Option X) (n : ℕ) (text : List ℕ)
-  → at_key (with_key f k w) n text ≡ (if is_same_key (kind_rank k.kind) k.text n text then w else at_key f n text)
+    → at_key (with_key f k w) n text ≡ (if is_same_key (kind_rank k.kind) k.text n text then w else at_key f n text)
 at_put {X} f k w n text = by_kind (kind_at n) refl where
   by_kind : (o : Option Kind) → kind_at n ≡ o → at_key (with_key f k w) n text ≡ (if is_same_key (kind_rank k.kind) k.text n text then w else at_key f n text)
   by_kind None none = rw (none, no_kind k n text none) refl
@@ -117,11 +119,11 @@ in_branch f true x y = refl
 in_branch f false x y = refl
 
 pub record_put : (f : Objects) (k : KeyName) (w : Option ObjectValue) (n : ℕ) (text : List ℕ)
-  → record_at (with_key f k w) n text ≡ (if is_same_key (kind_rank k.kind) k.text n text then option_and_then record_of w else record_at f n text)
+    → record_at (with_key f k w) n text ≡ (if is_same_key (kind_rank k.kind) k.text n text then option_and_then record_of w else record_at f n text)
 record_put f k w n text = ap (option_and_then record_of) (at_put f k w n text) ∙ in_branch (option_and_then record_of) (is_same_key (kind_rank k.kind) k.text n text) w (at_key f n text)
 
 pub image_put : (f : Befores) (k : KeyName) (w : Option ObjectValue) (n : ℕ) (text : List ℕ)
-  → image_kept (with_key f k (Some w)) n text ≡ (if is_same_key (kind_rank k.kind) k.text n text then Some (option_and_then record_of w) else image_kept f n text)
+    → image_kept (with_key f k (Some w)) n text ≡ (if is_same_key (kind_rank k.kind) k.text n text then Some (option_and_then record_of w) else image_kept f n text)
 image_put f k w n text = ap (option_map (λ o. option_and_then record_of o)) (at_put f k (Some w) n text) ∙ in_branch (option_map (λ o. option_and_then record_of o)) (is_same_key (kind_rank k.kind) k.text n text) (Some w) (at_key f n text)
 
 -- ---- what a statement on objects turns a store's content into
@@ -132,7 +134,7 @@ pub record SetsObject (kind : ℕ) (key : List ℕ) (w : Option (List ℕ)) (c c
   pub map_is : (k : ℕ) (q : List ℕ) → object_at k q c'.objects ≡ (if is_same_key kind key k q then w else object_at k q c.objects)
 
 turned : (kind : ℕ) (key : List ℕ) (w : Option (List ℕ)) (old new : Database) → ((c : Content) → HoldsContent old c → (os : List ObjectRow) × HoldsContent new (record c { objects = os }) × ((k : ℕ) (q : List ℕ) → object_at k q os ≡ (if is_same_key kind key k q then w else object_at k q c.objects)))
-  → Turns (SetsObject kind key w) old new
+    → Turns (SetsObject kind key w) old new
 turned kind key w old new made tables =
     let m = made (content_in old.trees) tables in
     let b = becomes new (record (content_in old.trees) { objects = m.0 }) m.1 in
@@ -198,6 +200,7 @@ note_registry s step k o w c c' bytes has set it = record {
       let put : image_kept (with_key (s.undo step) k (Some o)) n text ≡ (if is_same_key (kind_rank k.kind) k.text n text then Some w else image_kept (s.undo step) n text) = image_put (s.undo step) k o n text ∙ ap (λ x. if is_same_key (kind_rank k.kind) k.text n text then Some x else image_kept (s.undo step) n text) bytes in
       rw is (ap (λ x. if is_same_key (kind_rank k.kind) k.text n text then Some w else x) there ∙ sym put)
   by_step p n text false is = rw is (it.images p n text)
+
   one_noted : (p : ℕ) (q : KeyName) (x : ObjectValue) (a b : Bool) → (step == p) ≡ a → key_eq k q ≡ b → (noted s step k o).undo p q ≡ Some (Some x) → IsSome (record_of x)
   one_noted p q x true true here same is = subst (λ (y : Option ObjectValue). IfSome y (λ v. IsSome (record_of v))) (some_inner o (Some x) (rw (here, same) at is)) has
   one_noted p q x true false here same is = it.noted step q x (rw (here, same) at is)
@@ -230,6 +233,7 @@ drop_registry s step c c' set it = record {
   by_step : (p n : ℕ) (text : List ℕ) (b : Bool) → (step == p) ≡ b → (if step == p then None else image_at p n text c.undo) ≡ image_kept ((taken s step).undo p) n text
   by_step p n text true is = rw is (sym (nothing_kept n text))
   by_step p n text false is = rw is (it.images p n text)
+
   one_noted : (p : ℕ) (q : KeyName) (x : ObjectValue) (a : Bool) → (step == p) ≡ a → (taken s step).undo p q ≡ Some (Some x) → IsSome (record_of x)
   one_noted p q x true here is = let none : None ≡ Some (Some x) = subst (λ (t : Bool). (if t then None else s.undo p q) ≡ Some (Some x)) here is in absurd cc
   one_noted p q x false here is = it.noted p q x (subst (λ (t : Bool). (if t then None else s.undo p q) ≡ Some (Some x)) here is)
@@ -268,3 +272,24 @@ objects_gone s c c' drops it = subst (λ x. IsRegistry x (no_objects s)) (sym dr
 
 pub undo_gone : (s : State) (c c' : Content) → DropsUndo c c' → IsRegistry c (no_objects s) → IsRegistry c' empty
 undo_gone s c c' drops it = subst (λ x. IsRegistry x empty) (sym drops.is) (record { objects = it.objects; images = λ p n text. sym (nothing_kept n text); recorded = λ q. tt; noted = λ p q x is. let none : None ≡ Some (Some x) = is in absurd cc })
+
+-- ---- by the key's own kind and bytes
+
+pub key_set : (kind : ℕ) (key : List ℕ) (w : Option (List ℕ)) (k : KeyName) (c c' : Content) → kind ≡ kind_rank k.kind → key ≡ k.text → SetsObject kind key w c c' → SetsObject (kind_rank k.kind) k.text w c c'
+key_set kind key w k c c' kinds keys set = subst (λ n. SetsObject n k.text w c c') kinds (subst (λ t. SetsObject kind t w c c') keys set)
+
+pub key_note : (step kind : ℕ) (key : List ℕ) (w : Option (List ℕ)) (k : KeyName) (c c' : Content) → kind ≡ kind_rank k.kind → key ≡ k.text → PutsOneImage step kind key w c c' → PutsOneImage step (kind_rank k.kind) k.text w c c'
+key_note step kind key w k c c' kinds keys set = subst (λ n. PutsOneImage step n k.text w c c') kinds (subst (λ t. PutsOneImage step kind t w c c') keys set)
+
+pub has_record : (o : ObjectValue) (bytes : List ℕ) → record_of o ≡ Some bytes → IsSome (record_of o)
+has_record o bytes h = rw h refl
+
+-- what is found at a key is the record of the object there
+pub record_found : (s : State) (k : KeyName) (kind : ℕ) (key : List ℕ) (c : Content) (found : Option (List ℕ)) → kind ≡ kind_rank k.kind → key ≡ k.text → IsRegistry c s → found ≡ object_at kind key c.objects → found ≡ option_and_then record_of (s.content k)
+record_found s k kind key c found kinds keys it is =
+    is ∙ (it.objects kind key ∙ (ap (λ n. record_at s.content n key) kinds ∙ (ap (λ t. record_at s.content (kind_rank k.kind) t) keys ∙ ap (λ o. option_and_then record_of (option_and_then (λ (kind : Kind). s.content (record { kind = kind; text = k.text })) o)) (kind_back k.kind))))
+
+-- of one record there is one object
+pub one_object : (x : ObjectValue) (bytes : List ℕ) (o : Option ObjectValue) → record_of x ≡ Some bytes → Some bytes ≡ option_and_then record_of o → Some x ≡ o
+one_object x bytes None h is = let no : Some bytes ≡ None = is in absurd cc
+one_object x bytes (Some y) h is = ap Some (alone x y bytes [] h (sym is ∙ ap Some (sym (append-nil bytes)))).1
