@@ -18,3 +18,7 @@ pub mod UndoLemmas
 pub mod NumberLemmas
 pub mod ReceiptLemmas
 pub mod TableLemmas
+pub mod CreateLemmas
+pub mod TermLemmas
+pub mod ShapeLemmas
+pub mod OpenLemmas

@@ -111,10 +111,10 @@ test_same kind key k q p h = let both = keys_are kind key k q h in rw (both.0, b
 pub tests_apart : (kind : ℕ) (key : List ℕ) (k : ℕ) (q : List ℕ) (a : ℕ) (b : List ℕ) → is_same_key kind key k q ≡ false → is_same_key a b k q ≡ true → is_same_key a b kind key ≡ false
 tests_apart kind key k q a b apart here = elim (cases_Bool (is_same_key a b kind key)) [
   | inl there ↦
-    let x = keys_are a b k q here in
-    let y = keys_are a b kind key there in
-    let same : is_same_key kind key k q ≡ true = rw (← y.0, ← y.1, ← x.0, ← x.1) (same_keys a b) in
-    absurd (let e = sym same ∙ apart in cc)
+      let x = keys_are a b k q here in
+      let y = keys_are a b kind key there in
+      let same : is_same_key kind key k q ≡ true = rw (← y.0, ← y.1, ← x.0, ← x.1) (same_keys a b) in
+      absurd (let e = sym same ∙ apart in cc)
   | inr other ↦ other
 ]
 
@@ -197,10 +197,9 @@ module _ (old new : State) (kind : ℕ) (key bytes : List ℕ) (count : ℕ) (ra
       let rows : done.rows ≡ map (shown_new bytes) (option_to_list first) =
       in_order stored_object p out 9 object_tests object_sets [] no_limit params c.objects done.rows (short_rises _ (filter p c.objects) few) s ∙ ap (map (shown_new bytes)) one in
       let left : new.now.trees 9 ≡ map stored_object (update_where p (with_bytes bytes) c.objects) =
-      done.edited.applies.rows ∙ edited_one old.now.trees bytes first done.rows rows ∙ ap (set_one bytes first) h.store.rows.objects ∙ sets_one p bytes c.objects first one h.store.ordered.objects in
-      (
+      done.edited.applies.rows ∙ edited_one old.now.trees bytes first done.rows rows ∙ ap (set_one bytes first) h.store.rows.objects ∙ sets_one p bytes c.objects first one h.store.ordered.objects in (
         objects_then old.now new.now c h (written old.now new.now _ h.schema_is w.sound done.edited) (update_where p (with_bytes bytes) c.objects) left
-        (IsKeyedBy-update_where object_number p (with_bytes bytes) (λ x. refl) c.objects h.store.ordered.objects),
+            (IsKeyedBy-update_where object_number p (with_bytes bytes) (λ x. refl) c.objects h.store.ordered.objects),
         w.counted ∙ ap (λ n. unwrap_or n 0) done.counted ∙ news_one old.now.trees bytes first done.rows rows ∙ ap length (sym one),
       )
 
@@ -246,9 +245,9 @@ module _ (kind : ℕ) (key bytes : List ℕ) where
       ap (option_map (λ (o : ObjectRow). o.bytes)) (find-update here (is_object_at k q) (with_bytes bytes) (λ x. refl) os)
       ∙ elim (cases_Bool (is_same_key kind key k q)) [
         | inl same ↦ rw same (
-          let one = found_one (find here os) (λ none. some (ap length (alone here os (one_object kind key os apart)) ∙ none)) in
-          let there : find (is_object_at k q) os ≡ Some one.0 = find_same (is_object_at k q) here (λ o. test_same kind key k q (λ a b. is_object_at a b o) same) os ∙ one.1 in
-          rw (there, find_is here os one.0 one.1) refl)
+            let one = found_one (find here os) (λ none. some (ap length (alone here os (one_object kind key os apart)) ∙ none)) in
+            let there : find (is_object_at k q) os ≡ Some one.0 = find_same (is_object_at k q) here (λ o. test_same kind key k q (λ a b. is_object_at a b o) same) os ∙ one.1 in
+            rw (there, find_is here os one.0 one.1) refl)
         | inr other ↦ rw other (unseen (find (is_object_at k q) os) (λ x is. tests_apart kind key k q x.kind x.key other (find_is (is_object_at k q) os x is)))
       ]
     where
@@ -260,7 +259,7 @@ module _ (kind : ℕ) (key bytes : List ℕ) where
       → object_at k q (insert_by object_number os (new_object kind key bytes os)) ≡ cond (is_same_key kind key k q) (Some bytes) (object_at k q os)
   add_at os up none k q = elim (cases_Bool (is_same_key kind key k q)) [
     | inl same ↦ rw same (ap (option_map (λ (o : ObjectRow). o.bytes)) (find-insert object_number (is_object_at k q) (new_object kind key bytes os) os
-      (find_same (is_object_at k q) here (λ o. test_same kind key k q (λ a b. is_object_at a b o) same) os ∙ nothing here os none) same))
+        (find_same (is_object_at k q) here (λ o. test_same kind key k q (λ a b. is_object_at a b o) same) os ∙ nothing here os none) same))
     | inr other ↦ rw other (ap (option_map (λ (o : ObjectRow). o.bytes)) (find-insert_other object_number (is_object_at k q) (new_object kind key bytes os) os (free_id os up) other))
   ]
     where
@@ -296,6 +295,7 @@ gone_at kind key os k q =
     never : (b : Bool) → (not b && b) ≡ false
     never true = refl
     never false = refl
+
     still : (a b : Bool) → (b ≡ true → a ≡ false) → (not a && b) ≡ b
     still true true h = absurd (let e = h refl in cc)
     still true false h = refl

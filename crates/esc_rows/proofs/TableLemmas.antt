@@ -1,5 +1,5 @@
 -- What the statements on held bodies, on the chain and on the manifest's rows do.
-use Rattle.std.proofs.Common.{◌≡◌, ℕ, ◌<◌, ◌≤◌, ℤ, pos, true, false, List, [], ◌∷◌, ◌++◌, map, filter, length, Ok, refl, sym, ap, subst, ◌∙◌, int_eq}
+use Rattle.std.proofs.Common.{◌≡◌, ℕ, pos, true, false, List, [], ◌∷◌, ◌++◌, map, filter, Ok, refl, sym, ap, subst, ◌∙◌, int_eq}
 use Rattle.sqlite_value.specs.declared.keys.Key.{Key}
 use Rattle.sqlite_value.specs.declared.value.Value.TheVariants.{Null, Int, Text, Blob}
 use Rattle.sqlite_value.specs.Order.{Row}
@@ -11,7 +11,7 @@ use Rattle.sqlite.specs.Query.{Output}
 use Rattle.sqlite.specs.State.{State, Executes, Shown}
 use Rattle.sqlite.specs.Rowids.TheVariants.{Chosen}
 use Rattle.sqlite.specs.Edit.{edit_of, edited}
-use Rattle.sqlite_keyed.specs.Keyed.{IsKeyedBy, insert_by, has_key}
+use Rattle.sqlite_keyed.specs.Keyed.{IsKeyedBy, insert_by}
 use Rattle.sqlite_keyed.proofs.KeyedLemmas.{IsKeyedBy-insert_by}
 use Rattle.esc_rows.specs.Schema.{held_table, step_table, listed_table}
 use Rattle.esc_rows.specs.Texts.{insert_held_text, select_held_text, find_body_text, clear_steps_text, insert_step_text, select_steps_text, insert_listed_text, select_listed_text}
@@ -43,8 +43,7 @@ holds_body old new b count ran c h =
     let done = inserts 3 held_table refl (shown_held b) insert_held_text held_terms 3 (stored_held b) insert_held_is refl old new count h.schema_is ran in
     let left : edited old.now.trees (edit_of old.now.trees (uncounted held_table) [] Chosen 0 (stored_held b ∷ [])) ≡ map stored_held (insert_by held_number c.held b) =
     rw (h.store.rows.held, cast_null, cast_int (pos b.row)) (put_typed held_number held_rest b c.held) in
-    let fresh = rw (h.store.rows.held, cast_null, cast_int (pos b.row)) at done.edited.applies.fresh in
-    (
+    let fresh = rw (h.store.rows.held, cast_null, cast_int (pos b.row)) at done.edited.applies.fresh in (
       held_then old.now new.now c h done.written (insert_by held_number c.held b) (done.edited.applies.rows ∙ left) (IsKeyedBy-insert_by held_number c.held b h.store.ordered.held),
       was_free held_number held_rest (held_number b) c.held fresh,
     )

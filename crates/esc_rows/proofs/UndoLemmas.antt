@@ -1,8 +1,7 @@
 -- What the statements on before-images do.
-use Rattle.std.proofs.Common.{◌≡◌, inl, inr, ℕ, ℤ, pos, ◌+◌, ◌+ℤ◌, ◌≤◌, ◌==◌, ◌&&◌, Bool, true, false, not, cond, List, [], ◌∷◌, map, filter, length, Option, Some, None, option_map, Ok, refl, sym, ap, subst, ◌∙◌, arith, Ordering, Less, Equal, Greater, int_cmp, int_eq, is_eq}
+use Rattle.std.proofs.Common.{◌≡◌, inl, inr, ℕ, ℤ, pos, ◌+◌, ◌+ℤ◌, ◌==◌, ◌&&◌, Bool, true, false, not, cond, List, [], ◌∷◌, map, filter, Option, Some, None, option_map, Ok, refl, sym, ap, subst, ◌∙◌, arith, int_eq, is_eq}
 use Rattle.std.specs.Prelude.{fold, find, bytes_eq}
 use Rattle.std.specs.List.{AllByRecursion}
-use Rattle.std.specs.Ordering.{match_ordering}
 use Rattle.std.proofs.lemmas.Bool.{cases_Bool}
 use Rattle.sqlite_value.specs.declared.keys.Key.{Key}
 use Rattle.sqlite_value.specs.declared.value.Value.TheVariants.{Null, Int, Blob}
@@ -33,7 +32,7 @@ use Rattle.esc_rows.specs.Steps.{shown_image, ShowsImages}
 use Rattle.esc_rows.proofs.Compiled.{undo_tests, undo_terms, insert_undo_is, select_undo_is, delete_undo_is, clear_undo_is}
 use Rattle.esc_rows.proofs.Forms.{uncounted}
 use Rattle.esc_rows.proofs.Frame.{undo_then}
-use Rattle.esc_rows.proofs.Scan.{scan, no_limit, is_match, IsScanned, put_in_order, same_number, same_blob, and_true}
+use Rattle.esc_rows.proofs.Scan.{scan, no_limit, is_match, put_in_order, same_number, same_blob, and_true}
 use Rattle.esc_rows.proofs.Typed.{put_typed, next_typed}
 use Rattle.esc_rows.proofs.Values.{cast_null, cast_int, cast_blob}
 use Rattle.esc_rows.proofs.Finds.{apart, at_most_one_apart, find-map, find-filter, find_same, find_never, find-insert, find-insert_other, none_before}
@@ -83,10 +82,10 @@ image_same at kind key p k q u h = let all = images_are at kind key p k q h in r
 images_apart : (at kind : ℕ) (key : List ℕ) (p k : ℕ) (q : List ℕ) (u : UndoRow) → is_same_image at kind key p k q ≡ false → is_image_at p k q u ≡ true → is_image_at at kind key u ≡ false
 images_apart at kind key p k q u other here = elim (cases_Bool (is_image_at at kind key u)) [
   | inl there ↦
-    let x = images_are u.pos u.kind u.key p k q here in
-    let y = images_are u.pos u.kind u.key at kind key there in
-    let same : is_same_image at kind key p k q ≡ true = rw (← y.0, ← y.1, ← y.2, ← x.0, ← x.1, ← x.2) (same_images u.pos u.kind u.key) in
-    absurd (let e = sym same ∙ other in cc)
+      let x = images_are u.pos u.kind u.key p k q here in
+      let y = images_are u.pos u.kind u.key at kind key there in
+      let same : is_same_image at kind key p k q ≡ true = rw (← y.0, ← y.1, ← y.2, ← x.0, ← x.1, ← x.2) (same_images u.pos u.kind u.key) in
+      absurd (let e = sym same ∙ other in cc)
   | inr elsewhere ↦ elsewhere
 ]
 
@@ -132,7 +131,7 @@ puts_image old new at kind key before count ran c h =
         → image_at p k q (insert_by undo_number us (record u { pos = at; kind = kind; key = key; bytes = before })) ≡ cond (is_same_image at kind key p k q) (Some before) (image_at p k q us)
     put_at us u free none p k q = elim (cases_Bool (is_same_image at kind key p k q)) [
       | inl same ↦ rw same (ap (option_map (λ (x : UndoRow). x.bytes)) (find-insert undo_number (is_image_at p k q) (record u { pos = at; kind = kind; key = key; bytes = before }) us
-        (find_same (is_image_at p k q) (is_image_at at kind key) (λ x. image_same at kind key p k q x same) us ∙ none) same))
+          (find_same (is_image_at p k q) (is_image_at at kind key) (λ x. image_same at kind key p k q x same) us ∙ none) same))
       | inr other ↦ rw other (ap (option_map (λ (x : UndoRow). x.bytes)) (find-insert_other undo_number (is_image_at p k q) (record u { pos = at; kind = kind; key = key; bytes = before }) us free other))
     ]
 

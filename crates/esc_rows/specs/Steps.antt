@@ -1,12 +1,13 @@
 -- What the single statements do, of which the crate's calls are made.
-use Rattle.std.specs.Prelude.{◌≡◌, ◌+◌, ◌==◌, ℕ, pos, List, [], ◌∷◌, map, filter, find, fold, length, take, reverse}
+use Rattle.std.specs.Prelude.{◌≤◌, ◌≡◌, ◌+◌, ◌==◌, ℕ, pos, List, [], ◌∷◌, map, filter, find, fold, length, take, reverse}
 use Rattle.std.specs.Option.{option_to_list}
 use Rattle.sqlite_value.specs.declared.value.Value.TheVariants.{Int, Blob}
-use Rattle.sqlite_value.specs.Order.{Row}
+use Rattle.sqlite_value.specs.Order.{Row, column}
+use Rattle.esc_rows.specs.Schema.{store_schema, info_tree}
 use Rattle.sqlite.specs.Effect.{Database}
 use Rattle.sqlite_keyed.specs.Keyed.{insert_by, get_by}
 use Rattle.sqlite_keyed.specs.Lists.{update_where, sort_by}
-use Rattle.esc_rows.specs.Rows.{ListedRow, ReceiptRow, HeldRow, StepRow, ObjectRow, UndoRow, object_number, held_number, blob_or_null, shown_listed, shown_receipt, shown_step}
+use Rattle.esc_rows.specs.Rows.{ReceiptRow, HeldRow, ObjectRow, UndoRow, object_number, held_number, blob_or_null, shown_listed, shown_receipt, shown_step}
 use Rattle.esc_rows.specs.Content.{Content, HoldsContent, is_object_at}
 use Rattle.esc_rows.specs.Changes.{by_key, by_image, is_receipt_of}
 
@@ -90,3 +91,6 @@ ShowsSteps c rows = rows ≡ map shown_step c.steps
 
 abbrev pub ShowsListed : Content → List Row → Type 0
 ShowsListed c rows = rows ≡ map shown_listed c.listed
+
+abbrev pub ShowsVersion : Database → List Row → Type 0
+ShowsVersion db rows = db.schema ≡ store_schema → length (db.trees info_tree) ≤ 1 → rows ≡ map (λ r. column r 2 ∷ []) (db.trees info_tree)

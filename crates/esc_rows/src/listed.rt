@@ -33,7 +33,13 @@ pub fn insert_listed<S: Alter>(conn: &mut Connection<S>, r: &Listed) -> Result<(
         conn,
         "INSERT INTO listed (row, id, type, watermark, prev, resend, digest) VALUES (?1, ?2, ?3, ?4, ?5, ?6, ?7)",
         params![
-            r.row, &r.id, r.kind, &r.watermark, &r.prev, r.resend, &r.digest
+            r.row,
+            &r.id,
+            r.kind,
+            &r.watermark,
+            &r.prev,
+            r.resend,
+            &r.digest
         ],
     )
 }

@@ -70,11 +70,7 @@ pub fn put_object<S: Alter>(
 }
 
 /// Removes the object at the key, if there is one.
-pub fn delete_object<S: Alter>(
-    conn: &mut Connection<S>,
-    kind: u32,
-    key: &[u8],
-) -> Result<(), Error>
+pub fn delete_object<S: Alter>(conn: &mut Connection<S>, kind: u32, key: &[u8]) -> Result<(), Error>
     ensures part { IsPart (state S.Store conn.old) (state S.Store conn.new) (RemovesObject kind key.now) result }
 {
     write_within(
@@ -91,11 +87,7 @@ pub fn clear_objects<S: Alter>(conn: &mut Connection<S>) -> Result<(), Error>
     write_within(conn, "DELETE FROM object", &[])
 }
 
-fn ask_object<S: Alter>(
-    conn: &mut Connection<S>,
-    kind: u32,
-    key: &[u8],
-) -> Result<Vec<Row>, Error>
+fn ask_object<S: Alter>(conn: &mut Connection<S>, kind: u32, key: &[u8]) -> Result<Vec<Row>, Error>
     ensures read { IsRead (state S.Store conn.old) (state S.Store conn.new) (λ db rows. Tells (ShowsObject kind key.now) db rows.items) result }
 {
     read_all(
@@ -193,10 +185,7 @@ pub fn objects_of_kind<S: Alter>(
 }
 
 /// The kind of each object, rising, for their counts.
-pub fn object_kinds<S: Alter>(
-    alloc: Global,
-    conn: &mut Connection<S>,
-) -> Result<Vec<u32>, Error>
+pub fn object_kinds<S: Alter>(alloc: Global, conn: &mut Connection<S>) -> Result<Vec<u32>, Error>
     ensures read { IsRead (state S.Store conn.old) (state S.Store conn.new) (Tells (λ c found. ListsKinds c found.items)) result }
 {
     let rows = ask_kinds(conn)?;

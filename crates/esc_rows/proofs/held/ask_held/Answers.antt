@@ -11,5 +11,7 @@ pub returns : goal.returns
 returns g c =
     let old = state g.S.Store c.args.conn.now in
     let new = state g.S.Store c.read_all.new.conn in
-    record { read = read_part select_held_text _ old new select_held_is.plain (λ v. v.items) (λ db v. Tells ShowsHeld db v.items) c.read_all.result (c.read_all.ensures.survives select_held_is.reads) c.read_all.ensures.autocommit c.read_all.ensures.ok c.read_all.ensures.err
-    (λ v has shown x h. shows_held old new  v.items x h shown) }
+    record {
+      read = read_part select_held_text _ old new select_held_is.plain (λ v. v.items) (λ db v. Tells ShowsHeld db v.items) c.read_all.result (c.read_all.ensures.survives select_held_is.reads) c.read_all.ensures.autocommit c.read_all.ensures.ok c.read_all.ensures.err
+          (λ v has shown x h. shows_held old new v.items x h shown);
+    }
