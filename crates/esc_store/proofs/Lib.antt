@@ -1,3 +1,6 @@
 pub mod Ends
+pub mod Following
+pub mod Looking
 pub mod Parts
+pub mod Registries
 pub mod Standings

@@ -25,11 +25,17 @@ use Rattle.esc_store.proofs.Ends.{at_ok, at_said, at_err, was_clean, keeps_then,
 keeps_same : (s : State) → KeepsCommit s s
 keeps_same s = record { was_open = λ up. up; committed = λ up. refl }
 
+pub not_both : (b : Bool) → b ≡ true → b ≡ false → ⊥
+not_both b is_on is_off = let e : true ≡ false = sym is_on ∙ is_off in cc
+
 -- ---- from statements to steps
 
 -- no transaction is on, and nothing is done
 pub step_off : {X E : Type 0} (s : State) (Made : Database → Database → Type 0) (e : E) → (s.in_transaction ≡ false) × (IsTrue s.is_open → s.now ≡ s.committed) → IsStep {X = X} s s Made (Err e)
 step_off s Made e off = record { survives = survives_same s (λ trees. ⊥); kept = λ clean. keeps_same s; made = λ clean. tt; failed = λ clean. off }
+
+pub look_off : {X E : Type 0} (s : State) (Says : Database → X → Type 0) (e : E) → (s.in_transaction ≡ false) × (IsTrue s.is_open → s.now ≡ s.committed) → IsLook s s Says (Err e)
+look_off s Says e off = record { survives = survives_same s (λ trees. ⊥); autocommit = λ clean h. h; kept = λ clean schema. keeps_same s; said = λ clean schema. tt; failed = λ clean. off }
 
 module _ {S : Type 0} (g : Ghosts S) (old : Held S) (mid new : Store S) {X D E : Type 0} (outcome : Result X D) (result : Result X E)
     (survives : Survives (state g mid.conn) (state g new.conn) (λ trees. ⊥)) (ok : IfOk result (λ x. (outcome ≡ Ok x) × (new ≡ mid))) (err : OnErr result (IsErr outcome × IsGivenUp (state g mid.conn) (state g new.conn))) where
@@ -95,9 +101,6 @@ module _ {X E : Type 0} (old new : State) (R : Content → Content → Type 0) (
 
   clean_before : HasCleanDisk new → HasCleanDisk old
   clean_before = was_clean old new (λ trees. ⊥) step.survives
-
-  not_both : (b : Bool) → b ≡ true → b ≡ false → ⊥
-  not_both b is_on is_off = let e : true ≡ false = sym is_on ∙ is_off in cc
 
   pub begun_on : (m : List MRow) (k : Kept) → IsBegun old m k → IsBegun new m k
   begun_on m k begun = elim r as (λ x. r ≡ x → IsBegun new m k) [

@@ -4,10 +4,12 @@
 mod change;
 mod fault;
 mod form;
+mod images;
 mod numbers;
 mod reads;
 mod registry;
 mod reply;
+mod statements;
 mod store;
 
 pub use change::Change;

@@ -4,6 +4,7 @@ ghost use Rattle.std.specs.Prelude.{◌≡◌};
 
 use crate::change::Change;
 use crate::fault::SFault;
+use crate::images::{object_in, record_bytes};
 use esc_apply::Registry;
 use esc_tables::{Key, Object};
 use sqlite::Alter;
@@ -28,30 +29,43 @@ impl<'a, S: Alter> Registry for Change<'a, S> {
 
     ghost follows = { λ a b. Follows S.Store a b };
 
-    fn get(&mut self, _alloc: Global, _k: &Key) -> Result<Option<Object>, SFault> {
-        Err(SFault::S2)
+    fn get(&mut self, alloc: Global, k: &Key) -> Result<Option<Object>, SFault> {
+        let found = self.find_record(k)?;
+        object_in(alloc, found)
     }
 
-    fn put(&mut self, _alloc: Global, _k: &Key, _o: &Object) -> Result<(), SFault> {
-        Err(SFault::S2)
+    fn put(&mut self, alloc: Global, k: &Key, o: &Object) -> Result<(), SFault> {
+        let record = record_bytes(alloc, o)?;
+        self.put_record(k, record.as_slice())?;
+        self.count = self.count.saturating_add(1);
+        Ok(())
     }
 
-    fn remove(&mut self, _k: &Key) -> Result<(), SFault> {
-        Err(SFault::S2)
+    fn remove(&mut self, k: &Key) -> Result<(), SFault> {
+        self.remove_record(k)?;
+        self.count = self.count.saturating_add(1);
+        Ok(())
     }
 
     fn clear(&mut self) -> Result<(), SFault> {
-        Err(SFault::S2)
+        self.clear_records()?;
+        self.clear_notes()
     }
 
     fn put_undo(
         &mut self,
-        _alloc: Global,
-        _step: u32,
-        _k: &Key,
-        _before: Option<&Object>,
+        alloc: Global,
+        step: u32,
+        k: &Key,
+        before: Option<&Object>,
     ) -> Result<(), SFault> {
-        Err(SFault::S2)
+        match before {
+            Some(object) => {
+                let record = record_bytes(alloc, object)?;
+                self.note_record(step, k, Some(record.as_slice()))
+            }
+            None => self.note_record(step, k, None),
+        }
     }
 
     fn take_undo(

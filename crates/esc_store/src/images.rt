@@ -1,0 +1,129 @@
+//! Records of objects and of before-images, by their keys.
+
+ghost use Rattle.std.specs.Prelude.{◌≡◌, Some, None, map, option_map, IfOk, OnOk, IfSome, IsSome};
+ghost use Rattle.std.specs.Option.{option_and_then, option_copied};
+ghost use Rattle.sqlite.specs.Held.{state};
+ghost use Rattle.sqlite.specs.State.{HasCleanDisk};
+ghost use Rattle.esc_envelope.specs.Kinds.{kind_rank};
+ghost use Rattle.esc_tables.specs.ObjectValue.{ObjectValue};
+ghost use Rattle.esc_record.specs.Record.{record_of};
+ghost use Rattle.esc_apply.specs.Registry.{State, empty, written, noted, taken};
+ghost use Rattle.esc_store.specs.Standing.{HoldsNow, Follows};
+
+use crate::change::Change;
+use crate::fault::SFault;
+use esc_envelope::Kind;
+use esc_record::{read_record, to_record};
+use esc_tables::{Key, Object};
+use sqlite::Alter;
+use std::alloc::Global;
+
+// The number of a kind in the tables.
+pub(crate) fn kind_number(kind: Kind) -> u32
+    ensures { result ≡ kind_rank kind }
+{
+    match kind {
+        Kind::Registrar => 0,
+        Kind::Contact => 1,
+        Kind::Host => 2,
+        Kind::Domain => 3,
+        Kind::Idn => 4,
+        Kind::Nndn => 5,
+    }
+}
+
+// The record of an object. `S1` where it has none; `S2`.
+pub(crate) fn record_bytes(alloc: Global, o: &Object) -> Result<Vec<u8>, SFault>
+    ensures { IfOk result (λ bytes. record_of o.now ≡ Some bytes.items) }
+{
+    match to_record(alloc, o)? {
+        Some(record) => Ok(record),
+        None => Err(SFault::S1),
+    }
+}
+
+// The object that a record is of, if there is one. `S1` where the bytes are no record; `S2`.
+pub(crate) fn object_in(alloc: Global, found: Option<Vec<u8>>) -> Result<Option<Object>, SFault>
+    ensures { IfOk result (λ object. (o : _) → option_map (λ b. b.items) found ≡ option_and_then record_of o → IfSome o (λ x. IsSome (record_of x)) → object ≡ o) }
+{
+    let Some(record) = found else {
+        return Ok(None);
+    };
+    match read_record(alloc, record.as_slice())? {
+        Some(object) => Ok(Some(object)),
+        None => Err(SFault::S1),
+    }
+}
+
+impl<'a, S: Alter> Change<'a, S> {
+    // The record at a key, if there is one.
+    pub(crate) fn find_record(&mut self, k: &Key) -> Result<Option<Vec<u8>>, SFault>
+        ensures count { self.new.count ≡ self.old.count }
+        ensures follows { Follows S.Store self.old self.new }
+        ensures found { IfOk result (λ found. HasCleanDisk (state S.Store self.new.store.now.conn) → (s : State) → HoldsNow S.Store self.old s → (option_map (λ b. b.items) found ≡ option_and_then record_of (s.content k.now)) × IfSome (s.content k.now) (λ x. IsSome (record_of x)) × HoldsNow S.Store self.new s) }
+    {
+        self.store.find_here(kind_number(k.kind), k.text.as_bytes())
+    }
+
+    // Writes a record at a key.
+    pub(crate) fn put_record(&mut self, k: &Key, bytes: &[u8]) -> Result<(), SFault>
+        ensures count { self.new.count ≡ self.old.count }
+        ensures follows { Follows S.Store self.old self.new }
+        ensures written { OnOk result ((s : State) (o : ObjectValue) → record_of o ≡ Some bytes.now → HoldsNow S.Store self.old s → HoldsNow S.Store self.new (written s k.now (Some o))) }
+    {
+        self.store
+            .put_here(kind_number(k.kind), k.text.as_bytes(), bytes)
+    }
+
+    // Takes the record at a key away.
+    pub(crate) fn remove_record(&mut self, k: &Key) -> Result<(), SFault>
+        ensures count { self.new.count ≡ self.old.count }
+        ensures follows { Follows S.Store self.old self.new }
+        ensures written { OnOk result ((s : State) → HoldsNow S.Store self.old s → HoldsNow S.Store self.new (written s k.now None)) }
+    {
+        self.store
+            .remove_here(kind_number(k.kind), k.text.as_bytes())
+    }
+
+    // Notes the record that stood at a key before a step, or that none did.
+    pub(crate) fn note_record(
+        &mut self,
+        step: u32,
+        k: &Key,
+        before: Option<&[u8]>,
+    ) -> Result<(), SFault>
+        ensures count { self.new.count ≡ self.old.count }
+        ensures follows { Follows S.Store self.old self.new }
+        ensures noted { OnOk result ((s : State) (o : _) → option_and_then record_of o ≡ option_map (λ b. b.now) before.entry → IfSome o (λ x. IsSome (record_of x)) → HoldsNow S.Store self.old s → HoldsNow S.Store self.new (noted s step k.now o)) }
+    {
+        self.store
+            .note_here(step, kind_number(k.kind), k.text.as_bytes(), before)
+    }
+
+    // Forgets what was noted of a step.
+    pub(crate) fn forget_records(&mut self, step: u32) -> Result<(), SFault>
+        ensures count { self.new.count ≡ self.old.count }
+        ensures follows { Follows S.Store self.old self.new }
+        ensures taken { OnOk result ((s : State) → HoldsNow S.Store self.old s → HoldsNow S.Store self.new (taken s step)) }
+    {
+        self.store.forget_here(step)
+    }
+
+    // Takes all records away.
+    pub(crate) fn clear_records(&mut self) -> Result<(), SFault>
+        ensures count { self.new.count ≡ self.old.count }
+        ensures follows { Follows S.Store self.old self.new }
+        ensures cleared { OnOk result ((s : State) → HoldsNow S.Store self.old s → HoldsNow S.Store self.new (record { content = empty.content; undo = s.undo })) }
+    {
+        self.store.clear_objects_here()
+    }
+
+    // Forgets what was noted of all steps.
+    pub(crate) fn clear_notes(&mut self) -> Result<(), SFault>
+        ensures count { self.new.count ≡ self.old.count }
+        ensures follows { Follows S.Store self.old self.new }
+        ensures cleared { OnOk result ((s : State) → HoldsNow S.Store self.old (record { content = empty.content; undo = s.undo }) → HoldsNow S.Store self.new empty) }
+    {
+        self.store.clear_undo_here()
+    }
+}

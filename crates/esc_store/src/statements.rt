@@ -1,0 +1,218 @@
+//! The parts of a change, each one statement: where it fails the change is given up.
+
+ghost use Rattle.std.specs.Prelude.{◌≡◌, true, false, map, option_map, OnOk};
+ghost use Rattle.sqlite.specs.Held.{state};
+ghost use Rattle.esc_rows.specs.Content.{object_at};
+ghost use Rattle.esc_rows.specs.Changes.{PutsObject, RemovesObject, Becomes, Tells, without_objects, without_undo, without_steps, PutsImage, RemovesImages, ListsImages, AddsReceipt, HoldsBody, AddsStep, last_number};
+ghost use Rattle.esc_rows.specs.Entries.{receipt_row, held_row, step_row, image_of};
+ghost use Rattle.esc_store.specs.Standing.{IsStep, IsLook};
+
+use crate::fault::SFault;
+use crate::store::Store;
+use esc_rows::held::insert_held;
+use esc_rows::object::{clear_objects, delete_object, find_object, put_object};
+use esc_rows::receipt::{Receipt, insert_receipt, last_receipt};
+use esc_rows::step::{ChainStep, clear_steps, insert_step};
+use esc_rows::undo::{StoredImage, clear_undo, delete_undo, insert_undo, select_undo};
+use sqlite::Alter;
+use std::alloc::Global;
+
+impl<S: Alter> Store<S> {
+    // Puts a record at a key.
+    pub(crate) fn put_here(&mut self, kind: u32, key: &[u8], bytes: &[u8]) -> Result<(), SFault>
+        ensures manifest { self.new.manifest ≡ self.old.manifest }
+        ensures writes { self.new.writes ≡ self.old.writes }
+        ensures step { IsStep (state S.Store self.old.conn) (state S.Store self.new.conn) (PutsObject kind key.now bytes.now) result }
+    {
+        match self.goes_on() {
+            Ok(()) => {}
+            Err(fault) => return Err(fault),
+        }
+        let done = put_object(&mut self.conn, kind, key, bytes);
+        self.settle(done)
+    }
+
+    // Takes the record at a key away.
+    pub(crate) fn remove_here(&mut self, kind: u32, key: &[u8]) -> Result<(), SFault>
+        ensures manifest { self.new.manifest ≡ self.old.manifest }
+        ensures writes { self.new.writes ≡ self.old.writes }
+        ensures step { IsStep (state S.Store self.old.conn) (state S.Store self.new.conn) (RemovesObject kind key.now) result }
+    {
+        match self.goes_on() {
+            Ok(()) => {}
+            Err(fault) => return Err(fault),
+        }
+        let done = delete_object(&mut self.conn, kind, key);
+        self.settle(done)
+    }
+
+    // Takes all records away.
+    pub(crate) fn clear_objects_here(&mut self) -> Result<(), SFault>
+        ensures manifest { self.new.manifest ≡ self.old.manifest }
+        ensures writes { self.new.writes ≡ self.old.writes }
+        ensures step { IsStep (state S.Store self.old.conn) (state S.Store self.new.conn) (Becomes without_objects) result }
+    {
+        match self.goes_on() {
+            Ok(()) => {}
+            Err(fault) => return Err(fault),
+        }
+        let done = clear_objects(&mut self.conn);
+        self.settle(done)
+    }
+
+    // Notes what stood at a key before a step.
+    pub(crate) fn note_here(
+        &mut self,
+        step: u32,
+        kind: u32,
+        key: &[u8],
+        before: Option<&[u8]>,
+    ) -> Result<(), SFault>
+        ensures manifest { self.new.manifest ≡ self.old.manifest }
+        ensures writes { self.new.writes ≡ self.old.writes }
+        ensures step { IsStep (state S.Store self.old.conn) (state S.Store self.new.conn) (PutsImage step kind key.now (option_map (λ b. b.now) before.entry)) result }
+    {
+        match self.goes_on() {
+            Ok(()) => {}
+            Err(fault) => return Err(fault),
+        }
+        let done = insert_undo(&mut self.conn, step, kind, key, before);
+        self.settle(done)
+    }
+
+    // Forgets what was noted of a step.
+    pub(crate) fn forget_here(&mut self, step: u32) -> Result<(), SFault>
+        ensures manifest { self.new.manifest ≡ self.old.manifest }
+        ensures writes { self.new.writes ≡ self.old.writes }
+        ensures step { IsStep (state S.Store self.old.conn) (state S.Store self.new.conn) (RemovesImages step) result }
+    {
+        match self.goes_on() {
+            Ok(()) => {}
+            Err(fault) => return Err(fault),
+        }
+        let done = delete_undo(&mut self.conn, step);
+        self.settle(done)
+    }
+
+    // Forgets what was noted of all steps.
+    pub(crate) fn clear_undo_here(&mut self) -> Result<(), SFault>
+        ensures manifest { self.new.manifest ≡ self.old.manifest }
+        ensures writes { self.new.writes ≡ self.old.writes }
+        ensures step { IsStep (state S.Store self.old.conn) (state S.Store self.new.conn) (Becomes without_undo) result }
+    {
+        match self.goes_on() {
+            Ok(()) => {}
+            Err(fault) => return Err(fault),
+        }
+        let done = clear_undo(&mut self.conn);
+        self.settle(done)
+    }
+
+    // Adds a receipt.
+    pub(crate) fn add_receipt_here(&mut self, receipt: &Receipt) -> Result<(), SFault>
+        ensures manifest { self.new.manifest ≡ self.old.manifest }
+        ensures writes { self.new.writes ≡ self.old.writes }
+        ensures step { IsStep (state S.Store self.old.conn) (state S.Store self.new.conn) (AddsReceipt (receipt_row receipt.now)) result }
+    {
+        match self.goes_on() {
+            Ok(()) => {}
+            Err(fault) => return Err(fault),
+        }
+        let done = insert_receipt(&mut self.conn, receipt);
+        self.settle(done)
+    }
+
+    // Holds the body of a row.
+    pub(crate) fn hold_here(&mut self, row: u32, body: &[u8]) -> Result<(), SFault>
+        ensures manifest { self.new.manifest ≡ self.old.manifest }
+        ensures writes { self.new.writes ≡ self.old.writes }
+        ensures step { IsStep (state S.Store self.old.conn) (state S.Store self.new.conn) (HoldsBody (held_row row body.now)) result }
+    {
+        match self.goes_on() {
+            Ok(()) => {}
+            Err(fault) => return Err(fault),
+        }
+        let done = insert_held(&mut self.conn, row, body);
+        self.settle(done)
+    }
+
+    // Takes the steps of the chain away.
+    pub(crate) fn clear_steps_here(&mut self) -> Result<(), SFault>
+        ensures manifest { self.new.manifest ≡ self.old.manifest }
+        ensures writes { self.new.writes ≡ self.old.writes }
+        ensures step { IsStep (state S.Store self.old.conn) (state S.Store self.new.conn) (Becomes without_steps) result }
+    {
+        match self.goes_on() {
+            Ok(()) => {}
+            Err(fault) => return Err(fault),
+        }
+        let done = clear_steps(&mut self.conn);
+        self.settle(done)
+    }
+
+    // Adds a step to the chain.
+    pub(crate) fn add_step_here(&mut self, step: ChainStep) -> Result<(), SFault>
+        ensures manifest { self.new.manifest ≡ self.old.manifest }
+        ensures writes { self.new.writes ≡ self.old.writes }
+        ensures step { IsStep (state S.Store self.old.conn) (state S.Store self.new.conn) (AddsStep (step_row step)) result }
+    {
+        match self.goes_on() {
+            Ok(()) => {}
+            Err(fault) => return Err(fault),
+        }
+        let done = insert_step(&mut self.conn, step);
+        self.settle(done)
+    }
+
+    // The record at a key.
+    pub(crate) fn find_here(&mut self, kind: u32, key: &[u8]) -> Result<Option<Vec<u8>>, SFault>
+        ensures manifest { self.new.manifest ≡ self.old.manifest }
+        ensures writes { self.new.writes ≡ self.old.writes }
+        ensures on { OnOk result (self.old.conn.in_transaction ≡ true) }
+        ensures off { self.old.conn.in_transaction ≡ false → self.new ≡ self.old }
+        ensures look { IsLook (state S.Store self.old.conn) (state S.Store self.new.conn) (Tells (λ c found. option_map (λ b. b.items) found ≡ object_at kind key.now c.objects)) result }
+    {
+        match self.goes_on() {
+            Ok(()) => {}
+            Err(fault) => return Err(fault),
+        }
+        let done = find_object(&mut self.conn, kind, key);
+        self.settle(done)
+    }
+
+    // What was noted of a step.
+    pub(crate) fn notes_here(
+        &mut self,
+        alloc: Global,
+        step: u32,
+    ) -> Result<Vec<StoredImage>, SFault>
+        ensures manifest { self.new.manifest ≡ self.old.manifest }
+        ensures writes { self.new.writes ≡ self.old.writes }
+        ensures on { OnOk result (self.old.conn.in_transaction ≡ true) }
+        ensures off { self.old.conn.in_transaction ≡ false → self.new ≡ self.old }
+        ensures look { IsLook (state S.Store self.old.conn) (state S.Store self.new.conn) (Tells (λ c found. ListsImages step c (map image_of found.items))) result }
+    {
+        match self.goes_on() {
+            Ok(()) => {}
+            Err(fault) => return Err(fault),
+        }
+        let done = select_undo(alloc, &mut self.conn, step);
+        self.settle(done)
+    }
+
+    // The number of the last receipt, or 0.
+    pub(crate) fn last_here(&mut self) -> Result<u32, SFault>
+        ensures manifest { self.new.manifest ≡ self.old.manifest }
+        ensures writes { self.new.writes ≡ self.old.writes }
+        ensures on { OnOk result (self.old.conn.in_transaction ≡ true) }
+        ensures off { self.old.conn.in_transaction ≡ false → self.new ≡ self.old }
+        ensures look { IsLook (state S.Store self.old.conn) (state S.Store self.new.conn) (Tells (λ c found. found ≡ last_number c.receipts)) result }
+    {
+        match self.goes_on() {
+            Ok(()) => {}
+            Err(fault) => return Err(fault),
+        }
+        let done = last_receipt(&mut self.conn);
+        self.settle(done)
+    }
+}
