@@ -1,8 +1,10 @@
+pub mod AllArrivals
 pub mod ArrivalValue
 pub mod Filled
 pub mod Finding
 pub mod Given
 pub mod Plans
+pub mod Reads
 pub mod Receipts
 pub mod Running
 pub mod Serving

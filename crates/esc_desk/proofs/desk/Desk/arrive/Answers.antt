@@ -1,13 +1,10 @@
-use Rattle.std.proofs.Common.{◌≡◌, Option, Some, None, List, ℕ, sym, ap, ap₂, subst, ◌∙◌}
-use Rattle.std.proofs.lemmas.Result.{IfOk-weaker}
+use Rattle.std.proofs.Common.{◌≡◌, Some, None, List, ℕ, sym, ap, ap₂, ◌∙◌}
 use Rattle.sha2.specs.Sha256.{sha256}
 use Rattle.esc_tables.specs.Reading.{reading}
 use Rattle.esc_manifest.specs.declared.row.MRow.{MRow}
 use Rattle.esc_store.specs.ReplyValue.{reply_alike}
-use Rattle.esc_store.specs.Kept.{kept_reply}
 use Rattle.esc_desk.specs.ArrivalValue.{ArrivalValue}
 use Rattle.esc_desk.proofs.OneArrival.{repeated, repeated_reply}
-use Rattle.esc_desk.proofs.StoreFacts.{was_honest}
 use Rattle.esc_desk.proofs.desk.Desk.arrive.Goals as goal
 
 pub returns-in-Some-clause-answered : goal.returns-in-Some-clause-answered
