@@ -10,3 +10,4 @@ pub mod Running
 pub mod Serving
 pub mod Stands
 pub mod Taking
+pub mod Worked

@@ -59,6 +59,6 @@ mod status;
 pub use arrival::Arrival;
 pub use desk::Desk;
 pub use esc_store::{N1, Number, Reply, SFault, Verdict, number};
-pub use laws::held_as_arrived;
+pub use laws::{held_as_arrived, worked_replies};
 pub use running::Outcome;
 pub use status::{End, Status};
