@@ -1,6 +1,6 @@
 -- One more arrival, in the list of distinct ones and their receipts.
-use Rattle.std.proofs.Common.{◌≡◌, ℕ, suc, ◌+◌, Bool, true, false, cond, ◌&&◌, ◌||◌, List, [], ◌∷◌, ◌++◌, length, Option, Some, None, Result, refl, sym, ap, ap₂, subst, ◌∙◌, append_assoc, append-nil, arith, true≢false, length-append}
-use Rattle.std.specs.List.{list_any, find}
+use Rattle.std.proofs.Common.{◌≡◌, ℕ, suc, Bool, true, false, cond, ◌&&◌, ◌||◌, List, [], ◌∷◌, ◌++◌, length, Result, refl, sym, ap, ap₂, ◌∙◌, append_assoc, append-nil, true≢false}
+use Rattle.std.specs.List.{list_any}
 use Rattle.std.specs.Str.{bytes_eq}
 use Rattle.std.specs.Cmp.{IsEquivalence}
 use Rattle.std.specs.Cmp.Lexicographic.{nat_list_eq_equiv}
@@ -12,8 +12,8 @@ use Rattle.esc_desk.specs.declared.finding.Finding.{Finding}
 use Rattle.esc_desk.specs.declared.finding.Finding.TheVariants.{Unlisted, Unreadable, Differing, Holding}
 use Rattle.esc_desk.specs.ArrivalValue.{ArrivalValue}
 use Rattle.esc_store.specs.ReplyValue.{ReceiptValue, is_alike}
-use Rattle.esc_desk.specs.Finding.{finding, held_row}
-use Rattle.esc_desk.specs.Receipts.{receipt_by, alike, distinct_after, distinct, receipt_for, receipts_after, receipts_of, reply_to}
+use Rattle.esc_desk.specs.Finding.{finding}
+use Rattle.esc_desk.specs.Receipts.{receipt_by, alike, distinct_after, receipt_for, receipts_after}
 
 -- ---- laws of alike
 pub both : (a b : Bool) → (a && b) ≡ true → (a ≡ true) × (b ≡ true)

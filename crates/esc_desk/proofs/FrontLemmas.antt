@@ -1,11 +1,10 @@
 -- The common front of two chains of one manifest is their common beginning of rows.
-use Rattle.std.proofs.Common.{◌≡◌, ℕ, suc, ◌+◌, ◌<◌, Bool, true, false, cond, ◌&&◌, ◌==◌, List, [], ◌∷◌, ◌++◌, length, map, take, drop, refl, sym, ap, ap₂, subst, ◌∙◌, arith, true≢false}
+use Rattle.std.proofs.Common.{◌≡◌, ℕ, suc, ◌+◌, ◌<◌, Bool, true, false, cond, ◌&&◌, ◌==◌, List, [], ◌∷◌, length, map, take, refl, sym, ap₂, subst, arith, true≢false}
 use Rattle.std.specs.List.{prefix_len, zip}
 use Rattle.std.specs.Ordering.{int_eq}
 use Rattle.std.proofs.lemmas.Bool.Decides.{nat_tests, Decides-int_eq}
 use Rattle.esc_envelope.specs.declared.place.DepositType.{DepositType}
 use Rattle.esc_envelope.specs.declared.place.DepositType.TheVariants.{Diff, Incr, Full}
-use Rattle.esc_envelope.specs.declared.place.Place.{Place}
 use Rattle.esc_envelope.specs.Place.{rank}
 use Rattle.esc_manifest.specs.declared.row.MRow.{MRow}
 use Rattle.esc_manifest.specs.Rows.{place_at, resend_at}
@@ -13,7 +12,6 @@ use Rattle.esc_manifest.specs.Accepted.{IsAccepted}
 use Rattle.esc_apply.specs.declared.front.Step.{Step}
 use Rattle.esc_apply.specs.Front.{same_step, common_front}
 use Rattle.esc_store.specs.Kept.{step_at}
-use Rattle.esc_desk.specs.Plans.{rows_in}
 
 both_true : (a b : Bool) → (a && b) ≡ true → (a ≡ true) × (b ≡ true)
 both_true true true e = (refl, refl)

@@ -1,5 +1,5 @@
 -- The rows and bodies that are held, and one more arrival.
-use Rattle.std.proofs.Common.{◌≡◌, ℕ, ◌+◌, Bool, true, false, cond, ◌&&◌, ◌||◌, ◌==◌, List, [], ◌∷◌, ◌++◌, length, Option, Some, None, option_map, Result, refl, sym, ap, ap₂, subst, ◌∙◌, append_assoc, append-nil, arith, true≢false}
+use Rattle.std.proofs.Common.{◌≡◌, ℕ, Bool, true, false, cond, ◌||◌, ◌==◌, List, [], ◌∷◌, ◌++◌, Option, Some, None, option_map, Result, refl, sym, ap, ◌∙◌, arith, true≢false}
 use Rattle.std.specs.List.{list_any, find}
 use Rattle.std.specs.FinSet as set
 use Rattle.std.specs.Ordering.{nat_cmp, eq_by_cmp}
@@ -13,7 +13,7 @@ use Rattle.esc_chain.specs.Chain.{Rows}
 use Rattle.esc_store.specs.Kept.{body_put}
 use Rattle.esc_desk.specs.ArrivalValue.{ArrivalValue}
 use Rattle.esc_desk.specs.Finding.{finding, held_row}
-use Rattle.esc_desk.specs.Receipts.{is_row, holds_row, holds, holds_any, distinct}
+use Rattle.esc_desk.specs.Receipts.{is_row, holds, holds_any, distinct}
 use Rattle.esc_desk.specs.Stands.{with_some, rows_of, held_rows, held_body}
 use Rattle.esc_desk.proofs.Searches.{find_some, find_none, find-front, find-back}
 
@@ -39,7 +39,7 @@ contains-with_row h None r = refl
 contains-with_row h (Some q) r = set.contains-insert nat_cmp_total h q r ∙ ap (λ b. b || set.contains h r) (same_test q r)
 
 module _ (digest : List ℕ → List ℕ) (reads : List ℕ → Result DepositValue ℕ) (m : List MRow) where
-  any_row : (l : List ArrivalValue) (r : ℕ) → list_any (λ q. eq_by_cmp nat_cmp r q) (rows_of digest reads m l) ≡ list_any (holds digest reads m r) l
+  pub any_row : (l : List ArrivalValue) (r : ℕ) → list_any (λ q. eq_by_cmp nat_cmp r q) (rows_of digest reads m l) ≡ list_any (holds digest reads m r) l
   any_row [] r = refl
   any_row (a ∷ l) r = one (held_row (finding digest reads m a.body)) ∙ ap (λ b. is_row r (held_row (finding digest reads m a.body)) || b) (any_row l r)
     where

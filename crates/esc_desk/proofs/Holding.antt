@@ -1,5 +1,5 @@
 -- A row that was not held is held now: the registry of the plan is that of the latest chain.
-use Rattle.std.proofs.Common.{◌≡◌, ℕ, zero, suc, ◌+◌, ◌<◌, Bool, true, false, cond, ◌||◌, ◌==◌, List, [], ◌∷◌, ◌++◌, length, map, take, drop, Option, Some, None, Result, Ok, Err, IsTrue, refl, sym, ap, ap₂, subst, ◌∙◌, arith, true≢false}
+use Rattle.std.proofs.Common.{◌≡◌, ℕ, suc, ◌<◌, Bool, true, false, cond, ◌||◌, ◌==◌, List, [], ◌∷◌, ◌++◌, length, map, take, drop, Some, None, IsTrue, refl, sym, ap, ap₂, subst, ◌∙◌, arith, true≢false}
 use Rattle.std.specs.List.{take-map, drop-map}
 use Rattle.std.specs.Prelude.{slice_index}
 use Rattle.std.specs.FinSet as set

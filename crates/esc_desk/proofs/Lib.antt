@@ -1,9 +1,11 @@
+pub mod AllHeld
 pub mod Distinct
 pub mod FrontLemmas
 pub mod HeldRows
 pub mod Holding
 pub mod OneArrival
 pub mod PlanLemmas
+pub mod ReadLemmas
 pub mod RunLemmas
 pub mod Searches
 pub mod StoreFacts

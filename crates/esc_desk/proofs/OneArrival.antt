@@ -1,5 +1,5 @@
 -- One more arrival, and what a store stands for then.
-use Rattle.std.proofs.Common.{◌≡◌, ℕ, ◌+◌, Bool, true, false, cond, ◌&&◌, ◌||◌, ◌==◌, List, [], ◌∷◌, ◌++◌, length, Option, Some, None, Result, refl, sym, ap, ap₂, subst, ◌∙◌, append-nil, true≢false}
+use Rattle.std.proofs.Common.{◌≡◌, ℕ, ◌+◌, Bool, true, false, cond, ◌||◌, ◌==◌, List, [], ◌∷◌, ◌++◌, length, Option, Some, None, Result, refl, sym, ap, subst, ◌∙◌, true≢false}
 use Rattle.std.specs.List.{list_any, find}
 use Rattle.std.specs.Option.{option_map}
 use Rattle.std.specs.FinSet as set
@@ -14,8 +14,8 @@ use Rattle.esc_store.specs.ReplyValue.{ReplyValue, ReceiptValue, reply_kept, is_
 use Rattle.esc_desk.specs.ArrivalValue.{ArrivalValue}
 use Rattle.esc_desk.specs.Finding.{finding, held_row}
 use Rattle.esc_desk.specs.Receipts.{is_row, holds, alike, distinct, receipt_for, receipts_after, receipts_of, reply_to}
-use Rattle.esc_desk.specs.Stands.{deposits_of, rows_of, held_rows, held_body, StandsFor}
-use Rattle.esc_desk.proofs.Searches.{none_alike, some_alike, alike-front, alike-last}
+use Rattle.esc_desk.specs.Stands.{deposits_of, rows_of, held_rows, StandsFor}
+use Rattle.esc_desk.proofs.Searches.{none_alike, some_alike, alike-last}
 use Rattle.esc_desk.proofs.Distinct.{alike_laws, any_alike, distinct-push, receipts-push, kept_any}
 use Rattle.esc_desk.proofs.HeldRows.{same_number, with_row, contains-with_row, contains_held, held_more, body_same, body_new}
 

@@ -1,5 +1,5 @@
 -- Rows and steps of a plan.
-use Rattle.std.proofs.Common.{◌≡◌, ℕ, ◌+◌, ◌<◌, ◌≤◌, Bool, true, false, ◌||◌, ◌==◌, List, [], ◌∷◌, ◌++◌, length, map, take, drop, get_or, IsTrue, Option, Some, None, IfSome, Ok, refl, sym, ap, ap₂, subst, ◌∙◌, append_assoc, arith, true≢false}
+use Rattle.std.proofs.Common.{◌≡◌, ℕ, ◌+◌, ◌<◌, Bool, true, false, ◌||◌, ◌==◌, List, [], ◌∷◌, ◌++◌, length, map, take, drop, get_or, IsTrue, Option, Some, None, IfSome, Ok, refl, sym, ap, subst, ◌∙◌, append_assoc, arith}
 use Rattle.std.proofs.lemmas.Bool.Decides.{nat_tests}
 use Rattle.std.specs.FinSet as set
 use Rattle.std.specs.FinSet.{nat_cmp-IsAntisymmetric}
@@ -7,7 +7,7 @@ use Rattle.std.specs.Cmp.{nat_cmp_total}
 use Rattle.std.specs.Ordering.{nat_cmp}
 use Rattle.std.proofs.lemmas.List.{take_more, drop_more}
 use Rattle.esc_manifest.specs.declared.row.MRow.{MRow}
-use Rattle.esc_chain.specs.Chain.{Rows, IsHeld, InRange}
+use Rattle.esc_chain.specs.Chain.{Rows, InRange}
 use Rattle.esc_apply.specs.declared.front.Step.{Step}
 use Rattle.esc_store.specs.Kept.{step_at}
 use Rattle.esc_tables.specs.DepositValue.{DepositValue}

@@ -1,5 +1,5 @@
 -- A run goes on by one arrival.
-use Rattle.std.proofs.Common.{◌≡◌, ℕ, ◌+◌, List, [], ◌∷◌, ◌++◌, Bool, true, false, cond, Option, Some, None, refl, sym, ap, subst, ◌∙◌, append_assoc, append-nil}
+use Rattle.std.proofs.Common.{◌≡◌, List, [], ◌∷◌, ◌++◌, Bool, true, false, cond, Some, refl, sym, ap, subst, ◌∙◌, append_assoc, append-nil}
 use Rattle.std.specs.List.{list_any}
 use Rattle.sha2.specs.Sha256.{sha256}
 use Rattle.sqlite_trees.specs.declared.store.Store.{Ghosts}
@@ -13,7 +13,7 @@ use Rattle.esc_desk.specs.declared.running.Outcome.TheVariants.{Done, Lost}
 use Rattle.esc_desk.specs.ArrivalValue.{ArrivalValue}
 use Rattle.esc_desk.specs.Receipts.{alike, distinct, receipt_for, receipts_after, receipts_of, reply_to}
 use Rattle.esc_desk.specs.Running.{AreReplies, answered, Ran, Takes}
-use Rattle.esc_desk.specs.Serving.{Serves, Answers}
+use Rattle.esc_desk.specs.Serving.{Serves}
 use Rattle.esc_desk.proofs.Searches.{alike-front}
 use Rattle.esc_desk.proofs.Distinct.{distinct-push, receipts-push}
 

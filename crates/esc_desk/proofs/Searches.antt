@@ -1,8 +1,18 @@
 -- The first element of a list that passes a test, and the first receipt that is alike.
-use Rattle.std.proofs.Common.{◌≡◌, ℕ, suc, ◌+◌, Bool, true, false, cond, ◌||◌, List, [], ◌∷◌, ◌++◌, length, Option, Some, None, refl, sym, ap, ◌∙◌, arith, true≢false}
+use Rattle.std.proofs.Common.{◌≡◌, ℕ, suc, ◌+◌, Bool, true, false, cond, ◌||◌, List, [], ◌∷◌, ◌++◌, length, Option, Some, None, refl, ap, ◌∙◌, arith}
 use Rattle.std.specs.List.{list_any, find}
 use Rattle.esc_manifest.specs.declared.row.MRow.{MRow}
 use Rattle.esc_store.specs.ReplyValue.{ReplyValue, ReceiptValue, reply_kept, is_alike, reply_alike}
+
+pub same_answer : {X : Type 0} {x y : X} → Some x ≡ Some y → x ≡ y
+same_answer {X = X} {x = x} e = ap item e
+  where
+    item : Option X → X
+    item None = x
+    item (Some z) = z
+
+pub no_answer : {X : Type 0} {x : X} → None ≡ Some x → ⊥
+no_answer e = cc
 
 pub find_some : {X : Type 0} (p : X → Bool) (xs : List X) (y : X) → find p xs ≡ Some y → list_any p xs ≡ true
 find_some p [] y e = absurd (cc)

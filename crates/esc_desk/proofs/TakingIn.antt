@@ -1,25 +1,22 @@
 -- An arrival that is like none before it is taken in.
-use Rattle.std.proofs.Common.{◌≡◌, ◌↔◌, ℕ, ◌+◌, ◌<◌, Bool, true, false, cond, ◌&&◌, ◌||◌, ◌==◌, List, [], ◌∷◌, ◌++◌, length, map, take, drop, Option, Some, None, IsSome, is_some, Result, Ok, Err, refl, sym, ap, ap₂, subst, ◌∙◌, true≢false, nat_eq}
-use Rattle.std.specs.List.{list_any, find, Contains}
+use Rattle.std.proofs.Common.{◌≡◌, ℕ, Bool, true, false, cond, List, Option, Some, None, IsSome, is_some, Result, Ok, Err, refl, sym, ap, ◌∙◌, true≢false}
+use Rattle.std.specs.List.{list_any, find}
 use Rattle.std.specs.Option.{option_map}
 use Rattle.std.specs.FinSet as set
 use Rattle.std.specs.FinSet.{nat_cmp-IsAntisymmetric}
 use Rattle.std.specs.Ordering.{nat_cmp, eq_by_cmp}
 use Rattle.std.specs.Cmp.{nat_cmp_total, eq_by_cmp_equiv}
 use Rattle.std.proofs.lemmas.Map.Views.{list_any-from_Contains, Contains-from_any}
-use Rattle.sha2.specs.Sha256.{sha256}
 use Rattle.esc_tables.specs.DepositValue.{DepositValue}
-use Rattle.esc_tables.specs.Reading.{reading}
 use Rattle.esc_manifest.specs.declared.row.MRow.{MRow}
 use Rattle.esc_chain.specs.Chain.{Rows}
 use Rattle.esc_store.specs.Kept.{Kept, AreHeld}
-use Rattle.esc_store.specs.ReplyValue.{ReceiptValue}
 use Rattle.esc_desk.specs.declared.finding.Finding.{Finding}
 use Rattle.esc_desk.specs.declared.finding.Finding.TheVariants.{Unlisted, Unreadable, Differing, Holding}
 use Rattle.esc_desk.specs.ArrivalValue.{ArrivalValue}
-use Rattle.esc_desk.specs.Finding.{finding, found_at, found, compared, as_listed, row_of, held_row}
-use Rattle.esc_desk.specs.Receipts.{is_among, holds, holds_any, distinct, receipt_by, receipt_for}
-use Rattle.esc_desk.specs.Stands.{held_rows, held_body, StandsFor}
+use Rattle.esc_desk.specs.Finding.{finding, found_at, row_of}
+use Rattle.esc_desk.specs.Receipts.{is_among, holds, holds_any, distinct}
+use Rattle.esc_desk.specs.Stands.{held_rows, StandsFor}
 use Rattle.esc_desk.proofs.Searches.{find_some, find_none}
 use Rattle.esc_desk.proofs.HeldRows.{same_number, same_test, contains_held}
 

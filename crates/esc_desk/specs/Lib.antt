@@ -1,10 +1,13 @@
+pub mod AllArrivals
 pub mod ArrivalValue
 pub mod Filled
 pub mod Finding
 pub mod Given
 pub mod Plans
+pub mod Reads
 pub mod Receipts
 pub mod Running
 pub mod Serving
 pub mod Stands
 pub mod Taking
+pub mod Worked

@@ -1,10 +1,10 @@
 -- A desk that stands for a manifest and a list of arrivals, and what its calls answer.
-use Rattle.std.specs.Prelude.{◌≡◌, ℕ, List, [], ◌∷◌, ◌++◌, Bool, Option, Some, None}
-use Rattle.std.specs.List.{list_any}
+use Rattle.std.specs.Prelude.{false, ◌≡◌, List, [], ◌∷◌, ◌++◌, Some}
 use Rattle.sha2.specs.Sha256.{sha256}
 use Rattle.sqlite_trees.specs.declared.store.Store.{Ghosts}
 use Rattle.esc_tables.specs.Reading.{reading}
 use Rattle.esc_manifest.specs.declared.row.MRow.{MRow}
+use Rattle.esc_apply.specs.declared.moves.Work.{Work}
 use Rattle.esc_store.specs.declared.store.Store.{Store}
 use Rattle.esc_store.specs.ReplyValue.{ReplyValue}
 use Rattle.esc_store.specs.Kept.{Kept}
@@ -23,3 +23,7 @@ pub record Serves {S : Type 0} (g : Ghosts S) (store : Store S) (m : List MRow) 
 pub record Answers {S : Type 0} (g : Ghosts S) (store : Store S) (m : List MRow) (l : List ArrivalValue) (a : ArrivalValue) (reply : ReplyValue) : Type 0 where
   pub serves : Serves g store m (l ++ a ∷ [])
   pub told : reply_to sha256 reading m (l ++ a ∷ []) a ≡ Some reply
+
+-- nothing is done
+abbrev pub no_work : Work
+no_work = record { cleared = false; undone = 0; applied = 0; writes = 0 }

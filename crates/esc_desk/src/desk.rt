@@ -5,15 +5,15 @@ ghost use Rattle.sha2.specs.Sha256.{sha256};
 ghost use Rattle.esc_tables.specs.Reading.{reading};
 ghost use Rattle.esc_manifest.specs.declared.row.MRow.{MRow};
 ghost use Rattle.esc_store.specs.Kept.{Kept};
-ghost use Rattle.esc_store.specs.ReplyValue.{reply_alike};
+ghost use Rattle.esc_store.specs.ReplyValue.{ReplyValue, reply_alike};
 ghost use Rattle.esc_store.specs.Standing.{Stands, IsHonest, IsAsBefore};
 ghost use Rattle.esc_desk.specs.Finding.{held_row};
-ghost use Rattle.esc_desk.specs.Receipts.{is_among};
+ghost use Rattle.esc_desk.specs.Receipts.{is_among, reply_to};
 ghost use Rattle.esc_desk.specs.Stands.{StandsFor};
 ghost use Rattle.esc_desk.specs.Taking.{IsNew};
 ghost use Rattle.esc_desk.specs.declared.finding.Finding.TheVariants.{Holding};
 ghost use Rattle.esc_desk.specs.ArrivalValue.{ArrivalValue};
-ghost use Rattle.esc_desk.specs.Serving.{Serves, Answers};
+ghost use Rattle.esc_desk.specs.Serving.{Serves, Answers, no_work};
 
 use crate::changes::{hold_deposit, note_receipt};
 use crate::finding::{Finding, find, held_row};
@@ -58,7 +58,8 @@ impl<S: Alter> Desk<S> {
         self.store
     }
 
-    /// Takes an arrival.
+    /// Takes an arrival: the reply, and the work of the move that it made. One alike an earlier one has the first
+    /// one's reply and makes no work. At `Err` nothing has changed: `S1`, `S2`, `S4`.
     #[tactic(auto, using(crate::proofs::StoreFacts::was_honest))]
     pub fn arrive(
         &mut self,
@@ -67,6 +68,7 @@ impl<S: Alter> Desk<S> {
         body: &[u8],
     ) -> Result<(Reply, Work), SFault>
         ensures answered { IsHonest S.Store self.new.store → (m : List MRow) (l : List ArrivalValue) → Serves S.Store self.old.store m l → IfOk result (λ p. Answers S.Store self.new.store m l (record { number = number.now; body = body.now }) p.0) }
+        ensures repeated { IsHonest S.Store self.new.store → (m : List MRow) (l : List ArrivalValue) → Serves S.Store self.old.store m l → (r : ReplyValue) → reply_to sha256 reading m l (record { number = number.now; body = body.now }) ≡ Some r → IfOk result (λ p. (p.0 ≡ r) × (p.1 ≡ no_work)) }
         ensures honest { IsHonest S.Store self.new.store → IsHonest S.Store self.old.store }
         ensures lost { OnErr result ((m : List MRow) (l : List ArrivalValue) → Serves S.Store self.old.store m l → Serves S.Store self.new.store m l) }
     {

@@ -1,15 +1,64 @@
-//! The desk: arrivals, receipts, and the registry's tables.
+//! The desk that takes in the deposits of a registry's data escrow, in whatever order and however often they arrive,
+//! and keeps the registry's tables.
+//!
+//! A manifest lists the deposits that there are, each with the SHA-256 of its body (`esc_manifest`). Bodies arrive under
+//! numbers that their sender gives: a body may come late, twice, never, or be another one than was listed. Each
+//! arrival gets a verdict, and the reply tells it with the number of a receipt:
+//!
+//! - `A2`: no row of the manifest has the body's digest.
+//! - `A3`: the row of the digest has it, but no deposit reads from it, by the refusal U1 to U11 of `esc_tables`.
+//! - `A4`: it is another deposit than the row says, by id, place, resend or, of a Differential, previous id.
+//! - `A1`: it is the deposit of the row, which is held from now on.
+//!
+//! Arrivals are *alike* if their numbers are the same and the digests of their bodies are. One alike an earlier one
+//! changes nothing, and has the first one's reply. Of any other the receipt is kept; if it holds a row that no earlier
+//! one held, its body is kept too, and the tables are moved from the latest chain of the rows held before
+//! (`esc_chain`) to the latest one of those held now (`esc_apply`).
+//!
+//! What goes in is a [`Store`](esc_store::Store), then arrivals: one by one to [`Desk::arrive`], or a list of them to
+//! [`Desk::run`]. What comes out are replies, what the work of each move was, and the reads: [`Desk::status`],
+//! [`Desk::receipts`], [`Desk::manifest`], [`Desk::held`], [`Desk::tables`], [`Desk::end`] and [`Desk::writes`].
+//!
+//! # What is promised
+//!
+//! For every accepted manifest and every list of arrivals, with repeats, losses and reorderings, the tables hold for
+//! each object what the last deposit that mentions it says on the latest unbroken chain of the listed deposits that
+//! arrived, each at its highest arrived revision; and arrivals alike in number and body get one receipt and the first
+//! one's reply.
+//!
+//! The contracts say it by a relation, `Serves`: a store serves a manifest and a list of arrivals if it holds the
+//! manifest's rows, the receipts that the list leaves, the body of each held row, the rows of the latest chain, and
+//! that chain's tables with their before-images. A store that was just made serves the empty list. A desk whose store
+//! served a list serves, after an arrival that was answered, that list with the arrival; after an `Err` it serves the
+//! list as it was. What one arrival changes is one change of the store, whole or not at all, so an arrival that was
+//! refused by `S1` (the store failed), `S2` (memory was refused) or `S4` (there are 1,000,000,000 receipts) is as one
+//! that never came. So runs compose, whatever came before them and however they were cut.
+//!
+//! Each clause on a store has the premise that the store was honest, which is that the disk gave back what was written
+//! to it. The definitions go by digests. That no two different bodies of the list have one digest is a premise of
+//! `held_as_arrived` alone, which says that what is held is what all the arrivals hold, and not only the first of each
+//! that are alike.
+//!
+//! # Cost
+//!
+//! An arrival alike an earlier one costs a digest and a look-up. Of another one the body is read once, and the bodies
+//! of those steps alone are read again that stand past the common front of both chains.
 #![tactic(auto)]
 
 mod arrival;
 mod changes;
 mod desk;
 mod finding;
+mod laws;
 mod plan;
+mod reads;
 mod receipt;
 mod running;
+mod status;
 
 pub use arrival::Arrival;
 pub use desk::Desk;
 pub use esc_store::{N1, Number, Reply, SFault, Verdict, number};
+pub use laws::{held_as_arrived, worked_replies};
 pub use running::Outcome;
+pub use status::{End, Status};

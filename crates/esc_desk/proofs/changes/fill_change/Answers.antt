@@ -1,7 +1,6 @@
 use Rattle.std.proofs.Common.{◌≡◌, ℕ, ◌++◌, List, length, map, take, ap, ap₂, sym, subst, ◌∙◌, arith}
 use Rattle.esc_tables.specs.DepositValue.{DepositValue}
 use Rattle.esc_apply.specs.declared.front.Step.{Step}
-use Rattle.esc_apply.specs.Registry.{State}
 use Rattle.esc_apply.specs.Images.{chain_state}
 use Rattle.esc_apply.specs.Front.{common_front}
 use Rattle.esc_store.specs.Standing.{IsHonest, Rest, HoldsNow}

@@ -1,8 +1,7 @@
-use Rattle.std.proofs.Common.{◌≡◌, sym, ap, subst}
+use Rattle.std.proofs.Common.{sym, ap, subst}
 use Rattle.std.proofs.lemmas.Result.{on_ok_weaker}
 use Rattle.sha2.specs.Sha256.{sha256}
 use Rattle.esc_tables.specs.Reading.{reading}
-use Rattle.esc_manifest.specs.declared.row.MRow.{MRow}
 use Rattle.esc_manifest.specs.Accepted.{IsAccepted}
 use Rattle.esc_store.specs.Kept.{Kept, with_registry}
 use Rattle.esc_store.specs.Standing.{Stands}

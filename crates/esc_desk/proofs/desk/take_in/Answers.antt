@@ -1,14 +1,11 @@
-use Rattle.std.proofs.Common.{◌≡◌, ℕ, ◌+◌, Bool, List, length, Option, Some, None, sym, ap, ap₂, subst, ◌∙◌, arith}
+use Rattle.std.proofs.Common.{◌≡◌, ℕ, ◌+◌, Bool, List, length, Some, None, sym, ap, ap₂, subst, ◌∙◌, arith}
 use Rattle.sha2.specs.Sha256.{sha256}
 use Rattle.esc_tables.specs.Reading.{reading}
 use Rattle.esc_manifest.specs.declared.row.MRow.{MRow}
-use Rattle.esc_store.specs.Kept.{Kept}
-use Rattle.esc_store.specs.ReplyValue.{ReplyValue, ReceiptValue, reply_kept, reply_alike}
-use Rattle.esc_desk.specs.declared.finding.Finding.{Finding}
+use Rattle.esc_store.specs.ReplyValue.{ReceiptValue, reply_kept, reply_alike}
 use Rattle.esc_desk.specs.ArrivalValue.{ArrivalValue}
 use Rattle.esc_desk.specs.Finding.{finding, held_row}
-use Rattle.esc_desk.specs.Receipts.{is_among, receipt_by, distinct, receipt_for, reply_to}
-use Rattle.esc_desk.specs.Stands.{StandsFor}
+use Rattle.esc_desk.specs.Receipts.{is_among, receipt_by}
 use Rattle.esc_desk.specs.Taking.{IsNew}
 use Rattle.esc_desk.proofs.OneArrival.{new_reply}
 use Rattle.esc_desk.proofs.Holding.{new_receipt}

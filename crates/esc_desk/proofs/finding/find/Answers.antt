@@ -1,7 +1,6 @@
 use Rattle.std.proofs.Common.{◌≡◌, ap, ap₂, sym, ◌∙◌, Some, List}
 use Rattle.esc_manifest.specs.declared.row.MRow.{MRow}
 use Rattle.sha2.specs.Sha256.{sha256}
-use Rattle.esc_tables.specs.Reading.{reading}
 use Rattle.esc_desk.specs.Finding.{row_of, found_at, compared}
 use Rattle.esc_desk.proofs.finding.find.Goals as goal
 

@@ -1,7 +1,6 @@
-use Rattle.std.proofs.Common.{◌≡◌, ℕ, ◌<◌, length, List, get_or, sym, ap, subst, ◌∙◌, arith}
+use Rattle.std.proofs.Common.{◌<◌, length, List, get_or, sym, ap, subst, ◌∙◌, arith}
 use Rattle.std.specs.FinSet as set
 use Rattle.esc_manifest.specs.declared.row.MRow.{MRow}
-use Rattle.std.specs.Ordering.{nat_cmp}
 use Rattle.esc_chain.specs.Chain.{Rows, InRange}
 use Rattle.esc_desk.proofs.PlanLemmas.{insert_in_range, one_more_row}
 use Rattle.esc_desk.proofs.plan.held_with.Goals as goal

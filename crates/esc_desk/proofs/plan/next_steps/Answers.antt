@@ -1,7 +1,6 @@
-use Rattle.std.proofs.Common.{◌≡◌, List, ℕ, map, sym, ap, ap₂, subst, ◌∙◌}
+use Rattle.std.proofs.Common.{◌≡◌, List, ℕ, map, sym, ap, subst, ◌∙◌}
 use Rattle.esc_manifest.specs.declared.row.MRow.{MRow}
 use Rattle.esc_chain.specs.Chain.{Rows, IsLatestChain}
-use Rattle.esc_apply.specs.declared.front.Step.{Step}
 use Rattle.esc_store.specs.Kept.{step_at}
 use Rattle.esc_desk.specs.Plans.{rows_in, with_held}
 use Rattle.esc_desk.proofs.PlanLemmas.{rows_of_steps}

@@ -1,13 +1,11 @@
-use Rattle.std.proofs.Common.{◌≡◌, Option, Some, None, List, ℕ, sym, ap, ap₂, subst, ◌∙◌}
-use Rattle.std.proofs.lemmas.Result.{IfOk-weaker}
+use Rattle.std.proofs.Common.{refl, ◌≡◌, Some, None, List, ℕ, sym, ap, ap₂, ◌∙◌}
 use Rattle.sha2.specs.Sha256.{sha256}
 use Rattle.esc_tables.specs.Reading.{reading}
 use Rattle.esc_manifest.specs.declared.row.MRow.{MRow}
 use Rattle.esc_store.specs.ReplyValue.{reply_alike}
-use Rattle.esc_store.specs.Kept.{kept_reply}
 use Rattle.esc_desk.specs.ArrivalValue.{ArrivalValue}
 use Rattle.esc_desk.proofs.OneArrival.{repeated, repeated_reply}
-use Rattle.esc_desk.proofs.StoreFacts.{was_honest}
+use Rattle.esc_desk.proofs.Searches.{same_answer, no_answer}
 use Rattle.esc_desk.proofs.desk.Desk.arrive.Goals as goal
 
 pub returns-in-Some-clause-answered : goal.returns-in-Some-clause-answered
@@ -26,3 +24,20 @@ returns-in-None-clause-answered g c = λ clean m l serves.
     let none : reply_alike m 1 c.args.number.now c.digest-digest.result serves.kept.receipts ≡ None =
     sym (c.in_ok-reply.ensures.found honest serves.kept serves.stands ∙ ap (λ (x : List MRow). reply_alike x 1 c.args.number.now c.digest-digest.result serves.kept.receipts) serves.stands_for.listed) ∙ c.in-None.is in
     c.take_in.ensures.answered clean m l serves.kept (c.in_ok-reply.ensures.same.stands serves.kept serves.stands) serves.stands_for none
+
+pub returns-in-Some-clause-repeated : goal.returns-in-Some-clause-repeated
+returns-in-Some-clause-repeated g c = λ clean m l serves r told.
+    let stood = serves.stands_for in
+    let number = c.args.number.now in
+    let there : reply_alike m 1 number (sha256 c.args.body.now) serves.kept.receipts ≡ Some c.in-Some.reply =
+    sym (c.in_ok-reply.ensures.found clean serves.kept serves.stands ∙ ap₂ (λ (x : List MRow) (d : List ℕ). reply_alike x 1 number d serves.kept.receipts) stood.listed c.digest-digest.ensures) ∙ c.in-Some.is in
+    (same_answer (sym there ∙ ap (reply_alike m 1 number (sha256 c.args.body.now)) stood.receipts ∙ told), refl)
+
+pub returns-in-None-clause-repeated : goal.returns-in-None-clause-repeated
+returns-in-None-clause-repeated g c = λ clean m l serves r told.
+    let stood = serves.stands_for in
+    let number = c.args.number.now in
+    let honest = c.take_in.ensures.honest clean in
+    let none : reply_alike m 1 number (sha256 c.args.body.now) serves.kept.receipts ≡ None =
+    sym (c.in_ok-reply.ensures.found honest serves.kept serves.stands ∙ ap₂ (λ (x : List MRow) (d : List ℕ). reply_alike x 1 number d serves.kept.receipts) stood.listed c.digest-digest.ensures) ∙ c.in-None.is in
+    absurd (no_answer (sym none ∙ ap (reply_alike m 1 number (sha256 c.args.body.now)) stood.receipts ∙ told))

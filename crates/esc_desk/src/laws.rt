@@ -1,0 +1,27 @@
+//! What follows of lists of arrivals, by the definitions alone.
+//!
+//! The functions here do nothing. Each has a law as its contract: a caller who needs the law calls it.
+
+ghost use Rattle.std.specs.Prelude.{◌≡◌, [], ◌∷◌, Some, None, true, false, codes};
+ghost use Rattle.esc_desk.specs.Receipts.{distinct, reply_to};
+ghost use Rattle.esc_desk.specs.Worked.{itself, reads_full, one_row, full_1, full_9, other_1, held_reply, unlisted_reply};
+ghost use Rattle.esc_desk.specs.AllArrivals.{RowsAreOfAll, BodiesAreOfAll, TablesAreOfAll};
+
+/// The definitions go by the first of the arrivals that are alike. Where no two different bodies of the list have the
+/// same digest, the rows that are held are those of all arrivals with the verdict `A1`, the body of a held row is that
+/// of each arrival that holds it, and the tables are those of the latest chain of all these rows.
+pub fn held_as_arrived()
+    ensures rows { RowsAreOfAll }
+    ensures bodies { BodiesAreOfAll }
+    ensures tables { TablesAreOfAll }
+{}
+
+/// The definitions at some lists of arrivals: a repeat has the first reply, the same body under another number is held
+/// again, and another body under the same number has a receipt of its own.
+pub fn worked_replies()
+    ensures distinct_ones { distinct itself reads_full one_row (full_1 ∷ full_1 ∷ other_1 ∷ full_1 ∷ full_9 ∷ []) ≡ full_1 ∷ other_1 ∷ full_9 ∷ [] }
+    ensures repeated { reply_to itself reads_full one_row (full_1 ∷ other_1 ∷ full_1 ∷ []) full_1 ≡ Some (held_reply 1 (codes "1") false) }
+    ensures again { reply_to itself reads_full one_row (full_1 ∷ full_9 ∷ []) full_9 ≡ Some (held_reply 2 (codes "9") true) }
+    ensures unlisted { reply_to itself reads_full one_row (full_1 ∷ other_1 ∷ []) other_1 ≡ Some (unlisted_reply 2 (codes "1")) }
+    ensures never_arrived { reply_to itself reads_full one_row (full_1 ∷ []) full_9 ≡ None }
+{}

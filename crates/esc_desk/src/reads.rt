@@ -1,0 +1,148 @@
+//! What a desk answers of its store.
+
+ghost use Rattle.std.specs.Prelude.{◌≡◌, List, length, option_map, IfOk};
+ghost use Rattle.sha2.specs.Sha256.{sha256};
+ghost use Rattle.esc_tables.specs.Reading.{reading};
+ghost use Rattle.esc_manifest.specs.declared.row.MRow.{MRow};
+ghost use Rattle.esc_apply.specs.declared.front.Step.{Step};
+ghost use Rattle.esc_store.specs.Kept.{AreHeld};
+ghost use Rattle.esc_store.specs.Standing.{IsHonest, IsAsBefore};
+ghost use Rattle.esc_desk.specs.ArrivalValue.{ArrivalValue};
+ghost use Rattle.esc_desk.specs.Stands.{held_body};
+ghost use Rattle.esc_desk.specs.Serving.{Serves};
+ghost use Rattle.esc_desk.specs.Reads.{last, replies_of, AreTables, SaysEnd, IsEnd, IsStatus};
+
+use crate::desk::Desk;
+use crate::plan::stored_deposit;
+use crate::status::{End, Status};
+use esc_apply::Step;
+use esc_envelope::{Kind, Place};
+use esc_manifest::Manifest;
+use esc_store::{Reply, SFault};
+use esc_tables::{Deposit, Key, Object};
+use sqlite::Alter;
+use std::alloc::Global;
+use std::collections::BTreeMap;
+
+impl<S: Alter> Desk<S> {
+    /// The manifest that the desk's store was made with. Takes no memory.
+    pub fn manifest(&self) -> &Manifest
+        ensures manifest { (m : List MRow) (l : List ArrivalValue) → Serves S.Store self.now.store m l → result.now ≡ m }
+    {
+        self.store.manifest()
+    }
+
+    /// How many objects the desk has written or removed since its store was opened; it stays at its greatest value.
+    /// Takes no memory.
+    pub fn writes(&self) -> u64
+        ensures { result ≡ self.now.store.writes }
+    {
+        self.store.writes()
+    }
+
+    /// All replies, in the order of their receipts. `S1`, `S2`.
+    pub fn receipts(&mut self, alloc: Global) -> Result<Vec<Reply>, SFault>
+        ensures same { IsAsBefore S.Store self.old.store self.new.store }
+        ensures all { IsHonest S.Store self.new.store → (m : List MRow) (l : List ArrivalValue) → Serves S.Store self.old.store m l → IfOk result (λ replies. replies.items ≡ replies_of m l) }
+    {
+        self.store.receipts(alloc)
+    }
+
+    /// The rows of the manifest of which a body is held, from 0, rising. `S1`, `S2`.
+    pub fn held(&mut self, alloc: Global) -> Result<Vec<usize>, SFault>
+        ensures same { IsAsBefore S.Store self.old.store self.new.store }
+        ensures rows { IsHonest S.Store self.new.store → (m : List MRow) (l : List ArrivalValue) → Serves S.Store self.old.store m l → IfOk result (λ rows. AreHeld (held_body sha256 reading m l) rows.items) }
+    {
+        self.store.held(alloc)
+    }
+
+    /// The objects of the latest chain's tables. `S1`, `S2`.
+    pub fn tables(&mut self, alloc: Global) -> Result<BTreeMap<Key, Object>, SFault>
+        ensures same { IsAsBefore S.Store self.old.store self.new.store }
+        ensures objects { IsHonest S.Store self.new.store → (m : List MRow) (l : List ArrivalValue) → Serves S.Store self.old.store m l → IfOk result (λ objects. AreTables m l objects.entries) }
+    {
+        self.store.tables(alloc)
+    }
+
+    /// What the latest chain's last deposit says of the registry, read from its body; `None` where there is no chain.
+    /// `S1`, `S2`.
+    pub fn end(&mut self, alloc: Global) -> Result<Option<End>, SFault>
+        ensures same { IsAsBefore S.Store self.old.store self.new.store }
+        ensures end { IsHonest S.Store self.new.store → (m : List MRow) (l : List ArrivalValue) → Serves S.Store self.old.store m l → IfOk result (λ end. IsEnd m l end) }
+    {
+        let steps = self.store.chain(alloc)?;
+        match last_row(&steps) {
+            None => Ok(None),
+            Some(row) => {
+                let deposit = stored_deposit(&mut self.store, alloc, row)?;
+                Ok(Some(end_of(deposit)))
+            }
+        }
+    }
+
+    /// How far the desk has come. `S1`, `S2`.
+    pub fn status(&mut self, alloc: Global) -> Result<Status, SFault>
+        ensures same { IsAsBefore S.Store self.old.store self.new.store }
+        ensures status { IsHonest S.Store self.new.store → (m : List MRow) (l : List ArrivalValue) → Serves S.Store self.old.store m l → IfOk result (λ status. IsStatus m l status) }
+    {
+        let receipts = self.store.receipt_count()?;
+        let held = self.store.held(alloc)?;
+        let steps = self.store.chain(alloc)?;
+        let objects = self.store.counts_by_kind(alloc)?;
+        let listed = self.store.manifest().rows().len();
+        Ok(status_of(listed, receipts, &held, &steps, objects))
+    }
+}
+
+// The numbers of a store with so many listed rows, so many receipts, these held rows and steps, and these objects.
+fn status_of(
+    listed: usize,
+    receipts: u64,
+    held: &[usize],
+    steps: &[Step],
+    objects: BTreeMap<Kind, u64>,
+) -> Status
+    ensures listed { result.listed ≡ listed }
+    ensures held { result.held ≡ length held.now }
+    ensures receipts { result.receipts ≡ receipts }
+    ensures chain { result.chain ≡ length steps.now }
+    ensures end { result.end ≡ option_map (λ (s : Step). (s.place, s.resend)) (last steps.now) }
+    ensures objects { result.objects ≡ objects }
+{
+    Status {
+        listed: listed as u64,
+        held: held.len() as u64,
+        receipts,
+        chain: steps.len() as u64,
+        end: end_of_steps(steps),
+        objects,
+    }
+}
+
+// The row of the last step, if any.
+fn last_row(steps: &[Step]) -> Option<usize>
+    ensures { result ≡ option_map (λ (s : Step). s.row) (last steps.now) }
+{
+    let last = steps.last().copied()?;
+    Some(last.row)
+}
+
+// Place and resend of the last step, if any.
+fn end_of_steps(steps: &[Step]) -> Option<(Place, u32)>
+    ensures { result ≡ option_map (λ (s : Step). (s.place, s.resend)) (last steps.now) }
+{
+    let last = steps.last().copied()?;
+    Some((last.place, last.resend))
+}
+
+// What a deposit says of the registry.
+fn end_of(deposit: Deposit) -> End
+    ensures { SaysEnd deposit result }
+{
+    let Deposit { header, counts, .. } = deposit;
+    let place = header.place;
+    End {
+        watermark: place.watermark,
+        counts,
+    }
+}
