@@ -70,7 +70,7 @@ module _ {X E : Type 0} (old new : State) (P : Content → X → Type 0) (r : Re
   said_seen s x is clean goes = (seen x is clean goes.tables_are).says
 
 module _ {S : Type 0} (g : Ghosts S) {X E : Type 0} (old new : Store S) (P : Content → X → Type 0) (r : Result X E) (manifest : new.manifest ≡ old.manifest)
-  (on : OnOk r (old.conn.in_transaction ≡ true)) (off : old.conn.in_transaction ≡ false → new ≡ old) (look : IsLook (state g old.conn) (state g new.conn) (Tells P) r) where
+    (on : OnOk r (old.conn.in_transaction ≡ true)) (off : old.conn.in_transaction ≡ false → new ≡ old) (look : IsLook (state g old.conn) (state g new.conn) (Tells P) r) where
   began_look : (k : Kept) → BeganIn g old k → BeganIn g new k
   unfolding BeganIn
   began_look k begun = elim (cases_Bool old.conn.in_transaction) [
@@ -95,10 +95,9 @@ module _ {S : Type 0} (g : Ghosts S) {X E : Type 0} (old new : Store S) (P : Con
       let was = goes (clean_before (state g old.conn) (state g new.conn) P r on look clean) in
       (content_in (state g old.conn).now.trees, was.registry, said_seen (state g old.conn) (state g new.conn) P r on look s x is clean was)
 
-
 pub follows_look : {S : Type 0} (g : Ghosts S) {X E : Type 0} (old new : Change S) (P : Content → X → Type 0) (r : Result X E) → new.store.ghost_name ≡ old.store.ghost_name → new.store.now.manifest ≡ old.store.now.manifest
-  → new.store.now.writes ≡ old.store.now.writes → OnOk r (old.store.now.conn.in_transaction ≡ true) → (old.store.now.conn.in_transaction ≡ false → new.store.now ≡ old.store.now)
-  → IsLook (state g old.store.now.conn) (state g new.store.now.conn) (Tells P) r → Follows g old new
+    → new.store.now.writes ≡ old.store.now.writes → OnOk r (old.store.now.conn.in_transaction ≡ true) → (old.store.now.conn.in_transaction ≡ false → new.store.now ≡ old.store.now)
+    → IsLook (state g old.store.now.conn) (state g new.store.now.conn) (Tells P) r → Follows g old new
 follows_look g old new P r same manifest writes on off look = record {
   goes_on = record { same_reference = same; manifest = manifest; writes = writes; survives = look.survives; began = began_look g old.store.now new.store.now P r manifest on off look };
   rest = rest_look g old.store.now new.store.now P r manifest on off look;

@@ -6,5 +6,5 @@ use Rattle.esc_store.proofs.images.object_in.Goals as goal
 
 pub returns-in-Some-2 : goal.returns-in-Some-2
 returns-in-Some-2 c = λ o is has.
-  let found = rw (c.in-Some-2.is, c.as_slice.ensures.value) at c.in_ok-object.ensures.found in
-  one_object c.in-Some-2.object c.in-Some.record.items o found (rw c.in-Some.is at is)
+    let found = rw (c.in-Some-2.is, c.as_slice.ensures.value) at c.in_ok-object.ensures.found in
+    one_object c.in-Some-2.object c.in-Some.record.items o found (rw c.in-Some.is at is)
