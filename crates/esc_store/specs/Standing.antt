@@ -147,3 +147,11 @@ pub record IsLook {X E : Type 0} (old new : State) (Says : Database → X → Ty
   pub kept : HasCleanDisk new → old.now.schema ≡ store_schema → KeepsCommit old new
   pub said : HasCleanDisk new → old.now.schema ≡ store_schema → IfOk result (λ x. Says old.now x × IsUnchanged old new)
   pub failed : HasCleanDisk new → OnErr result ((new.in_transaction ≡ false) × (IsTrue new.is_open → new.now ≡ new.committed))
+
+-- a read of a database that was found to have the store's schema: where it succeeds nothing has changed, and where it
+-- fails no transaction is on
+pub record IsSure {X E : Type 0} (old new : State) (Says : Database → X → Type 0) (result : Result X E) : Type 0 where
+  pub survives : Survives old new (λ trees. ⊥)
+  pub kept : HasCleanDisk new → KeepsCommit old new
+  pub said : HasCleanDisk new → IfOk result (λ x. Says old.now x × IsUnchanged old new)
+  pub failed : HasCleanDisk new → OnErr result ((new.in_transaction ≡ false) × (IsTrue new.is_open → new.now ≡ new.committed))

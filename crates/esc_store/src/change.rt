@@ -4,13 +4,19 @@ ghost use Rattle.std.specs.Prelude.{◌≡◌, ◌≤◌, ◌<◌, ◌+◌, ◌-
 ghost use Rattle.sqlite.specs.Held.{state};
 ghost use Rattle.sqlite.specs.State.{HasCleanDisk};
 ghost use Rattle.esc_apply.specs.Registry.{State};
+ghost use Rattle.esc_rows.specs.Entries.{receipt_row as stored_row, step_row};
+ghost use Rattle.esc_store.specs.ReplyValue.{ReceiptValue};
+ghost use Rattle.esc_store.specs.TypedRows.{receipt_row, steps_from};
 ghost use Rattle.esc_store.specs.Kept.{Kept, with_receipt, with_body, with_steps, with_registry};
 ghost use Rattle.esc_store.specs.Standing.{Stands, Began, Rest, HoldsNow, GoesOn, LeavesOnly, LeavesOr, LeavesNoMore};
 
+use crate::books::{small, stored_receipt, stored_steps};
 use crate::fault::SFault;
 use crate::reply::Receipt;
 use crate::store::Store;
 use esc_apply::Step;
+use esc_rows::receipt::Receipt as StoredReceipt;
+use esc_rows::step::ChainStep;
 use sqlite::Alter;
 
 /// A change of a store: one transaction. It is made whole by `commit`, and leaves all as before where it is dropped.
@@ -20,38 +26,80 @@ pub struct Change<'a, S: Alter> {
 }
 
 impl<'a, S: Alter> Change<'a, S> {
-    /// Keeps the receipt with this number, the next one. `S4` if it is past 1,000,000,000; `S1`, `S2`.
-    pub fn record_receipt(&mut self, _number: u64, _receipt: &Receipt<'_>) -> Result<(), SFault>
+    /// Keeps the receipt with this number, the next one. `S4` if it is past 1,000,000,000; `S1`, also where the number
+    /// isn't the next one; `S2`.
+    pub fn record_receipt(&mut self, number: u64, receipt: &Receipt<'_>) -> Result<(), SFault>
         ensures goes_on { GoesOn S.Store self.old self.new }
         ensures count { self.new.count ≡ self.old.count }
-        ensures recorded { OnOk result ((before k : Kept) → length k.receipts + 1 ≡ _number → Rest S.Store self.old before k → Rest S.Store self.new before (with_receipt k _receipt.now)) }
+        ensures recorded { OnOk result ((before k : Kept) → length k.receipts + 1 ≡ number → Rest S.Store self.old before k → Rest S.Store self.new before (with_receipt k receipt.now)) }
         ensures holds { OnOk result ((s : State) → HoldsNow S.Store self.old s → HoldsNow S.Store self.new s) }
-        ensures room { OnOk result (_number ≤ 1_000_000_000) }
-        ensures full { IfErr result (λ e. e ≡ SFault.S4 → 1_000_000_000 < _number) }
+        ensures room { OnOk result (number ≤ 1_000_000_000) }
+        ensures full { IfErr result (λ e. e ≡ SFault.S4 → 1_000_000_000 < number) }
     {
-        Err(SFault::S2)
+        if number > 1_000_000_000 {
+            return Err(SFault::S4);
+        }
+        let stored = stored_receipt(self.store.alloc, number as u32, receipt)?;
+        self.add_receipt(&stored)
+    }
+
+    // Adds a receipt in its table.
+    fn add_receipt(&mut self, stored: &StoredReceipt) -> Result<(), SFault>
+        ensures goes_on { GoesOn S.Store self.old self.new }
+        ensures count { self.new.count ≡ self.old.count }
+        ensures recorded { OnOk result ((before k : Kept) (r : ReceiptValue) (n : ℕ) → stored_row stored.now ≡ receipt_row n r → length k.receipts + 1 ≡ n → Rest S.Store self.old before k → Rest S.Store self.new before (with_receipt k r)) }
+        ensures holds { OnOk result ((s : State) → HoldsNow S.Store self.old s → HoldsNow S.Store self.new s) }
+        ensures cause { IfErr result (λ e. e ≡ SFault.S4 → ⊥) }
+    {
+        self.store.add_next_here(stored)
     }
 
     /// Holds the body of a listed row, of which no body is held. `S1`, `S2`.
-    pub fn hold(&mut self, _row: usize, _body: &[u8]) -> Result<(), SFault>
+    pub fn hold(&mut self, row: usize, body: &[u8]) -> Result<(), SFault>
         ensures goes_on { GoesOn S.Store self.old self.new }
         ensures count { self.new.count ≡ self.old.count }
-        ensures held { OnOk result ((before k : Kept) → k.bodies _row ≡ None → Rest S.Store self.old before k → Rest S.Store self.new before (with_body k _row _body.now)) }
+        ensures held { OnOk result ((before k : Kept) → k.bodies row ≡ None → Rest S.Store self.old before k → Rest S.Store self.new before (with_body k row body.now)) }
         ensures holds { OnOk result ((s : State) → HoldsNow S.Store self.old s → HoldsNow S.Store self.new s) }
         ensures cause { IfErr result (λ e. e ≡ SFault.S4 → ⊥) }
     {
-        Err(SFault::S2)
+        let row = small(row)?;
+        self.hold_row(row, body)
+    }
+
+    // Holds a body in its table.
+    fn hold_row(&mut self, row: u32, body: &[u8]) -> Result<(), SFault>
+        ensures goes_on { GoesOn S.Store self.old self.new }
+        ensures count { self.new.count ≡ self.old.count }
+        ensures held { OnOk result ((before k : Kept) → Rest S.Store self.old before k → Rest S.Store self.new before (with_body k row body.now)) }
+        ensures holds { OnOk result ((s : State) → HoldsNow S.Store self.old s → HoldsNow S.Store self.new s) }
+        ensures cause { IfErr result (λ e. e ≡ SFault.S4 → ⊥) }
+    {
+        self.store.hold_here(row, body)
     }
 
     /// Makes these the steps of the chain, each of a row of its own that is held. `S1`, `S2`.
-    pub fn set_chain(&mut self, _steps: &[Step]) -> Result<(), SFault>
+    pub fn set_chain(&mut self, steps: &[Step]) -> Result<(), SFault>
         ensures goes_on { GoesOn S.Store self.old self.new }
         ensures count { self.new.count ≡ self.old.count }
-        ensures set { OnOk result ((before k : Kept) → Rest S.Store self.old before k → Rest S.Store self.new before (with_steps k (map (λ step. step.row) _steps.now))) }
+        ensures set { OnOk result ((before k : Kept) → Rest S.Store self.old before k → Rest S.Store self.new before (with_steps k (map (λ step. step.row) steps.now))) }
         ensures holds { OnOk result ((s : State) → HoldsNow S.Store self.old s → HoldsNow S.Store self.new s) }
         ensures cause { IfErr result (λ e. e ≡ SFault.S4 → ⊥) }
     {
-        Err(SFault::S2)
+        let stored = stored_steps(self.store.alloc, steps)?;
+        self.set_rows(stored.as_slice(), steps)
+    }
+
+    // Sets the steps in their table, of the rows of these steps.
+    fn set_rows(&mut self, stored: &[ChainStep], steps: &[Step]) -> Result<(), SFault>
+        requires { map step_row stored.now ≡ steps_from 1 (map (λ step. step.row) steps.now) }
+        ensures goes_on { GoesOn S.Store self.old self.new }
+        ensures count { self.new.count ≡ self.old.count }
+        ensures set { OnOk result ((before k : Kept) → Rest S.Store self.old before k → Rest S.Store self.new before (with_steps k (map (λ step. step.row) steps.now))) }
+        ensures holds { OnOk result ((s : State) → HoldsNow S.Store self.old s → HoldsNow S.Store self.new s) }
+        ensures cause { IfErr result (λ e. e ≡ SFault.S4 → ⊥) }
+    {
+        let _ = steps;
+        self.store.set_steps_here(stored)
     }
 
     /// Makes the whole change at once. At `Err` nothing is changed: `S1`, `S2`.

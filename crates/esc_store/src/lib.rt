@@ -1,6 +1,7 @@
 //! The desk's database: what a store keeps, and changes of it that are made whole or not at all.
 #![tactic(auto, using(sqlite::proofs::StateLemmas::survives_weaker, sqlite::proofs::StateLemmas::survives_then))]
 
+mod books;
 mod change;
 mod fault;
 mod form;

@@ -1,18 +1,21 @@
 //! The parts of a change, each one statement: where it fails the change is given up.
 
-ghost use Rattle.std.specs.Prelude.{◌≡◌, true, false, map, option_map, OnOk};
+ghost use Rattle.std.specs.Prelude.{◌≡◌, true, false, map, option_map, OnOk, IfErr};
 ghost use Rattle.sqlite.specs.Held.{state};
 ghost use Rattle.esc_rows.specs.Content.{object_at};
-ghost use Rattle.esc_rows.specs.Changes.{PutsObject, RemovesObject, Becomes, Tells, without_objects, without_undo, without_steps, PutsImage, RemovesImages, ListsImages, AddsReceipt, HoldsBody, AddsStep, last_number};
-ghost use Rattle.esc_rows.specs.Entries.{receipt_row, held_row, step_row, image_of};
-ghost use Rattle.esc_store.specs.Standing.{IsStep, IsLook};
+ghost use Rattle.esc_rows.specs.Changes.{PutsObject, RemovesObject, Becomes, Tells, without_objects, without_undo, without_steps, PutsImage, RemovesImages, ListsImages, AddsReceipt, HoldsBody, AddsStep, ListsObjects, ListsKinds, last_number, receipt_of, body_of};
+ghost use Rattle.esc_rows.specs.Entries.{receipt_row, held_row, step_row, image_of, object_of, listed_row};
+ghost use Rattle.esc_store.specs.Standing.{IsStep, IsLook, IsSure};
 
 use crate::fault::SFault;
 use crate::store::Store;
-use esc_rows::held::insert_held;
-use esc_rows::object::{clear_objects, delete_object, find_object, put_object};
-use esc_rows::receipt::{Receipt, insert_receipt, last_receipt};
-use esc_rows::step::{ChainStep, clear_steps, insert_step};
+use esc_rows::held::{find_body, held_rows, insert_held};
+use esc_rows::listed::{Listed, all_listed};
+use esc_rows::object::{
+    StoredObject, all_objects, clear_objects, delete_object, find_object, object_kinds, put_object,
+};
+use esc_rows::receipt::{Receipt, all_receipts, find_receipt, insert_receipt, last_receipt};
+use esc_rows::step::{ChainStep, all_steps, clear_steps, insert_step};
 use esc_rows::undo::{StoredImage, clear_undo, delete_undo, insert_undo, select_undo};
 use sqlite::Alter;
 use std::alloc::Global;
@@ -23,6 +26,7 @@ impl<S: Alter> Store<S> {
         ensures manifest { self.new.manifest ≡ self.old.manifest }
         ensures writes { self.new.writes ≡ self.old.writes }
         ensures step { IsStep (state S.Store self.old.conn) (state S.Store self.new.conn) (PutsObject kind key.now bytes.now) result }
+        ensures cause { IfErr result (λ fault. fault ≡ SFault.S4 → ⊥) }
     {
         match self.goes_on() {
             Ok(()) => {}
@@ -37,6 +41,7 @@ impl<S: Alter> Store<S> {
         ensures manifest { self.new.manifest ≡ self.old.manifest }
         ensures writes { self.new.writes ≡ self.old.writes }
         ensures step { IsStep (state S.Store self.old.conn) (state S.Store self.new.conn) (RemovesObject kind key.now) result }
+        ensures cause { IfErr result (λ fault. fault ≡ SFault.S4 → ⊥) }
     {
         match self.goes_on() {
             Ok(()) => {}
@@ -51,6 +56,7 @@ impl<S: Alter> Store<S> {
         ensures manifest { self.new.manifest ≡ self.old.manifest }
         ensures writes { self.new.writes ≡ self.old.writes }
         ensures step { IsStep (state S.Store self.old.conn) (state S.Store self.new.conn) (Becomes without_objects) result }
+        ensures cause { IfErr result (λ fault. fault ≡ SFault.S4 → ⊥) }
     {
         match self.goes_on() {
             Ok(()) => {}
@@ -71,6 +77,7 @@ impl<S: Alter> Store<S> {
         ensures manifest { self.new.manifest ≡ self.old.manifest }
         ensures writes { self.new.writes ≡ self.old.writes }
         ensures step { IsStep (state S.Store self.old.conn) (state S.Store self.new.conn) (PutsImage step kind key.now (option_map (λ b. b.now) before.entry)) result }
+        ensures cause { IfErr result (λ fault. fault ≡ SFault.S4 → ⊥) }
     {
         match self.goes_on() {
             Ok(()) => {}
@@ -85,6 +92,7 @@ impl<S: Alter> Store<S> {
         ensures manifest { self.new.manifest ≡ self.old.manifest }
         ensures writes { self.new.writes ≡ self.old.writes }
         ensures step { IsStep (state S.Store self.old.conn) (state S.Store self.new.conn) (RemovesImages step) result }
+        ensures cause { IfErr result (λ fault. fault ≡ SFault.S4 → ⊥) }
     {
         match self.goes_on() {
             Ok(()) => {}
@@ -99,6 +107,7 @@ impl<S: Alter> Store<S> {
         ensures manifest { self.new.manifest ≡ self.old.manifest }
         ensures writes { self.new.writes ≡ self.old.writes }
         ensures step { IsStep (state S.Store self.old.conn) (state S.Store self.new.conn) (Becomes without_undo) result }
+        ensures cause { IfErr result (λ fault. fault ≡ SFault.S4 → ⊥) }
     {
         match self.goes_on() {
             Ok(()) => {}
@@ -113,6 +122,7 @@ impl<S: Alter> Store<S> {
         ensures manifest { self.new.manifest ≡ self.old.manifest }
         ensures writes { self.new.writes ≡ self.old.writes }
         ensures step { IsStep (state S.Store self.old.conn) (state S.Store self.new.conn) (AddsReceipt (receipt_row receipt.now)) result }
+        ensures cause { IfErr result (λ fault. fault ≡ SFault.S4 → ⊥) }
     {
         match self.goes_on() {
             Ok(()) => {}
@@ -127,6 +137,7 @@ impl<S: Alter> Store<S> {
         ensures manifest { self.new.manifest ≡ self.old.manifest }
         ensures writes { self.new.writes ≡ self.old.writes }
         ensures step { IsStep (state S.Store self.old.conn) (state S.Store self.new.conn) (HoldsBody (held_row row body.now)) result }
+        ensures cause { IfErr result (λ fault. fault ≡ SFault.S4 → ⊥) }
     {
         match self.goes_on() {
             Ok(()) => {}
@@ -141,6 +152,7 @@ impl<S: Alter> Store<S> {
         ensures manifest { self.new.manifest ≡ self.old.manifest }
         ensures writes { self.new.writes ≡ self.old.writes }
         ensures step { IsStep (state S.Store self.old.conn) (state S.Store self.new.conn) (Becomes without_steps) result }
+        ensures cause { IfErr result (λ fault. fault ≡ SFault.S4 → ⊥) }
     {
         match self.goes_on() {
             Ok(()) => {}
@@ -155,6 +167,7 @@ impl<S: Alter> Store<S> {
         ensures manifest { self.new.manifest ≡ self.old.manifest }
         ensures writes { self.new.writes ≡ self.old.writes }
         ensures step { IsStep (state S.Store self.old.conn) (state S.Store self.new.conn) (AddsStep (step_row step)) result }
+        ensures cause { IfErr result (λ fault. fault ≡ SFault.S4 → ⊥) }
     {
         match self.goes_on() {
             Ok(()) => {}
@@ -171,6 +184,7 @@ impl<S: Alter> Store<S> {
         ensures on { OnOk result (self.old.conn.in_transaction ≡ true) }
         ensures off { self.old.conn.in_transaction ≡ false → self.new ≡ self.old }
         ensures look { IsLook (state S.Store self.old.conn) (state S.Store self.new.conn) (Tells (λ c found. option_map (λ b. b.items) found ≡ object_at kind key.now c.objects)) result }
+        ensures cause { IfErr result (λ fault. fault ≡ SFault.S4 → ⊥) }
     {
         match self.goes_on() {
             Ok(()) => {}
@@ -191,6 +205,7 @@ impl<S: Alter> Store<S> {
         ensures on { OnOk result (self.old.conn.in_transaction ≡ true) }
         ensures off { self.old.conn.in_transaction ≡ false → self.new ≡ self.old }
         ensures look { IsLook (state S.Store self.old.conn) (state S.Store self.new.conn) (Tells (λ c found. ListsImages step c (map image_of found.items))) result }
+        ensures cause { IfErr result (λ fault. fault ≡ SFault.S4 → ⊥) }
     {
         match self.goes_on() {
             Ok(()) => {}
@@ -200,15 +215,138 @@ impl<S: Alter> Store<S> {
         self.settle(done)
     }
 
+    // All receipts.
+    pub(crate) fn receipts_here(&mut self, alloc: Global) -> Result<Vec<Receipt>, SFault>
+        ensures manifest { self.new.manifest ≡ self.old.manifest }
+        ensures writes { self.new.writes ≡ self.old.writes }
+        ensures sure { IsSure (state S.Store self.old.conn) (state S.Store self.new.conn) (Tells (λ c found. map receipt_row found.items ≡ c.receipts)) result }
+        ensures cause { IfErr result (λ fault. fault ≡ SFault.S4 → ⊥) }
+    {
+        match self.sound() {
+            Ok(()) => {}
+            Err(fault) => return Err(fault),
+        }
+        let done = all_receipts(alloc, &mut self.conn);
+        self.settle(done)
+    }
+
+    // The receipt of an arrival.
+    pub(crate) fn receipt_here(
+        &mut self,
+        number: &str,
+        digest: &[u8],
+    ) -> Result<Option<Receipt>, SFault>
+        ensures manifest { self.new.manifest ≡ self.old.manifest }
+        ensures writes { self.new.writes ≡ self.old.writes }
+        ensures sure { IsSure (state S.Store self.old.conn) (state S.Store self.new.conn) (Tells (λ c found. option_map receipt_row found ≡ receipt_of number.now digest.now c.receipts)) result }
+        ensures cause { IfErr result (λ fault. fault ≡ SFault.S4 → ⊥) }
+    {
+        match self.sound() {
+            Ok(()) => {}
+            Err(fault) => return Err(fault),
+        }
+        let done = find_receipt(&mut self.conn, number, digest);
+        self.settle(done)
+    }
+
+    // The body of a row.
+    pub(crate) fn body_here(&mut self, row: u32) -> Result<Option<Vec<u8>>, SFault>
+        ensures manifest { self.new.manifest ≡ self.old.manifest }
+        ensures writes { self.new.writes ≡ self.old.writes }
+        ensures sure { IsSure (state S.Store self.old.conn) (state S.Store self.new.conn) (Tells (λ c found. option_map (λ b. b.items) found ≡ body_of row c.held)) result }
+        ensures cause { IfErr result (λ fault. fault ≡ SFault.S4 → ⊥) }
+    {
+        match self.sound() {
+            Ok(()) => {}
+            Err(fault) => return Err(fault),
+        }
+        let done = find_body(&mut self.conn, row);
+        self.settle(done)
+    }
+
+    // The rows that are held.
+    pub(crate) fn held_here(&mut self, alloc: Global) -> Result<Vec<u32>, SFault>
+        ensures manifest { self.new.manifest ≡ self.old.manifest }
+        ensures writes { self.new.writes ≡ self.old.writes }
+        ensures sure { IsSure (state S.Store self.old.conn) (state S.Store self.new.conn) (Tells (λ c found. found.items ≡ map (λ h. h.row) c.held)) result }
+        ensures cause { IfErr result (λ fault. fault ≡ SFault.S4 → ⊥) }
+    {
+        match self.sound() {
+            Ok(()) => {}
+            Err(fault) => return Err(fault),
+        }
+        let done = held_rows(alloc, &mut self.conn);
+        self.settle(done)
+    }
+
+    // The steps of the chain.
+    pub(crate) fn steps_here(&mut self, alloc: Global) -> Result<Vec<ChainStep>, SFault>
+        ensures manifest { self.new.manifest ≡ self.old.manifest }
+        ensures writes { self.new.writes ≡ self.old.writes }
+        ensures sure { IsSure (state S.Store self.old.conn) (state S.Store self.new.conn) (Tells (λ c found. map step_row found.items ≡ c.steps)) result }
+        ensures cause { IfErr result (λ fault. fault ≡ SFault.S4 → ⊥) }
+    {
+        match self.sound() {
+            Ok(()) => {}
+            Err(fault) => return Err(fault),
+        }
+        let done = all_steps(alloc, &mut self.conn);
+        self.settle(done)
+    }
+
+    // All records.
+    pub(crate) fn objects_here(&mut self, alloc: Global) -> Result<Vec<StoredObject>, SFault>
+        ensures manifest { self.new.manifest ≡ self.old.manifest }
+        ensures writes { self.new.writes ≡ self.old.writes }
+        ensures sure { IsSure (state S.Store self.old.conn) (state S.Store self.new.conn) (Tells (λ c found. ListsObjects c (map object_of found.items))) result }
+        ensures cause { IfErr result (λ fault. fault ≡ SFault.S4 → ⊥) }
+    {
+        match self.sound() {
+            Ok(()) => {}
+            Err(fault) => return Err(fault),
+        }
+        let done = all_objects(alloc, &mut self.conn);
+        self.settle(done)
+    }
+
+    // The kind of each record.
+    pub(crate) fn kinds_here(&mut self, alloc: Global) -> Result<Vec<u32>, SFault>
+        ensures manifest { self.new.manifest ≡ self.old.manifest }
+        ensures writes { self.new.writes ≡ self.old.writes }
+        ensures sure { IsSure (state S.Store self.old.conn) (state S.Store self.new.conn) (Tells (λ c found. ListsKinds c found.items)) result }
+        ensures cause { IfErr result (λ fault. fault ≡ SFault.S4 → ⊥) }
+    {
+        match self.sound() {
+            Ok(()) => {}
+            Err(fault) => return Err(fault),
+        }
+        let done = object_kinds(alloc, &mut self.conn);
+        self.settle(done)
+    }
+
+    // The rows of the manifest.
+    pub(crate) fn listed_here(&mut self, alloc: Global) -> Result<Vec<Listed>, SFault>
+        ensures manifest { self.new.manifest ≡ self.old.manifest }
+        ensures writes { self.new.writes ≡ self.old.writes }
+        ensures sure { IsSure (state S.Store self.old.conn) (state S.Store self.new.conn) (Tells (λ c found. map listed_row found.items ≡ c.listed)) result }
+        ensures cause { IfErr result (λ fault. fault ≡ SFault.S4 → ⊥) }
+    {
+        match self.sound() {
+            Ok(()) => {}
+            Err(fault) => return Err(fault),
+        }
+        let done = all_listed(alloc, &mut self.conn);
+        self.settle(done)
+    }
+
     // The number of the last receipt, or 0.
     pub(crate) fn last_here(&mut self) -> Result<u32, SFault>
         ensures manifest { self.new.manifest ≡ self.old.manifest }
         ensures writes { self.new.writes ≡ self.old.writes }
-        ensures on { OnOk result (self.old.conn.in_transaction ≡ true) }
-        ensures off { self.old.conn.in_transaction ≡ false → self.new ≡ self.old }
-        ensures look { IsLook (state S.Store self.old.conn) (state S.Store self.new.conn) (Tells (λ c found. found ≡ last_number c.receipts)) result }
+        ensures sure { IsSure (state S.Store self.old.conn) (state S.Store self.new.conn) (Tells (λ c found. found ≡ last_number c.receipts)) result }
+        ensures cause { IfErr result (λ fault. fault ≡ SFault.S4 → ⊥) }
     {
-        match self.goes_on() {
+        match self.sound() {
             Ok(()) => {}
             Err(fault) => return Err(fault),
         }

@@ -3,6 +3,7 @@
 ghost use Rattle.std.specs.Prelude.{◌≡◌, ◌⊎◌, true, false, Ok, IsErr, IsTrue, IfOk, IfErr, OnOk, OnErr, MatchResult};
 ghost use Rattle.std.specs.Borrow.{sem, RestsIfErr};
 ghost use Rattle.sqlite.specs.Held.{state};
+ghost use Rattle.esc_rows.specs.Schema.{store_schema};
 ghost use Rattle.esc_store.specs.Kept.{Kept, fresh, with_registry};
 ghost use Rattle.esc_apply.specs.Registry.{State};
 ghost use Rattle.esc_store.specs.Tables.{IsBlank, IsStore};
@@ -12,6 +13,7 @@ ghost use Rattle.sqlite.specs.State.{HasCleanDisk};
 use crate::change::Change;
 use crate::fault::SFault;
 use esc_manifest::Manifest;
+use esc_rows::shape::is_store_schema;
 use esc_rows::transaction::{abandon_in, begin_in, commit_in};
 use sqlite::{Alter, Connection, Error};
 use std::alloc::Global;
@@ -23,6 +25,7 @@ pub struct Store<S: Alter> {
     pub(crate) conn: Connection<S>,
     pub(crate) manifest: Manifest,
     pub(crate) writes: u64,
+    pub(crate) alloc: Global,
 }
 
 impl<S: Alter> Store<S> {
@@ -159,6 +162,22 @@ impl<S: Alter> Store<S> {
                 Err(SFault::from(error))
             }
         }
+    }
+
+    // Whether the database has the store's schema. A store that was opened has it as long as the connection is open;
+    // the test is what a proof learns it from. Else what is on is given up.
+    pub(crate) fn sound(&mut self) -> Result<(), SFault>
+        ensures manifest { self.new.manifest ≡ self.old.manifest }
+        ensures writes { self.new.writes ≡ self.old.writes }
+        ensures ok { OnOk result ((self.new ≡ self.old) × ((state S.Store self.old.conn).now.schema ≡ store_schema)) }
+        ensures err { OnErr result (IsGivenUp (state S.Store self.old.conn) (state S.Store self.new.conn)) }
+        ensures cause { IfErr result (λ fault. fault ≡ SFault.S1) }
+    {
+        if is_store_schema(self.conn.schema()) {
+            return Ok(());
+        }
+        self.give_up();
+        Err(SFault::S1)
     }
 
     // Whether a transaction is on: after a failure it is given up, and a change goes on no more.

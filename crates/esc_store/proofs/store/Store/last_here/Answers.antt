@@ -1,13 +1,10 @@
 use Rattle.sqlite.specs.Held.{state}
-use Rattle.esc_store.proofs.Parts.{look_off, look_is, not_both}
+use Rattle.esc_store.proofs.Sure.{sure_off, sure_is}
 use Rattle.esc_store.proofs.store.Store.last_here.Goals as goal
 
-pub returns-in-Err-clause-look : goal.returns-in-Err-clause-look
-returns-in-Err-clause-look g c = look_off (state g.S.Store c.args.self.now.conn) _ _ c.in-Err.ensures.off
+pub returns-in-Err-clause-sure : goal.returns-in-Err-clause-sure
+returns-in-Err-clause-sure g c = sure_off (state g.S.Store c.args.self.now.conn) (state g.S.Store c.sound.new.self.conn) _ _ c.in-Err.ensures.err
 
-pub returns-clause-off : goal.returns-clause-off
-returns-clause-off g c = λ off. absurd (not_both _ c.in-Ok.ensures.on off)
-
-pub returns-clause-look : goal.returns-clause-look
-returns-clause-look g c =
-    look_is g.S.Store c.args.self.now.conn (record c.args.self.now { conn = c.last_receipt-done.new.conn }) c.settle.new.self c.last_receipt-done.result c.settle.result c.settle.ensures.survives c.settle.ensures.ok c.settle.ensures.err _ c.last_receipt-done.ensures.read
+pub returns-clause-sure : goal.returns-clause-sure
+returns-clause-sure g c =
+    sure_is g.S.Store c.args.self.now c.sound.new.self (record c.sound.new.self { conn = c.last_receipt-done.new.conn }) c.settle.new.self c.last_receipt-done.result c.settle.result c.settle.ensures.survives c.settle.ensures.ok c.settle.ensures.err _ c.in-Ok.ensures.ok.0 c.in-Ok.ensures.ok.1 c.last_receipt-done.ensures.read

@@ -1,0 +1,211 @@
+-- What parts do to rows, receipts, bodies and steps.
+use Rattle.std.proofs.Common.{◌≡◌, ◌⊎◌, inl, inr, ℕ, zero, suc, take, get_or, ◌+◌, ◌<◌, ◌≤◌, Bool, true, false, List, [], ◌∷◌, ◌++◌, length, map, Option, None, Some, refl, sym, ap, subst, ◌∙◌, arith}
+use Rattle.std.specs.Prelude.{IsTrue, Result, Ok, Err, IfOk, OnOk, OnErr, pos, ◌<ℤ◌, ℤ, ◌==◌, if◌then◌else◌, option_map}
+use Rattle.std.specs.List.{AllByRecursion}
+use Rattle.std.proofs.lemmas.Int.{ints}
+use Rattle.std.proofs.lemmas.List.{length-map, length-take-le, get_or-map, take_more}
+use Rattle.sqlite_trees.specs.Tree.{Trees}
+use Rattle.esc_rows.specs.declared.step.ChainStep.{ChainStep}
+use Rattle.esc_apply.specs.declared.front.Step.{Step}
+use Rattle.esc_rows.specs.Entries.{step_row}
+use Rattle.sqlite.specs.Effect.{Database}
+use Rattle.sqlite.specs.State.{State, HasCleanDisk, Survives, KeepsCommit, Shows, IsUnchanged}
+use Rattle.sqlite.proofs.StateLemmas.{survives_then}
+use Rattle.sqlite_keyed.specs.Keyed.{IsKeyedBy, get_by, insert_by}
+use Rattle.sqlite_keyed.proofs.KeyedLemmas.{same_int, lt_from_Less}
+use Rattle.std.specs.Ordering.{int_cmp, int_eq, match_ordering}
+use Rattle.std.specs.declared.cmp.Ordering.{Ordering}
+use Rattle.std.specs.declared.cmp.Ordering.TheVariants.{Less, Equal, Greater}
+use Rattle.std.proofs.lemmas.Cmp.{int_ranked}
+use Rattle.std.proofs.lemmas.Bool.Decides.{nat_tests}
+use Rattle.esc_rows.specs.Rows.{ReceiptRow, StepRow, HeldRow, receipt_number, held_number}
+use Rattle.esc_rows.specs.Content.{Content, content_in, HoldsContent}
+use Rattle.esc_rows.specs.Changes.{Tells, AddsReceipt, AddsStep, HoldsBody, Becomes, without_steps, last_number, body_of}
+use Rattle.esc_apply.specs.Registry.{State as Tables}
+use Rattle.esc_store.specs.Kept.{Kept, with_receipt, with_body, with_steps, body_put}
+use Rattle.esc_store.specs.ReplyValue.{ReceiptValue}
+use Rattle.esc_store.specs.TypedRows.{IsBooks, IsRegistry, receipt_row, receipts_from, steps_from}
+use Rattle.esc_store.specs.Tables.{HoldsTables}
+use Rattle.esc_store.specs.Steps.{with_receipt_row, AddsNext, with_step_rows, SetsSteps}
+use Rattle.esc_store.specs.Standing.{IsStep, IsSure}
+use Rattle.esc_store.proofs.Ends.{at_ok, at_said, was_clean, keeps_then}
+use Rattle.esc_store.proofs.Parts.{Turns, becomes}
+
+-- ---- receipts
+
+less_pos : (a b : ℕ) → pos a <ℤ pos b → a < b
+less_pos a b h = omega (arith, ints)
+
+all_below : (n m : ℕ) (rs : List ReceiptRow) → n < m → AllByRecursion (λ (x : ReceiptRow). x.receipt < n) rs → AllByRecursion (λ (x : ReceiptRow). x.receipt < m) rs
+all_below n m [] lt all = tt
+all_below n m (r ∷ rs) lt all = (let h = all.0 in omega arith, all_below n m rs lt all.1)
+
+below_next : (rs : List ReceiptRow) (n : ℕ) → IsKeyedBy receipt_number rs → last_number rs + 1 ≡ n → AllByRecursion (λ (x : ReceiptRow). x.receipt < n) rs
+below_next [] n keyed is = tt
+below_next (r ∷ []) n keyed is = (omega (arith, is), tt)
+below_next (r ∷ (s ∷ rs)) n keyed is =
+    let others = below_next (s ∷ rs) n keyed.1 is in
+    let first : r.receipt < s.receipt = less_pos r.receipt s.receipt keyed.0.0 in
+    let second : s.receipt < n = others.0 in
+    (omega arith, others)
+
+pub step_next : {Y D E : Type 0} (old mid new : State) (r : Result ℕ D) (last : ℕ) (row : ReceiptRow) (done : Result Y E) → old.in_transaction ≡ true → IsSure old mid (Tells (λ c (found : ℕ). found ≡ last_number c.receipts)) r → r ≡ Ok last → last + 1 ≡ row.receipt
+    → IsStep mid new (AddsReceipt row) done → IsStep old new (AddsNext row) done
+step_next {Y} {D} {E} old mid new r last row done on sure is next step = record {
+  survives = survives_then old mid new (λ trees. ⊥) (λ trees. ⊥) (λ trees. ⊥) (λ _ db none. none) (λ _ db none. none) sure.survives step.survives;
+  kept = λ clean. keeps_then old mid new (sure.kept (was_clean mid new (λ trees. ⊥) step.survives clean)) (step.kept clean);
+  made = λ clean. made_of done clean (step.made clean);
+  failed = step.failed;
+} where
+  adds : HasCleanDisk new → AddsReceipt row mid.now new.now → AddsNext row old.now new.now
+  adds clean added c h =
+      let s = at_said r last _ is (sure.said (was_clean mid new (λ trees. ⊥) step.survives clean)) in
+      let there : HoldsContent mid.now c = subst (λ db. HoldsContent db c) (sym s.1.0.now_is) h in
+      added c there (below_next c.receipts row.receipt h.store.ordered.receipts (ap (λ n. n + 1) (sym (s.0 c h)) ∙ next))
+
+  made_of : (d : Result Y E) → HasCleanDisk new → OnOk d ((mid.in_transaction ≡ true) × AddsReceipt row mid.now new.now × (new.in_transaction ≡ true) × IsTrue new.is_open) → OnOk d ((old.in_transaction ≡ true) × AddsNext row old.now new.now × (new.in_transaction ≡ true) × IsTrue new.is_open)
+  made_of (Ok x) clean m = (on, adds clean m.1, m.2, m.3)
+  made_of (Err e) clean m = tt
+
+-- what a change of the content turns into
+pub record Becoming (change : Content → Content) (c c' : Content) : Type 0 where
+  pub is : c' ≡ change c
+
+pub become_turns : (change : Content → Content) (old new : Database) → Becomes change old new → Turns (Becoming change) old new
+become_turns change old new made tables = let b = becomes new (change (content_in old.trees)) (made (content_in old.trees) tables) in (b.0, record { is = b.1 })
+
+receipts_push : (n : ℕ) (rs : List ReceiptValue) (r : ReceiptValue) (m : ℕ) → length rs + n ≡ m → receipts_from n (rs ++ (r ∷ [])) ≡ receipts_from n rs ++ (receipt_row m r ∷ [])
+receipts_push n [] r m is = let e : n ≡ m = omega (arith, is) in rw e refl
+receipts_push n (x ∷ rs) r m is = ap (λ l. receipt_row n x ∷ l) (receipts_push (suc n) rs r m (omega (arith, is)))
+
+pub books_receipt : (k : Kept) (r : ReceiptValue) (n : ℕ) (row : ReceiptRow) (c c' : Content) → row ≡ receipt_row n r → length k.receipts + 1 ≡ n → Becoming (with_receipt_row row) c c' → IsBooks c k → IsBooks c' (with_receipt k r)
+books_receipt k r n row c c' row_is next turn books = subst (λ x. IsBooks x (with_receipt k r)) (sym turn.is) (record {
+  listed = books.listed;
+  receipts = ap (λ l. l ++ (row ∷ [])) books.receipts ∙ (ap (λ x. receipts_from 1 k.receipts ++ (x ∷ [])) row_is ∙ sym (receipts_push 1 k.receipts r n next));
+  held = books.held;
+  steps = books.steps;
+})
+
+pub registry_receipt : (s : Tables) (row : ReceiptRow) (c c' : Content) → Becoming (with_receipt_row row) c c' → IsRegistry c s → IsRegistry c' s
+registry_receipt s row c c' turn it = subst (λ x. IsRegistry x s) (sym turn.is) (record { objects = it.objects; images = it.images; recorded = it.recorded; noted = it.noted })
+
+-- ---- bodies
+
+never : (z : ℤ) → z <ℤ z → ⊥
+never z h = omega (arith, ints)
+
+get_put : {X : Type 0} (key : X → ℤ) (xs : List X) (new : X) (id : ℤ) → get_by key (insert_by key xs new) id ≡ (if int_eq (key new) id then Some new else get_by key xs id)
+get_put key [] new id = refl
+get_put {X} key (x ∷ xs) new id = go (int_cmp (key x) (key new)) (int_eq (key x) id) (int_eq (key new) id) refl refl refl (get_put key xs new id) where
+  go : (o : Ordering) (b c : Bool) → int_cmp (key x) (key new) ≡ o → int_eq (key x) id ≡ b → int_eq (key new) id ≡ c → get_by key (insert_by key xs new) id ≡ (if int_eq (key new) id then Some new else get_by key xs id)
+      → get_by key (match_ordering o (x ∷ insert_by key xs new) (new ∷ xs) (new ∷ x ∷ xs)) id ≡ (if int_eq (key new) id then Some new else get_by key (x ∷ xs) id)
+  go Less true true e p q more =
+      let same : key x ≡ key new = same_int (key x) id p ∙ sym (same_int (key new) id q) in
+      let lt : key x <ℤ key new = lt_from_Less (key x) (key new) e in
+      absurd (never (key new) (rw same at lt))
+  go Less true false e p q more = rw (p, q) refl
+  go Less false c e p q more = rw p more
+  go Equal b true e p q more = rw q refl
+  go Equal true false e p q more =
+      let same : key x ≡ key new = int_ranked (key x) (key new) Equal (sym e) in
+      let no : true ≡ false = sym (rw same at p) ∙ q in
+      absurd cc
+  go Equal false false e p q more = rw (p, q) refl
+  go Greater b c e p q more = refl
+
+row_test : (a b : ℕ) → int_eq (pos a) (pos b) ≡ (b == a)
+row_test a b = grind (arith, nat_tests, ints)
+
+abbrev pub with_held_row : HeldRow → Content → Content
+with_held_row h c = record c { held = insert_by held_number c.held h }
+
+pub held_turns : (h : HeldRow) (old new : Database) → HoldsBody h old new → Turns (Becoming (with_held_row h)) old new
+held_turns h old new made tables = let b = becomes new (with_held_row h (content_in old.trees)) (made (content_in old.trees) tables).0 in (b.0, record { is = b.1 })
+
+body_in : (h : HeldRow) (hs : List HeldRow) (row : ℕ) → body_of row (insert_by held_number hs h) ≡ (if row == h.row then Some h.body else body_of row hs)
+body_in h hs row = ap (option_map (λ (x : HeldRow). x.body)) (get_put held_number hs h (pos row) ∙ ap (λ (b : Bool). if b then Some h else get_by held_number hs (pos row)) (row_test h.row row)) ∙ branch (row == h.row) where
+  branch : (b : Bool) → option_map (λ (x : HeldRow). x.body) (if b then Some h else get_by held_number hs (pos row)) ≡ (if b then Some h.body else body_of row hs)
+  branch true = refl
+  branch false = refl
+
+pub books_held : (k : Kept) (h : HeldRow) (row : ℕ) (body : List ℕ) (c c' : Content) → h.row ≡ row → h.body ≡ body → Becoming (with_held_row h) c c' → IsBooks c k → IsBooks c' (with_body k row body)
+books_held k h row body c c' row_is body_is turn books = subst (λ x. IsBooks x (with_body k row body)) (sym turn.is) (record {
+  listed = books.listed;
+  receipts = books.receipts;
+  held = λ n. body_in h c.held n ∙ rw (row_is, body_is) (ap (λ o. if n == row then Some body else o) (books.held n));
+  steps = books.steps;
+})
+
+pub registry_held : (s : Tables) (h : HeldRow) (c c' : Content) → Becoming (with_held_row h) c c' → IsRegistry c s → IsRegistry c' s
+registry_held s h c c' turn it = subst (λ x. IsRegistry x s) (sym turn.is) (record { objects = it.objects; images = it.images; recorded = it.recorded; noted = it.noted })
+
+-- ---- steps
+
+pub books_steps : (k : Kept) (rows : List ℕ) (c c' : Content) → Becoming (with_step_rows rows) c c' → IsBooks c k → IsBooks c' (with_steps k rows)
+books_steps k rows c c' turn books = subst (λ x. IsBooks x (with_steps k rows)) (sym turn.is) (record { listed = books.listed; receipts = books.receipts; held = books.held; steps = refl })
+
+pub registry_steps : (s : Tables) (rows : List ℕ) (c c' : Content) → Becoming (with_step_rows rows) c c' → IsRegistry c s → IsRegistry c' s
+registry_steps s rows c c' turn it = subst (λ x. IsRegistry x s) (sym turn.is) (record { objects = it.objects; images = it.images; recorded = it.recorded; noted = it.noted })
+
+steps_push : (n : ℕ) (rows : List ℕ) (row m : ℕ) → length rows + n ≡ m → steps_from n (rows ++ (row ∷ [])) ≡ steps_from n rows ++ (record { pos = m; row = row } ∷ [])
+steps_push n [] row m is = let e : n ≡ m = omega (arith, is) in rw e refl
+steps_push n (x ∷ rows) row m is = ap (λ l. record { pos = n; row = x } ∷ l) (steps_push (suc n) rows row m (omega (arith, is)))
+
+steps_below : (n m : ℕ) (rows : List ℕ) → length rows + n ≤ m → AllByRecursion (λ (x : StepRow). x.pos < m) (steps_from n rows)
+steps_below n m [] h = tt
+steps_below n m (x ∷ rows) h = (omega (arith, h), steps_below (suc n) m rows (omega (arith, h)))
+
+pub steps_started : {Y E : Type 0} (old new : State) (done : Result Y E) → IsStep old new (Becomes without_steps) done → IsStep old new (SetsSteps []) done
+steps_started old new done step = step
+
+pub steps_more : {Y E : Type 0} (old mid new : State) (rows : List ℕ) (row : ℕ) (s : StepRow) (y : Y) (done : Result Y E) → s ≡ record { pos = length rows + 1; row = row } → IsStep {X = Y} {E = E} old mid (SetsSteps rows) (Ok y) → IsStep mid new (AddsStep s) done → IsStep old new (SetsSteps (rows ++ (row ∷ []))) done
+steps_more {Y} {E} old mid new rows row s y done s_is before step = record {
+  survives = survives_then old mid new (λ trees. ⊥) (λ trees. ⊥) (λ trees. ⊥) (λ _ db none. none) (λ _ db none. none) before.survives step.survives;
+  kept = λ clean. keeps_then old mid new (before.kept (was_clean mid new (λ trees. ⊥) step.survives clean)) (step.kept clean);
+  made = λ clean. made_of done clean (step.made clean);
+  failed = step.failed;
+} where
+  sets : Becomes (with_step_rows rows) old.now mid.now → AddsStep s mid.now new.now → Becomes (with_step_rows (rows ++ (row ∷ []))) old.now new.now
+  sets first second c h =
+      let there = second (with_step_rows rows c) (first c h) (subst (λ (x : StepRow). AllByRecursion (λ (y : StepRow). y.pos < x.pos) (steps_from 1 rows)) (sym s_is) (steps_below 1 (length rows + 1) rows (omega arith))) in
+      let e : steps_from 1 rows ++ (s ∷ []) ≡ steps_from 1 (rows ++ (row ∷ [])) = ap (λ x. steps_from 1 rows ++ (x ∷ [])) s_is ∙ sym (steps_push 1 rows row (length rows + 1) refl) in
+      subst (λ (ss : List StepRow). HoldsContent new.now (record c { steps = ss })) e there
+
+  made_of : (d : Result Y E) → HasCleanDisk new → OnOk d ((mid.in_transaction ≡ true) × AddsStep s mid.now new.now × (new.in_transaction ≡ true) × IsTrue new.is_open) → OnOk d ((old.in_transaction ≡ true) × SetsSteps (rows ++ (row ∷ [])) old.now new.now × (new.in_transaction ≡ true) × IsTrue new.is_open)
+  made_of (Ok x) clean m = let b = before.made (was_clean mid new (λ trees. ⊥) step.survives clean) in (b.0, sets b.1 m.1, m.2, m.3)
+  made_of (Err e) clean m = tt
+
+-- ---- the steps one by one
+
+steps_get : (n : ℕ) (rows : List ℕ) (i : ℕ) (d : StepRow) → i < length rows → get_or (steps_from n rows) i d ≡ record { pos = n + i; row = get_or rows i 0 }
+steps_get n [] i d lt = absurd (omega arith)
+steps_get n (row ∷ rows) zero d lt = let e : n + 0 ≡ n = omega arith in rw e refl
+steps_get n (row ∷ rows) (suc i) d lt = let e : n + suc i ≡ suc n + i = omega arith in steps_get (suc n) rows i d (omega arith) ∙ rw e refl
+
+steps_length : (n : ℕ) (rows : List ℕ) → length (steps_from n rows) ≡ length rows
+steps_length n [] = refl
+steps_length n (row ∷ rows) = ap suc (steps_length (suc n) rows)
+
+pub step_nth : (ss : List ChainStep) (rows : List ℕ) (i : ℕ) (d : ChainStep) → map step_row ss ≡ steps_from 1 rows → i < length ss → step_row (get_or ss i d) ≡ record { pos = length (take i rows) + 1; row = get_or rows i 0 }
+step_nth ss rows i d e lt =
+    let l : length ss ≡ length rows = sym (length-map ss step_row) ∙ (ap length e ∙ steps_length 1 rows) in
+    let below : i < length rows = omega arith in
+    let size : length (take i rows) ≡ i = length-take-le i rows (omega arith) in
+    let number : 1 + i ≡ length (take i rows) + 1 = omega arith in
+    sym (get_or-map step_row ss i d (step_row d) lt) ∙ (ap (λ (xs : List StepRow). get_or xs i (step_row d)) e ∙ (steps_get 1 rows i (step_row d) below ∙ rw number refl))
+
+pub same_length : (ss : List ChainStep) (rows : List ℕ) → map step_row ss ≡ steps_from 1 rows → length ss ≡ length rows
+same_length ss rows e = sym (length-map ss step_row) ∙ (ap length e ∙ steps_length 1 rows)
+
+pub steps_pushed : (ss : List StepRow) (rows : List ℕ) (i : ℕ) (s : StepRow) → ss ≡ steps_from 1 (take i rows) → i < length rows → s ≡ record { pos = i + 1; row = get_or rows i 0 } → ss ++ (s ∷ []) ≡ steps_from 1 (take (i + 1) rows)
+steps_pushed ss rows i s e lt is =
+    let size : length (take i rows) + 1 ≡ i + 1 = let k = length-take-le i rows (omega arith) in omega arith in
+    ap (λ l. l ++ (s ∷ [])) e ∙ (ap (λ x. steps_from 1 (take i rows) ++ (x ∷ [])) is ∙ (sym (steps_push 1 (take i rows) (get_or rows i 0) (i + 1) size) ∙ ap (steps_from 1) (sym (take_more rows i 0 lt))))
+
+pub steps_stored : (ss : List StepRow) (steps : List Step) (i n row : ℕ) (d : Step) → ss ≡ steps_from 1 (take i (map (λ (s : Step). s.row) steps)) → i < length steps → n ≡ i + 1 → row ≡ (get_or steps i d).row
+  → ss ++ (record { pos = n; row = row } ∷ []) ≡ steps_from 1 (take (i + 1) (map (λ (s : Step). s.row) steps))
+steps_stored ss steps i n row d e lt n_is row_is =
+    let row_of : Step → ℕ = λ (s : Step). s.row in
+    let size : length (map row_of steps) ≡ length steps = length-map steps row_of in
+    let there : get_or (map row_of steps) i 0 ≡ row = get_or-map row_of steps i d 0 lt ∙ sym row_is in
+    steps_pushed ss (map row_of steps) i (record { pos = n; row = row }) e (omega arith) (rw (n_is, there) refl)

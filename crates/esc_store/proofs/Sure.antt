@@ -1,0 +1,70 @@
+-- Reads of a store's tables.
+use Rattle.std.proofs.Common.{◌≡◌, Bool, true, false, List, refl, sym, ap, subst, ◌∙◌}
+use Rattle.std.specs.Prelude.{IsTrue, Result, Ok, Err, IfOk, OnOk, OnErr, IsErr}
+use Rattle.sqlite_trees.specs.declared.store.Store.{Ghosts}
+use Rattle.sqlite.specs.Effect.{Database}
+use Rattle.sqlite.specs.Held.{state}
+use Rattle.sqlite.specs.State.{State, HasCleanDisk, Survives, KeepsCommit, Shows, IsUnchanged}
+use Rattle.sqlite.proofs.StateLemmas.{survives_then}
+use Rattle.esc_manifest.specs.declared.row.MRow.{MRow}
+use Rattle.esc_rows.specs.Schema.{store_schema}
+use Rattle.esc_rows.specs.Content.{Content, content_in}
+use Rattle.esc_rows.specs.Changes.{Tells}
+use Rattle.esc_rows.specs.Part.{IsRead}
+use Rattle.esc_store.specs.declared.store.Store.{Store}
+use Rattle.esc_store.specs.Kept.{Kept}
+use Rattle.esc_store.specs.TypedRows.{IsBooks, IsRegistry}
+use Rattle.esc_store.specs.Tables.{IsStoreDatabase}
+use Rattle.esc_store.specs.Standing.{IsAtRest, IsStanding, IsGivenUp, IsSure, IsLook, IsAsBefore, Stands, IsHonest}
+use Rattle.esc_store.proofs.Ends.{at_said, was_clean, keeps_then}
+use Rattle.esc_store.proofs.Parts.{look_is}
+
+-- the schema is another: what was on is given up
+pub sure_off : {X E : Type 0} (old new : State) (Says : Database → X → Type 0) (e : E) → IsGivenUp old new → IsSure old new Says (Err e)
+sure_off old new Says e up = record { survives = up.survives; kept = up.kept; said = λ clean. tt; failed = λ clean. (up.ended clean, up.settled clean) }
+
+-- a read, settled
+pub sure_is : {S : Type 0} (g : Ghosts S) (start old mid new : Store S) {X D E : Type 0} (outcome : Result X D) (result : Result X E) → Survives (state g mid.conn) (state g new.conn) (λ trees. ⊥) → IfOk result (λ x. (outcome ≡ Ok x) × (new ≡ mid))
+    → OnErr result (IsErr outcome × IsGivenUp (state g mid.conn) (state g new.conn)) → (Says : Database → X → Type 0) → old ≡ start → (state g start.conn).now.schema ≡ store_schema → IsRead (state g old.conn) (state g mid.conn) Says outcome
+    → IsSure (state g start.conn) (state g new.conn) Says result
+sure_is {S} g start old mid new {X} {D} {E} outcome result survives ok err Says same schema read =
+    let look : IsLook (state g start.conn) (state g new.conn) Says result = subst (λ (s : Store S). IsLook (state g s.conn) (state g new.conn) Says result) same (look_is g old.conn mid new outcome result survives ok err Says read) in
+    record { survives = look.survives; kept = λ clean. look.kept clean schema; said = λ clean. look.said clean schema; failed = look.failed }
+
+module _ {X E : Type 0} (old new : State) (P : Content → X → Type 0) (r : Result X E) (sure : IsSure old new (Tells P) r) where
+  pub stands_sure : (m : List MRow) (k : Kept) → IsStanding old m k → IsStanding new m k
+  stands_sure m k stands = record { listed = stands.listed; rests = λ clean up. rested clean up } where
+    rested : HasCleanDisk new → IsTrue new.is_open → IsAtRest new k
+    rested clean up =
+        let kept = sure.kept clean in
+        let was = stands.rests (was_clean old new (λ trees. ⊥) sure.survives clean) (kept.was_open up) in
+        let held : IsStoreDatabase new.committed k = subst (λ db. IsStoreDatabase db k) (sym (kept.committed up)) was.kept in
+        elim r as (λ y. r ≡ y → IsAtRest new k) [
+          | Ok x ↦ λ is. let shown = (at_said r x _ is (sure.said clean)).1.0 in record { kept = held; same = shown.now_is ∙ (was.same ∙ sym shown.committed_is); autocommit = shown.mode ∙ was.autocommit }
+          | Err e ↦ λ is. let f = bad e is (sure.failed clean) in record { kept = held; same = f.1 up; autocommit = f.0 }
+        ] refl where
+          bad : {Q : Type 0} (e : E) → r ≡ Err e → OnErr r Q → Q
+          bad e is h = rw is at h
+
+  pub record Told (k : Kept) (x : X) : Type 0 where
+    pub content : Content
+    pub books : IsBooks content k
+    pub registry : IsRegistry content k.registry
+    pub says : P content x
+
+  pub told : (m : List MRow) (k : Kept) (x : X) → r ≡ Ok x → HasCleanDisk new → IsStanding old m k → Told k x
+  told m k x is clean stands =
+      let s = at_said r x _ is (sure.said clean) in
+      let was = stands.rests (was_clean old new (λ trees. ⊥) sure.survives clean) s.1.0.was_open in
+      let kept = subst (λ db. IsStoreDatabase db k) (sym was.same) was.kept in
+      record { content = content_in old.now.trees; books = kept.kept.books; registry = kept.kept.registry; says = s.0 (content_in old.now.trees) (record { schema_is = kept.schema; store = kept.kept.tables }) }
+
+module _ {S : Type 0} (g : Ghosts S) (old new : Store S) {X E : Type 0} (P : Content → X → Type 0) (r : Result X E) (manifest : new.manifest ≡ old.manifest) (writes : new.writes ≡ old.writes)
+    (sure : IsSure (state g old.conn) (state g new.conn) (Tells P) r) where
+  pub as_before : IsAsBefore g old new
+  unfolding Stands
+  as_before = record { manifest = manifest; writes = writes; survives = sure.survives; stands = λ k stands. subst (λ m. IsStanding (state g new.conn) m k) (sym manifest) (stands_sure (state g old.conn) (state g new.conn) P r sure old.manifest k stands) }
+
+  pub told_by : (k : Kept) (x : X) → r ≡ Ok x → IsHonest g new → Stands g old k → Told (state g old.conn) (state g new.conn) P r sure k x
+  unfolding Stands
+  told_by k x is clean stands = told (state g old.conn) (state g new.conn) P r sure old.manifest k x is clean stands
