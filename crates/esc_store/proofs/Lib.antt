@@ -1,8 +1,10 @@
 pub mod RowSteps
+pub mod Decoding
 pub mod Ends
 pub mod Following
 pub mod Looking
 pub mod Parts
+pub mod Reading
 pub mod Registries
 pub mod Standings
 pub mod Sure

@@ -203,7 +203,7 @@ steps_pushed ss rows i s e lt is =
     ap (λ l. l ++ (s ∷ [])) e ∙ (ap (λ x. steps_from 1 (take i rows) ++ (x ∷ [])) is ∙ (sym (steps_push 1 (take i rows) (get_or rows i 0) (i + 1) size) ∙ ap (steps_from 1) (sym (take_more rows i 0 lt))))
 
 pub steps_stored : (ss : List StepRow) (steps : List Step) (i n row : ℕ) (d : Step) → ss ≡ steps_from 1 (take i (map (λ (s : Step). s.row) steps)) → i < length steps → n ≡ i + 1 → row ≡ (get_or steps i d).row
-  → ss ++ (record { pos = n; row = row } ∷ []) ≡ steps_from 1 (take (i + 1) (map (λ (s : Step). s.row) steps))
+    → ss ++ (record { pos = n; row = row } ∷ []) ≡ steps_from 1 (take (i + 1) (map (λ (s : Step). s.row) steps))
 steps_stored ss steps i n row d e lt n_is row_is =
     let row_of : Step → ℕ = λ (s : Step). s.row in
     let size : length (map row_of steps) ≡ length steps = length-map steps row_of in

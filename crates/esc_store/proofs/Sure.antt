@@ -15,7 +15,7 @@ use Rattle.esc_store.specs.declared.store.Store.{Store}
 use Rattle.esc_store.specs.Kept.{Kept}
 use Rattle.esc_store.specs.TypedRows.{IsBooks, IsRegistry}
 use Rattle.esc_store.specs.Tables.{IsStoreDatabase}
-use Rattle.esc_store.specs.Standing.{IsAtRest, IsStanding, IsGivenUp, IsSure, IsLook, IsAsBefore, Stands, IsHonest}
+use Rattle.esc_store.specs.Standing.{IsAtRest, IsStanding, IsGivenUp, IsSure, IsLook, IsAsBefore, IsTold, Stands, IsHonest}
 use Rattle.esc_store.proofs.Ends.{at_said, was_clean, keeps_then}
 use Rattle.esc_store.proofs.Parts.{look_is}
 
@@ -46,18 +46,12 @@ module _ {X E : Type 0} (old new : State) (P : Content → X → Type 0) (r : Re
           bad : {Q : Type 0} (e : E) → r ≡ Err e → OnErr r Q → Q
           bad e is h = rw is at h
 
-  pub record Told (k : Kept) (x : X) : Type 0 where
-    pub content : Content
-    pub books : IsBooks content k
-    pub registry : IsRegistry content k.registry
-    pub says : P content x
-
-  pub told : (m : List MRow) (k : Kept) (x : X) → r ≡ Ok x → HasCleanDisk new → IsStanding old m k → Told k x
+  pub told : (m : List MRow) (k : Kept) (x : X) → r ≡ Ok x → HasCleanDisk new → IsStanding old m k → IsTold k (λ c. P c x)
   told m k x is clean stands =
       let s = at_said r x _ is (sure.said clean) in
       let was = stands.rests (was_clean old new (λ trees. ⊥) sure.survives clean) s.1.0.was_open in
       let kept = subst (λ db. IsStoreDatabase db k) (sym was.same) was.kept in
-      record { content = content_in old.now.trees; books = kept.kept.books; registry = kept.kept.registry; says = s.0 (content_in old.now.trees) (record { schema_is = kept.schema; store = kept.kept.tables }) }
+      record { content = content_in old.now.trees; ordered = kept.kept.tables.ordered; books = kept.kept.books; registry = kept.kept.registry; says = s.0 (content_in old.now.trees) (record { schema_is = kept.schema; store = kept.kept.tables }) }
 
 module _ {S : Type 0} (g : Ghosts S) (old new : Store S) {X E : Type 0} (P : Content → X → Type 0) (r : Result X E) (manifest : new.manifest ≡ old.manifest) (writes : new.writes ≡ old.writes)
     (sure : IsSure (state g old.conn) (state g new.conn) (Tells P) r) where
@@ -65,6 +59,13 @@ module _ {S : Type 0} (g : Ghosts S) (old new : Store S) {X E : Type 0} (P : Con
   unfolding Stands
   as_before = record { manifest = manifest; writes = writes; survives = sure.survives; stands = λ k stands. subst (λ m. IsStanding (state g new.conn) m k) (sym manifest) (stands_sure (state g old.conn) (state g new.conn) P r sure old.manifest k stands) }
 
-  pub told_by : (k : Kept) (x : X) → r ≡ Ok x → IsHonest g new → Stands g old k → Told (state g old.conn) (state g new.conn) P r sure k x
+  pub told_by : (k : Kept) (x : X) → r ≡ Ok x → IsHonest g new → Stands g old k → IsTold k (λ c. P c x)
   unfolding Stands
   told_by k x is clean stands = told (state g old.conn) (state g new.conn) P r sure old.manifest k x is clean stands
+
+pub told_all : {S : Type 0} (g : Ghosts S) (old new : Store S) {X E : Type 0} (P : Content → X → Type 0) (r : Result X E) → new.manifest ≡ old.manifest → new.writes ≡ old.writes → IsSure (state g old.conn) (state g new.conn) (Tells P) r
+    → IfOk r (λ x. IsHonest g new → (k : Kept) → Stands g old k → IsTold k (λ c. P c x))
+told_all {S} g old new {X} {E} P r manifest writes sure = go r refl where
+  go : (y : Result X E) → r ≡ y → IfOk y (λ x. IsHonest g new → (k : Kept) → Stands g old k → IsTold k (λ c. P c x))
+  go (Ok x) is = λ honest k stands. told_by g old new P r manifest writes sure k x is honest stands
+  go (Err e) is = tt

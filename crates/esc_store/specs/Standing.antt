@@ -8,7 +8,7 @@ use Rattle.sqlite.specs.State.{State, HasCleanDisk, Survives, KeepsCommit, IsUnc
 use Rattle.esc_manifest.specs.declared.row.MRow.{MRow}
 use Rattle.esc_apply.specs.Registry.{State as Tables}
 use Rattle.esc_rows.specs.Schema.{store_schema}
-use Rattle.esc_rows.specs.Content.{content_in}
+use Rattle.esc_rows.specs.Content.{Content, IsInOrder, content_in}
 use Rattle.esc_store.specs.declared.store.Store.{Store}
 use Rattle.esc_store.specs.declared.change.Change.{Change}
 use Rattle.esc_store.specs.Kept.{Kept}
@@ -155,3 +155,11 @@ pub record IsSure {X E : Type 0} (old new : State) (Says : Database → X → Ty
   pub kept : HasCleanDisk new → KeepsCommit old new
   pub said : HasCleanDisk new → IfOk result (λ x. Says old.now x × IsUnchanged old new)
   pub failed : HasCleanDisk new → OnErr result ((new.in_transaction ≡ false) × (IsTrue new.is_open → new.now ≡ new.committed))
+
+-- rows that hold what a store keeps, of which this is said
+pub record IsTold (k : Kept) (Says : Content → Type 0) : Type 0 where
+  pub content : Content
+  pub ordered : IsInOrder content
+  pub books : IsBooks content k
+  pub registry : IsRegistry content k.registry
+  pub says : Says content

@@ -3,6 +3,7 @@
 
 mod books;
 mod change;
+mod decode;
 mod fault;
 mod form;
 mod images;
@@ -10,6 +11,7 @@ mod numbers;
 mod reads;
 mod registry;
 mod reply;
+mod seen;
 mod statements;
 mod store;
 

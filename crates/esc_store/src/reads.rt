@@ -5,6 +5,8 @@ ghost use Rattle.esc_apply.specs.Registry.{IsEntriesOf};
 ghost use Rattle.esc_store.specs.Kept.{Kept, kept_replies, kept_reply, kept_chain, AreHeld, AreCounts};
 ghost use Rattle.esc_store.specs.Standing.{Stands, IsHonest, IsAsBefore};
 
+use crate::books::small;
+use crate::decode::{indices_of, replies_of, reply_found, steps_of};
 use crate::fault::SFault;
 use crate::numbers::Number;
 use crate::reply::Reply;
@@ -20,22 +22,24 @@ impl<S: Alter> Store<S> {
     /// The reply that was kept for an arrival with this number and a body of this SHA-256. `S1`, `S2`.
     pub fn receipt_of(
         &mut self,
-        _alloc: Global,
-        _number: &Number<'_>,
-        _digest: &[u8; 32],
+        alloc: Global,
+        number: &Number<'_>,
+        digest: &[u8; 32],
     ) -> Result<Option<Reply>, SFault>
         ensures same { IsAsBefore S.Store self.old self.new }
-        ensures found { IsHonest S.Store self.new → (k : Kept) → Stands S.Store self.old k → IfOk result (λ reply. reply ≡ kept_reply k _number.now _digest.now) }
+        ensures found { IsHonest S.Store self.new → (k : Kept) → Stands S.Store self.old k → IfOk result (λ reply. reply ≡ kept_reply k number.now digest.now) }
     {
-        Err(SFault::S2)
+        let found = self.see_receipt(number.text(), digest)?;
+        reply_found(alloc, &self.manifest, found)
     }
 
     /// All replies that were kept, in order. `S1`, `S2`.
-    pub fn receipts(&mut self, _alloc: Global) -> Result<Vec<Reply>, SFault>
+    pub fn receipts(&mut self, alloc: Global) -> Result<Vec<Reply>, SFault>
         ensures same { IsAsBefore S.Store self.old self.new }
         ensures all { IsHonest S.Store self.new → (k : Kept) → Stands S.Store self.old k → IfOk result (λ replies. replies.items ≡ kept_replies k) }
     {
-        Err(SFault::S2)
+        let stored = self.see_receipts(alloc)?;
+        replies_of(alloc, &self.manifest, stored.as_slice())
     }
 
     /// How many receipts there are. `S1`, `S2`.
@@ -43,31 +47,35 @@ impl<S: Alter> Store<S> {
         ensures same { IsAsBefore S.Store self.old self.new }
         ensures count { IsHonest S.Store self.new → (k : Kept) → Stands S.Store self.old k → IfOk result (λ count. count ≡ length k.receipts) }
     {
-        Err(SFault::S2)
+        let last = self.see_last()?;
+        Ok(u64::from(last))
     }
 
     /// The body that is held of a row, from 0, if one is. `S1`, `S2`.
-    pub fn body_of(&mut self, _alloc: Global, _row: usize) -> Result<Option<Vec<u8>>, SFault>
+    pub fn body_of(&mut self, _alloc: Global, row: usize) -> Result<Option<Vec<u8>>, SFault>
         ensures same { IsAsBefore S.Store self.old self.new }
-        ensures found { IsHonest S.Store self.new → (k : Kept) → Stands S.Store self.old k → IfOk result (λ body. option_map (λ b. b.items) body ≡ k.bodies _row) }
+        ensures found { IsHonest S.Store self.new → (k : Kept) → Stands S.Store self.old k → IfOk result (λ body. option_map (λ b. b.items) body ≡ k.bodies row) }
     {
-        Err(SFault::S2)
+        let row = small(row)?;
+        self.see_body(row)
     }
 
     /// The rows of which a body is held, from 0, rising. `S1`, `S2`.
-    pub fn held(&mut self, _alloc: Global) -> Result<Vec<usize>, SFault>
+    pub fn held(&mut self, alloc: Global) -> Result<Vec<usize>, SFault>
         ensures same { IsAsBefore S.Store self.old self.new }
         ensures rows { IsHonest S.Store self.new → (k : Kept) → Stands S.Store self.old k → IfOk result (λ rows. AreHeld k.bodies rows.items) }
     {
-        Err(SFault::S2)
+        let rows = self.see_held(alloc)?;
+        indices_of(alloc, rows.as_slice())
     }
 
     /// The steps of the chain, in order. `S1`, `S2`.
-    pub fn chain(&mut self, _alloc: Global) -> Result<Vec<Step>, SFault>
+    pub fn chain(&mut self, alloc: Global) -> Result<Vec<Step>, SFault>
         ensures same { IsAsBefore S.Store self.old self.new }
         ensures steps { IsHonest S.Store self.new → (k : Kept) → Stands S.Store self.old k → IfOk result (λ steps. steps.items ≡ kept_chain k) }
     {
-        Err(SFault::S2)
+        let stored = self.see_steps(alloc)?;
+        steps_of(alloc, &self.manifest, stored.as_slice())
     }
 
     /// The objects of the chain's tables. `S1`, `S2`.

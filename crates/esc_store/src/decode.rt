@@ -1,0 +1,174 @@
+//! From the rows of the tables to replies and steps.
+
+ghost use Rattle.std.specs.Prelude.{◌≡◌, ℕ, List, Option, Bool, Some, map, option_map, string_bytes, IfOk, IfSome};
+ghost use Rattle.esc_manifest.specs.Rows.{id_at, resend_at};
+ghost use Rattle.esc_rows.specs.Changes.{receipt_of};
+ghost use Rattle.esc_rows.specs.Entries.{receipt_row, step_row};
+ghost use Rattle.esc_store.specs.declared.reply.Verdict.{Verdict as verdict};
+ghost use Rattle.esc_store.specs.Kept.{step_at};
+ghost use Rattle.esc_store.specs.ReplyValue.{ReceiptValue, reply_kept, reply_alike, replies_from};
+ghost use Rattle.esc_store.specs.TypedRows.{verdict_number, fault_number, bit, receipt_row as row_of, receipts_from, steps_from};
+
+use crate::fault::SFault;
+use crate::reply::{Reply, Verdict};
+use esc_apply::Step;
+use esc_manifest::Manifest;
+use esc_rows::receipt::Receipt as StoredReceipt;
+use esc_rows::step::ChainStep;
+use std::alloc::Global;
+
+// The verdict that two numbers stand for.
+fn verdict_of(number: u32, fault: Option<u32>) -> Result<Verdict, SFault>
+    ensures { IfOk result (λ v. (w : verdict) → number ≡ verdict_number w → fault ≡ fault_number w → v ≡ w) }
+{
+    match (number, fault) {
+        (1, None) => Ok(Verdict::A1),
+        (2, None) => Ok(Verdict::A2),
+        (4, None) => Ok(Verdict::A4),
+        (3, Some(fault)) => match u8::try_from(fault) {
+            Ok(fault) => Ok(Verdict::A3(fault)),
+            Err(_) => Err(SFault::S1),
+        },
+        _ => Err(SFault::S1),
+    }
+}
+
+// What a bit stands for.
+fn again_of(again: Option<u32>) -> Result<Option<bool>, SFault>
+    ensures { IfOk result (λ a. (b : Option Bool) → again ≡ option_map bit b → a ≡ b) }
+{
+    match again {
+        Some(1) => Ok(Some(true)),
+        Some(0) => Ok(Some(false)),
+        None => Ok(None),
+        _ => Err(SFault::S1),
+    }
+}
+
+// A count of 64 bits.
+fn count_of(count: Option<u32>) -> Option<u64>
+    ensures { result ≡ count }
+{
+    match count {
+        Some(count) => Some(u64::from(count)),
+        None => None,
+    }
+}
+
+// Id and resend of a row of the manifest, if there is one.
+fn listed_of(
+    alloc: Global,
+    manifest: &Manifest,
+    row: Option<u32>,
+) -> Result<(Option<String>, Option<u32>), SFault>
+    ensures { IfOk result (λ p. (option_map string_bytes p.0 ≡ option_map (id_at manifest.now) row) × (p.1 ≡ option_map (resend_at manifest.now) row)) }
+{
+    let Some(row) = row else {
+        return Ok((None, None));
+    };
+    let rows = manifest.rows();
+    let at = row as usize;
+    if at >= rows.len() {
+        return Err(SFault::S1);
+    }
+    let listed = &rows[at].header;
+    let id = String::from_str(alloc, listed.id.as_str())?;
+    Ok((Some(id), Some(listed.resend)))
+}
+
+// The reply that a row of the table of receipts is of.
+pub(crate) fn reply_of(
+    alloc: Global,
+    manifest: &Manifest,
+    stored: &StoredReceipt,
+) -> Result<Reply, SFault>
+    ensures { IfOk result (λ reply. (n : ℕ) (r : ReceiptValue) → receipt_row stored.now ≡ row_of n r → reply ≡ reply_kept manifest.now n r) }
+{
+    let number = String::from_str(alloc, stored.number.as_str())?;
+    let verdict = verdict_of(stored.verdict, stored.fault)?;
+    let again = again_of(stored.again)?;
+    let (id, resend) = listed_of(alloc, manifest, stored.row)?;
+    Ok(Reply {
+        receipt: u64::from(stored.receipt),
+        number,
+        verdict,
+        id,
+        resend,
+        again,
+        orphans: count_of(stored.orphans),
+    })
+}
+
+// The reply of the row that was found for an arrival.
+pub(crate) fn reply_found(
+    alloc: Global,
+    manifest: &Manifest,
+    found: Option<StoredReceipt>,
+) -> Result<Option<Reply>, SFault>
+    ensures { IfOk result (λ reply. (rs : List ReceiptValue) (number digest : List ℕ) → option_map receipt_row found ≡ receipt_of number digest (receipts_from 1 rs) → reply ≡ reply_alike manifest.now 1 number digest rs) }
+{
+    match found {
+        Some(stored) => Ok(Some(reply_of(alloc, manifest, &stored)?)),
+        None => Ok(None),
+    }
+}
+
+// The replies of all rows of the table of receipts.
+pub(crate) fn replies_of(
+    alloc: Global,
+    manifest: &Manifest,
+    stored: &[StoredReceipt],
+) -> Result<Vec<Reply>, SFault>
+    ensures { IfOk result (λ replies. (rs : List ReceiptValue) → map receipt_row stored.now ≡ receipts_from 1 rs → replies.items ≡ replies_from manifest.now 1 rs) }
+{
+    let mut replies = Vec::new(alloc);
+    for at in 0..stored.len() {
+        let reply = reply_of(alloc, manifest, &stored[at])?;
+        replies.push(reply)?;
+    }
+    Ok(replies)
+}
+
+// The step that a row of the table of steps is of.
+fn step_of(manifest: &Manifest, stored: ChainStep) -> Result<Step, SFault>
+    ensures { IfOk result (λ step. step ≡ step_at manifest.now stored.row) }
+{
+    let rows = manifest.rows();
+    let row = stored.row as usize;
+    if row >= rows.len() {
+        return Err(SFault::S1);
+    }
+    let listed = &rows[row].header;
+    Ok(Step {
+        row,
+        place: listed.place,
+        resend: listed.resend,
+    })
+}
+
+// The steps of all rows of the table of steps.
+pub(crate) fn steps_of(
+    alloc: Global,
+    manifest: &Manifest,
+    stored: &[ChainStep],
+) -> Result<Vec<Step>, SFault>
+    ensures { IfOk result (λ steps. (rows : List ℕ) → map step_row stored.now ≡ steps_from 1 rows → steps.items ≡ map (step_at manifest.now) rows) }
+{
+    let mut steps = Vec::new(alloc);
+    for at in 0..stored.len() {
+        let step = step_of(manifest, stored[at])?;
+        steps.push(step)?;
+    }
+    Ok(steps)
+}
+
+// Numbers of 32 bits as row indices.
+pub(crate) fn indices_of(alloc: Global, numbers: &[u32]) -> Result<Vec<usize>, SFault>
+    ensures { IfOk result (λ rows. rows.items ≡ numbers.now) }
+{
+    let mut rows = Vec::with_capacity(alloc, numbers.len())?;
+    for number in numbers {
+        rows.push(*number as usize)?;
+    }
+    Ok(rows)
+}

@@ -1,0 +1,85 @@
+//! What the tables say of what a store keeps.
+
+ghost use Rattle.std.specs.Prelude.{◌≡◌, map, option_map, IfOk};
+ghost use Rattle.esc_rows.specs.Changes.{ListsObjects, ListsKinds, last_number, receipt_of, body_of};
+ghost use Rattle.esc_rows.specs.Entries.{receipt_row, step_row, object_of};
+ghost use Rattle.esc_store.specs.Kept.{Kept};
+ghost use Rattle.esc_store.specs.Standing.{Stands, IsHonest, IsAsBefore, IsTold};
+
+use crate::fault::SFault;
+use crate::store::Store;
+use esc_rows::object::StoredObject;
+use esc_rows::receipt::Receipt;
+use esc_rows::step::ChainStep;
+use sqlite::Alter;
+use std::alloc::Global;
+
+impl<S: Alter> Store<S> {
+    // All receipts.
+    pub(crate) fn see_receipts(&mut self, alloc: Global) -> Result<Vec<Receipt>, SFault>
+        ensures same { IsAsBefore S.Store self.old self.new }
+        ensures told { IfOk result (λ found. IsHonest S.Store self.new → (k : Kept) → Stands S.Store self.old k → IsTold k (λ c. map receipt_row found.items ≡ c.receipts)) }
+    {
+        self.receipts_here(alloc)
+    }
+
+    // The receipt of an arrival.
+    pub(crate) fn see_receipt(
+        &mut self,
+        number: &str,
+        digest: &[u8],
+    ) -> Result<Option<Receipt>, SFault>
+        ensures same { IsAsBefore S.Store self.old self.new }
+        ensures told { IfOk result (λ found. IsHonest S.Store self.new → (k : Kept) → Stands S.Store self.old k → IsTold k (λ c. option_map receipt_row found ≡ receipt_of number.now digest.now c.receipts)) }
+    {
+        self.receipt_here(number, digest)
+    }
+
+    // The number of the last receipt, or 0.
+    pub(crate) fn see_last(&mut self) -> Result<u32, SFault>
+        ensures same { IsAsBefore S.Store self.old self.new }
+        ensures told { IfOk result (λ found. IsHonest S.Store self.new → (k : Kept) → Stands S.Store self.old k → IsTold k (λ c. found ≡ last_number c.receipts)) }
+    {
+        self.last_here()
+    }
+
+    // The body of a row.
+    pub(crate) fn see_body(&mut self, row: u32) -> Result<Option<Vec<u8>>, SFault>
+        ensures same { IsAsBefore S.Store self.old self.new }
+        ensures told { IfOk result (λ found. IsHonest S.Store self.new → (k : Kept) → Stands S.Store self.old k → IsTold k (λ c. option_map (λ b. b.items) found ≡ body_of row c.held)) }
+    {
+        self.body_here(row)
+    }
+
+    // The rows that are held.
+    pub(crate) fn see_held(&mut self, alloc: Global) -> Result<Vec<u32>, SFault>
+        ensures same { IsAsBefore S.Store self.old self.new }
+        ensures told { IfOk result (λ found. IsHonest S.Store self.new → (k : Kept) → Stands S.Store self.old k → IsTold k (λ c. found.items ≡ map (λ h. h.row) c.held)) }
+    {
+        self.held_here(alloc)
+    }
+
+    // The steps of the chain.
+    pub(crate) fn see_steps(&mut self, alloc: Global) -> Result<Vec<ChainStep>, SFault>
+        ensures same { IsAsBefore S.Store self.old self.new }
+        ensures told { IfOk result (λ found. IsHonest S.Store self.new → (k : Kept) → Stands S.Store self.old k → IsTold k (λ c. map step_row found.items ≡ c.steps)) }
+    {
+        self.steps_here(alloc)
+    }
+
+    // All records.
+    pub(crate) fn see_objects(&mut self, alloc: Global) -> Result<Vec<StoredObject>, SFault>
+        ensures same { IsAsBefore S.Store self.old self.new }
+        ensures told { IfOk result (λ found. IsHonest S.Store self.new → (k : Kept) → Stands S.Store self.old k → IsTold k (λ c. ListsObjects c (map object_of found.items))) }
+    {
+        self.objects_here(alloc)
+    }
+
+    // The kind of each record.
+    pub(crate) fn see_kinds(&mut self, alloc: Global) -> Result<Vec<u32>, SFault>
+        ensures same { IsAsBefore S.Store self.old self.new }
+        ensures told { IfOk result (λ found. IsHonest S.Store self.new → (k : Kept) → Stands S.Store self.old k → IsTold k (λ c. ListsKinds c found.items)) }
+    {
+        self.kinds_here(alloc)
+    }
+}
