@@ -1,0 +1,6 @@
+pub mod AnswerLemmas
+pub mod BodyLemmas
+pub mod HeadLemmas
+pub mod LengthLemmas
+pub mod Pieces
+pub mod RouteLemmas
