@@ -8,6 +8,7 @@ mod fault;
 mod form;
 mod images;
 mod numbers;
+mod objects;
 mod reads;
 mod registry;
 mod reply;
