@@ -1,4 +1,5 @@
 pub mod AllHeld
+pub mod AtFirst
 pub mod Distinct
 pub mod FrontLemmas
 pub mod HeldRows
