@@ -84,35 +84,48 @@ this_kind q kind f is =
 key_test : (q : KeyName) (o : ObjectRow) (kind : Kind) → (o.kind == kind_rank kind) ≡ true → key_eq q (name kind o) ≡ is_object_at (kind_rank q.kind) q.text o
 key_test q o kind of = keys_alike.symm q (name kind o) ∙ (same_tests (name kind o) q ∙ ap (λ n. (n == kind_rank q.kind) && bytes_eq o.key q.text) (sym (eqb-true o.kind (kind_rank kind) of)))
 
-never : {X Y : Type 0} (o : Option X) → option_and_then (λ (x : X). None {T = Y}) o ≡ None
-never None = refl
-never (Some x) = refl
+never : {X Y : Type 0} (f : X → Option Y) (o : Option X) → ((x : X) → f x ≡ None) → option_and_then f o ≡ None
+never f None nothing = refl
+never f (Some x) nothing = nothing x
 
-there : (f : Objects) (kind : Kind) (q : KeyName) (os : List ObjectRow) → lookup (key_eq q) (entries_in f kind os) ≡ option_and_then (λ (o : ObjectRow). of_kind kind f q) (find (is_object_at (kind_rank q.kind) q.text) os)
+-- of a key the rows of a kind have the object that the content has, if there is a row of that key
+abbrev IsAmong : Objects → Kind → KeyName → List ObjectRow → List (KeyName × ObjectValue) → Type 0
+IsAmong f kind q os es = lookup (key_eq q) es ≡ option_and_then (λ (o : ObjectRow). of_kind kind f q) (find (is_object_at (kind_rank q.kind) q.text) os)
+
+-- where nothing is picked of a row
+passed : (f : Objects) (kind : Kind) (q : KeyName) (o : ObjectRow) (os : List ObjectRow) (es : List (KeyName × ObjectValue)) → (is_object_at (kind_rank q.kind) q.text o ≡ true → of_kind kind f q ≡ None) → IsAmong f kind q os es → IsAmong f kind q (o ∷ os) es
+passed f kind q o os es nothing more = elim (cases_Bool (is_object_at (kind_rank q.kind) q.text o)) [
+  | inl is ↦ rw is (more ∙ (never (λ (x : ObjectRow). of_kind kind f q) (find (is_object_at (kind_rank q.kind) q.text) os) (λ x. nothing is) ∙ sym (nothing is)))
+  | inr other ↦ rw other more
+]
+
+-- where an object is picked of a row
+taken_up : (f : Objects) (kind : Kind) (q : KeyName) (o : ObjectRow) (os : List ObjectRow) (es : List (KeyName × ObjectValue)) (x : ObjectValue) → (o.kind == kind_rank kind) ≡ true → (is_object_at (kind_rank q.kind) q.text o ≡ true → of_kind kind f q ≡ Some x) → IsAmong f kind q os es
+    → IsAmong f kind q (o ∷ os) ((name kind o, x) ∷ es)
+taken_up f kind q o os es x of here more = elim (cases_Bool (is_object_at (kind_rank q.kind) q.text o)) [
+  | inl is ↦ rw (key_test q o kind of, is) (sym (here is))
+  | inr other ↦ rw (key_test q o kind of, other) more
+]
+
+there : (f : Objects) (kind : Kind) (q : KeyName) (os : List ObjectRow) → IsAmong f kind q os (entries_in f kind os)
 there f kind q [] = refl
-there f kind q (o ∷ os) = by_kind (o.kind == kind_rank kind) refl where
-  more : lookup (key_eq q) (entries_in f kind os) ≡ option_and_then (λ (o : ObjectRow). of_kind kind f q) (find (is_object_at (kind_rank q.kind) q.text) os)
-  more = there f kind q os
+there f kind q (o ∷ os) = by_kind (o.kind == kind_rank kind) (f (name kind o)) refl refl (there f kind q os) where
+  here : (o.kind == kind_rank kind) ≡ true → is_object_at (kind_rank q.kind) q.text o ≡ true → of_kind kind f q ≡ f (name kind o)
+  here of is = let same = key_there q o kind of is in this_kind q kind f (ap (λ (k : KeyName). k.kind) (sym same)) ∙ ap f (sym same)
 
-  -- where nothing is picked
-  passed : ((is_object_at (kind_rank q.kind) q.text o) ≡ true → of_kind kind f q ≡ None) → lookup (key_eq q) (entries_in f kind os) ≡ option_and_then (λ (o : ObjectRow). of_kind kind f q) (find (is_object_at (kind_rank q.kind) q.text) (o ∷ os))
-  passed nothing = elim (cases_Bool (is_object_at (kind_rank q.kind) q.text o)) [
-    | inl is ↦ rw is (more ∙ (ap (λ x. option_and_then (λ (o : ObjectRow). x) (find (is_object_at (kind_rank q.kind) q.text) os)) (nothing is) ∙ (never (find (is_object_at (kind_rank q.kind) q.text) os) ∙ sym (nothing is))))
-    | inr other ↦ rw other more
+  by_kind : (b : Bool) (x : Option ObjectValue) → (o.kind == kind_rank kind) ≡ b → f (name kind o) ≡ x → IsAmong f kind q os (entries_in f kind os) → IsAmong f kind q (o ∷ os) (picked (name kind o) b x (entries_in f kind os))
+  by_kind false x other is more = passed f kind q o os (entries_in f kind os) (λ there. other_kind q o kind f other there) more
+  by_kind true None of none more = passed f kind q o os (entries_in f kind os) (λ there. here of there ∙ none) more
+  by_kind true (Some x) of some more = taken_up f kind q o os (entries_in f kind os) x of (λ there. here of there ∙ some) more
+
+bytes_turned : (p q : List ℕ) → bytes_eq p q ≡ bytes_eq q p
+bytes_turned p q = elim (cases_Bool (bytes_eq p q)) [
+  | inl is ↦ is ∙ sym ((bytes_eq-Decides q p).1 (sym ((bytes_eq-Decides p q).0 is)))
+  | inr other ↦ elim (cases_Bool (bytes_eq q p)) [
+    | inl is ↦ (let e : true ≡ false = sym ((bytes_eq-Decides p q).1 (sym ((bytes_eq-Decides q p).0 is))) ∙ other in absurd cc)
+    | inr also ↦ other ∙ sym also
   ]
-
-  by_kind : (b : Bool) → (o.kind == kind_rank kind) ≡ b → lookup (key_eq q) (entries_in f kind (o ∷ os)) ≡ option_and_then (λ (o : ObjectRow). of_kind kind f q) (find (is_object_at (kind_rank q.kind) q.text) (o ∷ os))
-  by_kind false other = rw other (passed (λ is. other_kind q o kind f other is))
-  by_kind true of = by_content (f (name kind o)) refl where
-    here : (is_object_at (kind_rank q.kind) q.text o) ≡ true → of_kind kind f q ≡ f (name kind o)
-    here is = let same = key_there q o kind of is in this_kind q kind f (ap (λ (k : KeyName). k.kind) (sym same)) ∙ ap f (sym same)
-
-    by_content : (x : Option ObjectValue) → f (name kind o) ≡ x → lookup (key_eq q) (entries_in f kind (o ∷ os)) ≡ option_and_then (λ (o : ObjectRow). of_kind kind f q) (find (is_object_at (kind_rank q.kind) q.text) (o ∷ os))
-    by_content None none = rw (of, none) (passed (λ is. here is ∙ none))
-    by_content (Some x) some = rw (of, some) (elim (cases_Bool (is_object_at (kind_rank q.kind) q.text o)) [
-      | inl is ↦ rw (key_test q o kind of, is) (sym (here is ∙ some))
-      | inr other ↦ rw (key_test q o kind of, other) more
-    ])
+]
 
 -- ---- each once
 
@@ -126,15 +139,6 @@ apart_from f kind a (b ∷ os) of all = go (b.kind == kind_rank kind) (f (name k
         let kinds : a.kind ≡ b.kind = eqb-true a.kind (kind_rank kind) of ∙ sym (eqb-true b.kind (kind_rank kind) also) in
         rw kinds (ap (λ t. (b.kind == b.kind) && t) (bytes_turned b.key a.key))
 
-    bytes_turned : (p q : List ℕ) → bytes_eq p q ≡ bytes_eq q p
-    bytes_turned p q = elim (cases_Bool (bytes_eq p q)) [
-      | inl is ↦ is ∙ sym ((bytes_eq-Decides q p).1 (sym ((bytes_eq-Decides p q).0 is)))
-      | inr other ↦ elim (cases_Bool (bytes_eq q p)) [
-        | inl is ↦ (let e : true ≡ false = sym ((bytes_eq-Decides p q).1 (sym ((bytes_eq-Decides q p).0 is))) ∙ other in absurd cc)
-        | inr also ↦ other ∙ sym also
-      ]
-    ]
-
   go : (t : Bool) (x : Option ObjectValue) → (b.kind == kind_rank kind) ≡ t → AllByRecursion (λ y. key_eq (name kind a) y ≡ false) (keys_of (entries_in f kind os)) → AllByRecursion (λ y. key_eq (name kind a) y ≡ false) (keys_of (picked (name kind b) t x (entries_in f kind os)))
   go true (Some x) also more = (other also, more)
   go true None also more = more
@@ -145,7 +149,6 @@ unfolding IsDistinct
 once_each f kind [] up = tt
 once_each f kind (o ∷ os) up = go (o.kind == kind_rank kind) (f (name kind o)) refl (once_each f kind os up.1) where
   go : (t : Bool) (x : Option ObjectValue) → (o.kind == kind_rank kind) ≡ t → IsDistinct key_eq (keys_of (entries_in f kind os)) → IsDistinct key_eq (keys_of (picked (name kind o) t x (entries_in f kind os)))
-  unfolding IsDistinct
   go true (Some x) of more = (apart_from f kind o os of up.0, more)
   go true None of more = more
   go false x of more = more
@@ -199,7 +202,7 @@ has_size c s kind numbers it lists up = (
 pub are_counts : (c : Content) (s : State) (numbers : List ℕ) (counts : List (Kind × ℕ)) → IsRegistry c s → ListsKinds c numbers → HaveOwnKeys c.objects → counts ≡ tallies numbers → AreCounts s.content counts
 are_counts c s numbers counts it lists up is = subst (AreCounts s.content) (sym is) (record {
   kinds = refl;
-  each = All-from_recursion (λ (n : Kind × ℕ). HasSize (of_kind n.0 s.content) n.1) (tallies numbers) (sized Registrar, sized Contact, sized Host, sized Domain, sized Idn, sized Nndn, tt);
+  each = All-from_recursion (λ (n : Kind × ℕ). HasSize (of_kind n.0 s.content) n.1) (tallies numbers) (sized Registrar, (sized Contact, (sized Host, (sized Domain, (sized Idn, (sized Nndn, tt))))));
 }) where
   sized : (kind : Kind) → HasSize (of_kind kind s.content) (times kind numbers)
   sized kind = has_size c s kind numbers it lists up

@@ -35,6 +35,14 @@ HaveOwnKeys = IsAscending (λ a b. is_object_at b.kind b.key a ≡ false)
 abbrev pub times : Kind → List ℕ → ℕ
 times kind numbers = length (filter (λ n. n == kind_rank kind) numbers)
 
+-- the kinds in their order
+abbrev pub all_kinds : List Kind
+all_kinds = Registrar ∷ Contact ∷ Host ∷ Domain ∷ Idn ∷ Nndn ∷ []
+
+-- kinds, each with how often its number stands among these
+abbrev pub tallies_of : List Kind → List ℕ → List (Kind × ℕ)
+tallies_of kinds numbers = map (λ kind. (kind, times kind numbers)) kinds
+
 -- the kinds in their order, each with how often its number stands among these
 abbrev pub tallies : List ℕ → List (Kind × ℕ)
-tallies numbers = map (λ kind. (kind, times kind numbers)) (Registrar ∷ Contact ∷ Host ∷ Domain ∷ Idn ∷ Nndn ∷ [])
+tallies = tallies_of all_kinds
