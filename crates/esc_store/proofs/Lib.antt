@@ -2,6 +2,7 @@ pub mod RowSteps
 pub mod Decoding
 pub mod Ends
 pub mod Following
+pub mod Gathering
 pub mod FoundingLemmas
 pub mod Looking
 pub mod Manifests

@@ -42,16 +42,23 @@ pub(crate) fn record_bytes(alloc: Global, o: &Object) -> Result<Vec<u8>, SFault>
     }
 }
 
+// The object of a record. `S1` where the bytes are no record; `S2`.
+pub(crate) fn record_object(alloc: Global, bytes: &[u8]) -> Result<Object, SFault>
+    ensures { IfOk result (λ object. record_of object ≡ Some bytes.now) }
+{
+    match read_record(alloc, bytes)? {
+        Some(object) => Ok(object),
+        None => Err(SFault::S1),
+    }
+}
+
 // The object that a record is of, if there is one. `S1` where the bytes are no record; `S2`.
 pub(crate) fn object_in(alloc: Global, found: Option<Vec<u8>>) -> Result<Option<Object>, SFault>
     ensures { IfOk result (λ object. (o : _) → option_map (λ b. b.items) found ≡ option_and_then record_of o → IfSome o (λ x. IsSome (record_of x)) → object ≡ o) }
 {
-    let Some(record) = found else {
-        return Ok(None);
-    };
-    match read_record(alloc, record.as_slice())? {
-        Some(object) => Ok(Some(object)),
-        None => Err(SFault::S1),
+    match found {
+        Some(record) => Ok(Some(record_object(alloc, record.as_slice())?)),
+        None => Ok(None),
     }
 }
 

@@ -10,6 +10,7 @@ mod founding;
 mod images;
 mod listing;
 mod numbers;
+mod objects;
 mod opening;
 mod reads;
 mod registry;

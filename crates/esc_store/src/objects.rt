@@ -1,0 +1,91 @@
+//! From the rows of the tables to objects and before-images by their keys.
+
+ghost use Rattle.std.specs.Prelude.{◌≡◌, [], ◌∷◌, ◌++◌, Some, None, if◌then◌else◌, map, option_map, IfOk, OnOk};
+ghost use Rattle.std.specs.List.{IsDistinct};
+ghost use Rattle.std.specs.Map.{lookup, keys_of};
+ghost use Rattle.std.specs.BTreeMap.{IsOrdered};
+ghost use Rattle.esc_envelope.specs.Kinds.{kind_rank};
+ghost use Rattle.esc_tables.specs.KeyName.{KeyName, key_cmp, key_eq};
+ghost use Rattle.esc_record.specs.Record.{record_of};
+ghost use Rattle.esc_rows.specs.Entries.{object_of, image_of};
+ghost use Rattle.esc_store.specs.Decoded.{AreObjectsOf, AreImagesOf};
+
+use crate::fault::SFault;
+use crate::images::record_object;
+use esc_envelope::Kind;
+use esc_rows::object::StoredObject;
+use esc_tables::{Key, Object};
+use std::alloc::Global;
+use std::collections::BTreeMap;
+
+// The kind that a number in the tables is for. `S1` where it is for none.
+fn kind_of(number: u32) -> Result<Kind, SFault>
+    ensures { IfOk result (λ kind. number ≡ kind_rank kind) }
+{
+    match number {
+        0 => Ok(Kind::Registrar),
+        1 => Ok(Kind::Contact),
+        2 => Ok(Kind::Host),
+        3 => Ok(Kind::Domain),
+        4 => Ok(Kind::Idn),
+        5 => Ok(Kind::Nndn),
+        _ => Err(SFault::S1),
+    }
+}
+
+// The key of a kind's number and a text's bytes. `S1` where they are of none; `S2`.
+fn key_of(alloc: Global, kind: u32, text: &[u8]) -> Result<Key, SFault>
+    ensures kind { IfOk result (λ key. kind ≡ kind_rank key.kind) }
+    ensures text { IfOk result (λ key. text.now ≡ key.text) }
+{
+    let kind = kind_of(kind)?;
+    match str::from_utf8(text) {
+        Ok(text) => Ok(Key {
+            kind,
+            text: String::from_str(alloc, text)?,
+        }),
+        Err(_) => Err(SFault::S1),
+    }
+}
+
+// Adds what stands at a key. `S1` where something stands there, since a key has one row at most; `S2`.
+fn add_new<X: Drop>(all: &mut BTreeMap<Key, X>, key: Key, value: X) -> Result<(), SFault>
+    ensures absent { OnOk result (lookup (key_eq key) all.old.entries ≡ None) }
+    ensures added { OnOk result ((q : KeyName) → lookup (key_eq q) all.new.entries ≡ (if key_eq key q then Some value else lookup (key_eq q) all.old.entries)) }
+    ensures ordered { IsOrdered key_cmp all.new }
+{
+    match all.insert(key, value) {
+        Ok(None) => Ok(()),
+        Ok(Some(_)) => Err(SFault::S1),
+        Err(_) => Err(SFault::S2),
+    }
+}
+
+// Adds the object of a row.
+fn add_object(
+    alloc: Global,
+    objects: &mut BTreeMap<Key, Object>,
+    stored: &StoredObject,
+) -> Result<(), SFault>
+    ensures added { OnOk result ((rows : _) → AreObjectsOf rows objects.old.entries → AreObjectsOf (rows ++ object_of stored.now ∷ []) objects.new.entries) }
+    ensures ordered { OnOk result (IsOrdered key_cmp objects.new) }
+{
+    let key = key_of(alloc, stored.kind, stored.key.as_slice())?;
+    let object = record_object(alloc, stored.record.as_slice())?;
+    add_new(objects, key, object)
+}
+
+// The objects of all rows of the table of objects. `S1` where they are of none; `S2`.
+pub(crate) fn objects_of(
+    alloc: Global,
+    stored: &[StoredObject],
+) -> Result<BTreeMap<Key, Object>, SFault>
+    ensures once { IfOk result (λ objects. IsDistinct key_eq (keys_of objects.entries)) }
+    ensures each { IfOk result (λ objects. AreObjectsOf (map object_of stored.now) objects.entries) }
+{
+    let mut objects = BTreeMap::new(alloc);
+    for at in 0..stored.len() {
+        add_object(alloc, &mut objects, &stored[at])?;
+    }
+    Ok(objects)
+}
