@@ -3,6 +3,7 @@
 
 mod books;
 mod change;
+mod counts;
 mod decode;
 mod fault;
 mod form;
@@ -25,3 +26,6 @@ pub use form::number;
 pub use numbers::{N1, Number};
 pub use reply::{Receipt, Reply, Verdict};
 pub use store::Store;
+
+#[cfg(test)]
+mod tests;
