@@ -11,3 +11,4 @@ pub mod RunLemmas
 pub mod Searches
 pub mod StoreFacts
 pub mod TakingIn
+pub mod Working

@@ -1,7 +1,9 @@
+pub mod Counting
 pub mod RowSteps
 pub mod Decoding
 pub mod Ends
 pub mod Following
+pub mod Gathering
 pub mod FoundingLemmas
 pub mod Looking
 pub mod Manifests

@@ -93,7 +93,7 @@ itself k =
     let b : bytes_eq k.text k.text ≡ true = (bytes_eq-Decides k.text k.text).1 refl in
     rw (a, b) refl
 
-same_tests : (k q : KeyName) → key_eq k q ≡ is_same_key (kind_rank k.kind) k.text (kind_rank q.kind) q.text
+pub same_tests : (k q : KeyName) → key_eq k q ≡ is_same_key (kind_rank k.kind) k.text (kind_rank q.kind) q.text
 same_tests k q = elim (cases_Bool (key_eq k q)) [
   | inl is ↦ is ∙ sym (subst (λ (x : KeyName). is_same_key (kind_rank k.kind) k.text (kind_rank x.kind) x.text ≡ true) (same_key k q is) (itself k))
   | inr other ↦ elim (cases_Bool (is_same_key (kind_rank k.kind) k.text (kind_rank q.kind) q.text)) [

@@ -3,6 +3,7 @@
 
 mod books;
 mod change;
+mod counts;
 mod decode;
 mod fault;
 mod form;
@@ -10,6 +11,7 @@ mod founding;
 mod images;
 mod listing;
 mod numbers;
+mod objects;
 mod opening;
 mod reads;
 mod registry;
@@ -24,3 +26,6 @@ pub use form::number;
 pub use numbers::{N1, Number};
 pub use reply::{Receipt, Reply, Verdict};
 pub use store::Store;
+
+#[cfg(test)]
+mod tests;
