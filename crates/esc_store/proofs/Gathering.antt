@@ -10,13 +10,13 @@ use Rattle.esc_envelope.specs.Kinds.{kind_rank}
 use Rattle.esc_tables.specs.KeyName.{KeyName, key_eq}
 use Rattle.esc_tables.specs.ObjectValue.{ObjectValue}
 use Rattle.esc_record.specs.Record.{record_of}
-use Rattle.esc_apply.specs.Registry.{State, IsEntriesOf}
+use Rattle.esc_apply.specs.Registry.{State, Befores, IsEntriesOf}
 use Rattle.esc_apply.specs.Registry.{Content as Objects}
 use Rattle.esc_apply.proofs.Keys.{same_key}
 use Rattle.esc_rows.specs.Content.{Content}
-use Rattle.esc_rows.specs.Changes.{ObjectEntry, ListsObjects, is_entry_at}
-use Rattle.esc_store.specs.Decoded.{AreObjectsOf}
-use Rattle.esc_store.specs.TypedRows.{record_at, IsRegistry}
+use Rattle.esc_rows.specs.Changes.{ObjectEntry, ImageEntry, ListsObjects, ListsImages, is_entry_at, is_image_entry_at}
+use Rattle.esc_store.specs.Decoded.{AreObjectsOf, AreImagesOf, AreNotes}
+use Rattle.esc_store.specs.TypedRows.{record_at, image_kept, IsRegistry}
 use Rattle.esc_store.proofs.Registries.{kind_back, same_tests, one_object}
 
 -- ---- one row more
@@ -78,11 +78,43 @@ same_records (Some x) (Some y) e has = by_record (record_of y) refl e where
   by_record (Some bytes) is e = one_object x bytes (Some y) (some_same (record_of x) (Some bytes) e) (sym is)
 
 -- the record at a key's own number and bytes
-record_here : (f : Objects) (q : KeyName) → record_at f (kind_rank q.kind) q.text ≡ option_and_then record_of (f q)
+pub record_here : (f : Objects) (q : KeyName) → record_at f (kind_rank q.kind) q.text ≡ option_and_then record_of (f q)
 record_here f q = ap (λ o. option_and_then record_of (option_and_then (λ (kind : Kind). f (record { kind = kind; text = q.text })) o)) (kind_back q.kind)
 
 pub tables_are : (s : State) (c : Content) (rows : List ObjectEntry) (es : List (KeyName × ObjectValue)) → IsRegistry c s → ListsObjects c rows → IsDistinct key_eq (keys_of es) → AreObjectsOf rows es → IsEntriesOf s.content es
 tables_are s c rows es it lists once each = record {
   once = once;
   each = λ q. same_records (lookup (key_eq q) es) (s.content q) (each q ∙ ap (option_map (λ bytes. Some bytes)) (lists.same (kind_rank q.kind) q.text ∙ (it.objects (kind_rank q.kind) q.text ∙ record_here s.content q))) (it.recorded q);
+}
+
+-- ---- before-images
+
+pub image_more : (rows : List ImageEntry) (es more : List (KeyName × Option ObjectValue)) (r : ImageEntry) (k : KeyName) (before : Option ObjectValue) → r.kind ≡ kind_rank k.kind → r.key ≡ k.text → option_map record_of before ≡ option_map (λ bytes. Some bytes) r.bytes
+    → lookup (key_eq k) es ≡ None → ((q : KeyName) → lookup (key_eq q) more ≡ cond (key_eq k q) (Some before) (lookup (key_eq q) es)) → AreImagesOf rows es → AreImagesOf (rows ++ (r ∷ [])) more
+image_more rows es more r k before kinds texts is new added all =
+    one_more (λ q e. is_image_entry_at (kind_rank q.kind) q.text e) (λ (e : ImageEntry). e.bytes) (option_map record_of) (option_map (λ bytes. Some bytes)) rows es more r k before all new added (λ q. tests_alike k q r.kind r.key kinds texts) is
+
+same_images : (a b : Option (Option ObjectValue)) → option_map (option_map record_of) a ≡ option_map (option_map (λ bytes. Some bytes)) (option_map (λ o. option_and_then record_of o) b) → ((o : ObjectValue) → b ≡ Some (Some o) → IsSome (record_of o)) → a ≡ b
+same_images None None e has = refl
+same_images None (Some y) e has = absurd cc
+same_images (Some x) None e has = absurd cc
+same_images (Some x) (Some y) e has = ap Some (same_records x y (inner _ _ e) (recorded y (λ o is. has o (ap Some is)))) where
+  inner : (p q : Option (Option (List ℕ))) → Some p ≡ Some q → p ≡ q
+  inner p q h = cc
+
+  recorded : (o : Option ObjectValue) → ((v : ObjectValue) → o ≡ Some v → IsSome (record_of v)) → IfSome o (λ v. IsSome (record_of v))
+  recorded None f = tt
+  recorded (Some v) f = f v refl
+
+-- the before-image at a key's own number and bytes
+image_here : (f : Befores) (q : KeyName) → image_kept f (kind_rank q.kind) q.text ≡ option_map (λ o. option_and_then record_of o) (f q)
+image_here f q = ap (λ o. option_map (λ x. option_and_then record_of x) (option_and_then (λ (kind : Kind). f (record { kind = kind; text = q.text })) o)) (kind_back q.kind)
+
+pub notes_are : (s : State) (step : ℕ) (c : Content) (rows : List ImageEntry) → IsRegistry c s → ListsImages step c rows → AreNotes step s rows
+notes_are s step c rows it lists = record { each = λ n text. lists.same n text ∙ it.images step n text; recorded = λ q o is. it.noted step q o is }
+
+pub images_are : (s : State) (step : ℕ) (rows : List ImageEntry) (es : List (KeyName × Option ObjectValue)) → AreNotes step s rows → IsDistinct key_eq (keys_of es) → AreImagesOf rows es → IsEntriesOf (s.undo step) es
+images_are s step rows es notes once each = record {
+  once = once;
+  each = λ q. same_images (lookup (key_eq q) es) (s.undo step q) (each q ∙ ap (option_map (option_map (λ bytes. Some bytes))) (notes.each (kind_rank q.kind) q.text ∙ image_here (s.undo step) q)) (λ o is. notes.recorded q o is);
 }

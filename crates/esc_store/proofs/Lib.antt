@@ -1,3 +1,4 @@
+pub mod Counting
 pub mod RowSteps
 pub mod Decoding
 pub mod Ends

@@ -3,6 +3,7 @@
 
 mod books;
 mod change;
+mod counts;
 mod decode;
 mod fault;
 mod form;

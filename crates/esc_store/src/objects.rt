@@ -2,6 +2,7 @@
 
 ghost use Rattle.std.specs.Prelude.{◌≡◌, [], ◌∷◌, ◌++◌, Some, None, if◌then◌else◌, map, option_map, IfOk, OnOk};
 ghost use Rattle.std.specs.List.{IsDistinct};
+ghost use Rattle.std.specs.List.Sorted.{IsStrictlySortedBy};
 ghost use Rattle.std.specs.Map.{lookup, keys_of};
 ghost use Rattle.std.specs.BTreeMap.{IsOrdered};
 ghost use Rattle.esc_envelope.specs.Kinds.{kind_rank};
@@ -14,6 +15,7 @@ use crate::fault::SFault;
 use crate::images::record_object;
 use esc_envelope::Kind;
 use esc_rows::object::StoredObject;
+use esc_rows::undo::StoredImage;
 use esc_tables::{Key, Object};
 use std::alloc::Global;
 use std::collections::BTreeMap;
@@ -88,4 +90,55 @@ pub(crate) fn objects_of(
         add_object(alloc, &mut objects, &stored[at])?;
     }
     Ok(objects)
+}
+
+// What stood at a key before a step: the object of the row's record, or none.
+fn before_of(alloc: Global, stored: &StoredImage) -> Result<Option<Object>, SFault>
+    ensures { IfOk result (λ before. option_map record_of before ≡ option_map (λ bytes. Some bytes) (image_of stored.now).bytes) }
+{
+    match &stored.record {
+        Some(bytes) => Ok(Some(record_object(alloc, bytes.as_slice())?)),
+        None => Ok(None),
+    }
+}
+
+// Adds the before-image of a row.
+fn add_image(
+    alloc: Global,
+    images: &mut BTreeMap<Key, Option<Object>>,
+    stored: &StoredImage,
+) -> Result<(), SFault>
+    ensures added { OnOk result ((rows : _) → AreImagesOf rows images.old.entries → AreImagesOf (rows ++ image_of stored.now ∷ []) images.new.entries) }
+    ensures ordered { OnOk result (IsOrdered key_cmp images.new) }
+{
+    let key = key_of(alloc, stored.kind, stored.key.as_slice())?;
+    let before = before_of(alloc, stored)?;
+    add_new(images, key, before)
+}
+
+// The before-images of these rows, by their keys.
+fn images_by_key(
+    alloc: Global,
+    stored: &[StoredImage],
+) -> Result<BTreeMap<Key, Option<Object>>, SFault>
+    ensures ordered { IfOk result (λ images. IsOrdered key_cmp images) }
+    ensures each { IfOk result (λ images. AreImagesOf (map image_of stored.now) images.entries) }
+{
+    let mut images = BTreeMap::new(alloc);
+    for at in 0..stored.len() {
+        add_image(alloc, &mut images, &stored[at])?;
+    }
+    Ok(images)
+}
+
+// The before-images of these rows, in the order of keys. `S1` where they are of none; `S2`.
+pub(crate) fn images_of(
+    alloc: Global,
+    stored: &[StoredImage],
+) -> Result<Vec<(Key, Option<Object>)>, SFault>
+    ensures ordered { IfOk result (λ images. IsStrictlySortedBy key_cmp (keys_of images.items)) }
+    ensures each { IfOk result (λ images. AreImagesOf (map image_of stored.now) images.items) }
+{
+    let images = images_by_key(alloc, stored)?;
+    Ok(images.into_iter().collect(alloc)?)
 }
