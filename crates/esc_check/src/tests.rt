@@ -191,6 +191,95 @@ fn links_and_counts_are_verified(rt: HostRuntime) -> Result<(), Fail> {
 }
 
 #[test]
+fn each_field_links_to_its_kind(rt: HostRuntime) -> Result<(), Fail> {
+    let alloc = rt.alloc();
+    let mut t = BTreeMap::new(alloc);
+    let mut rows = Vec::new(alloc);
+    for (table, field, text) in [
+        ("domainContacts", "contactId", "C8"),
+        ("domainContacts", "contactId", "C8"),
+        ("domainHostAttr", "hostName", "ns.example"),
+        ("contactStatuses", "contactId", "C9"),
+    ] {
+        rows.push(row(alloc, table, &[(field, text)])?)?;
+    }
+    for (kind, children) in [
+        (Kind::Registrar, Vec::new(alloc)),
+        (Kind::Contact, Vec::new(alloc)),
+        (Kind::Host, Vec::new(alloc)),
+        (Kind::Domain, rows),
+        (Kind::Idn, Vec::new(alloc)),
+        (Kind::Nndn, Vec::new(alloc)),
+    ] {
+        let cells = [("clID", "R9"), ("registrant", "C9"), ("idnTableId", "I9")];
+        let parent = row(alloc, kind.name(), &cells)?;
+        put(alloc, &mut t, kind, "x", parent, children)?;
+    }
+    let counts = BTreeMap::new(alloc);
+    assert_eq!(rt;
+        found_at(alloc, &t, "2024-03-11T00:00:00Z", &counts)?.as_str(),
+        "V1,contact,x,clID,R9,registrar\nV1,host,x,clID,R9,registrar\nV1,domain,x,clID,R9,registrar\nV1,domain,x,contactId,C8,contact\nV1,domain,x,idnTableId,I9,idn\nV1,domain,x,registrant,C9,contact\nV1,nndn,x,idnTableId,I9,idn\n"
+    );
+    Ok(())
+}
+
+#[test]
+fn dates_are_moments_of_their_years(rt: HostRuntime) -> Result<(), Fail> {
+    let alloc = rt.alloc();
+    let mut t = BTreeMap::new(alloc);
+    for (kind, key, created, expires) in [
+        (Kind::Registrar, "R1", "1969-12-31T23:59:59Z", "never"),
+        (Kind::Contact, "C1", "2024-03-03T00:00:00.5Z", ""),
+        (Kind::Host, "ns.example", "2024-03-03T00:00:00.0Z", ""),
+        (
+            Kind::Domain,
+            "a.example",
+            "2262-01-01T00:00:00Z",
+            "2024-02-30T00:00:00Z",
+        ),
+        (
+            Kind::Domain,
+            "b.example",
+            "2024-03-02T00:00:00.0Z",
+            "2024-03-02T00:00:00Z",
+        ),
+        (Kind::Idn, "I1", "never", ""),
+        (Kind::Nndn, "n.example", "never", ""),
+    ] {
+        let cells = [
+            ("crDate", created),
+            ("crDate", "never"),
+            ("exDate", expires),
+        ];
+        let parent = row(alloc, kind.name(), &cells)?;
+        put(alloc, &mut t, kind, key, parent, Vec::new(alloc))?;
+    }
+    let counts = BTreeMap::new(alloc);
+    assert_eq!(rt;
+        found_at(alloc, &t, "2024-03-03T00:00:00Z", &counts)?.as_str(),
+        "V5,contact,C1,crDate,2024-03-03T00:00:00.5Z,2024-03-03T00:00:00Z\nV7,registrar,R1,crDate,1969-12-31T23:59:59Z,\nV7,domain,a.example,crDate,2262-01-01T00:00:00Z,\nV7,domain,a.example,exDate,2024-02-30T00:00:00Z,\n"
+    );
+    Ok(())
+}
+
+#[test]
+fn findings_are_compared_by_all_fields(rt: HostRuntime) -> Result<(), Fail> {
+    let alloc = rt.alloc();
+    let t = front(alloc)?;
+    let mut counts = BTreeMap::new(alloc);
+    counts.insert(Kind::Registrar, 10)?;
+    counts.insert(Kind::Contact, 9)?;
+    let first = verify(alloc, &t, 0, &counts)?;
+    let second = verify(alloc, &t, 0, &counts)?;
+    assert_eq!(rt; first.len(), 2);
+    assert_eq!(rt; second.len(), 2);
+    assert!(rt; first[0] == second[0]);
+    assert!(rt; first[0] != second[1]);
+    assert!(rt; first[0] < second[1]);
+    Ok(())
+}
+
+#[test]
 fn each_kind_has_its_statuses(rt: HostRuntime) -> Result<(), Fail> {
     let alloc = rt.alloc();
     let mut t = front(alloc)?;

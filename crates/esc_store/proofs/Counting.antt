@@ -1,6 +1,6 @@
 -- How many objects of a kind there are, from the kinds of the table's rows.
-use Rattle.std.proofs.Common.{◌≡◌, ℕ, suc, Bool, true, false, cond, List, [], ◌∷◌, length, map, filter, Option, None, Some, refl, sym, ap, subst, ◌∙◌, arith, inl, inr}
-use Rattle.std.specs.Prelude.{◌==◌, ◌&&◌, bytes_eq, find, option_map, IsSome, IfSome, if◌then◌else◌, All}
+use Rattle.std.proofs.Common.{◌≡◌, ℕ, suc, Bool, true, false, cond, List, [], ◌∷◌, length, filter, Option, None, Some, refl, sym, ap, subst, ◌∙◌, arith, inl, inr}
+use Rattle.std.specs.Prelude.{◌==◌, ◌&&◌, bytes_eq, find, option_map, IsSome, IfSome, if◌then◌else◌}
 use Rattle.std.specs.List.{AllByRecursion, IsDistinct}
 use Rattle.std.specs.Map.{lookup, keys_of}
 use Rattle.std.specs.Option.{option_and_then}
@@ -15,9 +15,9 @@ use Rattle.esc_envelope.specs.Kinds.{kind_rank}
 use Rattle.esc_tables.specs.KeyName.{KeyName, key_eq}
 use Rattle.esc_tables.specs.ObjectValue.{ObjectValue}
 use Rattle.esc_record.specs.Record.{record_of}
-use Rattle.esc_apply.specs.Registry.{State, IsEntriesOf, HasSize}
+use Rattle.esc_apply.specs.Registry.{State, HasSize}
 use Rattle.esc_apply.specs.Registry.{Content as Objects}
-use Rattle.esc_apply.proofs.Keys.{keys_alike, key_itself, same_key}
+use Rattle.esc_apply.proofs.Keys.{keys_alike}
 use Rattle.esc_rows.specs.Rows.{ObjectRow}
 use Rattle.esc_rows.specs.Content.{Content, is_object_at, object_at}
 use Rattle.esc_rows.specs.Changes.{ListsKinds}

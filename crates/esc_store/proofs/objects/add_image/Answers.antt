@@ -1,4 +1,4 @@
-use Rattle.std.proofs.Common.{◌≡◌, sym, ◌∙◌}
+use Rattle.std.proofs.Common.{sym, ◌∙◌}
 use Rattle.esc_rows.specs.Entries.{image_of}
 use Rattle.esc_store.proofs.Ends.{at_ok}
 use Rattle.esc_store.proofs.Following.{on_ok}

@@ -1,4 +1,4 @@
-use Rattle.std.proofs.Common.{◌≡◌, sym, ap, ◌∙◌, Some}
+use Rattle.std.proofs.Common.{sym, ap, ◌∙◌, Some}
 use Rattle.esc_rows.specs.Entries.{object_of}
 use Rattle.esc_store.proofs.Ends.{at_ok}
 use Rattle.esc_store.proofs.Following.{on_ok}

@@ -1,4 +1,4 @@
-use Rattle.std.proofs.Common.{◌≡◌, ◌∙◌, ap}
+use Rattle.std.proofs.Common.{◌∙◌, ap}
 use Rattle.esc_store.specs.Decoded.{tallies}
 use Rattle.esc_store.proofs.Counting.{are_counts}
 use Rattle.esc_store.proofs.Reading.{if_goes}

@@ -1,4 +1,4 @@
-use Rattle.std.proofs.Common.{◌≡◌, subst, map}
+use Rattle.std.proofs.Common.{subst, map}
 use Rattle.esc_rows.specs.Entries.{object_of}
 use Rattle.esc_store.specs.Decoded.{AreObjectsOf}
 use Rattle.esc_store.proofs.Gathering.{tables_are}
