@@ -26,3 +26,6 @@ pub use form::number;
 pub use numbers::{N1, Number};
 pub use reply::{Receipt, Reply, Verdict};
 pub use store::Store;
+
+#[cfg(test)]
+mod tests;
