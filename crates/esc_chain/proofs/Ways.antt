@@ -10,28 +10,8 @@ use Rattle.esc_chain.specs.declared.base.Base.{Base}
 use Rattle.esc_chain.specs.declared.links.Link.{Link}
 use Rattle.esc_chain.specs.declared.links.Link.TheVariants.{Start, To, Broken}
 use Rattle.esc_chain.specs.Base.{IsBase}
-use Rattle.esc_chain.specs.Walk.{link_by, link_at, AreLinksBy, Follows, HasWay, BasesStandFirst, IsLastWithWay, goes_on}
+use Rattle.esc_chain.specs.Walk.{link_at, Follows, HasWay, BasesStandFirst, IsLastWithWay, goes_on}
 use Rattle.esc_chain.proofs.Rows.{at_more}
-
--- one more link
-pub links_push : (order : Place → Place → Ordering) (m : List MRow) (used : BTreeMap Place ℕ) (n : ℕ) (links : List Link) (b : Base) (link : Link) → AreLinksBy order m used n links → IsBase m n b → link ≡ link_by order used b → AreLinksBy order m used (n + 1) (links ++ link ∷ [])
-links_push order m used n links b link known based by =
-    let count : length links ≡ n = known.0 in
-    (grind (arith, common_steps), λ r lt. ⊎_elim (old r) (here r lt) (cases_lt r n))
-  where
-    old : (r : ℕ) → r < n → (x : Base) × IsBase m r x × (link_at (links ++ link ∷ []) r ≡ link_by order used x)
-    old r lt =
-        let was = known.1 r lt in
-        let count : length links ≡ n = known.0 in
-        let same : link_at (links ++ link ∷ []) r ≡ link_at links r = grind (arith, common_steps) in
-        (was.0, was.1, same ∙ was.2)
-
-    here : (r : ℕ) → r < n + 1 → n ≤ r → (x : Base) × IsBase m r x × (link_at (links ++ link ∷ []) r ≡ link_by order used x)
-    here r lt ge =
-        let same : n ≡ r = omega arith in
-        let count : length links ≡ n = known.0 in
-        let now : link_at (links ++ link ∷ []) r ≡ link = grind (arith, common_steps) in
-        (b, subst (λ (q : ℕ). IsBase m q b) same based, now ∙ by)
 
 -- marked rows have a way
 abbrev pub AreSound : List Link → List Bool → Type 0
