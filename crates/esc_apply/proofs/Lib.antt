@@ -1,5 +1,6 @@
 pub mod Chains
 pub mod Counts
+pub mod Few
 pub mod Fronts
 pub mod Keys
 pub mod Mentions

@@ -87,7 +87,7 @@ len-once (k ∷ ks) once =
     none_of [] all = refl
     none_of (l ∷ ls) all = rw all.0 (none_of ls all.1)
 
-length-keys : {X : Type 0} (es : List (KeyName × X)) → length (keys_of es) ≡ length es
+pub length-keys : {X : Type 0} (es : List (KeyName × X)) → length (keys_of es) ≡ length es
 length-keys [] = refl
 length-keys (e ∷ es) = omega (arith, length-keys es)
 

@@ -15,6 +15,7 @@
 //! - [`move_chain`]: the steps past the common front are taken back, the last first, and the new ones applied. Where
 //!   nothing is common, all is cleared at once, which is no write.
 //! - [`MemRegistry`]: a registry in memory.
+//! - [`read_deposits_mention_few`]: a law, that a deposit which was read from a body mentions at most 100,000 keys.
 //!
 //! The contracts speak of any [`Registry`], by what it *holds*: a relation between it and a content with its
 //! before-images. A registry over a disk can promise that alone as long as the disk gives back what was written to
@@ -26,6 +27,7 @@
 mod back;
 mod forward;
 mod front;
+mod laws;
 mod memory;
 mod moves;
 mod registry;
@@ -35,6 +37,7 @@ mod tests;
 pub use back::undo_step;
 pub use forward::apply_step;
 pub use front::{Step, common_front};
+pub use laws::read_deposits_mention_few;
 pub use memory::MemRegistry;
 pub use moves::{Work, move_chain};
 pub use registry::Registry;

@@ -1,7 +1,6 @@
 -- A text is written piece by piece.
-use Rattle.std.proofs.Common.{◌≡◌, ℕ, ◌+◌, ◌<◌, List, [], ◌∷◌, ◌++◌, length, get_or, take, drop, map, filter, true, false, refl, sym, ap, ◌∙◌, append_assoc, String, Global}
+use Rattle.std.proofs.Common.{◌≡◌, ℕ, ◌+◌, ◌<◌, List, [], ◌∷◌, ◌++◌, length, get_or, take, drop, map, true, false, refl, sym, ap, ◌∙◌, append_assoc, String, Global}
 use Rattle.std.specs.Prelude.{count_by}
-use Rattle.std.specs.List.{flat_map}
 use Rattle.std.proofs.lemmas.List.{drop_more, take_more}
 use Rattle.std.proofs.lemmas.List.Concat.{flat_map-append}
 use Rattle.std.proofs.lemmas.List.Sums.{count_by_more_yes}
@@ -11,7 +10,7 @@ use Rattle.esc_envelope.specs.Kinds.{is_kind}
 use Rattle.esc_tables.specs.KeyName.{KeyName}
 use Rattle.esc_tables.specs.ObjectValue.{RowValue, ObjectValue, cell_texts}
 use Rattle.esc_check.specs.Lines.{Line, line_text, text_of}
-use Rattle.esc_check.specs.Export.{cell_line, row_lines, is_in, number_behind, child_lines, object_lines, is_of, export_lines}
+use Rattle.esc_check.specs.Export.{cell_line, row_lines, is_in, number_behind, child_lines, object_lines, export_lines}
 
 -- the front of what is left has been added
 pub front_added : {A : Type 0} (old new whole both a b : List A) → both ≡ a ++ b → old ++ both ≡ whole → new ≡ old ++ a → new ++ b ≡ whole

@@ -1,2 +1,11 @@
 pub mod Export
+pub mod Fields
+pub mod FindingOrder
+pub mod FindingValue
+pub mod Findings
+pub mod Gathered
 pub mod Lines
+pub mod LinkValue
+pub mod Links
+pub mod Statuses
+pub mod Tables

@@ -1,10 +1,57 @@
 //! Verification and export of the tables of a registry.
 //!
-//! `export_rows` writes all objects of a kind as CSV. Its contract gives the whole text.
+//! The tables are a map from keys to objects, as `esc_tables` reads them from a deposit or as a chain of deposits makes
+//! them.
+//!
+//! `export_rows` writes all objects of a kind as CSV: a heading, and a line for each cell, by key, the parent row first
+//! and then each child row with its place among the object's rows of its table. Its contract gives the whole text.
+//!
+//! `verify` answers what breaks a rule of this project's profile, each finding once and in order:
+//!
+//! - V1: a link leads to no object;
+//! - V2: a kind has another number of objects than the deposit declares;
+//! - V3: a status is none of RFC 5731's for domains, RFC 5732's for hosts, RFC 5733's for contacts;
+//! - V4: a domain is `ok` and has another status;
+//! - V5: an object was created after the watermark;
+//! - V6: a domain expires before it was created;
+//! - V7: a date has no watermark's form, or is no moment of its years.
+//!
+//! Where a row has a field twice, the first cell counts. An empty cell links nothing, is no status and no date.
+//!
+//! # What is promised
+//!
+//! `specs/Findings.antt` says what a finding is, by relations over the tables as a map from keys to objects, the watermark and
+//! the declared numbers; `specs/Links.antt` and `specs/Statuses.antt` say what an object's links and statuses are. What `verify`
+//! answers has exactly the findings, in strict order, so each of them once. `specs/Export.antt` has the lines of the export.
+//! Where memory is refused, either answers `NoMemory`.
+//!
+//! `specs/Gathered.antt` is what the functions here give one another, as lists with repeats: what is found of one object, where
+//! these keys are there. `proofs/FindingLaws.antt` shows that it is the same set.
+//!
+//! `Lines` is a text of CSV lines in the making, for these and other reports.
+//!
+//! # Cost
+//!
+//! One walk over the objects, and one over their keys for each declared number; a look-up in the map for each link. Memory
+//! is taken for what is found, and for the links and statuses of one object at a time. Child rows that stand by table, as those
+//! of a deposit do, are counted once for each table.
 #![tactic(auto)]
 
+mod count;
+mod date;
+mod distinct;
 mod export;
+mod field;
+mod finding;
 mod lines;
+mod link;
+mod status;
+mod verification;
 
 pub use export::export_rows;
+pub use finding::Finding;
 pub use lines::Lines;
+pub use verification::verify;
+
+#[cfg(test)]
+mod tests;

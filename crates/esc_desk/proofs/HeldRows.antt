@@ -20,7 +20,7 @@ use Rattle.esc_desk.proofs.Searches.{find_some, find_none, find-front, find-back
 pub same_test : (q r : ℕ) → eq_by_cmp nat_cmp r q ≡ (q == r)
 same_test q r = grind (arith, nat_tests)
 
-same_self : (q : ℕ) → (q == q) ≡ true
+pub same_self : (q : ℕ) → (q == q) ≡ true
 same_self q = grind (arith, nat_tests)
 
 pub same_number : (r q : ℕ) → (r == q) ≡ true → r ≡ q

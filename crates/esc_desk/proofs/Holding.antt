@@ -110,20 +110,26 @@ module _ (law : LatestChainsAreHeldRows) (m : List MRow) (accepted : IsAccepted 
           by_test true same = absurd (true≢false (sym there ∙ ap (set.contains (held_rows sha256 reading m l)) (same_number r row same) ∙ at_row))
           by_test false other = refl
 
+  pub old_steps : plan.old.items ≡ map (step_at m) k.steps
+  old_steps = planned.old ∙ ap (λ (x : List MRow). map (step_at x) k.steps) listed
+
+  pub new_steps : plan.new.items ≡ map (step_at m) (rows_in plan.new.items)
+  new_steps = planned.new ∙ ap (λ (x : List MRow). map (step_at x) (rows_in plan.new.items)) listed
+
+  pub new_deposits : plan.deposits.items ≡ deposits_of reading (body_put k.bodies row a.body) (drop (common_front plan.old.items plan.new.items) (rows_in plan.new.items))
+  new_deposits = planned.deposits ∙ ap (deposits_of reading (body_put k.bodies row a.body)) (sym (drop-map (λ (s : Step). s.row) (common_front plan.old.items plan.new.items) plan.new.items))
+
   -- the deposits of the old chain up to the common front, and the plan's, are those of the new chain
   pub deposits_are : take (common_front plan.old.items plan.new.items) (deposits_of reading k.bodies k.steps) ++ plan.deposits.items ≡ deposits_of reading (body_put k.bodies row a.body) (rows_in plan.new.items)
   deposits_are =
       let f = common_front plan.old.items plan.new.items in
       let new = rows_in plan.new.items in
-      let old_steps : plan.old.items ≡ map (step_at m) k.steps = planned.old ∙ ap (λ (x : List MRow). map (step_at x) k.steps) listed in
-      let new_steps : plan.new.items ≡ map (step_at m) new = planned.new ∙ ap (λ (x : List MRow). map (step_at x) new) listed in
       let front : f ≡ common_front (map (step_at m) k.steps) (map (step_at m) new) = ap₂ common_front old_steps new_steps in
       let same : take f k.steps ≡ take f new = subst (λ (n : ℕ). take n k.steps ≡ take n new) (sym front) (same_front m accepted k.steps new (are_of m k.steps (each_of (λ r. r < length m) k.steps old_rows.in_range)) (are_of m new (each_of (λ r. r < length m) new new_rows.in_range))) in
       let g : ℕ → DepositValue = λ r. deposit_of reading (body_put k.bodies row a.body r) in
       let first : take f (deposits_of reading k.bodies k.steps) ≡ map g (take f new) =
       ap (λ (ds : List DepositValue). take f ds) (sym (same_maps g (λ r. deposit_of reading (k.bodies r)) k.steps kept)) ∙ take-map g f k.steps ∙ ap (map g) same in
-      let second : plan.deposits.items ≡ map g (drop f new) = planned.deposits ∙ ap (map g) (sym (drop-map (λ (s : Step). s.row) f plan.new.items)) in
-      ap₂ (λ (xs ys : List DepositValue). xs ++ ys) first second ∙ sym (map-append g (take f new) (drop f new)) ∙ ap (map g) (take-append-drop f new)
+      ap₂ (λ (xs ys : List DepositValue). xs ++ ys) first new_deposits ∙ sym (map-append g (take f new) (drop f new)) ∙ ap (map g) (take-append-drop f new)
 
   -- the store stands for the arrivals with this one
   pub stands_held : StandsFor sha256 reading m (l ++ a ∷ []) (with_registry (with_steps (with_body (with_receipt k receipt) row a.body) (rows_in plan.new.items)) (chain_state (take (common_front plan.old.items plan.new.items) (deposits_of reading k.bodies k.steps) ++ plan.deposits.items)))

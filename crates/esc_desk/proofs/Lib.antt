@@ -1,4 +1,5 @@
 pub mod AllHeld
+pub mod AtFirst
 pub mod Distinct
 pub mod FrontLemmas
 pub mod HeldRows
@@ -10,3 +11,4 @@ pub mod RunLemmas
 pub mod Searches
 pub mod StoreFacts
 pub mod TakingIn
+pub mod Working

@@ -11,3 +11,4 @@ pub mod Serving
 pub mod Stands
 pub mod Taking
 pub mod Worked
+pub mod Works

@@ -1,10 +1,12 @@
 //! What a new arrival changes in the store, whole or not at all.
 
-ghost use Rattle.std.specs.Prelude.{◌≡◌, ◌+◌, ◌<◌, ◌≤◌, ◌-◌, ◌++◌, ◌∷◌, [], ℕ, List, Ok, None, length, map, take, min, ◌^◌, IfOk, IfSome, OnOk, OnErr};
+ghost use Rattle.std.specs.Prelude.{◌≡◌, ◌+◌, ◌<◌, ◌≤◌, ◌-◌, ◌++◌, ◌∷◌, [], ℕ, List, Ok, None, length, map, take, min, ◌^◌, sum_by, IfOk, IfSome, OnOk, OnErr};
 ghost use Rattle.esc_tables.specs.DepositValue.{DepositValue};
 ghost use Rattle.esc_tables.specs.Reading.{reading};
 ghost use Rattle.esc_manifest.specs.declared.row.MRow.{MRow};
-ghost use Rattle.esc_apply.specs.Registry.{State};
+ghost use Rattle.esc_apply.specs.Registry.{State, saturated};
+ghost use Rattle.esc_apply.specs.Tables.{mention_count};
+ghost use Rattle.esc_apply.specs.Moves.{cost};
 ghost use Rattle.esc_apply.specs.Images.{chain_state};
 ghost use Rattle.esc_apply.specs.Front.{common_front};
 ghost use Rattle.esc_store.specs.Kept.{Kept, with_receipt, with_body, with_steps, with_registry};
@@ -28,6 +30,8 @@ pub(crate) fn note_receipt<S: Alter>(
 ) -> Result<(), SFault>
     ensures manifest { store.new.manifest ≡ store.old.manifest }
     ensures honest { IsHonest S.Store store.new → IsHonest S.Store store.old }
+    ensures counted { OnOk result (store.new.writes ≡ saturated store.old.writes) }
+    ensures uncounted { OnErr result (store.new.writes ≡ store.old.writes) }
     ensures recorded { OnOk result (IsHonest S.Store store.new → (k : Kept) → length k.receipts + 1 ≡ number → Stands S.Store store.old k → Stands S.Store store.new (with_receipt k receipt.now)) }
     ensures kept { OnErr result ((k : Kept) → Stands S.Store store.old k → Stands S.Store store.new k) }
 {
@@ -42,6 +46,7 @@ fn note_in<S: Alter>(
     receipt: &Receipt<'_>,
 ) -> Result<(), SFault>
     ensures goes_on { GoesOn S.Store change.old change.new }
+    ensures count { change.new.count ≡ change.old.count }
     ensures filled { OnOk result ((k : Kept) → length k.receipts + 1 ≡ number → Rest S.Store change.old k k → HoldsNow S.Store change.old k.registry → IsFilled S.Store change.new k (with_receipt k receipt.now)) }
 {
     change.record_receipt(number, receipt)?;
@@ -66,6 +71,10 @@ pub(crate) fn hold_deposit<S: Alter>(
     ensures honest { IsHonest S.Store store.new → IsHonest S.Store store.old }
     ensures held { OnOk result (IsHonest S.Store store.new → (k : Kept) (c : List DepositValue) → length k.receipts + 1 ≡ number → k.bodies row ≡ None → length c ≡ length plan.now.old.items → Stands S.Store store.old (with_registry k (chain_state c))
         → Stands S.Store store.new (with_registry (with_steps (with_body (with_receipt k receipt.now) row body.now) (rows_in plan.now.new.items)) (chain_state (take (common_front plan.now.old.items plan.now.new.items) c ++ plan.now.deposits.items)))) }
+    ensures worked { IfOk result (λ work. IsHonest S.Store store.new → (k : Kept) (c : List DepositValue) → length c ≡ length plan.now.old.items → Stands S.Store store.old (with_registry k (chain_state c))
+        → sum_by mention_count (c ++ plan.now.deposits.items) < 2 ^ 64 → work ≡ cost c plan.now.old.items plan.now.new.items plan.now.deposits.items) }
+    ensures counted { IfOk result (λ work. store.new.writes ≡ saturated (store.old.writes + work.writes)) }
+    ensures uncounted { OnErr result (store.new.writes ≡ store.old.writes) }
     ensures kept { OnErr result ((k : Kept) → Stands S.Store store.old k → Stands S.Store store.new k) }
 {
     let mut change = store.begin()?;
@@ -91,6 +100,9 @@ fn fill_change<S: Alter>(
     ensures goes_on { GoesOn S.Store change.old change.new }
     ensures filled { OnOk result ((k : Kept) (c : List DepositValue) → length k.receipts + 1 ≡ number → k.bodies row ≡ None → length c ≡ length plan.now.old.items → Began S.Store change.old (with_registry k (chain_state c)) → Rest S.Store change.old (with_registry k (chain_state c)) (with_registry k (chain_state c)) → HoldsNow S.Store change.old (chain_state c)
         → IsFilled S.Store change.new (with_registry k (chain_state c)) (with_registry (with_steps (with_body (with_receipt k receipt.now) row body.now) (rows_in plan.now.new.items)) (chain_state (take (common_front plan.now.old.items plan.now.new.items) c ++ plan.now.deposits.items)))) }
+    ensures worked { IfOk result (λ work. IsHonest S.Store change.new.store.now → (c : List DepositValue) → length c ≡ length plan.now.old.items → HoldsNow S.Store change.old (chain_state c)
+        → sum_by mention_count (c ++ plan.now.deposits.items) < 2 ^ 64 → work ≡ cost c plan.now.old.items plan.now.new.items plan.now.deposits.items) }
+    ensures counted { IfOk result (λ work. saturated change.new.count ≡ saturated (saturated change.old.count + work.writes)) }
 {
     change.record_receipt(number, receipt)?;
     change.hold(row, body)?;
@@ -103,6 +115,8 @@ fn fill_change<S: Alter>(
 fn commit_filled<S: Alter>(change: Change<'_, S>) -> Result<(), SFault>
     ensures manifest { change.exit.0.now.manifest ≡ change.entry.store.now.manifest }
     ensures honest { IsHonest S.Store change.exit.0.now → IsHonest S.Store change.entry.store.now }
+    ensures written { OnOk result (change.exit.0.now.writes ≡ saturated (change.entry.store.now.writes + change.entry.count)) }
+    ensures unwritten { OnErr result (change.exit.0.now.writes ≡ change.entry.store.now.writes) }
     ensures committed { OnOk result (IsHonest S.Store change.exit.0.now → (before k : Kept) → IsFilled S.Store change.entry before k → Stands S.Store change.exit.0.now k) }
     ensures kept { OnErr result ((before : Kept) → Began S.Store change.entry before → Stands S.Store change.exit.0.now before) }
 {

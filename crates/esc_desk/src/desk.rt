@@ -1,25 +1,27 @@
 //! The desk: arrivals, one after another.
 
-ghost use Rattle.std.specs.Prelude.{◌≡◌, ◌+◌, ◌<◌, ◌++◌, ◌∷◌, [], ℕ, List, length, false, Some, None, IfOk, IfSome, OnOk, OnErr};
+ghost use Rattle.std.specs.Prelude.{◌≡◌, ◌+◌, ◌<◌, ◌++◌, ◌∷◌, [], ℕ, List, length, true, false, Some, None, IfOk, IfSome, OnOk, OnErr};
 ghost use Rattle.sha2.specs.Sha256.{sha256};
 ghost use Rattle.esc_tables.specs.Reading.{reading};
 ghost use Rattle.esc_manifest.specs.declared.row.MRow.{MRow};
+ghost use Rattle.esc_apply.specs.Registry.{saturated};
 ghost use Rattle.esc_store.specs.Kept.{Kept};
 ghost use Rattle.esc_store.specs.ReplyValue.{ReplyValue, reply_alike};
 ghost use Rattle.esc_store.specs.Standing.{Stands, IsHonest, IsAsBefore};
 ghost use Rattle.esc_desk.specs.Finding.{held_row};
-ghost use Rattle.esc_desk.specs.Receipts.{is_among, reply_to};
+ghost use Rattle.esc_desk.specs.Receipts.{is_among, is_old, reply_to};
 ghost use Rattle.esc_desk.specs.Stands.{StandsFor};
 ghost use Rattle.esc_desk.specs.Taking.{IsNew};
 ghost use Rattle.esc_desk.specs.declared.finding.Finding.TheVariants.{Holding};
 ghost use Rattle.esc_desk.specs.ArrivalValue.{ArrivalValue};
 ghost use Rattle.esc_desk.specs.Serving.{Serves, Answers, no_work};
+ghost use Rattle.esc_desk.specs.Works.{IsWorkOf, AddsNoRow, IsKept, IsTaken};
 
 use crate::changes::{hold_deposit, note_receipt};
 use crate::finding::{Finding, find, held_row};
 use crate::plan::plan_move;
 use crate::receipt::{is_among, is_old, receipt_by, reply_of};
-use esc_apply::Work;
+use esc_apply::{Work, read_deposits_mention_few};
 use esc_chain::latest_chain_rows_are_held;
 use esc_store::{Number, Receipt, Reply, SFault, Store};
 use esc_tables::Deposit;
@@ -59,7 +61,9 @@ impl<S: Alter> Desk<S> {
     }
 
     /// Takes an arrival: the reply, and the work of the move that it made. One alike an earlier one has the first
-    /// one's reply and makes no work. At `Err` nothing has changed: `S1`, `S2`, `S4`.
+    /// one's reply and makes no work; of any other the work is exactly the cost of going from the latest chain before it
+    /// to the latest chain with it, which is none where it adds no row to those that are held. [`Desk::writes`] grows by
+    /// the work's writes. At `Err` nothing has changed: `S1`, `S2`, `S4`.
     #[tactic(auto, using(crate::proofs::StoreFacts::was_honest))]
     pub fn arrive(
         &mut self,
@@ -69,10 +73,16 @@ impl<S: Alter> Desk<S> {
     ) -> Result<(Reply, Work), SFault>
         ensures answered { IsHonest S.Store self.new.store → (m : List MRow) (l : List ArrivalValue) → Serves S.Store self.old.store m l → IfOk result (λ p. Answers S.Store self.new.store m l (record { number = number.now; body = body.now }) p.0) }
         ensures repeated { IsHonest S.Store self.new.store → (m : List MRow) (l : List ArrivalValue) → Serves S.Store self.old.store m l → (r : ReplyValue) → reply_to sha256 reading m l (record { number = number.now; body = body.now }) ≡ Some r → IfOk result (λ p. (p.0 ≡ r) × (p.1 ≡ no_work)) }
+        ensures worked { IsHonest S.Store self.new.store → (m : List MRow) (l : List ArrivalValue) → Serves S.Store self.old.store m l → IfOk result (λ p. IsWorkOf m l (record { number = number.now; body = body.now }) p.1) }
+        ensures idle { IsHonest S.Store self.new.store → (m : List MRow) (l : List ArrivalValue) → Serves S.Store self.old.store m l → AddsNoRow m l (record { number = number.now; body = body.now }) → IfOk result (λ p. p.1 ≡ no_work) }
+        ensures counted { IfOk result (λ p. self.new.store.writes ≡ saturated (self.old.store.writes + p.1.writes)) }
+        ensures uncounted { OnErr result (self.new.store.writes ≡ self.old.store.writes) }
         ensures honest { IsHonest S.Store self.new.store → IsHonest S.Store self.old.store }
         ensures lost { OnErr result ((m : List MRow) (l : List ArrivalValue) → Serves S.Store self.old.store m l → Serves S.Store self.new.store m l) }
     {
         let digest = Sha256::digest(body);
+        // A proof knows that a count is below 2^64 where the body reads it.
+        let _writes = self.store.writes();
         match self.store.receipt_of(alloc, number, &digest)? {
             Some(reply) => Ok((reply, NO_WORK)),
             None => take_in(&mut self.store, alloc, number, digest, body),
@@ -91,7 +101,9 @@ fn take_in<S: Alter>(
 ) -> Result<(Reply, Work), SFault>
     requires { digest ≡ sha256 body.now }
     ensures answered { IsHonest S.Store store.new → (m : List MRow) (l : List ArrivalValue) (k : Kept) → Stands S.Store store.old k → StandsFor sha256 reading m l k → reply_alike m 1 number.now digest k.receipts ≡ None
-        → IfOk result (λ p. Answers S.Store store.new m l (record { number = number.now; body = body.now }) p.0) }
+        → IfOk result (λ p. IsTaken S.Store store.new m l (record { number = number.now; body = body.now }) p.0 p.1) }
+    ensures counted { IfOk result (λ p. store.new.writes ≡ saturated (store.old.writes + p.1.writes)) }
+    ensures uncounted { OnErr result (store.new.writes ≡ store.old.writes) }
     ensures lost { OnErr result ((k : Kept) → Stands S.Store store.old k → Stands S.Store store.new k) }
     ensures honest { IsHonest S.Store store.new → IsHonest S.Store store.old }
 {
@@ -129,7 +141,10 @@ fn keep<S: Alter>(
 ) -> Result<Work, SFault>
     requires { IfSome (held_row found) (λ r. r < length store.old.manifest) }
     ensures lost { OnErr result ((k : Kept) → Stands S.Store store.old k → Stands S.Store store.new k) }
-    ensures kept { OnOk result (IsHonest S.Store store.new → (m : List MRow) (l : List ArrivalValue) (n : List ℕ) (k : Kept) → Stands S.Store store.old k → IsNew m l (record { number = n; body = body.now }) k found held.now number receipt.now → Serves S.Store store.new m (l ++ record { number = n; body = body.now } ∷ [])) }
+    ensures kept { IfOk result (λ work. IsHonest S.Store store.new → (m : List MRow) (l : List ArrivalValue) (n : List ℕ) (k : Kept) → Stands S.Store store.old k → IsNew m l (record { number = n; body = body.now }) k found held.now number receipt.now → IsKept S.Store store.new m l (record { number = n; body = body.now }) work) }
+    ensures idle { IfOk result (λ work. is_old held.now (held_row found) ≡ true → work ≡ no_work) }
+    ensures counted { IfOk result (λ work. store.new.writes ≡ saturated (store.old.writes + work.writes)) }
+    ensures uncounted { OnErr result (store.new.writes ≡ store.old.writes) }
     ensures honest { IsHonest S.Store store.new → IsHonest S.Store store.old }
 {
     if is_old(held, held_row(&found)) {
@@ -158,10 +173,13 @@ fn keep_deposit<S: Alter>(
 ) -> Result<Work, SFault>
     requires { row < length store.old.manifest }
     ensures lost { OnErr result ((k : Kept) → Stands S.Store store.old k → Stands S.Store store.new k) }
-    ensures kept { OnOk result (IsHonest S.Store store.new → (m : List MRow) (l : List ArrivalValue) (n : List ℕ) (k : Kept) → Stands S.Store store.old k → is_among held.now (Some row) ≡ false → IsNew m l (record { number = n; body = body.now }) k (Holding row deposit) held.now number receipt.now → Serves S.Store store.new m (l ++ record { number = n; body = body.now } ∷ [])) }
+    ensures kept { IfOk result (λ work. IsHonest S.Store store.new → (m : List MRow) (l : List ArrivalValue) (n : List ℕ) (k : Kept) → Stands S.Store store.old k → is_among held.now (Some row) ≡ false → IsNew m l (record { number = n; body = body.now }) k (Holding row deposit) held.now number receipt.now → IsKept S.Store store.new m l (record { number = n; body = body.now }) work) }
+    ensures counted { IfOk result (λ work. store.new.writes ≡ saturated (store.old.writes + work.writes)) }
+    ensures uncounted { OnErr result (store.new.writes ≡ store.old.writes) }
     ensures honest { IsHonest S.Store store.new → IsHonest S.Store store.old }
 {
     latest_chain_rows_are_held();
+    read_deposits_mention_few();
     let plan = plan_move(store, alloc, held, row, deposit)?;
     hold_deposit(store, alloc, number, receipt, row, body, &plan)
 }

@@ -2,10 +2,20 @@
 //!
 //! The functions here do nothing. Each has a law as its contract: a caller who needs the law calls it.
 
-ghost use Rattle.std.specs.Prelude.{◌≡◌, [], ◌∷◌, Some, None, true, false, codes};
+ghost use Rattle.sha2.specs.Sha256.{sha256};
+ghost use Rattle.esc_tables.specs.Reading.{reading};
+ghost use Rattle.esc_manifest.specs.declared.row.MRow.{MRow};
+ghost use Rattle.esc_store.specs.Kept.{fresh};
+ghost use Rattle.esc_desk.specs.Stands.{StandsFor};
+ghost use Rattle.std.specs.Prelude.{List, ◌≡◌, [], ◌∷◌, Some, None, true, false, codes};
 ghost use Rattle.esc_desk.specs.Receipts.{distinct, reply_to};
 ghost use Rattle.esc_desk.specs.Worked.{itself, reads_full, one_row, full_1, full_9, other_1, held_reply, unlisted_reply};
 ghost use Rattle.esc_desk.specs.AllArrivals.{RowsAreOfAll, BodiesAreOfAll, TablesAreOfAll};
+
+/// What a new store keeps stands for its manifest and no arrivals, so a desk over a new store serves the empty list.
+pub fn new_store_stands_for_none()
+    ensures { (m : List MRow) → StandsFor sha256 reading m [] (fresh m) }
+{}
 
 /// The definitions go by the first of the arrivals that are alike. Where no two different bodies of the list have the
 /// same digest, the rows that are held are those of all arrivals with the verdict `A1`, the body of a held row is that

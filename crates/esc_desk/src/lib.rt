@@ -16,7 +16,7 @@
 //! (`esc_chain`) to the latest one of those held now (`esc_apply`).
 //!
 //! What goes in is a [`Store`](esc_store::Store), then arrivals: one by one to [`Desk::arrive`], or a list of them to
-//! [`Desk::run`]. What comes out are replies, what the work of each move was, and the reads: [`Desk::status`],
+//! [`Desk::run`]. What comes out are replies, the work of each move, and the reads: [`Desk::status`],
 //! [`Desk::receipts`], [`Desk::manifest`], [`Desk::held`], [`Desk::tables`], [`Desk::end`] and [`Desk::writes`].
 //!
 //! # What is promised
@@ -28,11 +28,12 @@
 //!
 //! The contracts say it by a relation, `Serves`: a store serves a manifest and a list of arrivals if it holds the
 //! manifest's rows, the receipts that the list leaves, the body of each held row, the rows of the latest chain, and
-//! that chain's tables with their before-images. A store that was just made serves the empty list. A desk whose store
-//! served a list serves, after an arrival that was answered, that list with the arrival; after an `Err` it serves the
-//! list as it was. What one arrival changes is one change of the store, whole or not at all, so an arrival that was
-//! refused by `S1` (the store failed), `S2` (memory was refused) or `S4` (there are 1,000,000,000 receipts) is as one
-//! that never came. So runs compose, whatever came before them and however they were cut.
+//! that chain's tables with their before-images. A store that was just made serves the empty list
+//! ([`new_store_stands_for_none`]). A desk whose store served a list serves, after an arrival that was answered, that
+//! list with the arrival; after an `Err` it serves the list as it was. What one arrival changes is one change of the
+//! store, whole or not at all, so an arrival that was refused by `S1` (the store failed), `S2` (memory was refused) or
+//! `S4` (there are 1,000,000,000 receipts) is as one that never came. So runs compose, whatever came before them and
+//! however they were cut.
 //!
 //! Each clause on a store has the premise that the store was honest, which is that the disk gave back what was written
 //! to it. The definitions go by digests. That no two different bodies of the list have one digest is a premise of
@@ -59,6 +60,9 @@ mod status;
 pub use arrival::Arrival;
 pub use desk::Desk;
 pub use esc_store::{N1, Number, Reply, SFault, Verdict, number};
-pub use laws::{held_as_arrived, worked_replies};
+pub use laws::{held_as_arrived, new_store_stands_for_none, worked_replies};
 pub use running::Outcome;
 pub use status::{End, Status};
+
+#[cfg(test)]
+mod tests;

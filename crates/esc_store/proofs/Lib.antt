@@ -1,8 +1,13 @@
+pub mod Counting
 pub mod RowSteps
 pub mod Decoding
 pub mod Ends
 pub mod Following
+pub mod Gathering
+pub mod FoundingLemmas
 pub mod Looking
+pub mod Manifests
+pub mod OpeningLemmas
 pub mod Parts
 pub mod Reading
 pub mod Registries

@@ -25,6 +25,10 @@ pub if_goes : {X E : Type 0} (r : Result X E) (P Q : X → Type 0) → IfOk r P 
 if_goes (Ok x) P Q h f = f x h
 if_goes (Err e) P Q h f = tt
 
+pub if_both : {X E : Type 0} (r : Result X E) (P Q R : X → Type 0) → IfOk r P → IfOk r Q → ((x : X) → P x → Q x → R x) → IfOk r R
+if_both (Ok x) P Q R p q f = f x p q
+if_both (Err e) P Q R p q f = tt
+
 pub stands_listed : {S : Type 0} (g : Ghosts S) (s : Store S) (k : Kept) → Stands g s k → s.manifest ≡ k.listed
 unfolding Stands
 stands_listed g s k stands = stands.listed

@@ -93,7 +93,7 @@ itself k =
     let b : bytes_eq k.text k.text ≡ true = (bytes_eq-Decides k.text k.text).1 refl in
     rw (a, b) refl
 
-same_tests : (k q : KeyName) → key_eq k q ≡ is_same_key (kind_rank k.kind) k.text (kind_rank q.kind) q.text
+pub same_tests : (k q : KeyName) → key_eq k q ≡ is_same_key (kind_rank k.kind) k.text (kind_rank q.kind) q.text
 same_tests k q = elim (cases_Bool (key_eq k q)) [
   | inl is ↦ is ∙ sym (subst (λ (x : KeyName). is_same_key (kind_rank k.kind) k.text (kind_rank x.kind) x.text ≡ true) (same_key k q is) (itself k))
   | inr other ↦ elim (cases_Bool (is_same_key (kind_rank k.kind) k.text (kind_rank q.kind) q.text)) [
@@ -217,7 +217,7 @@ drop_turns step old new made tables =
     let b = becomes new (record (content_in old.trees) { undo = m.0 }) m.1 in
     (b.0, subst (DropsImages step (content_in old.trees)) (sym b.1) (record { only = refl; map_is = m.2 }))
 
-nothing_kept : (n : ℕ) (text : List ℕ) → image_kept nothing n text ≡ None
+pub nothing_kept : (n : ℕ) (text : List ℕ) → image_kept nothing n text ≡ None
 nothing_kept n text = by_kind (kind_at n) where
   by_kind : (o : Option Kind) → option_map (λ w. option_and_then record_of w) (option_and_then (λ (kind : Kind). nothing (record { kind = kind; text = text })) o) ≡ None
   by_kind None = refl
@@ -257,7 +257,7 @@ books_no_objects k c c' drops books = subst (λ x. IsBooks x k) (sym drops.is) (
 pub books_no_undo : (k : Kept) (c c' : Content) → DropsUndo c c' → IsBooks c k → IsBooks c' k
 books_no_undo k c c' drops books = subst (λ x. IsBooks x k) (sym drops.is) (record { listed = books.listed; receipts = books.receipts; held = books.held; steps = books.steps })
 
-nothing_there : (n : ℕ) (text : List ℕ) → record_at (λ q. None) n text ≡ None
+pub nothing_there : (n : ℕ) (text : List ℕ) → record_at (λ q. None) n text ≡ None
 nothing_there n text = by_kind (kind_at n) where
   by_kind : (o : Option Kind) → option_and_then record_of (option_and_then (λ (kind : Kind). None) o) ≡ None
   by_kind None = refl

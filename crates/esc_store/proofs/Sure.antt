@@ -11,6 +11,8 @@ use Rattle.esc_rows.specs.Schema.{store_schema}
 use Rattle.esc_rows.specs.Content.{Content, content_in}
 use Rattle.esc_rows.specs.Changes.{Tells}
 use Rattle.esc_rows.specs.Part.{IsRead}
+use Rattle.esc_rows.proofs.ObjectLemmas.{content_apart}
+use Rattle.esc_store.specs.Decoded.{HaveOwnKeys}
 use Rattle.esc_store.specs.declared.store.Store.{Store}
 use Rattle.esc_store.specs.Kept.{Kept}
 use Rattle.esc_store.specs.TypedRows.{IsBooks, IsRegistry}
@@ -69,3 +71,10 @@ told_all {S} g old new {X} {E} P r manifest writes sure = go r refl where
   go : (y : Result X E) → r ≡ y → IfOk y (λ x. IsHonest g new → (k : Kept) → Stands g old k → IsTold k (λ c. P c x))
   go (Ok x) is = λ honest k stands. told_by g old new P r manifest writes sure k x is honest stands
   go (Err e) is = tt
+
+-- the objects of a store's tables have keys of their own
+pub sure_keyed : {X E : Type 0} (old new : State) (P : Content → X → Type 0) (r : Result X E) → IsSure old new (Tells P) r → IsSure old new (Tells (λ c x. P c x × HaveOwnKeys c.objects)) r
+sure_keyed {X} {E} old new P r sure = record { survives = sure.survives; kept = sure.kept; said = λ clean. said_keyed r (sure.said clean); failed = sure.failed } where
+  said_keyed : (y : Result X E) → IfOk y (λ x. Tells P old.now x × IsUnchanged old new) → IfOk y (λ x. Tells (λ c x. P c x × HaveOwnKeys c.objects) old.now x × IsUnchanged old new)
+  said_keyed (Ok x) said = (λ c holds. (said.0 c holds, content_apart old.now c holds), said.1)
+  said_keyed (Err e) said = tt

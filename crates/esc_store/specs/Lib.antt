@@ -1,3 +1,4 @@
+pub mod Decoded
 pub mod Faults
 pub mod Kept
 pub mod ReplyValue

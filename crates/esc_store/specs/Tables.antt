@@ -1,9 +1,11 @@
 -- The seven tables of a store.
-use Rattle.std.specs.Prelude.{◌≡◌}
+use Rattle.std.specs.Prelude.{◌≡◌, ◌≤◌, pos, length, slice_get, Some, option_map}
+use Rattle.sqlite_value.specs.declared.value.Value.TheVariants.{Int}
+use Rattle.sqlite_value.specs.Order.{Row, column}
 use Rattle.sqlite_trees.specs.Tree.{Trees}
 use Rattle.sqlite.specs.Effect.{Database}
-use Rattle.esc_rows.specs.Schema.{store_schema, no_schema}
-use Rattle.esc_rows.specs.Content.{Content, content_in, HoldsContent}
+use Rattle.esc_rows.specs.Schema.{store_schema, no_schema, info_tree}
+use Rattle.esc_rows.specs.Content.{content_in, HoldsContent}
 use Rattle.esc_rows.specs.Content.{IsStore as HasTables}
 use Rattle.esc_store.specs.Kept.{Kept}
 use Rattle.esc_store.specs.TypedRows.{IsBooks, IsRegistry}
@@ -26,6 +28,11 @@ HoldsTables db = HoldsContent db (content_in db.trees)
 pub record IsStoreDatabase (db : Database) (k : Kept) : Type 0 where
   pub schema : db.schema ≡ store_schema
   pub kept : IsKept db.trees k
+
+-- a database has the seven tables, and the row that tells a version tells 1; the tables let there be one such row at most
+pub record IsOfVersion (db : Database) : Type 0 where
+  pub schema : db.schema ≡ store_schema
+  pub version : length (db.trees info_tree) ≤ 1 → option_map (λ (r : Row). column r 2) (slice_get (db.trees info_tree) 0) ≡ Some (Int (pos 1))
 
 -- a database without any table, index or view
 abbrev pub IsBlank : Database → Type 0

@@ -8,12 +8,15 @@ ghost use Rattle.esc_envelope.specs.Kinds.{kind_rank};
 ghost use Rattle.esc_tables.specs.ObjectValue.{ObjectValue};
 ghost use Rattle.esc_record.specs.Record.{record_of};
 ghost use Rattle.esc_apply.specs.Registry.{State, empty, written, noted, taken};
+ghost use Rattle.esc_rows.specs.Entries.{image_of};
+ghost use Rattle.esc_store.specs.Decoded.{AreNotes};
 ghost use Rattle.esc_store.specs.Standing.{HoldsNow, Follows};
 
 use crate::change::Change;
 use crate::fault::SFault;
 use esc_envelope::Kind;
 use esc_record::{read_record, to_record};
+use esc_rows::undo::StoredImage;
 use esc_tables::{Key, Object};
 use sqlite::Alter;
 use std::alloc::Global;
@@ -42,16 +45,23 @@ pub(crate) fn record_bytes(alloc: Global, o: &Object) -> Result<Vec<u8>, SFault>
     }
 }
 
+// The object of a record. `S1` where the bytes are no record; `S2`.
+pub(crate) fn record_object(alloc: Global, bytes: &[u8]) -> Result<Object, SFault>
+    ensures { IfOk result (λ object. record_of object ≡ Some bytes.now) }
+{
+    match read_record(alloc, bytes)? {
+        Some(object) => Ok(object),
+        None => Err(SFault::S1),
+    }
+}
+
 // The object that a record is of, if there is one. `S1` where the bytes are no record; `S2`.
 pub(crate) fn object_in(alloc: Global, found: Option<Vec<u8>>) -> Result<Option<Object>, SFault>
     ensures { IfOk result (λ object. (o : _) → option_map (λ b. b.items) found ≡ option_and_then record_of o → IfSome o (λ x. IsSome (record_of x)) → object ≡ o) }
 {
-    let Some(record) = found else {
-        return Ok(None);
-    };
-    match read_record(alloc, record.as_slice())? {
-        Some(object) => Ok(Some(object)),
-        None => Err(SFault::S1),
+    match found {
+        Some(record) => Ok(Some(record_object(alloc, record.as_slice())?)),
+        None => Ok(None),
     }
 }
 
@@ -98,6 +108,19 @@ impl<'a, S: Alter> Change<'a, S> {
     {
         self.store
             .note_here(step, kind_number(k.kind), k.text.as_bytes(), before)
+    }
+
+    // What was noted of a step.
+    pub(crate) fn find_notes(
+        &mut self,
+        alloc: Global,
+        step: u32,
+    ) -> Result<Vec<StoredImage>, SFault>
+        ensures count { self.new.count ≡ self.old.count }
+        ensures follows { Follows S.Store self.old self.new }
+        ensures found { IfOk result (λ found. HasCleanDisk (state S.Store self.new.store.now.conn) → (s : State) → HoldsNow S.Store self.old s → AreNotes step s (map image_of found.items) × HoldsNow S.Store self.new s) }
+    {
+        self.store.notes_here(alloc, step)
     }
 
     // Forgets what was noted of a step.

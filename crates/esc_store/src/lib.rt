@@ -3,11 +3,16 @@
 
 mod books;
 mod change;
+mod counts;
 mod decode;
 mod fault;
 mod form;
+mod founding;
 mod images;
+mod listing;
 mod numbers;
+mod objects;
+mod opening;
 mod reads;
 mod registry;
 mod reply;
@@ -21,3 +26,6 @@ pub use form::number;
 pub use numbers::{N1, Number};
 pub use reply::{Receipt, Reply, Verdict};
 pub use store::Store;
+
+#[cfg(test)]
+mod tests;

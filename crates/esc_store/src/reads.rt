@@ -6,9 +6,11 @@ ghost use Rattle.esc_store.specs.Kept.{Kept, kept_replies, kept_reply, kept_chai
 ghost use Rattle.esc_store.specs.Standing.{Stands, IsHonest, IsAsBefore};
 
 use crate::books::small;
+use crate::counts::counts_of;
 use crate::decode::{indices_of, replies_of, reply_found, steps_of};
 use crate::fault::SFault;
 use crate::numbers::Number;
+use crate::objects::objects_of;
 use crate::reply::Reply;
 use crate::store::Store;
 use esc_apply::Step;
@@ -79,18 +81,20 @@ impl<S: Alter> Store<S> {
     }
 
     /// The objects of the chain's tables. `S1`, `S2`.
-    pub fn tables(&mut self, _alloc: Global) -> Result<BTreeMap<Key, Object>, SFault>
+    pub fn tables(&mut self, alloc: Global) -> Result<BTreeMap<Key, Object>, SFault>
         ensures same { IsAsBefore S.Store self.old self.new }
         ensures objects { IsHonest S.Store self.new → (k : Kept) → Stands S.Store self.old k → IfOk result (λ tables. IsEntriesOf k.registry.content tables.entries) }
     {
-        Err(SFault::S2)
+        let stored = self.see_objects(alloc)?;
+        objects_of(alloc, stored.as_slice())
     }
 
     /// How many objects the tables have of each of the six kinds. `S1`, `S2`.
-    pub fn counts_by_kind(&mut self, _alloc: Global) -> Result<BTreeMap<Kind, u64>, SFault>
+    pub fn counts_by_kind(&mut self, alloc: Global) -> Result<BTreeMap<Kind, u64>, SFault>
         ensures same { IsAsBefore S.Store self.old self.new }
         ensures counts { IsHonest S.Store self.new → (k : Kept) → Stands S.Store self.old k → IfOk result (λ counts. AreCounts k.registry.content counts.entries) }
     {
-        Err(SFault::S2)
+        let kinds = self.see_kinds(alloc)?;
+        counts_of(alloc, kinds.as_slice())
     }
 }

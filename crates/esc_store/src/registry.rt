@@ -5,6 +5,7 @@ ghost use Rattle.std.specs.Prelude.{◌≡◌};
 use crate::change::Change;
 use crate::fault::SFault;
 use crate::images::{object_in, record_bytes};
+use crate::objects::images_of;
 use esc_apply::Registry;
 use esc_tables::{Key, Object};
 use sqlite::Alter;
@@ -70,10 +71,13 @@ impl<'a, S: Alter> Registry for Change<'a, S> {
 
     fn take_undo(
         &mut self,
-        _alloc: Global,
-        _step: u32,
+        alloc: Global,
+        step: u32,
     ) -> Result<Vec<(Key, Option<Object>)>, SFault> {
-        Err(SFault::S2)
+        let found = self.find_notes(alloc, step)?;
+        let noted = images_of(alloc, found.as_slice())?;
+        self.forget_records(step)?;
+        Ok(noted)
     }
 
     fn writes(&self) -> u64 {

@@ -3,6 +3,7 @@
 ghost use Rattle.std.specs.Prelude.{◌≡◌, map, option_map, IfOk};
 ghost use Rattle.esc_rows.specs.Changes.{ListsObjects, ListsKinds, last_number, receipt_of, body_of};
 ghost use Rattle.esc_rows.specs.Entries.{receipt_row, step_row, object_of};
+ghost use Rattle.esc_store.specs.Decoded.{HaveOwnKeys};
 ghost use Rattle.esc_store.specs.Kept.{Kept};
 ghost use Rattle.esc_store.specs.Standing.{Stands, IsHonest, IsAsBefore, IsTold};
 
@@ -75,10 +76,10 @@ impl<S: Alter> Store<S> {
         self.objects_here(alloc)
     }
 
-    // The kind of each record.
+    // The kind of each record, of which each has a key of its own.
     pub(crate) fn see_kinds(&mut self, alloc: Global) -> Result<Vec<u32>, SFault>
         ensures same { IsAsBefore S.Store self.old self.new }
-        ensures told { IfOk result (λ found. IsHonest S.Store self.new → (k : Kept) → Stands S.Store self.old k → IsTold k (λ c. ListsKinds c found.items)) }
+        ensures told { IfOk result (λ found. IsHonest S.Store self.new → (k : Kept) → Stands S.Store self.old k → IsTold k (λ c. ListsKinds c found.items × HaveOwnKeys c.objects)) }
     {
         self.kinds_here(alloc)
     }

@@ -6,15 +6,18 @@ ghost use Rattle.sqlite.specs.Held.{state};
 ghost use Rattle.esc_rows.specs.Schema.{store_schema};
 ghost use Rattle.esc_store.specs.Kept.{Kept, fresh, with_registry};
 ghost use Rattle.esc_apply.specs.Registry.{State};
-ghost use Rattle.esc_store.specs.Tables.{IsBlank, IsStore};
+ghost use Rattle.esc_store.specs.Tables.{IsBlank, IsStore, IsOfVersion};
 ghost use Rattle.esc_store.specs.Standing.{Stands, Began, Rest, HoldsNow, BeganIn, RestIn, HoldsIn, HoldsKept, LeavesOnly, LeavesOr, LeavesNoMore, IsHonest, IsGivenUp};
 ghost use Rattle.sqlite.specs.State.{HasCleanDisk};
 
 use crate::change::Change;
 use crate::fault::SFault;
+use crate::founding::{found_here, give_up_in};
+use crate::listing::both_forms;
+use crate::opening::find_manifest;
 use esc_manifest::Manifest;
 use esc_rows::shape::is_store_schema;
-use esc_rows::transaction::{abandon_in, begin_in, commit_in};
+use esc_rows::transaction::{begin_in, commit_in};
 use sqlite::{Alter, Connection, Error};
 use std::alloc::Global;
 
@@ -33,33 +36,58 @@ impl<S: Alter> Store<S> {
 
     /// A new store of a manifest, over a database without any table, index or view, in one change. At `Err` the
     /// connection is given back, and its database is as before: `S3` where it has a table, an index or a view; `S1`,
-    /// `S2`.
+    /// also in a transaction; `S2`.
     pub fn create(
-        _alloc: Global,
+        alloc: Global,
         connection: Connection<S>,
         manifest: &Manifest,
     ) -> Result<Store<S>, (SFault, Connection<S>)>
         ensures created { IfOk result (λ store. Stands S.Store store (fresh manifest.now)) }
         ensures left { IfOk result (λ store. LeavesOnly S.Store store (fresh manifest.now)) }
         ensures writes { IfOk result (λ store. store.writes ≡ 0) }
+        ensures blank { OnOk result (IsBlank (state S.Store connection).now) }
         ensures refused { IfErr result (λ e. HasCleanDisk (state S.Store e.1) → IsTrue (state S.Store e.1).is_open → (e.0 ≡ SFault.S3) → IsBlank (state S.Store connection).now → ⊥) }
         ensures neither { IfErr result (λ e. HasCleanDisk (state S.Store e.1) → IsTrue (state S.Store e.1).is_open → (state S.Store e.1).committed ≡ (state S.Store connection).committed) }
         ensures crash { MatchResult result (λ store. LeavesOr S.Store connection store.conn (fresh manifest.now)) (λ e. LeavesOr S.Store connection e.1 (fresh manifest.now)) }
     {
-        Err((SFault::S2, connection))
+        let (own, rows) = match both_forms(alloc, manifest) {
+            Ok(forms) => forms,
+            Err(fault) => return Err((fault, connection)),
+        };
+        let mut connection = connection;
+        match found_here(&mut connection, rows.as_slice()) {
+            Ok(()) => Ok(Store {
+                conn: connection,
+                manifest: own,
+                writes: 0,
+                alloc,
+            }),
+            Err(fault) => Err((fault, connection)),
+        }
     }
 
-    /// The store that a database is. `S3` where it is no store of this version; `S1`, `S2`.
+    /// The store that a database is. At `Err` the connection is given back: `S3` where it is no store of this version;
+    /// `S1`, also in a transaction, or where the rows of its manifest make none; `S2`.
     pub fn open(
-        _alloc: Global,
+        alloc: Global,
         connection: Connection<S>,
     ) -> Result<Store<S>, (SFault, Connection<S>)>
         ensures stands { IfOk result (λ store. IsHonest S.Store store → (k : Kept) → HoldsKept S.Store connection k → Stands S.Store store k) }
         ensures writes { IfOk result (λ store. store.writes ≡ 0) }
+        ensures version { IfOk result (λ store. IsHonest S.Store store → IsOfVersion (state S.Store connection).now) }
         ensures never { IfErr result (λ e. e.0 ≡ SFault.S3 → HasCleanDisk (state S.Store e.1) → IsTrue (state S.Store e.1).is_open → (k : Kept) → IsStore (state S.Store connection).committed.trees k → ⊥) }
         ensures survives { MatchResult result (λ store. LeavesNoMore S.Store connection store.conn) (λ e. LeavesNoMore S.Store connection e.1) }
     {
-        Err((SFault::S2, connection))
+        let mut connection = connection;
+        match find_manifest(alloc, &mut connection) {
+            Ok(manifest) => Ok(Store {
+                conn: connection,
+                manifest,
+                writes: 0,
+                alloc,
+            }),
+            Err(fault) => Err((fault, connection)),
+        }
     }
 
     /// The connection, with the store as it is. Takes no memory.
@@ -140,10 +168,7 @@ impl<S: Alter> Store<S> {
         ensures writes { self.new.writes ≡ self.old.writes }
         ensures given_up { IsGivenUp (state S.Store self.old.conn) (state S.Store self.new.conn) }
     {
-        if self.conn.is_autocommit() {
-            return;
-        }
-        abandon_in(&mut self.conn);
+        give_up_in(&mut self.conn);
     }
 
     // What the database answered. After a failure no transaction is on.

@@ -37,10 +37,10 @@ made_only files e d made =
 
 -- ---- the tests in order
 
-abbrev Steps : {A B : Type 0} → Result A ℕ → (A → Result B ℕ) → B → Type 0
+abbrev pub Steps : {A B : Type 0} → Result A ℕ → (A → Result B ℕ) → B → Type 0
 Steps {A} r next y = (x : A) × (r ≡ Ok x) × (next x ≡ Ok y)
 
-steps_of : {A B : Type 0} (r : Result A ℕ) (next : A → Result B ℕ) (y : B) → (r >>= next) ≡ Ok y → Steps r next y
+pub steps_of : {A B : Type 0} (r : Result A ℕ) (next : A → Result B ℕ) (y : B) → (r >>= next) ≡ Ok y → Steps r next y
 steps_of (Ok x) next y h = (x, refl, h)
 steps_of (Err n) next y h = absurd cc
 
@@ -53,7 +53,7 @@ pub record Right (rows : List TableRow) : Type 0 where
   pub named : list_all has_key rows ≡ true
   pub few : length rows ≤ most_rows
 
-right_rows : (rows : List TableRow) → check_rows rows ≡ Ok tt → Right rows
+pub right_rows : (rows : List TableRow) → check_rows rows ≡ Ok tt → Right rows
 unfolding check_rows
 right_rows rows h =
     let first = steps_of (check (list_all is_whole rows) 9) (λ _. check (list_all has_key rows) 10 >>= λ _. check (nat_le (length rows) most_rows) 11) tt h in
@@ -70,10 +70,10 @@ same_ok x y h = cc
 
 -- ---- a deposit is read
 
-abbrev Parts : List Named → EnvelopeValue → DepositValue → Type 0
+abbrev pub Parts : List Named → EnvelopeValue → DepositValue → Type 0
 Parts files e d = (are_filed files (tables_of e) ≡ true) × (check_rows (all_rows files e) ≡ Ok tt) × (d ≡ deposit_of files e)
 
-parts_of : (files : List Named) (e : EnvelopeValue) (d : DepositValue) → deposit_in files e ≡ Ok d → Parts files e d
+pub parts_of : (files : List Named) (e : EnvelopeValue) (d : DepositValue) → deposit_in files e ≡ Ok d → Parts files e d
 unfolding deposit_in
 parts_of files e d h =
     let first = steps_of (check (are_filed files (tables_of e)) 8) (λ _. check_rows (all_rows files e) >>= λ _. Ok (deposit_of files e)) d h in

@@ -2,7 +2,7 @@
 //!
 //! The functions here do nothing. Each stands for the law that its contract says: a caller who needs the law calls it.
 
-ghost use Rattle.std.specs.Prelude.{◌≡◌, ◌↔◌, List, ℕ, Ok, Err};
+ghost use Rattle.std.specs.Prelude.{◌≡◌, ◌↔◌, ◌+◌, ◌≤◌, List, ℕ, length, Ok, Err};
 ghost use Rattle.std.specs.List.Sorted.{IsPermutation, IsSortedBy};
 ghost use Rattle.esc_envelope.specs.EnvelopeValue.{TableValue};
 ghost use Rattle.esc_tables.specs.DepositValue.{DepositValue};
@@ -19,6 +19,11 @@ pub fn reading_is_exact()
 {
     frame_is_exact();
 }
+
+/// A deposit that is read has at most 100,000 deletes and objects together: no more than its bundle may have rows.
+pub fn read_deposits_are_small()
+    ensures { (body : List ℕ) (d : DepositValue) → reading body ≡ Ok d → length d.deletes + length d.contents ≤ 100_000 }
+{}
 
 /// Tables in the order of their names are the same tables, and none comes before one that stands earlier.
 pub fn tables_are_in_order()

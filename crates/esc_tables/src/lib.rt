@@ -21,7 +21,8 @@
 //!
 //! `read_deposit` answers exactly what the definition `reading` of `specs/Reading.antt` gives. That one selects from lists of rows;
 //! the code builds a map. `reading_is_exact` says that `reading` is what the relations of `specs/DepositOf.antt` say: which body is
-//! which deposit, and which refusal stands first.
+//! which deposit, and which refusal stands first. `read_deposits_are_small` says that a deposit has no more deletes and objects than
+//! a bundle may have rows.
 //!
 //! # Cost
 //!
@@ -46,6 +47,6 @@ mod tests;
 
 pub use deposit::Deposit;
 pub use key::Key;
-pub use laws::{reading_is_exact, tables_are_in_order};
+pub use laws::{read_deposits_are_small, reading_is_exact, tables_are_in_order};
 pub use object::{Object, Row};
 pub use reading::read_deposit;

@@ -1,4 +1,4 @@
-use Rattle.std.proofs.Common.{◌≡◌, ◌+◌, ◌-◌, ◌<◌, ℕ, suc, length, take, ◌∙◌, arith}
+use Rattle.std.proofs.Common.{◌≡◌, ◌+◌, ◌-◌, ◌<◌, ℕ, suc, length, take, arith}
 use Rattle.esc_apply.specs.Registry.{saturated}
 use Rattle.esc_apply.specs.Images.{chain_state}
 use Rattle.esc_apply.proofs.Chains.{one_less}

@@ -1,4 +1,4 @@
-use Rattle.std.proofs.Common.{◌≡◌, List, ◌++◌, sym, ap, ◌∙◌}
+use Rattle.std.proofs.Common.{List, ◌++◌, sym, ap, ◌∙◌}
 use Rattle.esc_check.proofs.Writing.{front_added, object_more, object_passed}
 use Rattle.esc_check.proofs.export.export_rows.Goals as goal
 

@@ -1,10 +1,10 @@
-use Rattle.std.proofs.Common.{◌≡◌, List, [], ◌∷◌, ◌++◌, sym, ap, ◌∙◌, append-nil, map, drop}
+use Rattle.std.proofs.Common.{◌≡◌, List, [], ◌∷◌, ◌++◌, sym, ap, ◌∙◌, append-nil, map}
 use Rattle.std.proofs.lemmas.List.{drop_all}
 use Rattle.std.specs.Fmt.{decimal}
 use Rattle.esc_envelope.specs.Kinds.{kind_name}
 use Rattle.esc_tables.specs.ObjectValue.{RowValue, cell_texts}
 use Rattle.esc_check.specs.Lines.{text_of, line_text}
-use Rattle.esc_check.specs.Export.{cell_line, row_lines}
+use Rattle.esc_check.specs.Export.{cell_line}
 use Rattle.esc_check.proofs.Writing.{front_added, cells_text, cells_more}
 use Rattle.esc_check.proofs.export.write_row.Goals as goal
 

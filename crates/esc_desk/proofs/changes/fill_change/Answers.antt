@@ -1,7 +1,10 @@
-use Rattle.std.proofs.Common.{◌≡◌, ℕ, ◌++◌, List, length, map, take, ap, ap₂, sym, subst, ◌∙◌, arith}
+use Rattle.std.proofs.Common.{◌≡◌, ℕ, ◌<◌, ◌^◌, ◌++◌, List, length, map, take, ap, ap₂, sym, subst, ◌∙◌, arith}
+use Rattle.std.specs.Prelude.{sum_by}
 use Rattle.esc_tables.specs.DepositValue.{DepositValue}
 use Rattle.esc_apply.specs.declared.front.Step.{Step}
 use Rattle.esc_apply.specs.Images.{chain_state}
+use Rattle.esc_apply.specs.Tables.{mention_count}
+use Rattle.esc_apply.specs.Moves.{cost}
 use Rattle.esc_apply.specs.Front.{common_front}
 use Rattle.esc_store.specs.Standing.{IsHonest, Rest, HoldsNow}
 use Rattle.esc_store.specs.Kept.{with_receipt, with_body, with_steps, with_registry}
@@ -29,3 +32,15 @@ returns-clause-filled g c = λ k held number none size began rest stood.
           let moved = c.in_ok-work.ensures.moved honest held (size ∙ ap length (sym old)) before in
           c.in_ok-set_chain.ensures.holds _ (subst (λ (ds : List DepositValue). HoldsNow g.S.Store c.move_chain.new.r (chain_state ds)) all moved);
     }
+
+pub returns-clause-worked : goal.returns-clause-worked
+returns-clause-worked g c = λ clean held size stood few.
+    let old = c.deref.ensures.value in
+    let new = c.deref-2.ensures.value in
+    let deposits = c.deref-3.ensures.value in
+    let honest : IsHonest g.S.Store c.move_chain.new.r.store.now = omega (arith, c.in_ok-set_chain.ensures.goes_on.survives.clean, clean) in
+    let before = c.in_ok-hold.ensures.holds (chain_state held) (c.in_ok-record_receipt.ensures.holds (chain_state held) stood) in
+    let fits = subst (λ (ds : List DepositValue). sum_by mention_count (held ++ ds) < 2 ^ 64) (sym deposits) few in
+    c.in_ok-work.ensures.cost honest held (size ∙ ap length (sym old)) before fits
+    ∙ ap₂ (λ (x y : List Step). cost held x y c.deref-3.result.now) old new
+    ∙ ap (λ (ds : List DepositValue). cost held c.args.plan.now.old.items c.args.plan.now.new.items ds) deposits

@@ -1,15 +1,30 @@
-use Rattle.std.proofs.Common.{◌≡◌, true, sym, ap, ◌∙◌}
+use Rattle.std.proofs.Common.{◌≡◌, true, false, Some, sym, ap, subst, ◌∙◌}
+use Rattle.std.proofs.lemmas.Result.{IfOk-weaker}
+use Rattle.esc_desk.specs.declared.finding.Finding.{Finding}
 use Rattle.esc_desk.specs.ArrivalValue.{ArrivalValue}
-use Rattle.esc_desk.specs.Receipts.{is_old}
+use Rattle.esc_desk.specs.Finding.{held_row}
+use Rattle.esc_desk.specs.Receipts.{is_among, is_old}
+use Rattle.esc_desk.specs.Taking.{IsNew}
 use Rattle.esc_desk.proofs.Holding.{stands_noted}
+use Rattle.esc_desk.proofs.Working.{chain_stays}
 use Rattle.esc_desk.proofs.desk.keep.Goals as goal
 
 pub returns-then-is_old-clause-kept : goal.returns-then-is_old-clause-kept
 returns-then-is_old-clause-kept g c = λ clean m l n k stood is.
     let a : ArrivalValue = record { number = n; body = c.args.body.now } in
     let old : is_old c.args.held.now c.held_row.result ≡ true = sym c.if-is_old.ensures in
+    let stands = stands_noted m l a k c.args.found c.args.held.now c.args.number c.args.receipt.now is (λ q here. ap (is_old c.args.held.now) (sym (c.held_row.ensures ∙ here)) ∙ old) in
     record {
-      kept = _;
-      stands = c.in_ok-note_receipt.ensures.recorded clean k is.next stood;
-      stands_for = stands_noted m l a k c.args.found c.args.held.now c.args.number c.args.receipt.now is (λ q here. ap (is_old c.args.held.now) (sym (c.held_row.ensures ∙ here)) ∙ old);
+      serves = record {
+        kept = _;
+        stands = c.in_ok-note_receipt.ensures.recorded clean k is.next stood;
+        stands_for = stands;
+      };
+      works = chain_stays m l a k.steps is.stood.chain stands.chain;
     }
+
+pub returns-clause-kept : goal.returns-clause-kept
+returns-clause-kept g c = IfOk-weaker c.keep_deposit.result _ _ (λ work made. λ clean m l n k stood is.
+    let a : ArrivalValue = record { number = n; body = c.args.body.now } in
+    let new : is_among c.args.held.now (Some c.in-Holding.row) ≡ false = sym (c.if-is_old.ensures ∙ ap (is_old c.args.held.now) (c.held_row.ensures ∙ ap held_row c.in-Holding.is)) in
+    made clean m l n k stood new (subst (λ (f : Finding). IsNew m l a k f c.args.held.now c.args.number c.args.receipt.now) c.in-Holding.is is)) c.keep_deposit.ensures.kept

@@ -1,5 +1,5 @@
 use Rattle.std.proofs.Common.{sym, ap, subst}
-use Rattle.std.proofs.lemmas.Result.{on_ok_weaker}
+use Rattle.std.proofs.lemmas.Result.{IfOk-weaker}
 use Rattle.sha2.specs.Sha256.{sha256}
 use Rattle.esc_tables.specs.Reading.{reading}
 use Rattle.esc_manifest.specs.Accepted.{IsAccepted}
@@ -9,21 +9,35 @@ use Rattle.esc_desk.specs.ArrivalValue.{ArrivalValue}
 use Rattle.esc_desk.specs.Stands.{deposits_of}
 use Rattle.esc_desk.proofs.TakingIn.{reads_of}
 use Rattle.esc_desk.proofs.Holding.{stands_held, no_body_yet, old_count}
+use Rattle.esc_desk.proofs.Working.{few_moved, moved, both_ok}
 use Rattle.esc_desk.proofs.desk.keep_deposit.Goals as goal
 
 pub returns-clause-kept : goal.returns-clause-kept
-returns-clause-kept g c = on_ok_weaker c.hold_deposit.result
-    (λ held. λ clean m l n k stood new is.
+returns-clause-kept g c = IfOk-weaker c.hold_deposit.result _ _
+    (λ work made. λ clean m l n k stood new is.
     let a : ArrivalValue = record { number = n; body = c.args.body.now } in
     let plan = c.in_ok-plan.plan in
+    let rows = c.args.held.now in
+    let number = c.args.number in
+    let receipt = c.args.receipt.now in
+    let row = c.args.row in
+    let deposit = c.args.deposit in
     let honest = c.hold_deposit.ensures.honest clean in
     let law = c.latest_chain_rows_are_held.ensures in
-    let planned = c.in_ok-plan.ensures.planned honest k stood a.body (reads_of sha256 reading m a.body c.args.row c.args.deposit (sym is.found_is)) in
+    let few = c.read_deposits_mention_few.ensures in
+    let few_old = c.in_ok-plan.ensures.few_old in
+    let few_new = c.in_ok-plan.ensures.few_new in
+    let planned = c.in_ok-plan.ensures.planned honest k stood a.body (reads_of sha256 reading m a.body row deposit (sym is.found_is)) in
     let accepted = subst IsAccepted is.stood.listed planned.accepted in
     let before = subst (λ (x : Kept). Stands g.S.Store c.plan_move.new.store x) (ap (with_registry k) is.stood.registry) (c.in_ok-plan.ensures.same.stands k stood) in
+    let count = old_count law m accepted l a k rows number receipt row deposit is new plan planned in
     record {
-      kept = _;
-      stands = held clean k (deposits_of reading k.bodies k.steps) is.next (no_body_yet law m accepted l a k c.args.held.now c.args.number c.args.receipt.now c.args.row c.args.deposit is new plan planned) (old_count law m accepted l a k c.args.held.now c.args.number c.args.receipt.now c.args.row c.args.deposit is new plan planned) before;
-      stands_for = stands_held law m accepted l a k c.args.held.now c.args.number c.args.receipt.now c.args.row c.args.deposit is new plan planned;
+      serves = record {
+        kept = _;
+        stands = made.0 clean k (deposits_of reading k.bodies k.steps) is.next (no_body_yet law m accepted l a k rows number receipt row deposit is new plan planned) count before;
+        stands_for = stands_held law m accepted l a k rows number receipt row deposit is new plan planned;
+      };
+      works = moved law few m accepted l a k rows number receipt row deposit is new plan planned few_old few_new work
+          (made.1 clean k (deposits_of reading k.bodies k.steps) count before (few_moved law few m accepted l a k rows number receipt row deposit is new plan planned few_old few_new));
     })
-    c.hold_deposit.ensures.held
+    (both_ok c.hold_deposit.result _ _ c.hold_deposit.ensures.held c.hold_deposit.ensures.worked)

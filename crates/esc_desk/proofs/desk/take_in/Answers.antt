@@ -10,6 +10,7 @@ use Rattle.esc_desk.specs.Taking.{IsNew}
 use Rattle.esc_desk.proofs.OneArrival.{new_reply}
 use Rattle.esc_desk.proofs.Holding.{new_receipt}
 use Rattle.esc_desk.proofs.StoreFacts.{was_honest}
+use Rattle.esc_desk.proofs.Working.{holds_nothing_new}
 use Rattle.esc_desk.proofs.desk.take_in.Goals as goal
 
 pub returns-clause-answered : goal.returns-clause-answered
@@ -35,9 +36,15 @@ returns-clause-answered g c = λ clean m l k stood stands none.
     } in
     let count : 1 + length k.receipts ≡ c.in_ok-next.next = omega (arith, is.next) in
     let listed2 : c.manifest-2.result.now ≡ m = c.manifest-2.ensures.kept k stood_held ∙ stands.listed in
+    let at_work = subst (λ (rows : List ℕ). IsNew m l a k found rows c.in_ok-next.next receipt) (sym c.deref-2.ensures.value) is in
+    let made = c.in_ok-work.ensures.kept clean m l c.args.number.now k stood_held at_work in
     record {
-      serves = c.in_ok-work.ensures.kept clean m l c.args.number.now k stood_held (subst (λ (rows : List ℕ). IsNew m l a k found rows c.in_ok-next.next receipt) (sym c.deref-2.ensures.value) is);
-      told =
-          new_reply sha256 reading m l k a stands is.none
-          ∙ ap Some (sym (c.in_ok-reply.ensures ∙ ap (λ (x : List MRow). reply_kept x c.in_ok-next.next receipt) (c.rows.ensures.rows ∙ listed2) ∙ ap₂ (λ (n : ℕ) (r : ReceiptValue). reply_kept m n r) (sym count) (new_receipt m l a k found held c.in_ok-next.next receipt is)));
+      answers = record {
+        serves = made.serves;
+        told =
+            new_reply sha256 reading m l k a stands is.none
+            ∙ ap Some (sym (c.in_ok-reply.ensures ∙ ap (λ (x : List MRow). reply_kept x c.in_ok-next.next receipt) (c.rows.ensures.rows ∙ listed2) ∙ ap₂ (λ (n : ℕ) (r : ReceiptValue). reply_kept m n r) (sym count) (new_receipt m l a k found held c.in_ok-next.next receipt is)));
+      };
+      works = made.works;
+      idle = λ same. c.in_ok-work.ensures.idle (holds_nothing_new m l a k found c.deref-2.result.now c.in_ok-next.next receipt at_work same);
     }

@@ -1,10 +1,7 @@
-use Rattle.std.proofs.Common.{◌≡◌, sym, ap, ◌∙◌, Some, option_map}
-use Rattle.std.specs.Prelude.{IfSome}
-use Rattle.esc_record.specs.Record.{record_of}
+use Rattle.std.proofs.Common.{ap, ◌∙◌, Some}
 use Rattle.esc_store.proofs.Registries.{one_object}
 use Rattle.esc_store.proofs.images.object_in.Goals as goal
 
-pub returns-in-Some-2 : goal.returns-in-Some-2
-returns-in-Some-2 c = λ o is has.
-    let found = rw (c.in-Some-2.is, c.as_slice.ensures.value) at c.in_ok-object.ensures.found in
-    one_object c.in-Some-2.object c.in-Some.record.items o found (rw c.in-Some.is at is)
+pub returns-in_ok-record_object-in-Some : goal.returns-in_ok-record_object-in-Some
+returns-in_ok-record_object-in-Some c = λ o is has.
+    one_object c.in_ok-record_object-in-Some.field-0 c.in-Some.record.items o (c.in_ok-record_object-in-Some.ensures ∙ ap Some c.as_slice.ensures.value) (rw c.in-Some.is at is)

@@ -1,4 +1,5 @@
 use Rattle.std.proofs.Common.{refl, ◌≡◌, Some, None, List, ℕ, sym, ap, ap₂, ◌∙◌}
+use Rattle.std.proofs.lemmas.Result.{IfOk-weaker}
 use Rattle.sha2.specs.Sha256.{sha256}
 use Rattle.esc_tables.specs.Reading.{reading}
 use Rattle.esc_manifest.specs.declared.row.MRow.{MRow}
@@ -6,6 +7,7 @@ use Rattle.esc_store.specs.ReplyValue.{reply_alike}
 use Rattle.esc_desk.specs.ArrivalValue.{ArrivalValue}
 use Rattle.esc_desk.proofs.OneArrival.{repeated, repeated_reply}
 use Rattle.esc_desk.proofs.Searches.{same_answer, no_answer}
+use Rattle.esc_desk.proofs.Working.{chain_stays}
 use Rattle.esc_desk.proofs.desk.Desk.arrive.Goals as goal
 
 pub returns-in-Some-clause-answered : goal.returns-in-Some-clause-answered
@@ -23,7 +25,29 @@ returns-in-None-clause-answered g c = λ clean m l serves.
     let honest = c.take_in.ensures.honest clean in
     let none : reply_alike m 1 c.args.number.now c.digest-digest.result serves.kept.receipts ≡ None =
     sym (c.in_ok-reply.ensures.found honest serves.kept serves.stands ∙ ap (λ (x : List MRow). reply_alike x 1 c.args.number.now c.digest-digest.result serves.kept.receipts) serves.stands_for.listed) ∙ c.in-None.is in
-    c.take_in.ensures.answered clean m l serves.kept (c.in_ok-reply.ensures.same.stands serves.kept serves.stands) serves.stands_for none
+    IfOk-weaker c.take_in.result _ _ (λ p taken. taken.answers) (c.take_in.ensures.answered clean m l serves.kept (c.in_ok-reply.ensures.same.stands serves.kept serves.stands) serves.stands_for none)
+
+pub returns-in-Some-clause-worked : goal.returns-in-Some-clause-worked
+returns-in-Some-clause-worked g c = λ clean m l serves.
+    let a : ArrivalValue = record { number = c.args.number.now; body = c.args.body.now } in
+    let stood = serves.stands_for in
+    let there : reply_alike m 1 a.number (sha256 a.body) serves.kept.receipts ≡ Some c.in-Some.reply =
+    sym (c.in_ok-reply.ensures.found clean serves.kept serves.stands ∙ ap₂ (λ (x : List MRow) (d : List ℕ). reply_alike x 1 a.number d serves.kept.receipts) stood.listed c.digest-digest.ensures) ∙ c.in-Some.is in
+    chain_stays m l a serves.kept.steps stood.chain (repeated sha256 reading m l serves.kept a stood c.in-Some.reply there).chain
+
+pub returns-in-None-clause-worked : goal.returns-in-None-clause-worked
+returns-in-None-clause-worked g c = λ clean m l serves.
+    let honest = c.take_in.ensures.honest clean in
+    let none : reply_alike m 1 c.args.number.now c.digest-digest.result serves.kept.receipts ≡ None =
+    sym (c.in_ok-reply.ensures.found honest serves.kept serves.stands ∙ ap (λ (x : List MRow). reply_alike x 1 c.args.number.now c.digest-digest.result serves.kept.receipts) serves.stands_for.listed) ∙ c.in-None.is in
+    IfOk-weaker c.take_in.result _ _ (λ p taken. taken.works) (c.take_in.ensures.answered clean m l serves.kept (c.in_ok-reply.ensures.same.stands serves.kept serves.stands) serves.stands_for none)
+
+pub returns-in-None-clause-idle : goal.returns-in-None-clause-idle
+returns-in-None-clause-idle g c = λ clean m l serves same.
+    let honest = c.take_in.ensures.honest clean in
+    let none : reply_alike m 1 c.args.number.now c.digest-digest.result serves.kept.receipts ≡ None =
+    sym (c.in_ok-reply.ensures.found honest serves.kept serves.stands ∙ ap (λ (x : List MRow). reply_alike x 1 c.args.number.now c.digest-digest.result serves.kept.receipts) serves.stands_for.listed) ∙ c.in-None.is in
+    IfOk-weaker c.take_in.result _ _ (λ p taken. taken.idle same) (c.take_in.ensures.answered clean m l serves.kept (c.in_ok-reply.ensures.same.stands serves.kept serves.stands) serves.stands_for none)
 
 pub returns-in-Some-clause-repeated : goal.returns-in-Some-clause-repeated
 returns-in-Some-clause-repeated g c = λ clean m l serves r told.

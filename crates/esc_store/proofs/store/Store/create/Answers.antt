@@ -1,5 +1,24 @@
+use Rattle.std.proofs.Common.{◌∙◌, ap, map}
+use Rattle.esc_rows.specs.Entries.{listed_row}
+use Rattle.esc_store.specs.Standing.{Stands, LeavesOnly, LeavesOr}
 use Rattle.esc_store.proofs.Standings.{leaves_same}
 use Rattle.esc_store.proofs.store.Store.create.Goals as goal
 
-pub returns-clause-crash : goal.returns-clause-crash
-returns-clause-crash g c = leaves_same g.S.Store _ _
+pub returns-in-Err-clause-crash : goal.returns-in-Err-clause-crash
+returns-in-Err-clause-crash g c = leaves_same g.S.Store _ _
+
+pub returns-in-Ok-found_here-clause-created : goal.returns-in-Ok-found_here-clause-created
+unfolding Stands
+returns-in-Ok-found_here-clause-created g c = record { listed = c.in-Ok.ensures.own; rests = c.in-Ok-found_here.ensures.rests c.args.manifest.now (ap (map listed_row) c.as_slice.ensures.value ∙ c.in-Ok.ensures.rows) }
+
+pub returns-in-Ok-found_here-clause-left : goal.returns-in-Ok-found_here-clause-left
+unfolding LeavesOnly
+returns-in-Ok-found_here-clause-left g c = c.in-Ok-found_here.ensures.left c.args.manifest.now (ap (map listed_row) c.as_slice.ensures.value ∙ c.in-Ok.ensures.rows)
+
+pub returns-in-Ok-found_here-clause-crash : goal.returns-in-Ok-found_here-clause-crash
+unfolding LeavesOr
+returns-in-Ok-found_here-clause-crash g c = c.found_here.ensures.survives c.args.manifest.now (ap (map listed_row) c.as_slice.ensures.value ∙ c.in-Ok.ensures.rows)
+
+pub returns-in-Err-found_here-clause-crash : goal.returns-in-Err-found_here-clause-crash
+unfolding LeavesOr
+returns-in-Err-found_here-clause-crash g c = c.found_here.ensures.survives c.args.manifest.now (ap (map listed_row) c.as_slice.ensures.value ∙ c.in-Ok.ensures.rows)

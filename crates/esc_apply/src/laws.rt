@@ -1,0 +1,16 @@
+//! What follows from the definitions alone.
+
+ghost use Rattle.std.specs.Prelude.{◌≡◌, ◌≤◌, List, ℕ, Ok};
+ghost use Rattle.esc_tables.specs.DepositValue.{DepositValue};
+ghost use Rattle.esc_tables.specs.Reading.{reading};
+ghost use Rattle.esc_apply.specs.Tables.{mention_count};
+
+use esc_tables::read_deposits_are_small;
+
+/// A deposit that is read from a body mentions at most 100,000 keys. There is nothing to run: a caller calls it for
+/// what it ensures.
+pub fn read_deposits_mention_few()
+    ensures { (body : List ℕ) (d : DepositValue) → reading body ≡ Ok d → mention_count d ≤ 100_000 }
+{
+    read_deposits_are_small();
+}

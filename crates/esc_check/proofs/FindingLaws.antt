@@ -1,0 +1,388 @@
+-- What is gathered is exactly what is found.
+use Rattle.std.proofs.Common.{◌≡◌, ◌≢◌, ◌⊎◌, inl, inr, ℕ, ℤ, Bool, true, false, cond, not, ◌&&◌, List, [], ◌∷◌, ◌++◌, Option, Some, None, is_some, refl, sym, ap, subst, ◌∙◌, arith}
+use Rattle.std.specs.Prelude.{◌↔◌, codes, ◌<ℤ◌, ◌==◌, eqb, int_lt}
+use Rattle.std.proofs.lemmas.Int.{ints}
+use Rattle.std.proofs.lemmas.Bool.{eq-eqb}
+use Rattle.std.proofs.lemmas.Bool.Decides.{eqb_tells}
+use Rattle.std.specs.List.{Contains, IsDistinct, flat_map, list_any}
+use Rattle.std.specs.List.Sorted.{IsStrictlySortedBy}
+use Rattle.std.specs.Map.{keys_of}
+use Rattle.std.specs.Str.{bytes_eq}
+use Rattle.std.proofs.lemmas.Slice.Eq.{bytes_eq-Decides}
+use Rattle.std.proofs.lemmas.List.Elements.{Contains-append_left, Contains-append_right, Contains-append_cases}
+use Rattle.std.proofs.lemmas.Map.Keys.{IsDistinct-from_sorted}
+use Rattle.std.proofs.lemmas.Map.Views.{Contains-from_lookup, lookup-from_Contains}
+use Rattle.esc_envelope.specs.declared.kind.Kind.{Kind}
+use Rattle.esc_envelope.specs.declared.kind.Kind.TheVariants.{Registrar, Contact, Host, Domain, Idn, Nndn}
+use Rattle.esc_envelope.specs.Watermark.{watermark_of}
+use Rattle.esc_tables.specs.KeyName.{KeyName, key_cmp, key_eq}
+use Rattle.esc_tables.specs.ObjectValue.{RowValue, ObjectValue}
+use Rattle.esc_check.specs.declared.field.LinkField.{LinkField}
+use Rattle.esc_check.specs.Export.{is_in}
+use Rattle.esc_check.specs.Fields.{cell, field_name, is_domain, parent_fields, child_field, status_table, created, expires}
+use Rattle.esc_check.specs.FindingValue.{FindingValue}
+use Rattle.esc_check.specs.Findings.{IsMissing, IsMiscounted, IsUnknown, IsMixed, IsLate, IsEarly, IsMalformed, IsOfDates, IsOwn, IsFinding, missing_target, miscounted, unknown_status, mixed_status, printed, late, early, malformed}
+use Rattle.esc_check.specs.Gathered.{is_empty, text_links, field_links, row_links, child_links, links_of, is_present, link_findings, count_of, count_findings, row_status, statuses_in, statuses_of, is_status, is_ok, is_mixed, one_unknown, status_findings, is_after, is_before, is_malformed, late_findings, early_findings, malformed_findings, moment_findings, form_findings, own_findings, object_findings}
+use Rattle.esc_check.specs.LinkValue.{LinkValue, link_to}
+use Rattle.esc_check.specs.Links.{LinksBy, IsLinkOf}
+use Rattle.esc_check.specs.Statuses.{status_words, IsStatusOf}
+use Rattle.esc_check.specs.Tables.{Entry, tables_of}
+use Rattle.esc_check.proofs.Keys.{keys_alike, same_key, count_has, count_is}
+use Rattle.esc_check.proofs.Members.{nothing_in, here, only, from_pieces, in_pieces, from_chosen, in_chosen, from_any, any_from}
+
+false_true : false ≡ true → ⊥
+false_true q = cc
+
+lt_is : (a b : ℤ) → int_lt a b ≡ true → a <ℤ b
+lt_is a b h = grind (arith, ints)
+
+is_lt : (a b : ℤ) → a <ℤ b → int_lt a b ≡ true
+is_lt a b h = grind (arith, ints)
+
+-- what one test gives
+given : (b : Bool) (x f : FindingValue) → Contains (cond b (x ∷ []) []) f → (b ≡ true) × (f ≡ x)
+given true x f h = (refl, sym (only x f h))
+given false x f h = absurd (nothing_in f h)
+
+give : (b : Bool) (x f : FindingValue) → b ≡ true → f ≡ x → Contains (cond b (x ∷ []) []) f
+give b x f holds is =
+    subst (λ (d : Bool). Contains (cond d (x ∷ []) []) f) (sym holds) (subst (λ (g : FindingValue). Contains (x ∷ []) g) (sym is) (here x []))
+
+unless : (b : Bool) (x f : FindingValue) → Contains (cond b [] (x ∷ [])) f → (b ≡ false) × (f ≡ x)
+unless false x f h = (refl, sym (only x f h))
+unless true x f h = absurd (nothing_in f h)
+
+give_unless : (b : Bool) (x f : FindingValue) → b ≡ false → f ≡ x → Contains (cond b [] (x ∷ [])) f
+give_unless b x f fails is =
+    subst (λ (d : Bool). Contains (cond d [] (x ∷ [])) f) (sym fails) (subst (λ (g : FindingValue). Contains (x ∷ []) g) (sym is) (here x []))
+
+both : (a b : Bool) → (a && b) ≡ true → (a ≡ true) × (b ≡ true)
+both true b h = (refl, h)
+both false b h = absurd (false_true h)
+
+gone : {X : Type 0} (o : Option X) → not (is_some o) ≡ true → o ≡ None
+gone None h = refl
+gone (Some x) h = absurd (false_true h)
+
+is_full : (b : ℕ) (bs : List ℕ) → (b ∷ bs) ≢ []
+is_full b bs = λ e. false_true (ap is_empty e)
+
+not_empty : (text : List ℕ) → text ≢ [] → is_empty text ≡ false
+not_empty [] some = absurd (some refl)
+not_empty (b ∷ bs) some = refl
+
+-- V1
+
+names : (k : KeyName) (g : LinkField) (text : List ℕ) (l : LinkValue) → Contains (text_links k g text) l → (text ≢ []) × (l ≡ link_to k g text)
+names k g [] l h = absurd (nothing_in l h)
+names k g (b ∷ bs) l h = (is_full b bs, sym (only (link_to k g (b ∷ bs)) l h))
+
+named : (k : KeyName) (g : LinkField) (text : List ℕ) (l : LinkValue) → text ≢ [] → l ≡ link_to k g text → Contains (text_links k g text) l
+named k g [] l some is = absurd (some refl)
+named k g (b ∷ bs) l some is = subst (λ (m : LinkValue). Contains (link_to k g (b ∷ bs) ∷ []) m) (sym is) (here (link_to k g (b ∷ bs)) [])
+
+row_names : (k : KeyName) (r : RowValue) (o : Option LinkField) (l : LinkValue) → Contains (row_links k r o) l → (g : LinkField) × (o ≡ Some g) × LinksBy k r g l
+row_names k r None l h = absurd (nothing_in l h)
+row_names k r (Some g) l h = (g, refl, names k g (cell (field_name g) r) l h)
+
+links_are : (k : KeyName) (o : ObjectValue) (l : LinkValue) → Contains (links_of k o) l → IsLinkOf k o l
+links_are k o l h = pick (Contains-append_cases (flat_map (field_links k o.parent) (parent_fields k.kind)) (flat_map (child_links k) o.children) l h)
+  where
+    pick : Contains (flat_map (field_links k o.parent) (parent_fields k.kind)) l ⊎ Contains (flat_map (child_links k) o.children) l → IsLinkOf k o l
+    pick (inl a) =
+        let r = from_pieces (field_links k o.parent) (parent_fields k.kind) l a in
+        inl (r.0, r.1, names k r.0 (cell (field_name r.0) o.parent) l r.2)
+    pick (inr b) =
+        let r = from_pieces (child_links k) o.children l b in
+        let n = row_names k r.0 (child_field k.kind r.0.table) l r.2 in
+        inr (r.0, n.0, r.1, n.1, n.2)
+
+are_links : (k : KeyName) (o : ObjectValue) (l : LinkValue) → IsLinkOf k o l → Contains (links_of k o) l
+are_links k o l (inl (g, has, by)) =
+    Contains-append_left (flat_map (field_links k o.parent) (parent_fields k.kind)) (flat_map (child_links k) o.children) l
+    (in_pieces (field_links k o.parent) (parent_fields k.kind) g l has (named k g (cell (field_name g) o.parent) l by.0 by.1))
+are_links k o l (inr (r, g, has, table, by)) =
+    Contains-append_right (flat_map (field_links k o.parent) (parent_fields k.kind)) (flat_map (child_links k) o.children) l
+    (in_pieces (child_links k) o.children r l has (subst (λ (x : Option LinkField). Contains (row_links k r x) l) (sym table) (named k g (cell (field_name g) r) l by.0 by.1)))
+
+from_of : (k : KeyName) (o : ObjectValue) (l : LinkValue) → IsLinkOf k o l → l.from ≡ k
+from_of k o l (inl (g, has, by)) = ap (λ (m : LinkValue). m.from) by.1
+from_of k o l (inr (r, g, has, table, by)) = ap (λ (m : LinkValue). m.from) by.1
+
+links_found : (es : List Entry) (k : KeyName) (o : ObjectValue) (f : FindingValue) → tables_of es k ≡ Some o → Contains (link_findings (is_present es) (links_of k o)) f → IsMissing (tables_of es) f
+links_found es k o f at h =
+    let r = from_chosen (λ (l : LinkValue). not (is_present es l.to)) missing_target (links_of k o) f h in
+    let link = links_are k o r.0 r.1 in
+    let from = from_of k o r.0 link in (
+      r.0,
+      (o, subst (λ (q : KeyName). tables_of es q ≡ Some o) (sym from) at, subst (λ (q : KeyName). IsLinkOf q o r.0) (sym from) link),
+      gone (tables_of es r.0.to) r.2,
+      r.3,
+    )
+
+found_links : (es : List Entry) (k : KeyName) (o : ObjectValue) (l : LinkValue) (f : FindingValue) → IsLinkOf k o l → tables_of es l.to ≡ None → f ≡ missing_target l
+    → Contains (link_findings (is_present es) (links_of k o)) f
+found_links es k o l f link absent is =
+    let lost : not (is_present es l.to) ≡ true = ap (λ (x : Option ObjectValue). not (is_some x)) absent in
+    subst (λ (g : FindingValue). Contains (link_findings (is_present es) (links_of k o)) g) (sym is)
+    (in_chosen (λ (m : LinkValue). not (is_present es m.to)) missing_target (links_of k o) l (are_links k o l link) lost)
+
+-- V2
+
+differ : (a b : ℕ) → (a == b) ≡ false → a ≢ b
+differ a b h = λ e. false_true (sym h ∙ eq-eqb a b e)
+
+differ_is : (a b : ℕ) → a ≢ b → (a == b) ≡ false
+differ_is a b h = pick (eqb_tells a b)
+  where
+    pick : ((eqb a b ≡ true) × (a ≡ b)) ⊎ ((eqb a b ≡ false) × (a ≢ b)) → (a == b) ≡ false
+    pick (inl same) = absurd (h same.1)
+    pick (inr apart) = apart.0
+
+counts_found : (es : List Entry) (counts : List (Kind × ℕ)) (f : FindingValue) → IsDistinct key_eq (keys_of es) → Contains (flat_map (count_findings (keys_of es)) counts) f → IsMiscounted (tables_of es) counts f
+counts_found es counts f apart h =
+    let r = from_pieces (count_findings (keys_of es)) counts f h in
+    let n = count_of (keys_of es) r.0.0 in
+    let u = unless (n == r.0.1) (miscounted r.0.0 r.0.1 n) f r.2 in
+    (r.0.0, r.0.1, n, r.1, count_has es r.0.0 apart, differ n r.0.1 u.0, u.1)
+
+found_counts : (es : List Entry) (counts : List (Kind × ℕ)) (f : FindingValue) → IsDistinct key_eq (keys_of es) → IsMiscounted (tables_of es) counts f → Contains (flat_map (count_findings (keys_of es)) counts) f
+found_counts es counts f apart (kind, declared, n, has, many, other, is) =
+    let c = count_of (keys_of es) kind in
+    let same : n ≡ c = count_is es kind n apart many in
+    in_pieces (count_findings (keys_of es)) counts (kind, declared) f has
+    (give_unless (c == declared) (miscounted kind declared c) f (differ_is c declared (subst (λ (m : ℕ). m ≢ declared) same other)) (is ∙ ap (miscounted kind declared) same))
+
+-- V3 and V4
+
+status_at : (table : List ℕ) (r : RowValue) (s : List ℕ) → Contains (row_status table r) s → (r.table ≡ table) × (cell (codes "status") r ≡ s) × (s ≢ [])
+status_at table r s h = pick (is_in table r) refl (cell (codes "status") r) refl h
+  where
+    pick : (b : Bool) → is_in table r ≡ b → (c : List ℕ) → cell (codes "status") r ≡ c → Contains (cond b (cond (is_empty c) [] (c ∷ [])) []) s
+        → (r.table ≡ table) × (cell (codes "status") r ≡ s) × (s ≢ [])
+    pick false e c f h = absurd (nothing_in s h)
+    pick true e [] f h = absurd (nothing_in s h)
+    pick true e (b ∷ bs) f h =
+        let same : (b ∷ bs) ≡ s = only (b ∷ bs) s h in
+        ((bytes_eq-Decides r.table table).0 e, f ∙ same, λ n. is_full b bs (same ∙ n))
+
+at_status : (table : List ℕ) (r : RowValue) (s : List ℕ) → r.table ≡ table → cell (codes "status") r ≡ s → s ≢ [] → Contains (row_status table r) s
+at_status table r s same is some =
+    let c = cell (codes "status") r in
+    let among : is_in table r ≡ true = (bytes_eq-Decides r.table table).1 same in
+    let full : is_empty c ≡ false = not_empty c (λ e. some (sym is ∙ e)) in
+    subst (λ (b : Bool). Contains (cond b (cond (is_empty c) [] (c ∷ [])) []) s) (sym among)
+    (subst (λ (b : Bool). Contains (cond b [] (c ∷ [])) s) (sym full) (subst (λ (x : List ℕ). Contains (c ∷ []) x) is (here c [])))
+
+in_table : (table : Option (List ℕ)) (rows : List RowValue) (s : List ℕ) → Contains (statuses_in table rows) s
+    → (r : RowValue) × Contains rows r × (table ≡ Some r.table) × (cell (codes "status") r ≡ s) × (s ≢ [])
+in_table None rows s h = absurd (nothing_in s h)
+in_table (Some table) rows s h =
+    let r = from_pieces (row_status table) rows s h in
+    let at = status_at table r.0 s r.2 in
+    (r.0, r.1, ap (λ (t : List ℕ). Some t) (sym at.0), at.1, at.2)
+
+statuses_are : (k : KeyName) (o : ObjectValue) (s : List ℕ) → Contains (statuses_of k o) s → IsStatusOf k o s
+statuses_are k o s h = in_table (status_table k.kind) o.children s h
+
+are_statuses : (k : KeyName) (o : ObjectValue) (s : List ℕ) → IsStatusOf k o s → Contains (statuses_of k o) s
+are_statuses k o s (r, has, table, is, some) =
+    subst (λ (t : Option (List ℕ)). Contains (statuses_in t o.children) s) (sym table) (in_pieces (row_status r.table) o.children r s has (at_status r.table r s refl is some))
+
+unlisted : (k : Kind) (s : List ℕ) → is_status k s ≡ false → Contains (status_words k) s → ⊥
+unlisted k s h has = false_true (sym h ∙ any_from (λ (w : List ℕ). bytes_eq w s) (status_words k) s has ((bytes_eq-Decides s s).1 refl))
+
+is_unlisted : (k : Kind) (s : List ℕ) → (Contains (status_words k) s → ⊥) → is_status k s ≡ false
+is_unlisted k s h = pick (is_status k s) refl
+  where
+    pick : (b : Bool) → is_status k s ≡ b → b ≡ false
+    pick false e = refl
+    pick true e =
+        let w = from_any (λ (w : List ℕ). bytes_eq w s) (status_words k) e in
+        absurd (h (subst (λ (t : List ℕ). Contains (status_words k) t) ((bytes_eq-Decides w.0 s).0 w.2) w.1))
+
+domain_is : (k : Kind) → is_domain k ≡ true → k ≡ Domain
+domain_is Domain h = refl
+domain_is Registrar h = absurd (false_true h)
+domain_is Contact h = absurd (false_true h)
+domain_is Host h = absurd (false_true h)
+domain_is Idn h = absurd (false_true h)
+domain_is Nndn h = absurd (false_true h)
+
+ok_is : (s : List ℕ) → is_ok s ≡ true → s ≡ codes "ok"
+ok_is s h = (bytes_eq-Decides s (codes "ok")).0 h
+
+other_is : (s : List ℕ) → not (is_ok s) ≡ true → s ≢ codes "ok"
+other_is s h = λ e. false_true (sym (ap (λ (t : List ℕ). not (is_ok t)) e) ∙ h)
+
+is_other : (s : List ℕ) → s ≢ codes "ok" → not (is_ok s) ≡ true
+is_other s h = pick (is_ok s) refl
+  where
+    pick : (b : Bool) → is_ok s ≡ b → not b ≡ true
+    pick true e = absurd (h (ok_is s e))
+    pick false e = refl
+
+mixed_is : (k : KeyName) (o : ObjectValue) (f : FindingValue) → is_mixed k.kind (statuses_of k o) ≡ true → f ≡ mixed_status k → IsMixed k o f
+mixed_is k o f h is =
+    let p = both _ _ h in
+    let q = both _ _ p.1 in
+    let one = from_any is_ok (statuses_of k o) q.0 in
+    let other = from_any (λ (s : List ℕ). not (is_ok s)) (statuses_of k o) q.1 in (
+      domain_is k.kind p.0,
+      statuses_are k o (codes "ok") (subst (λ (s : List ℕ). Contains (statuses_of k o) s) (ok_is one.0 one.2) one.1),
+      (other.0, statuses_are k o other.0 other.1, other_is other.0 other.2),
+      is,
+    )
+
+is_mixed_of : (k : KeyName) (o : ObjectValue) (f : FindingValue) → IsMixed k o f → is_mixed k.kind (statuses_of k o) ≡ true
+is_mixed_of k o f (domain, ok, (s, has, other), is) =
+    let ss = statuses_of k o in
+    let rest : Bool = list_any (λ t. not (is_ok t)) ss in
+    let one : list_any is_ok ss ≡ true = any_from is_ok ss (codes "ok") (are_statuses k o (codes "ok") ok) refl in
+    let two : rest ≡ true = any_from (λ (t : List ℕ). not (is_ok t)) ss s (are_statuses k o s has) (is_other s other) in
+    ap (λ (d : Kind). is_domain d && (list_any is_ok ss && rest)) domain ∙ ap (λ (b : Bool). b && rest) one ∙ two
+
+statuses_found : (k : KeyName) (o : ObjectValue) (f : FindingValue) → Contains (status_findings k (statuses_of k o)) f → IsUnknown k o f ⊎ IsMixed k o f
+statuses_found k o f h = pick (Contains-append_cases (flat_map (one_unknown k) (statuses_of k o)) (cond (is_mixed k.kind (statuses_of k o)) (mixed_status k ∷ []) []) f h)
+  where
+    pick : Contains (flat_map (one_unknown k) (statuses_of k o)) f ⊎ Contains (cond (is_mixed k.kind (statuses_of k o)) (mixed_status k ∷ []) []) f → IsUnknown k o f ⊎ IsMixed k o f
+    pick (inl a) =
+        let r = from_pieces (one_unknown k) (statuses_of k o) f a in
+        let u = unless (is_status k.kind r.0) (unknown_status k r.0) f r.2 in
+        inl (r.0, statuses_are k o r.0 r.1, unlisted k.kind r.0 u.0, u.1)
+    pick (inr b) =
+        let g = given (is_mixed k.kind (statuses_of k o)) (mixed_status k) f b in
+        inr (mixed_is k o f g.0 g.1)
+
+found_statuses : (k : KeyName) (o : ObjectValue) (f : FindingValue) → IsUnknown k o f ⊎ IsMixed k o f → Contains (status_findings k (statuses_of k o)) f
+found_statuses k o f (inl (s, has, other, is)) =
+    Contains-append_left (flat_map (one_unknown k) (statuses_of k o)) _ f
+    (in_pieces (one_unknown k) (statuses_of k o) s f (are_statuses k o s has) (give_unless (is_status k.kind s) (unknown_status k s) f (is_unlisted k.kind s other) is))
+found_statuses k o f (inr m) =
+    Contains-append_right (flat_map (one_unknown k) (statuses_of k o)) _ f (give (is_mixed k.kind (statuses_of k o)) (mixed_status k) f (is_mixed_of k o f m) m.3)
+
+-- V5, V6 and V7
+
+after_is : (d : Option ℤ) (w : ℤ) → is_after d w ≡ true → (m : ℤ) × (d ≡ Some m) × (w <ℤ m)
+after_is None w h = absurd (false_true h)
+after_is (Some m) w h = (m, refl, lt_is w m h)
+
+before_is : (e d : Option ℤ) → is_before e d ≡ true → (m : ℤ) × (n : ℤ) × (e ≡ Some m) × (d ≡ Some n) × (m <ℤ n)
+before_is None d h = absurd (false_true h)
+before_is (Some m) None h = absurd (false_true h)
+before_is (Some m) (Some n) h = (m, n, refl, refl, lt_is m n h)
+
+moments_found : (w : ℤ) (k : KeyName) (o : ObjectValue) (f : FindingValue) → Contains (moment_findings w (printed w) k (created k o) (expires k o)) f → IsLate w k o f ⊎ IsEarly k o f
+moments_found w k o f h = pick (Contains-append_cases (late_findings w (printed w) k (created k o)) (early_findings k (expires k o) (created k o)) f h)
+  where
+    pick : Contains (late_findings w (printed w) k (created k o)) f ⊎ Contains (early_findings k (expires k o) (created k o)) f → IsLate w k o f ⊎ IsEarly k o f
+    pick (inl a) =
+        let g = given (is_after (watermark_of (created k o)) w) (late k (created k o) (printed w)) f a in
+        let d = after_is (watermark_of (created k o)) w g.0 in
+        inl (d.0, d.1, d.2, g.1)
+    pick (inr b) =
+        let g = given (is_before (watermark_of (expires k o)) (watermark_of (created k o))) (early k (expires k o) (created k o)) f b in
+        let d = before_is (watermark_of (expires k o)) (watermark_of (created k o)) g.0 in
+        inr (d.0, d.1, d.2, d.3, d.4, g.1)
+
+found_moments : (w : ℤ) (k : KeyName) (o : ObjectValue) (f : FindingValue) → IsLate w k o f ⊎ IsEarly k o f → Contains (moment_findings w (printed w) k (created k o) (expires k o)) f
+found_moments w k o f (inl (d, at, later, is)) =
+    Contains-append_left (late_findings w (printed w) k (created k o)) (early_findings k (expires k o) (created k o)) f
+    (give (is_after (watermark_of (created k o)) w) (late k (created k o) (printed w)) f (ap (λ (x : Option ℤ). is_after x w) at ∙ is_lt w d later) is)
+found_moments w k o f (inr (e, d, expiry, creation, sooner, is)) =
+    let holds : is_before (watermark_of (expires k o)) (watermark_of (created k o)) ≡ true =
+    ap (λ (x : Option ℤ). is_before x (watermark_of (created k o))) expiry ∙ ap (is_before (Some e)) creation ∙ is_lt e d sooner in
+    Contains-append_right (late_findings w (printed w) k (created k o)) (early_findings k (expires k o) (created k o)) f
+    (give (is_before (watermark_of (expires k o)) (watermark_of (created k o))) (early k (expires k o) (created k o)) f holds is)
+
+malformed_found : (k : KeyName) (field text : List ℕ) (f : FindingValue) → Contains (malformed_findings k field text) f → IsMalformed k field text f
+malformed_found k field text f h =
+    let g = given (is_malformed text) (malformed k field text) f h in
+    let p = both _ _ g.0 in
+    (λ e. false_true (sym (ap (λ (t : List ℕ). not (is_empty t)) e) ∙ p.0), gone (watermark_of text) p.1, g.1)
+
+found_malformed : (k : KeyName) (field text : List ℕ) (f : FindingValue) → IsMalformed k field text f → Contains (malformed_findings k field text) f
+found_malformed k field text f (some, none, is) =
+    let holds : is_malformed text ≡ true =
+    ap (λ (b : Bool). not b && not (is_some (watermark_of text))) (not_empty text some) ∙ ap (λ (x : Option ℤ). not (is_some x)) none in
+    give (is_malformed text) (malformed k field text) f holds is
+
+forms_found : (k : KeyName) (c e : List ℕ) (f : FindingValue) → Contains (form_findings k c e) f → IsMalformed k (codes "crDate") c f ⊎ IsMalformed k (codes "exDate") e f
+forms_found k c e f h = pick (Contains-append_cases (malformed_findings k (codes "crDate") c) (malformed_findings k (codes "exDate") e) f h)
+  where
+    pick : Contains (malformed_findings k (codes "crDate") c) f ⊎ Contains (malformed_findings k (codes "exDate") e) f → IsMalformed k (codes "crDate") c f ⊎ IsMalformed k (codes "exDate") e f
+    pick (inl a) = inl (malformed_found k (codes "crDate") c f a)
+    pick (inr b) = inr (malformed_found k (codes "exDate") e f b)
+
+found_forms : (k : KeyName) (c e : List ℕ) (f : FindingValue) → IsMalformed k (codes "crDate") c f ⊎ IsMalformed k (codes "exDate") e f → Contains (form_findings k c e) f
+found_forms k c e f (inl m) = Contains-append_left (malformed_findings k (codes "crDate") c) (malformed_findings k (codes "exDate") e) f (found_malformed k (codes "crDate") c f m)
+found_forms k c e f (inr m) = Contains-append_right (malformed_findings k (codes "crDate") c) (malformed_findings k (codes "exDate") e) f (found_malformed k (codes "exDate") e f m)
+
+-- all of them
+
+own_found : (w : ℤ) (k : KeyName) (o : ObjectValue) (f : FindingValue) → Contains (own_findings w (printed w) k o) f → IsOwn w k o f
+own_found w k o f h = first (Contains-append_cases (status_findings k (statuses_of k o)) _ f h)
+  where
+    second : Contains (moment_findings w (printed w) k (created k o) (expires k o)) f ⊎ Contains (form_findings k (created k o) (expires k o)) f → IsOfDates w k o f
+    second (inl a) = inl (moments_found w k o f a)
+    second (inr b) = inr (forms_found k (created k o) (expires k o) f b)
+
+    first : Contains (status_findings k (statuses_of k o)) f ⊎ Contains (moment_findings w (printed w) k (created k o) (expires k o) ++ form_findings k (created k o) (expires k o)) f → IsOwn w k o f
+    first (inl a) = inl (statuses_found k o f a)
+    first (inr b) = inr (second (Contains-append_cases (moment_findings w (printed w) k (created k o) (expires k o)) _ f b))
+
+found_own : (w : ℤ) (k : KeyName) (o : ObjectValue) (f : FindingValue) → IsOwn w k o f → Contains (own_findings w (printed w) k o) f
+found_own w k o f (inl s) = Contains-append_left (status_findings k (statuses_of k o)) _ f (found_statuses k o f s)
+found_own w k o f (inr (inl m)) =
+    Contains-append_right (status_findings k (statuses_of k o)) _ f
+    (Contains-append_left (moment_findings w (printed w) k (created k o) (expires k o)) (form_findings k (created k o) (expires k o)) f (found_moments w k o f m))
+found_own w k o f (inr (inr m)) =
+    Contains-append_right (status_findings k (statuses_of k o)) _ f
+    (Contains-append_right (moment_findings w (printed w) k (created k o) (expires k o)) (form_findings k (created k o) (expires k o)) f (found_forms k (created k o) (expires k o) f m))
+
+-- what is gathered of these entries, of which each has a key of its own
+module _ (es : List Entry) (w : ℤ) (counts : List (Kind × ℕ)) (apart : IsDistinct key_eq (keys_of es)) where
+  abbrev pieces : Entry → List FindingValue
+  pieces = object_findings (is_present es) w (printed w)
+
+  abbrev declared : Kind × ℕ → List FindingValue
+  declared = count_findings (keys_of es)
+
+  object_found : (k : KeyName) (o : ObjectValue) (f : FindingValue) → tables_of es k ≡ Some o → Contains (pieces (k, o)) f → IsFinding (tables_of es) w counts f
+  object_found k o f at h = pick (Contains-append_cases (link_findings (is_present es) (links_of k o)) (own_findings w (printed w) k o) f h)
+    where
+      pick : Contains (link_findings (is_present es) (links_of k o)) f ⊎ Contains (own_findings w (printed w) k o) f → IsFinding (tables_of es) w counts f
+      pick (inl a) = inl (links_found es k o f at a)
+      pick (inr b) = inr (inr (k, o, at, own_found w k o f b))
+
+  found_in : (k : KeyName) (o : ObjectValue) (f : FindingValue) → tables_of es k ≡ Some o → Contains (pieces (k, o)) f → Contains (flat_map pieces es ++ flat_map declared counts) f
+  found_in k o f at h = Contains-append_left (flat_map pieces es) (flat_map declared counts) f (in_pieces pieces es (k, o) f (Contains-from_lookup same_key k o es at) h)
+
+  to_findings : (f : FindingValue) → Contains (flat_map pieces es ++ flat_map declared counts) f → IsFinding (tables_of es) w counts f
+  to_findings f h = pick (Contains-append_cases (flat_map pieces es) (flat_map declared counts) f h)
+    where
+      pick : Contains (flat_map pieces es) f ⊎ Contains (flat_map declared counts) f → IsFinding (tables_of es) w counts f
+      pick (inl a) =
+          let r = from_pieces pieces es f a in
+          object_found r.0.0 r.0.1 f (lookup-from_Contains keys_alike r.0.0 r.0.1 es apart r.1) r.2
+      pick (inr b) = inr (inl (counts_found es counts f apart b))
+
+  from_findings : (f : FindingValue) → IsFinding (tables_of es) w counts f → Contains (flat_map pieces es ++ flat_map declared counts) f
+  from_findings f (inl (l, (o, at, link), absent, is)) =
+      found_in l.from o f at (Contains-append_left (link_findings (is_present es) (links_of l.from o)) _ f (found_links es l.from o l f link absent is))
+  from_findings f (inr (inl m)) = Contains-append_right (flat_map pieces es) (flat_map declared counts) f (found_counts es counts f apart m)
+  from_findings f (inr (inr (k, o, at, own))) =
+      found_in k o f at (Contains-append_right (link_findings (is_present es) (links_of k o)) _ f (found_own w k o f own))
+
+-- what was gathered, as a set
+pub verified : (es : List Entry) (w at : ℤ) (shown : List ℕ) (counts : List (Kind × ℕ)) (before objects found v : List FindingValue) → IsStrictlySortedBy key_cmp (keys_of es)
+    → at ≡ w → shown ≡ printed w → before ≡ [] → objects ≡ before ++ flat_map (object_findings (is_present es) at shown) es → found ≡ objects ++ flat_map (count_findings (keys_of es)) counts
+    → ((f : FindingValue) → Contains v f ↔ Contains found f) → (f : FindingValue) → Contains v f ↔ IsFinding (tables_of es) w counts f
+verified es w at shown counts before objects found v sorted moment text none of_objects all same f =
+    let apart = IsDistinct-from_sorted key_cmp (keys_of es) sorted in
+    let objects_are : objects ≡ flat_map (object_findings (is_present es) w (printed w)) es = of_objects ∙ (λ i. none i ++ flat_map (object_findings (is_present es) (moment i) (text i)) es) in
+    let gathered : found ≡ flat_map (object_findings (is_present es) w (printed w)) es ++ flat_map (count_findings (keys_of es)) counts =
+    all ∙ ap (λ (l : List FindingValue). l ++ flat_map (count_findings (keys_of es)) counts) objects_are in (
+      λ h. to_findings es w counts apart f (subst (λ (l : List FindingValue). Contains l f) gathered ((same f).0 h)),
+      λ h. (same f).1 (subst (λ (l : List FindingValue). Contains l f) (sym gathered) (from_findings es w counts apart f h)),
+    )

@@ -1,0 +1,138 @@
+-- What a walk over the objects gathers, with repeats, as lists. These are what the crate's own functions give one another; what
+-- `verify` answers is said by `Findings` alone.
+use Rattle.std.specs.Prelude.{ℕ, ℤ, int_lt, ◌==◌, Bool, true, false, not, ◌&&◌, if◌then◌else◌, List, [], ◌∷◌, ◌++◌, map, filter, count_by, Option, Some, None, is_some, codes}
+use Rattle.std.specs.List.{flat_map, list_any}
+use Rattle.std.specs.Map.{lookup}
+use Rattle.std.specs.Str.{bytes_eq}
+use Rattle.esc_envelope.specs.declared.kind.Kind.{Kind}
+use Rattle.esc_envelope.specs.Kinds.{is_kind}
+use Rattle.esc_envelope.specs.Watermark.{watermark_of}
+use Rattle.esc_tables.specs.KeyName.{KeyName, key_eq}
+use Rattle.esc_tables.specs.ObjectValue.{RowValue, ObjectValue}
+use Rattle.esc_check.specs.declared.field.LinkField.{LinkField}
+use Rattle.esc_check.specs.Export.{is_in}
+use Rattle.esc_check.specs.Fields.{cell, field_name, parent_fields, is_domain, child_field, status_table, created, expires}
+use Rattle.esc_check.specs.FindingValue.{FindingValue}
+use Rattle.esc_check.specs.Findings.{missing_target, miscounted, unknown_status, mixed_status, late, early, malformed}
+use Rattle.esc_check.specs.LinkValue.{LinkValue, link_to}
+use Rattle.esc_check.specs.Statuses.{status_words}
+use Rattle.esc_check.specs.Tables.{Entry}
+
+-- whether a text is empty
+abbrev pub is_empty : List ℕ → Bool
+is_empty [] = true
+is_empty (b ∷ bs) = false
+
+-- the link of a text, if it is not empty
+abbrev pub text_links : KeyName → LinkField → List ℕ → List LinkValue
+text_links k g text = if is_empty text then [] else link_to k g text ∷ []
+
+-- the links of a field of a row
+abbrev pub field_links : KeyName → RowValue → LinkField → List LinkValue
+field_links k r g = text_links k g (cell (field_name g) r)
+
+-- the links of a row by a field, if it has one that links
+abbrev pub row_links : KeyName → RowValue → Option LinkField → List LinkValue
+row_links k r None = []
+row_links k r (Some g) = field_links k r g
+
+-- the links of a child row
+abbrev pub child_links : KeyName → RowValue → List LinkValue
+child_links k r = row_links k r (child_field k.kind r.table)
+
+-- the links of an object
+abbrev pub links_of : KeyName → ObjectValue → List LinkValue
+links_of k o = flat_map (field_links k o.parent) (parent_fields k.kind) ++ flat_map (child_links k) o.children
+
+-- whether these entries have a key
+abbrev pub is_present : List Entry → KeyName → Bool
+is_present es q = is_some (lookup (key_eq q) es)
+
+-- what is found of links, where these keys are there
+abbrev pub link_findings : (KeyName → Bool) → List LinkValue → List FindingValue
+link_findings present links = map missing_target (filter (λ l. not (present l.to)) links)
+
+-- how many of these keys are of a kind
+abbrev pub count_of : List KeyName → Kind → ℕ
+count_of keys kind = count_by (λ q. is_kind q.kind kind) keys
+
+-- what is found of a declared number, where these keys are there
+abbrev pub count_findings : List KeyName → Kind × ℕ → List FindingValue
+count_findings keys d = if count_of keys d.0 == d.1 then [] else miscounted d.0 d.1 (count_of keys d.0) ∷ []
+
+-- the status of a row, if it is of the table
+abbrev pub row_status : List ℕ → RowValue → List (List ℕ)
+row_status table r = if is_in table r then (if is_empty (cell (codes "status") r) then [] else cell (codes "status") r ∷ []) else []
+
+-- the statuses in a table
+abbrev pub statuses_in : Option (List ℕ) → List RowValue → List (List ℕ)
+statuses_in None rows = []
+statuses_in (Some table) rows = flat_map (row_status table) rows
+
+-- the statuses of an object
+abbrev pub statuses_of : KeyName → ObjectValue → List (List ℕ)
+statuses_of k o = statuses_in (status_table k.kind) o.children
+
+-- whether a text is one of a kind's statuses
+abbrev pub is_status : Kind → List ℕ → Bool
+is_status k s = list_any (λ w. bytes_eq w s) (status_words k)
+
+-- whether a status is `ok`
+abbrev pub is_ok : List ℕ → Bool
+is_ok s = bytes_eq s (codes "ok")
+
+-- what is found of one status
+abbrev pub one_unknown : KeyName → List ℕ → List FindingValue
+one_unknown k s = if is_status k.kind s then [] else unknown_status k s ∷ []
+
+-- whether these are a domain's statuses, `ok` among them and another
+abbrev pub is_mixed : Kind → List (List ℕ) → Bool
+is_mixed kind ss = is_domain kind && (list_any is_ok ss && list_any (λ s. not (is_ok s)) ss)
+
+-- what is found of an object's statuses
+abbrev pub status_findings : KeyName → List (List ℕ) → List FindingValue
+status_findings k ss = flat_map (one_unknown k) ss ++ (if is_mixed k.kind ss then mixed_status k ∷ [] else [])
+
+-- whether a moment is known and after another
+abbrev pub is_after : Option ℤ → ℤ → Bool
+is_after None w = false
+is_after (Some d) w = int_lt w d
+
+-- whether two moments are known, the first before the second
+abbrev pub is_before : Option ℤ → Option ℤ → Bool
+is_before None c = false
+is_before (Some e) None = false
+is_before (Some e) (Some c) = int_lt e c
+
+-- whether a text is no moment, though it is not empty
+abbrev pub is_malformed : List ℕ → Bool
+is_malformed text = not (is_empty text) && not (is_some (watermark_of text))
+
+-- what is found of a date of creation beside the watermark
+abbrev pub late_findings : ℤ → List ℕ → KeyName → List ℕ → List FindingValue
+late_findings w shown k text = if is_after (watermark_of text) w then late k text shown ∷ [] else []
+
+-- what is found of a date of expiry beside that of creation
+abbrev pub early_findings : KeyName → List ℕ → List ℕ → List FindingValue
+early_findings k text created_text = if is_before (watermark_of text) (watermark_of created_text) then early k text created_text ∷ [] else []
+
+-- what is found of a date by itself
+abbrev pub malformed_findings : KeyName → List ℕ → List ℕ → List FindingValue
+malformed_findings k field text = if is_malformed text then malformed k field text ∷ [] else []
+
+-- what is found of the moments of a date of creation and one of expiry
+abbrev pub moment_findings : ℤ → List ℕ → KeyName → List ℕ → List ℕ → List FindingValue
+moment_findings w shown k c e = late_findings w shown k c ++ early_findings k e c
+
+-- what is found of their forms
+abbrev pub form_findings : KeyName → List ℕ → List ℕ → List FindingValue
+form_findings k c e = malformed_findings k (codes "crDate") c ++ malformed_findings k (codes "exDate") e
+
+-- what is found of an object by itself
+abbrev pub own_findings : ℤ → List ℕ → KeyName → ObjectValue → List FindingValue
+own_findings w shown k o =
+    status_findings k (statuses_of k o) ++ (moment_findings w shown k (created k o) (expires k o) ++ form_findings k (created k o) (expires k o))
+
+-- what is found of an object, where these keys are there
+abbrev pub object_findings : (KeyName → Bool) → ℤ → List ℕ → Entry → List FindingValue
+object_findings present w shown e = link_findings present (links_of e.0 e.1) ++ own_findings w shown e.0 e.1

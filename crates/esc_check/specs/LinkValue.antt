@@ -1,0 +1,16 @@
+-- Links as values.
+use Rattle.std.specs.Prelude.{ℕ, List}
+use Rattle.esc_tables.specs.KeyName.{KeyName}
+use Rattle.esc_tables.specs.TableRow.{key_named}
+use Rattle.esc_check.specs.declared.field.LinkField.{LinkField}
+use Rattle.esc_check.specs.Fields.{field_target}
+
+-- from the object with a key, by a field, to the object with another key
+pub record LinkValue : Type 0 where
+  pub from : KeyName
+  pub field : LinkField
+  pub to : KeyName
+
+-- the link to the key that a text names
+abbrev pub link_to : KeyName → LinkField → List ℕ → LinkValue
+link_to k g text = record { from = k; field = g; to = key_named (field_target g) text }

@@ -1,0 +1,79 @@
+//! The declared numbers of objects.
+
+ghost use Rattle.std.specs.Prelude.{◌≡◌, ◌∷◌, [], ◌++◌, OnOk, IfOk, string_bytes};
+ghost use Rattle.std.specs.List.{flat_map};
+ghost use Rattle.std.specs.Fmt.{decimal};
+ghost use Rattle.std.specs.Map.{keys_of};
+ghost use Rattle.esc_check.specs.Findings.{miscounted};
+ghost use Rattle.esc_check.specs.Gathered.{count_of, count_findings};
+
+use crate::finding::Finding;
+use esc_bundle::NoMemory;
+use esc_envelope::Kind;
+use esc_tables::{Key, Object};
+use std::alloc::Global;
+use std::collections::BTreeMap;
+
+// How many objects are of a kind.
+fn count_of(t: &BTreeMap<Key, Object>, kind: Kind) -> u64
+    ensures { result ≡ count_of (keys_of t.now.entries) kind }
+{
+    t.keys().filter(|key| key.kind == kind).count() as u64
+}
+
+fn decimal_text(alloc: Global, number: u64) -> Result<String, NoMemory>
+    ensures { IfOk result (λ text. string_bytes text ≡ decimal number) }
+{
+    Ok(format!(in alloc; "{number}")?)
+}
+
+fn add_miscounted(
+    alloc: Global,
+    found: &mut Vec<Finding>,
+    kind: Kind,
+    declared: u64,
+    count: u64,
+) -> Result<(), NoMemory>
+    ensures { OnOk result (found.new.items ≡ found.old.items ++ miscounted kind declared count ∷ []) }
+{
+    found.push(Finding {
+        code: 2,
+        kind,
+        key: String::new(alloc),
+        field: String::from_str(alloc, "count")?,
+        value: decimal_text(alloc, declared)?,
+        other: decimal_text(alloc, count)?,
+    })?;
+    Ok(())
+}
+
+fn check_count(
+    alloc: Global,
+    found: &mut Vec<Finding>,
+    t: &BTreeMap<Key, Object>,
+    kind: Kind,
+    declared: u64,
+) -> Result<(), NoMemory>
+    ensures { OnOk result (found.new.items ≡ found.old.items ++ count_findings (keys_of t.now.entries) (kind, declared)) }
+{
+    let count = count_of(t, kind);
+    if count == declared {
+        return Ok(());
+    }
+    add_miscounted(alloc, found, kind, declared, count)
+}
+
+/// Adds what is found of the declared numbers of objects.
+pub fn check_counts(
+    alloc: Global,
+    found: &mut Vec<Finding>,
+    t: &BTreeMap<Key, Object>,
+    counts: &BTreeMap<Kind, u64>,
+) -> Result<(), NoMemory>
+    ensures { OnOk result (found.new.items ≡ found.old.items ++ flat_map (count_findings (keys_of t.now.entries)) counts.now.entries) }
+{
+    for (kind, declared) in counts.iter() {
+        check_count(alloc, found, t, *kind, *declared)?;
+    }
+    Ok(())
+}

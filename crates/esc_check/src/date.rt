@@ -1,0 +1,135 @@
+//! The dates of an object.
+
+ghost use Rattle.std.specs.Prelude.{◌≡◌, ◌++◌, OnOk, IfOk, string_bytes};
+ghost use Rattle.esc_check.specs.Fields.{created, expires};
+ghost use Rattle.esc_check.specs.Findings.{printed};
+ghost use Rattle.esc_check.specs.Gathered.{is_after, is_before, is_malformed, late_findings, early_findings, malformed_findings, moment_findings, form_findings};
+
+use crate::field::{created, expires};
+use crate::finding::{Finding, add};
+use esc_bundle::NoMemory;
+use esc_envelope::{watermark as moment_of, watermark_text};
+use esc_tables::{Key, Object};
+use std::alloc::Global;
+
+/// A watermark with its text.
+#[derive(Drop)]
+pub struct Limit {
+    pub moment: i64,
+    pub text: String,
+}
+
+/// A watermark as it is printed: as nothing, if it is outside of the years of watermarks.
+pub fn limit_at(alloc: Global, watermark: i64) -> Result<Limit, NoMemory>
+    ensures moment { IfOk result (λ limit. limit.moment ≡ watermark) }
+    ensures text { IfOk result (λ limit. string_bytes limit.text ≡ printed watermark) }
+{
+    let text = match watermark_text(alloc, watermark)? {
+        Some(text) => text,
+        None => String::new(alloc),
+    };
+    Ok(Limit {
+        moment: watermark,
+        text,
+    })
+}
+
+fn is_after(date: Option<i64>, watermark: i64) -> bool
+    ensures { result ≡ is_after date watermark }
+{
+    match date {
+        Some(date) => watermark < date,
+        None => false,
+    }
+}
+
+fn is_before(expires: Option<i64>, created: Option<i64>) -> bool
+    ensures { result ≡ is_before expires created }
+{
+    match (expires, created) {
+        (Some(expires), Some(created)) => expires < created,
+        (Some(_), None) | (None, Some(_)) | (None, None) => false,
+    }
+}
+
+fn is_malformed(text: &str) -> bool
+    ensures { result ≡ is_malformed text.now }
+{
+    if text.is_empty() {
+        return false;
+    }
+    moment_of(text).is_none()
+}
+
+fn add_late(
+    alloc: Global,
+    found: &mut Vec<Finding>,
+    limit: &Limit,
+    key: &Key,
+    created: &str,
+) -> Result<(), NoMemory>
+    ensures { OnOk result (found.new.items ≡ found.old.items ++ late_findings limit.now.moment (string_bytes limit.now.text) key.now created.now) }
+{
+    if is_after(moment_of(created), limit.moment) {
+        return add(alloc, found, 5, key, "crDate", created, limit.text.as_str());
+    }
+    Ok(())
+}
+
+fn add_early(
+    alloc: Global,
+    found: &mut Vec<Finding>,
+    key: &Key,
+    expires: &str,
+    created: &str,
+) -> Result<(), NoMemory>
+    ensures { OnOk result (found.new.items ≡ found.old.items ++ early_findings key.now expires.now created.now) }
+{
+    if is_before(moment_of(expires), moment_of(created)) {
+        return add(alloc, found, 6, key, "exDate", expires, created);
+    }
+    Ok(())
+}
+
+fn add_malformed(
+    alloc: Global,
+    found: &mut Vec<Finding>,
+    key: &Key,
+    field: &str,
+    text: &str,
+) -> Result<(), NoMemory>
+    ensures { OnOk result (found.new.items ≡ found.old.items ++ malformed_findings key.now field.now text.now) }
+{
+    if is_malformed(text) {
+        return add(alloc, found, 7, key, field, text, "");
+    }
+    Ok(())
+}
+
+/// Adds what is found of an object's dates as moments.
+pub fn check_moments(
+    alloc: Global,
+    found: &mut Vec<Finding>,
+    limit: &Limit,
+    key: &Key,
+    object: &Object,
+) -> Result<(), NoMemory>
+    ensures { OnOk result (found.new.items ≡ found.old.items ++ moment_findings limit.now.moment (string_bytes limit.now.text) key.now (created key.now object.now) (expires key.now object.now)) }
+{
+    let creation = created(key, object);
+    add_late(alloc, found, limit, key, creation)?;
+    add_early(alloc, found, key, expires(key, object), creation)
+}
+
+/// Adds what is found of their forms.
+pub fn check_forms(
+    alloc: Global,
+    found: &mut Vec<Finding>,
+    key: &Key,
+    object: &Object,
+) -> Result<(), NoMemory>
+    ensures { OnOk result (found.new.items ≡ found.old.items ++ form_findings key.now (created key.now object.now) (expires key.now object.now)) }
+{
+    add_malformed(alloc, found, key, "crDate", created(key, object))?;
+    add_malformed(alloc, found, key, "exDate", expires(key, object))
+}

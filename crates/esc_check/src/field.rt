@@ -1,0 +1,128 @@
+//! The fields that are verified.
+
+ghost use Rattle.std.specs.Prelude.{◌≡◌};
+ghost use Rattle.esc_check.specs.Fields.{field_name, field_target, parent_fields, is_domain, child_field, cell, has_created, created, expires};
+
+use esc_envelope::Kind;
+use esc_tables::{Key, Object, Row};
+
+/// A field that links (this project's profile of RFC 9022).
+#[derive(Clone, Copy, Debug, PartialEq, Eq)]
+pub enum LinkField {
+    ClId,
+    Registrant,
+    IdnTableId,
+    ContactId,
+    HostName,
+}
+
+impl LinkField {
+    #[tactic(auto, unfolding(crate::specs::Fields::field_name))]
+    pub fn name(self) -> &'static str
+        ensures { result.now ≡ field_name self }
+    {
+        match self {
+            LinkField::ClId => "clID",
+            LinkField::Registrant => "registrant",
+            LinkField::IdnTableId => "idnTableId",
+            LinkField::ContactId => "contactId",
+            LinkField::HostName => "hostName",
+        }
+    }
+
+    /// The kind that the field links to.
+    pub fn target(self) -> Kind
+        ensures { result ≡ field_target self }
+    {
+        match self {
+            LinkField::ClId => Kind::Registrar,
+            LinkField::Registrant | LinkField::ContactId => Kind::Contact,
+            LinkField::IdnTableId => Kind::Idn,
+            LinkField::HostName => Kind::Host,
+        }
+    }
+}
+
+/// The fields of a parent row that link.
+pub fn parent_fields(kind: Kind) -> &'static [LinkField]
+    ensures { result.now ≡ parent_fields kind }
+{
+    match kind {
+        Kind::Registrar | Kind::Idn => &[],
+        Kind::Contact | Kind::Host => &[LinkField::ClId],
+        Kind::Domain => &[
+            LinkField::ClId,
+            LinkField::Registrant,
+            LinkField::IdnTableId,
+        ],
+        Kind::Nndn => &[LinkField::IdnTableId],
+    }
+}
+
+/// The field of a child row that links, by its table.
+pub fn child_field(kind: Kind, table: &str) -> Option<LinkField>
+    ensures { result ≡ child_field kind table.now }
+{
+    match kind {
+        Kind::Domain => {
+            if table == "domainContacts" {
+                return Some(LinkField::ContactId);
+            }
+            if table == "domainNs" {
+                return Some(LinkField::HostName);
+            }
+            None
+        }
+        Kind::Registrar | Kind::Contact | Kind::Host | Kind::Idn | Kind::Nndn => None,
+    }
+}
+
+pub fn is_domain(kind: Kind) -> bool
+    ensures { result ≡ is_domain kind }
+{
+    match kind {
+        Kind::Domain => true,
+        Kind::Registrar | Kind::Contact | Kind::Host | Kind::Idn | Kind::Nndn => false,
+    }
+}
+
+/// The text of a field in a row: that of its first cell, and empty where there is none.
+pub fn cell<'a>(row: &'a Row, field: &str) -> &'a str
+    ensures { result.now ≡ cell field.now row.now }
+{
+    for (name, text) in &row.cells {
+        if field == name.as_str() {
+            return text.as_str();
+        }
+    }
+    ""
+}
+
+fn has_created(kind: Kind) -> bool
+    ensures { result ≡ has_created kind }
+{
+    match kind {
+        Kind::Registrar | Kind::Contact | Kind::Host | Kind::Domain => true,
+        Kind::Idn | Kind::Nndn => false,
+    }
+}
+
+/// The text of an object's date of creation, empty where there is none to verify.
+pub fn created<'a>(key: &Key, object: &'a Object) -> &'a str
+    ensures { result.now ≡ created key.now object.now }
+{
+    if !has_created(key.kind) {
+        return "";
+    }
+    cell(&object.parent, "crDate")
+}
+
+/// The text of a domain's date of expiry, empty where there is none.
+pub fn expires<'a>(key: &Key, object: &'a Object) -> &'a str
+    ensures { result.now ≡ expires key.now object.now }
+{
+    if !is_domain(key.kind) {
+        return "";
+    }
+    cell(&object.parent, "exDate")
+}

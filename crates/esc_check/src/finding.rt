@@ -1,0 +1,111 @@
+//! Findings, and their order.
+
+ghost use Rattle.std.specs.Prelude.{◌≡◌, ◌∷◌, [], ◌++◌, OnOk};
+ghost use Rattle.std.proofs.Common.{rules};
+ghost use Rattle.std.specs.Cmp.{partial_equiv_from_equiv, partial_order_from_total};
+ghost use Rattle.std.specs.Cmp.Rules.{comparing};
+ghost use Rattle.std.specs.Ordering.{as_partial_cmp};
+ghost use Rattle.esc_check.specs.FindingValue.{finding_cmp, finding_eq};
+ghost use Rattle.esc_check.specs.FindingOrder.{finding_total, finding_equiv};
+
+use esc_bundle::NoMemory;
+use esc_envelope::Kind;
+use esc_tables::Key;
+use std::alloc::Global;
+use std::cmp::Ordering;
+use std::marker::Model;
+
+/// Where the tables of a registry break a rule. Ordered by the fields in turn, texts by their bytes.
+#[derive(Debug, Drop)]
+pub struct Finding {
+    /// 1 to 7, of V1 to V7.
+    pub code: u8,
+    pub kind: Kind,
+    /// The object's key, empty in V2.
+    pub key: String,
+    pub field: String,
+    pub value: String,
+    /// What is told besides: the target's kind in V1, the number found in V2, the watermark in V5, the date of creation
+    /// in V6.
+    pub other: String,
+}
+
+impl Model for Finding {
+    ghost use Rattle.std.specs.Prelude.{string_bytes};
+    ghost use Rattle.esc_check.specs.FindingValue.{FindingValue};
+
+    ghost Value = { FindingValue };
+
+    ghost view = { λ f. record { code = f.code; kind = f.kind; key = string_bytes f.key; field = string_bytes f.field; value = string_bytes f.value; other = string_bytes f.other } };
+}
+
+impl PartialEq for Finding {
+    ghost eq = { finding_eq };
+
+    ghost laws = { partial_equiv_from_equiv finding_equiv };
+
+    fn eq(&self, other: &Finding) -> bool {
+        self.cmp(other) == Ordering::Equal
+    }
+}
+
+impl Eq for Finding {
+    ghost laws = { finding_equiv };
+}
+
+impl PartialOrd for Finding {
+    ghost partial_cmp = { as_partial_cmp finding_cmp };
+
+    ghost laws = { partial_order_from_total finding_total };
+
+    fn partial_cmp(&self, other: &Finding) -> Option<Ordering> {
+        Some(self.cmp(other))
+    }
+}
+
+impl Ord for Finding {
+    ghost cmp = { finding_cmp };
+
+    ghost total = { finding_total };
+
+    ghost matches_partial_cmp = { Prim.search (comparing, rules) };
+
+    ghost matches_eq = { Prim.search (comparing, rules) };
+
+    fn cmp(&self, other: &Finding) -> Ordering {
+        let last = self
+            .value
+            .cmp(&other.value)
+            .then(self.other.cmp(&other.other));
+        let texts = self
+            .key
+            .cmp(&other.key)
+            .then(self.field.cmp(&other.field).then(last));
+        self.code
+            .cmp(&other.code)
+            .then(self.kind.cmp(&other.kind).then(texts))
+    }
+}
+
+/// Adds what is found of the object with this key.
+pub fn add(
+    alloc: Global,
+    found: &mut Vec<Finding>,
+    code: u8,
+    key: &Key,
+    field: &str,
+    value: &str,
+    other: &str,
+) -> Result<(), NoMemory>
+    ensures { OnOk result (found.new.items ≡ found.old.items ++ record { code = code; kind = key.now.kind; key = key.now.text; field = field.now; value = value.now; other = other.now } ∷ []) }
+{
+    found.push(Finding {
+        code,
+        kind: key.kind,
+        key: String::from_str(alloc, key.text.as_str())?,
+        field: String::from_str(alloc, field)?,
+        value: String::from_str(alloc, value)?,
+        other: String::from_str(alloc, other)?,
+    })?;
+    Ok(())
+}

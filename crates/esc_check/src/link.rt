@@ -1,0 +1,162 @@
+//! The links of objects, and those that lead to nothing.
+
+ghost use Rattle.std.specs.Prelude.{◌≡◌, ◌∷◌, [], ◌++◌, OnOk, IfOk, not};
+ghost use Rattle.std.specs.List.{flat_map};
+ghost use Rattle.esc_tables.specs.TableRow.{is_dns, key_named};
+ghost use Rattle.esc_check.specs.Fields.{parent_fields};
+ghost use Rattle.esc_check.specs.Findings.{missing_target};
+ghost use Rattle.esc_check.specs.Gathered.{text_links, field_links, child_links, links_of, is_present, link_findings};
+
+use crate::field::{LinkField, cell, child_field, parent_fields};
+use crate::finding::{Finding, add};
+use esc_bundle::NoMemory;
+use esc_envelope::Kind;
+use esc_tables::{Key, Object, Row};
+use std::alloc::Global;
+use std::collections::BTreeMap;
+use std::marker::Model;
+
+/// A link from the object with a key, by a field, to the object with another key.
+#[derive(Drop)]
+pub struct Link {
+    from: Key,
+    field: LinkField,
+    to: Key,
+}
+
+impl Model for Link {
+    ghost use Rattle.esc_check.specs.LinkValue.{LinkValue};
+
+    ghost Value = { LinkValue };
+
+    ghost view = { λ l. record { from = l.from; field = l.field; to = l.to } };
+}
+
+fn is_dns(kind: Kind) -> bool
+    ensures { result ≡ is_dns kind }
+{
+    match kind {
+        Kind::Host | Kind::Domain => true,
+        Kind::Registrar | Kind::Contact | Kind::Idn | Kind::Nndn => false,
+    }
+}
+
+// The key of a kind that a text names: of a host in lower-case ASCII letters.
+fn key_named(alloc: Global, kind: Kind, name: &str) -> Result<Key, NoMemory>
+    ensures { IfOk result (λ key. key ≡ key_named kind name.now) }
+{
+    let mut text = String::from_str(alloc, name)?;
+    if is_dns(kind) {
+        text.make_ascii_lowercase();
+    }
+    Ok(Key { kind, text })
+}
+
+// Adds the link of a text, if it is not empty.
+fn add_link(
+    alloc: Global,
+    links: &mut Vec<Link>,
+    from: &Key,
+    field: LinkField,
+    text: &str,
+) -> Result<(), NoMemory>
+    ensures { OnOk result (links.new.items ≡ links.old.items ++ text_links from.now field text.now) }
+{
+    if text.is_empty() {
+        return Ok(());
+    }
+    links.push(Link {
+        from: from.copy(alloc)?,
+        field,
+        to: key_named(alloc, field.target(), text)?,
+    })?;
+    Ok(())
+}
+
+fn add_of_parent(
+    alloc: Global,
+    links: &mut Vec<Link>,
+    key: &Key,
+    parent: &Row,
+) -> Result<(), NoMemory>
+    ensures { OnOk result (links.new.items ≡ links.old.items ++ flat_map (field_links key.now parent.now) (parent_fields key.now.kind)) }
+{
+    for field in parent_fields(key.kind) {
+        add_link(alloc, links, key, *field, cell(parent, field.name()))?;
+    }
+    Ok(())
+}
+
+fn add_of_child(alloc: Global, links: &mut Vec<Link>, key: &Key, row: &Row) -> Result<(), NoMemory>
+    ensures { OnOk result (links.new.items ≡ links.old.items ++ child_links key.now row.now) }
+{
+    match child_field(key.kind, row.table.as_str()) {
+        Some(field) => add_link(alloc, links, key, field, cell(row, field.name())),
+        None => Ok(()),
+    }
+}
+
+fn add_of_children(
+    alloc: Global,
+    links: &mut Vec<Link>,
+    key: &Key,
+    children: &[Row],
+) -> Result<(), NoMemory>
+    ensures { OnOk result (links.new.items ≡ links.old.items ++ flat_map (child_links key.now) children.now) }
+{
+    for row in children {
+        add_of_child(alloc, links, key, row)?;
+    }
+    Ok(())
+}
+
+/// Adds the links of an object.
+pub fn add_links(
+    alloc: Global,
+    links: &mut Vec<Link>,
+    key: &Key,
+    object: &Object,
+) -> Result<(), NoMemory>
+    ensures { OnOk result (links.new.items ≡ links.old.items ++ links_of key.now object.now) }
+{
+    add_of_parent(alloc, links, key, &object.parent)?;
+    add_of_children(alloc, links, key, &object.children)
+}
+
+fn is_missing(t: &BTreeMap<Key, Object>, link: &Link) -> bool
+    ensures { result ≡ not (is_present t.now.entries link.now.to) }
+{
+    !t.contains_key(&link.to)
+}
+
+fn add_missing(alloc: Global, found: &mut Vec<Finding>, link: &Link) -> Result<(), NoMemory>
+    ensures { OnOk result (found.new.items ≡ found.old.items ++ missing_target link.now ∷ []) }
+{
+    add(
+        alloc,
+        found,
+        1,
+        &link.from,
+        link.field.name(),
+        link.to.text.as_str(),
+        link.to.kind.name(),
+    )
+}
+
+/// Adds what is found of links between the objects of these tables.
+pub fn check_links(
+    alloc: Global,
+    found: &mut Vec<Finding>,
+    t: &BTreeMap<Key, Object>,
+    links: &[Link],
+) -> Result<(), NoMemory>
+    ensures { OnOk result (found.new.items ≡ found.old.items ++ link_findings (is_present t.now.entries) links.now) }
+{
+    for link in links {
+        if !is_missing(t, link) {
+            continue;
+        }
+        add_missing(alloc, found, link)?;
+    }
+    Ok(())
+}

@@ -1,0 +1,367 @@
+use crate::{Finding, Lines, export_rows, verify};
+use esc_bundle::NoMemory;
+use esc_envelope::{Kind, watermark};
+use esc_tables::{Key, Object, Row};
+use std::alloc::Global;
+use std::collections::BTreeMap;
+use std::test::Fail;
+
+fn row(alloc: Global, table: &str, cells: &[(&str, &str)]) -> Result<Row, NoMemory> {
+    let mut texts = Vec::new(alloc);
+    for (field, text) in cells {
+        texts.push((
+            String::from_str(alloc, field)?,
+            String::from_str(alloc, text)?,
+        ))?;
+    }
+    Ok(Row {
+        table: String::from_str(alloc, table)?,
+        cells: texts,
+    })
+}
+
+fn put(
+    alloc: Global,
+    t: &mut BTreeMap<Key, Object>,
+    kind: Kind,
+    key: &str,
+    parent: Row,
+    children: Vec<Row>,
+) -> Result<(), NoMemory> {
+    let key = Key {
+        kind,
+        text: String::from_str(alloc, key)?,
+    };
+    t.insert(key, Object { parent, children })?;
+    Ok(())
+}
+
+// Registrar R1 and its contact C1.
+fn front(alloc: Global) -> Result<BTreeMap<Key, Object>, NoMemory> {
+    let mut t = BTreeMap::new(alloc);
+    let registrar = row(alloc, "registrar", &[("id", "R1")])?;
+    put(
+        alloc,
+        &mut t,
+        Kind::Registrar,
+        "R1",
+        registrar,
+        Vec::new(alloc),
+    )?;
+    let contact = row(alloc, "contact", &[("id", "C1"), ("clID", "R1")])?;
+    put(alloc, &mut t, Kind::Contact, "C1", contact, Vec::new(alloc))?;
+    Ok(t)
+}
+
+// A line for each finding.
+fn shown(alloc: Global, found: &[Finding]) -> Result<String, NoMemory> {
+    let mut text = String::new(alloc);
+    for finding in found {
+        let code = finding.code;
+        let kind = finding.kind.name();
+        let key = finding.key.as_str();
+        let field = finding.field.as_str();
+        let value = finding.value.as_str();
+        let other = finding.other.as_str();
+        let line = format!(in alloc; "V{code},{kind},{key},{field},{value},{other}\n")?;
+        text.push_str(line.as_str())?;
+    }
+    Ok(text)
+}
+
+fn found_at(
+    alloc: Global,
+    t: &BTreeMap<Key, Object>,
+    moment: &str,
+    counts: &BTreeMap<Kind, u64>,
+) -> Result<String, NoMemory> {
+    let moment = watermark(moment).unwrap_or(0);
+    let found = verify(alloc, t, moment, counts)?;
+    shown(alloc, found.as_slice())
+}
+
+#[test]
+fn nothing_is_found_in_empty_tables(rt: HostRuntime) -> Result<(), Fail> {
+    let alloc = rt.alloc();
+    let t = BTreeMap::new(alloc);
+    let counts = BTreeMap::new(alloc);
+    let found = verify(alloc, &t, 0, &counts)?;
+    assert_eq!(rt; found.len(), 0);
+    Ok(())
+}
+
+#[test]
+fn statuses_and_dates_are_verified(rt: HostRuntime) -> Result<(), Fail> {
+    let alloc = rt.alloc();
+    let mut t = front(alloc)?;
+    let mut statuses = Vec::new(alloc);
+    statuses.push(row(
+        alloc,
+        "domainStatuses",
+        &[("domainName", "g.example"), ("status", "ok")],
+    )?)?;
+    statuses.push(row(
+        alloc,
+        "domainStatuses",
+        &[("domainName", "g.example"), ("status", "gone")],
+    )?)?;
+    let first = row(
+        alloc,
+        "domain",
+        &[
+            ("name", "g.example"),
+            ("clID", "R1"),
+            ("registrant", "C1"),
+            ("crDate", "2024-03-04T00:00:00Z"),
+            ("exDate", "2024-03-02T00:00:00Z"),
+        ],
+    )?;
+    put(alloc, &mut t, Kind::Domain, "g.example", first, statuses)?;
+    let second = row(
+        alloc,
+        "domain",
+        &[
+            ("name", "h.example"),
+            ("clID", "R1"),
+            ("registrant", "C1"),
+            ("crDate", "2024-03-04"),
+            ("exDate", ""),
+        ],
+    )?;
+    put(
+        alloc,
+        &mut t,
+        Kind::Domain,
+        "h.example",
+        second,
+        Vec::new(alloc),
+    )?;
+    let counts = BTreeMap::new(alloc);
+    assert_eq!(rt;
+        found_at(alloc, &t, "2024-03-03T00:00:00Z", &counts)?.as_str(),
+        "V3,domain,g.example,status,gone,\nV4,domain,g.example,status,ok,\nV5,domain,g.example,crDate,2024-03-04T00:00:00Z,2024-03-03T00:00:00Z\nV6,domain,g.example,exDate,2024-03-02T00:00:00Z,2024-03-04T00:00:00Z\nV7,domain,h.example,crDate,2024-03-04,\n"
+    );
+    Ok(())
+}
+
+#[test]
+fn links_and_counts_are_verified(rt: HostRuntime) -> Result<(), Fail> {
+    let alloc = rt.alloc();
+    let mut t = front(alloc)?;
+    let mut servers = Vec::new(alloc);
+    servers.push(row(
+        alloc,
+        "domainNs",
+        &[("domainName", "e.example"), ("hostName", "NS1.e.example")],
+    )?)?;
+    servers.push(row(
+        alloc,
+        "domainNs",
+        &[("hostName", "ns1.e.example"), ("hostName", "ns2.e.example")],
+    )?)?;
+    let first = row(
+        alloc,
+        "domain",
+        &[("name", "e.example"), ("clID", "R1"), ("registrant", "C1")],
+    )?;
+    put(alloc, &mut t, Kind::Domain, "e.example", first, servers)?;
+    let second = row(
+        alloc,
+        "domain",
+        &[("name", "f.example"), ("clID", "R2"), ("registrant", "C9")],
+    )?;
+    put(
+        alloc,
+        &mut t,
+        Kind::Domain,
+        "f.example",
+        second,
+        Vec::new(alloc),
+    )?;
+    let mut counts = BTreeMap::new(alloc);
+    counts.insert(Kind::Registrar, 1)?;
+    counts.insert(Kind::Contact, 1)?;
+    counts.insert(Kind::Host, 0)?;
+    counts.insert(Kind::Domain, 3)?;
+    assert_eq!(rt;
+        found_at(alloc, &t, "2024-03-11T00:00:00Z", &counts)?.as_str(),
+        "V1,domain,e.example,hostName,ns1.e.example,host\nV1,domain,f.example,clID,R2,registrar\nV1,domain,f.example,registrant,C9,contact\nV2,domain,,count,3,2\n"
+    );
+    Ok(())
+}
+
+#[test]
+fn each_field_links_to_its_kind(rt: HostRuntime) -> Result<(), Fail> {
+    let alloc = rt.alloc();
+    let mut t = BTreeMap::new(alloc);
+    let mut rows = Vec::new(alloc);
+    for (table, field, text) in [
+        ("domainContacts", "contactId", "C8"),
+        ("domainContacts", "contactId", "C8"),
+        ("domainHostAttr", "hostName", "ns.example"),
+        ("contactStatuses", "contactId", "C9"),
+    ] {
+        rows.push(row(alloc, table, &[(field, text)])?)?;
+    }
+    for (kind, children) in [
+        (Kind::Registrar, Vec::new(alloc)),
+        (Kind::Contact, Vec::new(alloc)),
+        (Kind::Host, Vec::new(alloc)),
+        (Kind::Domain, rows),
+        (Kind::Idn, Vec::new(alloc)),
+        (Kind::Nndn, Vec::new(alloc)),
+    ] {
+        let cells = [("clID", "R9"), ("registrant", "C9"), ("idnTableId", "I9")];
+        let parent = row(alloc, kind.name(), &cells)?;
+        put(alloc, &mut t, kind, "x", parent, children)?;
+    }
+    let counts = BTreeMap::new(alloc);
+    assert_eq!(rt;
+        found_at(alloc, &t, "2024-03-11T00:00:00Z", &counts)?.as_str(),
+        "V1,contact,x,clID,R9,registrar\nV1,host,x,clID,R9,registrar\nV1,domain,x,clID,R9,registrar\nV1,domain,x,contactId,C8,contact\nV1,domain,x,idnTableId,I9,idn\nV1,domain,x,registrant,C9,contact\nV1,nndn,x,idnTableId,I9,idn\n"
+    );
+    Ok(())
+}
+
+#[test]
+fn dates_are_moments_of_their_years(rt: HostRuntime) -> Result<(), Fail> {
+    let alloc = rt.alloc();
+    let mut t = BTreeMap::new(alloc);
+    for (kind, key, created, expires) in [
+        (Kind::Registrar, "R1", "1969-12-31T23:59:59Z", "never"),
+        (Kind::Contact, "C1", "2024-03-03T00:00:00.5Z", ""),
+        (Kind::Host, "ns.example", "2024-03-03T00:00:00.0Z", ""),
+        (
+            Kind::Domain,
+            "a.example",
+            "2262-01-01T00:00:00Z",
+            "2024-02-30T00:00:00Z",
+        ),
+        (
+            Kind::Domain,
+            "b.example",
+            "2024-03-02T00:00:00.0Z",
+            "2024-03-02T00:00:00Z",
+        ),
+        (Kind::Idn, "I1", "never", ""),
+        (Kind::Nndn, "n.example", "never", ""),
+    ] {
+        let cells = [
+            ("crDate", created),
+            ("crDate", "never"),
+            ("exDate", expires),
+        ];
+        let parent = row(alloc, kind.name(), &cells)?;
+        put(alloc, &mut t, kind, key, parent, Vec::new(alloc))?;
+    }
+    let counts = BTreeMap::new(alloc);
+    assert_eq!(rt;
+        found_at(alloc, &t, "2024-03-03T00:00:00Z", &counts)?.as_str(),
+        "V5,contact,C1,crDate,2024-03-03T00:00:00.5Z,2024-03-03T00:00:00Z\nV7,registrar,R1,crDate,1969-12-31T23:59:59Z,\nV7,domain,a.example,crDate,2262-01-01T00:00:00Z,\nV7,domain,a.example,exDate,2024-02-30T00:00:00Z,\n"
+    );
+    Ok(())
+}
+
+#[test]
+fn findings_are_compared_by_all_fields(rt: HostRuntime) -> Result<(), Fail> {
+    let alloc = rt.alloc();
+    let t = front(alloc)?;
+    let mut counts = BTreeMap::new(alloc);
+    counts.insert(Kind::Registrar, 10)?;
+    counts.insert(Kind::Contact, 9)?;
+    let first = verify(alloc, &t, 0, &counts)?;
+    let second = verify(alloc, &t, 0, &counts)?;
+    assert_eq!(rt; first.len(), 2);
+    assert_eq!(rt; second.len(), 2);
+    assert!(rt; first[0] == second[0]);
+    assert!(rt; first[0] != second[1]);
+    assert!(rt; first[0] < second[1]);
+    Ok(())
+}
+
+#[test]
+fn each_kind_has_its_statuses(rt: HostRuntime) -> Result<(), Fail> {
+    let alloc = rt.alloc();
+    let mut t = front(alloc)?;
+    let mut statuses = Vec::new(alloc);
+    for word in ["linked", "ok", "", "clientTransferProhibited", "inactive"] {
+        statuses.push(row(alloc, "hostStatuses", &[("status", word)])?)?;
+        statuses.push(row(alloc, "contactStatuses", &[("status", word)])?)?;
+    }
+    let host = row(alloc, "host", &[("name", "ns.example"), ("clID", "R1")])?;
+    put(alloc, &mut t, Kind::Host, "ns.example", host, statuses)?;
+    let counts = BTreeMap::new(alloc);
+    assert_eq!(rt;
+        found_at(alloc, &t, "2024-03-11T00:00:00Z", &counts)?.as_str(),
+        "V3,host,ns.example,status,clientTransferProhibited,\nV3,host,ns.example,status,inactive,\n"
+    );
+    Ok(())
+}
+
+#[test]
+fn domains_are_exported_with_their_child_rows(rt: HostRuntime) -> Result<(), Fail> {
+    let alloc = rt.alloc();
+    let mut t = front(alloc)?;
+    let mut rows = Vec::new(alloc);
+    for (table, field, text) in [
+        ("domainNs", "hostName", "ns1.e.example"),
+        ("domainNs", "hostName", "ns2.e.example"),
+        ("domainStatuses", "status", "ok"),
+        ("domainNs", "hostName", "ns3.e.example"),
+    ] {
+        rows.push(row(alloc, table, &[("domainName", "e.example"), (field, text)])?)?;
+    }
+    let parent = row(
+        alloc,
+        "domain",
+        &[("name", "e.example"), ("clID", "R1"), ("registrant", "C1")],
+    )?;
+    put(alloc, &mut t, Kind::Domain, "e.example", parent, rows)?;
+    let text = export_rows(alloc, &t, Kind::Domain)?;
+    assert_eq!(rt;
+        text.as_slice(),
+        b"kind,key,table,row,field,value\ndomain,e.example,domain,0,name,e.example\ndomain,e.example,domain,0,clID,R1\ndomain,e.example,domain,0,registrant,C1\ndomain,e.example,domainNs,1,domainName,e.example\ndomain,e.example,domainNs,1,hostName,ns1.e.example\ndomain,e.example,domainNs,2,domainName,e.example\ndomain,e.example,domainNs,2,hostName,ns2.e.example\ndomain,e.example,domainStatuses,1,domainName,e.example\ndomain,e.example,domainStatuses,1,status,ok\ndomain,e.example,domainNs,3,domainName,e.example\ndomain,e.example,domainNs,3,hostName,ns3.e.example\n".as_slice()
+    );
+    Ok(())
+}
+
+#[test]
+fn quotes_stand_where_they_are_needed(rt: HostRuntime) -> Result<(), Fail> {
+    let alloc = rt.alloc();
+    let mut t = BTreeMap::new(alloc);
+    let parent = row(
+        alloc,
+        "registrar",
+        &[("id", "R1"), ("name", "Net, \"One\"")],
+    )?;
+    put(
+        alloc,
+        &mut t,
+        Kind::Registrar,
+        "R1",
+        parent,
+        Vec::new(alloc),
+    )?;
+    let text = export_rows(alloc, &t, Kind::Registrar)?;
+    assert_eq!(rt;
+        text.as_slice(),
+        b"kind,key,table,row,field,value\nregistrar,R1,registrar,0,id,R1\nregistrar,R1,registrar,0,name,\"Net, \"\"One\"\"\"\n".as_slice()
+    );
+    let none = export_rows(alloc, &t, Kind::Nndn)?;
+    assert_eq!(rt;
+        none.as_slice(),
+        b"kind,key,table,row,field,value\n".as_slice()
+    );
+    Ok(())
+}
+
+#[test]
+fn lines_may_differ_in_length(rt: HostRuntime) -> Result<(), Fail> {
+    let alloc = rt.alloc();
+    let mut lines = Lines::new(alloc);
+    lines.write(&[b"a", b"b c"])?;
+    lines.write(&[b"d\n"])?;
+    let text = lines.into_text()?;
+    assert_eq!(rt; text.as_slice(), b"a,b c\n\"d\n\"\n".as_slice());
+    Ok(())
+}

@@ -1,0 +1,100 @@
+//! Verification of the tables of a registry.
+
+ghost use Rattle.std.specs.Prelude.{◌≡◌, ◌↔◌, ◌++◌, OnOk, IfOk, string_bytes};
+ghost use Rattle.std.specs.List.{Contains, flat_map};
+ghost use Rattle.std.specs.List.Sorted.{IsStrictlySortedBy};
+ghost use Rattle.std.specs.Map.{keys_of};
+ghost use Rattle.esc_tables.specs.KeyName.{key_cmp};
+ghost use Rattle.esc_check.specs.FindingValue.{FindingValue, listing_cmp};
+ghost use Rattle.esc_check.specs.Findings.{IsFinding};
+ghost use Rattle.esc_check.specs.Gathered.{is_present, links_of, link_findings, own_findings, object_findings};
+ghost use Rattle.esc_check.specs.Tables.{tables_of};
+
+use crate::count::check_counts;
+use crate::date::{Limit, check_forms, check_moments, limit_at};
+use crate::distinct::settle;
+use crate::finding::Finding;
+use crate::link::{add_links, check_links};
+use crate::status::check_statuses;
+use esc_bundle::NoMemory;
+use esc_envelope::Kind;
+use esc_tables::{Key, Object};
+use std::alloc::Global;
+use std::collections::BTreeMap;
+
+// Adds what is found of an object by itself.
+fn check_own(
+    alloc: Global,
+    found: &mut Vec<Finding>,
+    limit: &Limit,
+    key: &Key,
+    object: &Object,
+) -> Result<(), NoMemory>
+    ensures { OnOk result (found.new.items ≡ found.old.items ++ own_findings limit.now.moment (string_bytes limit.now.text) key.now object.now) }
+{
+    check_statuses(alloc, found, key, object)?;
+    check_moments(alloc, found, limit, key, object)?;
+    check_forms(alloc, found, key, object)
+}
+
+// Adds what is found of the links of an object of these tables.
+fn check_linked(
+    alloc: Global,
+    found: &mut Vec<Finding>,
+    t: &BTreeMap<Key, Object>,
+    key: &Key,
+    object: &Object,
+) -> Result<(), NoMemory>
+    ensures { OnOk result (found.new.items ≡ found.old.items ++ link_findings (is_present t.now.entries) (links_of key.now object.now)) }
+{
+    let mut links = Vec::new(alloc);
+    add_links(alloc, &mut links, key, object)?;
+    check_links(alloc, found, t, &links)
+}
+
+fn check_object(
+    alloc: Global,
+    found: &mut Vec<Finding>,
+    t: &BTreeMap<Key, Object>,
+    limit: &Limit,
+    key: &Key,
+    object: &Object,
+) -> Result<(), NoMemory>
+    ensures { OnOk result (found.new.items ≡ found.old.items ++ object_findings (is_present t.now.entries) limit.now.moment (string_bytes limit.now.text) (key.now, object.now)) }
+{
+    check_linked(alloc, found, t, key, object)?;
+    check_own(alloc, found, limit, key, object)
+}
+
+fn check_objects(
+    alloc: Global,
+    found: &mut Vec<Finding>,
+    t: &BTreeMap<Key, Object>,
+    limit: &Limit,
+) -> Result<(), NoMemory>
+    ensures ordered { OnOk result (IsStrictlySortedBy key_cmp (keys_of t.now.entries)) }
+    ensures added { OnOk result (found.new.items ≡ found.old.items ++ flat_map (object_findings (is_present t.now.entries) limit.now.moment (string_bytes limit.now.text)) t.now.entries) }
+{
+    for (key, object) in t.iter() {
+        check_object(alloc, found, t, limit, key, object)?;
+    }
+    Ok(())
+}
+
+/// What is found in the tables of a registry at a watermark, for which these numbers of objects are declared: V1 to V7,
+/// each once, by code, kind, key, field and value, texts by their bytes (this project's profile).
+pub fn verify(
+    alloc: Global,
+    t: &BTreeMap<Key, Object>,
+    watermark: i64,
+    counts: &BTreeMap<Kind, u64>,
+) -> Result<Vec<Finding>, NoMemory>
+    ensures ordered { IfOk result (λ found. IsStrictlySortedBy listing_cmp found.items) }
+    ensures each { IfOk result (λ found. (f : FindingValue) → Contains found.items f ↔ IsFinding (tables_of t.now.entries) watermark counts.now.entries f) }
+{
+    let limit = limit_at(alloc, watermark)?;
+    let mut found = Vec::new(alloc);
+    check_objects(alloc, &mut found, t, &limit)?;
+    check_counts(alloc, &mut found, t, counts)?;
+    Ok(settle(found))
+}

@@ -1,0 +1,25 @@
+-- A new store stands for no arrivals.
+use Rattle.std.proofs.Common.{ℕ, List, [], ◌∷◌, refl, sym, ◌∙◌, true≢false}
+use Rattle.std.specs.FinSet as set
+use Rattle.std.specs.Ordering.{nat_cmp}
+use Rattle.sha2.specs.Sha256.{sha256}
+use Rattle.esc_tables.specs.Reading.{reading}
+use Rattle.esc_manifest.specs.declared.row.MRow.{MRow}
+use Rattle.esc_chain.specs.Chain.{IsChainBack}
+use Rattle.esc_apply.proofs.Chains.{empty-chain}
+use Rattle.esc_store.specs.Kept.{fresh}
+use Rattle.esc_desk.specs.Stands.{held_rows, StandsFor}
+
+-- where no row is held there is no chain
+no_chain : (m : List MRow) (c : List ℕ) → IsChainBack m (held_rows sha256 reading m []) c → ⊥
+no_chain m [] is = is
+no_chain m (r ∷ rest) is = absurd (true≢false (sym (sym (set.contains-empty nat_cmp r) ∙ is.0.held)))
+
+pub stands_at_first : (m : List MRow) → StandsFor sha256 reading m [] (fresh m)
+stands_at_first m = record {
+  listed = refl;
+  receipts = refl;
+  bodies = λ r. refl;
+  chain = no_chain m;
+  registry = empty-chain;
+}

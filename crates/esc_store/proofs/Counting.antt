@@ -1,0 +1,208 @@
+-- How many objects of a kind there are, from the kinds of the table's rows.
+use Rattle.std.proofs.Common.{◌≡◌, ℕ, suc, Bool, true, false, cond, List, [], ◌∷◌, length, filter, Option, None, Some, refl, sym, ap, subst, ◌∙◌, arith, inl, inr}
+use Rattle.std.specs.Prelude.{◌==◌, ◌&&◌, bytes_eq, find, option_map, IsSome, IfSome, if◌then◌else◌}
+use Rattle.std.specs.List.{AllByRecursion, IsDistinct}
+use Rattle.std.specs.Map.{lookup, keys_of}
+use Rattle.std.specs.Option.{option_and_then}
+use Rattle.std.proofs.lemmas.Bool.{cases_Bool, eqb-true}
+use Rattle.std.proofs.lemmas.Bool.Decides.{nat_tests}
+use Rattle.std.proofs.lemmas.Slice.Eq.{bytes_eq-Decides}
+use Rattle.std.proofs.lemmas.List.Elements.{All-from_recursion}
+use Rattle.sqlite_keyed.proofs.ListLemmas.{all_weaker}
+use Rattle.esc_envelope.specs.declared.kind.Kind.{Kind}
+use Rattle.esc_envelope.specs.declared.kind.Kind.TheVariants.{Registrar, Contact, Host, Domain, Idn, Nndn}
+use Rattle.esc_envelope.specs.Kinds.{kind_rank}
+use Rattle.esc_tables.specs.KeyName.{KeyName, key_eq}
+use Rattle.esc_tables.specs.ObjectValue.{ObjectValue}
+use Rattle.esc_record.specs.Record.{record_of}
+use Rattle.esc_apply.specs.Registry.{State, HasSize}
+use Rattle.esc_apply.specs.Registry.{Content as Objects}
+use Rattle.esc_apply.proofs.Keys.{keys_alike}
+use Rattle.esc_rows.specs.Rows.{ObjectRow}
+use Rattle.esc_rows.specs.Content.{Content, is_object_at, object_at}
+use Rattle.esc_rows.specs.Changes.{ListsKinds}
+use Rattle.esc_store.specs.Decoded.{times, tallies, HaveOwnKeys}
+use Rattle.esc_store.specs.Kept.{of_kind, AreCounts}
+use Rattle.esc_store.specs.TypedRows.{record_at, IsRegistry}
+use Rattle.esc_store.proofs.Gathering.{record_here}
+use Rattle.esc_store.proofs.Registries.{rank_one, same_tests}
+
+abbrev name : Kind → ObjectRow → KeyName
+name kind o = record { kind = kind; text = o.key }
+
+-- with an object, if there is one and it is of the kind
+abbrev picked : KeyName → Bool → Option ObjectValue → List (KeyName × ObjectValue) → List (KeyName × ObjectValue)
+picked q true (Some x) es = (q, x) ∷ es
+picked q true None es = es
+picked q false o es = es
+
+-- the objects of a kind at the keys of these rows
+abbrev entries_in : Objects → Kind → List ObjectRow → List (KeyName × ObjectValue)
+entries_in f kind [] = []
+entries_in f kind (o ∷ os) = picked (name kind o) (o.kind == kind_rank kind) (f (name kind o)) (entries_in f kind os)
+
+abbrev IsThere : Objects → Kind → ObjectRow → Type 0
+IsThere f kind o = (o.kind == kind_rank kind) ≡ true → IsSome (f (name kind o))
+
+-- ---- how many
+
+size : (f : Objects) (kind : Kind) (os : List ObjectRow) → AllByRecursion (IsThere f kind) os → length (entries_in f kind os) ≡ length (filter (λ (o : ObjectRow). o.kind == kind_rank kind) os)
+size f kind [] all = refl
+size f kind (o ∷ os) all = go (o.kind == kind_rank kind) (f (name kind o)) all.0 (size f kind os all.1) where
+  go : (b : Bool) (x : Option ObjectValue) → (b ≡ true → IsSome x) → length (entries_in f kind os) ≡ length (filter (λ (o : ObjectRow). o.kind == kind_rank kind) os)
+      → length (picked (name kind o) b x (entries_in f kind os)) ≡ length (cond b (o ∷ filter (λ (o : ObjectRow). o.kind == kind_rank kind) os) (filter (λ (o : ObjectRow). o.kind == kind_rank kind) os))
+  go true (Some x) some more = ap suc more
+  go true None some more = let bad : IsSome {T = ObjectValue} None = some refl in absurd cc
+  go false x some more = more
+
+-- ---- which
+
+and_parts : (a b : Bool) → (a && b) ≡ true → (a ≡ true) × (b ≡ true)
+and_parts true b h = (refl, h)
+and_parts false b h = absurd cc
+
+-- the key of a row that passes the test for a key
+key_there : (q : KeyName) (o : ObjectRow) (kind : Kind) → (o.kind == kind_rank kind) ≡ true → is_object_at (kind_rank q.kind) q.text o ≡ true → name kind o ≡ q
+key_there q o kind of is =
+    let (a, b) = and_parts (o.kind == kind_rank q.kind) (bytes_eq o.key q.text) is in
+    let kinds : kind ≡ q.kind = rank_one kind q.kind (sym (eqb-true _ _ of) ∙ eqb-true _ _ a) in
+    let texts : o.key ≡ q.text = (bytes_eq-Decides o.key q.text).0 b in
+    rw (kinds, texts) refl
+
+other_kind : (q : KeyName) (o : ObjectRow) (kind : Kind) (f : Objects) → (o.kind == kind_rank kind) ≡ false → is_object_at (kind_rank q.kind) q.text o ≡ true → of_kind kind f q ≡ None
+other_kind q o kind f other is =
+    let (a, b) = and_parts (o.kind == kind_rank q.kind) (bytes_eq o.key q.text) is in
+    let apart : (kind_rank q.kind == kind_rank kind) ≡ false = sym (ap (λ n. n == kind_rank kind) (eqb-true o.kind (kind_rank q.kind) a)) ∙ other in
+    rw apart refl
+
+this_kind : (q : KeyName) (kind : Kind) (f : Objects) → q.kind ≡ kind → of_kind kind f q ≡ f q
+this_kind q kind f is =
+    let same : (kind_rank q.kind == kind_rank kind) ≡ true = rw is (grind (arith, nat_tests)) in
+    rw same refl
+
+-- a row's test and its key's
+key_test : (q : KeyName) (o : ObjectRow) (kind : Kind) → (o.kind == kind_rank kind) ≡ true → key_eq q (name kind o) ≡ is_object_at (kind_rank q.kind) q.text o
+key_test q o kind of = keys_alike.symm q (name kind o) ∙ (same_tests (name kind o) q ∙ ap (λ n. (n == kind_rank q.kind) && bytes_eq o.key q.text) (sym (eqb-true o.kind (kind_rank kind) of)))
+
+never : {X Y : Type 0} (f : X → Option Y) (o : Option X) → ((x : X) → f x ≡ None) → option_and_then f o ≡ None
+never f None nothing = refl
+never f (Some x) nothing = nothing x
+
+-- of a key the rows of a kind have the object that the content has, if there is a row of that key
+abbrev IsAmong : Objects → Kind → KeyName → List ObjectRow → List (KeyName × ObjectValue) → Type 0
+IsAmong f kind q os es = lookup (key_eq q) es ≡ option_and_then (λ (o : ObjectRow). of_kind kind f q) (find (is_object_at (kind_rank q.kind) q.text) os)
+
+-- where nothing is picked of a row
+passed : (f : Objects) (kind : Kind) (q : KeyName) (o : ObjectRow) (os : List ObjectRow) (es : List (KeyName × ObjectValue)) → (is_object_at (kind_rank q.kind) q.text o ≡ true → of_kind kind f q ≡ None) → IsAmong f kind q os es → IsAmong f kind q (o ∷ os) es
+passed f kind q o os es nothing more = elim (cases_Bool (is_object_at (kind_rank q.kind) q.text o)) [
+  | inl is ↦ rw is (more ∙ (never (λ (x : ObjectRow). of_kind kind f q) (find (is_object_at (kind_rank q.kind) q.text) os) (λ x. nothing is) ∙ sym (nothing is)))
+  | inr other ↦ rw other more
+]
+
+-- where an object is picked of a row
+taken_up : (f : Objects) (kind : Kind) (q : KeyName) (o : ObjectRow) (os : List ObjectRow) (es : List (KeyName × ObjectValue)) (x : ObjectValue) → (o.kind == kind_rank kind) ≡ true → (is_object_at (kind_rank q.kind) q.text o ≡ true → of_kind kind f q ≡ Some x) → IsAmong f kind q os es
+    → IsAmong f kind q (o ∷ os) ((name kind o, x) ∷ es)
+taken_up f kind q o os es x of here more = elim (cases_Bool (is_object_at (kind_rank q.kind) q.text o)) [
+  | inl is ↦ rw (key_test q o kind of, is) (sym (here is))
+  | inr other ↦ rw (key_test q o kind of, other) more
+]
+
+there : (f : Objects) (kind : Kind) (q : KeyName) (os : List ObjectRow) → IsAmong f kind q os (entries_in f kind os)
+there f kind q [] = refl
+there f kind q (o ∷ os) = by_kind (o.kind == kind_rank kind) (f (name kind o)) refl refl (there f kind q os) where
+  here : (o.kind == kind_rank kind) ≡ true → is_object_at (kind_rank q.kind) q.text o ≡ true → of_kind kind f q ≡ f (name kind o)
+  here of is = let same = key_there q o kind of is in this_kind q kind f (ap (λ (k : KeyName). k.kind) (sym same)) ∙ ap f (sym same)
+
+  by_kind : (b : Bool) (x : Option ObjectValue) → (o.kind == kind_rank kind) ≡ b → f (name kind o) ≡ x → IsAmong f kind q os (entries_in f kind os) → IsAmong f kind q (o ∷ os) (picked (name kind o) b x (entries_in f kind os))
+  by_kind false x other is more = passed f kind q o os (entries_in f kind os) (λ there. other_kind q o kind f other there) more
+  by_kind true None of none more = passed f kind q o os (entries_in f kind os) (λ there. here of there ∙ none) more
+  by_kind true (Some x) of some more = taken_up f kind q o os (entries_in f kind os) x of (λ there. here of there ∙ some) more
+
+bytes_turned : (p q : List ℕ) → bytes_eq p q ≡ bytes_eq q p
+bytes_turned p q = elim (cases_Bool (bytes_eq p q)) [
+  | inl is ↦ is ∙ sym ((bytes_eq-Decides q p).1 (sym ((bytes_eq-Decides p q).0 is)))
+  | inr other ↦ elim (cases_Bool (bytes_eq q p)) [
+    | inl is ↦ (let e : true ≡ false = sym ((bytes_eq-Decides p q).1 (sym ((bytes_eq-Decides q p).0 is))) ∙ other in absurd cc)
+    | inr also ↦ other ∙ sym also
+  ]
+]
+
+-- ---- each once
+
+apart_from : (f : Objects) (kind : Kind) (a : ObjectRow) (os : List ObjectRow) → (a.kind == kind_rank kind) ≡ true → AllByRecursion (λ (b : ObjectRow). is_object_at b.kind b.key a ≡ false) os → AllByRecursion (λ y. key_eq (name kind a) y ≡ false) (keys_of (entries_in f kind os))
+apart_from f kind a [] of all = tt
+apart_from f kind a (b ∷ os) of all = go (b.kind == kind_rank kind) (f (name kind b)) refl (apart_from f kind a os of all.1) where
+  other : (b.kind == kind_rank kind) ≡ true → key_eq (name kind a) (name kind b) ≡ false
+  other also = key_test (name kind a) b kind also ∙ (ap (λ n. is_object_at n a.key b) (sym (eqb-true b.kind (kind_rank kind) also)) ∙ (same_sides ∙ all.0)) where
+    same_sides : is_object_at b.kind a.key b ≡ is_object_at b.kind b.key a
+    same_sides =
+        let kinds : a.kind ≡ b.kind = eqb-true a.kind (kind_rank kind) of ∙ sym (eqb-true b.kind (kind_rank kind) also) in
+        rw kinds (ap (λ t. (b.kind == b.kind) && t) (bytes_turned b.key a.key))
+
+  go : (t : Bool) (x : Option ObjectValue) → (b.kind == kind_rank kind) ≡ t → AllByRecursion (λ y. key_eq (name kind a) y ≡ false) (keys_of (entries_in f kind os)) → AllByRecursion (λ y. key_eq (name kind a) y ≡ false) (keys_of (picked (name kind b) t x (entries_in f kind os)))
+  go true (Some x) also more = (other also, more)
+  go true None also more = more
+  go false x also more = more
+
+once_each : (f : Objects) (kind : Kind) (os : List ObjectRow) → HaveOwnKeys os → IsDistinct key_eq (keys_of (entries_in f kind os))
+unfolding IsDistinct
+once_each f kind [] up = tt
+once_each f kind (o ∷ os) up = go (o.kind == kind_rank kind) (f (name kind o)) refl (once_each f kind os up.1) where
+  go : (t : Bool) (x : Option ObjectValue) → (o.kind == kind_rank kind) ≡ t → IsDistinct key_eq (keys_of (entries_in f kind os)) → IsDistinct key_eq (keys_of (picked (name kind o) t x (entries_in f kind os)))
+  go true (Some x) of more = (apart_from f kind o os of up.0, more)
+  go true None of more = more
+  go false x of more = more
+
+-- ---- the rows of a kind
+
+itself : (o : ObjectRow) → is_object_at o.kind o.key o ≡ true
+itself o =
+    let a : (o.kind == o.kind) ≡ true = grind (arith, nat_tests) in
+    let b : bytes_eq o.key o.key ≡ true = (bytes_eq-Decides o.key o.key).1 refl in
+    rw (a, b) refl
+
+found_among : (p : ObjectRow → Bool) (o : ObjectRow) (os : List ObjectRow) → IsSome (find p os) → IsSome (find p (o ∷ os))
+found_among p o os some = elim (cases_Bool (p o)) [ inl is ↦ rw is refl | inr other ↦ rw other some ]
+
+found_itself : (os : List ObjectRow) → AllByRecursion (λ (o : ObjectRow). IsSome (find (is_object_at o.kind o.key) os)) os
+found_itself [] = tt
+found_itself (o ∷ os) = (rw (itself o) refl, all_weaker _ _ (λ x some. found_among (is_object_at x.kind x.key) o os some) os (found_itself os))
+
+is_kept : (c : Content) (s : State) (kind : Kind) (o : ObjectRow) → IsRegistry c s → IsSome (find (is_object_at o.kind o.key) c.objects) → IsThere s.content kind o
+is_kept c s kind o it some of = elim (s.content (name kind o)) as (λ x. option_and_then record_of x ≡ object_at o.kind o.key c.objects → IsSome x) [
+  | None ↦ λ e. absurd (no_bytes (find (is_object_at o.kind o.key) c.objects) e some)
+  | Some x ↦ λ e. refl
+] (sym (record_here s.content (name kind o)) ∙ (ap (λ n. record_at s.content n o.key) (sym (eqb-true o.kind (kind_rank kind) of)) ∙ sym (it.objects o.kind o.key))) where
+  no_bytes : (x : Option ObjectRow) → None ≡ option_map (λ (o : ObjectRow). o.bytes) x → IsSome x → ⊥
+  no_bytes None e some = let bottom : ⊥ = cc in bottom
+  no_bytes (Some x) e some = let bottom : ⊥ = cc in bottom
+
+-- what the rows don't have is none
+each_is : (c : Content) (s : State) (kind : Kind) (q : KeyName) → IsRegistry c s → lookup (key_eq q) (entries_in s.content kind c.objects) ≡ of_kind kind s.content q
+each_is c s kind q it = there s.content kind q c.objects ∙ by_row (find (is_object_at (kind_rank q.kind) q.text) c.objects) refl where
+  nothing : (x : Option ObjectValue) → option_and_then record_of x ≡ None → IfSome x (λ o. IsSome (record_of o)) → x ≡ None
+  nothing None e has = refl
+  nothing (Some y) e has = let bad : IsSome {T = List ℕ} None = subst IsSome e has in absurd cc
+
+  in_kind : (b : Bool) (x : Option ObjectValue) → x ≡ None → (if b then x else None) ≡ None
+  in_kind true x e = e
+  in_kind false x e = refl
+
+  by_row : (o : Option ObjectRow) → find (is_object_at (kind_rank q.kind) q.text) c.objects ≡ o → option_and_then (λ (o : ObjectRow). of_kind kind s.content q) o ≡ of_kind kind s.content q
+  by_row (Some o) found = refl
+  by_row None found = sym (in_kind (kind_rank q.kind == kind_rank kind) (s.content q) (nothing (s.content q) (sym (record_here s.content q) ∙ (sym (it.objects (kind_rank q.kind) q.text) ∙ ap (option_map (λ (o : ObjectRow). o.bytes)) found)) (it.recorded q)))
+
+has_size : (c : Content) (s : State) (kind : Kind) (numbers : List ℕ) → IsRegistry c s → ListsKinds c numbers → HaveOwnKeys c.objects → HasSize (of_kind kind s.content) (times kind numbers)
+has_size c s kind numbers it lists up = (
+  entries_in s.content kind c.objects,
+  record { once = once_each s.content kind c.objects up; each = λ q. each_is c s kind q it },
+  size s.content kind c.objects (all_weaker _ _ (λ o some. is_kept c s kind o it some) c.objects (found_itself c.objects)) ∙ sym (lists.counts (kind_rank kind)),
+)
+
+pub are_counts : (c : Content) (s : State) (numbers : List ℕ) (counts : List (Kind × ℕ)) → IsRegistry c s → ListsKinds c numbers → HaveOwnKeys c.objects → counts ≡ tallies numbers → AreCounts s.content counts
+are_counts c s numbers counts it lists up is = subst (AreCounts s.content) (sym is) (record {
+  kinds = refl;
+  each = All-from_recursion (λ (n : Kind × ℕ). HasSize (of_kind n.0 s.content) n.1) (tallies numbers) (sized Registrar, (sized Contact, (sized Host, (sized Domain, (sized Idn, (sized Nndn, tt))))));
+}) where
+  sized : (kind : Kind) → HasSize (of_kind kind s.content) (times kind numbers)
+  sized kind = has_size c s kind numbers it lists up

@@ -1,0 +1,60 @@
+-- Databases that are found to be a store, or none.
+use Rattle.std.proofs.Common.{◌≡◌, ◌≤◌, Bool, false, List, [], ◌∷◌, length, slice_get, Option, Some, None, option_map, sym, ap, subst, ◌∙◌, arith}
+use Rattle.std.specs.Prelude.{IsTrue, ℤ, pos}
+use Rattle.sqlite_value.specs.declared.value.Value.TheVariants.{Int}
+use Rattle.sqlite_value.specs.Order.{Row, column}
+use Rattle.sqlite.specs.Effect.{Database}
+use Rattle.sqlite.specs.State.{State, HasCleanDisk, Survives, IsUnchanged}
+use Rattle.esc_manifest.specs.declared.row.MRow.{MRow}
+use Rattle.esc_rows.specs.Schema.{store_schema, info_tree}
+use Rattle.esc_rows.specs.Rows.{info_row}
+use Rattle.esc_rows.specs.Content.{Content, content_in, HoldsContent}
+use Rattle.esc_rows.specs.Content.{IsStore as HasTables}
+use Rattle.esc_rows.specs.Creation.{TellsVersion}
+use Rattle.esc_store.specs.Kept.{Kept}
+use Rattle.esc_store.specs.Tables.{IsStore, IsStoreDatabase, IsOfVersion}
+use Rattle.esc_store.specs.Standing.{IsStanding, RestsAt}
+use Rattle.esc_store.proofs.Ends.{was_clean}
+
+-- a database whose last commit is a store has the tables
+pub tables_refused : (s : State) (has : Bool) (k : Kept) → (IsTrue s.is_open → (c : Content) → HasTables s.now.trees c → IsTrue has × HoldsContent s.now c) → s.now ≡ s.committed → has ≡ false → IsTrue s.is_open → IsStore s.committed.trees k → ⊥
+unfolding IsStore
+tables_refused s has k found same lacks up stored =
+    let yes = (found up (content_in s.now.trees) (subst (λ (db : Database). HasTables db.trees (content_in db.trees)) (sym same) stored.tables)).0 in
+    let none : ⊥ = cc in none
+
+int_is : (version : Option ℤ) (n : ℤ) → option_map Int version ≡ Some (Int n) → version ≡ Some n
+int_is None n is = let no : ⊥ = cc in absurd no
+int_is (Some v) n is = let e : v ≡ n = cc in ap Some e
+
+-- and its version is 1
+pub version_told : (s : State) (version : Option ℤ) (k : Kept) → s.now ≡ s.committed → s.now.schema ≡ store_schema → TellsVersion s.now version → IsStore s.committed.trees k → version ≡ Some (pos 1)
+unfolding IsStore
+version_told s version k same schema tells stored =
+    let info : s.now.trees info_tree ≡ info_row ∷ [] = ap (λ (db : Database). db.trees info_tree) same ∙ stored.tables.rows.info in
+    let one : length (s.now.trees info_tree) ≤ 1 = subst (λ (rows : List Row). length rows ≤ 1) (sym info) (omega arith) in
+    int_is version (pos 1) (tells schema one ∙ ap (λ (rows : List Row). option_map (λ (r : Row). column r 2) (slice_get rows 0)) info)
+
+pub is_of_version : (db : Database) (version : Option ℤ) → db.schema ≡ store_schema → TellsVersion db version → version ≡ Some (pos 1) → IsOfVersion db
+is_of_version db version schema tells is = record { schema = schema; version = λ one. sym (tells schema one) ∙ ap (option_map Int) is }
+
+-- reads one after another
+pub unchanged_then : (a b c : State) → IsUnchanged a b → IsUnchanged b c → IsUnchanged a c
+unchanged_then a b c p q = (
+  record { was_open = p.0.was_open; is_open = q.0.is_open; now_is = q.0.now_is ∙ p.0.now_is; committed_is = q.0.committed_is ∙ p.0.committed_is; mode = q.0.mode ∙ p.0.mode },
+  record { changes = q.1.changes ∙ p.1.changes; last_rowid = q.1.last_rowid ∙ p.1.last_rowid },
+  q.2 ∙ p.2,
+)
+
+-- what was read is what the store was
+pub opened : (old new : State) (m : List MRow) (k : Kept) → Survives old new (λ trees. ⊥) → IsUnchanged old new → (IsStoreDatabase old.now k → m ≡ k.listed) → RestsAt old k → HasCleanDisk new → IsStanding new m k
+opened old new m k survives unchanged told rests clean =
+    let was = rests (was_clean old new (λ trees. ⊥) survives clean) unchanged.0.was_open in
+    record {
+      listed = told (subst (λ db. IsStoreDatabase db k) (sym was.same) was.kept);
+      rests = λ still up. record {
+        kept = subst (λ db. IsStoreDatabase db k) (sym unchanged.0.committed_is) was.kept;
+        same = unchanged.0.now_is ∙ (was.same ∙ sym unchanged.0.committed_is);
+        autocommit = unchanged.0.mode ∙ was.autocommit;
+      };
+    }

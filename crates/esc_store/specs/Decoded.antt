@@ -1,0 +1,48 @@
+-- What objects, before-images and counts are decoded from.
+use Rattle.std.specs.Prelude.{◌≡◌, ◌==◌, ℕ, false, List, [], ◌∷◌, length, map, filter, Option, Some, IsSome, option_map}
+use Rattle.std.specs.Map.{lookup}
+use Rattle.sqlite_trees.specs.Tree.{IsAscending}
+use Rattle.esc_envelope.specs.declared.kind.Kind.{Kind}
+use Rattle.esc_envelope.specs.declared.kind.Kind.TheVariants.{Registrar, Contact, Host, Domain, Idn, Nndn}
+use Rattle.esc_envelope.specs.Kinds.{kind_rank}
+use Rattle.esc_tables.specs.KeyName.{KeyName, key_eq}
+use Rattle.esc_tables.specs.ObjectValue.{ObjectValue}
+use Rattle.esc_record.specs.Record.{record_of}
+use Rattle.esc_apply.specs.Registry.{State}
+use Rattle.esc_rows.specs.Rows.{ObjectRow}
+use Rattle.esc_rows.specs.Content.{is_object_at}
+use Rattle.esc_rows.specs.Changes.{ObjectEntry, ImageEntry, entry_at, image_entry_at}
+use Rattle.esc_store.specs.TypedRows.{image_kept}
+
+-- an object stands at just the keys of the rows, and its record is the row's
+abbrev pub AreObjectsOf : List ObjectEntry → List (KeyName × ObjectValue) → Type 0
+AreObjectsOf rows objects = (q : KeyName) → option_map record_of (lookup (key_eq q) objects) ≡ option_map (λ bytes. Some bytes) (entry_at (kind_rank q.kind) q.text rows)
+
+-- a before-image stands at just the keys of the rows: an object, whose record is the row's, or none, where the row has none
+abbrev pub AreImagesOf : List ImageEntry → List (KeyName × Option ObjectValue) → Type 0
+AreImagesOf rows images = (q : KeyName) → option_map (option_map record_of) (lookup (key_eq q) images) ≡ option_map (option_map (λ bytes. Some bytes)) (image_entry_at (kind_rank q.kind) q.text rows)
+
+-- these rows are what was noted of a step: of each key its record, or none
+pub record AreNotes (step : ℕ) (s : State) (rows : List ImageEntry) : Type 0 where
+  pub each : (n : ℕ) (text : List ℕ) → image_entry_at n text rows ≡ image_kept (s.undo step) n text
+  pub recorded : (q : KeyName) (o : ObjectValue) → s.undo step q ≡ Some (Some o) → IsSome (record_of o)
+
+-- no two objects have one key
+abbrev pub HaveOwnKeys : List ObjectRow → Type 0
+HaveOwnKeys = IsAscending (λ a b. is_object_at b.kind b.key a ≡ false)
+
+-- how often the number of a kind stands among these
+abbrev pub times : Kind → List ℕ → ℕ
+times kind numbers = length (filter (λ n. n == kind_rank kind) numbers)
+
+-- the kinds in their order
+abbrev pub all_kinds : List Kind
+all_kinds = Registrar ∷ Contact ∷ Host ∷ Domain ∷ Idn ∷ Nndn ∷ []
+
+-- kinds, each with how often its number stands among these
+abbrev pub tallies_of : List Kind → List ℕ → List (Kind × ℕ)
+tallies_of kinds numbers = map (λ kind. (kind, times kind numbers)) kinds
+
+-- the kinds in their order, each with how often its number stands among these
+abbrev pub tallies : List ℕ → List (Kind × ℕ)
+tallies = tallies_of all_kinds

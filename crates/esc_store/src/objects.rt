@@ -1,0 +1,144 @@
+//! From the rows of the tables to objects and before-images by their keys.
+
+ghost use Rattle.std.specs.Prelude.{◌≡◌, [], ◌∷◌, ◌++◌, Some, None, if◌then◌else◌, map, option_map, IfOk, OnOk};
+ghost use Rattle.std.specs.List.{IsDistinct};
+ghost use Rattle.std.specs.List.Sorted.{IsStrictlySortedBy};
+ghost use Rattle.std.specs.Map.{lookup, keys_of};
+ghost use Rattle.std.specs.BTreeMap.{IsOrdered};
+ghost use Rattle.esc_envelope.specs.Kinds.{kind_rank};
+ghost use Rattle.esc_tables.specs.KeyName.{KeyName, key_cmp, key_eq};
+ghost use Rattle.esc_record.specs.Record.{record_of};
+ghost use Rattle.esc_rows.specs.Entries.{object_of, image_of};
+ghost use Rattle.esc_store.specs.Decoded.{AreObjectsOf, AreImagesOf};
+
+use crate::fault::SFault;
+use crate::images::record_object;
+use esc_envelope::Kind;
+use esc_rows::object::StoredObject;
+use esc_rows::undo::StoredImage;
+use esc_tables::{Key, Object};
+use std::alloc::Global;
+use std::collections::BTreeMap;
+
+// The kind that a number in the tables is for. `S1` where it is for none.
+fn kind_of(number: u32) -> Result<Kind, SFault>
+    ensures { IfOk result (λ kind. number ≡ kind_rank kind) }
+{
+    match number {
+        0 => Ok(Kind::Registrar),
+        1 => Ok(Kind::Contact),
+        2 => Ok(Kind::Host),
+        3 => Ok(Kind::Domain),
+        4 => Ok(Kind::Idn),
+        5 => Ok(Kind::Nndn),
+        _ => Err(SFault::S1),
+    }
+}
+
+// The key of a kind's number and a text's bytes. `S1` where they are of none; `S2`.
+fn key_of(alloc: Global, kind: u32, text: &[u8]) -> Result<Key, SFault>
+    ensures kind { IfOk result (λ key. kind ≡ kind_rank key.kind) }
+    ensures text { IfOk result (λ key. text.now ≡ key.text) }
+{
+    let kind = kind_of(kind)?;
+    match str::from_utf8(text) {
+        Ok(text) => Ok(Key {
+            kind,
+            text: String::from_str(alloc, text)?,
+        }),
+        Err(_) => Err(SFault::S1),
+    }
+}
+
+// Adds what stands at a key. `S1` where something stands there, since a key has one row at most; `S2`.
+fn add_new<X: Drop>(all: &mut BTreeMap<Key, X>, key: Key, value: X) -> Result<(), SFault>
+    ensures absent { OnOk result (lookup (key_eq key) all.old.entries ≡ None) }
+    ensures added { OnOk result ((q : KeyName) → lookup (key_eq q) all.new.entries ≡ (if key_eq key q then Some value else lookup (key_eq q) all.old.entries)) }
+    ensures ordered { IsOrdered key_cmp all.new }
+{
+    match all.insert(key, value) {
+        Ok(None) => Ok(()),
+        Ok(Some(_)) => Err(SFault::S1),
+        Err(_) => Err(SFault::S2),
+    }
+}
+
+// Adds the object of a row.
+fn add_object(
+    alloc: Global,
+    objects: &mut BTreeMap<Key, Object>,
+    stored: &StoredObject,
+) -> Result<(), SFault>
+    ensures added { OnOk result ((rows : _) → AreObjectsOf rows objects.old.entries → AreObjectsOf (rows ++ object_of stored.now ∷ []) objects.new.entries) }
+    ensures ordered { OnOk result (IsOrdered key_cmp objects.new) }
+{
+    let key = key_of(alloc, stored.kind, stored.key.as_slice())?;
+    let object = record_object(alloc, stored.record.as_slice())?;
+    add_new(objects, key, object)
+}
+
+// The objects of all rows of the table of objects. `S1` where they are of none; `S2`.
+pub(crate) fn objects_of(
+    alloc: Global,
+    stored: &[StoredObject],
+) -> Result<BTreeMap<Key, Object>, SFault>
+    ensures once { IfOk result (λ objects. IsDistinct key_eq (keys_of objects.entries)) }
+    ensures each { IfOk result (λ objects. AreObjectsOf (map object_of stored.now) objects.entries) }
+{
+    let mut objects = BTreeMap::new(alloc);
+    for at in 0..stored.len() {
+        add_object(alloc, &mut objects, &stored[at])?;
+    }
+    Ok(objects)
+}
+
+// What stood at a key before a step: the object of the row's record, or none.
+fn before_of(alloc: Global, stored: &StoredImage) -> Result<Option<Object>, SFault>
+    ensures { IfOk result (λ before. option_map record_of before ≡ option_map (λ bytes. Some bytes) (image_of stored.now).bytes) }
+{
+    match &stored.record {
+        Some(bytes) => Ok(Some(record_object(alloc, bytes.as_slice())?)),
+        None => Ok(None),
+    }
+}
+
+// Adds the before-image of a row.
+fn add_image(
+    alloc: Global,
+    images: &mut BTreeMap<Key, Option<Object>>,
+    stored: &StoredImage,
+) -> Result<(), SFault>
+    ensures added { OnOk result ((rows : _) → AreImagesOf rows images.old.entries → AreImagesOf (rows ++ image_of stored.now ∷ []) images.new.entries) }
+    ensures ordered { OnOk result (IsOrdered key_cmp images.new) }
+{
+    let key = key_of(alloc, stored.kind, stored.key.as_slice())?;
+    let before = before_of(alloc, stored)?;
+    add_new(images, key, before)
+}
+
+// The before-images of these rows, by their keys.
+fn images_by_key(
+    alloc: Global,
+    stored: &[StoredImage],
+) -> Result<BTreeMap<Key, Option<Object>>, SFault>
+    ensures ordered { IfOk result (λ images. IsOrdered key_cmp images) }
+    ensures each { IfOk result (λ images. AreImagesOf (map image_of stored.now) images.entries) }
+{
+    let mut images = BTreeMap::new(alloc);
+    for at in 0..stored.len() {
+        add_image(alloc, &mut images, &stored[at])?;
+    }
+    Ok(images)
+}
+
+// The before-images of these rows, in the order of keys. `S1` where they are of none; `S2`.
+pub(crate) fn images_of(
+    alloc: Global,
+    stored: &[StoredImage],
+) -> Result<Vec<(Key, Option<Object>)>, SFault>
+    ensures ordered { IfOk result (λ images. IsStrictlySortedBy key_cmp (keys_of images.items)) }
+    ensures each { IfOk result (λ images. AreImagesOf (map image_of stored.now) images.items) }
+{
+    let images = images_by_key(alloc, stored)?;
+    Ok(images.into_iter().collect(alloc)?)
+}

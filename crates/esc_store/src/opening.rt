@@ -1,0 +1,50 @@
+//! The store that a connection's database is.
+
+ghost use Rattle.std.specs.Prelude.{◌≡◌, IsTrue, IfOk, IfErr, OnOk};
+ghost use Rattle.sqlite.specs.Held.{state};
+ghost use Rattle.sqlite.specs.State.{HasCleanDisk, Survives, IsUnchanged};
+ghost use Rattle.esc_store.specs.Kept.{Kept};
+ghost use Rattle.esc_store.specs.Tables.{IsStore, IsStoreDatabase, IsOfVersion};
+
+use crate::fault::SFault;
+use crate::listing::kept_manifest;
+use esc_manifest::Manifest;
+use esc_rows::info::find_version;
+use esc_rows::listed::all_listed;
+use esc_rows::open::has_tables;
+use sqlite::{Alter, Connection};
+use std::alloc::Global;
+
+// Tests that the database has the tables of this version, and that no transaction is on. `S3` where it is no store of
+// this version.
+fn test_version<S: Alter>(conn: &mut Connection<S>) -> Result<(), SFault>
+    ensures survives { Survives (state S.Store conn.old) (state S.Store conn.new) (λ _. ⊥) }
+    ensures version { OnOk result (HasCleanDisk (state S.Store conn.new) → IsUnchanged (state S.Store conn.old) (state S.Store conn.new) × IsOfVersion (state S.Store conn.old).now) }
+    ensures never { IfErr result (λ fault. fault ≡ SFault.S3 → HasCleanDisk (state S.Store conn.new) → IsTrue (state S.Store conn.new).is_open → (k : Kept) → IsStore (state S.Store conn.old).committed.trees k → ⊥) }
+{
+    if !conn.is_autocommit() {
+        return Err(SFault::S1);
+    }
+    if !has_tables(conn) {
+        return Err(SFault::S3);
+    }
+    if find_version(conn)? != Some(1) {
+        return Err(SFault::S3);
+    }
+    Ok(())
+}
+
+// The manifest of the store that the database is.
+pub(crate) fn find_manifest<S: Alter>(
+    alloc: Global,
+    conn: &mut Connection<S>,
+) -> Result<Manifest, SFault>
+    ensures survives { Survives (state S.Store conn.old) (state S.Store conn.new) (λ _. ⊥) }
+    ensures version { OnOk result (HasCleanDisk (state S.Store conn.new) → IsUnchanged (state S.Store conn.old) (state S.Store conn.new) × IsOfVersion (state S.Store conn.old).now) }
+    ensures manifest { IfOk result (λ manifest. HasCleanDisk (state S.Store conn.new) → (k : Kept) → IsStoreDatabase (state S.Store conn.old).now k → manifest ≡ k.listed) }
+    ensures never { IfErr result (λ fault. fault ≡ SFault.S3 → HasCleanDisk (state S.Store conn.new) → IsTrue (state S.Store conn.new).is_open → (k : Kept) → IsStore (state S.Store conn.old).committed.trees k → ⊥) }
+{
+    test_version(conn)?;
+    let stored = all_listed(alloc, conn)?;
+    kept_manifest(alloc, stored.as_slice())
+}

@@ -1,0 +1,201 @@
+use crate::{Receipt, SFault, Store, Verdict};
+use esc_apply::{Registry, Step};
+use esc_envelope::{DepositType, Kind, Place};
+use esc_manifest::{Manifest, read_manifest};
+use esc_tables::{Key, Object, Row};
+use sqlite::{Alter, Connection, Error};
+use std::alloc::Global;
+use std::test::Fail;
+
+const LISTED: &[u8] = b"id,type,watermark,prevId,resend,sha256
+F1,FULL,2024-03-03T00:00:00Z,,0,0000000000000000000000000000000000000000000000000000000000000001
+D1,DIFF,2024-03-04T00:00:00Z,F1,1,0000000000000000000000000000000000000000000000000000000000000002
+";
+
+const THIRD: i64 = 1_709_424_000_000_000_000;
+
+// Most of these have no clause, so that the proof of a test does not carry the state of each call.
+fn run<S: Alter>(conn: &mut Connection<S>, sql: &str) -> Result<usize, Error> {
+    conn.execute(sql, &[])
+}
+
+fn listed(alloc: Global) -> Result<Manifest, Fail> {
+    Ok(read_manifest(alloc, LISTED)?)
+}
+
+// The store that is made, or the refusal and the connection that is given back.
+fn made<S: Alter>(
+    alloc: Global,
+    conn: Connection<S>,
+    manifest: &Manifest,
+) -> Result<Store<S>, (SFault, Connection<S>)> {
+    Store::create(alloc, conn, manifest)
+}
+
+fn found<S: Alter>(
+    alloc: Global,
+    conn: Connection<S>,
+) -> Result<Store<S>, (SFault, Connection<S>)> {
+    Store::open(alloc, conn)
+}
+
+fn connection<S: Alter>(store: Store<S>) -> Connection<S> {
+    store.into_connection()
+}
+
+fn domain(alloc: Global) -> Result<Key, Fail> {
+    Ok(Key {
+        kind: Kind::Domain,
+        text: String::from_str(alloc, "a.example")?,
+    })
+}
+
+fn object(alloc: Global) -> Result<Object, Fail> {
+    Ok(Object {
+        parent: Row {
+            table: String::from_str(alloc, "domain")?,
+            cells: Vec::new(alloc),
+        },
+        children: Vec::new(alloc),
+    })
+}
+
+// What the first deposit's arrival makes.
+fn arrive<S: Alter>(
+    alloc: Global,
+    store: &mut Store<S>,
+    key: &Key,
+    object: &Object,
+) -> Result<(), SFault> {
+    let mut change = store.begin()?;
+    change.record_receipt(
+        1,
+        &Receipt {
+            number: "one",
+            digest: [1; 32],
+            verdict: Verdict::A1,
+            row: Some(0),
+            again: Some(false),
+            orphans: Some(0),
+        },
+    )?;
+    change.hold(0, b"body")?;
+    change.set_chain(&[Step {
+        row: 0,
+        place: Place {
+            watermark: THIRD,
+            kind: DepositType::Full,
+        },
+        resend: 0,
+    }])?;
+    change.put(alloc, key, object)?;
+    change.commit()
+}
+
+// The same, but it isn't committed.
+fn arrive_in_vain<S: Alter>(store: &mut Store<S>) -> Result<(), SFault> {
+    let mut change = store.begin()?;
+    change.hold(1, b"other")
+}
+
+// Everything that a store is asked, in one text.
+fn told<S: Alter>(alloc: Global, store: &mut Store<S>) -> Result<String, Fail> {
+    let count = store.receipt_count()?;
+    let mut text = format!(in alloc; "{count} receipts")?;
+    for reply in store.receipts(alloc)?.as_slice() {
+        let one = format!(in alloc; "; {} {} {:?}", reply.receipt, reply.number, reply.verdict)?;
+        text.push_str(one.as_str())?;
+    }
+    for row in store.held(alloc)?.as_slice() {
+        let one = format!(in alloc; "; holds {row}")?;
+        text.push_str(one.as_str())?;
+    }
+    for step in store.chain(alloc)?.as_slice() {
+        let one = format!(in alloc; "; {} at {}", step.row, step.place.watermark)?;
+        text.push_str(one.as_str())?;
+    }
+    Ok(text)
+}
+
+#[test]
+fn a_store_is_found_again(rt: HostRuntime) -> Result<(), Fail> {
+    let alloc = rt.alloc();
+    let manifest = listed(alloc)?;
+    let conn = Connection::open_in_memory(alloc)?;
+    let Ok(mut store) = made(alloc, conn, &manifest) else {
+        assert!(rt; false);
+        return Ok(());
+    };
+    assert_eq!(rt; told(alloc, &mut store)?.as_str(), "0 receipts");
+    arrive(alloc, &mut store, &domain(alloc)?, &object(alloc)?)?;
+    assert_eq!(rt; store.writes(), 1);
+    arrive_in_vain(&mut store)?;
+    let first = told(alloc, &mut store)?;
+    assert_eq!(rt;
+        first.as_str(),
+        "1 receipts; 1 one A1; holds 0; 0 at 1709424000000000000"
+    );
+    let Ok(mut again) = found(alloc, connection(store)) else {
+        assert!(rt; false);
+        return Ok(());
+    };
+    assert_eq!(rt; again.writes(), 0);
+    assert_eq!(rt; again.manifest().rows().len(), 2);
+    let second = &again.manifest().rows()[1];
+    let header = &second.header;
+    assert_eq!(rt; header.id.as_str(), "D1");
+    assert_eq!(rt; told(alloc, &mut again)?.as_str(), first.as_str());
+    Ok(())
+}
+
+// Why a store can't be made or found there, and the connection.
+fn refused<S: Alter + Drop>(
+    answer: Result<Store<S>, (SFault, Connection<S>)>,
+) -> Result<(SFault, Connection<S>), Fail> {
+    match answer {
+        Ok(_) => Err(Fail::from(SFault::S4)),
+        Err(refusal) => Ok(refusal),
+    }
+}
+
+#[test]
+fn another_version_is_refused(rt: HostRuntime) -> Result<(), Fail> {
+    let alloc = rt.alloc();
+    let manifest = listed(alloc)?;
+    let conn = Connection::open_in_memory(alloc)?;
+    let (fault, conn) = refused(found(alloc, conn))?;
+    assert_eq!(rt; fault, SFault::S3);
+    let Ok(store) = made(alloc, conn, &manifest) else {
+        assert!(rt; false);
+        return Ok(());
+    };
+    let (fault, mut conn) = refused(made(alloc, connection(store), &manifest))?;
+    assert_eq!(rt; fault, SFault::S3);
+    run(&mut conn, "UPDATE info SET version = 7")?;
+    let (fault, mut conn) = refused(found(alloc, conn))?;
+    assert_eq!(rt; fault, SFault::S3);
+    run(&mut conn, "UPDATE info SET version = 1")?;
+    assert!(rt; found(alloc, conn).is_ok());
+    Ok(())
+}
+
+#[test]
+fn a_database_of_one_table_is_no_store(rt: HostRuntime) -> Result<(), Fail> {
+    let alloc = rt.alloc();
+    let manifest = listed(alloc)?;
+    let mut conn = Connection::open_in_memory(alloc)?;
+    run(&mut conn, "CREATE TABLE listed (row INTEGER PRIMARY KEY)")?;
+    let (fault, conn) = refused(found(alloc, conn))?;
+    assert_eq!(rt; fault, SFault::S3);
+    let (fault, mut conn) = refused(made(alloc, conn, &manifest))?;
+    assert_eq!(rt; fault, SFault::S3);
+    run(&mut conn, "DROP TABLE listed")?;
+    run(&mut conn, "BEGIN")?;
+    let (fault, conn) = refused(made(alloc, conn, &manifest))?;
+    assert_eq!(rt; fault, SFault::S1);
+    let (fault, mut conn) = refused(found(alloc, conn))?;
+    assert_eq!(rt; fault, SFault::S1);
+    run(&mut conn, "COMMIT")?;
+    assert!(rt; made(alloc, conn, &manifest).is_ok());
+    Ok(())
+}

@@ -1,0 +1,49 @@
+//! `restore`: the restore desk's program.
+//!
+//! - `restore init --store FILE --manifest FILE` reads the release manifest, then makes a store; prints `listed N`.
+//! - `restore take --store FILE DIR` takes every plain file of DIR in byte order of names, the name being the arrival's
+//!   number, and prints the receipts report: its heading, and a line for each arrival as it is answered.
+//! - `restore export --store FILE KIND` prints the export of one kind of objects.
+//!
+//! Each arrival is a run of the desk ([`esc_desk::Desk::run`]), whose contract says what the store stands for afterwards.
+//!
+//! Refusals go to standard error, one a line: `E1 PATH` for a file or folder that can't be read, listed or written, `E2 NAME`
+//! for a file over 16,777,216 bytes, `N1 NAME` for a name that is no number, `M12 row 2` for a manifest's fault, `S1` to `S4`
+//! of the store, `S3` also where there is no store FILE. Faults are found in this order: the words, the manifest, the store,
+//! the folder, then file by file. The status is 0 where all went well; 1 for a manifest's fault, or where `take` met N1, E2 or
+//! a verdict other than A1, and went on; 2 for other words; 3 for S1 to S4 and E1, where it stops.
+#![tactic(auto)]
+
+mod files;
+mod line;
+mod stop;
+mod stored;
+mod taking;
+mod words;
+
+use std::env;
+use std::process::ExitCode;
+
+fn main(rt: HostRuntime) -> ExitCode {
+    ExitCode::from(run(&rt))
+}
+
+// Runs the program on its words and its two streams.
+fn run(rt: &HostRuntime) -> u8 {
+    match given_words(rt) {
+        Ok(given) => words::run_words(rt, &given, &mut rt.stdout(), &mut rt.stderr()),
+        Err(stop) => stop.status(),
+    }
+}
+
+// The words after the program's name.
+fn given_words(rt: &HostRuntime) -> Result<Vec<String>, stop::Stop> {
+    let Ok(all) = env::args(rt) else {
+        return Err(stop::NO_MEMORY);
+    };
+    let mut given = Vec::new(rt.alloc());
+    for word in all.skip(1) {
+        given.push(word)?;
+    }
+    Ok(given)
+}

@@ -1,0 +1,95 @@
+//! What the program stops for, its statuses, and its two streams.
+
+use crate::files::stop_at;
+use esc_bundle::NoMemory;
+use esc_desk::SFault;
+use esc_manifest::MFault;
+use std::alloc::{AllocError, AllocFailed};
+use std::fmt;
+use std::io::Write;
+
+/// All went well.
+pub const DONE: u8 = 0;
+
+/// A manifest's fault, or a deposit that isn't held.
+pub const REFUSED: u8 = 1;
+
+/// Other words than the program knows.
+pub const USAGE: u8 = 2;
+
+/// The store or a file failed, and the program stopped there.
+pub const STOPPED: u8 = 3;
+
+/// Memory was refused.
+pub const NO_MEMORY: Stop = Stop::Store(SFault::S2);
+
+/// What the program stops for.
+#[derive(Debug, Drop)]
+pub enum Stop {
+    /// A file or folder can't be read, listed or written; standard output is `-`.
+    Unreadable(String),
+    /// The manifest is refused.
+    Manifest(MFault),
+    /// The store failed.
+    Store(SFault),
+}
+
+impl Stop {
+    /// The program's status.
+    pub fn status(&self) -> u8 {
+        match self {
+            Stop::Manifest(MFault::Refused { .. }) => REFUSED,
+            Stop::Manifest(MFault::NoMemory) | Stop::Unreadable(_) | Stop::Store(_) => STOPPED,
+        }
+    }
+}
+
+impl fmt::Display for Stop {
+    fn fmt<W: fmt::Write>(&self, f: &mut fmt::Formatter<W>) -> fmt::Result {
+        match self {
+            Stop::Unreadable(path) => write!(f, "E1 {path}"),
+            Stop::Manifest(MFault::NoMemory) => f.write_str("S2"),
+            Stop::Manifest(fault) => write!(f, "{fault}"),
+            Stop::Store(fault) => write!(f, "{fault}"),
+        }
+    }
+}
+
+impl From<SFault> for Stop {
+    fn from(fault: SFault) -> Stop {
+        Stop::Store(fault)
+    }
+}
+
+impl From<NoMemory> for Stop {
+    fn from(_refused: NoMemory) -> Stop {
+        NO_MEMORY
+    }
+}
+
+impl From<AllocError> for Stop {
+    fn from(_refused: AllocError) -> Stop {
+        NO_MEMORY
+    }
+}
+
+impl<T: Drop> From<AllocFailed<T>> for Stop {
+    fn from(_refused: AllocFailed<T>) -> Stop {
+        NO_MEMORY
+    }
+}
+
+/// Prints on standard output, whose path is `-`.
+pub fn print<O: Write>(rt: &HostRuntime, out: &mut O, text: &[u8]) -> Result<(), Stop> {
+    match out.write_all(text) {
+        Ok(()) => Ok(()),
+        Err(error) => Err(stop_at(rt, "-", &error)),
+    }
+}
+
+/// Tells a refusal that doesn't stop the program. Where standard error fails there is nobody to tell.
+pub fn tell<E: Write>(rt: &HostRuntime, err: &mut E, refusal: &str, name: &str) {
+    if let Ok(line) = format!(in rt.alloc(); "{refusal} {name}\n") {
+        let _ = err.write_all(line.as_bytes());
+    }
+}

@@ -1,0 +1,79 @@
+//! Taking a folder of deposits.
+
+use crate::files::{MOST_BYTES, file_length, path_in, plain_files, read_file};
+use crate::line::{HEADING, reply_line};
+use crate::stop::{DONE, NO_MEMORY, REFUSED, Stop, print, tell};
+use esc_desk::{Arrival, Desk, Outcome, Reply, Verdict, number};
+use sqlite::Alter;
+use std::io::Write;
+
+/// Takes every plain file of a folder in byte order of names, the name being the arrival's number, and prints the receipts
+/// report: its heading once the folder is listed, then a line for each arrival as it is answered. Answers the status.
+pub fn take_folder<S: Alter, O: Write, E: Write>(
+    rt: &HostRuntime,
+    desk: &mut Desk<S>,
+    folder: &str,
+    out: &mut O,
+    err: &mut E,
+) -> Result<u8, Stop> {
+    let listing = plain_files(rt, folder)?;
+    print(rt, out, HEADING.as_bytes())?;
+    let mut status = DONE;
+    for _ in 0..listing.unnamed {
+        tell(rt, err, "N1", "(a name that is no UTF-8)");
+        status = REFUSED;
+    }
+    for name in &listing.names {
+        if !take_file(rt, desk, folder, name.as_str(), out, err)? {
+            status = REFUSED;
+        }
+    }
+    Ok(status)
+}
+
+// Takes one file, and says whether its deposit is held. A name that is no number and a body that is too long are told, and
+// are no arrivals.
+fn take_file<S: Alter, O: Write, E: Write>(
+    rt: &HostRuntime,
+    desk: &mut Desk<S>,
+    folder: &str,
+    name: &str,
+    out: &mut O,
+    err: &mut E,
+) -> Result<bool, Stop> {
+    let Ok(number) = number(name) else {
+        tell(rt, err, "N1", name);
+        return Ok(false);
+    };
+    let path = path_in(rt, folder, name)?;
+    if file_length(rt, path.as_str())? > MOST_BYTES {
+        tell(rt, err, "E2", name);
+        return Ok(false);
+    }
+    let body = read_file(rt, path.as_str())?;
+    let reply = answer(
+        rt,
+        desk,
+        Arrival {
+            number,
+            body: &body,
+        },
+    )?;
+    let line = reply_line(rt.alloc(), &reply)?;
+    print(rt, out, line.as_bytes())?;
+    Ok(reply.verdict == Verdict::A1)
+}
+
+// The reply to an arrival, which is a run of its own.
+fn answer<S: Alter>(
+    rt: &HostRuntime,
+    desk: &mut Desk<S>,
+    arrival: Arrival<'_>,
+) -> Result<Reply, Stop> {
+    let mut outcomes = desk.run(rt.alloc(), &[arrival])?;
+    match outcomes.pop() {
+        Some(Outcome::Done(reply)) => Ok(reply),
+        Some(Outcome::Lost(fault)) => Err(Stop::Store(fault)),
+        None => Err(NO_MEMORY),
+    }
+}
