@@ -19,10 +19,10 @@ use Rattle.esc_chain.specs.declared.links.Link.TheVariants.{Broken}
 use Rattle.esc_chain.specs.declared.gap.Blocker.{Blocker}
 use Rattle.esc_chain.specs.declared.lines.Ways.{Ways}
 use Rattle.esc_chain.specs.Base.{IsNamedBy, IsBaseOf, IsBase}
-use Rattle.esc_chain.specs.Chain.{Rows, IsHeld, InRange, IsUsed, NoneHeld, LeadsBack, IsLatestBack, IsLatestChain}
+use Rattle.esc_chain.specs.Chain.{Rows, InRange, IsUsed, NoneHeld, LeadsBack, IsLatestBack, IsLatestChain}
 use Rattle.esc_chain.specs.Walk.{IsUsedAt, AreUsedRows, AreBases, IsLink}
-use Rattle.esc_chain.specs.Gap.{IsListed, IsUsedOf, EndsChain, IsAmong, IsStateBeside, IsState, StopsAt, StopsBack, IsBlocker, IsOver, IsOutstanding, IsAwaited, IsGapLine}
-use Rattle.esc_chain.specs.Stops.{LeadsTo, IsEndOfWay, state_by, unlisted_by, blocker_by, blocker_of, IsUnheldBelow, IsGreatestUnheld, over, AreWays, stop_at, HasText, IsRowIn, line_by}
+use Rattle.esc_chain.specs.Gap.{IsListed, IsAmong, IsStateBeside, IsState, StopsAt, StopsBack, IsBlocker, IsAwaited, IsGapLine}
+use Rattle.esc_chain.specs.Stops.{LeadsTo, IsEndOfWay, state_by, unlisted_by, blocker_by, blocker_of, IsGreatestUnheld, over, AreWays, stop_at, HasText, IsRowIn, line_by}
 use Rattle.esc_chain.proofs.Chains.{used_same, base_not_full, base_same}
 use Rattle.esc_chain.proofs.LatestEnd.{whole_is_full, unlisted_not_full}
 use Rattle.esc_chain.proofs.PlaceMaps.{place_cmp}

@@ -319,11 +319,14 @@ fn gaps_round_unlisted_bases(rt: HostRuntime) -> Result<(), Fail> {
 #[test]
 fn blockers_print(rt: HostRuntime) -> Result<(), Fail> {
     let alloc = rt.alloc();
-    let f5 = place(10, DepositType::Full);
-    let listed = ListedPlace::new(alloc, f5)?;
-    assert_eq!(rt; listed.place(), f5);
+    let f0 = Place {
+        watermark: FIRST,
+        kind: DepositType::Full,
+    };
+    let listed = ListedPlace::new(alloc, f0)?;
+    assert_eq!(rt; listed.place(), f0);
     let shown = format!(in alloc; "{}", Blocker::NotHeld(listed))?;
-    assert_eq!(rt; shown.as_str(), "2024-03-10T00:00:00Z FULL");
+    assert_eq!(rt; shown.as_str(), "2024-03-01T00:00:00Z FULL");
     let id = Id::new(String::from_str(alloc, "X9")?);
     assert_eq!(rt; id.text(), "X9");
     let shown = format!(in alloc; "{}", Blocker::NotListed(id))?;

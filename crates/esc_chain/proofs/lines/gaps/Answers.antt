@@ -1,4 +1,4 @@
-use Rattle.std.proofs.Common.{◌≡◌, rules, ◌++◌, ℕ, List, [], ◌∷◌, length, get_or, Option, Some, sym, ap, subst, ◌∙◌, append-nil}
+use Rattle.std.proofs.Common.{◌≡◌, rules, ◌++◌, ℕ, List, length, get_or, Option, Some, sym, ap, subst, ◌∙◌, append-nil}
 use Rattle.std.specs.BTreeMap.{get}
 use Rattle.std.specs.List.{All, Contains}
 use Rattle.std.specs.Map.{keys_of}
