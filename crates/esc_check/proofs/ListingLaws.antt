@@ -22,7 +22,6 @@ use Rattle.esc_tables.specs.ObjectValue.{ObjectValue}
 use Rattle.esc_check.specs.declared.field.LinkField.{LinkField}
 use Rattle.esc_check.specs.declared.field.LinkField.TheVariants.{ClId, Registrant, IdnTableId, ContactId, HostName}
 use Rattle.esc_check.specs.Fields.{field_name, field_target, created}
-use Rattle.esc_check.specs.FindingOrder.{same_rank}
 use Rattle.esc_check.specs.FindingValue.{FindingValue, finding_cmp, listing_cmp}
 use Rattle.esc_check.specs.Findings.{IsFinding, IsOwn, printed}
 use Rattle.esc_check.specs.Gathered.{count_of}
@@ -30,6 +29,7 @@ use Rattle.esc_check.specs.LinkValue.{LinkValue}
 use Rattle.esc_check.specs.Links.{IsLinkOf}
 use Rattle.esc_check.specs.Tables.{Entry, tables_of}
 use Rattle.esc_check.proofs.Keys.{count_is}
+use Rattle.esc_check.proofs.Ties.{same_rank}
 use Rattle.esc_check.proofs.Members.{here, there}
 
 -- orders
