@@ -1,5 +1,5 @@
 -- From the used rows in their order and the links between them to the latest chain.
-use Rattle.std.proofs.Common.{◌≡◌, ◌⊎◌, inl, inr, ℕ, ◌<◌, pos, ◌<ℤ◌, List, [], ◌∷◌, length, get_or, Option, Some, None, refl, sym, ap, subst, ◌∙◌, arith}
+use Rattle.std.proofs.Common.{◌≡◌, ◌⊎◌, inl, inr, ℕ, ◌<◌, pos, ◌<ℤ◌, List, [], ◌∷◌, length, get_or, map, Option, Some, None, refl, sym, ap, subst, ◌∙◌, arith}
 use Rattle.std.specs.Prelude.{slice_index}
 use Rattle.std.specs.BTreeMap.{BTreeMap, get, IsOrdered, values}
 use Rattle.std.specs.List.{Contains}
@@ -22,12 +22,12 @@ use Rattle.esc_chain.specs.declared.links.Link.{Link}
 use Rattle.esc_chain.specs.declared.links.Link.TheVariants.{Start, To, Broken}
 use Rattle.esc_chain.specs.Base.{IsNamedBy, IsBaseOf, IsBase}
 use Rattle.esc_chain.specs.Chain.{Rows, InRange, IsUsed, LeadsBack, IsChainBack, IsLatestBack}
-use Rattle.esc_chain.specs.Walk.{IsUsedAt, AreUsedRows, IsLink, link_to, link_by, link_at, AreLinksBy, Follows, HasWay, BasesStandFirst, IsLastWithWay}
+use Rattle.esc_chain.specs.Walk.{IsUsedAt, AreUsedRows, IsLink, link_to, AreBases, link_by, link_at, Follows, HasWay, BasesStandFirst, IsLastWithWay}
 use Rattle.esc_chain.proofs.Chains.{used_same, base_not_full, base_same, base_earlier}
 use Rattle.esc_chain.proofs.PlaceMaps.{place_cmp, place_cmp_total, place_cmp_exact, before_from_less}
 
 -- a row that builds on nothing is a Full
-whole_is_full : (m : List MRow) (r : ℕ) → IsBase m r Whole → kind_at m r ≡ Full
+pub whole_is_full : (m : List MRow) (r : ℕ) → IsBase m r Whole → kind_at m r ≡ Full
 whole_is_full m r is = by_kind (kind_at m r) is
   where
     named : (prev : Option (List ℕ)) → IsNamedBy m prev Whole → ⊥
@@ -40,7 +40,7 @@ whole_is_full m r is = by_kind (kind_at m r) is
     by_kind Diff a = absurd (named (prev_at m r) a)
 
 -- a row whose base is not listed is no Full, and its base is no place
-unlisted_not_full : (m : List MRow) (r : ℕ) → IsBase m r Unlisted → kind_at m r ≡ Full → ⊥
+pub unlisted_not_full : (m : List MRow) (r : ℕ) → IsBase m r Unlisted → kind_at m r ≡ Full → ⊥
 unlisted_not_full m r is full = no_base (subst (λ (k : DepositType). IsBaseOf m k r Unlisted) full is)
   where
     no_base : Unlisted ≡ Whole → ⊥
@@ -68,10 +68,16 @@ link_is m h used ok are r (At p) is = found (get place_cmp used p) (are p)
     found (Some s) at = (subst (λ (q : Place). IsBase m r (At q)) (sym at.1) is, at.0)
     found None none = (base_not_full m r p is, λ s at row. none s row.held (base_same m ok r _ _ at is))
 
-pub links_are : (m : List MRow) (h : Rows) (used : BTreeMap Place ℕ) (links : List Link) → IsAccepted m → AreUsedRows place_cmp m h used → AreLinksBy place_cmp m used (length m) links → (r : ℕ) → r < length m → IsLink m h r (link_at links r)
-links_are m h used links ok are by r within =
-    let at = by.1 r within in
-    subst (IsLink m h r) (sym at.2) (link_is m h used ok are r at.0 at.1)
+pub links_are : (m : List MRow) (h : Rows) (used : BTreeMap Place ℕ) (bases : List Base) (links : List Link) → IsAccepted m → AreUsedRows place_cmp m h used → AreBases m (length m) bases → links ≡ map (link_by place_cmp used) bases → (r : ℕ) → r < length m → IsLink m h r (link_at links r)
+links_are m h used bases links ok are based by r within =
+    let count : length bases ≡ length m = based.0 in
+    let b : Base = get_or bases r Unlisted in
+    let at : link_at links r ≡ link_by place_cmp used b = ap (λ (l : List Link). link_at l r) by ∙ get_or-map (link_by place_cmp used) bases r Unlisted Broken (omega arith) in
+    subst (IsLink m h r) (sym at) (link_is m h used ok are r b (based.1 r within))
+
+-- each row has a link
+pub links_count : (m : List MRow) (used : BTreeMap Place ℕ) (bases : List Base) (links : List Link) → AreBases m (length m) bases → links ≡ map (link_by place_cmp used) bases → length links ≡ length m
+links_count m used bases links based by = ap length by ∙ length-map bases (link_by place_cmp used) ∙ based.0
 
 -- the used rows, in the order of their places
 pub record AreInOrder (m : List MRow) (h : Rows) (rows : List ℕ) : Type 0 where
@@ -207,12 +213,12 @@ pub record IsPrepared (m : List MRow) (h : Rows) (links : List Link) (order : Li
   pub as_many : length links ≡ length m
   pub ordered : AreInOrder m h order
 
-pub prepared : (m : List MRow) (h : Rows) (used : BTreeMap Place ℕ) (links : List Link) (order : List ℕ) → IsAccepted m → InRange m h → AreUsedRows place_cmp m h used → order ≡ values used → IsOrdered place_cmp used → AreLinksBy place_cmp m used (length m) links → IsPrepared m h links order
-prepared m h used links order ok range are is ordered by = record {
+pub prepared : (m : List MRow) (h : Rows) (used : BTreeMap Place ℕ) (bases : List Base) (links : List Link) (order : List ℕ) → IsAccepted m → InRange m h → AreUsedRows place_cmp m h used → order ≡ values used → IsOrdered place_cmp used → AreBases m (length m) bases → links ≡ map (link_by place_cmp used) bases → IsPrepared m h links order
+prepared m h used bases links order ok range are is ordered based by = record {
   accepted = ok;
   range = range;
-  linked = links_are m h used links ok are by;
-  as_many = by.0;
+  linked = links_are m h used bases links ok are based by;
+  as_many = links_count m used bases links based by;
   ordered = in_order m h used ok range are ordered order is;
 }
 

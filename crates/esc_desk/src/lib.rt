@@ -63,3 +63,6 @@ pub use esc_store::{N1, Number, Reply, SFault, Verdict, number};
 pub use laws::{held_as_arrived, new_store_stands_for_none, worked_replies};
 pub use running::Outcome;
 pub use status::{End, Status};
+
+#[cfg(test)]
+mod tests;

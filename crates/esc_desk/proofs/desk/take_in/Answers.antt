@@ -48,3 +48,9 @@ returns-clause-answered g c = λ clean m l k stood stands none.
       works = made.works;
       idle = λ same. c.in_ok-work.ensures.idle (holds_nothing_new m l a k found c.deref-2.result.now c.in_ok-next.next receipt at_work same);
     }
+
+pub returns-clause-room : goal.returns-clause-room
+returns-clause-room g c = λ clean k stood.
+    let at_held = c.in_ok-work.ensures.honest clean in
+    let at_next = was_honest g.S.Store c.next_receipt.new.store c.held.new.self c.in_ok-held.ensures.same at_held in
+    omega (arith, c.in_ok-next.ensures.next at_next k stood, c.in_ok-next.ensures.room)
