@@ -8,7 +8,6 @@ use Rattle.httparse.proofs.GrammarLemmas.{ReadsRequest-append}
 use Rattle.esc_store.specs.declared.fault.SFault.{SFault}
 use Rattle.esc_store.specs.declared.fault.SFault.TheVariants.{S2}
 use Rattle.esc_store.specs.declared.store.Store.{Store}
-use Rattle.esc_store.specs.Standing.{IsHonest, IsAsBefore}
 use Rattle.esc_http.specs.declared.plan.Refusal.{Refusal}
 use Rattle.esc_http.specs.declared.plan.Refusal.TheVariants.{BadRequest}
 use Rattle.esc_http.specs.declared.plan.Plan.{Plan}
@@ -27,10 +26,6 @@ text_is view expected (Some text) is = inl is
 pub fault_is : {A : Type 0} (view : A → List ℕ) (fault : SFault) (o : Option A) → IfSome o (λ text. view text ≡ fault_response fault) → IsFault (text_or_memory view o)
 fault_is view fault None is = (S2, refl)
 fault_is view fault (Some text) is = (fault, is)
-
--- a store that is as before was honest
-pub was_honest : {S : Type 0} (g : Ghosts S) (old new : Store S) → IsAsBefore g old new → IsHonest g new → IsHonest g old
-was_honest g old new same clean = omega (arith, same.survives.clean, clean)
 
 -- a head stays one, whatever follows
 longer : (front : List ℕ) (h : RequestHead) (rest more : List ℕ) → HasHead front h rest → HasHead (front ++ more) h (rest ++ more)

@@ -5,7 +5,11 @@ use Rattle.std.proofs.lemmas.List.{drop_more}
 use Rattle.esc_envelope.specs.declared.kind.Kind.{Kind}
 use Rattle.esc_envelope.specs.Kinds.{kind_name}
 use Rattle.esc_store.specs.ReplyValue.{ReplyValue}
+use Rattle.esc_check.specs.FindingValue.{FindingValue}
 use Rattle.esc_check.specs.Lines.{line_text}
+use Rattle.esc_chain.specs.declared.gap.GapLine.{GapLine}
+use Rattle.esc_http.specs.GapsText.{gap_line, gap_lines_text}
+use Rattle.esc_http.specs.LinksText.{finding_line, findings_text}
 use Rattle.esc_http.specs.Response.{crlf, response_head}
 use Rattle.esc_http.specs.ReceiptsText.{receipt_line, replies_text}
 use Rattle.esc_http.specs.StatusText.{number_line, objects_text}
@@ -20,6 +24,18 @@ pub replies_more : (replies : List ReplyValue) (i : ℕ) (reply : ReplyValue) �
     → replies_text (drop i replies) ≡ line_text (receipt_line reply) ++ replies_text (drop (i + 1) replies)
 replies_more replies i reply within is =
     ap replies_text (drop_more replies i reply within ∙ ap (λ (r : ReplyValue). r ∷ drop (i + 1) replies) (sym is))
+
+-- the line of the first finding that is left
+pub findings_more : (found : List FindingValue) (i : ℕ) (finding : FindingValue) → i < length found → finding ≡ get_or found i finding
+    → findings_text (drop i found) ≡ line_text (finding_line finding) ++ findings_text (drop (i + 1) found)
+findings_more found i finding within is =
+    ap findings_text (drop_more found i finding within ∙ ap (λ (f : FindingValue). f ∷ drop (i + 1) found) (sym is))
+
+-- the line of the first place that is left
+pub gap_lines_more : (gaps : List GapLine) (i : ℕ) (gap : GapLine) → i < length gaps → gap ≡ get_or gaps i gap
+    → gap_lines_text (drop i gaps) ≡ line_text (gap_line gap) ++ gap_lines_text (drop (i + 1) gaps)
+gap_lines_more gaps i gap within is =
+    ap gap_lines_text (drop_more gaps i gap within ∙ ap (λ (l : GapLine). l ∷ drop (i + 1) gaps) (sym is))
 
 -- the line of the first kind that is left
 pub objects_more : (counts left : List (Kind × ℕ)) (kind : Kind) (n : ℕ) (name : List ℕ) → counts ≡ (kind, n) ∷ left → name ≡ kind_name kind

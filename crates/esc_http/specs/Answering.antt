@@ -1,13 +1,16 @@
 -- Which request an input makes, and what answers it.
-use Rattle.std.specs.Prelude.{◌≡◌, ◌⊎◌, ℕ, List, if◌then◌else◌, nat_le, length, take, Option, Some, None}
+use Rattle.std.specs.Prelude.{◌≡◌, ◌⊎◌, ℕ, ◌<◌, List, if◌then◌else◌, nat_le, length, take, Option, Some, None}
+use Rattle.sha2.specs.Sha256.{sha256}
 use Rattle.sqlite_trees.specs.declared.store.Store.{Ghosts}
 use Rattle.httparse.specs.Grammar.{RequestHead}
+use Rattle.esc_tables.specs.Reading.{reading}
 use Rattle.esc_manifest.specs.declared.row.MRow.{MRow}
 use Rattle.esc_store.specs.declared.fault.SFault.{SFault}
 use Rattle.esc_store.specs.declared.store.Store.{Store}
 use Rattle.esc_store.specs.ReplyValue.{ReplyValue}
 use Rattle.esc_store.specs.Standing.{IsHonest, IsAsBefore}
 use Rattle.esc_desk.specs.ArrivalValue.{ArrivalValue}
+use Rattle.esc_desk.specs.Receipts.{receipts_of, reply_to}
 use Rattle.esc_desk.specs.Serving.{Serves, Answers}
 use Rattle.esc_http.specs.declared.reports.Report.{Report}
 use Rattle.esc_http.specs.declared.plan.Refusal.{Refusal}
@@ -50,10 +53,12 @@ abbrev pub IsFault : List ℕ → Type 0
 IsFault text = (fault : SFault) × (text ≡ fault_response fault)
 
 module _ {S : Type 0} (g : Ghosts S) (old new : Store S) where
-  -- the arrival was taken: the store stands for the arrivals before and this one, and the text tells its reply
+  -- the arrival was taken: the store stands for the arrivals before and this one, and the text tells its reply; it is like an earlier
+  -- one, or there was room for one more receipt
   pub record TakesArrival (a : ArrivalValue) (m : List MRow) (l : List ArrivalValue) (text : List ℕ) : Type 0 where
     pub reply : ReplyValue
     pub answers : Answers g new m l a reply
+    pub room : reply_to sha256 reading m l a ≡ None → length (receipts_of sha256 reading m l) < 1_000_000_000
     pub told : IsOrMemory (reply_response reply) text
 
   abbrev pub IsTaken : ArrivalValue → List ℕ → Type 0

@@ -1,7 +1,9 @@
 pub mod Answering
 pub mod Body
 pub mod BodyLength
+pub mod GapsText
 pub mod Head
+pub mod LinksText
 pub mod Plans
 pub mod ReceiptsText
 pub mod ReplyText

@@ -133,7 +133,7 @@ fn answer_arrival<S: Alter>(
     }
 }
 
-#[tactic(auto, using(crate::proofs::AnswerLemmas::was_honest))]
+#[tactic(auto, using(crate::proofs::StoreFacts::was_honest))]
 fn answer_report<S: Alter>(alloc: Global, desk: &mut Desk<S>, what: Report) -> Option<Vec<u8>>
     ensures answers { IsAnswered S.Store desk.old.store desk.new.store (wants what) (text_or_memory (λ text. text.items) result) }
     ensures honest { IsHonest S.Store desk.new.store → IsHonest S.Store desk.old.store }

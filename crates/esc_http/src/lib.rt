@@ -42,8 +42,10 @@
 
 mod answer;
 mod body;
+mod gaps;
 mod head;
 mod length;
+mod links;
 mod plan;
 mod receipts;
 mod reply;

@@ -104,7 +104,8 @@ fn number_text(alloc: Global, number: Option<u64>) -> Result<String, NoMemory>
     }
 }
 
-fn resend_text(alloc: Global, resend: Option<u32>) -> Result<String, NoMemory>
+/// A resend in digits; nothing where there is none.
+pub(crate) fn resend_text(alloc: Global, resend: Option<u32>) -> Result<String, NoMemory>
     ensures { IfOk result (λ text. string_bytes text ≡ or_empty (option_map decimal resend)) }
 {
     match resend {

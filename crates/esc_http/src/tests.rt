@@ -340,3 +340,45 @@ fn a_write_that_fails(rt: HostRuntime) -> Result<(), Fail> {
     assert_eq!(rt; text.as_slice(), UNLISTED);
     Ok(())
 }
+
+// Paths of reports of a desk that holds the sample, and the texts.
+const REPORTS: [(&[u8], &[u8]); 4] = [
+    (
+        b"GET /status?x=1 HTTP/1.1\r\n\r\n",
+        b"\r\n\r\nlisted 1\nheld 1\nreceipts 1\nchain 1\nend 2024-03-03T00:00:00Z FULL 0\nregistrar 0\ncontact 1\nhost 0\ndomain 0\nidn 0\nnndn 0\n",
+    ),
+    (
+        b"GET /gaps HTTP/1.1\r\n\r\n",
+        b"\r\n\r\nwatermark,type,used,state,blocker,awaited\n2024-03-03T00:00:00Z,FULL,0,chain,,\n",
+    ),
+    (
+        b"GET /links HTTP/1.1\r\n\r\n",
+        b"\r\n\r\ncode,kind,key,field,value,other\nV1,contact,C1,clID,R1,registrar\n",
+    ),
+    (
+        b"GET /export/contact HTTP/1.1\r\n\r\n",
+        b"\r\n\r\nkind,key,table,row,field,value\ncontact,C1,contact,0,id,C1\ncontact,C1,contact,0,clID,R1\n",
+    ),
+];
+
+#[test]
+fn reports_are_told(rt: HostRuntime) -> Result<(), Fail> {
+    let alloc = rt.alloc();
+    let mut desk = desk(alloc)?;
+    let text = answer(alloc, &mut desk, b"GET /status HTTP/1.1\r\n\r\n", 1)?;
+    assert_eq!(rt;
+        text.as_slice(),
+        b"HTTP/1.1 200 OK\r\nContent-Type: text/plain\r\nContent-Length: 95\r\nConnection: close\r\n\r\nlisted 1\nheld 0\nreceipts 0\nchain 0\nend none\nregistrar 0\ncontact 0\nhost 0\ndomain 0\nidn 0\nnndn 0\n".as_slice()
+    );
+    let put = joined(alloc, PUT_SAMPLE, SAMPLE)?;
+    answer(alloc, &mut desk, &put, 100_000)?;
+    for (input, back) in REPORTS {
+        let text = answer(alloc, &mut desk, input, 100_000)?;
+        assert!(rt;
+            text.as_slice()
+                .starts_with(b"HTTP/1.1 200 OK\r\n".as_slice())
+        );
+        assert!(rt; text.as_slice().ends_with(back));
+    }
+    Ok(())
+}

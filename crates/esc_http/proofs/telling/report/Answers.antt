@@ -8,3 +8,9 @@ returns-in-Receipts-clause-text g c = rw c.in-Receipts.is c.report_receipts.ensu
 
 pub returns-in-Export-clause-text : goal.returns-in-Export-clause-text
 returns-in-Export-clause-text g c = rw c.in-Export.is c.report_export.ensures.text
+
+pub returns-in-Links-clause-text : goal.returns-in-Links-clause-text
+returns-in-Links-clause-text g c = rw c.in-Links.is c.report_links.ensures.text
+
+pub returns-in-Gaps-clause-text : goal.returns-in-Gaps-clause-text
+returns-in-Gaps-clause-text g c = rw c.in-Gaps.is c.report_gaps.ensures.text
