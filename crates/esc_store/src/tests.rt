@@ -322,3 +322,45 @@ fn receipts_and_bodies_are_found(rt: HostRuntime) -> Result<(), Fail> {
     assert_eq!(rt; length(alloc, &mut store, 1)?, 0);
     Ok(())
 }
+
+// Takes the object away, if it is there.
+fn removed<S: Alter>(alloc: Global, store: &mut Store<S>, key: &Key) -> Result<bool, SFault> {
+    let mut change = store.begin()?;
+    let before = change.get(alloc, key)?;
+    change.remove(key)?;
+    let after = change.get(alloc, key)?;
+    change.commit()?;
+    Ok(before.is_some() && after.is_none())
+}
+
+// Takes all objects and images away, which counts no write.
+fn cleared<S: Alter>(alloc: Global, store: &mut Store<S>) -> Result<usize, SFault> {
+    let mut change = store.begin()?;
+    change.clear()?;
+    let images = change.take_undo(alloc, 1)?;
+    change.commit()?;
+    Ok(images.len())
+}
+
+#[test]
+fn what_is_removed_is_gone(rt: HostRuntime) -> Result<(), Fail> {
+    let alloc = rt.alloc();
+    let manifest = listed(alloc)?;
+    let conn = Connection::open_in_memory(alloc)?;
+    let Ok(mut store) = made(alloc, conn, &manifest) else {
+        assert!(rt; false);
+        return Ok(());
+    };
+    let keys = vec![in alloc;
+        key(alloc, Kind::Contact, "C1")?,
+        key(alloc, Kind::Domain, "a.example")?,
+    ]?;
+    fill(alloc, &mut store, keys.as_slice(), &object(alloc)?)?;
+    assert!(rt; removed(alloc, &mut store, &keys[0])?);
+    assert_eq!(rt; store.writes(), 3);
+    assert_eq!(rt; store.tables(alloc)?.len(), 1);
+    assert_eq!(rt; cleared(alloc, &mut store)?, 0);
+    assert_eq!(rt; store.writes(), 3);
+    assert_eq!(rt; store.tables(alloc)?.len(), 0);
+    Ok(())
+}
