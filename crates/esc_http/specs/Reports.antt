@@ -1,17 +1,16 @@
 -- The texts of reports, of a desk that stands for a manifest and a list of arrivals.
 use Rattle.std.specs.Prelude.{◌≡◌, ◌↔◌, ℕ, List, [], Option, Some, None}
 use Rattle.std.specs.FinSet as set
-use Rattle.std.specs.List.{All, Contains}
+use Rattle.std.specs.List.{Contains}
 use Rattle.std.specs.List.Sorted.{IsStrictlySortedBy}
 use Rattle.sha2.specs.Sha256.{sha256}
 use Rattle.esc_envelope.specs.declared.kind.Kind.{Kind}
-use Rattle.esc_envelope.specs.declared.place.Place.{Place}
 use Rattle.esc_tables.specs.KeyName.{KeyName}
 use Rattle.esc_tables.specs.ObjectValue.{ObjectValue}
 use Rattle.esc_tables.specs.Reading.{reading}
 use Rattle.esc_manifest.specs.declared.row.MRow.{MRow}
 use Rattle.esc_chain.specs.declared.gap.GapLine.{GapLine}
-use Rattle.esc_chain.specs.Gap.{IsListed, IsGapLine, AreRising, places_of}
+use Rattle.esc_chain.specs.Gap.{AreGapLines}
 use Rattle.esc_check.specs.Export.{export_text}
 use Rattle.esc_check.specs.FindingValue.{FindingValue, listing_cmp}
 use Rattle.esc_check.specs.Findings.{IsFinding}
@@ -63,9 +62,7 @@ module _ (m : List MRow) (l : List ArrivalValue) where
     pub rows : List ℕ
     pub are_held : AreHeld (held_body sha256 reading m l) rows
     pub lines : List GapLine
-    pub each : All (IsGapLine m (set.from_list rows)) lines
-    pub all : (p : Place) → IsListed m p → Contains (places_of lines) p
-    pub rising : AreRising (places_of lines)
+    pub gaps : AreGapLines m (set.from_list rows) lines
     pub is : text ≡ gaps_text lines
 
   -- the text of a report

@@ -1,11 +1,9 @@
-use Rattle.std.proofs.Common.{◌≡◌, List, All, ap, ◌∙◌, subst}
+use Rattle.std.proofs.Common.{◌≡◌, List, ap, ◌∙◌, subst}
 use Rattle.std.specs.FinSet as set
 use Rattle.std.proofs.lemmas.Result.{IfOk-weaker}
-use Rattle.esc_envelope.specs.declared.place.Place.{Place}
-use Rattle.std.specs.List.{Contains}
 use Rattle.esc_manifest.specs.declared.row.MRow.{MRow}
 use Rattle.esc_chain.specs.Chain.{Rows}
-use Rattle.esc_chain.specs.Gap.{IsListed, IsGapLine, places_of}
+use Rattle.esc_chain.specs.Gap.{AreGapLines}
 use Rattle.esc_http.specs.GapsText.{gaps_text}
 use Rattle.esc_http.proofs.StoreFacts.{stays}
 use Rattle.esc_http.proofs.telling.report_gaps.Goals as goal
@@ -15,14 +13,11 @@ returns-clause-text g c = λ clean m l serves.
     let lines = c.in_ok-lines.lines.items in
     let there = stays g.S.Store c.args.desk.now.store c.held.new.self.store m l c.in_ok-rows.ensures.same serves in
     let listed : c.manifest-manifest.result.now ≡ m = c.manifest-manifest.ensures.manifest m l there in
-    let rows = c.in_ok-rows.rows.items in
     let held = c.in_ok-held.ensures.held ∙ ap set.from_list c.deref.ensures.value in
     IfOk-weaker c.gaps_text.result _ _ (λ text is. record {
-      rows = rows;
+      rows = c.in_ok-rows.rows.items;
       are_held = c.in_ok-rows.ensures.rows clean m l serves;
       lines = lines;
-      each = subst (λ (h : Rows). All (IsGapLine m h) lines) held (subst (λ (x : List MRow). All (IsGapLine x c.in_ok-held.held) lines) listed c.in_ok-lines.ensures.lines);
-      all = subst (λ (x : List MRow). (p : Place) → IsListed x p → Contains (places_of lines) p) listed c.in_ok-lines.ensures.all;
-      rising = c.in_ok-lines.ensures.order;
+      gaps = subst (λ (h : Rows). AreGapLines m h lines) held (subst (λ (x : List MRow). AreGapLines x c.in_ok-held.held lines) listed c.in_ok-lines.ensures);
       is = is ∙ ap gaps_text c.deref-2.ensures.value;
     }) c.gaps_text.ensures
