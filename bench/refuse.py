@@ -81,7 +81,8 @@ def over_the_program(disk, fault):
         if not made and not left:
             wrong.append(('init', fault, at, said.returncode, said.stderr, again.stderr))
     for at, said in each(*take, before=lambda: copy('fresh', 'store'), disk=disk):
-        if (said.returncode, said.stderr) != stopped or not whole.startswith(said.stdout):
+        done = said.returncode == 0 and said.stdout == whole
+        if not done and ((said.returncode, said.stderr) != stopped or not whole.startswith(said.stdout)):
             wrong.append(('take', fault, at, said.returncode, said.stderr))
         if run(*take).stdout != whole or exports('store') != tables:
             wrong.append(('take again', fault, at))
