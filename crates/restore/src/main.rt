@@ -3,6 +3,10 @@
 //! - `restore init --store FILE --manifest FILE` reads the release manifest, then makes a store; prints `listed N`.
 //! - `restore take --store FILE DIR` takes every plain file of DIR in byte order of names, the name being the arrival's
 //!   number, and prints the receipts report: its heading, and a line for each arrival as it is answered.
+//! - `restore serve --store FILE --port P --count N` listens on port P of 127.0.0.1, prints `listening 127.0.0.1:P`, serves N
+//!   connections one after the other, and ends.
+//! - `restore report --store FILE WHAT` prints how far the desk has come (`status`), what each listed place waits for
+//!   (`gaps`), what breaks a rule (`links`), or all `receipts`.
 //! - `restore export --store FILE KIND` prints the export of one kind of objects.
 //!
 //! Each arrival is a run of the desk ([`esc_desk::Desk::run`]), whose contract says what the store stands for afterwards.
@@ -15,7 +19,7 @@
 #![tactic(auto)]
 
 mod files;
-mod line;
+mod serving;
 mod stop;
 mod stored;
 mod taking;
@@ -24,16 +28,20 @@ mod tests;
 mod words;
 
 use std::env;
+use std::net::{Net, TcpListener, TcpStream};
 use std::process::ExitCode;
 
 fn main(rt: HostRuntime) -> ExitCode {
-    ExitCode::from(run(&rt))
+    ExitCode::from(run(&rt, &rt))
 }
 
 // Runs the program on its words and its two streams.
-fn run(rt: &HostRuntime) -> u8 {
+fn run<N>(rt: &HostRuntime, net: &N) -> u8
+where
+    N: Net<Listener = TcpListener, Stream = TcpStream>,
+{
     match given_words(rt) {
-        Ok(given) => words::run_words(rt, &given, &mut rt.stdout(), &mut rt.stderr()),
+        Ok(given) => words::run_words(rt, net, &given, &mut rt.stdout(), &mut rt.stderr()),
         Err(stop) => stop::tell_stop(rt, &mut rt.stderr(), &stop),
     }
 }

@@ -1,15 +1,16 @@
 //! What is done over a store in a file.
 
 use crate::files::{is_missing, read_file};
+use crate::serving::serve_connections;
 use crate::stop::{DONE, Stop, print};
 use crate::taking::take_folder;
-use esc_check::export_rows;
 use esc_desk::{Desk, SFault};
-use esc_envelope::Kind;
+use esc_http::{Report, report};
 use esc_manifest::{Manifest, read_manifest};
 use esc_store::Store;
 use sqlite::{Connection, File, FileStore};
 use std::io::Write;
+use std::net::{Net, TcpListener, TcpStream};
 
 /// `init --store FILE --manifest FILE`: makes a store of a manifest, and prints how many rows it lists.
 pub fn init<O: Write>(
@@ -50,17 +51,41 @@ pub fn take<O: Write, E: Write>(
     Ok(status)
 }
 
-/// `export --store FILE KIND`: prints the export of a kind.
-pub fn export<O: Write>(
+/// `serve --store FILE --port P --count N`: serves connections over HTTP.
+pub fn serve<N, O, E>(
+    rt: &HostRuntime,
+    net: &N,
+    store: &str,
+    port: u16,
+    count: u32,
+    out: &mut O,
+    err: &mut E,
+) -> Result<u8, Stop>
+where
+    N: Net<Listener = TcpListener, Stream = TcpStream>,
+    O: Write,
+    E: Write,
+{
+    let mut desk = open_desk(rt, store)?;
+    let served = serve_connections(rt, net, &mut desk, port, count, out, err);
+    let closed = close(desk.into_store().into_connection());
+    let status = served?;
+    closed?;
+    Ok(status)
+}
+
+/// `report --store FILE WHAT` and `export --store FILE KIND`: prints a report.
+pub fn tell_report<O: Write>(
     rt: &HostRuntime,
     store: &str,
-    kind: Kind,
+    what: Report,
     out: &mut O,
 ) -> Result<u8, Stop> {
     let mut desk = open_desk(rt, store)?;
-    let tables = desk.tables(rt.alloc())?;
-    close(desk.into_store().into_connection())?;
-    let text = export_rows(rt.alloc(), &tables, kind)?;
+    let text = report(rt.alloc(), &mut desk, what);
+    let closed = close(desk.into_store().into_connection());
+    let text = text?;
+    closed?;
     print(rt, out, &text)?;
     Ok(DONE)
 }

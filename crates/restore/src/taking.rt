@@ -1,9 +1,9 @@
 //! Taking a folder of deposits.
 
 use crate::files::{MOST_BYTES, file_length, path_in, plain_files, read_file};
-use crate::line::{HEADING, reply_line};
 use crate::stop::{DONE, NO_MEMORY, REFUSED, Stop, print, tell};
 use esc_desk::{Arrival, Desk, Outcome, Reply, Verdict, number};
+use esc_http::{receipt_line, receipts_heading};
 use sqlite::Alter;
 use std::io::Write;
 
@@ -17,7 +17,7 @@ pub fn take_folder<S: Alter, O: Write, E: Write>(
     err: &mut E,
 ) -> Result<u8, Stop> {
     let listing = plain_files(rt, folder)?;
-    print(rt, out, HEADING.as_bytes())?;
+    print(rt, out, &receipts_heading(rt.alloc())?)?;
     let mut status = DONE;
     for _ in 0..listing.unnamed {
         tell(rt, err, "N1", "(a name that is no UTF-8)")?;
@@ -59,8 +59,7 @@ fn take_file<S: Alter, O: Write, E: Write>(
             body: &body,
         },
     )?;
-    let line = reply_line(rt.alloc(), &reply)?;
-    print(rt, out, line.as_bytes())?;
+    print(rt, out, &receipt_line(rt.alloc(), &reply)?)?;
     Ok(reply.verdict == Verdict::A1)
 }
 

@@ -1,23 +1,42 @@
 //! The program's words.
 
 use crate::stop::{DONE, NO_MEMORY, USAGE, print, tell_stop};
-use crate::stored::{export, init, take};
+use crate::stored::{init, serve, take, tell_report};
 use clap::error::ErrorKind;
-use clap::{Arg, ArgMatches, Command, Error};
+use clap::{Arg, ArgMatches, Command, Error, value_parser};
 use esc_envelope::Kind;
+use esc_http::Report;
 use std::alloc::{AllocError, Global};
 use std::io::Write;
+use std::net::{Net, TcpListener, TcpStream};
 
 /// What the program is asked to do.
 #[derive(Clone, Copy, Debug, PartialEq, Eq)]
 pub enum Task<'a> {
     /// Make a store of a manifest.
-    Init { store: &'a str, manifest: &'a str },
+    Init {
+        store: &'a str,
+        manifest: &'a str,
+    },
     /// Take a folder of deposits.
-    Take { store: &'a str, folder: &'a str },
-    /// Print the export of one kind of objects.
-    Export { store: &'a str, kind: Kind },
+    Take {
+        store: &'a str,
+        folder: &'a str,
+    },
+    /// Listen on a port of 127.0.0.1, and serve so many connections.
+    Serve {
+        store: &'a str,
+        port: u16,
+        count: u32,
+    },
+    /// Print a report, or the export of one kind of objects.
+    Tell {
+        store: &'a str,
+        report: Report,
+    },
 }
+
+static REPORTS: [&str; 4] = ["status", "gaps", "links", "receipts"];
 
 static KINDS: [&str; 6] = ["registrar", "contact", "host", "domain", "idn", "nndn"];
 
@@ -39,6 +58,7 @@ Example, with a folder of bundles named n1, n2 and so on:
 
     restore init --store desk.db --manifest manifest.csv
     restore take --store desk.db deposits
+    restore report --store desk.db gaps
     restore export --store desk.db domain
 
 Refusals go to standard error, one a line: E1 PATH (can't be read, listed or written), E2 NAME (over 16,777,216 bytes),
@@ -49,17 +69,23 @@ Status: 0 done; 1 the manifest is refused, or a file was not taken as a listed d
 
 /// Runs the program on the words after its name. Answers the status. Help is printed on standard output, and what is wrong
 /// with the words on standard error.
-pub fn run_words<O: Write, E: Write>(
+pub fn run_words<N, O, E>(
     rt: &HostRuntime,
+    net: &N,
     words: &[String],
     out: &mut O,
     err: &mut E,
-) -> u8 {
+) -> u8
+where
+    N: Net<Listener = TcpListener, Stream = TcpStream>,
+    O: Write,
+    E: Write,
+{
     let Ok(named) = with_name(rt.alloc(), words) else {
         return tell_stop(rt, err, &NO_MEMORY);
     };
     match task_in(rt.alloc(), &named) {
-        Ok(Some(task)) => run(rt, task, out, err),
+        Ok(Some(task)) => run(rt, net, task, out, err),
         Ok(None) => USAGE,
         Err(error) => told(rt, &error, out, err),
     }
@@ -76,11 +102,17 @@ fn with_name<'a>(alloc: Global, words: &'a [String]) -> Result<Vec<&'a str>, All
 }
 
 // Does a task. Answers the status.
-fn run<O: Write, E: Write>(rt: &HostRuntime, task: Task<'_>, out: &mut O, err: &mut E) -> u8 {
+fn run<N, O, E>(rt: &HostRuntime, net: &N, task: Task<'_>, out: &mut O, err: &mut E) -> u8
+where
+    N: Net<Listener = TcpListener, Stream = TcpStream>,
+    O: Write,
+    E: Write,
+{
     let done = match task {
         Task::Init { store, manifest } => init(rt, store, manifest, out),
         Task::Take { store, folder } => take(rt, store, folder, out, err),
-        Task::Export { store, kind } => export(rt, store, kind, out),
+        Task::Serve { store, port, count } => serve(rt, net, store, port, count, out, err),
+        Task::Tell { store, report } => tell_report(rt, store, report, out),
     };
     match done {
         Ok(status) => status,
@@ -125,10 +157,31 @@ fn task_of<'a>(matches: &ArgMatches<'a>) -> Option<Task<'a>> {
             let folder = given.get_str("folder")?;
             Some(Task::Take { store, folder })
         }
+        "serve" => {
+            let port = given.get_one::<u16>("port")?;
+            let count = given.get_one::<u32>("count")?;
+            Some(Task::Serve { store, port, count })
+        }
+        "report" => {
+            let report = report_named(given.get_str("report")?)?;
+            Some(Task::Tell { store, report })
+        }
         "export" => {
             let kind = Kind::from_name(given.get_str("kind")?)?;
-            Some(Task::Export { store, kind })
+            let report = Report::Export(kind);
+            Some(Task::Tell { store, report })
         }
+        _ => None,
+    }
+}
+
+// The report of a name.
+fn report_named(name: &str) -> Option<Report> {
+    match name {
+        "status" => Some(Report::Status),
+        "gaps" => Some(Report::Gaps),
+        "links" => Some(Report::Links),
+        "receipts" => Some(Report::Receipts),
         _ => None,
     }
 }
@@ -142,6 +195,8 @@ fn command<'a>(alloc: Global) -> Result<Command<'a>, AllocError> {
         .arg_required_else_help(true)
         .subcommand(init_command(alloc)?)?
         .subcommand(take_command(alloc)?)?
+        .subcommand(serve_command(alloc)?)?
+        .subcommand(report_command(alloc)?)?
         .subcommand(export_command(alloc)?)
 }
 
@@ -168,6 +223,40 @@ fn take_command<'a>(alloc: Global) -> Result<Command<'a>, AllocError> {
         )
         .arg(store_argument(alloc))?
         .arg(folder)
+}
+
+fn serve_command<'a>(alloc: Global) -> Result<Command<'a>, AllocError> {
+    let port = Arg::new(alloc, "port")
+        .long("port")
+        .value_name("P")
+        .required(true)
+        .value_parser(value_parser!(u16).range(1..))
+        .help("The port of 127.0.0.1 to listen on");
+    let count = Arg::new(alloc, "count")
+        .long("count")
+        .value_name("N")
+        .required(true)
+        .value_parser(value_parser!(u32).range(1..=1_000_000))
+        .help("How many connections to serve, one request each, before it ends");
+    Command::new(alloc, "serve")
+        .about("Takes arrivals and gives reports over HTTP, one connection after the other")
+        .arg(store_argument(alloc))?
+        .arg(port)?
+        .arg(count)
+}
+
+fn report_command<'a>(alloc: Global) -> Result<Command<'a>, AllocError> {
+    let report = Arg::new(alloc, "report")
+        .value_name("WHAT")
+        .required(true)
+        .value_parser(REPORTS.as_slice())
+        .help(
+            "How far the desk has come, which deposits are missing, what breaks a rule, or all receipts",
+        );
+    Command::new(alloc, "report")
+        .about("Prints a report")
+        .arg(store_argument(alloc))?
+        .arg(report)
 }
 
 fn export_command<'a>(alloc: Global) -> Result<Command<'a>, AllocError> {

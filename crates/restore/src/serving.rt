@@ -1,0 +1,67 @@
+//! The desk on a socket.
+
+use crate::files::stop_at;
+use crate::stop::{DONE, Stop, print};
+use esc_desk::Desk;
+use esc_http::{ServeFault, serve_one};
+use sqlite::Alter;
+use std::io::{Error, Write};
+use std::net::{Net, TcpListener, TcpStream};
+use std::time::Duration;
+
+/// How many seconds a connection may stand still. Then its read or write fails, so that nobody holds up the next one.
+const PATIENCE: u64 = 60;
+
+/// Listens on a port of 127.0.0.1, says so, and serves connections one after the other: one request each. A read or
+/// write that fails is told, and the next connection is served. Answers the status.
+pub fn serve_connections<N, S, O, E>(
+    rt: &HostRuntime,
+    net: &N,
+    desk: &mut Desk<S>,
+    port: u16,
+    count: u32,
+    out: &mut O,
+    err: &mut E,
+) -> Result<u8, Stop>
+where
+    N: Net<Listener = TcpListener, Stream = TcpStream>,
+    S: Alter,
+    O: Write,
+    E: Write,
+{
+    let address = format!(in rt.alloc(); "127.0.0.1:{port}")?;
+    let listener = match TcpListener::bind(net, address.as_str()) {
+        Ok(listener) => listener,
+        Err(error) => return Err(stop_at(rt, address.as_str(), &error)),
+    };
+    let line = format!(in rt.alloc(); "listening {address}\n")?;
+    print(rt, out, line.as_bytes())?;
+    for _ in 0..count {
+        if let Err(error) = serve_next(rt, desk, &listener, err) {
+            return Err(stop_at(rt, address.as_str(), &error));
+        }
+    }
+    Ok(DONE)
+}
+
+/// Serves the next connection. At `Err` there is none, since the listener failed.
+pub fn serve_next<S: Alter, E: Write>(
+    rt: &HostRuntime,
+    desk: &mut Desk<S>,
+    listener: &TcpListener,
+    err: &mut E,
+) -> Result<(), Error> {
+    let (stream, _address) = listener.accept()?;
+    let patience = Some(Duration::from_secs(PATIENCE));
+    stream.set_read_timeout(patience)?;
+    stream.set_write_timeout(patience)?;
+    let mut reader = &stream;
+    let mut writer = &stream;
+    // Where standard error fails there is nobody to tell.
+    let _ = match serve_one(rt.alloc(), desk, &mut reader, &mut writer) {
+        Ok(()) => Ok(()),
+        Err(ServeFault::Read) => err.write_all(b"read fault\n"),
+        Err(ServeFault::Write) => err.write_all(b"write fault\n"),
+    };
+    Ok(())
+}
