@@ -50,6 +50,7 @@ mod arrival;
 mod changes;
 mod desk;
 mod finding;
+mod held;
 mod laws;
 mod plan;
 mod reads;
