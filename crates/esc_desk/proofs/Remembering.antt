@@ -1,7 +1,7 @@
 -- The rows that are held, remembered as a list that rises.
-use Rattle.std.proofs.Common.{◌≡◌, ◌⊎◌, ◌↔◌, inl, inr, ℕ, zero, suc, ◌+◌, ◌<◌, ◌≤◌, Bool, true, false, cond, ◌==◌, List, [], ◌∷◌, length, get_or, Option, Some, IsSome, Ok, Err, refl, sym, ap, subst, ◌∙◌, arith, true≢false}
+use Rattle.std.proofs.Common.{◌≡◌, ◌⊎◌, ◌↔◌, inl, inr, ℕ, zero, suc, ◌<◌, ◌≤◌, Bool, true, false, cond, ◌==◌, List, [], ◌∷◌, length, get_or, Option, Some, IsSome, Ok, Err, refl, sym, ap, subst, ◌∙◌, arith, true≢false}
 use Rattle.std.specs.Prelude.{slice_index_or}
-use Rattle.std.specs.List.{All, Contains, insert}
+use Rattle.std.specs.List.{Contains, insert}
 use Rattle.std.specs.List.Sorted.{IsBinarySearchResult}
 use Rattle.std.specs.Ordering.{nat_cmp}
 use Rattle.std.proofs.lemmas.List.Sorted.{searched, IsPermutation-insert, IsPermutation-sym, All-permutation, Contains-permutation}
@@ -26,9 +26,10 @@ rises (x ∷ xs) up (suc i) (suc j) le within = rises xs up.1 i j (omega (arith,
 rising_insert : (xs : List ℕ) (i y : ℕ) → IsRising xs → i ≤ length xs → ((k : ℕ) → k < i → get_or xs k 0 < y) → ((k : ℕ) → i ≤ k → k < length xs → y < get_or xs k 0) → IsRising (insert xs i y)
 rising_insert xs zero y up le below above = (All-from_get_or (λ n. y < n) xs 0 (λ k within. above k (omega arith) within), up)
 rising_insert [] (suc i) y up le below above = absurd (omega (arith, le))
-rising_insert (x ∷ xs) (suc i) y up le below above =
-    (All-permutation (λ n. x < n) (y ∷ xs) (insert xs i y) (IsPermutation-insert xs i y) (All-cons (λ n. x < n) y xs (below 0 (omega arith)) up.0),
-     rising_insert xs i y up.1 (omega (arith, le)) (λ k under. below (suc k) (omega (arith, under))) (λ k past within. above (suc k) (omega (arith, past)) (omega (arith, within))))
+rising_insert (x ∷ xs) (suc i) y up le below above = (
+  All-permutation (λ n. x < n) (y ∷ xs) (insert xs i y) (IsPermutation-insert xs i y) (All-cons (λ n. x < n) y xs (below 0 (omega arith)) up.0),
+  rising_insert xs i y up.1 (omega (arith, le)) (λ k under. below (suc k) (omega (arith, under))) (λ k past within. above (suc k) (omega (arith, past)) (omega (arith, within))),
+)
 
 -- ---- one row more
 
@@ -71,6 +72,6 @@ module _ (bodies : ℕ → Option (List ℕ)) (body : List ℕ) (rows : List ℕ
       let moves = IsPermutation-insert rows place row in
       subst (AreHeld (body_put bodies row body)) (sym made)
       (with_one (insert rows place row) (rising_insert rows place row held.rising at.0 at.1 at.2)
-        (λ r there. first_or_later row r rows (Contains-permutation (insert rows place row) (row ∷ rows) r (IsPermutation-sym (row ∷ rows) (insert rows place row) moves) there))
-        (Contains-permutation (row ∷ rows) (insert rows place row) row moves (0, omega arith, refl))
-        (λ r there. Contains-permutation (row ∷ rows) (insert rows place row) r moves (later row r rows there)))
+      (λ r there. first_or_later row r rows (Contains-permutation (insert rows place row) (row ∷ rows) r (IsPermutation-sym (row ∷ rows) (insert rows place row) moves) there))
+      (Contains-permutation (row ∷ rows) (insert rows place row) row moves (0, omega arith, refl))
+      (λ r there. Contains-permutation (row ∷ rows) (insert rows place row) r moves (later row r rows there)))

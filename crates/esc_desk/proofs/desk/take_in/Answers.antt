@@ -36,7 +36,7 @@ returns-clause-answered g c = λ clean m l k stood stands are_held none.
     record {
       kept = c.in_ok-work.ensures.kept clean m l c.args.number.now k stood_next is;
       told =
-            new_reply sha256 reading m l k a stands is.none
-            ∙ ap Some (sym (c.in_ok-reply.ensures ∙ ap (λ (x : List MRow). reply_kept x c.in_ok-next.next receipt) (c.rows.ensures.rows ∙ listed2) ∙ ap₂ (λ (n : ℕ) (r : ReceiptValue). reply_kept m n r) (sym count) (new_receipt m l a k found held c.in_ok-next.next receipt is)));
+          new_reply sha256 reading m l k a stands is.none
+          ∙ ap Some (sym (c.in_ok-reply.ensures ∙ ap (λ (x : List MRow). reply_kept x c.in_ok-next.next receipt) (c.rows.ensures.rows ∙ listed2) ∙ ap₂ (λ (n : ℕ) (r : ReceiptValue). reply_kept m n r) (sym count) (new_receipt m l a k found held c.in_ok-next.next receipt is)));
       idle = λ same. c.in_ok-work.ensures.idle (holds_nothing_new m l a k found held c.in_ok-next.next receipt is same);
     }
