@@ -8,3 +8,7 @@ pub mod ListedMaps
 pub mod Ways
 pub mod LatestEnd
 pub mod HeldRows
+pub mod StopRows
+pub mod PlaceLines
+pub mod UnheldRows
+pub mod LineList

@@ -4,6 +4,7 @@ ghost use Rattle.std.specs.Prelude.{IfOk};
 ghost use Rattle.esc_chain.specs.Chain.{InRange, AreHeldRows, IsLatestChain};
 
 use crate::Held;
+use crate::bases::bases;
 use crate::links::{Link, last_with_way, links};
 use crate::revision::{in_order, used_rows};
 use esc_bundle::NoMemory;
@@ -21,7 +22,8 @@ pub fn latest_chain(alloc: Global, m: &Manifest, h: &Held) -> Result<Vec<usize>,
 {
     let used = used_rows(alloc, m, h)?;
     let order = in_order(alloc, &used)?;
-    let links = links(alloc, m, &used)?;
+    let bases = bases(alloc, m)?;
+    let links = links(alloc, &bases, &used)?;
     let mut chain = Vec::new(alloc);
     let Some(end) = last_with_way(alloc, &links, &order)? else {
         return Ok(chain);

@@ -2,9 +2,10 @@ ghost use Rattle.std.specs.Prelude.{IfOk};
 ghost use Rattle.esc_chain.specs.Chain.{InRange};
 
 use crate::{
-    Base, Held, base_of, latest_chain, latest_chain_is_one, latest_chain_rows_are_held, used,
+    Base, Blocker, GapLine, Held, Id, ListedPlace, State, base_of, gaps, latest_chain,
+    latest_chain_is_one, latest_chain_rows_are_held, used,
 };
-use esc_envelope::{DepositType, Header, Place};
+use esc_envelope::{DepositType, Header, Place, watermark_text};
 use esc_manifest::{MRow, Manifest, from_rows, read_manifest};
 use std::alloc::Global;
 use std::test::Fail;
@@ -192,6 +193,149 @@ fn held_rows(rt: HostRuntime) -> Result<(), Fail> {
     Ok(())
 }
 
+// What a line tells, as the report on gaps has it.
+fn text_of(alloc: Global, line: &GapLine) -> Result<String, Fail> {
+    let watermark = watermark_text(alloc, line.place.watermark)?.ok_or("none")?;
+    let kind = line.place.kind.name();
+    let state = line.state;
+    let mut text = format!(in alloc; "{watermark},{kind},")?;
+    if let Some(used) = line.used {
+        text.push_str(format!(in alloc; "{used}")?.as_str())?;
+    }
+    text.push_str(format!(in alloc; ",{state},")?.as_str())?;
+    if let Some(blocker) = &line.blocker {
+        text.push_str(format!(in alloc; "{blocker}")?.as_str())?;
+    }
+    text.push_str(",")?;
+    if let Some(awaited) = line.awaited {
+        text.push_str(format!(in alloc; "{awaited}")?.as_str())?;
+    }
+    Ok(text)
+}
+
+// The lines where these rows arrived in this order, each ended by a line feed.
+fn gaps_of(alloc: Global, m: &Manifest, rows: &[usize]) -> Result<String, Fail> {
+    let held = held_of(alloc, m, rows)?;
+    let lines = gaps(alloc, m, &held)?;
+    let mut text = String::new(alloc);
+    for line in &lines {
+        text.push_str(text_of(alloc, line)?.as_str())?;
+        text.push_str("\n")?;
+    }
+    Ok(text)
+}
+
+#[test]
+fn gaps_of_manifest_b(rt: HostRuntime) -> Result<(), Fail> {
+    let alloc = rt.alloc();
+    let m = manifest_of(alloc, B.as_slice())?;
+    let rows: [(&[usize], &str); 6] = [
+        (&[], NONE_HELD),
+        (&[2, 1], BLOCKED_BY_F1),
+        (&[0, 1, 2, 3], STANDING),
+        (&[0, 1, 5], D6_BLOCKED),
+        (&[0, 1, 2, 6], D2_AGAIN),
+        (&[4, 5, 6], ON_F5),
+    ];
+    for (held, lines) in rows {
+        assert_eq!(rt; gaps_of(alloc, &m, held)?.as_str(), lines);
+    }
+    Ok(())
+}
+
+const NONE_HELD: &str = "2024-03-03T00:00:00Z,FULL,,missing,,0
+2024-03-04T00:00:00Z,DIFF,,missing,,1
+2024-03-05T00:00:00Z,DIFF,,missing,,0
+2024-03-06T00:00:00Z,INCR,,missing,,0
+2024-03-10T00:00:00Z,FULL,,missing,,0
+2024-03-11T00:00:00Z,DIFF,,missing,,0
+";
+
+// Both are blocked by the first Full, not by one another.
+const BLOCKED_BY_F1: &str = "2024-03-03T00:00:00Z,FULL,,missing,,0
+2024-03-04T00:00:00Z,DIFF,0,blocked,2024-03-03T00:00:00Z FULL,1
+2024-03-05T00:00:00Z,DIFF,0,blocked,2024-03-03T00:00:00Z FULL,
+2024-03-06T00:00:00Z,INCR,,missing,,0
+2024-03-10T00:00:00Z,FULL,,missing,,0
+2024-03-11T00:00:00Z,DIFF,,missing,,0
+";
+
+const STANDING: &str = "2024-03-03T00:00:00Z,FULL,0,chain,,
+2024-03-04T00:00:00Z,DIFF,0,standing,,1
+2024-03-05T00:00:00Z,DIFF,0,standing,,
+2024-03-06T00:00:00Z,INCR,0,chain,,
+2024-03-10T00:00:00Z,FULL,,missing,,0
+2024-03-11T00:00:00Z,DIFF,,missing,,0
+";
+
+const D6_BLOCKED: &str = "2024-03-03T00:00:00Z,FULL,0,chain,,
+2024-03-04T00:00:00Z,DIFF,0,chain,,1
+2024-03-05T00:00:00Z,DIFF,,missing,,0
+2024-03-06T00:00:00Z,INCR,,missing,,0
+2024-03-10T00:00:00Z,FULL,,missing,,0
+2024-03-11T00:00:00Z,DIFF,0,blocked,2024-03-10T00:00:00Z FULL,
+";
+
+const D2_AGAIN: &str = "2024-03-03T00:00:00Z,FULL,0,chain,,
+2024-03-04T00:00:00Z,DIFF,1,chain,,
+2024-03-05T00:00:00Z,DIFF,0,chain,,
+2024-03-06T00:00:00Z,INCR,,missing,,0
+2024-03-10T00:00:00Z,FULL,,missing,,0
+2024-03-11T00:00:00Z,DIFF,,missing,,0
+";
+
+// Of D2 the later revision alone is held, so the earlier one is not awaited.
+const ON_F5: &str = "2024-03-03T00:00:00Z,FULL,,missing,,0
+2024-03-04T00:00:00Z,DIFF,1,blocked,2024-03-03T00:00:00Z FULL,
+2024-03-05T00:00:00Z,DIFF,,missing,,0
+2024-03-06T00:00:00Z,INCR,,missing,,0
+2024-03-10T00:00:00Z,FULL,0,chain,,
+2024-03-11T00:00:00Z,DIFF,0,chain,,
+";
+
+#[test]
+fn gaps_round_unlisted_bases(rt: HostRuntime) -> Result<(), Fail> {
+    let alloc = rt.alloc();
+    let unlisted = manifest_of(alloc, B_WITH_X9.as_slice())?;
+    let lines = "2024-03-03T00:00:00Z,FULL,0,chain,,
+2024-03-04T00:00:00Z,DIFF,0,chain,,1
+2024-03-05T00:00:00Z,DIFF,1,blocked,unlisted X9,
+2024-03-06T00:00:00Z,INCR,,missing,,0
+2024-03-10T00:00:00Z,FULL,,missing,,0
+2024-03-11T00:00:00Z,DIFF,,missing,,0
+";
+    assert_eq!(rt; gaps_of(alloc, &unlisted, &[0, 1, 2, 7])?.as_str(), lines);
+    let ties = manifest_of(alloc, TIES.as_slice())?;
+    let lines = "2024-03-02T00:00:00Z,INCR,0,blocked,no earlier FULL,
+2024-03-03T00:00:00Z,FULL,,missing,,0
+2024-03-04T00:00:00Z,DIFF,0,blocked,2024-03-03T00:00:00Z FULL,
+2024-03-04T00:00:00Z,INCR,,missing,,0
+2024-03-04T00:00:00Z,FULL,0,chain,,
+";
+    assert_eq!(rt; gaps_of(alloc, &ties, &[4, 1, 0])?.as_str(), lines);
+    Ok(())
+}
+
+#[test]
+fn blockers_print(rt: HostRuntime) -> Result<(), Fail> {
+    let alloc = rt.alloc();
+    let f0 = Place {
+        watermark: FIRST,
+        kind: DepositType::Full,
+    };
+    let listed = ListedPlace::new(alloc, f0)?;
+    assert_eq!(rt; listed.place(), f0);
+    let shown = format!(in alloc; "{}", Blocker::NotHeld(listed))?;
+    assert_eq!(rt; shown.as_str(), "2024-03-01T00:00:00Z FULL");
+    let id = Id::new(String::from_str(alloc, "X9")?);
+    assert_eq!(rt; id.text(), "X9");
+    let shown = format!(in alloc; "{}", Blocker::NotListed(id))?;
+    assert_eq!(rt; shown.as_str(), "unlisted X9");
+    let shown = format!(in alloc; "{}, {}", Blocker::NoEarlierFull, State::Blocked)?;
+    assert_eq!(rt; shown.as_str(), "no earlier FULL, blocked");
+    Ok(())
+}
+
 // A manifest of 4,096 deposits, a day apart: a Full, and Differentials each on the one before.
 fn longest_manifest(alloc: Global) -> Result<Manifest, Fail> {
     let mut rows = Vec::new(alloc);
@@ -239,5 +383,31 @@ fn longest_chain(rt: HostRuntime) -> Result<(), Fail> {
     assert!(rt; chain.iter().enumerate().all(|(k, row)| k == *row));
     held.pop();
     assert_eq!(rt; chain_of(alloc, &m, &held)?.len(), 0);
+    Ok(())
+}
+
+#[test]
+fn most_gaps(rt: HostRuntime) -> Result<(), Fail> {
+    let alloc = rt.alloc();
+    let m = longest_manifest(alloc)?;
+    let mut rows = Vec::new(alloc);
+    for row in (1..4096).rev() {
+        rows.push(row)?;
+    }
+    let held = held_of(alloc, &m, &rows)?;
+    let lines = gaps(alloc, &m, &held)?;
+    assert_eq!(rt; lines.len(), 4096);
+    let first = text_of(alloc, &lines[0])?;
+    assert_eq!(rt; first.as_str(), "1970-01-01T00:00:00Z,FULL,,missing,,0");
+    let last = text_of(alloc, &lines[4095])?;
+    assert_eq!(rt;
+        last.as_str(),
+        "1981-03-19T00:00:00Z,DIFF,0,blocked,1970-01-01T00:00:00Z FULL,"
+    );
+    rows.push(0)?;
+    let held = held_of(alloc, &m, &rows)?;
+    let lines = gaps(alloc, &m, &held)?;
+    assert_eq!(rt; lines.len(), 4096);
+    assert!(rt; lines.iter().all(|line| line.state == State::Chain));
     Ok(())
 }

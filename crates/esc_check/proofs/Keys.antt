@@ -17,9 +17,9 @@ use Rattle.std.specs.Map.{keys_of}
 use Rattle.esc_envelope.specs.declared.kind.Kind.{Kind}
 use Rattle.esc_envelope.specs.Kinds.{kind_rank, is_kind}
 use Rattle.esc_tables.specs.KeyName.{KeyName, key_cmp, key_eq}
-use Rattle.esc_check.specs.FindingOrder.{same_rank}
 use Rattle.esc_check.specs.Gathered.{count_of}
 use Rattle.esc_check.specs.Tables.{Entry, tables_of, AreKeysOf, HasCount}
+use Rattle.esc_check.proofs.Ties.{same_rank}
 use Rattle.esc_check.proofs.Members.{from_chosen, in_chosen}
 
 keys_total : IsTotalOrder key_cmp

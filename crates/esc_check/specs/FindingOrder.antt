@@ -1,16 +1,10 @@
--- The order of findings is total and tells any two apart.
-use Rattle.std.proofs.Common.{◌≡◌, ℕ, zero, suc, true, List, sym, ap, refl, ◌∙◌}
-use Rattle.std.specs.Ordering.{nat_cmp}
-use Rattle.std.specs.Cmp.{IsTotalOrder, IsEquivalence, Equal-is}
-use Rattle.std.specs.Cmp.{nat_cmp_total, eq_by_cmp_equiv}
-use Rattle.std.specs.Cmp.Lexicographic.{slice_cmp}
+-- The order of findings is total.
+use Rattle.std.specs.Cmp.{IsTotalOrder, IsEquivalence, nat_cmp_total, eq_by_cmp_equiv}
 use Rattle.std.proofs.lemmas.Cmp.{then_total, on_total, nat_list_cmp_total}
-use Rattle.std.proofs.lemmas.Map.Lookups.{CmpEqualImpliesEq, exact_unsigned, exact_bytes, exact_pairs}
-use Rattle.esc_envelope.specs.declared.kind.Kind.{Kind}
-use Rattle.esc_envelope.specs.declared.kind.Kind.TheVariants.{Registrar, Contact, Host, Domain, Idn, Nndn}
 use Rattle.esc_envelope.specs.Kinds.{kind_rank}
 use Rattle.esc_check.specs.FindingValue.{FindingValue, finding_cmp, finding_eq}
 
+-- any two findings are in order, or tie, and the order goes on
 pub finding_total : IsTotalOrder finding_cmp
 finding_total =
     then_total (on_total (λ (f : FindingValue). f.code) nat_cmp_total)
@@ -19,43 +13,6 @@ finding_total =
     (then_total (on_total (λ (f : FindingValue). f.field) nat_list_cmp_total)
     (then_total (on_total (λ (f : FindingValue). f.value) nat_list_cmp_total) (on_total (λ (f : FindingValue). f.other) nat_list_cmp_total)))))
 
+-- findings that tie are alike
 pub finding_equiv : IsEquivalence finding_eq
 finding_equiv = eq_by_cmp_equiv finding_total
-
--- the kind of a rank
-abbrev kind_of : ℕ → Kind
-kind_of zero = Registrar
-kind_of (suc zero) = Contact
-kind_of (suc (suc zero)) = Host
-kind_of (suc (suc (suc zero))) = Domain
-kind_of (suc (suc (suc (suc zero)))) = Idn
-kind_of (suc (suc (suc (suc (suc n))))) = Nndn
-
-ranked : (k : Kind) → kind_of (kind_rank k) ≡ k
-ranked Registrar = refl
-ranked Contact = refl
-ranked Host = refl
-ranked Domain = refl
-ranked Idn = refl
-ranked Nndn = refl
-
--- kinds of one rank are one
-pub same_rank : (a b : Kind) → kind_rank a ≡ kind_rank b → a ≡ b
-same_rank a b e = sym (ranked a) ∙ ap kind_of e ∙ ranked b
-
-abbrev Texts : Type 0
-Texts = List ℕ × (List ℕ × (List ℕ × List ℕ))
-
-abbrev texts_of : FindingValue → Texts
-texts_of f = (f.key, (f.field, (f.value, f.other)))
-
-pub exact_findings : CmpEqualImpliesEq finding_cmp
-exact_findings a b h =
-    let bytes = exact_bytes in
-    let texts = exact_pairs (slice_cmp nat_cmp) _ bytes (exact_pairs (slice_cmp nat_cmp) _ bytes (exact_pairs (slice_cmp nat_cmp) (slice_cmp nat_cmp) bytes bytes)) in
-    let all = exact_pairs nat_cmp _ exact_unsigned (exact_pairs nat_cmp _ exact_unsigned texts) (a.code, (kind_rank a.kind, texts_of a)) (b.code, (kind_rank b.kind, texts_of b)) h in
-    let kinds : a.kind ≡ b.kind = same_rank a.kind b.kind (ap (λ (p : ℕ × (ℕ × Texts)). p.1.0) all) in
-    λ i. record { code = (all i).0; kind = kinds i; key = (all i).1.1.0; field = (all i).1.1.1.0; value = (all i).1.1.1.1.0; other = (all i).1.1.1.1.1 }
-
-pub exact_finding_eq : (a b : FindingValue) → finding_eq a b ≡ true → a ≡ b
-exact_finding_eq a b h = exact_findings a b ((Equal-is (finding_cmp a b)).0 h)

@@ -16,31 +16,35 @@ use Rattle.esc_check.specs.Links.{IsLink}
 use Rattle.esc_check.specs.Statuses.{status_words, IsStatusOf}
 use Rattle.esc_check.specs.Tables.{Tables, HasCount}
 
--- V1: a link leads to no object
+-- V1, as it is told of a link
 abbrev pub missing_target : LinkValue → FindingValue
 missing_target l = record { code = 1; kind = l.from.kind; key = l.from.text; field = field_name l.field; value = l.to.text; other = kind_name l.to.kind }
 
+-- V1: a link leads to no object
 abbrev pub IsMissing : Tables → FindingValue → Type 0
 IsMissing t f = (l : LinkValue) × IsLink t l × (t l.to ≡ None) × (f ≡ missing_target l)
 
--- V2: a kind has another number of objects than declared
+-- V2, as it is told of a kind with so many objects declared, and so many found
 abbrev pub miscounted : Kind → ℕ → ℕ → FindingValue
 miscounted kind declared found = record { code = 2; kind = kind; key = []; field = codes "count"; value = decimal declared; other = decimal found }
 
+-- V2: a kind has another number of objects than declared
 abbrev pub IsMiscounted : Tables → List (Kind × ℕ) → FindingValue → Type 0
 IsMiscounted t counts f = (kind : Kind) × (declared : ℕ) × (n : ℕ) × Contains counts (kind, declared) × HasCount t kind n × (n ≢ declared) × (f ≡ miscounted kind declared n)
 
--- V3: a status is none of its kind's
+-- V3, as it is told of an object's status
 abbrev pub unknown_status : KeyName → List ℕ → FindingValue
 unknown_status k s = record { code = 3; kind = k.kind; key = k.text; field = codes "status"; value = s; other = [] }
 
+-- V3: a status is none of its kind's
 abbrev pub IsUnknown : KeyName → ObjectValue → FindingValue → Type 0
 IsUnknown k o f = (s : List ℕ) × IsStatusOf k o s × (Contains (status_words k.kind) s → ⊥) × (f ≡ unknown_status k s)
 
--- V4: a domain has `ok` and a status that is not `ok`
+-- V4, as it is told of a domain
 abbrev pub mixed_status : KeyName → FindingValue
 mixed_status k = record { code = 4; kind = k.kind; key = k.text; field = codes "status"; value = codes "ok"; other = [] }
 
+-- V4: a domain has `ok` and a status that is not `ok`
 abbrev pub IsMixed : KeyName → ObjectValue → FindingValue → Type 0
 IsMixed k o f = (k.kind ≡ Domain) × IsStatusOf k o (codes "ok") × ((s : List ℕ) × IsStatusOf k o s × (s ≢ codes "ok")) × (f ≡ mixed_status k)
 
@@ -48,25 +52,28 @@ IsMixed k o f = (k.kind ≡ Domain) × IsStatusOf k o (codes "ok") × ((s : List
 abbrev pub printed : ℤ → List ℕ
 printed w = unwrap_or (watermark_text_of w) []
 
--- V5: the date of creation is later than the watermark
+-- V5, as it is told of an object's date of creation and the watermark
 abbrev pub late : KeyName → List ℕ → List ℕ → FindingValue
 late k text shown = record { code = 5; kind = k.kind; key = k.text; field = codes "crDate"; value = text; other = shown }
 
+-- V5: the date of creation is later than the watermark
 abbrev pub IsLate : ℤ → KeyName → ObjectValue → FindingValue → Type 0
 IsLate w k o f = (d : ℤ) × (watermark_of (created k o) ≡ Some d) × (w <ℤ d) × (f ≡ late k (created k o) (printed w))
 
--- V6: the date of expiry is earlier than that of creation
+-- V6, as it is told of a domain's dates of expiry and creation
 abbrev pub early : KeyName → List ℕ → List ℕ → FindingValue
 early k text created_text = record { code = 6; kind = k.kind; key = k.text; field = codes "exDate"; value = text; other = created_text }
 
+-- V6: the date of expiry is earlier than that of creation
 abbrev pub IsEarly : KeyName → ObjectValue → FindingValue → Type 0
 IsEarly k o f =
     (e : ℤ) × (d : ℤ) × (watermark_of (expires k o) ≡ Some e) × (watermark_of (created k o) ≡ Some d) × (e <ℤ d) × (f ≡ early k (expires k o) (created k o))
 
--- V7: a date has not the form of a watermark, or is none of its years
+-- V7, as it is told of a date in a field
 abbrev pub malformed : KeyName → List ℕ → List ℕ → FindingValue
 malformed k field text = record { code = 7; kind = k.kind; key = k.text; field = field; value = text; other = [] }
 
+-- V7: a date has not the form of a watermark, or is none of its years
 abbrev pub IsMalformed : KeyName → List ℕ → List ℕ → FindingValue → Type 0
 IsMalformed k field text f = (text ≢ []) × (watermark_of text ≡ None) × (f ≡ malformed k field text)
 

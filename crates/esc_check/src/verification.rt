@@ -5,7 +5,7 @@ ghost use Rattle.std.specs.List.{Contains, flat_map};
 ghost use Rattle.std.specs.List.Sorted.{IsStrictlySortedBy};
 ghost use Rattle.std.specs.Map.{keys_of};
 ghost use Rattle.esc_tables.specs.KeyName.{key_cmp};
-ghost use Rattle.esc_check.specs.FindingValue.{FindingValue, finding_cmp};
+ghost use Rattle.esc_check.specs.FindingValue.{FindingValue, listing_cmp};
 ghost use Rattle.esc_check.specs.Findings.{IsFinding};
 ghost use Rattle.esc_check.specs.Gathered.{is_present, links_of, link_findings, own_findings, object_findings};
 ghost use Rattle.esc_check.specs.Tables.{tables_of};
@@ -89,7 +89,7 @@ pub fn verify(
     watermark: i64,
     counts: &BTreeMap<Kind, u64>,
 ) -> Result<Vec<Finding>, NoMemory>
-    ensures ordered { IfOk result (λ found. IsStrictlySortedBy finding_cmp found.items) }
+    ensures ordered { IfOk result (λ found. IsStrictlySortedBy listing_cmp found.items) }
     ensures each { IfOk result (λ found. (f : FindingValue) → Contains found.items f ↔ IsFinding (tables_of t.now.entries) watermark counts.now.entries f) }
 {
     let limit = limit_at(alloc, watermark)?;

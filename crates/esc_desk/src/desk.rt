@@ -1,6 +1,6 @@
 //! The desk: arrivals, one after another.
 
-ghost use Rattle.std.specs.Prelude.{◌≡◌, ◌+◌, ◌<◌, ◌++◌, ◌∷◌, [], ℕ, List, length, true, false, Some, None, IfOk, IfSome, OnOk, OnErr};
+ghost use Rattle.std.specs.Prelude.{◌≡◌, ◌+◌, ◌<◌, ◌≤◌, ◌++◌, ◌∷◌, [], ℕ, List, length, true, false, Some, None, IfOk, IfSome, OnOk, OnErr};
 ghost use Rattle.sha2.specs.Sha256.{sha256};
 ghost use Rattle.esc_tables.specs.Reading.{reading};
 ghost use Rattle.esc_manifest.specs.declared.row.MRow.{MRow};
@@ -9,7 +9,7 @@ ghost use Rattle.esc_store.specs.Kept.{Kept, AreHeld};
 ghost use Rattle.esc_store.specs.ReplyValue.{ReplyValue, reply_alike};
 ghost use Rattle.esc_store.specs.Standing.{Stands, IsHonest, IsAsBefore};
 ghost use Rattle.esc_desk.specs.Finding.{held_row};
-ghost use Rattle.esc_desk.specs.Receipts.{is_among, is_old, reply_to};
+ghost use Rattle.esc_desk.specs.Receipts.{is_among, is_old, receipts_of, reply_to};
 ghost use Rattle.esc_desk.specs.Stands.{StandsFor};
 ghost use Rattle.esc_desk.specs.Taking.{IsNew};
 ghost use Rattle.esc_desk.specs.declared.finding.Finding.TheVariants.{Holding};
@@ -68,7 +68,8 @@ impl<S: Alter> Desk<S> {
     /// Takes an arrival: the reply, and the work of the move that it made. One alike an earlier one has the first
     /// one's reply and makes no work; of any other the work is exactly the cost of going from the latest chain before it
     /// to the latest chain with it, which is none where it adds no row to those that are held. [`Desk::writes`] grows by
-    /// the work's writes. At `Err` nothing has changed: `S1`, `S2`, `S4`.
+    /// the work's writes. At `Err` nothing has changed: `S1`, `S2`, or `S4` where the store has 1,000,000,000 receipts: then
+    /// no arrival is taken in that is like none before it.
     #[tactic(auto, using(crate::proofs::StoreFacts::was_honest))]
     pub fn arrive(
         &mut self,
@@ -80,6 +81,7 @@ impl<S: Alter> Desk<S> {
         ensures repeated { IsHonest S.Store self.new.store → (m : List MRow) (l : List ArrivalValue) → DeskServes S.Store self.old m l → (r : ReplyValue) → reply_to sha256 reading m l (record { number = number.now; body = body.now }) ≡ Some r → IfOk result (λ p. (p.0 ≡ r) × (p.1 ≡ no_work)) }
         ensures worked { IsHonest S.Store self.new.store → (m : List MRow) (l : List ArrivalValue) → DeskServes S.Store self.old m l → IfOk result (λ p. IsWorkOf m l (record { number = number.now; body = body.now }) p.1) }
         ensures idle { IsHonest S.Store self.new.store → (m : List MRow) (l : List ArrivalValue) → DeskServes S.Store self.old m l → AddsNoRow m l (record { number = number.now; body = body.now }) → IfOk result (λ p. p.1 ≡ no_work) }
+        ensures room { IsHonest S.Store self.new.store → (m : List MRow) (l : List ArrivalValue) → DeskServes S.Store self.old m l → reply_to sha256 reading m l (record { number = number.now; body = body.now }) ≡ None → OnOk result (length (receipts_of sha256 reading m l) < 1_000_000_000) }
         ensures counted { IfOk result (λ p. self.new.store.writes ≡ saturated (self.old.store.writes + p.1.writes)) }
         ensures uncounted { OnErr result (self.new.store.writes ≡ self.old.store.writes) }
         ensures honest { IsHonest S.Store self.new.store → IsHonest S.Store self.old.store }
@@ -107,6 +109,7 @@ impl<S: Alter> Desk<S> {
         requires { digest ≡ sha256 body.now }
         ensures answered { IsHonest S.Store self.new.store → (m : List MRow) (l : List ArrivalValue) (k : Kept) → Stands S.Store self.old.store k → StandsFor sha256 reading m l k → IfSome self.old.known (λ rows. AreHeld k.bodies rows.items) → reply_alike m 1 number.now digest k.receipts ≡ None
             → IfOk result (λ p. IsTakenIn S.Store self.new m l (record { number = number.now; body = body.now }) p.0 p.1) }
+        ensures room { IsHonest S.Store self.new.store → (k : Kept) → Stands S.Store self.old.store k → OnOk result (length k.receipts < 1_000_000_000) }
         ensures counted { IfOk result (λ p. self.new.store.writes ≡ saturated (self.old.store.writes + p.1.writes)) }
         ensures uncounted { OnErr result (self.new.store.writes ≡ self.old.store.writes) }
         ensures lost { OnErr result ((k : Kept) → Stands S.Store self.old.store k → Stands S.Store self.new.store k) }
@@ -145,6 +148,7 @@ fn take_in<S: Alter>(
     requires { digest ≡ sha256 body.now }
     ensures answered { IsHonest S.Store store.new → (m : List MRow) (l : List ArrivalValue) (k : Kept) → Stands S.Store store.old k → StandsFor sha256 reading m l k → AreHeld k.bodies held.old.items → reply_alike m 1 number.now digest k.receipts ≡ None
         → IfOk result (λ p. IsTaken S.Store store.new m l (record { number = number.now; body = body.now }) held.new.items p.0 p.1) }
+    ensures room { IsHonest S.Store store.new → (k : Kept) → Stands S.Store store.old k → OnOk result (length k.receipts < 1_000_000_000) }
     ensures counted { IfOk result (λ p. store.new.writes ≡ saturated (store.old.writes + p.1.writes)) }
     ensures uncounted { OnErr result (store.new.writes ≡ store.old.writes) }
     ensures lost { OnErr result ((k : Kept) → Stands S.Store store.old k → Stands S.Store store.new k) }
@@ -163,6 +167,7 @@ fn take_in<S: Alter>(
 fn next_receipt<S: Alter>(store: &mut Store<S>) -> Result<u64, SFault>
     ensures same { IsAsBefore S.Store store.old store.new }
     ensures next { IsHonest S.Store store.new → (k : Kept) → Stands S.Store store.old k → IfOk result (λ n. length k.receipts + 1 ≡ n) }
+    ensures room { IfOk result (λ n. n ≤ 1_000_000_000) }
 {
     let count = store.receipt_count()?;
     if count >= MOST_RECEIPTS {

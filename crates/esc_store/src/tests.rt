@@ -1,4 +1,4 @@
-use crate::{Receipt, SFault, Store, Verdict};
+use crate::{Receipt, SFault, Store, Verdict, number};
 use esc_apply::{Registry, Step};
 use esc_envelope::{DepositType, Kind, Place};
 use esc_manifest::{Manifest, read_manifest};
@@ -197,5 +197,170 @@ fn a_database_of_one_table_is_no_store(rt: HostRuntime) -> Result<(), Fail> {
     assert_eq!(rt; fault, SFault::S1);
     run(&mut conn, "COMMIT")?;
     assert!(rt; made(alloc, conn, &manifest).is_ok());
+    Ok(())
+}
+
+fn key(alloc: Global, kind: Kind, text: &str) -> Result<Key, Fail> {
+    Ok(Key {
+        kind,
+        text: String::from_str(alloc, text)?,
+    })
+}
+
+// Writes an object at each key, and notes that none stood there before step 1, but for the last key, where it did.
+fn fill<S: Alter>(
+    alloc: Global,
+    store: &mut Store<S>,
+    keys: &[Key],
+    object: &Object,
+) -> Result<(), SFault> {
+    let mut change = store.begin()?;
+    for at in 0..keys.len() {
+        change.put(alloc, &keys[at], object)?;
+        let before = if at + 1 == keys.len() {
+            Some(object)
+        } else {
+            None
+        };
+        change.put_undo(alloc, 1, &keys[at], before)?;
+    }
+    change.commit()
+}
+
+// What was noted of a step, in one text, and that it is noted no longer.
+fn undone<S: Alter>(alloc: Global, store: &mut Store<S>, step: u32) -> Result<String, Fail> {
+    let mut change = store.begin()?;
+    let mut text = String::new(alloc);
+    for (key, before) in change.take_undo(alloc, step)?.as_slice() {
+        let one = format!(in alloc; "{} {}; ", key.text, before.is_some())?;
+        text.push_str(one.as_str())?;
+    }
+    let left = change.take_undo(alloc, step)?.len();
+    let one = format!(in alloc; "{left} left")?;
+    text.push_str(one.as_str())?;
+    Ok(text)
+}
+
+// The keys of the tables and the counts by kind, in one text.
+fn listing<S: Alter>(alloc: Global, store: &mut Store<S>) -> Result<String, Fail> {
+    let mut text = String::new(alloc);
+    for (key, _) in &store.tables(alloc)? {
+        let one = format!(in alloc; "{} {}; ", key.kind.name(), key.text)?;
+        text.push_str(one.as_str())?;
+    }
+    for (_, count) in &store.counts_by_kind(alloc)? {
+        let one = format!(in alloc; "{count} ")?;
+        text.push_str(one.as_str())?;
+    }
+    Ok(text)
+}
+
+#[test]
+fn objects_and_before_images_are_read_back(rt: HostRuntime) -> Result<(), Fail> {
+    let alloc = rt.alloc();
+    let manifest = listed(alloc)?;
+    let conn = Connection::open_in_memory(alloc)?;
+    let Ok(mut store) = made(alloc, conn, &manifest) else {
+        assert!(rt; false);
+        return Ok(());
+    };
+    let keys = vec![in alloc;
+        key(alloc, Kind::Domain, "b.example")?,
+        key(alloc, Kind::Host, "ns.a.example")?,
+        key(alloc, Kind::Domain, "a.example")?,
+    ]?;
+    fill(alloc, &mut store, keys.as_slice(), &object(alloc)?)?;
+    assert_eq!(rt;
+        listing(alloc, &mut store)?.as_str(),
+        "host ns.a.example; domain a.example; domain b.example; 0 0 1 2 0 0 "
+    );
+    let first = undone(alloc, &mut store, 1)?;
+    assert_eq!(rt;
+        first.as_str(),
+        "ns.a.example false; a.example true; b.example false; 0 left"
+    );
+    assert_eq!(rt; undone(alloc, &mut store, 1)?.as_str(), first.as_str());
+    assert_eq!(rt; undone(alloc, &mut store, 2)?.as_str(), "0 left");
+    Ok(())
+}
+
+// The number of the receipt that was kept for an arrival, or 0.
+fn receipt<S: Alter>(
+    alloc: Global,
+    store: &mut Store<S>,
+    name: &str,
+    digest: u8,
+) -> Result<u64, Fail> {
+    match store.receipt_of(alloc, &number(name)?, &[digest; 32])? {
+        Some(reply) => Ok(reply.receipt),
+        None => Ok(0),
+    }
+}
+
+// The length of the body of a row, or 0.
+fn length<S: Alter>(alloc: Global, store: &mut Store<S>, row: usize) -> Result<usize, Fail> {
+    match store.body_of(alloc, row)? {
+        Some(body) => Ok(body.len()),
+        None => Ok(0),
+    }
+}
+
+#[test]
+fn receipts_and_bodies_are_found(rt: HostRuntime) -> Result<(), Fail> {
+    let alloc = rt.alloc();
+    let manifest = listed(alloc)?;
+    let conn = Connection::open_in_memory(alloc)?;
+    let Ok(mut store) = made(alloc, conn, &manifest) else {
+        assert!(rt; false);
+        return Ok(());
+    };
+    arrive(alloc, &mut store, &domain(alloc)?, &object(alloc)?)?;
+    assert_eq!(rt; receipt(alloc, &mut store, "one", 1)?, 1);
+    assert_eq!(rt; receipt(alloc, &mut store, "one", 2)?, 0);
+    assert_eq!(rt; receipt(alloc, &mut store, "two", 1)?, 0);
+    assert_eq!(rt; length(alloc, &mut store, 0)?, 4);
+    assert_eq!(rt; length(alloc, &mut store, 1)?, 0);
+    Ok(())
+}
+
+// Takes the object away, if it is there.
+fn removed<S: Alter>(alloc: Global, store: &mut Store<S>, key: &Key) -> Result<bool, SFault> {
+    let mut change = store.begin()?;
+    let before = change.get(alloc, key)?;
+    change.remove(key)?;
+    let after = change.get(alloc, key)?;
+    change.commit()?;
+    Ok(before.is_some() && after.is_none())
+}
+
+// Takes all objects and images away, which counts no write.
+fn cleared<S: Alter>(alloc: Global, store: &mut Store<S>) -> Result<usize, SFault> {
+    let mut change = store.begin()?;
+    change.clear()?;
+    let images = change.take_undo(alloc, 1)?;
+    change.commit()?;
+    Ok(images.len())
+}
+
+#[test]
+fn what_is_removed_is_gone(rt: HostRuntime) -> Result<(), Fail> {
+    let alloc = rt.alloc();
+    let manifest = listed(alloc)?;
+    let conn = Connection::open_in_memory(alloc)?;
+    let Ok(mut store) = made(alloc, conn, &manifest) else {
+        assert!(rt; false);
+        return Ok(());
+    };
+    let keys = vec![in alloc;
+        key(alloc, Kind::Contact, "C1")?,
+        key(alloc, Kind::Domain, "a.example")?,
+    ]?;
+    fill(alloc, &mut store, keys.as_slice(), &object(alloc)?)?;
+    assert!(rt; removed(alloc, &mut store, &keys[0])?);
+    assert_eq!(rt; store.writes(), 3);
+    assert_eq!(rt; store.tables(alloc)?.len(), 1);
+    assert_eq!(rt; cleared(alloc, &mut store)?, 0);
+    assert_eq!(rt; store.writes(), 3);
+    assert_eq!(rt; store.tables(alloc)?.len(), 0);
     Ok(())
 }

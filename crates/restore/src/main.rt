@@ -19,6 +19,8 @@ mod line;
 mod stop;
 mod stored;
 mod taking;
+#[cfg(test)]
+mod tests;
 mod words;
 
 use std::env;
@@ -32,7 +34,7 @@ fn main(rt: HostRuntime) -> ExitCode {
 fn run(rt: &HostRuntime) -> u8 {
     match given_words(rt) {
         Ok(given) => words::run_words(rt, &given, &mut rt.stdout(), &mut rt.stderr()),
-        Err(stop) => stop.status(),
+        Err(stop) => stop::tell_stop(rt, &mut rt.stderr(), &stop),
     }
 }
 

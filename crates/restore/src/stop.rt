@@ -88,8 +88,22 @@ pub fn print<O: Write>(rt: &HostRuntime, out: &mut O, text: &[u8]) -> Result<(),
 }
 
 /// Tells a refusal that doesn't stop the program. Where standard error fails there is nobody to tell.
-pub fn tell<E: Write>(rt: &HostRuntime, err: &mut E, refusal: &str, name: &str) {
-    if let Ok(line) = format!(in rt.alloc(); "{refusal} {name}\n") {
-        let _ = err.write_all(line.as_bytes());
-    }
+pub fn tell<E: Write>(
+    rt: &HostRuntime,
+    err: &mut E,
+    refusal: &str,
+    name: &str,
+) -> Result<(), Stop> {
+    let line = format!(in rt.alloc(); "{refusal} {name}\n")?;
+    let _ = err.write_all(line.as_bytes());
+    Ok(())
+}
+
+/// Tells what the program stops for, and answers its status. Want of memory is told without any.
+pub fn tell_stop<E: Write>(rt: &HostRuntime, err: &mut E, stop: &Stop) -> u8 {
+    let _ = match format!(in rt.alloc(); "{stop}\n") {
+        Ok(line) => err.write_all(line.as_bytes()),
+        Err(_) => err.write_all(b"S2\n"),
+    };
+    stop.status()
 }

@@ -20,6 +20,7 @@ pub fn init<O: Write>(
 ) -> Result<u8, Stop> {
     let manifest = manifest_of(rt, manifest)?;
     let listed = manifest.rows().len();
+    let line = format!(in rt.alloc(); "listed {listed}\n")?;
     let connection = open_file(rt, store)?;
     match Store::create(rt.alloc(), connection, &manifest) {
         Ok(made) => close(made.into_connection())?,
@@ -28,7 +29,6 @@ pub fn init<O: Write>(
             return Err(Stop::Store(fault));
         }
     }
-    let line = format!(in rt.alloc(); "listed {listed}\n")?;
     print(rt, out, line.as_bytes())?;
     Ok(DONE)
 }

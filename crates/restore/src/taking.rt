@@ -20,7 +20,7 @@ pub fn take_folder<S: Alter, O: Write, E: Write>(
     print(rt, out, HEADING.as_bytes())?;
     let mut status = DONE;
     for _ in 0..listing.unnamed {
-        tell(rt, err, "N1", "(a name that is no UTF-8)");
+        tell(rt, err, "N1", "(a name that is no UTF-8)")?;
         status = REFUSED;
     }
     for name in &listing.names {
@@ -42,12 +42,12 @@ fn take_file<S: Alter, O: Write, E: Write>(
     err: &mut E,
 ) -> Result<bool, Stop> {
     let Ok(number) = number(name) else {
-        tell(rt, err, "N1", name);
+        tell(rt, err, "N1", name)?;
         return Ok(false);
     };
     let path = path_in(rt, folder, name)?;
     if file_length(rt, path.as_str())? > MOST_BYTES {
-        tell(rt, err, "E2", name);
+        tell(rt, err, "E2", name)?;
         return Ok(false);
     }
     let body = read_file(rt, path.as_str())?;

@@ -1,6 +1,6 @@
 //! The program's words.
 
-use crate::stop::{DONE, NO_MEMORY, Stop, USAGE, print};
+use crate::stop::{DONE, NO_MEMORY, USAGE, print, tell_stop};
 use crate::stored::{export, init, take};
 use clap::error::ErrorKind;
 use clap::{Arg, ArgMatches, Command, Error};
@@ -56,7 +56,7 @@ pub fn run_words<O: Write, E: Write>(
     err: &mut E,
 ) -> u8 {
     let Ok(named) = with_name(rt.alloc(), words) else {
-        return stopped(rt, NO_MEMORY, err);
+        return tell_stop(rt, err, &NO_MEMORY);
     };
     match task_in(rt.alloc(), &named) {
         Ok(Some(task)) => run(rt, task, out, err),
@@ -84,25 +84,17 @@ fn run<O: Write, E: Write>(rt: &HostRuntime, task: Task<'_>, out: &mut O, err: &
     };
     match done {
         Ok(status) => status,
-        Err(stop) => stopped(rt, stop, err),
+        Err(stop) => tell_stop(rt, err, &stop),
     }
-}
-
-// Tells what the program stops for.
-fn stopped<E: Write>(rt: &HostRuntime, stop: Stop, err: &mut E) -> u8 {
-    if let Ok(line) = format!(in rt.alloc(); "{stop}\n") {
-        let _ = err.write_all(line.as_bytes());
-    }
-    stop.status()
 }
 
 // Tells the help that was asked for, or what is wrong with the words.
 fn told<O: Write, E: Write>(rt: &HostRuntime, error: &Error, out: &mut O, err: &mut E) -> u8 {
     if error.kind() == ErrorKind::OutOfMemory {
-        return stopped(rt, NO_MEMORY, err);
+        return tell_stop(rt, err, &NO_MEMORY);
     }
     let Ok(text) = format!(in rt.alloc(); "{error}") else {
-        return stopped(rt, NO_MEMORY, err);
+        return tell_stop(rt, err, &NO_MEMORY);
     };
     if error.use_stderr() {
         let _ = err.write_all(text.as_bytes());
@@ -110,7 +102,7 @@ fn told<O: Write, E: Write>(rt: &HostRuntime, error: &Error, out: &mut O, err: &
     }
     match print(rt, out, text.as_bytes()) {
         Ok(()) => DONE,
-        Err(stop) => stopped(rt, stop, err),
+        Err(stop) => tell_stop(rt, err, &stop),
     }
 }
 

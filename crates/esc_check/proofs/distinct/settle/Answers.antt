@@ -5,7 +5,8 @@ use Rattle.std.proofs.lemmas.List.Filters.{dedup_is}
 use Rattle.std.proofs.lemmas.List.Kept.{IsStrictlySortedBy-dedup, Contains-dedup, Contains-from_dedup}
 use Rattle.std.proofs.lemmas.List.Sorted.{IsPermutation-sym, Contains-permutation}
 use Rattle.esc_check.specs.FindingValue.{FindingValue, finding_cmp, finding_eq}
-use Rattle.esc_check.specs.FindingOrder.{finding_total, finding_equiv, exact_finding_eq}
+use Rattle.esc_check.specs.FindingOrder.{finding_total, finding_equiv}
+use Rattle.esc_check.proofs.Ties.{exact_finding_eq}
 use Rattle.esc_check.proofs.distinct.settle.Goals as goal
 
 pub returns-clause-ordered : goal.returns-clause-ordered

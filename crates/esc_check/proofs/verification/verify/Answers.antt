@@ -2,6 +2,7 @@ use Rattle.std.proofs.Common.{◌≡◌, ◌∙◌, ap, w64, to_z, of_z}
 use Rattle.std.proofs.lemmas.Int.{to_z-of_z}
 use Rattle.esc_check.specs.Findings.{printed}
 use Rattle.esc_check.proofs.FindingLaws.{verified}
+use Rattle.esc_check.proofs.ListingLaws.{in_order}
 use Rattle.esc_check.proofs.verification.verify.Goals as goal
 
 pub returns-clause-each : goal.returns-clause-each
@@ -10,3 +11,7 @@ returns-clause-each c =
     let limit = c.in_ok-limit.ensures in
     let objects = c.in_ok-check_objects.ensures in
     verified _ c.args.watermark _ _ _ _ _ _ _ objects.ordered (limit.moment ∙ back) (limit.text ∙ ap printed back) c.new-found.ensures.items objects.added c.in_ok-check_counts.ensures c.settle.ensures.same
+
+pub returns-clause-ordered : goal.returns-clause-ordered
+returns-clause-ordered c =
+    in_order c.args.t.now.entries c.args.watermark c.args.counts.now.entries c.settle.result.items c.in_ok-check_objects.ensures.ordered (returns-clause-each c) c.settle.ensures.ordered

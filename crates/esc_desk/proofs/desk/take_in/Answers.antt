@@ -40,3 +40,6 @@ returns-clause-answered g c = λ clean m l k stood stands are_held none.
           ∙ ap Some (sym (c.in_ok-reply.ensures ∙ ap (λ (x : List MRow). reply_kept x c.in_ok-next.next receipt) (c.rows.ensures.rows ∙ listed2) ∙ ap₂ (λ (n : ℕ) (r : ReceiptValue). reply_kept m n r) (sym count) (new_receipt m l a k found held c.in_ok-next.next receipt is)));
       idle = λ same. c.in_ok-work.ensures.idle (holds_nothing_new m l a k found held c.in_ok-next.next receipt is same);
     }
+
+pub returns-clause-room : goal.returns-clause-room
+returns-clause-room g c = λ clean k stood. omega (arith, c.in_ok-next.ensures.next (c.in_ok-work.ensures.honest clean) k stood, c.in_ok-next.ensures.room)

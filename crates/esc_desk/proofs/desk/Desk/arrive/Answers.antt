@@ -1,10 +1,10 @@
-use Rattle.std.proofs.Common.{refl, ◌≡◌, Some, None, List, [], ◌∷◌, ◌++◌, ℕ, sym, ap, ap₂, ◌∙◌}
+use Rattle.std.proofs.Common.{refl, ◌≡◌, ◌<◌, Some, None, List, [], ◌∷◌, ◌++◌, ℕ, length, sym, ap, ap₂, subst, ◌∙◌}
 use Rattle.std.proofs.lemmas.Option.{IfSome_then}
-use Rattle.std.proofs.lemmas.Result.{IfOk-weaker}
+use Rattle.std.proofs.lemmas.Result.{IfOk-weaker, on_ok_weaker}
 use Rattle.sha2.specs.Sha256.{sha256}
 use Rattle.esc_tables.specs.Reading.{reading}
 use Rattle.esc_manifest.specs.declared.row.MRow.{MRow}
-use Rattle.esc_store.specs.ReplyValue.{reply_alike}
+use Rattle.esc_store.specs.ReplyValue.{ReceiptValue, reply_alike}
 use Rattle.esc_desk.specs.ArrivalValue.{ArrivalValue}
 use Rattle.esc_desk.specs.Stands.{held_body}
 use Rattle.esc_desk.proofs.OneArrival.{repeated, repeated_reply}
@@ -79,3 +79,19 @@ returns-in-None-clause-repeated g c = λ clean m l served r told.
     let none : reply_alike m 1 number (sha256 c.args.body.now) serves.kept.receipts ≡ None =
     sym (c.in_ok-reply.ensures.found honest serves.kept serves.stands ∙ ap₂ (λ (x : List MRow) (d : List ℕ). reply_alike x 1 number d serves.kept.receipts) stood.listed c.digest-digest.ensures) ∙ c.in-None.is in
     absurd (no_answer (sym none ∙ ap (reply_alike m 1 number (sha256 c.args.body.now)) stood.receipts ∙ told))
+
+pub returns-in-Some-clause-room : goal.returns-in-Some-clause-room
+returns-in-Some-clause-room g c = λ clean m l served none.
+    let serves = served.serves in
+    let stood = serves.stands_for in
+    let number = c.args.number.now in
+    let digest = sha256 c.args.body.now in
+    let there : reply_alike m 1 number digest serves.kept.receipts ≡ Some c.in-Some.reply =
+    sym (c.in_ok-reply.ensures.found clean serves.kept serves.stands ∙ ap₂ (λ (x : List MRow) (d : List ℕ). reply_alike x 1 number d serves.kept.receipts) stood.listed c.digest-digest.ensures) ∙ c.in-Some.is in
+    absurd (no_answer (sym none ∙ ap (reply_alike m 1 number digest) (sym stood.receipts) ∙ there))
+
+pub returns-in-None-clause-room : goal.returns-in-None-clause-room
+returns-in-None-clause-room g c = λ clean m l served none.
+    let serves = served.serves in
+    let few = c.take_new.ensures.room clean serves.kept (c.in_ok-reply.ensures.same.stands serves.kept serves.stands) in
+    on_ok_weaker c.take_new.result (λ room. subst (λ (rs : List ReceiptValue). length rs < 1_000_000_000) serves.stands_for.receipts room) few

@@ -10,3 +10,6 @@ returns-clause-answered g c = λ clean m l k stood stands held none.
       works = taken.kept.works;
       idle = taken.idle;
     }
+
+pub returns-clause-room : goal.returns-clause-room
+returns-clause-room g c = λ clean k stood. c.in_ok-taken.ensures.room clean k (c.in_ok-held.ensures.same.stands k stood)

@@ -1,0 +1,108 @@
+#!/usr/bin/env python3
+"""refuse.py [--most N] [TESTS ..]: refuses each allocation in turn, and looks for an answer that changes in place of the error.
+
+Over the program, on the second sample release: `init`, `take` and `export` have to say S2 with status 3, and the folder taken
+again, with all memory, has to give the receipts and exports of an undisturbed run. Over each program of TESTS (as
+`crates/esc_tables/out/esc_tables_tests`, which `rt test` leaves there): a test has to pass or to meet want of memory. Of more
+than N allocations (1,000) every k-th is refused. It needs gcc. The last line is `refused N, wrong M`."""
+import argparse, os, shutil, subprocess, sys, tempfile
+
+HERE = os.path.dirname(os.path.abspath(__file__))
+TOP = os.path.dirname(HERE)
+KINDS = ('registrar', 'contact', 'host', 'domain', 'idn', 'nndn')
+arguments = argparse.ArgumentParser(description=__doc__)
+arguments.add_argument('--most', type=int, default=1000)
+arguments.add_argument('--restore', default=os.path.join(TOP, 'crates', 'restore', 'out', 'restore'))
+arguments.add_argument('tests', nargs='*')
+given = arguments.parse_args()
+work = tempfile.mkdtemp(prefix='refuse-')
+library = os.path.join(work, 'refuse.so')
+release = os.path.join(TOP, 'samples', 'release')
+refused, wrong = 0, []
+
+
+def run(*words, at=None, count=None):
+    settings = dict(os.environ)
+    if at or count:
+        settings['LD_PRELOAD'] = library
+    if at:
+        settings['REFUSE_AT'] = str(at)
+    if count:
+        settings['REFUSE_COUNT'] = count
+    return subprocess.run(words, env=settings, capture_output=True, text=True, errors='replace')
+
+
+def each(*words, before=lambda: None):
+    """Runs the words once for each allocation, which is refused; gives its number and what the run said."""
+    global refused
+    before()
+    told = os.path.join(work, 'count')
+    run(*words, count=told)
+    allocations = int(open(told).read())
+    for at in range(1, allocations + 1, max(1, allocations // given.most)):
+        before()
+        refused += 1
+        yield at, run(*words, at=at)
+
+
+def path(name):
+    return os.path.join(work, name)
+
+
+def copy(old, new):
+    for end in ('', '-wal'):
+        if os.path.exists(path(new) + end):
+            os.remove(path(new) + end)
+        if old and os.path.exists(path(old) + end):
+            shutil.copy(path(old) + end, path(new) + end)
+
+
+def exports(store):
+    return [run(given.restore, 'export', '--store', path(store), kind).stdout for kind in KINDS]
+
+
+def over_the_program():
+    deposits = os.path.join(release, 'deposits')
+    init = (given.restore, 'init', '--manifest', os.path.join(release, 'manifest.csv'), '--store')
+    take = (given.restore, 'take', '--store', path('store'), deposits)
+    run(*init, path('fresh'))
+    copy('fresh', 'store')
+    whole = run(*take).stdout
+    copy('store', 'taken')
+    tables = exports('store')
+    for at, said in each(*init, path('new'), before=lambda: copy(None, 'new')):
+        again = run(*init, path('new'))
+        if (said.returncode, said.stderr) != (3, 'S2\n') or (again.returncode, again.stdout) != (0, 'listed 7\n'):
+            wrong.append(('init', at, said.returncode, said.stderr, again.stderr))
+    for at, said in each(*take, before=lambda: copy('fresh', 'store')):
+        if (said.returncode, said.stderr) != (3, 'S2\n') or not whole.startswith(said.stdout):
+            wrong.append(('take', at, said.returncode, said.stderr))
+        if run(*take).stdout != whole or exports('store') != tables:
+            wrong.append(('take again', at))
+    for at, said in each(given.restore, 'export', '--store', path('taken'), 'domain'):
+        if (said.returncode, said.stdout, said.stderr) != (3, '', 'S2\n'):
+            wrong.append(('export', at, said.returncode, said.stderr))
+
+
+def over_tests(program):
+    names = [line.split(': test')[0] for line in run(program, '--list').stdout.splitlines() if line.endswith(': test')]
+    for name in names:
+        for at, said in each(program, name):
+            memory = ('out of memory', 'AllocError', 'AllocFailed', 'NoMemory', 'S2', 'left: 255')
+            if said.returncode and not any(word in said.stderr + said.stdout for word in memory):
+                wrong.append((name, at, said.stderr))
+
+
+def main():
+    subprocess.run(['gcc', '-O2', '-shared', '-fPIC', '-o', library, os.path.join(HERE, 'refuse.c')], check=True)
+    over_the_program()
+    for program in given.tests:
+        over_tests(program)
+    for line in wrong:
+        print(*line)
+    print(f'refused {refused}, wrong {len(wrong)}')
+    shutil.rmtree(work)
+    sys.exit(bool(wrong))
+
+
+main()

@@ -1,0 +1,13 @@
+use Rattle.std.proofs.Common.{◌≡◌, ◌++◌, length, Some}
+use Rattle.std.specs.List.{All}
+use Rattle.std.specs.Map.{keys_of}
+use Rattle.esc_chain.specs.Gap.{IsGapLine, places_of}
+use Rattle.esc_chain.specs.Stops.{IsUnheldEntry}
+use Rattle.esc_chain.proofs.lines.gaps.Given as goal
+
+abbrev pub invariant-loop-place : goal.invariant-loop-place
+invariant-loop-place l = record {
+  told : All (IsGapLine l.m l.h) l.lines.items;
+  entries : All (λ e. IsUnheldEntry l.m l.h e.0 (length l.m) (Some e.1)) l.place-iterator;
+  in_order : places_of l.lines.items ++ keys_of l.place-iterator ≡ keys_of l.initial.place-iterator;
+}

@@ -1,0 +1,165 @@
+//! The lines of all listed places.
+
+ghost use Rattle.std.specs.Prelude.{◌≡◌, ◌<◌, length, option_map, IfSome, IfOk};
+ghost use Rattle.std.specs.List.{All, Contains};
+ghost use Rattle.std.specs.BTreeSet as sorted;
+ghost use Rattle.std.specs.Ordering.{nat_cmp};
+ghost use Rattle.esc_envelope.specs.declared.place.Place.{Place};
+ghost use Rattle.esc_chain.specs.Chain.{InRange};
+ghost use Rattle.esc_chain.specs.Walk.{AreBases};
+ghost use Rattle.esc_chain.specs.Gap.{IsListed, IsGapLine, AreRising, places_of};
+ghost use Rattle.esc_chain.specs.Stops.{AreWays, IsRowIn, HasText, line_by, state_by, blocker_by, blocker_of};
+
+use crate::bases::bases;
+use crate::gap::{Blocker, GapLine, Id, ListedPlace, State};
+use crate::links::links;
+use crate::revision::{in_order, resend_of, used_rows};
+use crate::stops::stops_of;
+use crate::unheld::{over, unheld_resends};
+use crate::{Base, Held, latest_chain};
+use esc_bundle::NoMemory;
+use esc_envelope::{DepositType, Header, Place};
+use esc_manifest::Manifest;
+use std::alloc::Global;
+use std::collections::{BTreeMap, BTreeSet};
+
+/// A line for each listed place, in the order of places: which revision of it counts, whether a chain ends there or the
+/// latest chain passes it, what stands in its way, and which revision of it is awaited (this project's profile).
+///
+/// Takes time about as the number of rows, whatever ways there are. The one error is want of memory.
+pub fn gaps(alloc: Global, m: &Manifest, h: &Held) -> Result<Vec<GapLine>, NoMemory>
+    requires { InRange m.now h.now }
+    ensures lines { IfOk result (λ lines. All (IsGapLine m.now h.now) lines.items) }
+    ensures all { IfOk result (λ lines. (p : Place) → IsListed m.now p → Contains (places_of lines.items) p) }
+    ensures order { IfOk result (λ lines. AreRising (places_of lines.items)) }
+{
+    let ways = ways_of(alloc, m, h)?;
+    let unheld = unheld_resends(alloc, m, h)?;
+    let mut lines = Vec::new(alloc);
+    for (place, greatest) in unheld.iter() {
+        let used = ways.used.get(place).copied();
+        let line = line_of(alloc, m, &ways, *place, used, *greatest)?;
+        lines.push(line)?;
+    }
+    Ok(lines)
+}
+
+// What lines are told by.
+#[derive(Drop)]
+pub(crate) struct Ways {
+    // The used row of each place that has one.
+    used: BTreeMap<Place, usize>,
+    // What each row builds on.
+    bases: Vec<Base>,
+    // Of each used row, at which row the way back stops; none where it leads to a Full.
+    stops: Vec<Option<usize>>,
+    // The rows of the latest chain.
+    chain: BTreeSet<usize>,
+}
+
+fn ways_of(alloc: Global, m: &Manifest, h: &Held) -> Result<Ways, NoMemory>
+    requires { InRange m.now h.now }
+    ensures { IfOk result (AreWays ⟦<Place as Ord>⟧.cmp m.now h.now) }
+{
+    let used = used_rows(alloc, m, h)?;
+    let order = in_order(alloc, &used)?;
+    let bases = bases(alloc, m)?;
+    let links = links(alloc, &bases, &used)?;
+    let stops = stops_of(alloc, &links, &order)?;
+    let chain = latest_chain(alloc, m, h)?;
+    let chain = set_of(alloc, &chain)?;
+    Ok(Ways {
+        used,
+        bases,
+        stops,
+        chain,
+    })
+}
+
+fn set_of(alloc: Global, rows: &[usize]) -> Result<BTreeSet<usize>, NoMemory>
+    ensures { IfOk result (sorted.IsFromIterResult nat_cmp rows.now) }
+{
+    Ok(rows.iter().copied().collect(alloc)?)
+}
+
+// The line of a place with this used row, or with none, of whose rows that aren't held the greatest resend is given.
+fn line_of(
+    alloc: Global,
+    m: &Manifest,
+    ways: &Ways,
+    place: Place,
+    used: Option<usize>,
+    greatest: Option<u32>,
+) -> Result<GapLine, NoMemory>
+    requires used { IsRowIn m.now ways.now used }
+    requires bases { AreBases m.now (length m.now) ways.now.bases.items }
+    ensures { IfOk result (λ line. line ≡ line_by m.now ways.now place used greatest) }
+{
+    let Some(row) = used else {
+        return Ok(GapLine {
+            place,
+            used: None,
+            state: State::Missing,
+            blocker: None,
+            awaited: greatest,
+        });
+    };
+    let stop = ways.stops.get(row).copied().unwrap_or(None);
+    let state = state_by(ways.chain.contains(&row), stop);
+    let resend = resend_of(m.rows(), row);
+    let blocker = blocker_if(alloc, m, &ways.bases, stop)?;
+    Ok(GapLine {
+        place,
+        used: Some(resend),
+        state,
+        blocker,
+        awaited: over(greatest, resend),
+    })
+}
+
+fn state_by(in_chain: bool, stop: Option<usize>) -> State
+    ensures { result ≡ state_by in_chain stop }
+{
+    match stop {
+        _ if in_chain => State::Chain,
+        Some(_) => State::Blocked,
+        None => State::Standing,
+    }
+}
+
+// What stands in the way where the way back stops, if it does.
+fn blocker_if(
+    alloc: Global,
+    m: &Manifest,
+    bases: &[Base],
+    stop: Option<usize>,
+) -> Result<Option<Blocker>, NoMemory>
+    requires row { IfSome stop (λ s. s < length m.now) }
+    requires bases { AreBases m.now (length m.now) bases.now }
+    ensures { IfOk result (λ blocker. blocker ≡ option_map (blocker_of m.now bases.now) stop) }
+{
+    match stop {
+        Some(row) => {
+            let header = &m.rows()[row].header;
+            Ok(Some(blocker_by(alloc, header, bases[row])?))
+        }
+        None => Ok(None),
+    }
+}
+
+// What stands in the way of a row with a base that has no used row.
+fn blocker_by(alloc: Global, header: &Header, base: Base) -> Result<Blocker, NoMemory>
+    requires { HasText base }
+    ensures { IfOk result (λ blocker. blocker ≡ blocker_by header.now base) }
+{
+    if let Base::At(place) = base {
+        return Ok(Blocker::NotHeld(ListedPlace::new(alloc, place)?));
+    }
+    match &header.prev {
+        Some(id) if header.place.kind == DepositType::Diff => {
+            let text = String::from_str(alloc, id.as_str())?;
+            Ok(Blocker::NotListed(Id::new(text)))
+        }
+        _ => Ok(Blocker::NoEarlierFull),
+    }
+}
