@@ -12,3 +12,4 @@ pub mod StopRows
 pub mod PlaceLines
 pub mod UnheldRows
 pub mod LineList
+pub mod OneLine

@@ -31,7 +31,7 @@ latest_same m h ok range (r ∷ c) (q ∷ d) a b =
     λ i. e i ∷ rest i
 
 -- sets of the same rows are one
-same_rows : (h g : Rows) → ((r : ℕ) → IsHeld h r ↔ IsHeld g r) → h ≡ g
+pub same_rows : (h g : Rows) → ((r : ℕ) → IsHeld h r ↔ IsHeld g r) → h ≡ g
 same_rows h g same = set.same_set nat_cmp_total set.nat_cmp-IsAntisymmetric h g (λ r. same_test _ _ (same r))
   where
     same_test : (a b : Bool) → IsTrue a ↔ IsTrue b → a ≡ b

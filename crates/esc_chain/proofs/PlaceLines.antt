@@ -71,7 +71,7 @@ latest_back m h [] latest k below = absurd (omega arith)
 latest_back m h (e ∷ rest) latest k below = member_back m h e rest latest.0.0 latest.0.1 k below
 
 -- the same from its start on
-member : (m : List MRow) (h : Rows) (c : List ℕ) → IsLatestChain m h c → (k : ℕ) → k < length c → IsUsed m h (slice_index c k) × ((rest : List ℕ) × LeadsBack m h (slice_index c k) rest)
+pub member : (m : List MRow) (h : Rows) (c : List ℕ) → IsLatestChain m h c → (k : ℕ) → k < length c → IsUsed m h (slice_index c k) × ((rest : List ℕ) × LeadsBack m h (slice_index c k) rest)
 member m h c latest k below =
     let many : length (reverse c) ≡ length c = length-reverse c in
     let within : k < length (reverse c) = omega (arith, many, below) in

@@ -1,6 +1,6 @@
 -- What is told of a listed place (this project's profile).
 use Rattle.std.specs.Prelude.{◌≡◌, ℕ, ◌<◌, ◌≤◌, List, [], ◌∷◌, length, slice_index, Option, Some, None}
-use Rattle.std.specs.List.{Contains}
+use Rattle.std.specs.List.{All, Contains}
 use Rattle.esc_envelope.specs.declared.place.DepositType.TheVariants.{Diff, Incr}
 use Rattle.esc_envelope.specs.declared.place.Place.{Place}
 use Rattle.esc_envelope.specs.Place.{IsBefore}
@@ -97,3 +97,9 @@ places_of (line ∷ lines) = line.place ∷ places_of lines
 abbrev pub AreRising : List Place → Type 0
 AreRising [] = Unit {0}
 AreRising (p ∷ rest) = ((q : Place) → Contains rest q → IsBefore p q) × AreRising rest
+
+-- a line for each listed place, in the order of places
+pub record AreGapLines (m : List MRow) (h : Rows) (lines : List GapLine) : Type 0 where
+  pub told : All (IsGapLine m h) lines
+  pub all : (p : Place) → IsListed m p → Contains (places_of lines) p
+  pub rising : AreRising (places_of lines)

@@ -1,6 +1,6 @@
-//! What follows from the definition of the latest chain alone.
+//! What follows from the definitions of the latest chain and of the lines on gaps alone.
 
-ghost use Rattle.esc_chain.specs.Laws.{OneLatestChain, LatestChainsAreHeldRows};
+ghost use Rattle.esc_chain.specs.Laws.{OneLatestChain, LatestChainsAreHeldRows, OneListOfLines};
 
 /// The latest chain of a manifest is one, and depends on which rows are held and on nothing else. There is nothing
 /// to run: a caller calls it for what it ensures.
@@ -12,4 +12,10 @@ pub fn latest_chain_is_one()
 /// caller calls it for what it ensures.
 pub fn latest_chain_rows_are_held()
     ensures { LatestChainsAreHeldRows }
+{}
+
+/// The lines on gaps of a manifest are one list, and depend on which rows are held and on nothing else. There is nothing
+/// to run: a caller calls it for what it ensures.
+pub fn gap_lines_are_one()
+    ensures { OneListOfLines }
 {}

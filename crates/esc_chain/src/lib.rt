@@ -23,8 +23,8 @@
 //! the manifest: `specs/Base` has bases, `specs/Chain` has used rows and chains, `specs/Gap` has the lines. The one error
 //! is want of memory, and after it nothing has changed. `base_of` and `used` take no memory.
 //!
-//! Two laws without a body hand on what follows from the definitions alone: [`latest_chain_is_one`] and
-//! [`latest_chain_rows_are_held`].
+//! Three laws without a body hand on what follows from the definitions alone: [`latest_chain_is_one`],
+//! [`latest_chain_rows_are_held`] and [`gap_lines_are_one`].
 #![tactic(auto)]
 
 mod base;
@@ -45,6 +45,6 @@ pub use base::{Base, base_of};
 pub use gap::{Blocker, GapLine, Id, ListedPlace, State};
 pub use held::Held;
 pub use latest::latest_chain;
-pub use laws::{latest_chain_is_one, latest_chain_rows_are_held};
+pub use laws::{gap_lines_are_one, latest_chain_is_one, latest_chain_rows_are_held};
 pub use lines::gaps;
 pub use revision::used;

@@ -1,13 +1,11 @@
 //! The lines of all listed places.
 
 ghost use Rattle.std.specs.Prelude.{◌≡◌, ◌<◌, length, option_map, IfSome, IfOk};
-ghost use Rattle.std.specs.List.{All, Contains};
 ghost use Rattle.std.specs.BTreeSet as sorted;
 ghost use Rattle.std.specs.Ordering.{nat_cmp};
-ghost use Rattle.esc_envelope.specs.declared.place.Place.{Place};
 ghost use Rattle.esc_chain.specs.Chain.{InRange};
 ghost use Rattle.esc_chain.specs.Walk.{AreBases};
-ghost use Rattle.esc_chain.specs.Gap.{IsListed, IsGapLine, AreRising, places_of};
+ghost use Rattle.esc_chain.specs.Gap.{AreGapLines};
 ghost use Rattle.esc_chain.specs.Stops.{AreWays, IsRowIn, HasText, line_by, state_by, blocker_by, blocker_of};
 
 use crate::bases::bases;
@@ -29,9 +27,7 @@ use std::collections::{BTreeMap, BTreeSet};
 /// Takes time about as the number of rows, whatever ways there are. The one error is want of memory.
 pub fn gaps(alloc: Global, m: &Manifest, h: &Held) -> Result<Vec<GapLine>, NoMemory>
     requires { InRange m.now h.now }
-    ensures lines { IfOk result (λ lines. All (IsGapLine m.now h.now) lines.items) }
-    ensures all { IfOk result (λ lines. (p : Place) → IsListed m.now p → Contains (places_of lines.items) p) }
-    ensures order { IfOk result (λ lines. AreRising (places_of lines.items)) }
+    ensures { IfOk result (λ lines. AreGapLines m.now h.now lines.items) }
 {
     let ways = ways_of(alloc, m, h)?;
     let unheld = unheld_resends(alloc, m, h)?;

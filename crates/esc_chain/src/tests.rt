@@ -2,8 +2,8 @@ ghost use Rattle.std.specs.Prelude.{IfOk};
 ghost use Rattle.esc_chain.specs.Chain.{InRange};
 
 use crate::{
-    Base, Blocker, GapLine, Held, Id, ListedPlace, State, base_of, gaps, latest_chain,
-    latest_chain_is_one, latest_chain_rows_are_held, used,
+    Base, Blocker, GapLine, Held, Id, ListedPlace, State, base_of, gap_lines_are_one, gaps,
+    latest_chain, latest_chain_is_one, latest_chain_rows_are_held, used,
 };
 use esc_envelope::{DepositType, Header, Place, watermark_text};
 use esc_manifest::{MRow, Manifest, from_rows, read_manifest};
@@ -190,6 +190,7 @@ fn held_rows(rt: HostRuntime) -> Result<(), Fail> {
     assert_eq!(rt; held.contains(2), false);
     latest_chain_is_one();
     latest_chain_rows_are_held();
+    gap_lines_are_one();
     Ok(())
 }
 

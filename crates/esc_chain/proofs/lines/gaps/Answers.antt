@@ -59,16 +59,13 @@ loop-place-preserved c =
           ∙ places_more lines line p a (keys_of c.into_iter-place-iterator.result) c.loop-place.place-iterator c.next.new.self (ap (λ (l : GapLine). l.place) own ∙ line_place m ways p c.copied-used.result a) c.in-Some.ensures.steps known.in_order;
     }
 
-pub returns-clause-all : goal.returns-clause-all
-returns-clause-all c =
+pub returns : goal.returns
+returns c =
     let unheld = c.in_ok-unheld.unheld in
     let all : c.into_iter-place-iterator.result ≡ unheld.entries = search rules in
     let places : places_of c.loop-place.lines.items ≡ keys_of unheld.entries = sym (append-nil _) ∙ ap (λ (l : List (Place × Option ℕ)). places_of c.loop-place.lines.items ++ keys_of l) (sym c.in-None.ensures.steps.0) ∙ c.loop-place.invariant.in_order ∙ ap (λ (l : List (Place × Option ℕ)). keys_of l) all in
-    λ p listed. subst (λ (ps : List Place). Contains ps p) (sym places) (keys_all c.args.m.now c.args.h.now unheld c.iter-place-items.ensures.ordered c.in_ok-unheld.ensures p listed)
-
-pub returns-clause-order : goal.returns-clause-order
-returns-clause-order c =
-    let unheld = c.in_ok-unheld.unheld in
-    let all : c.into_iter-place-iterator.result ≡ unheld.entries = search rules in
-    let places : places_of c.loop-place.lines.items ≡ keys_of unheld.entries = sym (append-nil _) ∙ ap (λ (l : List (Place × Option ℕ)). places_of c.loop-place.lines.items ++ keys_of l) (sym c.in-None.ensures.steps.0) ∙ c.loop-place.invariant.in_order ∙ ap (λ (l : List (Place × Option ℕ)). keys_of l) all in
-    subst AreRising (sym places) (keys_rising unheld c.iter-place-items.ensures.ordered)
+    record {
+      told = c.loop-place.invariant.told;
+      all = λ p listed. subst (λ (ps : List Place). Contains ps p) (sym places) (keys_all c.args.m.now c.args.h.now unheld c.iter-place-items.ensures.ordered c.in_ok-unheld.ensures p listed);
+      rising = subst AreRising (sym places) (keys_rising unheld c.iter-place-items.ensures.ordered);
+    }
