@@ -1,0 +1,88 @@
+-- What answers a request, from its parts.
+use Rattle.std.proofs.Common.{◌≡◌, ℕ, ◌≤◌, ◌<◌, List, ◌++◌, length, take, drop, Bool, true, false, if◌then◌else◌, nat_le, refl, sym, ◌∙◌, ap, subst, inl, inr, ◌⊎◌, Option, Some, None, IfSome, arith}
+use Rattle.std.proofs.lemmas.Bool.Decides.{nat_tests}
+use Rattle.std.specs.Io.KnownBytes.{Consumes, prepend_known}
+use Rattle.sqlite_trees.specs.declared.store.Store.{Ghosts}
+use Rattle.httparse.specs.Grammar.{RequestHead}
+use Rattle.httparse.proofs.GrammarLemmas.{ReadsRequest-append}
+use Rattle.esc_store.specs.declared.fault.SFault.{SFault}
+use Rattle.esc_store.specs.declared.fault.SFault.TheVariants.{S2}
+use Rattle.esc_desk.specs.declared.desk.Desk.{Desk}
+use Rattle.esc_http.specs.declared.plan.Refusal.{Refusal}
+use Rattle.esc_http.specs.declared.plan.Refusal.TheVariants.{BadRequest}
+use Rattle.esc_http.specs.declared.plan.Plan.{Plan}
+use Rattle.esc_http.specs.declared.plan.Plan.TheVariants.{Refuse, Put, Get}
+use Rattle.esc_http.specs.Head.{HasHead, HasNoHead}
+use Rattle.esc_http.specs.Plans.{plan_of_head}
+use Rattle.esc_http.specs.Response.{out_of_memory, fault_response}
+use Rattle.esc_http.specs.Answering.{Request, refused, arrives, wants, with_body, Asks, IsAnswered, IsOrMemory, IsFault, text_or_memory}
+
+-- the text that was made, or that of want of memory
+pub text_is : {A : Type 0} (view : A → List ℕ) (expected : List ℕ) (o : Option A) → IfSome o (λ text. view text ≡ expected) → IsOrMemory expected (text_or_memory view o)
+text_is view expected None is = inr refl
+text_is view expected (Some text) is = inl is
+
+-- why the store refused, or want of memory
+pub fault_is : {A : Type 0} (view : A → List ℕ) (fault : SFault) (o : Option A) → IfSome o (λ text. view text ≡ fault_response fault) → IsFault (text_or_memory view o)
+fault_is view fault None is = (S2, refl)
+fault_is view fault (Some text) is = (fault, is)
+
+-- a head stays one, whatever follows
+longer : (front : List ℕ) (h : RequestHead) (rest more : List ℕ) → HasHead front h rest → HasHead (front ++ more) h (rest ++ more)
+longer front h rest more has = record { reads = ReadsRequest-append front h rest more has.reads; size = has.size; lines = has.lines }
+
+-- what the head at the front of what was read asks for is what the whole input asks for
+pub asked : (before after : Option (List ℕ)) (front : List ℕ) (n : ℕ) (h : RequestHead) (request : Request) → Consumes before after front → HasHead front h (drop n front)
+    → IfSome (prepend_known (drop n front) after) (λ rest. request ≡ with_body (plan_of_head h) rest) → IfSome before (λ input. Asks input request)
+asked None after front n h request took has is = tt
+asked (Some input) None front n h request took has is = absurd took
+asked (Some input) (Some rest) front n h request took has is =
+    inl (h, drop n front ++ rest, subst (λ (l : List ℕ). HasHead l h (drop n front ++ rest)) (sym took) (longer front h (drop n front) rest has), is)
+
+-- what holds of each input holds of what a reader has
+pub always : (o : Option (List ℕ)) (P : List ℕ → Type 0) → ((input : List ℕ) → P input) → IfSome o P
+always None P holds = tt
+always (Some input) P holds = holds input
+
+-- an input without a head is a bad request
+pub headless : (o : Option (List ℕ)) → IfSome o HasNoHead → IfSome o (λ input. Asks input (refused BadRequest))
+headless None none = tt
+headless (Some input) none = inr (none, refl)
+
+-- the request of a body that is whole
+pub whole_arrives : (o : Option (List ℕ)) (number body seen : List ℕ) (size : ℕ) → seen ≡ body → IfSome o (λ input. (size ≤ length input) × (body ≡ take size input))
+    → IfSome o (λ input. arrives (record { number = number; body = seen }) ≡ with_body (Put number size) input)
+whole_arrives None number body seen size same is = tt
+whole_arrives (Some input) number body seen size same (fits, is) =
+    let long : nat_le size (length input) ≡ true = grind (arith, nat_tests) in
+    rw long (ap (λ (b : List ℕ). arrives (record { number = number; body = b })) (same ∙ is))
+
+-- the request of a body that is cut
+pub cut_refused : (o : Option (List ℕ)) (number : List ℕ) (size : ℕ) → IfSome o (λ input. length input < size) → IfSome o (λ input. refused BadRequest ≡ with_body (Put number size) input)
+cut_refused None number size short = tt
+cut_refused (Some input) number size short =
+    let cut : nat_le size (length input) ≡ false = grind (arith, nat_tests) in
+    rw cut refl
+
+-- the same request of the same plan, with the bytes that were read before written in another way
+pub same_request : (o : Option (List ℕ)) (front tail : List ℕ) (plan other : Plan) (request : Request) → front ≡ tail → plan ≡ other
+    → IfSome (prepend_known front o) (λ rest. request ≡ with_body plan rest) → IfSome (prepend_known tail o) (λ rest. request ≡ with_body other rest)
+same_request o front tail plan other request same is holds =
+    subst (λ (p : Plan). IfSome (prepend_known tail o) (λ rest. request ≡ with_body p rest)) is
+    (subst (λ (l : List ℕ). IfSome (prepend_known l o) (λ rest. request ≡ with_body plan rest)) same holds)
+
+-- some request that an input may make of a plan
+pub some_request : (o : Option (List ℕ)) (plan : Plan) → (request : Request) × IfSome o (λ rest. request ≡ with_body plan rest)
+some_request None plan = (refused BadRequest, tt)
+some_request (Some rest) plan = (with_body plan rest, refl)
+
+module _ {S : Type 0} (g : Ghosts S) (desk : Desk S) where
+  -- want of memory answers each request
+  pub memory_answers : (request : Request) → IsAnswered g desk desk request out_of_memory
+  memory_answers (refused refusal) = (refl, inr refl)
+  memory_answers (arrives a) = inr (record { kept = λ m l serves. serves; told = (S2, refl) })
+  memory_answers (wants report) = (inl refl, inr (S2, refl))
+
+  -- so it does whatever the input is
+  pub memory_answers_some : (o : Option (List ℕ)) (plan : Plan) → (request : Request) × IfSome o (λ rest. request ≡ with_body plan rest) × IsAnswered g desk desk request out_of_memory
+  memory_answers_some o plan = let (request, is) = some_request o plan in (request, is, memory_answers request)

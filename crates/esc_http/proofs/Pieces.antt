@@ -1,0 +1,59 @@
+-- Texts that are written piece by piece.
+use Rattle.std.proofs.Common.{◌≡◌, ℕ, ◌+◌, ◌<◌, List, ◌∷◌, ◌++◌, length, get_or, drop, sym, ap, ◌∙◌, append_assoc, codes}
+use Rattle.std.specs.Fmt.{decimal}
+use Rattle.std.proofs.lemmas.List.{drop_more}
+use Rattle.esc_envelope.specs.declared.kind.Kind.{Kind}
+use Rattle.esc_envelope.specs.Kinds.{kind_name}
+use Rattle.esc_store.specs.ReplyValue.{ReplyValue}
+use Rattle.esc_check.specs.FindingValue.{FindingValue}
+use Rattle.esc_check.specs.Lines.{line_text}
+use Rattle.esc_chain.specs.declared.gap.GapLine.{GapLine}
+use Rattle.esc_http.specs.GapsText.{gap_line, gap_lines_text}
+use Rattle.esc_http.specs.LinksText.{finding_line, findings_text}
+use Rattle.esc_http.specs.Response.{crlf, response_head}
+use Rattle.esc_http.specs.ReceiptsText.{receipt_line, replies_text}
+use Rattle.esc_http.specs.StatusText.{number_line, objects_text}
+
+-- the first piece of what was left has been written
+pub written : (old new whole left piece rest : List ℕ) → left ≡ piece ++ rest → old ++ left ≡ whole → new ≡ old ++ piece → new ++ rest ≡ whole
+written old new whole left piece rest parts known wrote =
+    ap (λ (text : List ℕ). text ++ rest) wrote ∙ append_assoc old piece rest ∙ ap (λ (text : List ℕ). old ++ text) (sym parts) ∙ known
+
+-- the line of the first reply that is left
+pub replies_more : (replies : List ReplyValue) (i : ℕ) (reply : ReplyValue) → i < length replies → reply ≡ get_or replies i reply
+    → replies_text (drop i replies) ≡ line_text (receipt_line reply) ++ replies_text (drop (i + 1) replies)
+replies_more replies i reply within is =
+    ap replies_text (drop_more replies i reply within ∙ ap (λ (r : ReplyValue). r ∷ drop (i + 1) replies) (sym is))
+
+-- the line of the first finding that is left
+pub findings_more : (found : List FindingValue) (i : ℕ) (finding : FindingValue) → i < length found → finding ≡ get_or found i finding
+    → findings_text (drop i found) ≡ line_text (finding_line finding) ++ findings_text (drop (i + 1) found)
+findings_more found i finding within is =
+    ap findings_text (drop_more found i finding within ∙ ap (λ (f : FindingValue). f ∷ drop (i + 1) found) (sym is))
+
+-- the line of the first place that is left
+pub gap_lines_more : (gaps : List GapLine) (i : ℕ) (gap : GapLine) → i < length gaps → gap ≡ get_or gaps i gap
+    → gap_lines_text (drop i gaps) ≡ line_text (gap_line gap) ++ gap_lines_text (drop (i + 1) gaps)
+gap_lines_more gaps i gap within is =
+    ap gap_lines_text (drop_more gaps i gap within ∙ ap (λ (l : GapLine). l ∷ drop (i + 1) gaps) (sym is))
+
+-- the line of the first kind that is left
+pub objects_more : (counts left : List (Kind × ℕ)) (kind : Kind) (n : ℕ) (name : List ℕ) → counts ≡ (kind, n) ∷ left → name ≡ kind_name kind
+    → objects_text counts ≡ number_line name n ++ objects_text left
+objects_more counts left kind n name is named =
+    ap objects_text is ∙ ap (λ (word : List ℕ). number_line word n ++ objects_text left) (sym named)
+
+-- the head of a response as one row of pieces
+abbrev pub head_pieces : List ℕ → List ℕ → List ℕ → ℕ → List ℕ
+head_pieces status media allow size =
+    codes "HTTP/1.1 " ++ status ++ codes "\r\nContent-Type: " ++ media ++ codes "\r\nContent-Length: " ++ decimal size ++ codes "\r\nConnection: close\r\n" ++ allow ++ codes "\r\n"
+
+in_lines : (version status end kind media size number connection allow : List ℕ)
+    → version ++ status ++ (end ++ kind) ++ media ++ (end ++ size) ++ number ++ (end ++ (connection ++ end)) ++ allow ++ end
+    ≡ (version ++ status ++ end) ++ (kind ++ media ++ end) ++ (size ++ number ++ end) ++ (connection ++ end) ++ allow ++ end
+in_lines version status end kind media size number connection allow = simp append_assoc
+
+-- the pieces are the lines
+pub head_lines : (status media allow : List ℕ) (size : ℕ) → head_pieces status media allow size ≡ response_head status media allow size
+head_lines status media allow size =
+    in_lines (codes "HTTP/1.1 ") status crlf (codes "Content-Type: ") media (codes "Content-Length: ") (decimal size) (codes "Connection: close") allow

@@ -1,0 +1,21 @@
+use Rattle.std.proofs.Common.{refl}
+use Rattle.esc_http.specs.declared.plan.Plan.TheVariants.{Put}
+use Rattle.esc_http.specs.declared.plan.Refusal.TheVariants.{BadRequest}
+use Rattle.esc_http.specs.Answering.{arrives, refused}
+use Rattle.esc_http.proofs.AnswerLemmas.{text_is, whole_arrives, cut_refused, memory_answers_some}
+use Rattle.esc_http.proofs.answer.answer_put.Goals as goal
+
+pub returns-in-Whole-clause-answers : goal.returns-in-Whole-clause-answers
+returns-in-Whole-clause-answers g c =
+    let body = rw c.in-Whole.is at c.in_ok-body.ensures.body in
+    let number = c.args.number.now in
+    let seen = c.deref.result.now in
+    (arrives (record { number = number; body = seen }), whole_arrives _ number _ seen c.args.size c.deref.ensures.value body, c.answer_arrival.ensures.answers)
+
+pub returns-in-Cut-clause-answers : goal.returns-in-Cut-clause-answers
+returns-in-Cut-clause-answers g c =
+    let body = rw c.in-Cut.is at c.in_ok-body.ensures.body in
+    (refused BadRequest, cut_refused _ c.args.number.now c.args.size body, (refl, text_is _ _ c.refusal_response.result c.refusal_response.ensures))
+
+pub returns-in-NoMemory-clause-answers : goal.returns-in-NoMemory-clause-answers
+returns-in-NoMemory-clause-answers g c = memory_answers_some g.S.Store c.args.desk.now _ (Put c.args.number.now c.args.size)

@@ -1,0 +1,17 @@
+pub mod Answering
+pub mod Body
+pub mod BodyLength
+pub mod GapsText
+pub mod Head
+pub mod LinksText
+pub mod Plans
+pub mod ReceiptsText
+pub mod ReplyText
+pub mod Reports
+pub mod Response
+pub mod Route
+pub mod Router
+pub mod Seen
+pub mod Sent
+pub mod StatusText
+pub mod Words

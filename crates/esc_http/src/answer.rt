@@ -1,0 +1,145 @@
+//! What answers a request. Each answer is the text of the response, or `None` for want of memory.
+
+ghost use Rattle.std.specs.Prelude.{◌≡◌, ◌≤◌, length, take, drop, IfOk, IfSome, IsTrue, OnErr};
+ghost use Rattle.std.specs.Io.KnownBytes.{prepend_known};
+ghost use Rattle.httparse.specs.Grammar.{RequestHead};
+ghost use Rattle.httparse.specs.Spans.{IsRequestAt, IsRequestWithin};
+ghost use Rattle.esc_store.specs.Standing.{IsHonest};
+ghost use Rattle.esc_http.specs.declared.plan.Plan.TheVariants.{Put};
+ghost use Rattle.esc_http.specs.Head.{ShowsHead};
+ghost use Rattle.esc_http.specs.Plans.{plan_of_head};
+ghost use Rattle.esc_http.specs.Router.{rows};
+ghost use Rattle.esc_http.specs.Answering.{Request, arrives, wants, with_body, Asks, IsAnswered, text_or_memory};
+
+use crate::body::{Body, read_body};
+use crate::head::{FoundHead, MOST_HEAD_BYTES, MOST_LINES, read_head};
+use crate::plan::{Plan, Refusal, plan_of_head};
+use crate::reports::Report;
+use crate::response::{fault_response, refusal_response, reply_response, report_response};
+use crate::route::{Target, router};
+use crate::streams::{ReadFailed, Source};
+use crate::telling::report;
+use esc_desk::{Desk, Number};
+use httparse::spans::{EMPTY_HEADER_SPAN, HeaderSpan};
+use matchit::Router;
+use sqlite::Alter;
+use std::alloc::Global;
+
+/// Reads a request and answers it. Nothing is read that the answer doesn't need.
+pub(crate) fn answer_input<S: Alter, R: Source>(
+    alloc: Global,
+    desk: &mut Desk<S>,
+    source: &mut R,
+) -> Result<Option<Vec<u8>>, ReadFailed>
+    ensures answers { IfOk result (λ text. (request : Request) × IfSome (R.remaining source.old) (λ input. Asks input request) × IsAnswered S.Store desk.old desk.new request (text_or_memory (λ text. text.items) text)) }
+    ensures honest { IsHonest S.Store desk.new.store → IsHonest S.Store desk.old.store }
+    ensures same { OnErr result (desk.new ≡ desk.old) }
+    ensures err { OnErr result (IsTrue (R.failed source.new)) }
+{
+    let mut buffer = [0u8; MOST_HEAD_BYTES];
+    let mut lines = [EMPTY_HEADER_SPAN; MOST_LINES];
+    match read_head(source, &mut buffer, &mut lines)? {
+        Some(found) => {
+            let bytes = &buffer[..found.filled];
+            answer_head(alloc, desk, source, bytes, &lines, &found)
+        }
+        None => Ok(refusal_response(alloc, Refusal::BadRequest)),
+    }
+}
+
+// Answers the request of the head at the front of these bytes, which were read.
+fn answer_head<S: Alter, R: Source>(
+    alloc: Global,
+    desk: &mut Desk<S>,
+    source: &mut R,
+    bytes: &[u8],
+    lines: &[HeaderSpan],
+    found: &FoundHead,
+) -> Result<Option<Vec<u8>>, ReadFailed>
+    requires within { IsRequestWithin bytes.now lines.now found.now.spans }
+    requires head { ShowsHead bytes.now lines.now found.now.spans }
+    ensures answers { IfOk result (λ text. (h : RequestHead) → IsRequestAt bytes.now lines.now found.now.spans h → (request : Request) × IfSome (prepend_known (drop found.now.spans.len bytes.now) (R.remaining source.old)) (λ rest. request ≡ with_body (plan_of_head h) rest) × IsAnswered S.Store desk.old desk.new request (text_or_memory (λ text. text.items) text)) }
+    ensures honest { IsHonest S.Store desk.new.store → IsHonest S.Store desk.old.store }
+    ensures same { OnErr result (desk.new ≡ desk.old) }
+    ensures err { OnErr result (IsTrue (R.failed source.new)) }
+{
+    match router(alloc) {
+        Ok(router) => answer_routed(alloc, desk, source, bytes, lines, found, &router),
+        Err(_) => Ok(None),
+    }
+}
+
+// The same, with the router.
+fn answer_routed<S: Alter, R: Source>(
+    alloc: Global,
+    desk: &mut Desk<S>,
+    source: &mut R,
+    bytes: &[u8],
+    lines: &[HeaderSpan],
+    found: &FoundHead,
+    router: &Router<Target>,
+) -> Result<Option<Vec<u8>>, ReadFailed>
+    requires within { IsRequestWithin bytes.now lines.now found.now.spans }
+    requires head { ShowsHead bytes.now lines.now found.now.spans }
+    requires router_is { router.now ≡ rows }
+    ensures answers { IfOk result (λ text. (h : RequestHead) → IsRequestAt bytes.now lines.now found.now.spans h → (request : Request) × IfSome (prepend_known (drop found.now.spans.len bytes.now) (R.remaining source.old)) (λ rest. request ≡ with_body (plan_of_head h) rest) × IsAnswered S.Store desk.old desk.new request (text_or_memory (λ text. text.items) text)) }
+    ensures honest { IsHonest S.Store desk.new.store → IsHonest S.Store desk.old.store }
+    ensures same { OnErr result (desk.new ≡ desk.old) }
+    ensures err { OnErr result (IsTrue (R.failed source.new)) }
+{
+    match plan_of_head(router, bytes, lines, found) {
+        Plan::Refuse(refusal) => Ok(refusal_response(alloc, refusal)),
+        Plan::Get(report) => Ok(answer_report(alloc, desk, report)),
+        Plan::Put(number, size) => {
+            let front = &bytes[found.spans.len..];
+            answer_put(alloc, desk, source, &number, front, size)
+        }
+    }
+}
+
+// Answers an arrival, of whose body these bytes, or their front, were read before.
+fn answer_put<S: Alter, R: Source>(
+    alloc: Global,
+    desk: &mut Desk<S>,
+    source: &mut R,
+    number: &Number<'_>,
+    front: &[u8],
+    size: u32,
+) -> Result<Option<Vec<u8>>, ReadFailed>
+    ensures answers { IfOk result (λ text. (request : Request) × IfSome (prepend_known front.now (R.remaining source.old)) (λ rest. request ≡ with_body (Put number.now size) rest) × IsAnswered S.Store desk.old desk.new request (text_or_memory (λ text. text.items) text)) }
+    ensures honest { IsHonest S.Store desk.new.store → IsHonest S.Store desk.old.store }
+    ensures same { OnErr result (desk.new ≡ desk.old) }
+    ensures err { OnErr result (IsTrue (R.failed source.new)) }
+{
+    match read_body(alloc, source, front, size as usize)? {
+        Body::Whole(body) => Ok(answer_arrival(alloc, desk, number, &body)),
+        Body::Cut => Ok(refusal_response(alloc, Refusal::BadRequest)),
+        Body::NoMemory => Ok(None),
+    }
+}
+
+fn answer_arrival<S: Alter>(
+    alloc: Global,
+    desk: &mut Desk<S>,
+    number: &Number<'_>,
+    body: &[u8],
+) -> Option<Vec<u8>>
+    ensures answers { IsAnswered S.Store desk.old desk.new (arrives (record { number = number.now; body = body.now })) (text_or_memory (λ text. text.items) result) }
+    ensures honest { IsHonest S.Store desk.new.store → IsHonest S.Store desk.old.store }
+{
+    match desk.arrive(alloc, number, body) {
+        Ok((reply, _)) => reply_response(alloc, &reply),
+        Err(fault) => fault_response(alloc, fault),
+    }
+}
+
+#[tactic(auto, using(crate::proofs::StoreFacts::was_honest))]
+fn answer_report<S: Alter>(alloc: Global, desk: &mut Desk<S>, what: Report) -> Option<Vec<u8>>
+    ensures answers { IsAnswered S.Store desk.old desk.new (wants what) (text_or_memory (λ text. text.items) result) }
+    ensures honest { IsHonest S.Store desk.new.store → IsHonest S.Store desk.old.store }
+{
+    match report(alloc, desk, what) {
+        Ok(text) => report_response(alloc, what, &text),
+        Err(fault) => fault_response(alloc, fault),
+    }
+}

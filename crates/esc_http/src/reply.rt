@@ -1,0 +1,83 @@
+//! Replies as JSON.
+
+ghost use Rattle.std.specs.Prelude.{◌≡◌, IfOk, string_bytes, option_map};
+ghost use Rattle.serde_json.specs.View.{view};
+ghost use Rattle.esc_http.specs.ReplyText.{text_or_null, number_or_null, copy_or_null, reply_data, reply_text};
+ghost use Rattle.esc_http.specs.Words.{fault_of};
+
+use crate::words::{copy_word, fault_of, verdict_word};
+use esc_bundle::NoMemory;
+use esc_desk::{Reply, Verdict};
+use serde_json::{Value, json};
+use std::alloc::{AllocError, Global};
+
+/// The JSON text of a reply: an object of eight members, where null is what isn't told.
+pub(crate) fn reply_text(alloc: Global, reply: &Reply) -> Result<String, NoMemory>
+    ensures { IfOk result (λ text. string_bytes text ≡ reply_text reply.now) }
+{
+    let value = reply_value(alloc, reply)?;
+    Ok(value.to_string(alloc)?)
+}
+
+fn reply_value(alloc: Global, reply: &Reply) -> Result<Value, AllocError>
+    ensures { IfOk result (λ value. view value ≡ reply_data reply.now) }
+{
+    let copy = copy_value(alloc, reply.again)?;
+    let fault = fault_value(alloc, reply.verdict)?;
+    let id = text_value(alloc, &reply.id)?;
+    let orphans = number_value(reply.orphans);
+    let resend = resend_value(reply.resend);
+    json!(in alloc; {
+        "copy": copy,
+        "fault": fault,
+        "id": id,
+        "number": reply.number.as_str(),
+        "orphans": orphans,
+        "receipt": reply.receipt,
+        "resend": resend,
+        "verdict": verdict_word(reply.verdict)
+    })
+}
+
+fn copy_value(alloc: Global, again: Option<bool>) -> Result<Value, AllocError>
+    ensures { IfOk result (λ value. view value ≡ copy_or_null again) }
+{
+    match again {
+        Some(again) => json!(in alloc; copy_word(again)),
+        None => Ok(Value::Null),
+    }
+}
+
+fn fault_value(alloc: Global, verdict: Verdict) -> Result<Value, AllocError>
+    ensures { IfOk result (λ value. view value ≡ text_or_null (fault_of verdict)) }
+{
+    let fault = fault_of(alloc, verdict)?;
+    text_value(alloc, &fault)
+}
+
+fn text_value(alloc: Global, text: &Option<String>) -> Result<Value, AllocError>
+    ensures { IfOk result (λ value. view value ≡ text_or_null (option_map string_bytes text.now)) }
+{
+    match text {
+        Some(text) => json!(in alloc; text.as_str()),
+        None => Ok(Value::Null),
+    }
+}
+
+fn number_value(number: Option<u64>) -> Value
+    ensures { view result ≡ number_or_null number }
+{
+    match number {
+        Some(number) => Value::from(number),
+        None => Value::Null,
+    }
+}
+
+fn resend_value(resend: Option<u32>) -> Value
+    ensures { view result ≡ number_or_null resend }
+{
+    match resend {
+        Some(resend) => Value::from(u64::from(resend)),
+        None => Value::Null,
+    }
+}

@@ -1,0 +1,14 @@
+//! Which reports there are.
+
+use esc_envelope::Kind;
+
+/// A report of a desk.
+#[derive(Clone, Copy, Debug, PartialEq, Eq)]
+pub enum Report {
+    Status,
+    Gaps,
+    Links,
+    Receipts,
+    /// All objects of a kind.
+    Export(Kind),
+}

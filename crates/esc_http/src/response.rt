@@ -1,0 +1,120 @@
+//! The texts of responses. Each function answers `None` for want of memory.
+
+ghost use Rattle.std.specs.Prelude.{◌≡◌, IfOk, IfSome, string_bytes};
+ghost use Rattle.esc_http.specs.Response.{response_head, response, refusal_response, fault_response, out_of_memory, reply_response, report_response};
+
+use crate::plan::Refusal;
+use crate::reply::reply_text;
+use crate::reports::Report;
+use esc_desk::{Reply, SFault, Verdict};
+use std::alloc::{AllocError, Global};
+
+/// The response to want of memory. Takes none.
+pub(crate) fn out_of_memory() -> &'static [u8]
+    ensures { result.now ≡ out_of_memory }
+{
+    b"HTTP/1.1 503 Service Unavailable\r\nContent-Type: text/plain\r\nContent-Length: 3\r\nConnection: close\r\n\r\nS2\n"
+}
+
+/// The response to a request that is refused.
+pub(crate) fn refusal_response(alloc: Global, refusal: Refusal) -> Option<Vec<u8>>
+    ensures { IfSome result (λ text. text.items ≡ refusal_response refusal) }
+{
+    match refusal {
+        Refusal::BadRequest => response(
+            alloc,
+            "400 Bad Request",
+            "text/plain",
+            "",
+            b"bad request\n",
+        ),
+        Refusal::NotFound => response(alloc, "404 Not Found", "text/plain", "", b"not found\n"),
+        Refusal::PutOnly => response(
+            alloc,
+            "405 Method Not Allowed",
+            "text/plain",
+            "Allow: PUT\r\n",
+            b"method not allowed\n",
+        ),
+        Refusal::GetOnly => response(
+            alloc,
+            "405 Method Not Allowed",
+            "text/plain",
+            "Allow: GET\r\n",
+            b"method not allowed\n",
+        ),
+        Refusal::BadNumber => response(alloc, "400 Bad Request", "text/plain", "", b"N1\n"),
+        Refusal::LengthRequired => response(
+            alloc,
+            "411 Length Required",
+            "text/plain",
+            "",
+            b"length required\n",
+        ),
+        Refusal::TooLarge => response(
+            alloc,
+            "413 Content Too Large",
+            "text/plain",
+            "",
+            b"too large\n",
+        ),
+    }
+}
+
+/// The response where the store refuses.
+pub(crate) fn fault_response(alloc: Global, fault: SFault) -> Option<Vec<u8>>
+    ensures { IfSome result (λ text. text.items ≡ fault_response fault) }
+{
+    let words: &[u8] = match fault {
+        SFault::S1 | SFault::S3 => b"S1\n",
+        SFault::S2 => b"S2\n",
+        SFault::S4 => b"S4\n",
+    };
+    response(alloc, "503 Service Unavailable", "text/plain", "", words)
+}
+
+/// The response to an arrival that was answered.
+pub(crate) fn reply_response(alloc: Global, reply: &Reply) -> Option<Vec<u8>>
+    ensures { IfSome result (λ text. text.items ≡ reply_response reply.now) }
+{
+    let text = reply_text(alloc, reply).ok()?;
+    let status = match reply.verdict {
+        Verdict::A1 => "200 OK",
+        Verdict::A2 | Verdict::A3(_) | Verdict::A4 => "422 Unprocessable Content",
+    };
+    response(alloc, status, "application/json", "", text.as_bytes())
+}
+
+/// The response with a report.
+pub(crate) fn report_response(alloc: Global, report: Report, text: &[u8]) -> Option<Vec<u8>>
+    ensures { IfSome result (λ whole. whole.items ≡ report_response report text.now) }
+{
+    let media = match report {
+        Report::Status => "text/plain",
+        Report::Gaps | Report::Links | Report::Receipts | Report::Export(_) => "text/csv",
+    };
+    response(alloc, "200 OK", media, "", text)
+}
+
+fn response(alloc: Global, status: &str, media: &str, allow: &str, body: &[u8]) -> Option<Vec<u8>>
+    ensures { IfSome result (λ text. text.items ≡ response status.now media.now allow.now body.now) }
+{
+    let head = response_head(alloc, status, media, allow, body.len()).ok()?;
+    let mut text = head.into_bytes();
+    text.extend_from_slice(body).ok()?;
+    Some(text)
+}
+
+fn response_head(
+    alloc: Global,
+    status: &str,
+    media: &str,
+    allow: &str,
+    size: usize,
+) -> Result<String, AllocError>
+    ensures { IfOk result (λ head. string_bytes head ≡ response_head status.now media.now allow.now size) }
+{
+    format!(in alloc;
+        "HTTP/1.1 {status}\r\nContent-Type: {media}\r\nContent-Length: {size}\r\nConnection: close\r\n{allow}\r\n"
+    )
+}

@@ -1,0 +1,81 @@
+//! The status report.
+
+ghost use Rattle.std.specs.Prelude.{◌≡◌, ◌++◌, ℕ, IfOk, OnOk, string_bytes, option_map};
+ghost use Rattle.std.specs.Fmt.{decimal};
+ghost use Rattle.esc_envelope.specs.Watermark.{watermark_text_of};
+ghost use Rattle.esc_http.specs.StatusText.{number_line, counts_text, end_text, end_line, objects_text, status_text};
+
+use esc_bundle::NoMemory;
+use esc_desk::{SFault, Status};
+use esc_envelope::{Kind, Place, watermark_text};
+use std::alloc::Global;
+use std::collections::BTreeMap;
+
+/// The status report: eleven lines. `S1` where the chain ends at a moment that has no text, as none of a manifest does.
+pub(crate) fn status_text(alloc: Global, status: &Status) -> Result<String, SFault>
+    ensures { IfOk result (λ text. string_bytes text ≡ status_text status.now) }
+{
+    let mut text = String::new(alloc);
+    push_counts(alloc, &mut text, status)?;
+    push_end(alloc, &mut text, status.end)?;
+    push_objects(alloc, &mut text, &status.objects)?;
+    Ok(text)
+}
+
+fn push_counts(alloc: Global, text: &mut String, status: &Status) -> Result<(), NoMemory>
+    ensures { OnOk result (string_bytes text.new ≡ string_bytes text.old ++ counts_text status.now) }
+{
+    push_number(alloc, text, "listed", status.listed)?;
+    push_number(alloc, text, "held", status.held)?;
+    push_number(alloc, text, "receipts", status.receipts)?;
+    push_number(alloc, text, "chain", status.chain)
+}
+
+fn push_number(alloc: Global, text: &mut String, name: &str, number: u64) -> Result<(), NoMemory>
+    ensures { OnOk result (string_bytes text.new ≡ string_bytes text.old ++ number_line name.now number) }
+{
+    let line = number_line(alloc, name, number)?;
+    text.push_str(line.as_str())?;
+    Ok(())
+}
+
+fn number_line(alloc: Global, name: &str, number: u64) -> Result<String, NoMemory>
+    ensures { IfOk result (λ line. string_bytes line ≡ number_line name.now number) }
+{
+    Ok(format!(in alloc; "{name} {number}\n")?)
+}
+
+fn push_end(alloc: Global, text: &mut String, end: Option<(Place, u32)>) -> Result<(), SFault>
+    ensures { OnOk result (string_bytes text.new ≡ string_bytes text.old ++ end_line end) }
+{
+    let Some((place, resend)) = end else {
+        text.push_str("end none\n")?;
+        return Ok(());
+    };
+    let line = end_text(alloc, place, resend)?;
+    text.push_str(line.as_str())?;
+    Ok(())
+}
+
+fn end_text(alloc: Global, place: Place, resend: u32) -> Result<String, SFault>
+    ensures { IfOk result (λ line. string_bytes line ≡ end_text place resend) }
+{
+    let Some(watermark) = watermark_text(alloc, place.watermark)? else {
+        return Err(SFault::S1);
+    };
+    let kind = place.kind.name();
+    Ok(format!(in alloc; "end {watermark} {kind} {resend}\n")?)
+}
+
+fn push_objects(
+    alloc: Global,
+    text: &mut String,
+    objects: &BTreeMap<Kind, u64>,
+) -> Result<(), NoMemory>
+    ensures { OnOk result (string_bytes text.new ≡ string_bytes text.old ++ objects_text objects.now.entries) }
+{
+    for (kind, count) in objects.iter() {
+        push_number(alloc, text, kind.name(), *count)?;
+    }
+    Ok(())
+}

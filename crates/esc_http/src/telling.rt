@@ -1,0 +1,126 @@
+//! The texts of reports.
+
+ghost use Rattle.std.specs.Prelude.{◌≡◌, List, IfOk};
+ghost use Rattle.std.specs.FinSet as set;
+ghost use Rattle.esc_manifest.specs.declared.row.MRow.{MRow};
+ghost use Rattle.esc_chain.specs.Chain.{InRange};
+ghost use Rattle.esc_store.specs.Standing.{IsHonest, IsAsBefore};
+ghost use Rattle.esc_desk.specs.ArrivalValue.{ArrivalValue};
+ghost use Rattle.esc_desk.specs.Serving.{Serves, DeskServes};
+ghost use Rattle.esc_http.specs.declared.reports.Report.TheVariants as what;
+ghost use Rattle.esc_http.specs.Reports.{AreFindings, IsReport};
+
+use crate::gaps::gaps_text;
+use crate::links::links_text;
+use crate::receipts::receipts_text;
+use crate::reports::Report;
+use crate::status::status_text;
+use esc_bundle::NoMemory;
+use esc_chain::{Held, gaps};
+use esc_check::{Finding, export_rows, verify};
+use esc_desk::{Desk, End, SFault};
+use esc_envelope::Kind;
+use esc_manifest::Manifest;
+use esc_tables::{Key, Object};
+use sqlite::Alter;
+use std::alloc::Global;
+use std::collections::BTreeMap;
+
+/// The text of a report, which the program prints too. `S1`, `S2`.
+pub fn report<S: Alter>(
+    alloc: Global,
+    desk: &mut Desk<S>,
+    report: Report,
+) -> Result<Vec<u8>, SFault>
+    ensures same { IsAsBefore S.Store desk.old.store desk.new.store }
+    ensures serves { (m : List MRow) (l : List ArrivalValue) → DeskServes S.Store desk.old m l → DeskServes S.Store desk.new m l }
+    ensures text { IsHonest S.Store desk.new.store → (m : List MRow) (l : List ArrivalValue) → Serves S.Store desk.old.store m l → IfOk result (λ text. IsReport m l report text.items) }
+{
+    match report {
+        Report::Status => report_status(alloc, desk),
+        Report::Gaps => report_gaps(alloc, desk),
+        Report::Links => report_links(alloc, desk),
+        Report::Receipts => report_receipts(alloc, desk),
+        Report::Export(kind) => report_export(alloc, desk, kind),
+    }
+}
+
+fn report_gaps<S: Alter>(alloc: Global, desk: &mut Desk<S>) -> Result<Vec<u8>, SFault>
+    ensures same { IsAsBefore S.Store desk.old.store desk.new.store }
+    ensures serves { (m : List MRow) (l : List ArrivalValue) → DeskServes S.Store desk.old m l → DeskServes S.Store desk.new m l }
+    ensures text { IsHonest S.Store desk.new.store → (m : List MRow) (l : List ArrivalValue) → Serves S.Store desk.old.store m l → IfOk result (λ text. IsReport m l what.Gaps text.items) }
+{
+    let rows = desk.held(alloc)?;
+    let manifest = desk.manifest();
+    let held = held_of(alloc, manifest, &rows)?;
+    let lines = gaps(alloc, manifest, &held)?;
+    gaps_text(alloc, &lines)
+}
+
+// The set of these rows. A stored row that no manifest has is a fault of the store.
+fn held_of(alloc: Global, manifest: &Manifest, rows: &[usize]) -> Result<Held, SFault>
+    ensures held { IfOk result (λ held. held ≡ set.from_list rows.now) }
+    ensures in_range { IfOk result (InRange manifest.now) }
+{
+    let mut held = Held::new(alloc);
+    for row in rows {
+        if *row >= manifest.rows().len() {
+            return Err(SFault::S1);
+        }
+        held.insert(manifest, *row)?;
+    }
+    Ok(held)
+}
+
+fn report_status<S: Alter>(alloc: Global, desk: &mut Desk<S>) -> Result<Vec<u8>, SFault>
+    ensures same { IsAsBefore S.Store desk.old.store desk.new.store }
+    ensures serves { (m : List MRow) (l : List ArrivalValue) → DeskServes S.Store desk.old m l → DeskServes S.Store desk.new m l }
+    ensures text { IsHonest S.Store desk.new.store → (m : List MRow) (l : List ArrivalValue) → Serves S.Store desk.old.store m l → IfOk result (λ text. IsReport m l what.Status text.items) }
+{
+    let status = desk.status(alloc)?;
+    Ok(status_text(alloc, &status)?.into_bytes())
+}
+
+#[tactic(auto, using(crate::proofs::StoreFacts::as_before_then))]
+fn report_links<S: Alter>(alloc: Global, desk: &mut Desk<S>) -> Result<Vec<u8>, SFault>
+    ensures same { IsAsBefore S.Store desk.old.store desk.new.store }
+    ensures serves { (m : List MRow) (l : List ArrivalValue) → DeskServes S.Store desk.old m l → DeskServes S.Store desk.new m l }
+    ensures text { IsHonest S.Store desk.new.store → (m : List MRow) (l : List ArrivalValue) → Serves S.Store desk.old.store m l → IfOk result (λ text. IsReport m l what.Links text.items) }
+{
+    let tables = desk.tables(alloc)?;
+    let end = desk.end(alloc)?;
+    let found = findings_at(alloc, &tables, &end)?;
+    Ok(links_text(alloc, &found)?)
+}
+
+// What is found in tables at the end of a chain.
+fn findings_at(
+    alloc: Global,
+    tables: &BTreeMap<Key, Object>,
+    end: &Option<End>,
+) -> Result<Vec<Finding>, NoMemory>
+    ensures { IfOk result (λ found. AreFindings tables.now.entries end.now found.items) }
+{
+    match end {
+        Some(end) => verify(alloc, tables, end.watermark, &end.counts),
+        None => Ok(Vec::new(alloc)),
+    }
+}
+
+fn report_receipts<S: Alter>(alloc: Global, desk: &mut Desk<S>) -> Result<Vec<u8>, SFault>
+    ensures same { IsAsBefore S.Store desk.old.store desk.new.store }
+    ensures serves { (m : List MRow) (l : List ArrivalValue) → DeskServes S.Store desk.old m l → DeskServes S.Store desk.new m l }
+    ensures text { IsHonest S.Store desk.new.store → (m : List MRow) (l : List ArrivalValue) → Serves S.Store desk.old.store m l → IfOk result (λ text. IsReport m l what.Receipts text.items) }
+{
+    let replies = desk.receipts(alloc)?;
+    Ok(receipts_text(alloc, &replies)?)
+}
+
+fn report_export<S: Alter>(alloc: Global, desk: &mut Desk<S>, kind: Kind) -> Result<Vec<u8>, SFault>
+    ensures same { IsAsBefore S.Store desk.old.store desk.new.store }
+    ensures serves { (m : List MRow) (l : List ArrivalValue) → DeskServes S.Store desk.old m l → DeskServes S.Store desk.new m l }
+    ensures text { IsHonest S.Store desk.new.store → (m : List MRow) (l : List ArrivalValue) → Serves S.Store desk.old.store m l → IfOk result (λ text. IsReport m l (what.Export kind) text.items) }
+{
+    let tables = desk.tables(alloc)?;
+    Ok(export_rows(alloc, &tables, kind)?)
+}
