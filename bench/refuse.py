@@ -1,8 +1,9 @@
 #!/usr/bin/env python3
-"""refuse.py [--most N] [TESTS ..]: refuses each allocation in turn, and looks for an answer that changes in place of the error.
+"""refuse.py [--most N] [TESTS ..]: refuses each allocation in turn, then each read and write of the database, and looks for an
+answer that changes in place of the error.
 
-Over the program, on the second sample release: `init`, `take` and `export` have to say S2 with status 3, and the folder taken
-again, with all memory, has to give the receipts and exports of an undisturbed run. Over each program of TESTS (as
+Over the program, on the second sample release: `init`, `take` and `export` have to say S2 (for the database S1) with status 3, and
+the folder taken again, undisturbed, has to give the receipts and exports of an undisturbed run. Over each program of TESTS (as
 `crates/esc_tables/out/esc_tables_tests`, which `rt test` leaves there): a test has to pass or to meet want of memory. Of more
 than N allocations (1,000) every k-th is refused. It needs gcc. The last line is `refused N, wrong M`."""
 import argparse, os, shutil, subprocess, sys, tempfile
@@ -21,10 +22,12 @@ release = os.path.join(TOP, 'samples', 'release')
 refused, wrong = 0, []
 
 
-def run(*words, at=None, count=None):
+def run(*words, at=None, count=None, disk=False):
     settings = dict(os.environ)
     if at or count:
         settings['LD_PRELOAD'] = library
+    if disk:
+        settings['REFUSE_DISK'] = '1'
     if at:
         settings['REFUSE_AT'] = str(at)
     if count:
@@ -32,17 +35,17 @@ def run(*words, at=None, count=None):
     return subprocess.run(words, env=settings, capture_output=True, text=True, errors='replace')
 
 
-def each(*words, before=lambda: None):
-    """Runs the words once for each allocation, which is refused; gives its number and what the run said."""
+def each(*words, before=lambda: None, disk=False):
+    """Runs the words once for each call, which is refused; gives its number and what the run said."""
     global refused
     before()
     told = os.path.join(work, 'count')
-    run(*words, count=told)
-    allocations = int(open(told).read())
-    for at in range(1, allocations + 1, max(1, allocations // given.most)):
+    run(*words, count=told, disk=disk)
+    calls = int(open(told).read())
+    for at in range(1, calls + 1, max(1, calls // given.most)):
         before()
         refused += 1
-        yield at, run(*words, at=at)
+        yield at, run(*words, at=at, disk=disk)
 
 
 def path(name):
@@ -61,7 +64,8 @@ def exports(store):
     return [run(given.restore, 'export', '--store', path(store), kind).stdout for kind in KINDS]
 
 
-def over_the_program():
+def over_the_program(disk, fault):
+    stopped = (3, f'{fault}\n')
     deposits = os.path.join(release, 'deposits')
     init = (given.restore, 'init', '--manifest', os.path.join(release, 'manifest.csv'), '--store')
     take = (given.restore, 'take', '--store', path('store'), deposits)
@@ -70,18 +74,21 @@ def over_the_program():
     whole = run(*take).stdout
     copy('store', 'taken')
     tables = exports('store')
-    for at, said in each(*init, path('new'), before=lambda: copy(None, 'new')):
+    for at, said in each(*init, path('new'), before=lambda: copy(None, 'new'), disk=disk):
         again = run(*init, path('new'))
-        if (said.returncode, said.stderr) != (3, 'S2\n') or (again.returncode, again.stdout) != (0, 'listed 7\n'):
-            wrong.append(('init', at, said.returncode, said.stderr, again.stderr))
-    for at, said in each(*take, before=lambda: copy('fresh', 'store')):
-        if (said.returncode, said.stderr) != (3, 'S2\n') or not whole.startswith(said.stdout):
-            wrong.append(('take', at, said.returncode, said.stderr))
+        made = said.returncode == 0 and (again.returncode, again.stderr) == (3, 'S3\n')
+        left = (said.returncode, said.stderr) == stopped and (again.returncode, again.stdout) == (0, 'listed 7\n')
+        if not made and not left:
+            wrong.append(('init', fault, at, said.returncode, said.stderr, again.stderr))
+    for at, said in each(*take, before=lambda: copy('fresh', 'store'), disk=disk):
+        done = said.returncode == 0 and said.stdout == whole
+        if not done and ((said.returncode, said.stderr) != stopped or not whole.startswith(said.stdout)):
+            wrong.append(('take', fault, at, said.returncode, said.stderr))
         if run(*take).stdout != whole or exports('store') != tables:
-            wrong.append(('take again', at))
-    for at, said in each(given.restore, 'export', '--store', path('taken'), 'domain'):
-        if (said.returncode, said.stdout, said.stderr) != (3, '', 'S2\n'):
-            wrong.append(('export', at, said.returncode, said.stderr))
+            wrong.append(('take again', fault, at))
+    for at, said in each(given.restore, 'export', '--store', path('taken'), 'domain', disk=disk):
+        if (said.returncode, said.stdout, said.stderr) != (3, '', f'{fault}\n'):
+            wrong.append(('export', fault, at, said.returncode, said.stderr))
 
 
 def over_tests(program):
@@ -94,8 +101,9 @@ def over_tests(program):
 
 
 def main():
-    subprocess.run(['gcc', '-O2', '-shared', '-fPIC', '-o', library, os.path.join(HERE, 'refuse.c')], check=True)
-    over_the_program()
+    subprocess.run(['gcc', '-O2', '-shared', '-fPIC', '-o', library, os.path.join(HERE, 'refuse.c'), '-ldl'], check=True)
+    over_the_program(False, 'S2')
+    over_the_program(True, 'S1')
     for program in given.tests:
         over_tests(program)
     for line in wrong:

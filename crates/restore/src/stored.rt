@@ -23,7 +23,8 @@ pub fn init<O: Write>(
     let line = format!(in rt.alloc(); "listed {listed}\n")?;
     let connection = open_file(rt, store)?;
     match Store::create(rt.alloc(), connection, &manifest) {
-        Ok(made) => close(made.into_connection())?,
+        // The store stands from here on, in the file or in its log, so `init` isn't refused any more.
+        Ok(made) => drop(made.into_connection().close()),
         Err((fault, connection)) => {
             let _ = connection.close();
             return Err(Stop::Store(fault));
