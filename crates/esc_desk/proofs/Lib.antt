@@ -7,6 +7,7 @@ pub mod Holding
 pub mod OneArrival
 pub mod PlanLemmas
 pub mod ReadLemmas
+pub mod Remembering
 pub mod RunLemmas
 pub mod Searches
 pub mod StoreFacts

@@ -1,6 +1,5 @@
 -- What a store answers that stands for a manifest and a list of arrivals, in the words of these.
-use Rattle.std.proofs.Common.{◌≡◌, ◌↔◌, ℕ, ◌-◌, List, [], ◌∷◌, length, map, Option, Some, None, IsSome, option_map, slice_get, refl, sym, ap, ap₂, subst, ◌∙◌}
-use Rattle.std.specs.List.{Contains}
+use Rattle.std.proofs.Common.{◌≡◌, ℕ, ◌-◌, List, [], ◌∷◌, length, map, Option, Some, None, option_map, slice_get, refl, sym, ap, ap₂, subst, ◌∙◌}
 use Rattle.std.proofs.lemmas.Option.{slice_get-map}
 use Rattle.std.proofs.lemmas.List.{length-map}
 use Rattle.sha2.specs.Sha256.{sha256}
@@ -17,6 +16,7 @@ use Rattle.esc_store.specs.ReplyValue.{ReceiptValue, replies_from}
 use Rattle.esc_desk.specs.declared.status.End.{End}
 use Rattle.esc_desk.specs.ArrivalValue.{ArrivalValue}
 use Rattle.esc_desk.specs.Stands.{deposit_of, deposits_of, held_body, StandsFor}
+use Rattle.esc_desk.proofs.Remembering.{held_by}
 use Rattle.esc_desk.specs.Reads.{last, replies_of, tables_of, AreTables, SaysEnd, IsEndAt, IsEnd}
 
 -- the last element of an image
@@ -41,7 +41,7 @@ module _ (m : List MRow) (l : List ArrivalValue) (k : Kept) (stood : StandsFor s
   same_replies = ap₂ (λ (x : List MRow) (rs : List ReceiptValue). replies_from x 1 rs) stood.listed stood.receipts
 
   pub same_held : (rows : List ℕ) → AreHeld k.bodies rows → AreHeld (held_body sha256 reading m l) rows
-  same_held rows held = record { rising = held.rising; each = λ r. subst (λ (o : Option (List ℕ)). Contains rows r ↔ IsSome o) (stood.bodies r) (held.each r) }
+  same_held rows held = held_by k.bodies (held_body sha256 reading m l) stood.bodies rows held
 
   pub same_content : k.registry.content ≡ tables_of m l k.steps
   same_content = ap (λ (s : State). s.content) stood.registry ∙ ap tables (same_deposits k.bodies (held_body sha256 reading m l) stood.bodies k.steps)

@@ -5,15 +5,15 @@ use Rattle.sha2.specs.Sha256.{sha256}
 use Rattle.sqlite_trees.specs.declared.store.Store.{Ghosts}
 use Rattle.esc_tables.specs.Reading.{reading}
 use Rattle.esc_manifest.specs.declared.row.MRow.{MRow}
-use Rattle.esc_store.specs.declared.store.Store.{Store}
 use Rattle.esc_store.specs.declared.fault.SFault.{SFault}
 use Rattle.esc_store.specs.ReplyValue.{ReplyValue, ReceiptValue, reply_alike}
+use Rattle.esc_desk.specs.declared.desk.Desk.{Desk}
 use Rattle.esc_desk.specs.declared.running.Outcome.{Outcome}
 use Rattle.esc_desk.specs.declared.running.Outcome.TheVariants.{Done, Lost}
 use Rattle.esc_desk.specs.ArrivalValue.{ArrivalValue}
 use Rattle.esc_desk.specs.Receipts.{alike, distinct, receipt_for, receipts_after, receipts_of, reply_to}
 use Rattle.esc_desk.specs.Running.{AreReplies, answered, Ran, Takes}
-use Rattle.esc_desk.specs.Serving.{Serves}
+use Rattle.esc_desk.specs.Serving.{DeskServes}
 use Rattle.esc_desk.proofs.Searches.{alike-front}
 use Rattle.esc_desk.proofs.Distinct.{distinct-push, receipts-push}
 
@@ -65,24 +65,24 @@ answered_lost m l a e (x ∷ xs) (Done q ∷ os) are = ap (λ (k : List ArrivalV
 answered_lost m l a e (x ∷ xs) (Lost f ∷ os) are = answered_lost m l a e xs os are
 
 module _ {S : Type 0} (g : Ghosts S) where
-  pub ran_more : (old new : Store S) (m : List MRow) (before xs : List ArrivalValue) (os : List Outcome) (a : ArrivalValue) (o : Outcome)
-      → Ran g old m before xs os → ((l : List ArrivalValue) → Serves g old m l → Takes g new m l a o) → Ran g new m before (xs ++ a ∷ []) (os ++ o ∷ [])
+  pub ran_more : (old new : Desk S) (m : List MRow) (before xs : List ArrivalValue) (os : List Outcome) (a : ArrivalValue) (o : Outcome)
+      → Ran g old m before xs os → ((l : List ArrivalValue) → DeskServes g old m l → Takes g new m l a o) → Ran g new m before (xs ++ a ∷ []) (os ++ o ∷ [])
   ran_more old new m before xs os a (Done r) ran step =
       let l = before ++ answered xs os in
       let now = step l ran.serves in
       let all : before ++ answered (xs ++ a ∷ []) (os ++ Done r ∷ []) ≡ l ++ a ∷ [] = ap (λ (k : List ArrivalValue). before ++ k) (answered_done m l a r xs os ran.replies) ∙ sym (append_assoc before (answered xs os) (a ∷ [])) in
       record {
-        serves = subst (λ (k : List ArrivalValue). Serves g new m k) (sym all) now.serves;
+        serves = subst (λ (k : List ArrivalValue). DeskServes g new m k) (sym all) now.serves;
         replies = subst (λ (k : List ArrivalValue). AreReplies m k (xs ++ a ∷ []) (os ++ Done r ∷ [])) (sym all) (replies_done m (l ++ a ∷ []) a r now.told xs os (replies_stay m l a xs os ran.replies));
       }
   ran_more old new m before xs os a (Lost e) ran step =
       let l = before ++ answered xs os in
       let all : before ++ answered (xs ++ a ∷ []) (os ++ Lost e ∷ []) ≡ l = ap (λ (k : List ArrivalValue). before ++ k) (answered_lost m l a e xs os ran.replies) in
       record {
-        serves = subst (λ (k : List ArrivalValue). Serves g new m k) (sym all) (step l ran.serves);
+        serves = subst (λ (k : List ArrivalValue). DeskServes g new m k) (sym all) (step l ran.serves);
         replies = subst (λ (k : List ArrivalValue). AreReplies m k (xs ++ a ∷ []) (os ++ Lost e ∷ [])) (sym all) (replies_lost m l a e xs os ran.replies);
       }
 
   -- before the first arrival
-  pub ran_none : (store : Store S) (m : List MRow) (before : List ArrivalValue) → Serves g store m before → Ran g store m before [] []
-  ran_none store m before serves = record { serves = subst (λ (k : List ArrivalValue). Serves g store m k) (sym (append-nil before)) serves; replies = tt }
+  pub ran_none : (desk : Desk S) (m : List MRow) (before : List ArrivalValue) → DeskServes g desk m before → Ran g desk m before [] []
+  ran_none desk m before serves = record { serves = subst (λ (k : List ArrivalValue). DeskServes g desk m k) (sym (append-nil before)) serves; replies = tt }

@@ -1,11 +1,19 @@
 -- What follows of a store from one call to the next.
-use Rattle.std.proofs.Common.{◌∙◌, arith}
+use Rattle.std.proofs.Common.{◌≡◌, List, IfSome, sym, subst, ◌∙◌, arith}
+use Rattle.sha2.specs.Sha256.{sha256}
 use Rattle.sqlite_trees.specs.declared.store.Store.{Ghosts}
 use Rattle.sqlite.specs.State.{State, HasCleanDisk, Survives}
 use Rattle.sqlite.proofs.StateLemmas.{survives_then}
+use Rattle.esc_tables.specs.Reading.{reading}
+use Rattle.esc_manifest.specs.declared.row.MRow.{MRow}
 use Rattle.esc_store.specs.declared.store.Store.{Store}
 use Rattle.esc_store.specs.declared.change.Change.{Change}
+use Rattle.esc_store.specs.Kept.{AreHeld}
 use Rattle.esc_store.specs.Standing.{IsHonest, IsAsBefore, GoesOn}
+use Rattle.esc_desk.specs.declared.desk.Desk.{Desk}
+use Rattle.esc_desk.specs.ArrivalValue.{ArrivalValue}
+use Rattle.esc_desk.specs.Stands.{held_body}
+use Rattle.esc_desk.specs.Serving.{DeskServes}
 
 -- an honest store was honest before
 pub was_honest : {S : Type 0} (g : Ghosts S) (old new : Store S) → IsAsBefore g old new → IsHonest g new → IsHonest g old
@@ -19,6 +27,15 @@ as_before_then g a b c p q = record {
   survives = survives_then _ _ _ _ _ _ (λ _ db none. none) (λ _ db none. none) p.survives q.survives;
   stands = λ k h. q.stands k (p.stands k h);
 }
+
+-- a desk whose store is as before, and that remembers what it did, serves what it did
+pub still_serves : {S : Type 0} (g : Ghosts S) (old new : Desk S) → IsAsBefore g old.store new.store → new.known ≡ old.known → (m : List MRow) (l : List ArrivalValue) → DeskServes g old m l → DeskServes g new m l
+still_serves g old new same known m l served =
+    let serves = served.serves in
+    record {
+      serves = record { kept = serves.kept; stands = same.stands serves.kept serves.stands; stands_for = serves.stands_for };
+      remembers = subst (λ rows. IfSome rows (λ held. AreHeld (held_body sha256 reading m l) held.items)) (sym known) served.remembers;
+    }
 
 -- a change goes on, and then goes on again
 pub goes_then : {S : Type 0} (g : Ghosts S) (a b c : Change S) → GoesOn g a b → GoesOn g b c → GoesOn g a c

@@ -1,5 +1,5 @@
 -- The work of an arrival.
-use Rattle.std.specs.Prelude.{◌≡◌, ℕ, List, [], ◌∷◌, ◌++◌, map, drop}
+use Rattle.std.specs.Prelude.{◌≡◌, ℕ, List, [], ◌∷◌, ◌++◌, map, drop, Some}
 use Rattle.sha2.specs.Sha256.{sha256}
 use Rattle.sqlite_trees.specs.declared.store.Store.{Ghosts}
 use Rattle.esc_tables.specs.Reading.{reading}
@@ -9,9 +9,11 @@ use Rattle.esc_apply.specs.declared.moves.Work.{Work}
 use Rattle.esc_apply.specs.Front.{common_front}
 use Rattle.esc_apply.specs.Moves.{cost}
 use Rattle.esc_store.specs.declared.store.Store.{Store}
-use Rattle.esc_store.specs.Kept.{step_at}
+use Rattle.esc_store.specs.Kept.{step_at, AreHeld}
 use Rattle.esc_store.specs.ReplyValue.{ReplyValue}
+use Rattle.esc_desk.specs.declared.desk.Desk.{Desk}
 use Rattle.esc_desk.specs.ArrivalValue.{ArrivalValue}
+use Rattle.esc_desk.specs.Receipts.{reply_to}
 use Rattle.esc_desk.specs.Stands.{deposits_of, held_rows, held_body}
 use Rattle.esc_desk.specs.Serving.{Serves, Answers, no_work}
 
@@ -35,13 +37,20 @@ module _ (m : List MRow) (l : List ArrivalValue) (a : ArrivalValue) where
   abbrev pub AddsNoRow : Type 0
   AddsNoRow = held_rows sha256 reading m (l ++ a ∷ []) ≡ held_rows sha256 reading m l
 
--- a store stands for the arrivals with this one, and this was its work
-pub record IsKept {S : Type 0} (g : Ghosts S) (store : Store S) (m : List MRow) (l : List ArrivalValue) (a : ArrivalValue) (work : Work) : Type 0 where
+-- a store stands for the arrivals with this one, these rows are held then, and this was its work
+pub record IsKept {S : Type 0} (g : Ghosts S) (store : Store S) (m : List MRow) (l : List ArrivalValue) (a : ArrivalValue) (rows : List ℕ) (work : Work) : Type 0 where
   pub serves : Serves g store m (l ++ a ∷ [])
+  pub held : AreHeld (held_body sha256 reading m (l ++ a ∷ [])) rows
   pub works : IsWorkOf m l a work
 
--- an arrival like none before it was taken in with this reply and this work
-pub record IsTaken {S : Type 0} (g : Ghosts S) (store : Store S) (m : List MRow) (l : List ArrivalValue) (a : ArrivalValue) (reply : ReplyValue) (work : Work) : Type 0 where
-  pub answers : Answers g store m l a reply
+-- an arrival like none before it was taken into a store with this reply and this work, and these rows are held then
+pub record IsTaken {S : Type 0} (g : Ghosts S) (store : Store S) (m : List MRow) (l : List ArrivalValue) (a : ArrivalValue) (rows : List ℕ) (reply : ReplyValue) (work : Work) : Type 0 where
+  pub kept : IsKept g store m l a rows work
+  pub told : reply_to sha256 reading m (l ++ a ∷ []) a ≡ Some reply
+  pub idle : AddsNoRow m l a → work ≡ no_work
+
+-- an arrival like none before it was taken in by a desk with this reply and this work
+pub record IsTakenIn {S : Type 0} (g : Ghosts S) (desk : Desk S) (m : List MRow) (l : List ArrivalValue) (a : ArrivalValue) (reply : ReplyValue) (work : Work) : Type 0 where
+  pub answers : Answers g desk m l a reply
   pub works : IsWorkOf m l a work
   pub idle : AddsNoRow m l a → work ≡ no_work

@@ -5,7 +5,7 @@ ghost use Rattle.sha2.specs.Sha256.{sha256};
 ghost use Rattle.esc_tables.specs.Reading.{reading};
 ghost use Rattle.esc_manifest.specs.declared.row.MRow.{MRow};
 ghost use Rattle.esc_apply.specs.Registry.{saturated};
-ghost use Rattle.esc_store.specs.Kept.{Kept};
+ghost use Rattle.esc_store.specs.Kept.{Kept, AreHeld};
 ghost use Rattle.esc_store.specs.ReplyValue.{ReplyValue, reply_alike};
 ghost use Rattle.esc_store.specs.Standing.{Stands, IsHonest, IsAsBefore};
 ghost use Rattle.esc_desk.specs.Finding.{held_row};
@@ -14,11 +14,12 @@ ghost use Rattle.esc_desk.specs.Stands.{StandsFor};
 ghost use Rattle.esc_desk.specs.Taking.{IsNew};
 ghost use Rattle.esc_desk.specs.declared.finding.Finding.TheVariants.{Holding};
 ghost use Rattle.esc_desk.specs.ArrivalValue.{ArrivalValue};
-ghost use Rattle.esc_desk.specs.Serving.{Serves, Answers, no_work};
-ghost use Rattle.esc_desk.specs.Works.{IsWorkOf, AddsNoRow, IsKept, IsTaken};
+ghost use Rattle.esc_desk.specs.Serving.{Serves, DeskServes, Answers, no_work};
+ghost use Rattle.esc_desk.specs.Works.{IsWorkOf, AddsNoRow, IsKept, IsTaken, IsTakenIn};
 
 use crate::changes::{hold_deposit, note_receipt};
 use crate::finding::{Finding, find, held_row};
+use crate::held::insert_row;
 use crate::plan::plan_move;
 use crate::receipt::{is_among, is_old, receipt_by, reply_of};
 use esc_apply::{Work, read_deposits_mention_few};
@@ -32,10 +33,12 @@ use std::alloc::Global;
 /// The most receipts of a store.
 const MOST_RECEIPTS: u64 = 1_000_000_000;
 
-/// A desk over a store.
+/// A desk over a store. It remembers the rows of which a body is held, so that an arrival needn't read the bodies.
 #[derive(Drop)]
 pub struct Desk<S: Alter> {
     pub(crate) store: Store<S>,
+    // Rising; `None` until the store was asked, and after an arrival that was refused.
+    pub(crate) known: Option<Vec<usize>>,
 }
 
 const NO_WORK: Work = Work {
@@ -48,14 +51,16 @@ const NO_WORK: Work = Work {
 impl<S: Alter> Desk<S> {
     /// A desk over a store. Takes no memory.
     pub fn open(store: Store<S>) -> Desk<S>
-        ensures { result.store ≡ store }
+        ensures same { result.store ≡ store }
+        ensures serves { (m : List MRow) (l : List ArrivalValue) → Serves S.Store store m l → DeskServes S.Store result m l }
     {
-        Desk { store }
+        Desk { store, known: None }
     }
 
     /// The desk's store. Takes no memory.
     pub fn into_store(self) -> Store<S>
-        ensures { result ≡ self.store }
+        ensures same { result ≡ self.store }
+        ensures serves { (m : List MRow) (l : List ArrivalValue) → DeskServes S.Store self m l → Serves S.Store result m l }
     {
         self.store
     }
@@ -72,27 +77,65 @@ impl<S: Alter> Desk<S> {
         number: &Number<'_>,
         body: &[u8],
     ) -> Result<(Reply, Work), SFault>
-        ensures answered { IsHonest S.Store self.new.store → (m : List MRow) (l : List ArrivalValue) → Serves S.Store self.old.store m l → IfOk result (λ p. Answers S.Store self.new.store m l (record { number = number.now; body = body.now }) p.0) }
-        ensures repeated { IsHonest S.Store self.new.store → (m : List MRow) (l : List ArrivalValue) → Serves S.Store self.old.store m l → (r : ReplyValue) → reply_to sha256 reading m l (record { number = number.now; body = body.now }) ≡ Some r → IfOk result (λ p. (p.0 ≡ r) × (p.1 ≡ no_work)) }
-        ensures worked { IsHonest S.Store self.new.store → (m : List MRow) (l : List ArrivalValue) → Serves S.Store self.old.store m l → IfOk result (λ p. IsWorkOf m l (record { number = number.now; body = body.now }) p.1) }
-        ensures idle { IsHonest S.Store self.new.store → (m : List MRow) (l : List ArrivalValue) → Serves S.Store self.old.store m l → AddsNoRow m l (record { number = number.now; body = body.now }) → IfOk result (λ p. p.1 ≡ no_work) }
-        ensures room { IsHonest S.Store self.new.store → (m : List MRow) (l : List ArrivalValue) → Serves S.Store self.old.store m l → reply_to sha256 reading m l (record { number = number.now; body = body.now }) ≡ None → OnOk result (length (receipts_of sha256 reading m l) < 1_000_000_000) }
+        ensures answered { IsHonest S.Store self.new.store → (m : List MRow) (l : List ArrivalValue) → DeskServes S.Store self.old m l → IfOk result (λ p. Answers S.Store self.new m l (record { number = number.now; body = body.now }) p.0) }
+        ensures repeated { IsHonest S.Store self.new.store → (m : List MRow) (l : List ArrivalValue) → DeskServes S.Store self.old m l → (r : ReplyValue) → reply_to sha256 reading m l (record { number = number.now; body = body.now }) ≡ Some r → IfOk result (λ p. (p.0 ≡ r) × (p.1 ≡ no_work)) }
+        ensures worked { IsHonest S.Store self.new.store → (m : List MRow) (l : List ArrivalValue) → DeskServes S.Store self.old m l → IfOk result (λ p. IsWorkOf m l (record { number = number.now; body = body.now }) p.1) }
+        ensures idle { IsHonest S.Store self.new.store → (m : List MRow) (l : List ArrivalValue) → DeskServes S.Store self.old m l → AddsNoRow m l (record { number = number.now; body = body.now }) → IfOk result (λ p. p.1 ≡ no_work) }
+        ensures room { IsHonest S.Store self.new.store → (m : List MRow) (l : List ArrivalValue) → DeskServes S.Store self.old m l → reply_to sha256 reading m l (record { number = number.now; body = body.now }) ≡ None → OnOk result (length (receipts_of sha256 reading m l) < 1_000_000_000) }
         ensures counted { IfOk result (λ p. self.new.store.writes ≡ saturated (self.old.store.writes + p.1.writes)) }
         ensures uncounted { OnErr result (self.new.store.writes ≡ self.old.store.writes) }
         ensures honest { IsHonest S.Store self.new.store → IsHonest S.Store self.old.store }
-        ensures lost { OnErr result ((m : List MRow) (l : List ArrivalValue) → Serves S.Store self.old.store m l → Serves S.Store self.new.store m l) }
+        ensures lost { OnErr result ((m : List MRow) (l : List ArrivalValue) → DeskServes S.Store self.old m l → DeskServes S.Store self.new m l) }
     {
         let digest = Sha256::digest(body);
         // A proof knows that a count is below 2^64 where the body reads it.
         let _writes = self.store.writes();
         match self.store.receipt_of(alloc, number, &digest)? {
             Some(reply) => Ok((reply, NO_WORK)),
-            None => take_in(&mut self.store, alloc, number, digest, body),
+            None => self.take_new(alloc, number, digest, body),
+        }
+    }
+
+    // Takes in an arrival for which no receipt is kept. What is remembered is forgotten first, and is only remembered
+    // again once the arrival was taken in, with its row if that was not held.
+    #[tactic(auto, using(crate::proofs::StoreFacts::was_honest))]
+    fn take_new(
+        &mut self,
+        alloc: Global,
+        number: &Number<'_>,
+        digest: [u8; 32],
+        body: &[u8],
+    ) -> Result<(Reply, Work), SFault>
+        requires { digest ≡ sha256 body.now }
+        ensures answered { IsHonest S.Store self.new.store → (m : List MRow) (l : List ArrivalValue) (k : Kept) → Stands S.Store self.old.store k → StandsFor sha256 reading m l k → IfSome self.old.known (λ rows. AreHeld k.bodies rows.items) → reply_alike m 1 number.now digest k.receipts ≡ None
+            → IfOk result (λ p. IsTakenIn S.Store self.new m l (record { number = number.now; body = body.now }) p.0 p.1) }
+        ensures room { IsHonest S.Store self.new.store → (k : Kept) → Stands S.Store self.old.store k → OnOk result (length k.receipts < 1_000_000_000) }
+        ensures counted { IfOk result (λ p. self.new.store.writes ≡ saturated (self.old.store.writes + p.1.writes)) }
+        ensures uncounted { OnErr result (self.new.store.writes ≡ self.old.store.writes) }
+        ensures lost { OnErr result ((k : Kept) → Stands S.Store self.old.store k → Stands S.Store self.new.store k) }
+        ensures forgotten { OnErr result (self.new.known ≡ None) }
+        ensures honest { IsHonest S.Store self.new.store → IsHonest S.Store self.old.store }
+    {
+        let mut held = self.take_held(alloc)?;
+        let taken = take_in(&mut self.store, alloc, number, digest, body, &mut held)?;
+        self.known = Some(held);
+        Ok(taken)
+    }
+
+    // The rows that are held: those that were remembered, which are forgotten, or else the store's.
+    fn take_held(&mut self, alloc: Global) -> Result<Vec<usize>, SFault>
+        ensures same { IsAsBefore S.Store self.old.store self.new.store }
+        ensures forgotten { self.new.known ≡ None }
+        ensures rows { IsHonest S.Store self.new.store → (k : Kept) → Stands S.Store self.old.store k → IfSome self.old.known (λ rows. AreHeld k.bodies rows.items) → IfOk result (λ rows. AreHeld k.bodies rows.items) }
+    {
+        match self.known.take() {
+            Some(rows) => Ok(rows),
+            None => self.store.held(alloc),
         }
     }
 }
 
-// Takes in an arrival for which no receipt is kept.
+// Takes in an arrival for which no receipt is kept, where these rows are held, and has them be those held with it.
 #[tactic(auto, using(crate::proofs::StoreFacts::was_honest))]
 fn take_in<S: Alter>(
     store: &mut Store<S>,
@@ -100,10 +143,11 @@ fn take_in<S: Alter>(
     number: &Number<'_>,
     digest: [u8; 32],
     body: &[u8],
+    held: &mut Vec<usize>,
 ) -> Result<(Reply, Work), SFault>
     requires { digest ≡ sha256 body.now }
-    ensures answered { IsHonest S.Store store.new → (m : List MRow) (l : List ArrivalValue) (k : Kept) → Stands S.Store store.old k → StandsFor sha256 reading m l k → reply_alike m 1 number.now digest k.receipts ≡ None
-        → IfOk result (λ p. IsTaken S.Store store.new m l (record { number = number.now; body = body.now }) p.0 p.1) }
+    ensures answered { IsHonest S.Store store.new → (m : List MRow) (l : List ArrivalValue) (k : Kept) → Stands S.Store store.old k → StandsFor sha256 reading m l k → AreHeld k.bodies held.old.items → reply_alike m 1 number.now digest k.receipts ≡ None
+        → IfOk result (λ p. IsTaken S.Store store.new m l (record { number = number.now; body = body.now }) held.new.items p.0 p.1) }
     ensures room { IsHonest S.Store store.new → (k : Kept) → Stands S.Store store.old k → OnOk result (length k.receipts < 1_000_000_000) }
     ensures counted { IfOk result (λ p. store.new.writes ≡ saturated (store.old.writes + p.1.writes)) }
     ensures uncounted { OnErr result (store.new.writes ≡ store.old.writes) }
@@ -111,12 +155,11 @@ fn take_in<S: Alter>(
     ensures honest { IsHonest S.Store store.new → IsHonest S.Store store.old }
 {
     let next = next_receipt(store)?;
-    let held = store.held(alloc)?;
     let found = find(alloc, store.manifest(), &digest, body)?;
-    let again = is_among(&held, held_row(&found));
+    let again = is_among(held, held_row(&found));
     let receipt = receipt_by(number, digest, &found, again);
     let reply = reply_of(alloc, store.manifest().rows(), next, &receipt)?;
-    let work = keep(store, alloc, next, &receipt, &held, found, body)?;
+    let work = keep(store, alloc, next, &receipt, held, found, body)?;
     Ok((reply, work))
 }
 
@@ -133,20 +176,21 @@ fn next_receipt<S: Alter>(store: &mut Store<S>) -> Result<u64, SFault>
     Ok(count + 1)
 }
 
-// Keeps the receipt of a new arrival, and the deposit that was found if its row was not held.
+// Keeps the receipt of a new arrival, and the deposit that was found if its row was not held; that is one of the held
+// rows then. What these are after an `Err` says nothing.
 fn keep<S: Alter>(
     store: &mut Store<S>,
     alloc: Global,
     number: u64,
     receipt: &Receipt<'_>,
-    held: &[usize],
+    held: &mut Vec<usize>,
     found: Finding,
     body: &[u8],
 ) -> Result<Work, SFault>
     requires { IfSome (held_row found) (λ r. r < length store.old.manifest) }
     ensures lost { OnErr result ((k : Kept) → Stands S.Store store.old k → Stands S.Store store.new k) }
-    ensures kept { IfOk result (λ work. IsHonest S.Store store.new → (m : List MRow) (l : List ArrivalValue) (n : List ℕ) (k : Kept) → Stands S.Store store.old k → IsNew m l (record { number = n; body = body.now }) k found held.now number receipt.now → IsKept S.Store store.new m l (record { number = n; body = body.now }) work) }
-    ensures idle { IfOk result (λ work. is_old held.now (held_row found) ≡ true → work ≡ no_work) }
+    ensures kept { IfOk result (λ work. IsHonest S.Store store.new → (m : List MRow) (l : List ArrivalValue) (n : List ℕ) (k : Kept) → Stands S.Store store.old k → IsNew m l (record { number = n; body = body.now }) k found held.old.items number receipt.now → IsKept S.Store store.new m l (record { number = n; body = body.now }) held.new.items work) }
+    ensures idle { IfOk result (λ work. is_old held.old.items (held_row found) ≡ true → work ≡ no_work) }
     ensures counted { IfOk result (λ work. store.new.writes ≡ saturated (store.old.writes + work.writes)) }
     ensures uncounted { OnErr result (store.new.writes ≡ store.old.writes) }
     ensures honest { IsHonest S.Store store.new → IsHonest S.Store store.old }
@@ -163,21 +207,22 @@ fn keep<S: Alter>(
     }
 }
 
-// Keeps the receipt and the deposit of a row that was not held.
+// Keeps the receipt and the deposit of a row that was not held. The row is put in its place before anything changes in
+// the store, so that nothing fails for want of memory once the change is made.
 #[tactic(auto, using(crate::proofs::StoreFacts::was_honest))]
 fn keep_deposit<S: Alter>(
     store: &mut Store<S>,
     alloc: Global,
     number: u64,
     receipt: &Receipt<'_>,
-    held: &[usize],
+    held: &mut Vec<usize>,
     row: usize,
     deposit: Deposit,
     body: &[u8],
 ) -> Result<Work, SFault>
     requires { row < length store.old.manifest }
     ensures lost { OnErr result ((k : Kept) → Stands S.Store store.old k → Stands S.Store store.new k) }
-    ensures kept { IfOk result (λ work. IsHonest S.Store store.new → (m : List MRow) (l : List ArrivalValue) (n : List ℕ) (k : Kept) → Stands S.Store store.old k → is_among held.now (Some row) ≡ false → IsNew m l (record { number = n; body = body.now }) k (Holding row deposit) held.now number receipt.now → IsKept S.Store store.new m l (record { number = n; body = body.now }) work) }
+    ensures kept { IfOk result (λ work. IsHonest S.Store store.new → (m : List MRow) (l : List ArrivalValue) (n : List ℕ) (k : Kept) → Stands S.Store store.old k → is_among held.old.items (Some row) ≡ false → IsNew m l (record { number = n; body = body.now }) k (Holding row deposit) held.old.items number receipt.now → IsKept S.Store store.new m l (record { number = n; body = body.now }) held.new.items work) }
     ensures counted { IfOk result (λ work. store.new.writes ≡ saturated (store.old.writes + work.writes)) }
     ensures uncounted { OnErr result (store.new.writes ≡ store.old.writes) }
     ensures honest { IsHonest S.Store store.new → IsHonest S.Store store.old }
@@ -185,5 +230,6 @@ fn keep_deposit<S: Alter>(
     latest_chain_rows_are_held();
     read_deposits_mention_few();
     let plan = plan_move(store, alloc, held, row, deposit)?;
+    insert_row(held, row)?;
     hold_deposit(store, alloc, number, receipt, row, body, &plan)
 }

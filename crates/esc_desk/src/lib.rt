@@ -29,8 +29,9 @@
 //! The contracts say it by a relation, `Serves`: a store serves a manifest and a list of arrivals if it holds the
 //! manifest's rows, the receipts that the list leaves, the body of each held row, the rows of the latest chain, and
 //! that chain's tables with their before-images. A store that was just made serves the empty list
-//! ([`new_store_stands_for_none`]). A desk whose store served a list serves, after an arrival that was answered, that
-//! list with the arrival; after an `Err` it serves the list as it was. What one arrival changes is one change of the
+//! ([`new_store_stands_for_none`]). A desk serves what its store serves (`DeskServes`): it also remembers which rows are
+//! held, and what it remembers is so. A desk that served a list serves, after an arrival that was answered, that list with
+//! the arrival; after an `Err` it serves the list as it was. What one arrival changes is one change of the
 //! store, whole or not at all, so an arrival that was refused by `S1` (the store failed), `S2` (memory was refused) or
 //! `S4` (there are 1,000,000,000 receipts) is as one that never came. So runs compose, whatever came before them and
 //! however they were cut.
@@ -43,13 +44,16 @@
 //! # Cost
 //!
 //! An arrival alike an earlier one costs a digest and a look-up. Of another one the body is read once, and the bodies
-//! of those steps alone are read again that stand past the common front of both chains.
+//! of those steps alone are read again that stand past the common front of both chains. The store is asked which rows
+//! are held, which reads every held body, at a desk's first arrival that is like none before it, and at the next one after
+//! an `Err`.
 #![tactic(auto)]
 
 mod arrival;
 mod changes;
 mod desk;
 mod finding;
+mod held;
 mod laws;
 mod plan;
 mod reads;

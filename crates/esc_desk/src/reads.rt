@@ -9,7 +9,7 @@ ghost use Rattle.esc_store.specs.Kept.{AreHeld};
 ghost use Rattle.esc_store.specs.Standing.{IsHonest, IsAsBefore};
 ghost use Rattle.esc_desk.specs.ArrivalValue.{ArrivalValue};
 ghost use Rattle.esc_desk.specs.Stands.{held_body};
-ghost use Rattle.esc_desk.specs.Serving.{Serves};
+ghost use Rattle.esc_desk.specs.Serving.{Serves, DeskServes};
 ghost use Rattle.esc_desk.specs.Reads.{last, replies_of, AreTables, SaysEnd, IsEnd, IsStatus};
 
 use crate::desk::Desk;
@@ -41,24 +41,30 @@ impl<S: Alter> Desk<S> {
     }
 
     /// All replies, in the order of their receipts. `S1`, `S2`.
+    #[tactic(auto, using(crate::proofs::StoreFacts::still_serves))]
     pub fn receipts(&mut self, alloc: Global) -> Result<Vec<Reply>, SFault>
         ensures same { IsAsBefore S.Store self.old.store self.new.store }
+        ensures serves { (m : List MRow) (l : List ArrivalValue) → DeskServes S.Store self.old m l → DeskServes S.Store self.new m l }
         ensures all { IsHonest S.Store self.new.store → (m : List MRow) (l : List ArrivalValue) → Serves S.Store self.old.store m l → IfOk result (λ replies. replies.items ≡ replies_of m l) }
     {
         self.store.receipts(alloc)
     }
 
     /// The rows of the manifest of which a body is held, from 0, rising. `S1`, `S2`.
+    #[tactic(auto, using(crate::proofs::StoreFacts::still_serves))]
     pub fn held(&mut self, alloc: Global) -> Result<Vec<usize>, SFault>
         ensures same { IsAsBefore S.Store self.old.store self.new.store }
+        ensures serves { (m : List MRow) (l : List ArrivalValue) → DeskServes S.Store self.old m l → DeskServes S.Store self.new m l }
         ensures rows { IsHonest S.Store self.new.store → (m : List MRow) (l : List ArrivalValue) → Serves S.Store self.old.store m l → IfOk result (λ rows. AreHeld (held_body sha256 reading m l) rows.items) }
     {
         self.store.held(alloc)
     }
 
     /// The objects of the latest chain's tables. `S1`, `S2`.
+    #[tactic(auto, using(crate::proofs::StoreFacts::still_serves))]
     pub fn tables(&mut self, alloc: Global) -> Result<BTreeMap<Key, Object>, SFault>
         ensures same { IsAsBefore S.Store self.old.store self.new.store }
+        ensures serves { (m : List MRow) (l : List ArrivalValue) → DeskServes S.Store self.old m l → DeskServes S.Store self.new m l }
         ensures objects { IsHonest S.Store self.new.store → (m : List MRow) (l : List ArrivalValue) → Serves S.Store self.old.store m l → IfOk result (λ objects. AreTables m l objects.entries) }
     {
         self.store.tables(alloc)
@@ -66,8 +72,10 @@ impl<S: Alter> Desk<S> {
 
     /// What the latest chain's last deposit says of the registry, read from its body; `None` where there is no chain.
     /// `S1`, `S2`.
+    #[tactic(auto, using(crate::proofs::StoreFacts::still_serves))]
     pub fn end(&mut self, alloc: Global) -> Result<Option<End>, SFault>
         ensures same { IsAsBefore S.Store self.old.store self.new.store }
+        ensures serves { (m : List MRow) (l : List ArrivalValue) → DeskServes S.Store self.old m l → DeskServes S.Store self.new m l }
         ensures end { IsHonest S.Store self.new.store → (m : List MRow) (l : List ArrivalValue) → Serves S.Store self.old.store m l → IfOk result (λ end. IsEnd m l end) }
     {
         let steps = self.store.chain(alloc)?;
@@ -81,8 +89,10 @@ impl<S: Alter> Desk<S> {
     }
 
     /// How far the desk has come. `S1`, `S2`.
+    #[tactic(auto, using(crate::proofs::StoreFacts::still_serves))]
     pub fn status(&mut self, alloc: Global) -> Result<Status, SFault>
         ensures same { IsAsBefore S.Store self.old.store self.new.store }
+        ensures serves { (m : List MRow) (l : List ArrivalValue) → DeskServes S.Store self.old m l → DeskServes S.Store self.new m l }
         ensures status { IsHonest S.Store self.new.store → (m : List MRow) (l : List ArrivalValue) → Serves S.Store self.old.store m l → IfOk result (λ status. IsStatus m l status) }
     {
         let receipts = self.store.receipt_count()?;

@@ -5,7 +5,7 @@ ghost use Rattle.esc_manifest.specs.declared.row.MRow.{MRow};
 ghost use Rattle.esc_store.specs.Standing.{IsHonest};
 ghost use Rattle.esc_desk.specs.ArrivalValue.{ArrivalValue};
 ghost use Rattle.esc_desk.specs.Running.{Ran, Takes};
-ghost use Rattle.esc_desk.specs.Serving.{Serves};
+ghost use Rattle.esc_desk.specs.Serving.{DeskServes};
 
 use crate::arrival::Arrival;
 use crate::desk::Desk;
@@ -29,10 +29,10 @@ impl<S: Alter> Desk<S> {
     /// For every accepted manifest and every list of arrivals, with repeats, losses and reorderings, the tables hold
     /// for each object what the last deposit that mentions it says on the latest unbroken chain of the listed deposits
     /// that arrived, each at its highest arrived revision; and arrivals alike in number and body get one receipt and
-    /// the first one's reply. Where the store stood for a manifest and a list of arrivals before, it stands for that
-    /// list followed by the answered arrivals, so runs compose. `NoMemory` is answered before the first arrival.
+    /// the first one's reply. Where the desk served a manifest and a list of arrivals before, it serves that list
+    /// followed by the answered arrivals, so runs compose. `NoMemory` is answered before the first arrival.
     pub fn run(&mut self, alloc: Global, arrivals: &[Arrival<'_>]) -> Result<Vec<Outcome>, NoMemory>
-        ensures ran { IsHonest S.Store self.new.store → IfOk result (λ outcomes. (m : List MRow) (before : List ArrivalValue) → Serves S.Store self.old.store m before → Ran S.Store self.new.store m before arrivals.now outcomes.items) }
+        ensures ran { IsHonest S.Store self.new.store → IfOk result (λ outcomes. (m : List MRow) (before : List ArrivalValue) → DeskServes S.Store self.old m before → Ran S.Store self.new m before arrivals.now outcomes.items) }
         ensures refused { OnErr result (self.new ≡ self.old) }
         ensures honest { IsHonest S.Store self.new.store → IsHonest S.Store self.old.store }
     {
@@ -46,7 +46,7 @@ impl<S: Alter> Desk<S> {
 
     // Takes one arrival.
     fn take(&mut self, alloc: Global, arrival: &Arrival<'_>) -> Outcome
-        ensures taken { IsHonest S.Store self.new.store → (m : List MRow) (l : List ArrivalValue) → Serves S.Store self.old.store m l → Takes S.Store self.new.store m l arrival.now result }
+        ensures taken { IsHonest S.Store self.new.store → (m : List MRow) (l : List ArrivalValue) → DeskServes S.Store self.old m l → Takes S.Store self.new m l arrival.now result }
         ensures honest { IsHonest S.Store self.new.store → IsHonest S.Store self.old.store }
     {
         match self.arrive(alloc, &arrival.number, arrival.body) {

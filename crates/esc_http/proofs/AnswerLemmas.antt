@@ -7,7 +7,7 @@ use Rattle.httparse.specs.Grammar.{RequestHead}
 use Rattle.httparse.proofs.GrammarLemmas.{ReadsRequest-append}
 use Rattle.esc_store.specs.declared.fault.SFault.{SFault}
 use Rattle.esc_store.specs.declared.fault.SFault.TheVariants.{S2}
-use Rattle.esc_store.specs.declared.store.Store.{Store}
+use Rattle.esc_desk.specs.declared.desk.Desk.{Desk}
 use Rattle.esc_http.specs.declared.plan.Refusal.{Refusal}
 use Rattle.esc_http.specs.declared.plan.Refusal.TheVariants.{BadRequest}
 use Rattle.esc_http.specs.declared.plan.Plan.{Plan}
@@ -76,13 +76,13 @@ pub some_request : (o : Option (List ℕ)) (plan : Plan) → (request : Request)
 some_request None plan = (refused BadRequest, tt)
 some_request (Some rest) plan = (with_body plan rest, refl)
 
-module _ {S : Type 0} (g : Ghosts S) (store : Store S) where
+module _ {S : Type 0} (g : Ghosts S) (desk : Desk S) where
   -- want of memory answers each request
-  pub memory_answers : (request : Request) → IsAnswered g store store request out_of_memory
+  pub memory_answers : (request : Request) → IsAnswered g desk desk request out_of_memory
   memory_answers (refused refusal) = (refl, inr refl)
   memory_answers (arrives a) = inr (record { kept = λ m l serves. serves; told = (S2, refl) })
   memory_answers (wants report) = (inl refl, inr (S2, refl))
 
   -- so it does whatever the input is
-  pub memory_answers_some : (o : Option (List ℕ)) (plan : Plan) → (request : Request) × IfSome o (λ rest. request ≡ with_body plan rest) × IsAnswered g store store request out_of_memory
+  pub memory_answers_some : (o : Option (List ℕ)) (plan : Plan) → (request : Request) × IfSome o (λ rest. request ≡ with_body plan rest) × IsAnswered g desk desk request out_of_memory
   memory_answers_some o plan = let (request, is) = some_request o plan in (request, is, memory_answers request)

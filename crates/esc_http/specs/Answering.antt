@@ -6,12 +6,12 @@ use Rattle.httparse.specs.Grammar.{RequestHead}
 use Rattle.esc_tables.specs.Reading.{reading}
 use Rattle.esc_manifest.specs.declared.row.MRow.{MRow}
 use Rattle.esc_store.specs.declared.fault.SFault.{SFault}
-use Rattle.esc_store.specs.declared.store.Store.{Store}
 use Rattle.esc_store.specs.ReplyValue.{ReplyValue}
 use Rattle.esc_store.specs.Standing.{IsHonest, IsAsBefore}
+use Rattle.esc_desk.specs.declared.desk.Desk.{Desk}
 use Rattle.esc_desk.specs.ArrivalValue.{ArrivalValue}
 use Rattle.esc_desk.specs.Receipts.{receipts_of, reply_to}
-use Rattle.esc_desk.specs.Serving.{Serves, Answers}
+use Rattle.esc_desk.specs.Serving.{Serves, DeskServes, Answers}
 use Rattle.esc_http.specs.declared.reports.Report.{Report}
 use Rattle.esc_http.specs.declared.plan.Refusal.{Refusal}
 use Rattle.esc_http.specs.declared.plan.Refusal.TheVariants.{BadRequest}
@@ -52,8 +52,8 @@ IsOrMemory expected text = (text ≡ expected) ⊎ (text ≡ out_of_memory)
 abbrev pub IsFault : List ℕ → Type 0
 IsFault text = (fault : SFault) × (text ≡ fault_response fault)
 
-module _ {S : Type 0} (g : Ghosts S) (old new : Store S) where
-  -- the arrival was taken: the store stands for the arrivals before and this one, and the text tells its reply; it is like an earlier
+module _ {S : Type 0} (g : Ghosts S) (old new : Desk S) where
+  -- the arrival was taken: the desk serves the arrivals before and this one, and the text tells its reply; it is like an earlier
   -- one, or there was room for one more receipt
   pub record TakesArrival (a : ArrivalValue) (m : List MRow) (l : List ArrivalValue) (text : List ℕ) : Type 0 where
     pub reply : ReplyValue
@@ -62,24 +62,29 @@ module _ {S : Type 0} (g : Ghosts S) (old new : Store S) where
     pub told : IsOrMemory (reply_response reply) text
 
   abbrev pub IsTaken : ArrivalValue → List ℕ → Type 0
-  IsTaken a text = IsHonest g new → (m : List MRow) (l : List ArrivalValue) → Serves g old m l → TakesArrival a m l text
+  IsTaken a text = IsHonest g new.store → (m : List MRow) (l : List ArrivalValue) → DeskServes g old m l → TakesArrival a m l text
 
-  -- the arrival was lost: the store stands for what it stood for, and the text tells why
+  -- the arrival was lost: the desk serves what it served, and the text tells why
   pub record LosesArrival (text : List ℕ) : Type 0 where
-    pub kept : (m : List MRow) (l : List ArrivalValue) → Serves g old m l → Serves g new m l
+    pub kept : (m : List MRow) (l : List ArrivalValue) → DeskServes g old m l → DeskServes g new m l
     pub told : IsFault text
 
   -- the report was made, of what the store stands for
   pub record TellsReport (report : Report) (text : List ℕ) : Type 0 where
     pub body : List ℕ
-    pub is : IsHonest g new → (m : List MRow) (l : List ArrivalValue) → Serves g old m l → IsReport m l report body
+    pub is : IsHonest g new.store → (m : List MRow) (l : List ArrivalValue) → Serves g old.store m l → IsReport m l report body
     pub told : IsOrMemory (report_response report body) text
 
-  -- the text answers the request, and the store stands for what it stood for, with the arrival that was taken
+  -- nothing changed: the store is as it was, and the desk serves what it served
+  pub record IsStill : Type 0 where
+    pub same : IsAsBefore g old.store new.store
+    pub serves : (m : List MRow) (l : List ArrivalValue) → DeskServes g old m l → DeskServes g new m l
+
+  -- the text answers the request, and the desk serves what it served, with the arrival that was taken
   abbrev pub IsAnswered : Request → List ℕ → Type 0
   IsAnswered (refused refusal) text = (new ≡ old) × IsOrMemory (refusal_response refusal) text
   IsAnswered (arrives a) text = IsTaken a text ⊎ LosesArrival text
-  IsAnswered (wants report) text = ((new ≡ old) ⊎ IsAsBefore g old new) × (TellsReport report text ⊎ IsFault text)
+  IsAnswered (wants report) text = ((new ≡ old) ⊎ IsStill) × (TellsReport report text ⊎ IsFault text)
 
 -- the text of an answer, where there is none for want of memory
 abbrev pub text_or_memory : {A : Type 0} → (A → List ℕ) → Option A → List ℕ

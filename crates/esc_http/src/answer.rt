@@ -31,7 +31,7 @@ pub(crate) fn answer_input<S: Alter, R: Source>(
     desk: &mut Desk<S>,
     source: &mut R,
 ) -> Result<Option<Vec<u8>>, ReadFailed>
-    ensures answers { IfOk result (λ text. (request : Request) × IfSome (R.remaining source.old) (λ input. Asks input request) × IsAnswered S.Store desk.old.store desk.new.store request (text_or_memory (λ text. text.items) text)) }
+    ensures answers { IfOk result (λ text. (request : Request) × IfSome (R.remaining source.old) (λ input. Asks input request) × IsAnswered S.Store desk.old desk.new request (text_or_memory (λ text. text.items) text)) }
     ensures honest { IsHonest S.Store desk.new.store → IsHonest S.Store desk.old.store }
     ensures same { OnErr result (desk.new ≡ desk.old) }
     ensures err { OnErr result (IsTrue (R.failed source.new)) }
@@ -58,7 +58,7 @@ fn answer_head<S: Alter, R: Source>(
 ) -> Result<Option<Vec<u8>>, ReadFailed>
     requires within { IsRequestWithin bytes.now lines.now found.now.spans }
     requires head { ShowsHead bytes.now lines.now found.now.spans }
-    ensures answers { IfOk result (λ text. (h : RequestHead) → IsRequestAt bytes.now lines.now found.now.spans h → (request : Request) × IfSome (prepend_known (drop found.now.spans.len bytes.now) (R.remaining source.old)) (λ rest. request ≡ with_body (plan_of_head h) rest) × IsAnswered S.Store desk.old.store desk.new.store request (text_or_memory (λ text. text.items) text)) }
+    ensures answers { IfOk result (λ text. (h : RequestHead) → IsRequestAt bytes.now lines.now found.now.spans h → (request : Request) × IfSome (prepend_known (drop found.now.spans.len bytes.now) (R.remaining source.old)) (λ rest. request ≡ with_body (plan_of_head h) rest) × IsAnswered S.Store desk.old desk.new request (text_or_memory (λ text. text.items) text)) }
     ensures honest { IsHonest S.Store desk.new.store → IsHonest S.Store desk.old.store }
     ensures same { OnErr result (desk.new ≡ desk.old) }
     ensures err { OnErr result (IsTrue (R.failed source.new)) }
@@ -82,7 +82,7 @@ fn answer_routed<S: Alter, R: Source>(
     requires within { IsRequestWithin bytes.now lines.now found.now.spans }
     requires head { ShowsHead bytes.now lines.now found.now.spans }
     requires router_is { router.now ≡ rows }
-    ensures answers { IfOk result (λ text. (h : RequestHead) → IsRequestAt bytes.now lines.now found.now.spans h → (request : Request) × IfSome (prepend_known (drop found.now.spans.len bytes.now) (R.remaining source.old)) (λ rest. request ≡ with_body (plan_of_head h) rest) × IsAnswered S.Store desk.old.store desk.new.store request (text_or_memory (λ text. text.items) text)) }
+    ensures answers { IfOk result (λ text. (h : RequestHead) → IsRequestAt bytes.now lines.now found.now.spans h → (request : Request) × IfSome (prepend_known (drop found.now.spans.len bytes.now) (R.remaining source.old)) (λ rest. request ≡ with_body (plan_of_head h) rest) × IsAnswered S.Store desk.old desk.new request (text_or_memory (λ text. text.items) text)) }
     ensures honest { IsHonest S.Store desk.new.store → IsHonest S.Store desk.old.store }
     ensures same { OnErr result (desk.new ≡ desk.old) }
     ensures err { OnErr result (IsTrue (R.failed source.new)) }
@@ -106,7 +106,7 @@ fn answer_put<S: Alter, R: Source>(
     front: &[u8],
     size: u32,
 ) -> Result<Option<Vec<u8>>, ReadFailed>
-    ensures answers { IfOk result (λ text. (request : Request) × IfSome (prepend_known front.now (R.remaining source.old)) (λ rest. request ≡ with_body (Put number.now size) rest) × IsAnswered S.Store desk.old.store desk.new.store request (text_or_memory (λ text. text.items) text)) }
+    ensures answers { IfOk result (λ text. (request : Request) × IfSome (prepend_known front.now (R.remaining source.old)) (λ rest. request ≡ with_body (Put number.now size) rest) × IsAnswered S.Store desk.old desk.new request (text_or_memory (λ text. text.items) text)) }
     ensures honest { IsHonest S.Store desk.new.store → IsHonest S.Store desk.old.store }
     ensures same { OnErr result (desk.new ≡ desk.old) }
     ensures err { OnErr result (IsTrue (R.failed source.new)) }
@@ -124,7 +124,7 @@ fn answer_arrival<S: Alter>(
     number: &Number<'_>,
     body: &[u8],
 ) -> Option<Vec<u8>>
-    ensures answers { IsAnswered S.Store desk.old.store desk.new.store (arrives (record { number = number.now; body = body.now })) (text_or_memory (λ text. text.items) result) }
+    ensures answers { IsAnswered S.Store desk.old desk.new (arrives (record { number = number.now; body = body.now })) (text_or_memory (λ text. text.items) result) }
     ensures honest { IsHonest S.Store desk.new.store → IsHonest S.Store desk.old.store }
 {
     match desk.arrive(alloc, number, body) {
@@ -135,7 +135,7 @@ fn answer_arrival<S: Alter>(
 
 #[tactic(auto, using(crate::proofs::StoreFacts::was_honest))]
 fn answer_report<S: Alter>(alloc: Global, desk: &mut Desk<S>, what: Report) -> Option<Vec<u8>>
-    ensures answers { IsAnswered S.Store desk.old.store desk.new.store (wants what) (text_or_memory (λ text. text.items) result) }
+    ensures answers { IsAnswered S.Store desk.old desk.new (wants what) (text_or_memory (λ text. text.items) result) }
     ensures honest { IsHonest S.Store desk.new.store → IsHonest S.Store desk.old.store }
 {
     match report(alloc, desk, what) {

@@ -64,3 +64,6 @@ pub use reports::Report;
 pub use serving::{ServeFault, serve, serve_one};
 pub use streams::{ReadFailed, Sink, Source, WriteFailed};
 pub use telling::report;
+
+#[cfg(test)]
+mod tests;

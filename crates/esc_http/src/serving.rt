@@ -52,7 +52,7 @@ pub fn serve<S: Alter, R: Source, W: Sink>(
     sink: &mut W,
 ) -> Result<(), ServeFault>
     ensures ok { OnOk result ((request : Request) × (text : List ℕ) × IfSome (R.remaining source.old) (λ input. Asks input request)
-        × IsAnswered S.Store desk.old.store desk.new.store request text × Appends (W.contents sink.old) (W.contents sink.new) text) }
+        × IsAnswered S.Store desk.old desk.new request text × Appends (W.contents sink.old) (W.contents sink.new) text) }
     ensures honest { IsHonest S.Store desk.new.store → IsHonest S.Store desk.old.store }
 
     // A read failed: nothing was written, and nothing arrived.
@@ -63,7 +63,7 @@ pub fn serve<S: Alter, R: Source, W: Sink>(
     // A write or a flush failed: a beginning of the response was written.
     ensures write_failed { result ≡ Err ServeFault.Write → IsTrue (W.failed sink.new) }
     ensures write_wrote { result ≡ Err ServeFault.Write → (request : Request) × (text : List ℕ) × IfSome (R.remaining source.old) (λ input. Asks input request)
-        × IsAnswered S.Store desk.old.store desk.new.store request text × AppendsBeginning (W.contents sink.old) (W.contents sink.new) text }
+        × IsAnswered S.Store desk.old desk.new request text × AppendsBeginning (W.contents sink.old) (W.contents sink.new) text }
 {
     let text = answer_input(alloc, desk, source)?;
     send_answer(sink, &text)?;
@@ -78,7 +78,7 @@ pub fn serve_one<S: Alter, R: Read, W: Write>(
     writer: &mut W,
 ) -> Result<(), ServeFault>
     ensures ok { OnOk result ((request : Request) × (text : List ℕ) × IfSome (R.remaining reader.old) (λ input. Asks input request)
-        × IsAnswered S.Store desk.old.store desk.new.store request text × Appends (W.contents writer.old) (W.contents writer.new) text) }
+        × IsAnswered S.Store desk.old desk.new request text × Appends (W.contents writer.old) (W.contents writer.new) text) }
     ensures honest { IsHonest S.Store desk.new.store → IsHonest S.Store desk.old.store }
 
     // A read failed: nothing was written, and nothing arrived.
@@ -87,7 +87,7 @@ pub fn serve_one<S: Alter, R: Read, W: Write>(
 
     // A write or a flush failed: a beginning of the response was written.
     ensures write_wrote { result ≡ Err ServeFault.Write → (request : Request) × (text : List ℕ) × IfSome (R.remaining reader.old) (λ input. Asks input request)
-        × IsAnswered S.Store desk.old.store desk.new.store request text × AppendsBeginning (W.contents writer.old) (W.contents writer.new) text }
+        × IsAnswered S.Store desk.old desk.new request text × AppendsBeginning (W.contents writer.old) (W.contents writer.new) text }
 {
     serve(alloc, desk, reader, writer)
 }

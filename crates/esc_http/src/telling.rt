@@ -6,7 +6,7 @@ ghost use Rattle.esc_manifest.specs.declared.row.MRow.{MRow};
 ghost use Rattle.esc_chain.specs.Chain.{InRange};
 ghost use Rattle.esc_store.specs.Standing.{IsHonest, IsAsBefore};
 ghost use Rattle.esc_desk.specs.ArrivalValue.{ArrivalValue};
-ghost use Rattle.esc_desk.specs.Serving.{Serves};
+ghost use Rattle.esc_desk.specs.Serving.{Serves, DeskServes};
 ghost use Rattle.esc_http.specs.declared.reports.Report.TheVariants as what;
 ghost use Rattle.esc_http.specs.Reports.{AreFindings, IsReport};
 
@@ -33,6 +33,7 @@ pub fn report<S: Alter>(
     report: Report,
 ) -> Result<Vec<u8>, SFault>
     ensures same { IsAsBefore S.Store desk.old.store desk.new.store }
+    ensures serves { (m : List MRow) (l : List ArrivalValue) → DeskServes S.Store desk.old m l → DeskServes S.Store desk.new m l }
     ensures text { IsHonest S.Store desk.new.store → (m : List MRow) (l : List ArrivalValue) → Serves S.Store desk.old.store m l → IfOk result (λ text. IsReport m l report text.items) }
 {
     match report {
@@ -46,6 +47,7 @@ pub fn report<S: Alter>(
 
 fn report_gaps<S: Alter>(alloc: Global, desk: &mut Desk<S>) -> Result<Vec<u8>, SFault>
     ensures same { IsAsBefore S.Store desk.old.store desk.new.store }
+    ensures serves { (m : List MRow) (l : List ArrivalValue) → DeskServes S.Store desk.old m l → DeskServes S.Store desk.new m l }
     ensures text { IsHonest S.Store desk.new.store → (m : List MRow) (l : List ArrivalValue) → Serves S.Store desk.old.store m l → IfOk result (λ text. IsReport m l what.Gaps text.items) }
 {
     let rows = desk.held(alloc)?;
@@ -72,6 +74,7 @@ fn held_of(alloc: Global, manifest: &Manifest, rows: &[usize]) -> Result<Held, S
 
 fn report_status<S: Alter>(alloc: Global, desk: &mut Desk<S>) -> Result<Vec<u8>, SFault>
     ensures same { IsAsBefore S.Store desk.old.store desk.new.store }
+    ensures serves { (m : List MRow) (l : List ArrivalValue) → DeskServes S.Store desk.old m l → DeskServes S.Store desk.new m l }
     ensures text { IsHonest S.Store desk.new.store → (m : List MRow) (l : List ArrivalValue) → Serves S.Store desk.old.store m l → IfOk result (λ text. IsReport m l what.Status text.items) }
 {
     let status = desk.status(alloc)?;
@@ -81,6 +84,7 @@ fn report_status<S: Alter>(alloc: Global, desk: &mut Desk<S>) -> Result<Vec<u8>,
 #[tactic(auto, using(crate::proofs::StoreFacts::as_before_then))]
 fn report_links<S: Alter>(alloc: Global, desk: &mut Desk<S>) -> Result<Vec<u8>, SFault>
     ensures same { IsAsBefore S.Store desk.old.store desk.new.store }
+    ensures serves { (m : List MRow) (l : List ArrivalValue) → DeskServes S.Store desk.old m l → DeskServes S.Store desk.new m l }
     ensures text { IsHonest S.Store desk.new.store → (m : List MRow) (l : List ArrivalValue) → Serves S.Store desk.old.store m l → IfOk result (λ text. IsReport m l what.Links text.items) }
 {
     let tables = desk.tables(alloc)?;
@@ -105,6 +109,7 @@ fn findings_at(
 
 fn report_receipts<S: Alter>(alloc: Global, desk: &mut Desk<S>) -> Result<Vec<u8>, SFault>
     ensures same { IsAsBefore S.Store desk.old.store desk.new.store }
+    ensures serves { (m : List MRow) (l : List ArrivalValue) → DeskServes S.Store desk.old m l → DeskServes S.Store desk.new m l }
     ensures text { IsHonest S.Store desk.new.store → (m : List MRow) (l : List ArrivalValue) → Serves S.Store desk.old.store m l → IfOk result (λ text. IsReport m l what.Receipts text.items) }
 {
     let replies = desk.receipts(alloc)?;
@@ -113,6 +118,7 @@ fn report_receipts<S: Alter>(alloc: Global, desk: &mut Desk<S>) -> Result<Vec<u8
 
 fn report_export<S: Alter>(alloc: Global, desk: &mut Desk<S>, kind: Kind) -> Result<Vec<u8>, SFault>
     ensures same { IsAsBefore S.Store desk.old.store desk.new.store }
+    ensures serves { (m : List MRow) (l : List ArrivalValue) → DeskServes S.Store desk.old m l → DeskServes S.Store desk.new m l }
     ensures text { IsHonest S.Store desk.new.store → (m : List MRow) (l : List ArrivalValue) → Serves S.Store desk.old.store m l → IfOk result (λ text. IsReport m l (what.Export kind) text.items) }
 {
     let tables = desk.tables(alloc)?;

@@ -1,30 +1,35 @@
-use Rattle.std.proofs.Common.{◌≡◌, true, false, Some, sym, ap, subst, ◌∙◌}
+use Rattle.std.proofs.Common.{◌≡◌, ℕ, List, [], ◌∷◌, ◌++◌, true, false, Some, sym, ap, subst, ◌∙◌}
 use Rattle.std.proofs.lemmas.Result.{IfOk-weaker}
+use Rattle.esc_store.specs.Kept.{with_receipt}
 use Rattle.esc_desk.specs.declared.finding.Finding.{Finding}
 use Rattle.esc_desk.specs.ArrivalValue.{ArrivalValue}
 use Rattle.esc_desk.specs.Finding.{held_row}
 use Rattle.esc_desk.specs.Receipts.{is_among, is_old}
 use Rattle.esc_desk.specs.Taking.{IsNew}
 use Rattle.esc_desk.proofs.Holding.{stands_noted}
+use Rattle.esc_desk.proofs.ReadLemmas.{same_held}
 use Rattle.esc_desk.proofs.Working.{chain_stays}
 use Rattle.esc_desk.proofs.desk.keep.Goals as goal
 
 pub returns-then-is_old-clause-kept : goal.returns-then-is_old-clause-kept
 returns-then-is_old-clause-kept g c = λ clean m l n k stood is.
     let a : ArrivalValue = record { number = n; body = c.args.body.now } in
-    let old : is_old c.args.held.now c.held_row.result ≡ true = sym c.if-is_old.ensures in
-    let stands = stands_noted m l a k c.args.found c.args.held.now c.args.number c.args.receipt.now is (λ q here. ap (is_old c.args.held.now) (sym (c.held_row.ensures ∙ here)) ∙ old) in
+    let rows = c.args.held.now.items in
+    let old : is_old rows c.held_row.result ≡ true = ap (λ (x : List ℕ). is_old x c.held_row.result) (sym c.deref.ensures.value) ∙ sym c.if-is_old.ensures in
+    let stands = stands_noted m l a k c.args.found rows c.args.number c.args.receipt.now is (λ q here. ap (is_old rows) (sym (c.held_row.ensures ∙ here)) ∙ old) in
     record {
       serves = record {
         kept = _;
         stands = c.in_ok-note_receipt.ensures.recorded clean k is.next stood;
         stands_for = stands;
       };
+      held = same_held m (l ++ a ∷ []) (with_receipt k c.args.receipt.now) stands rows is.held;
       works = chain_stays m l a k.steps is.stood.chain stands.chain;
     }
 
 pub returns-clause-kept : goal.returns-clause-kept
 returns-clause-kept g c = IfOk-weaker c.keep_deposit.result _ _ (λ work made. λ clean m l n k stood is.
     let a : ArrivalValue = record { number = n; body = c.args.body.now } in
-    let new : is_among c.args.held.now (Some c.in-Holding.row) ≡ false = sym (c.if-is_old.ensures ∙ ap (is_old c.args.held.now) (c.held_row.ensures ∙ ap held_row c.in-Holding.is)) in
-    made clean m l n k stood new (subst (λ (f : Finding). IsNew m l a k f c.args.held.now c.args.number c.args.receipt.now) c.in-Holding.is is)) c.keep_deposit.ensures.kept
+    let rows = c.args.held.now.items in
+    let new : is_among rows (Some c.in-Holding.row) ≡ false = ap (λ (x : List ℕ). is_among x (Some c.in-Holding.row)) (sym c.deref.ensures.value) ∙ sym (c.if-is_old.ensures ∙ ap (is_old c.deref.result.now) (c.held_row.ensures ∙ ap held_row c.in-Holding.is)) in
+    made clean m l n k stood new (subst (λ (f : Finding). IsNew m l a k f rows c.args.number c.args.receipt.now) c.in-Holding.is is)) c.keep_deposit.ensures.kept

@@ -1,4 +1,4 @@
-use Rattle.std.proofs.Common.{sym, ap, subst}
+use Rattle.std.proofs.Common.{ℕ, List, [], ◌∷◌, ◌++◌, sym, ap, subst}
 use Rattle.std.proofs.lemmas.Result.{IfOk-weaker}
 use Rattle.sha2.specs.Sha256.{sha256}
 use Rattle.esc_tables.specs.Reading.{reading}
@@ -7,6 +7,8 @@ use Rattle.esc_store.specs.Kept.{Kept, with_registry}
 use Rattle.esc_store.specs.Standing.{Stands}
 use Rattle.esc_desk.specs.ArrivalValue.{ArrivalValue}
 use Rattle.esc_desk.specs.Stands.{deposits_of}
+use Rattle.esc_desk.specs.Plans.{IsPlanned}
+use Rattle.esc_desk.proofs.ReadLemmas.{same_held}
 use Rattle.esc_desk.proofs.TakingIn.{reads_of}
 use Rattle.esc_desk.proofs.Holding.{stands_held, no_body_yet, old_count}
 use Rattle.esc_desk.proofs.Working.{few_moved, moved, both_ok}
@@ -17,7 +19,7 @@ returns-clause-kept g c = IfOk-weaker c.hold_deposit.result _ _
     (λ work made. λ clean m l n k stood new is.
     let a : ArrivalValue = record { number = n; body = c.args.body.now } in
     let plan = c.in_ok-plan.plan in
-    let rows = c.args.held.now in
+    let rows = c.args.held.now.items in
     let number = c.args.number in
     let receipt = c.args.receipt.now in
     let row = c.args.row in
@@ -27,16 +29,18 @@ returns-clause-kept g c = IfOk-weaker c.hold_deposit.result _ _
     let few = c.read_deposits_mention_few.ensures in
     let few_old = c.in_ok-plan.ensures.few_old in
     let few_new = c.in_ok-plan.ensures.few_new in
-    let planned = c.in_ok-plan.ensures.planned honest k stood a.body (reads_of sha256 reading m a.body row deposit (sym is.found_is)) in
+    let planned = subst (λ (x : List ℕ). IsPlanned reading k x row a.body plan) c.deref.ensures.value (c.in_ok-plan.ensures.planned honest k stood a.body (reads_of sha256 reading m a.body row deposit (sym is.found_is))) in
     let accepted = subst IsAccepted is.stood.listed planned.accepted in
     let before = subst (λ (x : Kept). Stands g.S.Store c.plan_move.new.store x) (ap (with_registry k) is.stood.registry) (c.in_ok-plan.ensures.same.stands k stood) in
+    let stands = stands_held law m accepted l a k rows number receipt row deposit is new plan planned in
     let count = old_count law m accepted l a k rows number receipt row deposit is new plan planned in
     record {
       serves = record {
         kept = _;
         stands = made.0 clean k (deposits_of reading k.bodies k.steps) is.next (no_body_yet law m accepted l a k rows number receipt row deposit is new plan planned) count before;
-        stands_for = stands_held law m accepted l a k rows number receipt row deposit is new plan planned;
+        stands_for = stands;
       };
+      held = same_held m (l ++ a ∷ []) _ stands c.insert_row.new.rows.items (c.in_ok-insert_row.ensures k.bodies a.body is.held);
       works = moved law few m accepted l a k rows number receipt row deposit is new plan planned few_old few_new work
           (made.1 clean k (deposits_of reading k.bodies k.steps) count before (few_moved law few m accepted l a k rows number receipt row deposit is new plan planned few_old few_new));
     })

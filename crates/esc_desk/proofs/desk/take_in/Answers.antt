@@ -9,48 +9,37 @@ use Rattle.esc_desk.specs.Receipts.{is_among, receipt_by}
 use Rattle.esc_desk.specs.Taking.{IsNew}
 use Rattle.esc_desk.proofs.OneArrival.{new_reply}
 use Rattle.esc_desk.proofs.Holding.{new_receipt}
-use Rattle.esc_desk.proofs.StoreFacts.{was_honest}
 use Rattle.esc_desk.proofs.Working.{holds_nothing_new}
 use Rattle.esc_desk.proofs.desk.take_in.Goals as goal
 
 pub returns-clause-answered : goal.returns-clause-answered
-returns-clause-answered g c = λ clean m l k stood stands none.
+returns-clause-answered g c = λ clean m l k stood stands are_held none.
     let a : ArrivalValue = record { number = c.args.number.now; body = c.args.body.now } in
-    let held = c.in_ok-held.held.items in
+    let held = c.args.held.now.items in
     let found = c.in_ok-found.found in
     let receipt = c.receipt_by-receipt.result in
-    let at_held = c.in_ok-work.ensures.honest clean in
-    let at_next = was_honest g.S.Store c.next_receipt.new.store c.held.new.self c.in_ok-held.ensures.same at_held in
+    let honest = c.in_ok-work.ensures.honest clean in
     let stood_next = c.in_ok-next.ensures.same.stands k stood in
-    let stood_held = c.in_ok-held.ensures.same.stands k stood_next in
-    let listed : c.manifest.result.now ≡ m = c.manifest.ensures.kept k stood_held ∙ stands.listed in
+    let listed : c.manifest.result.now ≡ m = c.manifest.ensures.kept k stood_next ∙ stands.listed in
     let again : c.is_among-again.result ≡ is_among held (held_row found) = c.is_among-again.ensures ∙ ap₂ is_among c.deref.ensures.value c.held_row.ensures in
     let receipt_is : receipt ≡ receipt_by a.number (sha256 a.body) found (is_among held (held_row found)) = c.receipt_by-receipt.ensures ∙ ap₂ (λ (d : List ℕ) (b : Bool). receipt_by a.number d found b) c.requires again in
     let is : IsNew m l a k found held c.in_ok-next.next receipt = record {
       stood = stands;
       none = subst (λ (d : List ℕ). reply_alike m 1 a.number d k.receipts ≡ None) c.requires none;
       found_is = c.in_ok-found.ensures.found ∙ ap (λ (x : List MRow). finding sha256 reading x a.body) listed;
-      held = c.in_ok-held.ensures.rows at_held k stood_next;
-      next = c.in_ok-next.ensures.next at_next k stood;
+      held = are_held;
+      next = c.in_ok-next.ensures.next honest k stood;
       receipt_is = receipt_is;
     } in
     let count : 1 + length k.receipts ≡ c.in_ok-next.next = omega (arith, is.next) in
-    let listed2 : c.manifest-2.result.now ≡ m = c.manifest-2.ensures.kept k stood_held ∙ stands.listed in
-    let at_work = subst (λ (rows : List ℕ). IsNew m l a k found rows c.in_ok-next.next receipt) (sym c.deref-2.ensures.value) is in
-    let made = c.in_ok-work.ensures.kept clean m l c.args.number.now k stood_held at_work in
+    let listed2 : c.manifest-2.result.now ≡ m = c.manifest-2.ensures.kept k stood_next ∙ stands.listed in
     record {
-      answers = record {
-        serves = made.serves;
-        told =
-            new_reply sha256 reading m l k a stands is.none
-            ∙ ap Some (sym (c.in_ok-reply.ensures ∙ ap (λ (x : List MRow). reply_kept x c.in_ok-next.next receipt) (c.rows.ensures.rows ∙ listed2) ∙ ap₂ (λ (n : ℕ) (r : ReceiptValue). reply_kept m n r) (sym count) (new_receipt m l a k found held c.in_ok-next.next receipt is)));
-      };
-      works = made.works;
-      idle = λ same. c.in_ok-work.ensures.idle (holds_nothing_new m l a k found c.deref-2.result.now c.in_ok-next.next receipt at_work same);
+      kept = c.in_ok-work.ensures.kept clean m l c.args.number.now k stood_next is;
+      told =
+          new_reply sha256 reading m l k a stands is.none
+          ∙ ap Some (sym (c.in_ok-reply.ensures ∙ ap (λ (x : List MRow). reply_kept x c.in_ok-next.next receipt) (c.rows.ensures.rows ∙ listed2) ∙ ap₂ (λ (n : ℕ) (r : ReceiptValue). reply_kept m n r) (sym count) (new_receipt m l a k found held c.in_ok-next.next receipt is)));
+      idle = λ same. c.in_ok-work.ensures.idle (holds_nothing_new m l a k found held c.in_ok-next.next receipt is same);
     }
 
 pub returns-clause-room : goal.returns-clause-room
-returns-clause-room g c = λ clean k stood.
-    let at_held = c.in_ok-work.ensures.honest clean in
-    let at_next = was_honest g.S.Store c.next_receipt.new.store c.held.new.self c.in_ok-held.ensures.same at_held in
-    omega (arith, c.in_ok-next.ensures.next at_next k stood, c.in_ok-next.ensures.room)
+returns-clause-room g c = λ clean k stood. omega (arith, c.in_ok-next.ensures.next (c.in_ok-work.ensures.honest clean) k stood, c.in_ok-next.ensures.room)

@@ -18,4 +18,4 @@ returns-in-Cut-clause-answers g c =
     (refused BadRequest, cut_refused _ c.args.number.now c.args.size body, (refl, text_is _ _ c.refusal_response.result c.refusal_response.ensures))
 
 pub returns-in-NoMemory-clause-answers : goal.returns-in-NoMemory-clause-answers
-returns-in-NoMemory-clause-answers g c = memory_answers_some g.S.Store c.args.desk.now.store _ (Put c.args.number.now c.args.size)
+returns-in-NoMemory-clause-answers g c = memory_answers_some g.S.Store c.args.desk.now _ (Put c.args.number.now c.args.size)

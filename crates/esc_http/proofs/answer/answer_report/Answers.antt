@@ -5,7 +5,7 @@ use Rattle.esc_http.proofs.answer.answer_report.Goals as goal
 
 pub returns-in-Ok-clause-answers : goal.returns-in-Ok-clause-answers
 returns-in-Ok-clause-answers g c = (
-  inr c.report.ensures.same,
+  inr (record { same = c.report.ensures.same; serves = c.report.ensures.serves }),
   inl (record {
     body = c.deref.result.now;
     is = λ clean m l serves. subst (IsReport m l c.args.what) (sym c.deref.ensures.value) (c.in-Ok.ensures.text clean m l serves);
@@ -14,4 +14,4 @@ returns-in-Ok-clause-answers g c = (
 )
 
 pub returns-in-Err-clause-answers : goal.returns-in-Err-clause-answers
-returns-in-Err-clause-answers g c = (inr c.report.ensures.same, inr (fault_is _ c.in-Err.fault c.fault_response.result c.fault_response.ensures))
+returns-in-Err-clause-answers g c = (inr (record { same = c.report.ensures.same; serves = c.report.ensures.serves }), inr (fault_is _ c.in-Err.fault c.fault_response.result c.fault_response.ensures))

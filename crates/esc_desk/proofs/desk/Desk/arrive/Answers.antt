@@ -1,34 +1,44 @@
-use Rattle.std.proofs.Common.{refl, ◌≡◌, ◌<◌, Some, None, List, ℕ, length, sym, ap, ap₂, subst, ◌∙◌}
+use Rattle.std.proofs.Common.{refl, ◌≡◌, ◌<◌, Some, None, List, [], ◌∷◌, ◌++◌, ℕ, length, sym, ap, ap₂, subst, ◌∙◌}
+use Rattle.std.proofs.lemmas.Option.{IfSome_then}
 use Rattle.std.proofs.lemmas.Result.{IfOk-weaker, on_ok_weaker}
 use Rattle.sha2.specs.Sha256.{sha256}
 use Rattle.esc_tables.specs.Reading.{reading}
 use Rattle.esc_manifest.specs.declared.row.MRow.{MRow}
 use Rattle.esc_store.specs.ReplyValue.{ReceiptValue, reply_alike}
 use Rattle.esc_desk.specs.ArrivalValue.{ArrivalValue}
+use Rattle.esc_desk.specs.Stands.{held_body}
 use Rattle.esc_desk.proofs.OneArrival.{repeated, repeated_reply}
+use Rattle.esc_desk.proofs.Remembering.{held_by}
 use Rattle.esc_desk.proofs.Searches.{same_answer, no_answer}
 use Rattle.esc_desk.proofs.Working.{chain_stays}
 use Rattle.esc_desk.proofs.desk.Desk.arrive.Goals as goal
 
 pub returns-in-Some-clause-answered : goal.returns-in-Some-clause-answered
-returns-in-Some-clause-answered g c = λ clean m l serves.
+returns-in-Some-clause-answered g c = λ clean m l served.
+    let serves = served.serves in
     let a : ArrivalValue = record { number = c.args.number.now; body = c.args.body.now } in
     let there : reply_alike m 1 a.number (sha256 a.body) serves.kept.receipts ≡ Some c.in-Some.reply =
     sym (c.in_ok-reply.ensures.found clean serves.kept serves.stands ∙ ap₂ (λ (x : List MRow) (d : List ℕ). reply_alike x 1 a.number d serves.kept.receipts) serves.stands_for.listed c.digest-digest.ensures) ∙ c.in-Some.is in
+    let again = repeated sha256 reading m l serves.kept a serves.stands_for c.in-Some.reply there in
     record {
-      serves = record { kept = serves.kept; stands = c.in_ok-reply.ensures.same.stands serves.kept serves.stands; stands_for = repeated sha256 reading m l serves.kept a serves.stands_for c.in-Some.reply there };
+      serves = record {
+        serves = record { kept = serves.kept; stands = c.in_ok-reply.ensures.same.stands serves.kept serves.stands; stands_for = again };
+        remembers = IfSome_then c.args.self.now.known served.remembers (λ rows held. held_by (held_body sha256 reading m l) (held_body sha256 reading m (l ++ a ∷ [])) (λ r. sym (serves.stands_for.bodies r) ∙ again.bodies r) rows.items held);
+      };
       told = repeated_reply sha256 reading m l serves.kept a serves.stands_for c.in-Some.reply there;
     }
 
 pub returns-in-None-clause-answered : goal.returns-in-None-clause-answered
-returns-in-None-clause-answered g c = λ clean m l serves.
-    let honest = c.take_in.ensures.honest clean in
+returns-in-None-clause-answered g c = λ clean m l served.
+    let serves = served.serves in
+    let honest = c.take_new.ensures.honest clean in
     let none : reply_alike m 1 c.args.number.now c.digest-digest.result serves.kept.receipts ≡ None =
     sym (c.in_ok-reply.ensures.found honest serves.kept serves.stands ∙ ap (λ (x : List MRow). reply_alike x 1 c.args.number.now c.digest-digest.result serves.kept.receipts) serves.stands_for.listed) ∙ c.in-None.is in
-    IfOk-weaker c.take_in.result _ _ (λ p taken. taken.answers) (c.take_in.ensures.answered clean m l serves.kept (c.in_ok-reply.ensures.same.stands serves.kept serves.stands) serves.stands_for none)
+    IfOk-weaker c.take_new.result _ _ (λ p taken. taken.answers) (c.take_new.ensures.answered clean m l serves.kept (c.in_ok-reply.ensures.same.stands serves.kept serves.stands) serves.stands_for (IfSome_then c.args.self.now.known served.remembers (λ rows held. held_by (held_body sha256 reading m l) serves.kept.bodies (λ r. sym (serves.stands_for.bodies r)) rows.items held)) none)
 
 pub returns-in-Some-clause-worked : goal.returns-in-Some-clause-worked
-returns-in-Some-clause-worked g c = λ clean m l serves.
+returns-in-Some-clause-worked g c = λ clean m l served.
+    let serves = served.serves in
     let a : ArrivalValue = record { number = c.args.number.now; body = c.args.body.now } in
     let stood = serves.stands_for in
     let there : reply_alike m 1 a.number (sha256 a.body) serves.kept.receipts ≡ Some c.in-Some.reply =
@@ -36,21 +46,24 @@ returns-in-Some-clause-worked g c = λ clean m l serves.
     chain_stays m l a serves.kept.steps stood.chain (repeated sha256 reading m l serves.kept a stood c.in-Some.reply there).chain
 
 pub returns-in-None-clause-worked : goal.returns-in-None-clause-worked
-returns-in-None-clause-worked g c = λ clean m l serves.
-    let honest = c.take_in.ensures.honest clean in
+returns-in-None-clause-worked g c = λ clean m l served.
+    let serves = served.serves in
+    let honest = c.take_new.ensures.honest clean in
     let none : reply_alike m 1 c.args.number.now c.digest-digest.result serves.kept.receipts ≡ None =
     sym (c.in_ok-reply.ensures.found honest serves.kept serves.stands ∙ ap (λ (x : List MRow). reply_alike x 1 c.args.number.now c.digest-digest.result serves.kept.receipts) serves.stands_for.listed) ∙ c.in-None.is in
-    IfOk-weaker c.take_in.result _ _ (λ p taken. taken.works) (c.take_in.ensures.answered clean m l serves.kept (c.in_ok-reply.ensures.same.stands serves.kept serves.stands) serves.stands_for none)
+    IfOk-weaker c.take_new.result _ _ (λ p taken. taken.works) (c.take_new.ensures.answered clean m l serves.kept (c.in_ok-reply.ensures.same.stands serves.kept serves.stands) serves.stands_for (IfSome_then c.args.self.now.known served.remembers (λ rows held. held_by (held_body sha256 reading m l) serves.kept.bodies (λ r. sym (serves.stands_for.bodies r)) rows.items held)) none)
 
 pub returns-in-None-clause-idle : goal.returns-in-None-clause-idle
-returns-in-None-clause-idle g c = λ clean m l serves same.
-    let honest = c.take_in.ensures.honest clean in
+returns-in-None-clause-idle g c = λ clean m l served same.
+    let serves = served.serves in
+    let honest = c.take_new.ensures.honest clean in
     let none : reply_alike m 1 c.args.number.now c.digest-digest.result serves.kept.receipts ≡ None =
     sym (c.in_ok-reply.ensures.found honest serves.kept serves.stands ∙ ap (λ (x : List MRow). reply_alike x 1 c.args.number.now c.digest-digest.result serves.kept.receipts) serves.stands_for.listed) ∙ c.in-None.is in
-    IfOk-weaker c.take_in.result _ _ (λ p taken. taken.idle same) (c.take_in.ensures.answered clean m l serves.kept (c.in_ok-reply.ensures.same.stands serves.kept serves.stands) serves.stands_for none)
+    IfOk-weaker c.take_new.result _ _ (λ p taken. taken.idle same) (c.take_new.ensures.answered clean m l serves.kept (c.in_ok-reply.ensures.same.stands serves.kept serves.stands) serves.stands_for (IfSome_then c.args.self.now.known served.remembers (λ rows held. held_by (held_body sha256 reading m l) serves.kept.bodies (λ r. sym (serves.stands_for.bodies r)) rows.items held)) none)
 
 pub returns-in-Some-clause-repeated : goal.returns-in-Some-clause-repeated
-returns-in-Some-clause-repeated g c = λ clean m l serves r told.
+returns-in-Some-clause-repeated g c = λ clean m l served r told.
+    let serves = served.serves in
     let stood = serves.stands_for in
     let number = c.args.number.now in
     let there : reply_alike m 1 number (sha256 c.args.body.now) serves.kept.receipts ≡ Some c.in-Some.reply =
@@ -58,16 +71,18 @@ returns-in-Some-clause-repeated g c = λ clean m l serves r told.
     (same_answer (sym there ∙ ap (reply_alike m 1 number (sha256 c.args.body.now)) stood.receipts ∙ told), refl)
 
 pub returns-in-None-clause-repeated : goal.returns-in-None-clause-repeated
-returns-in-None-clause-repeated g c = λ clean m l serves r told.
+returns-in-None-clause-repeated g c = λ clean m l served r told.
+    let serves = served.serves in
     let stood = serves.stands_for in
     let number = c.args.number.now in
-    let honest = c.take_in.ensures.honest clean in
+    let honest = c.take_new.ensures.honest clean in
     let none : reply_alike m 1 number (sha256 c.args.body.now) serves.kept.receipts ≡ None =
     sym (c.in_ok-reply.ensures.found honest serves.kept serves.stands ∙ ap₂ (λ (x : List MRow) (d : List ℕ). reply_alike x 1 number d serves.kept.receipts) stood.listed c.digest-digest.ensures) ∙ c.in-None.is in
     absurd (no_answer (sym none ∙ ap (reply_alike m 1 number (sha256 c.args.body.now)) stood.receipts ∙ told))
 
 pub returns-in-Some-clause-room : goal.returns-in-Some-clause-room
-returns-in-Some-clause-room g c = λ clean m l serves none.
+returns-in-Some-clause-room g c = λ clean m l served none.
+    let serves = served.serves in
     let stood = serves.stands_for in
     let number = c.args.number.now in
     let digest = sha256 c.args.body.now in
@@ -76,6 +91,7 @@ returns-in-Some-clause-room g c = λ clean m l serves none.
     absurd (no_answer (sym none ∙ ap (reply_alike m 1 number digest) (sym stood.receipts) ∙ there))
 
 pub returns-in-None-clause-room : goal.returns-in-None-clause-room
-returns-in-None-clause-room g c = λ clean m l serves none.
-    let few = c.take_in.ensures.room clean serves.kept (c.in_ok-reply.ensures.same.stands serves.kept serves.stands) in
-    on_ok_weaker c.take_in.result (λ room. subst (λ (rs : List ReceiptValue). length rs < 1_000_000_000) serves.stands_for.receipts room) few
+returns-in-None-clause-room g c = λ clean m l served none.
+    let serves = served.serves in
+    let few = c.take_new.ensures.room clean serves.kept (c.in_ok-reply.ensures.same.stands serves.kept serves.stands) in
+    on_ok_weaker c.take_new.result (λ room. subst (λ (rs : List ReceiptValue). length rs < 1_000_000_000) serves.stands_for.receipts room) few

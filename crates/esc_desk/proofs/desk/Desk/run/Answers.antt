@@ -17,5 +17,5 @@ loop-arrival-preserved g c =
       honest = λ clean. c.loop-arrival.invariant.honest (c.take-outcome.ensures.honest clean);
       ran = λ clean m before served.
           let past = c.take-outcome.ensures.honest clean in
-          rw (more, c.push_reserved.ensures.items) (ran_more g.S.Store c.loop-arrival.self.store c.take-outcome.new.self.store m before (take i all) c.loop-arrival.outcomes.items a c.take-outcome.result (c.loop-arrival.invariant.ran past m before served) (c.take-outcome.ensures.taken clean m));
+          rw (more, c.push_reserved.ensures.items) (ran_more g.S.Store c.loop-arrival.self c.take-outcome.new.self m before (take i all) c.loop-arrival.outcomes.items a c.take-outcome.result (c.loop-arrival.invariant.ran past m before served) (c.take-outcome.ensures.taken clean m));
     }

@@ -3,7 +3,7 @@ use Rattle.esc_manifest.specs.declared.row.MRow.{MRow}
 use Rattle.esc_store.specs.Standing.{IsHonest}
 use Rattle.esc_desk.specs.ArrivalValue.{ArrivalValue}
 use Rattle.esc_desk.specs.Running.{Ran}
-use Rattle.esc_desk.specs.Serving.{Serves}
+use Rattle.esc_desk.specs.Serving.{DeskServes}
 use Rattle.esc_desk.proofs.desk.Desk.run.Given as goal
 
 -- the run so far
@@ -12,5 +12,5 @@ invariant-loop-arrival g l = record {
   counted : length l.outcomes.items ≡ l.arrival-index;
   room : length l.arrivals ≤ vec_capacity l.outcomes;
   honest : IsHonest g.S.Store l.self.store → IsHonest g.S.Store l.fn.self.store;
-  ran : IsHonest g.S.Store l.self.store → (m : List MRow) (before : List ArrivalValue) → Serves g.S.Store l.fn.self.store m before → Ran g.S.Store l.self.store m before (take l.arrival-index l.arrivals) l.outcomes.items;
+  ran : IsHonest g.S.Store l.self.store → (m : List MRow) (before : List ArrivalValue) → DeskServes g.S.Store l.fn.self m before → Ran g.S.Store l.self m before (take l.arrival-index l.arrivals) l.outcomes.items;
 }
