@@ -15,6 +15,7 @@
 //! - [`move_chain`]: the steps past the common front are taken back, the last first, and the new ones applied. Where
 //!   nothing is common, all is cleared at once, which is no write.
 //! - [`MemRegistry`]: a registry in memory.
+//! - [`Objects`]: objects one at a time, for who wants to see all of a registry and not hold them.
 //! - [`read_deposits_mention_few`]: a law, that a deposit which was read from a body mentions at most 100,000 keys.
 //!
 //! The contracts speak of any [`Registry`], by what it *holds*: a relation between it and a content with its
@@ -30,6 +31,7 @@ mod front;
 mod laws;
 mod memory;
 mod moves;
+mod objects;
 mod registry;
 #[cfg(test)]
 mod tests;
@@ -40,4 +42,5 @@ pub use front::{Step, common_front};
 pub use laws::read_deposits_mention_few;
 pub use memory::MemRegistry;
 pub use moves::{Work, move_chain};
+pub use objects::Objects;
 pub use registry::Registry;

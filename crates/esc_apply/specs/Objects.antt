@@ -1,0 +1,19 @@
+-- Objects that are given one at a time.
+use Rattle.std.specs.Prelude.{◌≡◌, List, [], ◌∷◌, Option, Some, None}
+use Rattle.std.specs.List.Sorted.{IsStrictlySortedBy}
+use Rattle.std.specs.Map.{keys_of}
+use Rattle.esc_tables.specs.KeyName.{KeyName, key_cmp}
+use Rattle.esc_tables.specs.ObjectValue.{ObjectValue}
+
+-- a key and its object
+abbrev pub Entry : Type 0
+Entry = KeyName × ObjectValue
+
+-- entries by key, each key once
+abbrev pub InOrder : List Entry → Type 0
+InOrder es = IsStrictlySortedBy key_cmp (keys_of es)
+
+-- of the entries that were to come the first was given, and the rest is to come; or none was to come, and none is
+abbrev pub Gives : (List Entry → Type 0) → List Entry → Option Entry → Type 0
+Gives Lists es (Some e) = (rest : List Entry) × (es ≡ e ∷ rest) × Lists rest
+Gives Lists es None = (es ≡ []) × Lists []
