@@ -16,6 +16,7 @@
 //!   nothing is common, all is cleared at once, which is no write.
 //! - [`MemRegistry`]: a registry in memory.
 //! - [`Objects`]: objects one at a time, for who wants to see all of a registry and not hold them.
+//! - [`MapObjects`]: those of a map in memory.
 //! - [`read_deposits_mention_few`]: a law, that a deposit which was read from a body mentions at most 100,000 keys.
 //!
 //! The contracts speak of any [`Registry`], by what it *holds*: a relation between it and a content with its
@@ -29,6 +30,7 @@ mod back;
 mod forward;
 mod front;
 mod laws;
+mod map;
 mod memory;
 mod moves;
 mod objects;
@@ -40,6 +42,7 @@ pub use back::undo_step;
 pub use forward::apply_step;
 pub use front::{Step, common_front};
 pub use laws::read_deposits_mention_few;
+pub use map::MapObjects;
 pub use memory::MemRegistry;
 pub use moves::{Work, move_chain};
 pub use objects::Objects;
