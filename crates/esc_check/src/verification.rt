@@ -1,6 +1,6 @@
 //! Verification of the tables of a registry.
 
-ghost use Rattle.std.specs.Prelude.{◌≡◌, ◌↔◌, ◌++◌, List, OnOk, IfOk, string_bytes};
+ghost use Rattle.std.specs.Prelude.{◌≡◌, ◌↔◌, ◌++◌, OnOk, IfOk, string_bytes};
 ghost use Rattle.std.specs.List.{Contains, flat_map};
 ghost use Rattle.std.specs.List.Sorted.{IsStrictlySortedBy};
 ghost use Rattle.std.specs.Map.{keys_of};
@@ -8,7 +8,7 @@ ghost use Rattle.esc_tables.specs.KeyName.{key_cmp};
 ghost use Rattle.esc_check.specs.FindingValue.{FindingValue, listing_cmp};
 ghost use Rattle.esc_check.specs.Findings.{IsFinding};
 ghost use Rattle.esc_check.specs.Gathered.{is_present, links_of, link_findings, own_findings, object_findings};
-ghost use Rattle.esc_check.specs.Tables.{Entry, tables_of};
+ghost use Rattle.esc_check.specs.Tables.{tables_of};
 
 use crate::count::check_counts;
 use crate::date::{Limit, check_forms, check_moments, limit_at};
@@ -16,16 +16,14 @@ use crate::distinct::settle;
 use crate::finding::Finding;
 use crate::link::{add_links, check_links};
 use crate::status::check_statuses;
-use crate::stream::StreamFault;
-use esc_apply::Objects;
 use esc_bundle::NoMemory;
 use esc_envelope::Kind;
 use esc_tables::{Key, Object};
 use std::alloc::Global;
 use std::collections::BTreeMap;
 
-// Adds what is found of an object by itself.
-fn check_own(
+/// Adds what is found of an object by itself.
+pub fn check_own(
     alloc: Global,
     found: &mut Vec<Finding>,
     limit: &Limit,
@@ -99,19 +97,4 @@ pub fn verify(
     check_objects(alloc, &mut found, t, &limit)?;
     check_counts(alloc, &mut found, t, counts)?;
     Ok(settle(found))
-}
-
-/// The same of the objects that come one at a time. It takes memory for what is found, for the keys, and for the links
-/// that lead to what has not come yet.
-pub fn verify_from<O: Objects>(
-    _alloc: Global,
-    _o: &mut O,
-    _watermark: i64,
-    _counts: &BTreeMap<Kind, u64>,
-) -> Result<Vec<Finding>, StreamFault<O::Error>>
-    ensures follows { O.follows _o.old _o.new }
-    ensures ordered { IfOk result (λ found. IsStrictlySortedBy listing_cmp found.items) }
-    ensures each { IfOk result (λ found. O.is_honest _o.new → (es : List Entry) → O.lists _o.old es → (f : FindingValue) → Contains found.items f ↔ IsFinding (tables_of es) _watermark _counts.now.entries f) }
-{
-    Err(StreamFault::NoMemory)
 }

@@ -11,4 +11,5 @@ pub mod Serving
 pub mod Stands
 pub mod Taking
 pub mod Worked
+pub mod Walking
 pub mod Works

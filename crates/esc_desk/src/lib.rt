@@ -17,7 +17,8 @@
 //!
 //! What goes in is a [`Store`](esc_store::Store), then arrivals: one by one to [`Desk::arrive`], or a list of them to
 //! [`Desk::run`]. What comes out are replies, the work of each move, and the reads: [`Desk::status`],
-//! [`Desk::receipts`], [`Desk::manifest`], [`Desk::held`], [`Desk::tables`], [`Desk::end`] and [`Desk::writes`].
+//! [`Desk::receipts`], [`Desk::manifest`], [`Desk::held`], [`Desk::tables`], [`Desk::end`] and [`Desk::writes`]. The
+//! objects of the tables are given one at a time, too: [`Desk::walk`]. (The walk is scaffolding yet: it answers `S2`.)
 //!
 //! # What is promised
 //!
@@ -60,6 +61,7 @@ mod reads;
 mod receipt;
 mod running;
 mod status;
+mod walk;
 
 pub use arrival::Arrival;
 pub use desk::Desk;
@@ -67,6 +69,7 @@ pub use esc_store::{N1, Number, Reply, SFault, Verdict, number};
 pub use laws::{held_as_arrived, new_store_stands_for_none, worked_replies};
 pub use running::Outcome;
 pub use status::{End, Status};
+pub use walk::{Pages, Walk};
 
 #[cfg(test)]
 mod tests;
