@@ -5,7 +5,7 @@ use crate::stop::{DONE, Stop, print};
 use esc_desk::Desk;
 use esc_http::{ServeFault, serve_one};
 use sqlite::Alter;
-use std::io::{Error, Write};
+use std::io::{Error, Read, Write};
 use std::net::{Net, TcpListener, TcpStream};
 use std::time::Duration;
 
@@ -44,8 +44,8 @@ where
     Ok(DONE)
 }
 
-/// Serves the next connection. At `Err` there is none, since the listener failed.
-pub fn serve_next<S: Alter, E: Write>(
+// Serves the next connection. At `Err` there is none, since the listener failed.
+fn serve_next<S: Alter, E: Write>(
     rt: &HostRuntime,
     desk: &mut Desk<S>,
     listener: &TcpListener,
@@ -55,13 +55,22 @@ pub fn serve_next<S: Alter, E: Write>(
     let patience = Some(Duration::from_secs(PATIENCE));
     stream.set_read_timeout(patience)?;
     stream.set_write_timeout(patience)?;
-    let mut reader = &stream;
-    let mut writer = &stream;
+    serve_streams(rt, desk, &mut &stream, &mut &stream, err);
+    Ok(())
+}
+
+/// Serves one request over a reader and a writer. Where one of them fails, that is told.
+pub fn serve_streams<S: Alter, R: Read, W: Write, E: Write>(
+    rt: &HostRuntime,
+    desk: &mut Desk<S>,
+    reader: &mut R,
+    writer: &mut W,
+    err: &mut E,
+) {
     // Where standard error fails there is nobody to tell.
-    let _ = match serve_one(rt.alloc(), desk, &mut reader, &mut writer) {
+    let _ = match serve_one(rt.alloc(), desk, reader, writer) {
         Ok(()) => Ok(()),
         Err(ServeFault::Read) => err.write_all(b"read fault\n"),
         Err(ServeFault::Write) => err.write_all(b"write fault\n"),
     };
-    Ok(())
 }
