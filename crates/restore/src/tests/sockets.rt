@@ -13,6 +13,7 @@ use sqlite::{Connection, MemStore};
 use std::fs;
 use std::io::{self, Read, Write};
 use std::net::{Net, Shutdown, TcpListener, TcpStream};
+use std::process::Abort;
 use std::test::Fail;
 
 /// Standard output that calls an address once something is written, and sends each request by a connection of its own.
@@ -20,7 +21,7 @@ use std::test::Fail;
 struct Calling<'a, N: Net<Listener = TcpListener, Stream = TcpStream>> {
     net: &'a N,
     address: &'a str,
-    requests: &'a [&'static str],
+    requests: &'a [&'a str],
     calls: Vec<TcpStream>,
     text: Vec<u8>,
 }
@@ -77,42 +78,54 @@ const RESPONSES: [&str; 6] = [
     "HTTP/1.1 404 Not Found\r\nContent-Type: text/plain\r\nContent-Length: 10\r\nConnection: close\r\n\r\nnot found\n",
 ];
 
+// Serves requests from a store, and gives the responses.
+fn responses(
+    rt: &HostRuntime,
+    handles: &(impl Abort + Net<Listener = TcpListener, Stream = TcpStream>),
+    store: &str,
+    requests: &[&str],
+) -> Result<Vec<String>, Fail> {
+    let alloc = rt.alloc();
+    let (port, count) = (free_port(handles)?, requests.len());
+    let address = format!(in alloc; "127.0.0.1:{port}")?;
+    let line = format!(in alloc; "serve --store {store} --port {port} --count {count}")?;
+    let words = words_of(rt, line.as_str())?;
+    let mut out = Calling {
+        net: handles,
+        address: address.as_str(),
+        requests,
+        calls: Vec::new(alloc),
+        text: Vec::new(alloc),
+    };
+    let mut told: Vec<u8> = Vec::new(alloc);
+    let ended = run_words(rt, handles, &words, &mut out, &mut told);
+    let listening = format!(in alloc; "listening {address}\n")?;
+    assert_eq!(handles; str::from_utf8(&told)?, "");
+    assert_eq!(handles; str::from_utf8(&out.text)?, listening.as_str());
+    assert_eq!(handles; ended, 0);
+    let Calling { calls, .. } = out;
+    let mut texts = Vec::new(alloc);
+    for stream in calls {
+        texts.push(io::read_to_string(alloc, stream)?)?;
+    }
+    Ok(texts)
+}
+
 #[test]
 fn connections_are_served_one_after_the_other(rt: HostRuntime) -> Result<(), Fail> {
     empty_folder(&rt, "served")?;
     fs::write(&rt, "served/listed.csv", WITH_SAMPLE)?;
-    check_all(
-        &rt,
-        &rt,
-        &[(
-            "init --store served/a.db --manifest served/listed.csv",
-            0,
-            "listed 1\n",
-            "",
-        )],
-    )?;
-    let port = free_port(&rt)?;
-    let address = format!(in rt.alloc(); "127.0.0.1:{port}")?;
-    let line = format!(in rt.alloc(); "serve --store served/a.db --port {port} --count 6")?;
-    let words = words_of(&rt, line.as_str())?;
-    let mut out = Calling {
-        net: &rt,
-        address: address.as_str(),
-        requests: REQUESTS.as_slice(),
-        calls: Vec::new(rt.alloc()),
-        text: Vec::new(rt.alloc()),
-    };
-    let mut told: Vec<u8> = Vec::new(rt.alloc());
-    let ended = run_words(&rt, &rt, &words, &mut out, &mut told);
-    let listening = format!(in rt.alloc(); "listening {address}\n")?;
-    assert_eq!(rt; str::from_utf8(&told)?, "");
-    assert_eq!(rt; str::from_utf8(&out.text)?, listening.as_str());
-    assert_eq!(rt; ended, 0);
-    let Calling { calls, .. } = out;
-    assert_eq!(rt; calls.len(), RESPONSES.len());
-    for (stream, response) in calls.into_iter().zip(RESPONSES) {
-        let said = io::read_to_string(rt.alloc(), stream)?;
-        assert_eq!(rt; said.as_str(), response);
+    let made = (
+        "init --store served/a.db --manifest served/listed.csv",
+        0,
+        "listed 1\n",
+        "",
+    );
+    check_all(&rt, &rt, &[made])?;
+    let texts = responses(&rt, &rt, "served/a.db", REQUESTS.as_slice())?;
+    assert_eq!(rt; texts.len(), RESPONSES.len());
+    for (text, response) in texts.iter().zip(RESPONSES) {
+        assert_eq!(rt; text.as_str(), response);
     }
     // What was answered over a socket stands in the store.
     let receipts = "receipt,number,verdict,fault,id,resend,copy,orphans\n1,n1,A1,,F1,0,new,0\n";
@@ -122,6 +135,28 @@ fn connections_are_served_one_after_the_other(rt: HostRuntime) -> Result<(), Fai
         &[("report --store served/a.db receipts", 0, receipts, "")],
     )?;
     Ok(fs::remove_dir_all(&rt, "served")?)
+}
+
+#[test]
+fn a_body_that_is_not_wanted_is_let_by(rt: HostRuntime) -> Result<(), Fail> {
+    empty_folder(&rt, "unwanted")?;
+    fs::write(&rt, "unwanted/listed.csv", WITH_SAMPLE)?;
+    let made = (
+        "init --store unwanted/a.db --manifest unwanted/listed.csv",
+        0,
+        "listed 1\n",
+        "",
+    );
+    check_all(&rt, &rt, &[made])?;
+    let mut request = Vec::from_slice(
+        rt.alloc(),
+        b"PUT /nowhere HTTP/1.1\r\nContent-Length: 99000\r\n\r\n",
+    )?;
+    request.resize(100_000, b'x')?;
+    let texts = responses(&rt, &rt, "unwanted/a.db", &[str::from_utf8(&request)?])?;
+    assert_eq!(rt; texts.len(), 1);
+    assert_eq!(rt; texts.as_slice()[0].as_str(), RESPONSES[5]);
+    Ok(fs::remove_dir_all(&rt, "unwanted")?)
 }
 
 // What the program says, tells and answers where it is to serve a connection, and standard output has so much room.
