@@ -16,7 +16,9 @@
 //!   nothing is common, all is cleared at once, which is no write.
 //! - [`MemRegistry`]: a registry in memory.
 //! - [`Objects`]: objects one at a time, for who wants to see all of a registry and not hold them.
+//! - [`MapObjects`]: those of a map in memory.
 //! - [`read_deposits_mention_few`]: a law, that a deposit which was read from a body mentions at most 100,000 keys.
+//! - [`tables_are_listed`]: a law, that the tables of a chain have a listing by key.
 //!
 //! The contracts speak of any [`Registry`], by what it *holds*: a relation between it and a content with its
 //! before-images. A registry over a disk can promise that alone as long as the disk gives back what was written to
@@ -29,6 +31,7 @@ mod back;
 mod forward;
 mod front;
 mod laws;
+mod map;
 mod memory;
 mod moves;
 mod objects;
@@ -39,7 +42,8 @@ mod tests;
 pub use back::undo_step;
 pub use forward::apply_step;
 pub use front::{Step, common_front};
-pub use laws::read_deposits_mention_few;
+pub use laws::{read_deposits_mention_few, tables_are_listed};
+pub use map::MapObjects;
 pub use memory::MemRegistry;
 pub use moves::{Work, move_chain};
 pub use objects::Objects;

@@ -2,7 +2,10 @@
 
 mod stopping;
 
-use crate::{MemRegistry, Registry, Step, Work, apply_step, common_front, move_chain, undo_step};
+use crate::{
+    MapObjects, MemRegistry, Objects, Registry, Step, Work, apply_step, common_front, move_chain,
+    undo_step,
+};
 use Body::{D2, D2Both, D2Resent, D3, D6, F1, F2, F5, I4};
 use esc_bundle::NoMemory;
 use esc_envelope::{DepositType, Header, Kind, Place};
@@ -335,5 +338,29 @@ fn a_fault_of_the_registry_is_answered(rt: HostRuntime) -> Result<(), Fail> {
     let moved = go(&rt, alloc, &mut r, &[F1, D2, D3], &[F1, D2Resent, D3])?;
     assert_eq!(rt; moved, work(false, 2, 2, 5));
     assert_eq!(rt; r.writes(), 10);
+    Ok(())
+}
+
+#[test]
+fn objects_of_a_map_come_by_key(rt: HostRuntime) -> Result<(), Fail> {
+    let alloc = rt.alloc();
+    let mut objects = BTreeMap::new(alloc);
+    for (kind, name) in [
+        (Kind::Domain, "b.example"),
+        (Kind::Contact, "C1"),
+        (Kind::Domain, "a.example"),
+        (Kind::Registrar, "R1"),
+    ] {
+        objects.insert(key(alloc, kind, name)?, object(alloc, name, "R1")?)?;
+    }
+    let mut objects = MapObjects::new(objects);
+    for name in ["R1", "C1", "a.example", "b.example"] {
+        let (key, object) = objects.next()?.ok_or("no more objects")?;
+        assert_eq!(rt; key.text.as_str(), name);
+        let cell = object.parent.cells.first().ok_or("no cell")?;
+        assert_eq!(rt; cell.1.as_str(), name);
+    }
+    assert!(rt; objects.next()?.is_none());
+    assert!(rt; objects.next()?.is_none());
     Ok(())
 }

@@ -358,7 +358,7 @@ module _ (es : List Entry) (w : ℤ) (counts : List (Kind × ℕ)) (apart : IsDi
   found_in : (k : KeyName) (o : ObjectValue) (f : FindingValue) → tables_of es k ≡ Some o → Contains (pieces (k, o)) f → Contains (flat_map pieces es ++ flat_map declared counts) f
   found_in k o f at h = Contains-append_left (flat_map pieces es) (flat_map declared counts) f (in_pieces pieces es (k, o) f (Contains-from_lookup same_key k o es at) h)
 
-  to_findings : (f : FindingValue) → Contains (flat_map pieces es ++ flat_map declared counts) f → IsFinding (tables_of es) w counts f
+  pub to_findings : (f : FindingValue) → Contains (flat_map pieces es ++ flat_map declared counts) f → IsFinding (tables_of es) w counts f
   to_findings f h = pick (Contains-append_cases (flat_map pieces es) (flat_map declared counts) f h)
     where
       pick : Contains (flat_map pieces es) f ⊎ Contains (flat_map declared counts) f → IsFinding (tables_of es) w counts f
@@ -367,7 +367,7 @@ module _ (es : List Entry) (w : ℤ) (counts : List (Kind × ℕ)) (apart : IsDi
           object_found r.0.0 r.0.1 f (lookup-from_Contains keys_alike r.0.0 r.0.1 es apart r.1) r.2
       pick (inr b) = inr (inl (counts_found es counts f apart b))
 
-  from_findings : (f : FindingValue) → IsFinding (tables_of es) w counts f → Contains (flat_map pieces es ++ flat_map declared counts) f
+  pub from_findings : (f : FindingValue) → IsFinding (tables_of es) w counts f → Contains (flat_map pieces es ++ flat_map declared counts) f
   from_findings f (inl (l, (o, at, link), absent, is)) =
       found_in l.from o f at (Contains-append_left (link_findings (is_present es) (links_of l.from o)) _ f (found_links es l.from o l f link absent is))
   from_findings f (inr (inl m)) = Contains-append_right (flat_map pieces es) (flat_map declared counts) f (found_counts es counts f apart m)

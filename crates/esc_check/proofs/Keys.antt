@@ -22,7 +22,7 @@ use Rattle.esc_check.specs.Tables.{Entry, tables_of, AreKeysOf, HasCount}
 use Rattle.esc_check.proofs.Ties.{same_rank}
 use Rattle.esc_check.proofs.Members.{from_chosen, in_chosen}
 
-keys_total : IsTotalOrder key_cmp
+pub keys_total : IsTotalOrder key_cmp
 keys_total = then_total (on_total (λ (k : KeyName). kind_rank k.kind) nat_cmp_total) (on_total (λ (k : KeyName). k.text) nat_list_cmp_total)
 
 pub keys_alike : IsEquivalence key_eq

@@ -1,15 +1,17 @@
 -- What a walk over the objects gathers, with repeats, as lists. These are what the crate's own functions give one another; what
 -- `verify` answers is said by `Findings` alone.
-use Rattle.std.specs.Prelude.{ℕ, ℤ, int_lt, ◌==◌, Bool, true, false, not, ◌&&◌, if◌then◌else◌, List, [], ◌∷◌, ◌++◌, map, filter, count_by, Option, Some, None, is_some, codes}
+use Rattle.std.specs.Prelude.{◌≡◌, ℕ, ℤ, int_lt, ◌==◌, Bool, true, false, not, ◌&&◌, if◌then◌else◌, List, [], ◌∷◌, ◌++◌, map, filter, count_by, Option, Some, None, is_some, codes}
 use Rattle.std.specs.List.{flat_map, list_any}
-use Rattle.std.specs.Map.{lookup}
+use Rattle.std.specs.BTreeSet as sorted
+use Rattle.std.specs.Map.{lookup, keys_of}
 use Rattle.std.specs.Str.{bytes_eq}
 use Rattle.esc_envelope.specs.declared.kind.Kind.{Kind}
 use Rattle.esc_envelope.specs.Kinds.{is_kind}
 use Rattle.esc_envelope.specs.Watermark.{watermark_of}
-use Rattle.esc_tables.specs.KeyName.{KeyName, key_eq}
+use Rattle.esc_tables.specs.KeyName.{KeyName, key_cmp, key_eq}
 use Rattle.esc_tables.specs.ObjectValue.{RowValue, ObjectValue}
 use Rattle.esc_check.specs.declared.field.LinkField.{LinkField}
+use Rattle.esc_check.specs.declared.walk.Gathering.{Gathering}
 use Rattle.esc_check.specs.Export.{is_in}
 use Rattle.esc_check.specs.Fields.{cell, field_name, parent_fields, is_domain, child_field, status_table, created, expires}
 use Rattle.esc_check.specs.FindingValue.{FindingValue}
@@ -136,3 +138,15 @@ own_findings w shown k o =
 -- what is found of an object, where these keys are there
 abbrev pub object_findings : (KeyName → Bool) → ℤ → List ℕ → Entry → List FindingValue
 object_findings present w shown e = link_findings present (links_of e.0 e.1) ++ own_findings w shown e.0 e.1
+
+-- the links of these entries
+abbrev pub all_links : List Entry → List LinkValue
+all_links es = flat_map (λ e. links_of e.0 e.1) es
+
+-- a walk that has still to come to the entries left will have gathered what the whole has: what is found of each object by itself,
+-- the keys, and of the links those that wait; a link that was let go leads to a key that was met
+pub record Leads (w : ℤ) (shown : List ℕ) (g : Gathering) (left whole : List Entry) : Type 0 where
+  pub found : g.found.items ++ flat_map (λ e. own_findings w shown e.0 e.1) left ≡ flat_map (λ e. own_findings w shown e.0 e.1) whole
+  pub met : g.met.keys ++ keys_of left ≡ keys_of whole
+  pub waiting : (present : KeyName → Bool) → ((q : KeyName) → sorted.contains key_cmp g.met q ≡ true → present q ≡ true)
+      → link_findings present g.waiting.items ++ link_findings present (all_links left) ≡ link_findings present (all_links whole)

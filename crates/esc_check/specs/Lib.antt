@@ -8,4 +8,5 @@ pub mod Lines
 pub mod LinkValue
 pub mod Links
 pub mod Statuses
+pub mod Streams
 pub mod Tables

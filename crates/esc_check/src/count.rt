@@ -12,7 +12,7 @@ use esc_bundle::NoMemory;
 use esc_envelope::Kind;
 use esc_tables::{Key, Object};
 use std::alloc::Global;
-use std::collections::BTreeMap;
+use std::collections::{BTreeMap, BTreeSet};
 
 // How many objects are of a kind.
 fn count_of(t: &BTreeMap<Key, Object>, kind: Kind) -> u64
@@ -61,6 +61,44 @@ fn check_count(
         return Ok(());
     }
     add_miscounted(alloc, found, kind, declared, count)
+}
+
+// How many of these keys are of a kind.
+fn count_among(met: &BTreeSet<Key>, kind: Kind) -> u64
+    ensures { result ≡ count_of met.now.keys kind }
+{
+    met.iter().filter(|key| key.kind == kind).count() as u64
+}
+
+fn check_met_count(
+    alloc: Global,
+    found: &mut Vec<Finding>,
+    met: &BTreeSet<Key>,
+    kind: Kind,
+    declared: u64,
+) -> Result<(), NoMemory>
+    ensures { OnOk result (found.new.items ≡ found.old.items ++ count_findings met.now.keys (kind, declared)) }
+{
+    let count = count_among(met, kind);
+    if count == declared {
+        return Ok(());
+    }
+    add_miscounted(alloc, found, kind, declared, count)
+}
+
+/// Adds what is found of the declared numbers, where these are the keys of the objects.
+pub fn check_met(
+    alloc: Global,
+    found: &mut Vec<Finding>,
+    met: &BTreeSet<Key>,
+    counts: &BTreeMap<Kind, u64>,
+) -> Result<(), NoMemory>
+    ensures { OnOk result (found.new.items ≡ found.old.items ++ flat_map (count_findings met.now.keys) counts.now.entries) }
+{
+    for (kind, declared) in counts.iter() {
+        check_met_count(alloc, found, met, *kind, *declared)?;
+    }
+    Ok(())
 }
 
 /// Adds what is found of the declared numbers of objects.

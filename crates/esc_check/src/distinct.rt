@@ -1,11 +1,13 @@
 //! Findings as a set.
 
-ghost use Rattle.std.specs.Prelude.{◌↔◌};
+ghost use Rattle.std.specs.Prelude.{◌≡◌, ◌↔◌};
 ghost use Rattle.std.specs.List.{Contains};
 ghost use Rattle.std.specs.List.Sorted.{IsStrictlySortedBy};
-ghost use Rattle.esc_check.specs.FindingValue.{FindingValue, finding_cmp};
+ghost use Rattle.std.specs.Ordering.{eq_by_cmp};
+ghost use Rattle.esc_check.specs.FindingValue.{FindingValue, finding_cmp, listing_cmp};
 
 use crate::finding::Finding;
+use std::cmp::Ordering;
 
 /// These findings in order, each once. Takes no memory.
 pub fn settle(mut found: Vec<Finding>) -> Vec<Finding>
@@ -15,4 +17,29 @@ pub fn settle(mut found: Vec<Finding>) -> Vec<Finding>
     found.sort_unstable();
     found.dedup();
     found
+}
+
+/// Of findings in order, of those that stand next to each other and differ only in what is told besides, the first. Takes no
+/// memory.
+pub fn listed(mut found: Vec<Finding>) -> Vec<Finding>
+    requires { IsStrictlySortedBy finding_cmp found.items }
+    ensures ordered { IsStrictlySortedBy listing_cmp result.items }
+    ensures same { IsStrictlySortedBy listing_cmp found.items → result.items ≡ found.items }
+{
+    found.dedup_by(|later, earlier| is_listed_as(later, earlier));
+    found
+}
+
+fn is_listed_as(one: &Finding, other: &Finding) -> bool
+    ensures { result ≡ eq_by_cmp listing_cmp one.now other.now }
+{
+    let texts = one.key.cmp(&other.key).then(
+        one.field
+            .cmp(&other.field)
+            .then(one.value.cmp(&other.value)),
+    );
+    one.code
+        .cmp(&other.code)
+        .then(one.kind.cmp(&other.kind).then(texts))
+        == Ordering::Equal
 }

@@ -1,12 +1,16 @@
 //! The export of all objects of a kind.
 
-ghost use Rattle.std.specs.Prelude.{◌≡◌, ◌+◌, [], ◌<◌, ◌^◌, ◌∷◌, ◌++◌, map, length, count_by, IfOk, OnOk, string_bytes};
+ghost use Rattle.std.specs.Prelude.{◌≡◌, ◌+◌, [], ◌<◌, ◌^◌, ◌∷◌, ◌++◌, List, map, length, count_by, IfOk, IfErr, OnOk, string_bytes};
 ghost use Rattle.std.specs.Fmt.{decimal};
+ghost use Rattle.esc_apply.specs.Objects.{Entry};
 ghost use Rattle.esc_envelope.specs.Kinds.{kind_name, is_kind};
 ghost use Rattle.esc_check.specs.Lines.{line_text, text_of};
 ghost use Rattle.esc_check.specs.Export.{heading, row_lines, is_in, child_lines, object_lines, export_text};
+ghost use Rattle.esc_check.specs.Streams.{IfSource};
 
 use crate::lines::Lines;
+use crate::stream::StreamFault;
+use esc_apply::Objects;
 use esc_bundle::NoMemory;
 use esc_envelope::Kind;
 use esc_tables::{Key, Object, Row};
@@ -32,6 +36,27 @@ pub fn export_rows(
         write_object(alloc, &mut lines, key, object)?;
     }
     lines.into_text()
+}
+
+/// The same of objects that come one at a time. It takes memory for the text alone.
+pub fn export_from<O: Objects>(
+    alloc: Global,
+    o: &mut O,
+    kind: Kind,
+) -> Result<Vec<u8>, StreamFault<O::Error>>
+    ensures follows { O.follows o.old o.new }
+    ensures source { IfErr result (λ fault. IfSource fault (O.has_failed o.new)) }
+    ensures text { IfOk result (λ text. O.is_honest o.new → (es : List Entry) → O.lists o.old es → text.items ≡ export_text kind es) }
+{
+    let mut lines = Lines::new(alloc);
+    write_heading(&mut lines)?;
+    while let Some((key, object)) = o.next().map_err(StreamFault::Source)? {
+        if !is_of(&key, kind) {
+            continue;
+        }
+        write_object(alloc, &mut lines, &key, &object)?;
+    }
+    Ok(lines.into_text()?)
 }
 
 fn is_of(key: &Key, kind: Kind) -> bool

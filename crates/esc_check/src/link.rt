@@ -1,7 +1,9 @@
 //! The links of objects, and those that lead to nothing.
 
-ghost use Rattle.std.specs.Prelude.{◌≡◌, ◌∷◌, [], ◌++◌, OnOk, IfOk, not};
+ghost use Rattle.std.specs.Prelude.{◌≡◌, ◌∷◌, [], ◌++◌, OnOk, IfOk, not, map, filter};
 ghost use Rattle.std.specs.List.{flat_map};
+ghost use Rattle.std.specs.BTreeSet as sorted;
+ghost use Rattle.esc_tables.specs.KeyName.{key_cmp};
 ghost use Rattle.esc_tables.specs.TableRow.{is_dns, key_named};
 ghost use Rattle.esc_check.specs.Fields.{parent_fields};
 ghost use Rattle.esc_check.specs.Findings.{missing_target};
@@ -13,7 +15,7 @@ use esc_bundle::NoMemory;
 use esc_envelope::Kind;
 use esc_tables::{Key, Object, Row};
 use std::alloc::Global;
-use std::collections::BTreeMap;
+use std::collections::{BTreeMap, BTreeSet};
 use std::marker::Model;
 
 /// A link from the object with a key, by a field, to the object with another key.
@@ -156,6 +158,28 @@ pub fn check_links(
         if !is_missing(t, link) {
             continue;
         }
+        add_missing(alloc, found, link)?;
+    }
+    Ok(())
+}
+
+/// Those of these links that lead to none of these keys. Takes no memory.
+pub fn unmet(met: &BTreeSet<Key>, mut links: Vec<Link>) -> Vec<Link>
+    ensures { result.items ≡ filter (λ l. not (sorted.contains key_cmp met.now l.to)) links.items }
+{
+    links.retain(|link| !met.contains(&link.to));
+    links
+}
+
+/// Adds what is told of links to nothing.
+pub fn add_all_missing(
+    alloc: Global,
+    found: &mut Vec<Finding>,
+    links: &[Link],
+) -> Result<(), NoMemory>
+    ensures { OnOk result (found.new.items ≡ found.old.items ++ map missing_target links.now) }
+{
+    for link in links {
         add_missing(alloc, found, link)?;
     }
     Ok(())

@@ -22,8 +22,8 @@ use esc_tables::{Key, Object};
 use std::alloc::Global;
 use std::collections::BTreeMap;
 
-// Adds what is found of an object by itself.
-fn check_own(
+/// Adds what is found of an object by itself.
+pub fn check_own(
     alloc: Global,
     found: &mut Vec<Finding>,
     limit: &Limit,

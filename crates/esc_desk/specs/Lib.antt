@@ -3,6 +3,7 @@ pub mod ArrivalValue
 pub mod Filled
 pub mod Finding
 pub mod Given
+pub mod Places
 pub mod Plans
 pub mod Reads
 pub mod Receipts
@@ -11,4 +12,5 @@ pub mod Serving
 pub mod Stands
 pub mod Taking
 pub mod Worked
+pub mod Walking
 pub mod Works

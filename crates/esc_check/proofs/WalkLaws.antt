@@ -1,0 +1,184 @@
+-- What a walk over objects gathers is what is found of them.
+use Rattle.std.proofs.Common.{◌≡◌, ◌⊎◌, inl, inr, ℕ, ℤ, Bool, true, false, cond, not, ◌||◌, List, [], ◌∷◌, ◌++◌, map, filter, refl, sym, ap, subst, ◌∙◌, append-nil}
+use Rattle.std.specs.Prelude.{◌↔◌}
+use Rattle.std.specs.BTreeSet as sorted
+use Rattle.std.specs.BTreeSet.{insert_key}
+use Rattle.std.specs.List.{Contains, AllByRecursion, IsDistinct, flat_map, list_any}
+use Rattle.std.specs.List.Sorted.{IsStrictlySortedBy}
+use Rattle.std.specs.Map.{keys_of}
+use Rattle.std.specs.Ordering.{match_ordering, ordering_reverse}
+use Rattle.std.specs.declared.cmp.Ordering.{Ordering}
+use Rattle.std.specs.declared.cmp.Ordering.TheVariants.{Less}
+use Rattle.std.proofs.lemmas.List.{map-append}
+use Rattle.std.proofs.lemmas.List.Elements.{filter-append, Contains-append_left, Contains-append_right, Contains-append_cases}
+use Rattle.std.proofs.lemmas.Map.Keys.{IsDistinct-from_sorted}
+use Rattle.std.proofs.lemmas.Map.Made.{is_some-lookup}
+use Rattle.esc_apply.specs.Objects.{InOrder}
+use Rattle.esc_envelope.specs.declared.kind.Kind.{Kind}
+use Rattle.esc_tables.specs.KeyName.{KeyName, key_cmp, key_eq}
+use Rattle.esc_tables.specs.ObjectValue.{ObjectValue}
+use Rattle.esc_check.specs.declared.walk.Gathering.{Gathering}
+use Rattle.esc_check.specs.FindingValue.{FindingValue}
+use Rattle.esc_check.specs.Findings.{IsFinding, missing_target, printed}
+use Rattle.esc_check.specs.Gathered.{links_of, is_present, link_findings, count_findings, own_findings, object_findings, all_links, Leads}
+use Rattle.esc_check.specs.LinkValue.{LinkValue}
+use Rattle.esc_check.specs.Tables.{Entry, tables_of}
+use Rattle.esc_check.proofs.FindingLaws.{to_findings, from_findings}
+use Rattle.esc_check.proofs.Keys.{keys_total}
+use Rattle.esc_check.proofs.Members.{from_pieces, in_pieces, from_chosen, in_chosen}
+use Rattle.esc_check.proofs.Writing.{front_added}
+
+-- keys that come in order are put behind the others
+
+in_the_middle : (P : KeyName → Type 0) (xs ys : List KeyName) (k : KeyName) → AllByRecursion P (xs ++ k ∷ ys) → P k
+in_the_middle P [] ys k h = h.0
+in_the_middle P (x ∷ xs) ys k h = in_the_middle P xs ys k h.1
+
+put_last : (xs ys : List KeyName) (k : KeyName) → IsStrictlySortedBy key_cmp (xs ++ k ∷ ys) → insert_key key_cmp xs k ≡ xs ++ k ∷ []
+unfolding IsStrictlySortedBy
+put_last [] ys k h = refl
+put_last (x ∷ xs) ys k h =
+    let below = in_the_middle (λ y. key_cmp x y ≡ Less) xs ys k h.0 in
+    ap (λ (o : Ordering). match_ordering o (k ∷ x ∷ xs) (x ∷ xs) (x ∷ insert_key key_cmp xs k)) (keys_total.antisymm k x ∙ ap ordering_reverse below)
+    ∙ ap (λ (l : List KeyName). x ∷ l) (put_last xs ys k h.1)
+
+-- what was met stays met
+
+still_any : {X : Type 0} (test : X → Bool) (xs ys : List X) → list_any test xs ≡ true → list_any test (xs ++ ys) ≡ true
+still_any test [] ys h = absurd cc
+still_any {X} test (x ∷ xs) ys h = pick (test x) (still_any test xs ys) h
+  where
+    pick : (b : Bool) → (list_any test xs ≡ true → list_any test (xs ++ ys) ≡ true) → (b || list_any test xs) ≡ true → (b || list_any test (xs ++ ys)) ≡ true
+    pick true again h = refl
+    pick false again h = again h
+
+-- what is let go at once would be let go later
+
+chosen_twice : {X : Type 0} (p q : X → Bool) (xs : List X) → ((x : X) → q x ≡ false → p x ≡ false) → filter p (filter q xs) ≡ filter p xs
+chosen_twice p q [] h = refl
+chosen_twice {X} p q (x ∷ xs) h = pick (q x) refl (chosen_twice p q xs h)
+  where
+    pick : (b : Bool) → q x ≡ b → filter p (filter q xs) ≡ filter p xs → filter p (cond b (x ∷ filter q xs) (filter q xs)) ≡ cond (p x) (x ∷ filter p xs) (filter p xs)
+    pick true e again = ap (λ (l : List X). cond (p x) (x ∷ l) l) again
+    pick false e again = again ∙ ap (λ (b : Bool). cond b (x ∷ filter p xs) (filter p xs)) (sym (h x e))
+
+not_true : (a b : Bool) → (a ≡ true → b ≡ true) → not a ≡ false → not b ≡ false
+not_true true b h e = ap not (h refl)
+not_true false b h e = absurd cc
+
+link_findings-append : (present : KeyName → Bool) (a b : List LinkValue) → link_findings present (a ++ b) ≡ link_findings present a ++ link_findings present b
+link_findings-append present a b =
+    ap (map missing_target) (filter-append (λ (l : LinkValue). not (present l.to)) a b)
+    ∙ map-append missing_target (filter (λ (l : LinkValue). not (present l.to)) a) (filter (λ (l : LinkValue). not (present l.to)) b)
+
+-- one more object is taken in
+pub leads_more : (w : ℤ) (shown : List ℕ) (g h : Gathering) (k : KeyName) (o : ObjectValue) (left whole : List Entry) → InOrder whole → Leads w shown g ((k, o) ∷ left) whole
+    → h.found.items ≡ g.found.items ++ own_findings w shown k o → h.met.keys ≡ insert_key key_cmp g.met.keys k
+    → h.waiting.items ≡ g.waiting.items ++ filter (λ l. not (sorted.contains key_cmp g.met l.to)) (links_of k o) → Leads w shown h left whole
+leads_more w shown g h k o left whole ordered leads found met waiting =
+    let last : h.met.keys ≡ g.met.keys ++ k ∷ [] = met ∙ put_last g.met.keys (keys_of left) k (subst (IsStrictlySortedBy key_cmp) (sym leads.met) ordered) in
+    let grown : (q : KeyName) → sorted.contains key_cmp g.met q ≡ true → sorted.contains key_cmp h.met q ≡ true =
+    λ q has. ap (list_any (λ y. key_eq q y)) last ∙ still_any (λ y. key_eq q y) g.met.keys (k ∷ []) has in
+    record {
+      found = front_added _ _ _ _ _ _ refl leads.found found;
+      met = front_added _ _ _ _ _ _ refl leads.met last;
+      waiting = λ present covers.
+          let were : (l : LinkValue) → not (sorted.contains key_cmp g.met l.to) ≡ false → not (present l.to) ≡ false =
+          λ l. not_true (sorted.contains key_cmp g.met l.to) (present l.to) (λ has. covers l.to (grown l.to has)) in
+          let kept : link_findings present h.waiting.items ≡ link_findings present g.waiting.items ++ link_findings present (links_of k o) =
+          ap (link_findings present) waiting
+          ∙ link_findings-append present g.waiting.items (filter (λ l. not (sorted.contains key_cmp g.met l.to)) (links_of k o))
+          ∙ ap (λ (ls : List LinkValue). link_findings present g.waiting.items ++ map missing_target ls)
+          (chosen_twice (λ (l : LinkValue). not (present l.to)) (λ (l : LinkValue). not (sorted.contains key_cmp g.met l.to)) (links_of k o) were) in
+          front_added _ _ _ _ _ _ (link_findings-append present (links_of k o) (all_links left)) (leads.waiting present (λ q has. covers q (grown q has))) kept;
+    }
+
+-- what is found of objects by themselves and then of all links is what is found of one object after the other
+
+module _ (present : KeyName → Bool) (w : ℤ) (shown : List ℕ) where
+  abbrev own : Entry → List FindingValue
+  own e = own_findings w shown e.0 e.1
+
+  abbrev linked : Entry → List FindingValue
+  linked e = link_findings present (links_of e.0 e.1)
+
+  abbrev lost : LinkValue → Bool
+  lost l = not (present l.to)
+
+  to_each : (es : List Entry) (f : FindingValue) → Contains (flat_map own es ++ link_findings present (all_links es)) f → Contains (flat_map (object_findings present w shown) es) f
+  to_each es f h = pick (Contains-append_cases (flat_map own es) (link_findings present (all_links es)) f h)
+    where
+      pick : Contains (flat_map own es) f ⊎ Contains (link_findings present (all_links es)) f → Contains (flat_map (object_findings present w shown) es) f
+      pick (inl a) =
+          let r = from_pieces own es f a in
+          in_pieces (object_findings present w shown) es r.0 f r.1 (Contains-append_right (linked r.0) (own r.0) f r.2)
+      pick (inr b) =
+          let r = from_chosen lost missing_target (all_links es) f b in
+          let e = from_pieces (λ (e : Entry). links_of e.0 e.1) es r.0 r.1 in
+          let one = in_chosen lost missing_target (links_of e.0.0 e.0.1) r.0 e.2 r.2 in
+          in_pieces (object_findings present w shown) es e.0 f e.1
+          (Contains-append_left (linked e.0) (own e.0) f (subst (λ (x : FindingValue). Contains (linked e.0) x) (sym r.3) one))
+
+  from_each : (es : List Entry) (f : FindingValue) → Contains (flat_map (object_findings present w shown) es) f → Contains (flat_map own es ++ link_findings present (all_links es)) f
+  from_each es f h = all (from_pieces (object_findings present w shown) es f h)
+    where
+      pick : (e : Entry) → Contains es e → Contains (linked e) f ⊎ Contains (own e) f → Contains (flat_map own es ++ link_findings present (all_links es)) f
+      pick e has (inl a) =
+          let r = from_chosen lost missing_target (links_of e.0 e.1) f a in
+          let one = in_chosen lost missing_target (all_links es) r.0 (in_pieces (λ (x : Entry). links_of x.0 x.1) es e r.0 has r.1) r.2 in
+          Contains-append_right (flat_map own es) (link_findings present (all_links es)) f (subst (λ (x : FindingValue). Contains (link_findings present (all_links es)) x) (sym r.3) one)
+      pick e has (inr b) = Contains-append_left (flat_map own es) (link_findings present (all_links es)) f (in_pieces own es e f has b)
+
+      all : (e : Entry) × Contains es e × Contains (object_findings present w shown e) f → Contains (flat_map own es ++ link_findings present (all_links es)) f
+      all (e, has, one) = pick e has (Contains-append_cases (linked e) (own e) f one)
+
+-- what is gathered of these entries
+abbrev walked : List Entry → ℤ → List (Kind × ℕ) → List FindingValue
+walked es w counts = (flat_map (λ e. own_findings w (printed w) e.0 e.1) es ++ link_findings (is_present es) (all_links es)) ++ flat_map (count_findings (keys_of es)) counts
+
+walked_are : (es : List Entry) (w : ℤ) (counts : List (Kind × ℕ)) → IsDistinct key_eq (keys_of es) → (f : FindingValue) → Contains (walked es w counts) f ↔ IsFinding (tables_of es) w counts f
+walked_are es w counts apart f = (λ h. to_findings es w counts apart f (there h), λ h. back (from_findings es w counts apart f h))
+  where
+    first : List FindingValue
+    first = flat_map (λ e. own_findings w (printed w) e.0 e.1) es ++ link_findings (is_present es) (all_links es)
+
+    each : List FindingValue
+    each = flat_map (object_findings (is_present es) w (printed w)) es
+
+    last : List FindingValue
+    last = flat_map (count_findings (keys_of es)) counts
+
+    there : Contains (first ++ last) f → Contains (each ++ last) f
+    there h = pick (Contains-append_cases first last f h)
+      where
+        pick : Contains first f ⊎ Contains last f → Contains (each ++ last) f
+        pick (inl a) = Contains-append_left each last f (to_each (is_present es) w (printed w) es f a)
+        pick (inr b) = Contains-append_right each last f b
+
+    back : Contains (each ++ last) f → Contains (first ++ last) f
+    back h = pick (Contains-append_cases each last f h)
+      where
+        pick : Contains each f ⊎ Contains last f → Contains (first ++ last) f
+        pick (inl a) = Contains-append_left first last f (from_each (is_present es) w (printed w) es f a)
+        pick (inr b) = Contains-append_right first last f b
+
+-- at the end of the walk
+pub gathered_all : (w : ℤ) (g : Gathering) (es : List Entry) (counts : List (Kind × ℕ)) → Leads w (printed w) g [] es
+    → (g.found.items ++ map missing_target (filter (λ l. not (sorted.contains key_cmp g.met l.to)) g.waiting.items)) ++ flat_map (count_findings g.met.keys) counts ≡ walked es w counts
+gathered_all w g es counts leads =
+    let keys : g.met.keys ≡ keys_of es = sym (append-nil _) ∙ leads.met in
+    let own = sym (append-nil _) ∙ leads.found in
+    let met : sorted.contains key_cmp g.met ≡ is_present es = λ i q. (ap (list_any (λ y. key_eq q y)) keys ∙ sym (is_some-lookup (key_eq q) es)) i in
+    let links = sym (append-nil _) ∙ leads.waiting (sorted.contains key_cmp g.met) (λ q has. has) ∙ ap (λ (p : KeyName → Bool). link_findings p (all_links es)) met in
+    λ i. (own i ++ links i) ++ flat_map (count_findings (keys i)) counts
+
+pub walked_found : (w : ℤ) (g : Gathering) (es : List Entry) (counts : List (Kind × ℕ)) (found v : List FindingValue) → InOrder es → Leads w (printed w) g [] es
+    → found ≡ (g.found.items ++ map missing_target (filter (λ l. not (sorted.contains key_cmp g.met l.to)) g.waiting.items)) ++ flat_map (count_findings g.met.keys) counts
+    → ((f : FindingValue) → Contains v f ↔ Contains found f) → (f : FindingValue) → Contains v f ↔ IsFinding (tables_of es) w counts f
+walked_found w g es counts found v ordered leads is same f =
+    let apart = IsDistinct-from_sorted key_cmp (keys_of es) ordered in
+    let all = is ∙ gathered_all w g es counts leads in
+    let are = walked_are es w counts apart f in (
+      λ h. are.0 (subst (λ (l : List FindingValue). Contains l f) all ((same f).0 h)),
+      λ h. (same f).1 (subst (λ (l : List FindingValue). Contains l f) (sym all) (are.1 h)),
+    )

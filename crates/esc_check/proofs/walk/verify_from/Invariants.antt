@@ -1,0 +1,15 @@
+use Rattle.std.proofs.Common.{List, string_bytes}
+use Rattle.esc_check.specs.Gathered.{Leads}
+use Rattle.esc_check.specs.Tables.{Entry}
+use Rattle.esc_check.proofs.walk.verify_from.Given as goal
+
+abbrev pub invariant-loop-gathered : goal.invariant-loop-gathered
+invariant-loop-gathered g l =
+    let objects = g.O.Objects in
+    record {
+      follows : objects.follows l.fn.o l.o;
+      gathered : objects.is_honest l.o → (es : List Entry) → objects.lists l.fn.o es → (left : List Entry) × objects.lists l.o left × Leads l.limit.moment (string_bytes l.limit.text) l.gathered left es;
+    }
+
+abbrev pub decreases-loop-gathered : goal.decreases-loop-gathered
+decreases-loop-gathered g l = g.O.Objects.bound l.o

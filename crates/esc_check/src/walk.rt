@@ -1,0 +1,105 @@
+//! Verification of objects that come one at a time.
+
+ghost use Rattle.std.specs.Prelude.{◌≡◌, ◌↔◌, ℕ, ℤ, [], ◌∷◌, List, IfOk, IfErr, OnOk, string_bytes};
+ghost use Rattle.std.specs.List.{Contains};
+ghost use Rattle.std.specs.List.Sorted.{IsStrictlySortedBy};
+ghost use Rattle.esc_apply.specs.Objects.{InOrder};
+ghost use Rattle.esc_check.specs.FindingValue.{FindingValue, listing_cmp};
+ghost use Rattle.esc_check.specs.Findings.{IsFinding, printed};
+ghost use Rattle.esc_check.specs.Gathered.{Leads};
+ghost use Rattle.esc_check.specs.Streams.{IfSource};
+ghost use Rattle.esc_check.specs.Tables.{Entry, tables_of};
+
+use crate::count::check_met;
+use crate::date::{Limit, limit_at};
+use crate::distinct::{listed, settle};
+use crate::finding::Finding;
+use crate::link::{Link, add_all_missing, add_links, unmet};
+use crate::stream::StreamFault;
+use crate::verification::check_own;
+use esc_apply::Objects;
+use esc_bundle::NoMemory;
+use esc_envelope::Kind;
+use esc_tables::{Key, Object};
+use std::alloc::Global;
+use std::collections::{BTreeMap, BTreeSet};
+
+/// What a walk over objects keeps of them.
+#[derive(Drop)]
+pub struct Gathering {
+    /// What is found of each object by itself.
+    pub found: Vec<Finding>,
+    /// The keys of the objects.
+    pub met: BTreeSet<Key>,
+    /// The links to what was not met when they came: it may come later.
+    pub waiting: Vec<Link>,
+}
+
+fn start(alloc: Global) -> Gathering
+    ensures { (w : ℤ) (shown : List ℕ) (whole : List Entry) → Leads w shown result whole whole }
+{
+    Gathering {
+        found: Vec::new(alloc),
+        met: BTreeSet::new(alloc),
+        waiting: Vec::new(alloc),
+    }
+}
+
+// Takes the next object in. Nearly all links lead to objects of an earlier kind, so that they are met, and are not kept.
+fn take_in(
+    alloc: Global,
+    g: &mut Gathering,
+    limit: &Limit,
+    key: Key,
+    object: &Object,
+) -> Result<(), NoMemory>
+    ensures { OnOk result ((left whole : List Entry) → InOrder whole → Leads limit.now.moment (string_bytes limit.now.text) g.old ((key, object.now) ∷ left) whole → Leads limit.now.moment (string_bytes limit.now.text) g.new left whole) }
+{
+    check_own(alloc, &mut g.found, limit, &key, object)?;
+    let mut links = Vec::new(alloc);
+    add_links(alloc, &mut links, &key, object)?;
+    g.waiting.append(&mut unmet(&g.met, links))?;
+    g.met.insert(key)?;
+    Ok(())
+}
+
+// What is found of all the objects that were taken in. Where a source that isn't honest gives a key twice, findings may differ
+// only in what is told besides; then one of them is listed.
+fn finish(
+    alloc: Global,
+    g: Gathering,
+    counts: &BTreeMap<Kind, u64>,
+) -> Result<Vec<Finding>, NoMemory>
+    ensures ordered { IfOk result (λ found. IsStrictlySortedBy listing_cmp found.items) }
+    ensures each { IfOk result (λ found. (es : List Entry) (w : ℤ) → InOrder es → Leads w (printed w) g [] es → (f : FindingValue) → Contains found.items f ↔ IsFinding (tables_of es) w counts.now.entries f) }
+{
+    let Gathering {
+        mut found,
+        met,
+        waiting,
+    } = g;
+    add_all_missing(alloc, &mut found, &unmet(&met, waiting))?;
+    check_met(alloc, &mut found, &met, counts)?;
+    Ok(listed(settle(found)))
+}
+
+/// What `verify` finds in the tables of a registry, found of their objects as they come one at a time. It takes memory for
+/// what is found, for the keys, and for the links that lead to what had not come before them.
+pub fn verify_from<O: Objects>(
+    alloc: Global,
+    o: &mut O,
+    watermark: i64,
+    counts: &BTreeMap<Kind, u64>,
+) -> Result<Vec<Finding>, StreamFault<O::Error>>
+    ensures follows { O.follows o.old o.new }
+    ensures source { IfErr result (λ fault. IfSource fault (O.has_failed o.new)) }
+    ensures ordered { IfOk result (λ found. IsStrictlySortedBy listing_cmp found.items) }
+    ensures each { IfOk result (λ found. O.is_honest o.new → (es : List Entry) → O.lists o.old es → (f : FindingValue) → Contains found.items f ↔ IsFinding (tables_of es) watermark counts.now.entries f) }
+{
+    let limit = limit_at(alloc, watermark)?;
+    let mut gathered = start(alloc);
+    while let Some((key, object)) = o.next().map_err(StreamFault::Source)? {
+        take_in(alloc, &mut gathered, &limit, key, &object)?;
+    }
+    Ok(finish(alloc, gathered, counts)?)
+}

@@ -1,0 +1,55 @@
+-- What a walk over a desk's objects is still to give.
+use Rattle.std.specs.Prelude.{◌≡◌, ℕ, ◌==◌, Bool, true, false, not, List, filter, ◌++◌, Option, None, Some, if◌then◌else◌}
+use Rattle.std.specs.Map.{lookup}
+use Rattle.std.specs.Ordering.{nat_cmp, is_ge, match_ordering}
+use Rattle.std.specs.Cmp.Lexicographic.{slice_cmp}
+use Rattle.std.specs.Vec.Iter.{into_iter_items}
+use Rattle.sqlite_trees.specs.declared.store.Store.{Ghosts}
+use Rattle.esc_envelope.specs.declared.kind.Kind.{Kind}
+use Rattle.esc_envelope.specs.Kinds.{kind_rank}
+use Rattle.esc_tables.specs.KeyName.{KeyName, key_eq}
+use Rattle.esc_apply.specs.Objects.{Entry, InOrder}
+use Rattle.esc_apply.specs.Registry.{Content}
+use Rattle.esc_manifest.specs.declared.row.MRow.{MRow}
+use Rattle.esc_store.specs.declared.store.Store.{Store}
+use Rattle.esc_store.specs.Kept.{Kept}
+use Rattle.esc_store.specs.Standing.{Stands, IsAsBefore}
+use Rattle.esc_desk.specs.declared.walk.Pages.{Pages}
+use Rattle.esc_desk.specs.declared.walk.Walk.{Walk}
+use Rattle.esc_desk.specs.ArrivalValue.{ArrivalValue}
+use Rattle.esc_desk.specs.Serving.{DeskServes}
+
+-- the entries of one kind, or all
+abbrev pub of_kinds : Option Kind → List Entry → List Entry
+of_kinds None es = es
+of_kinds (Some kind) es = filter (λ (e : Entry). kind_rank e.0.kind == kind_rank kind) es
+
+-- the keys from this place on: those of the kind whose texts are not below `from` and, unless one kind is walked alone,
+-- those of each later kind; without a kind there are none
+abbrev pub is_behind : Option Kind → List ℕ → Bool → KeyName → Bool
+is_behind None from alone q = false
+is_behind (Some kind) from alone q = match_ordering (nat_cmp (kind_rank q.kind) (kind_rank kind)) false (is_ge (slice_cmp nat_cmp q.text from)) (not alone)
+
+-- by key, of each key from this place on what the content has, and nothing else
+pub record AreBehind (content : Content) (kind : Option Kind) (from : List ℕ) (alone : Bool) (es : List Entry) : Type 0 where
+  pub order : InOrder es
+  pub each : (q : KeyName) → lookup (key_eq q) es ≡ (if is_behind kind from alone q then content q else None)
+
+-- these entries are still to come: the page at hand, and then what the store's tables have behind it
+pub record AreToCome {S : Type 0} (g : Ghosts S) (store : Store S) (pages : Pages) (es : List Entry) : Type 0 where
+  pub order : InOrder es
+  pub kept : Kept
+  pub stands : Stands g store kept
+  pub behind : List Entry
+  pub are_behind : AreBehind kept.registry.content pages.kind pages.from.items pages.alone behind
+  pub are_all : es ≡ into_iter_items pages.page ++ behind
+
+abbrev pub Lists : {S : Type 0} → Ghosts S → Walk S Pages → List Entry → Type 0
+Lists g walk es = AreToCome g walk.desk.now.store walk.pages es
+
+-- what a walk leaves as it was, whatever its calls answer
+pub record Follows {S : Type 0} (g : Ghosts S) (old new : Walk S Pages) : Type 0 where
+  pub same_reference : new.desk.ghost_name ≡ old.desk.ghost_name
+  pub same : IsAsBefore g old.desk.now.store new.desk.now.store
+  pub known : new.desk.now.known ≡ old.desk.now.known
+  pub serves : (m : List MRow) (l : List ArrivalValue) → DeskServes g old.desk.now m l → DeskServes g new.desk.now m l

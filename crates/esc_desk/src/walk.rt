@@ -1,0 +1,225 @@
+//! The objects of a desk's tables, one at a time.
+
+ghost use Rattle.std.specs.Prelude.{◌≡◌, ◌<◌, ◌++◌, ◌∷◌, [], List, Some, None, is_some, IfOk, OnOk};
+ghost use Rattle.std.specs.Vec.Iter.{into_iter_items, into_iter_len};
+ghost use Rattle.std.specs.Borrow.{sem, RestsIfErr};
+ghost use Rattle.esc_manifest.specs.declared.row.MRow.{MRow};
+ghost use Rattle.esc_apply.specs.Objects.{Entry, InOrder};
+ghost use Rattle.esc_store.specs.Standing.{IsHonest, IsAsBefore};
+ghost use Rattle.esc_desk.specs.ArrivalValue.{ArrivalValue};
+ghost use Rattle.esc_desk.specs.Reads.{AreTables};
+ghost use Rattle.esc_desk.specs.Places.{first_kind, later_kind, kinds_left, IsPlaceBehind};
+ghost use Rattle.esc_desk.specs.Serving.{Serves, DeskServes};
+
+use crate::desk::Desk;
+use esc_apply::Objects;
+use esc_chain::latest_chain_is_one;
+use esc_envelope::Kind;
+use esc_store::SFault;
+use esc_tables::{Key, Object};
+use sqlite::Alter;
+use std::alloc::Global;
+use std::vec::IntoIter;
+
+/// Where a walk stands: a page of objects at hand, and where the next page begins.
+#[derive(Drop)]
+pub struct Pages {
+    pub(crate) alloc: Global,
+    pub(crate) page: IntoIter<(Key, Object)>,
+    // The kind of the next page, if there is to be one, and the bytes from which its keys begin.
+    pub(crate) kind: Option<Kind>,
+    pub(crate) from: Vec<u8>,
+    // Whether no other kind is walked.
+    pub(crate) alone: bool,
+    // At most so many objects are still given. A table has fewer rows than this is at first.
+    pub(crate) left: u64,
+    pub(crate) has_failed: bool,
+}
+
+/// The objects of the latest chain's tables, one at a time, by key. While it lives the desk takes no arrival.
+// What owns memory stands under a type parameter, so that contracts see what is left behind the reference in the end.
+pub struct Walk<'a, S: Alter, P = Pages> {
+    pub(crate) desk: &'a mut Desk<S>,
+    pub(crate) pages: P,
+}
+
+impl<S: Alter> Desk<S> {
+    ghost use Rattle.esc_desk.specs.contracts.desk.Desk.{the_row};
+    ghost use Rattle.esc_desk.specs.Walking.{of_kinds, AreToCome, Lists};
+
+    /// The objects of the latest chain's tables, those of one kind or of all, one at a time by key. No more than a page
+    /// of them is held in memory. `S1`, `S2`.
+    pub fn walk(&mut self, alloc: Global, kind: Option<Kind>) -> Result<Walk<'_, S>, SFault>
+        ensures* refused { sem 𝓛 (RestsIfErr (the_row S.row S.Store) self.entry (λ walk. walk.desk.ghost_name) result (λ last. IsAsBefore S.Store self.old.store last.store × (last.known ≡ self.old.known) × ((m : List MRow) (l : List ArrivalValue) → DeskServes S.Store self.old m l → DeskServes S.Store last m l))) }
+        ensures same_reference { IfOk result (λ walk. walk.desk.ghost_name ≡ self.entry.ghost_name) }
+        ensures same { IfOk result (λ walk. IsAsBefore S.Store self.old.store walk.desk.now.store) }
+        ensures known { IfOk result (λ walk. walk.desk.now.known ≡ self.old.known) }
+        ensures serves { IfOk result (λ walk. (m : List MRow) (l : List ArrivalValue) → DeskServes S.Store self.old m l → DeskServes S.Store walk.desk.now m l) }
+        ensures lists { IfOk result (λ walk. IsHonest S.Store walk.desk.now.store → (m : List MRow) (l : List ArrivalValue) → Serves S.Store self.old.store m l → (es : List Entry) → AreTables m l es → InOrder es → Lists S.Store walk (of_kinds kind es)) }
+    {
+        let pages = self.first_page(alloc, kind)?;
+        Ok(Walk { desk: self, pages })
+    }
+
+    // The first page of a walk.
+    #[tactic(auto, using(crate::proofs::StoreFacts::still_serves))]
+    fn first_page(&mut self, alloc: Global, kind: Option<Kind>) -> Result<Pages, SFault>
+        ensures same { IsAsBefore S.Store self.old.store self.new.store }
+        ensures known { self.new.known ≡ self.old.known }
+        ensures serves { (m : List MRow) (l : List ArrivalValue) → DeskServes S.Store self.old m l → DeskServes S.Store self.new m l }
+        ensures lists { IfOk result (λ pages. IsHonest S.Store self.new.store → (m : List MRow) (l : List ArrivalValue) → Serves S.Store self.old.store m l → (es : List Entry) → AreTables m l es → InOrder es → AreToCome S.Store self.new.store pages (of_kinds kind es)) }
+    {
+        latest_chain_is_one();
+        let _rows = self.store.manifest().rows();
+        let mut pages = first_place(alloc, kind);
+        self.fill(&mut pages)?;
+        Ok(pages)
+    }
+
+    // Reads pages until an object is at hand, or none is behind.
+    fn fill(&mut self, pages: &mut Pages) -> Result<(), SFault>
+        ensures same { IsAsBefore S.Store self.old.store self.new.store }
+        ensures known { self.new.known ≡ self.old.known }
+        ensures left { pages.new.left ≡ pages.old.left }
+        ensures failed { pages.new.has_failed ≡ pages.old.has_failed }
+        ensures kept { OnOk result (IsHonest S.Store self.new.store → (es : List Entry) → AreToCome S.Store self.old.store pages.old es → AreToCome S.Store self.new.store pages.new es) }
+        ensures full { OnOk result (into_iter_len pages.new.page ≡ 0 → pages.new.kind ≡ None) }
+    {
+        while pages.page.len() == 0 {
+            match pages.kind {
+                None => return Ok(()),
+                Some(kind) => self.turn(pages, kind)?,
+            }
+        }
+        Ok(())
+    }
+
+    // Reads the page that begins where the one at hand, which is used up, ended.
+    fn turn(&mut self, pages: &mut Pages, kind: Kind) -> Result<(), SFault>
+        ensures same { IsAsBefore S.Store self.old.store self.new.store }
+        ensures known { self.new.known ≡ self.old.known }
+        ensures left { pages.new.left ≡ pages.old.left }
+        ensures failed { pages.new.has_failed ≡ pages.old.has_failed }
+        ensures kept { OnOk result (IsHonest S.Store self.new.store → pages.old.kind ≡ Some kind → into_iter_len pages.old.page ≡ 0 → (es : List Entry) → AreToCome S.Store self.old.store pages.old es → AreToCome S.Store self.new.store pages.new es) }
+        ensures nearer { OnOk result (into_iter_len pages.new.page ≡ 0 → kinds_left pages.new.kind < kinds_left (Some kind)) }
+    {
+        let page = self
+            .store
+            .objects_from(pages.alloc, kind, pages.from.as_slice())?;
+        let (next, from) = next_place(pages.alloc, kind, pages.alone, page.as_slice())?;
+        pages.kind = next;
+        pages.from = from;
+        pages.page = page.into_iter();
+        Ok(())
+    }
+}
+
+// Before the first page of one kind, or of all.
+fn first_place(alloc: Global, kind: Option<Kind>) -> Pages
+    ensures page { into_iter_items result.page ≡ [] }
+    ensures kind { result.kind ≡ Some (first_kind kind) }
+    ensures from { result.from.items ≡ [] }
+    ensures alone { result.alone ≡ is_some kind }
+{
+    Pages {
+        alloc,
+        page: Vec::new(alloc).into_iter(),
+        kind: Some(kind.unwrap_or(Kind::Registrar)),
+        from: Vec::new(alloc),
+        alone: kind.is_some(),
+        left: u64::MAX,
+        has_failed: false,
+    }
+}
+
+// Where the next page begins: behind the last key of this one, or where this one is empty with the next kind, if any.
+fn next_place(
+    alloc: Global,
+    kind: Kind,
+    alone: bool,
+    page: &[(Key, Object)],
+) -> Result<(Option<Kind>, Vec<u8>), SFault>
+    ensures { IfOk result (λ place. IsPlaceBehind kind alone page.now place.0 place.1.items) }
+{
+    match page.last() {
+        Some(entry) => Ok((Some(kind), bytes_behind(alloc, entry.0.text.as_bytes())?)),
+        None if alone => Ok((None, Vec::new(alloc))),
+        None => Ok((kind_after(kind), Vec::new(alloc))),
+    }
+}
+
+// The first bytes behind these: with a zero behind them.
+fn bytes_behind(alloc: Global, bytes: &[u8]) -> Result<Vec<u8>, SFault>
+    ensures { IfOk result (λ behind. behind.items ≡ bytes.now ++ 0 ∷ []) }
+{
+    let mut behind = Vec::from_slice(alloc, bytes)?;
+    behind.push(0)?;
+    Ok(behind)
+}
+
+// The kind behind this one, if there is one.
+fn kind_after(kind: Kind) -> Option<Kind>
+    ensures { result ≡ later_kind kind }
+{
+    match kind {
+        Kind::Registrar => Some(Kind::Contact),
+        Kind::Contact => Some(Kind::Host),
+        Kind::Host => Some(Kind::Domain),
+        Kind::Domain => Some(Kind::Idn),
+        Kind::Idn => Some(Kind::Nndn),
+        Kind::Nndn => None,
+    }
+}
+
+impl<'a, S: Alter> Objects for Walk<'a, S, Pages> {
+    ghost use Rattle.std.proofs.Common.{true, refl, inl, ◌∙◌, arith};
+    ghost use Rattle.sqlite.proofs.StateLemmas.{survives_then};
+    ghost use Rattle.esc_desk.specs.Walking.{Lists, Follows};
+
+    type Error = SFault;
+
+    ghost lists = { λ walk es. Lists S.Store walk es };
+
+    ghost bound = { λ walk. walk.pages.left };
+
+    ghost has_failed = { λ walk. walk.pages.has_failed ≡ true };
+
+    ghost is_honest = { λ walk. IsHonest S.Store walk.desk.now.store };
+
+    ghost follows = { λ a b. Follows S.Store a b };
+
+    // A walk that is in the midst of a call counts as failed, so that each way out but the last leaves it so.
+    #[tactic(auto, using(crate::proofs::StoreFacts::still_serves))]
+    fn next(&mut self) -> Result<Option<(Key, Object)>, SFault> {
+        if self.pages.has_failed || self.pages.left == 0 {
+            self.pages.has_failed = true;
+            return Err(SFault::S1);
+        }
+        self.pages.has_failed = true;
+        self.desk.fill(&mut self.pages)?;
+        self.pages.has_failed = false;
+        match self.pages.page.next() {
+            None => Ok(None),
+            Some(entry) => {
+                self.pages.left -= 1;
+                Ok(Some(entry))
+            }
+        }
+    }
+
+    ghost in_order = { λ walk es h. h.order };
+
+    ghost stays = { λ walk. record { same_reference = refl; same = record { manifest = refl; writes = refl; survives = record { clean = Prim.omega arith; shield = λ h. h; counts = Prim.omega arith; limit = refl; closes = λ _ up. inl up; crash = λ _ db may. inl may }; stands = λ k h. h }; known = refl; serves = λ m l h. h } };
+
+    ghost goes_on = { λ a b c p q. record { same_reference = q.same_reference ∙ p.same_reference; same = record { manifest = q.same.manifest ∙ p.same.manifest; writes = q.same.writes ∙ p.same.writes; survives = survives_then _ _ _ _ _ _ (λ _ db none. none) (λ _ db none. none) p.same.survives q.same.survives; stands = λ k h. q.same.stands k (p.same.stands k h) }; known = q.known ∙ p.known; serves = λ m l h. q.serves m l (p.serves m l h) } };
+
+    ghost was_honest = { λ a b p clean. Prim.omega (arith, p.same.survives.clean, clean) };
+}
+
+impl<S: Alter, P: Drop> Drop for Walk<'_, S, P> {
+    fn drop(self)
+        ensures { self.exit.0.now ≡ self.entry.desk.now }
+    {
+        let Walk { desk: _, pages: _ } = self;
+    }
+}
