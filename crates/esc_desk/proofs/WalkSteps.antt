@@ -1,8 +1,7 @@
 -- What a walk is still to give, from call to call.
-use Rattle.std.proofs.Common.{◌≡◌, ◌⊎◌, inl, inr, ℕ, suc, ◌-◌, ◌<◌, slice_get, Bool, true, false, ◌||◌, List, [], ◌∷◌, ◌++◌, length, Option, Some, None, refl, sym, ap, subst, ◌∙◌, arith, true≢false}
+use Rattle.std.proofs.Common.{◌≡◌, ℕ, suc, ◌-◌, ◌<◌, slice_get, Bool, true, false, ◌||◌, List, [], ◌∷◌, ◌++◌, length, Option, Some, None, refl, sym, ap, subst, ◌∙◌, arith, true≢false}
 use Rattle.std.specs.FinSet as set
 use Rattle.std.specs.List.{list_any}
-use Rattle.std.specs.List.Sorted.{IsStrictlySortedBy}
 use Rattle.std.specs.Map.{lookup, keys_of}
 use Rattle.std.specs.Option.{is_some}
 use Rattle.std.specs.Str.{bytes_eq}
@@ -18,7 +17,7 @@ use Rattle.esc_tables.specs.Reading.{reading}
 use Rattle.esc_manifest.specs.Accepted.{IsAccepted}
 use Rattle.esc_manifest.specs.declared.row.MRow.{MRow}
 use Rattle.esc_manifest.specs.Rows.{no_row}
-use Rattle.esc_chain.specs.Chain.{InRange, IsHeld}
+use Rattle.esc_chain.specs.Chain.{InRange}
 use Rattle.esc_chain.specs.Laws.{OneLatestChain}
 use Rattle.esc_apply.specs.Objects.{Entry, InOrder}
 use Rattle.esc_apply.specs.Registry.{Content}
@@ -28,7 +27,7 @@ use Rattle.esc_store.specs.Standing.{Stands, IsAsBefore}
 use Rattle.esc_store.specs.Pages.{IsPage, last_text}
 use Rattle.esc_desk.specs.declared.walk.Pages.{Pages}
 use Rattle.esc_desk.specs.ArrivalValue.{ArrivalValue}
-use Rattle.esc_desk.specs.Finding.{finding, held_row, row_of}
+use Rattle.esc_desk.specs.Finding.{row_of}
 use Rattle.esc_desk.specs.Receipts.{holds, distinct}
 use Rattle.esc_desk.specs.Stands.{held_rows}
 use Rattle.esc_desk.specs.Serving.{Serves}

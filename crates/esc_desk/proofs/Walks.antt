@@ -1,32 +1,27 @@
 -- What is still to come of a walk, from page to page.
-use Rattle.std.proofs.Common.{◌≡◌, ◌⊎◌, inl, inr, ℕ, zero, suc, ◌+◌, ◌<◌, ◌≤◌, ◌==◌, ◌&&◌, Bool, true, false, not, cond, List, [], ◌∷◌, ◌++◌, length, filter, Option, Some, None, refl, sym, ap, ap₂, subst, ◌∙◌, arith, true≢false, Ordering, Less, Equal, Greater, is_eq, IsTrue}
+use Rattle.std.proofs.Common.{◌≡◌, ℕ, zero, suc, ◌+◌, ◌≤◌, ◌==◌, ◌&&◌, Bool, true, false, not, cond, List, [], ◌∷◌, ◌++◌, filter, Option, Some, None, refl, sym, ap, ap₂, subst, ◌∙◌, arith, true≢false, Ordering, Less, Equal, Greater, is_eq}
 use Rattle.std.specs.FinSet as set
-use Rattle.std.specs.List.{AllByRecursion, list_any}
+use Rattle.std.specs.List.{AllByRecursion}
 use Rattle.std.specs.Map.{lookup}
 use Rattle.std.specs.Option.{option_or, is_some}
 use Rattle.std.specs.Prelude.{MatchOption}
 use Rattle.std.specs.Ordering.{nat_cmp, is_le, is_ge, is_gt, match_ordering, ordering_then, ordering_reverse}
 use Rattle.std.specs.Cmp.Lexicographic.{slice_cmp, nat_list_cmp_total}
-use Rattle.std.proofs.lemmas.Bool.{cases_Bool}
 use Rattle.std.proofs.lemmas.Bool.Decides.{nat_tests}
-use Rattle.std.proofs.lemmas.List.Quantifiers.{position-Some}
 use Rattle.std.proofs.lemmas.Map.Entries.{lookup-filter-keys}
 use Rattle.std.specs.Cmp.{upto}
-use Rattle.sha2.specs.Sha256.{sha256}
 use Rattle.esc_envelope.specs.declared.kind.Kind.{Kind}
 use Rattle.esc_envelope.specs.declared.kind.Kind.TheVariants.{Registrar, Contact, Host, Domain, Idn, Nndn}
 use Rattle.esc_envelope.specs.Kinds.{kind_rank}
 use Rattle.esc_tables.specs.KeyName.{KeyName, key_cmp, key_eq}
 use Rattle.esc_tables.specs.ObjectValue.{ObjectValue}
-use Rattle.esc_tables.specs.Reading.{reading}
-use Rattle.esc_manifest.specs.declared.row.MRow.{MRow}
 use Rattle.esc_apply.specs.Objects.{Entry, InOrder}
 use Rattle.esc_apply.specs.Registry.{Content}
 use Rattle.esc_apply.proofs.Keys.{same_key}
 use Rattle.esc_store.specs.Pages.{IsPage, last_text, is_on_page}
 use Rattle.esc_desk.specs.Places.{first_kind, later_kind, IsPlaceBehind}
 use Rattle.esc_desk.specs.Walking.{of_kinds, is_behind, AreBehind}
-use Rattle.esc_desk.proofs.EntryLists.{Rises, in_order, rises, rises-filter, rises-append, all_passed, lookup-append, each_found, same_entries, weaker}
+use Rattle.esc_desk.proofs.EntryLists.{in_order, rises, rises-filter, rises-append, all_passed, lookup-append, each_found, same_entries, weaker}
 
 -- ---- the bytes behind some bytes
 

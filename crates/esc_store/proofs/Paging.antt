@@ -1,10 +1,8 @@
 -- From rows of the table of objects to a page of them.
-use Rattle.std.proofs.Common.{◌≡◌, ℕ, ◌+◌, ◌<◌, ◌==◌, ◌&&◌, Bool, true, false, cond, List, [], ◌∷◌, ◌++◌, map, take, length, get_or, Option, None, Some, option_map, refl, sym, ap, subst, ◌∙◌, arith, inl, inr, Ordering, Less}
+use Rattle.std.proofs.Common.{◌≡◌, ℕ, ◌+◌, ◌<◌, ◌==◌, ◌&&◌, Bool, true, false, cond, List, [], ◌∷◌, ◌++◌, map, take, length, get_or, Option, None, Some, option_map, refl, sym, ap, subst, ◌∙◌, inl, inr, Ordering, Less}
 use Rattle.std.specs.Prelude.{bytes_eq, find}
-use Rattle.std.specs.List.{AllByRecursion}
 use Rattle.std.specs.List.Sorted.{IsStrictlySortedBy}
-use Rattle.std.specs.Map.{lookup, keys_of}
-use Rattle.std.specs.Option.{option_and_then}
+use Rattle.std.specs.Map.{lookup}
 use Rattle.std.specs.Ordering.{nat_cmp, ordering_then}
 use Rattle.std.specs.Cmp.Lexicographic.{slice_cmp}
 use Rattle.std.proofs.lemmas.Bool.{cases_Bool}
@@ -14,7 +12,6 @@ use Rattle.sqlite_keyed.proofs.ListLemmas.{ascending-map, ascending_from_map, al
 use Rattle.esc_envelope.specs.declared.kind.Kind.{Kind}
 use Rattle.esc_envelope.specs.Kinds.{kind_rank}
 use Rattle.esc_tables.specs.KeyName.{KeyName, key_cmp, key_eq}
-use Rattle.esc_tables.specs.ObjectValue.{ObjectValue}
 use Rattle.esc_record.specs.Record.{record_of}
 use Rattle.esc_apply.specs.Objects.{Entry, InOrder}
 use Rattle.esc_apply.specs.Registry.{State}
@@ -23,7 +20,7 @@ use Rattle.esc_rows.specs.Content.{Content, object_at}
 use Rattle.esc_rows.specs.Changes.{ObjectEntry, by_entry, entry_at, is_entry_at, is_from, is_up_to, last_key, ListsFrom}
 use Rattle.esc_rows.proofs.Firsts.{last}
 use Rattle.esc_store.specs.Pages.{IsPage, last_text, is_on_page, entry_row, stored_row}
-use Rattle.esc_store.specs.TypedRows.{record_at, IsRegistry}
+use Rattle.esc_store.specs.TypedRows.{IsRegistry}
 use Rattle.esc_store.proofs.Gathering.{tests_alike, same_records, record_here}
 
 abbrev Shown : Type 0

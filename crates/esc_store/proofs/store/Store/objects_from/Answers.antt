@@ -1,7 +1,5 @@
 use Rattle.std.proofs.Common.{sym, ap, map, ◌∙◌}
 use Rattle.sqlite_keyed.proofs.ListLemmas.{map-map}
-use Rattle.esc_envelope.specs.Kinds.{kind_rank}
-use Rattle.esc_rows.specs.Changes.{ListsFrom}
 use Rattle.esc_rows.specs.Entries.{object_of}
 use Rattle.esc_store.specs.Pages.{stored_row}
 use Rattle.esc_store.proofs.Paging.{page_is}
