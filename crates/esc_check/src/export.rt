@@ -38,7 +38,7 @@ pub fn export_rows(
     lines.into_text()
 }
 
-/// The same of the objects that come one at a time. It takes memory for the text alone.
+/// The same of objects that come one at a time. It takes memory for the text alone.
 pub fn export_from<O: Objects>(
     alloc: Global,
     o: &mut O,

@@ -1,10 +1,14 @@
-use crate::{Finding, Lines, export_rows, verify};
+use crate::{Finding, Lines, StreamFault, export_from, export_rows, verify, verify_from};
+use esc_apply::MapObjects;
 use esc_bundle::NoMemory;
 use esc_envelope::{Kind, watermark};
 use esc_tables::{Key, Object, Row};
 use std::alloc::Global;
 use std::collections::BTreeMap;
 use std::test::Fail;
+use stopping::{Stopped, Stopping};
+
+mod stopping;
 
 fn row(alloc: Global, table: &str, cells: &[(&str, &str)]) -> Result<Row, NoMemory> {
     let mut texts = Vec::new(alloc);
@@ -69,15 +73,37 @@ fn shown(alloc: Global, found: &[Finding]) -> Result<String, NoMemory> {
     Ok(text)
 }
 
+// What is found in the tables, and what is found of their objects one at a time.
 fn found_at(
     alloc: Global,
-    t: &BTreeMap<Key, Object>,
+    t: BTreeMap<Key, Object>,
     moment: &str,
     counts: &BTreeMap<Kind, u64>,
-) -> Result<String, NoMemory> {
+) -> Result<(String, String), NoMemory> {
     let moment = watermark(moment).unwrap_or(0);
-    let found = verify(alloc, t, moment, counts)?;
-    shown(alloc, found.as_slice())
+    let found = verify(alloc, &t, moment, counts)?;
+    let mut objects = MapObjects::new(t);
+    match verify_from(alloc, &mut objects, moment, counts) {
+        Ok(walked) => Ok((
+            shown(alloc, found.as_slice())?,
+            shown(alloc, walked.as_slice())?,
+        )),
+        Err(StreamFault::Source(NoMemory) | StreamFault::NoMemory) => Err(NoMemory),
+    }
+}
+
+// The export of the tables, and that of their objects one at a time.
+fn exported(
+    alloc: Global,
+    t: BTreeMap<Key, Object>,
+    kind: Kind,
+) -> Result<(Vec<u8>, Vec<u8>), NoMemory> {
+    let text = export_rows(alloc, &t, kind)?;
+    let mut objects = MapObjects::new(t);
+    match export_from(alloc, &mut objects, kind) {
+        Ok(walked) => Ok((text, walked)),
+        Err(StreamFault::Source(NoMemory) | StreamFault::NoMemory) => Err(NoMemory),
+    }
 }
 
 #[test]
@@ -137,10 +163,11 @@ fn statuses_and_dates_are_verified(rt: HostRuntime) -> Result<(), Fail> {
         Vec::new(alloc),
     )?;
     let counts = BTreeMap::new(alloc);
-    assert_eq!(rt;
-        found_at(alloc, &t, "2024-03-03T00:00:00Z", &counts)?.as_str(),
-        "V3,domain,g.example,status,gone,\nV4,domain,g.example,status,ok,\nV5,domain,g.example,crDate,2024-03-04T00:00:00Z,2024-03-03T00:00:00Z\nV6,domain,g.example,exDate,2024-03-02T00:00:00Z,2024-03-04T00:00:00Z\nV7,domain,h.example,crDate,2024-03-04,\n"
-    );
+    let (found, walked) = found_at(alloc, t, "2024-03-03T00:00:00Z", &counts)?;
+    let expected =
+        "V3,domain,g.example,status,gone,\nV4,domain,g.example,status,ok,\nV5,domain,g.example,crDate,2024-03-04T00:00:00Z,2024-03-03T00:00:00Z\nV6,domain,g.example,exDate,2024-03-02T00:00:00Z,2024-03-04T00:00:00Z\nV7,domain,h.example,crDate,2024-03-04,\n";
+    assert_eq!(rt; found.as_str(), expected);
+    assert_eq!(rt; walked.as_str(), expected);
     Ok(())
 }
 
@@ -183,10 +210,11 @@ fn links_and_counts_are_verified(rt: HostRuntime) -> Result<(), Fail> {
     counts.insert(Kind::Contact, 1)?;
     counts.insert(Kind::Host, 0)?;
     counts.insert(Kind::Domain, 3)?;
-    assert_eq!(rt;
-        found_at(alloc, &t, "2024-03-11T00:00:00Z", &counts)?.as_str(),
-        "V1,domain,e.example,hostName,ns1.e.example,host\nV1,domain,f.example,clID,R2,registrar\nV1,domain,f.example,registrant,C9,contact\nV2,domain,,count,3,2\n"
-    );
+    let (found, walked) = found_at(alloc, t, "2024-03-11T00:00:00Z", &counts)?;
+    let expected =
+        "V1,domain,e.example,hostName,ns1.e.example,host\nV1,domain,f.example,clID,R2,registrar\nV1,domain,f.example,registrant,C9,contact\nV2,domain,,count,3,2\n";
+    assert_eq!(rt; found.as_str(), expected);
+    assert_eq!(rt; walked.as_str(), expected);
     Ok(())
 }
 
@@ -216,10 +244,32 @@ fn each_field_links_to_its_kind(rt: HostRuntime) -> Result<(), Fail> {
         put(alloc, &mut t, kind, "x", parent, children)?;
     }
     let counts = BTreeMap::new(alloc);
-    assert_eq!(rt;
-        found_at(alloc, &t, "2024-03-11T00:00:00Z", &counts)?.as_str(),
-        "V1,contact,x,clID,R9,registrar\nV1,host,x,clID,R9,registrar\nV1,domain,x,clID,R9,registrar\nV1,domain,x,contactId,C8,contact\nV1,domain,x,idnTableId,I9,idn\nV1,domain,x,registrant,C9,contact\nV1,nndn,x,idnTableId,I9,idn\n"
-    );
+    let (found, walked) = found_at(alloc, t, "2024-03-11T00:00:00Z", &counts)?;
+    let expected =
+        "V1,contact,x,clID,R9,registrar\nV1,host,x,clID,R9,registrar\nV1,domain,x,clID,R9,registrar\nV1,domain,x,contactId,C8,contact\nV1,domain,x,idnTableId,I9,idn\nV1,domain,x,registrant,C9,contact\nV1,nndn,x,idnTableId,I9,idn\n";
+    assert_eq!(rt; found.as_str(), expected);
+    assert_eq!(rt; walked.as_str(), expected);
+    Ok(())
+}
+
+#[test]
+fn what_comes_later_is_linked_to(rt: HostRuntime) -> Result<(), Fail> {
+    let alloc = rt.alloc();
+    let mut t = BTreeMap::new(alloc);
+    for (kind, key, table) in [
+        (Kind::Domain, "a.example", "I1"),
+        (Kind::Domain, "b.example", "I2"),
+        (Kind::Idn, "I1", "I2"),
+        (Kind::Nndn, "n.example", "I1"),
+    ] {
+        let parent = row(alloc, kind.name(), &[("idnTableId", table)])?;
+        put(alloc, &mut t, kind, key, parent, Vec::new(alloc))?;
+    }
+    let counts = BTreeMap::new(alloc);
+    let (found, walked) = found_at(alloc, t, "2024-03-11T00:00:00Z", &counts)?;
+    let expected = "V1,domain,b.example,idnTableId,I2,idn\n";
+    assert_eq!(rt; found.as_str(), expected);
+    assert_eq!(rt; walked.as_str(), expected);
     Ok(())
 }
 
@@ -255,10 +305,11 @@ fn dates_are_moments_of_their_years(rt: HostRuntime) -> Result<(), Fail> {
         put(alloc, &mut t, kind, key, parent, Vec::new(alloc))?;
     }
     let counts = BTreeMap::new(alloc);
-    assert_eq!(rt;
-        found_at(alloc, &t, "2024-03-03T00:00:00Z", &counts)?.as_str(),
-        "V5,contact,C1,crDate,2024-03-03T00:00:00.5Z,2024-03-03T00:00:00Z\nV7,registrar,R1,crDate,1969-12-31T23:59:59Z,\nV7,domain,a.example,crDate,2262-01-01T00:00:00Z,\nV7,domain,a.example,exDate,2024-02-30T00:00:00Z,\n"
-    );
+    let (found, walked) = found_at(alloc, t, "2024-03-03T00:00:00Z", &counts)?;
+    let expected =
+        "V5,contact,C1,crDate,2024-03-03T00:00:00.5Z,2024-03-03T00:00:00Z\nV7,registrar,R1,crDate,1969-12-31T23:59:59Z,\nV7,domain,a.example,crDate,2262-01-01T00:00:00Z,\nV7,domain,a.example,exDate,2024-02-30T00:00:00Z,\n";
+    assert_eq!(rt; found.as_str(), expected);
+    assert_eq!(rt; walked.as_str(), expected);
     Ok(())
 }
 
@@ -291,10 +342,11 @@ fn each_kind_has_its_statuses(rt: HostRuntime) -> Result<(), Fail> {
     let host = row(alloc, "host", &[("name", "ns.example"), ("clID", "R1")])?;
     put(alloc, &mut t, Kind::Host, "ns.example", host, statuses)?;
     let counts = BTreeMap::new(alloc);
-    assert_eq!(rt;
-        found_at(alloc, &t, "2024-03-11T00:00:00Z", &counts)?.as_str(),
-        "V3,host,ns.example,status,clientTransferProhibited,\nV3,host,ns.example,status,inactive,\n"
-    );
+    let (found, walked) = found_at(alloc, t, "2024-03-11T00:00:00Z", &counts)?;
+    let expected =
+        "V3,host,ns.example,status,clientTransferProhibited,\nV3,host,ns.example,status,inactive,\n";
+    assert_eq!(rt; found.as_str(), expected);
+    assert_eq!(rt; walked.as_str(), expected);
     Ok(())
 }
 
@@ -317,7 +369,8 @@ fn domains_are_exported_with_their_child_rows(rt: HostRuntime) -> Result<(), Fai
         &[("name", "e.example"), ("clID", "R1"), ("registrant", "C1")],
     )?;
     put(alloc, &mut t, Kind::Domain, "e.example", parent, rows)?;
-    let text = export_rows(alloc, &t, Kind::Domain)?;
+    let (text, walked) = exported(alloc, t, Kind::Domain)?;
+    assert_eq!(rt; walked.as_slice(), text.as_slice());
     assert_eq!(rt;
         text.as_slice(),
         b"kind,key,table,row,field,value\ndomain,e.example,domain,0,name,e.example\ndomain,e.example,domain,0,clID,R1\ndomain,e.example,domain,0,registrant,C1\ndomain,e.example,domainNs,1,domainName,e.example\ndomain,e.example,domainNs,1,hostName,ns1.e.example\ndomain,e.example,domainNs,2,domainName,e.example\ndomain,e.example,domainNs,2,hostName,ns2.e.example\ndomain,e.example,domainStatuses,1,domainName,e.example\ndomain,e.example,domainStatuses,1,status,ok\ndomain,e.example,domainNs,3,domainName,e.example\ndomain,e.example,domainNs,3,hostName,ns3.e.example\n".as_slice()
@@ -342,15 +395,16 @@ fn quotes_stand_where_they_are_needed(rt: HostRuntime) -> Result<(), Fail> {
         parent,
         Vec::new(alloc),
     )?;
-    let text = export_rows(alloc, &t, Kind::Registrar)?;
-    assert_eq!(rt;
-        text.as_slice(),
-        b"kind,key,table,row,field,value\nregistrar,R1,registrar,0,id,R1\nregistrar,R1,registrar,0,name,\"Net, \"\"One\"\"\"\n".as_slice()
-    );
     let none = export_rows(alloc, &t, Kind::Nndn)?;
     assert_eq!(rt;
         none.as_slice(),
         b"kind,key,table,row,field,value\n".as_slice()
+    );
+    let (text, walked) = exported(alloc, t, Kind::Registrar)?;
+    assert_eq!(rt; walked.as_slice(), text.as_slice());
+    assert_eq!(rt;
+        text.as_slice(),
+        b"kind,key,table,row,field,value\nregistrar,R1,registrar,0,id,R1\nregistrar,R1,registrar,0,name,\"Net, \"\"One\"\"\"\n".as_slice()
     );
     Ok(())
 }
@@ -363,5 +417,42 @@ fn lines_may_differ_in_length(rt: HostRuntime) -> Result<(), Fail> {
     lines.write(&[b"d\n"])?;
     let text = lines.into_text()?;
     assert_eq!(rt; text.as_slice(), b"a,b c\n\"d\n\"\n".as_slice());
+    Ok(())
+}
+
+// Two objects are given by three calls: the last answers that there are no more.
+#[test]
+fn a_fault_of_the_source_is_handed_on(rt: HostRuntime) -> Result<(), Fail> {
+    let alloc = rt.alloc();
+    let counts = BTreeMap::new(alloc);
+    for left in 0..5 {
+        let mut objects = Stopping {
+            inner: MapObjects::new(front(alloc)?),
+            left,
+        };
+        match verify_from(alloc, &mut objects, 0, &counts) {
+            Ok(found) => {
+                assert!(rt; left >= 3);
+                assert!(rt; found.is_empty());
+            }
+            Err(StreamFault::Source(Stopped)) => assert!(rt; left < 3),
+            Err(StreamFault::NoMemory) => return Err(NoMemory.into()),
+        }
+        let mut objects = Stopping {
+            inner: MapObjects::new(front(alloc)?),
+            left,
+        };
+        match export_from(alloc, &mut objects, Kind::Registrar) {
+            Ok(text) => {
+                assert!(rt; left >= 3);
+                assert_eq!(rt;
+                    text.as_slice(),
+                    b"kind,key,table,row,field,value\nregistrar,R1,registrar,0,id,R1\n".as_slice()
+                );
+            }
+            Err(StreamFault::Source(Stopped)) => assert!(rt; left < 3),
+            Err(StreamFault::NoMemory) => return Err(NoMemory.into()),
+        }
+    }
     Ok(())
 }

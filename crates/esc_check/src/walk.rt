@@ -63,7 +63,8 @@ fn take_in(
     Ok(())
 }
 
-// What is found of all the objects that were taken in.
+// What is found of all the objects that were taken in. Where a source that isn't honest gives a key twice, findings may differ
+// only in what is told besides; then one of them is listed.
 fn finish(
     alloc: Global,
     g: Gathering,
@@ -82,8 +83,8 @@ fn finish(
     Ok(listed(settle(found)))
 }
 
-/// The same of the objects that come one at a time. It takes memory for what is found, for the keys, and for the links
-/// that lead to what has not come yet.
+/// What `verify` finds in the tables of a registry, found of their objects as they come one at a time. It takes memory for
+/// what is found, for the keys, and for the links that lead to what had not come before them.
 pub fn verify_from<O: Objects>(
     alloc: Global,
     o: &mut O,

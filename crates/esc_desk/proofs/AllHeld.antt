@@ -61,7 +61,7 @@ same_bool false true f g = absurd (true≢false (sym (g refl)))
 same_bool false false f g = refl
 
 -- an arrival that holds row r has the digest of that row
-row_found : (m : List MRow) (r : ℕ) (row : Option ℕ) (told : Result DepositValue ℕ) → is_row r (held_row (found_at m row told)) ≡ true → row ≡ Some r
+pub row_found : (m : List MRow) (r : ℕ) (row : Option ℕ) (told : Result DepositValue ℕ) → is_row r (held_row (found_at m row told)) ≡ true → row ≡ Some r
 row_found m r None told is = absurd (true≢false (sym is))
 row_found m r (Some q) (Err n) is = absurd (true≢false (sym is))
 row_found m r (Some q) (Ok d) is = by_test _ is

@@ -13,3 +13,6 @@ pub mod Searches
 pub mod StoreFacts
 pub mod TakingIn
 pub mod Working
+pub mod EntryLists
+pub mod Walks
+pub mod WalkSteps

@@ -3,6 +3,7 @@ pub mod ArrivalValue
 pub mod Filled
 pub mod Finding
 pub mod Given
+pub mod Places
 pub mod Plans
 pub mod Reads
 pub mod Receipts

@@ -18,7 +18,7 @@
 //! What goes in is a [`Store`](esc_store::Store), then arrivals: one by one to [`Desk::arrive`], or a list of them to
 //! [`Desk::run`]. What comes out are replies, the work of each move, and the reads: [`Desk::status`],
 //! [`Desk::receipts`], [`Desk::manifest`], [`Desk::held`], [`Desk::tables`], [`Desk::end`] and [`Desk::writes`]. The
-//! objects of the tables are given one at a time, too: [`Desk::walk`]. (The walk is scaffolding yet: it answers `S2`.)
+//! objects of the tables are given one at a time, too: [`Desk::walk`].
 //!
 //! # What is promised
 //!
@@ -48,6 +48,9 @@
 //! of those steps alone are read again that stand past the common front of both chains. The store is asked which rows
 //! are held, which reads every held body, at a desk's first arrival that is like none before it, and at the next one after
 //! an `Err`.
+//!
+//! [`Desk::tables`] holds all objects in memory. A [`Walk`] holds a page of 256 at most, and reads each page by a look-up
+//! in the index. While it lives the desk is lent to it, so nothing arrives in between.
 #![tactic(auto)]
 
 mod arrival;

@@ -1,16 +1,19 @@
 //! The objects of a desk's tables, one at a time.
 
-ghost use Rattle.std.specs.Prelude.{◌≡◌, List, IfOk};
+ghost use Rattle.std.specs.Prelude.{◌≡◌, ◌<◌, ◌++◌, ◌∷◌, [], List, Some, None, is_some, IfOk, OnOk};
+ghost use Rattle.std.specs.Vec.Iter.{into_iter_items, into_iter_len};
 ghost use Rattle.std.specs.Borrow.{sem, RestsIfErr};
 ghost use Rattle.esc_manifest.specs.declared.row.MRow.{MRow};
 ghost use Rattle.esc_apply.specs.Objects.{Entry, InOrder};
 ghost use Rattle.esc_store.specs.Standing.{IsHonest, IsAsBefore};
 ghost use Rattle.esc_desk.specs.ArrivalValue.{ArrivalValue};
 ghost use Rattle.esc_desk.specs.Reads.{AreTables};
+ghost use Rattle.esc_desk.specs.Places.{first_kind, later_kind, kinds_left, IsPlaceBehind};
 ghost use Rattle.esc_desk.specs.Serving.{Serves, DeskServes};
 
 use crate::desk::Desk;
 use esc_apply::Objects;
+use esc_chain::latest_chain_is_one;
 use esc_envelope::Kind;
 use esc_store::SFault;
 use esc_tables::{Key, Object};
@@ -66,8 +69,105 @@ impl<S: Alter> Desk<S> {
         ensures serves { (m : List MRow) (l : List ArrivalValue) → DeskServes S.Store self.old m l → DeskServes S.Store self.new m l }
         ensures lists { IfOk result (λ pages. IsHonest S.Store self.new.store → (m : List MRow) (l : List ArrivalValue) → Serves S.Store self.old.store m l → (es : List Entry) → AreTables m l es → InOrder es → AreToCome S.Store self.new.store pages (of_kinds kind es)) }
     {
-        let _ = (alloc, kind);
-        Err(SFault::S2)
+        latest_chain_is_one();
+        let _rows = self.store.manifest().rows();
+        let mut pages = first_place(alloc, kind);
+        self.fill(&mut pages)?;
+        Ok(pages)
+    }
+
+    // Reads pages until an object is at hand, or none is behind.
+    fn fill(&mut self, pages: &mut Pages) -> Result<(), SFault>
+        ensures same { IsAsBefore S.Store self.old.store self.new.store }
+        ensures known { self.new.known ≡ self.old.known }
+        ensures left { pages.new.left ≡ pages.old.left }
+        ensures failed { pages.new.has_failed ≡ pages.old.has_failed }
+        ensures kept { OnOk result (IsHonest S.Store self.new.store → (es : List Entry) → AreToCome S.Store self.old.store pages.old es → AreToCome S.Store self.new.store pages.new es) }
+        ensures full { OnOk result (into_iter_len pages.new.page ≡ 0 → pages.new.kind ≡ None) }
+    {
+        while pages.page.len() == 0 {
+            match pages.kind {
+                None => return Ok(()),
+                Some(kind) => self.turn(pages, kind)?,
+            }
+        }
+        Ok(())
+    }
+
+    // Reads the page that begins where the one at hand, which is used up, ended.
+    fn turn(&mut self, pages: &mut Pages, kind: Kind) -> Result<(), SFault>
+        ensures same { IsAsBefore S.Store self.old.store self.new.store }
+        ensures known { self.new.known ≡ self.old.known }
+        ensures left { pages.new.left ≡ pages.old.left }
+        ensures failed { pages.new.has_failed ≡ pages.old.has_failed }
+        ensures kept { OnOk result (IsHonest S.Store self.new.store → pages.old.kind ≡ Some kind → into_iter_len pages.old.page ≡ 0 → (es : List Entry) → AreToCome S.Store self.old.store pages.old es → AreToCome S.Store self.new.store pages.new es) }
+        ensures nearer { OnOk result (into_iter_len pages.new.page ≡ 0 → kinds_left pages.new.kind < kinds_left (Some kind)) }
+    {
+        let page = self
+            .store
+            .objects_from(pages.alloc, kind, pages.from.as_slice())?;
+        let (next, from) = next_place(pages.alloc, kind, pages.alone, page.as_slice())?;
+        pages.kind = next;
+        pages.from = from;
+        pages.page = page.into_iter();
+        Ok(())
+    }
+}
+
+// Before the first page of one kind, or of all.
+fn first_place(alloc: Global, kind: Option<Kind>) -> Pages
+    ensures page { into_iter_items result.page ≡ [] }
+    ensures kind { result.kind ≡ Some (first_kind kind) }
+    ensures from { result.from.items ≡ [] }
+    ensures alone { result.alone ≡ is_some kind }
+{
+    Pages {
+        alloc,
+        page: Vec::new(alloc).into_iter(),
+        kind: Some(kind.unwrap_or(Kind::Registrar)),
+        from: Vec::new(alloc),
+        alone: kind.is_some(),
+        left: u64::MAX,
+        has_failed: false,
+    }
+}
+
+// Where the next page begins: behind the last key of this one, or where this one is empty with the next kind, if any.
+fn next_place(
+    alloc: Global,
+    kind: Kind,
+    alone: bool,
+    page: &[(Key, Object)],
+) -> Result<(Option<Kind>, Vec<u8>), SFault>
+    ensures { IfOk result (λ place. IsPlaceBehind kind alone page.now place.0 place.1.items) }
+{
+    match page.last() {
+        Some(entry) => Ok((Some(kind), bytes_behind(alloc, entry.0.text.as_bytes())?)),
+        None if alone => Ok((None, Vec::new(alloc))),
+        None => Ok((kind_after(kind), Vec::new(alloc))),
+    }
+}
+
+// The first bytes behind these: with a zero behind them.
+fn bytes_behind(alloc: Global, bytes: &[u8]) -> Result<Vec<u8>, SFault>
+    ensures { IfOk result (λ behind. behind.items ≡ bytes.now ++ 0 ∷ []) }
+{
+    let mut behind = Vec::from_slice(alloc, bytes)?;
+    behind.push(0)?;
+    Ok(behind)
+}
+
+// The kind behind this one, if there is one.
+fn kind_after(kind: Kind) -> Option<Kind>
+    ensures { result ≡ later_kind kind }
+{
+    match kind {
+        Kind::Registrar => Some(Kind::Contact),
+        Kind::Contact => Some(Kind::Host),
+        Kind::Host => Some(Kind::Domain),
+        Kind::Domain => Some(Kind::Idn),
+        Kind::Idn => Some(Kind::Nndn),
+        Kind::Nndn => None,
     }
 }
 
@@ -88,9 +188,23 @@ impl<'a, S: Alter> Objects for Walk<'a, S, Pages> {
 
     ghost follows = { λ a b. Follows S.Store a b };
 
+    // A walk that is in the midst of a call counts as failed, so that each way out but the last leaves it so.
+    #[tactic(auto, using(crate::proofs::StoreFacts::still_serves))]
     fn next(&mut self) -> Result<Option<(Key, Object)>, SFault> {
+        if self.pages.has_failed || self.pages.left == 0 {
+            self.pages.has_failed = true;
+            return Err(SFault::S1);
+        }
         self.pages.has_failed = true;
-        Err(SFault::S1)
+        self.desk.fill(&mut self.pages)?;
+        self.pages.has_failed = false;
+        match self.pages.page.next() {
+            None => Ok(None),
+            Some(entry) => {
+                self.pages.left -= 1;
+                Ok(Some(entry))
+            }
+        }
     }
 
     ghost in_order = { λ walk es h. h.order };

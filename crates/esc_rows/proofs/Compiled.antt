@@ -6,7 +6,7 @@ use Rattle.sqlite_value.specs.declared.keys.Key.{Key}
 use Rattle.sqlite_value.specs.declared.value.Value.TheVariants.{Null, Int}
 use Rattle.sqlite.specs.Collation.TheVariants.{Binary}
 use Rattle.sqlite_sql.specs.declared.ops.BinaryOp.TheVariants.{Compare}
-use Rattle.sqlite_sql.specs.declared.ops.CompareOp.TheVariants.{Eq}
+use Rattle.sqlite_sql.specs.declared.ops.CompareOp.TheVariants.{Eq, Ge}
 use Rattle.sqlite.specs.Term.{Term, col, lit, op2}
 use Rattle.sqlite.specs.Compile.{table_defined_by}
 use Rattle.sqlite.specs.Change.{created}
@@ -22,7 +22,7 @@ use Rattle.sqlite_tied.specs.Compute.{everything}
 use Rattle.sqlite.proofs.Callers.{IsPlain, command_of, statement_of}
 use Rattle.esc_rows.specs.RowText.{is_write_text, is_read_text}
 use Rattle.esc_rows.specs.Schema.{no_schema, schema_1, schema_2, schema_3, schema_4, schema_5, schema_6, store_schema, info_table, listed_table, receipt_table, held_table, step_table, object_table, undo_table}
-use Rattle.esc_rows.specs.Texts.{create_info_text, create_listed_text, create_receipt_text, create_held_text, create_step_text, create_object_text, create_undo_text, insert_info_text, select_version_text, insert_listed_text, select_listed_text, insert_receipt_text, find_receipt_text, select_receipts_text, last_receipt_text, insert_held_text, select_held_text, find_body_text, clear_steps_text, insert_step_text, select_steps_text, insert_object_text, update_object_text, delete_object_text, clear_objects_text, find_object_text, select_objects_text, select_kind_text, select_kinds_text, insert_undo_text, select_undo_text, delete_undo_text, clear_undo_text}
+use Rattle.esc_rows.specs.Texts.{create_info_text, create_listed_text, create_receipt_text, create_held_text, create_step_text, create_object_text, create_undo_text, insert_info_text, select_version_text, insert_listed_text, select_listed_text, insert_receipt_text, find_receipt_text, select_receipts_text, last_receipt_text, insert_held_text, select_held_text, find_body_text, clear_steps_text, insert_step_text, select_steps_text, insert_object_text, update_object_text, delete_object_text, clear_objects_text, find_object_text, select_objects_text, select_kind_text, objects_from_text, select_kinds_text, insert_undo_text, select_undo_text, delete_undo_text, clear_undo_text}
 use Rattle.esc_rows.proofs.Scan.{scan, no_limit}
 
 -- the text is this write
@@ -53,6 +53,9 @@ pub record IsCreate (text : List ℕ) (before after : Schema) (table : Table) : 
 
 abbrev equals : Term → Term → Term
 equals a b = op2 (Compare Eq Binary) a b
+
+abbrev from : Term → Term → Term
+from a b = op2 (Compare Ge Binary) a b
 
 abbrev up : Term → Term × Key
 up t = (t, record { collation = Binary; descending = false })
@@ -239,6 +242,13 @@ select_kind_scan = scan 9 (equals (col 1 1) (col 0 0) ∷ []) (col 1 1 ∷ col 1
 pub select_kind_is : IsQuery select_kind_text select_kind_scan
 unfolding understood is_read_text everything
 select_kind_is = record { names = codes "kind" ∷ codes "key" ∷ codes "record" ∷ []; is = refl; plain = (refl, refl); unlisted = refl; reads = refl }
+
+abbrev pub objects_from_scan : Query
+objects_from_scan = scan 9 (equals (col 1 1) (col 0 0) ∷ from (col 1 2) (col 0 1) ∷ []) (col 1 1 ∷ col 1 2 ∷ col 1 3 ∷ []) (up (col 1 1) ∷ up (col 1 2) ∷ []) (pos 256)
+
+pub objects_from_is : IsQuery objects_from_text objects_from_scan
+unfolding understood is_read_text everything
+objects_from_is = record { names = codes "kind" ∷ codes "key" ∷ codes "record" ∷ []; is = refl; plain = (refl, refl); unlisted = refl; reads = refl }
 
 abbrev pub select_kinds_scan : Query
 select_kinds_scan = scan 9 ([]) (col 1 1 ∷ []) (up (col 1 1) ∷ up (col 1 2) ∷ []) no_limit

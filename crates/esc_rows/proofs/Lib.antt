@@ -22,3 +22,5 @@ pub mod CreateLemmas
 pub mod TermLemmas
 pub mod ShapeLemmas
 pub mod OpenLemmas
+pub mod Firsts
+pub mod PageLemmas

@@ -1,5 +1,5 @@
 -- What the queries of many objects give.
-use Rattle.std.proofs.Common.{◌≡◌, inl, inr, ℕ, suc, ◌≤◌, ◌==◌, ◌&&◌, pos, Bool, true, false, List, [], ◌∷◌, map, filter, length, Option, Some, None, option_map, refl, sym, ap, subst, ◌∙◌, arith, is_eq}
+use Rattle.std.proofs.Common.{◌≡◌, inl, inr, ℕ, suc, ◌≤◌, ◌==◌, ◌&&◌, ℤ, pos, Bool, true, false, List, [], ◌∷◌, map, filter, length, Option, Some, None, option_map, refl, sym, ap, subst, ◌∙◌, arith, is_eq}
 use Rattle.std.specs.Prelude.{find, bytes_eq}
 use Rattle.std.proofs.lemmas.Bool.{cases_Bool}
 use Rattle.std.proofs.lemmas.List.Sorted.{length_permutation}
@@ -7,7 +7,7 @@ use Rattle.sqlite_value.specs.declared.keys.Key.{Key}
 use Rattle.sqlite_value.specs.declared.value.Value.TheVariants.{Int, Blob}
 use Rattle.sqlite_value.specs.Order.{Row}
 use Rattle.sqlite.specs.Collation.TheVariants.{Binary}
-use Rattle.sqlite.specs.Query.{Output, output_cmp}
+use Rattle.sqlite.specs.Query.{Output, output_cmp, page}
 use Rattle.sqlite.specs.Term.{Term, col}
 use Rattle.sqlite.specs.Effect.{Database}
 use Rattle.sqlite.specs.State.{State, Shown}
@@ -27,10 +27,10 @@ use Rattle.esc_rows.proofs.Sorts.{sort_same, find-sorted, key_eq, both_total, bo
 use Rattle.esc_rows.proofs.Statements.{asks}
 use Rattle.esc_rows.proofs.ObjectLemmas.{is_same_object, content_apart, one_object}
 
-abbrev sorted_by : ObjectRow → Row
+abbrev pub sorted_by : ObjectRow → Row
 sorted_by o = Int (pos o.kind) ∷ Blob o.key ∷ []
 
-abbrev by_kind_and_key : List (Term × Key)
+abbrev pub by_kind_and_key : List (Term × Key)
 by_kind_and_key = (col 1 1, record { collation = Binary; descending = false }) ∷ (col 1 2, record { collation = Binary; descending = false }) ∷ []
 
 -- the query of these columns, in order
@@ -38,16 +38,19 @@ module _ (shown : ObjectRow → Row) (p : ObjectRow → Bool) (tests project : L
   abbrev out : ObjectRow → Output
   out o = (sorted_by o, shown o)
 
-  pub in_key_order : (rows : List Row) → IsScanned stored_object p out 9 tests project by_kind_and_key no_limit params c.objects rows → rows ≡ map shown (sort_by by_key (filter p c.objects))
-  in_key_order rows s =
-      let q = scan 9 tests project by_kind_and_key no_limit in
+  pub in_page_order : (limit : ℤ) (rows : List Row) → IsScanned stored_object p out 9 tests project by_kind_and_key limit params c.objects rows → rows ≡ page (scan 9 tests project by_kind_and_key limit) params (map shown (sort_by by_key (filter p c.objects)))
+  in_page_order limit rows s =
+      let q = scan 9 tests project by_kind_and_key limit in
       let same : (a b : ObjectRow) → output_cmp q (out a) (out b) ≡ by_key a b = λ a b. both_values (λ o. o.kind) (λ o. o.key) a b in
       let never : (a b : ObjectRow) → is_same_object a b ≡ false → is_eq (output_cmp q (out a) (out b)) ≡ false = λ a b h. ap is_eq (same a b) ∙ key_eq a.kind a.key b.kind b.key ∙ h in
-      put_in_order stored_object p out 9 tests project by_kind_and_key no_limit params c.objects rows
+      put_in_order stored_object p out 9 tests project by_kind_and_key limit params c.objects rows
       (ascending_weaker (λ a b. is_same_object a b ≡ false) (λ a b. is_eq (output_cmp q (out a) (out b)) ≡ false) never (filter p c.objects) (ascending-filter (λ a b. is_same_object a b ≡ false) p c.objects apart)) s
-      ∙ ap (map shown) (sort_same (λ a b. output_cmp q (out a) (out b)) by_key same (filter p c.objects))
+      ∙ ap (λ os. page q params (map shown os)) (sort_same (λ a b. output_cmp q (out a) (out b)) by_key same (filter p c.objects))
 
-entry_found : (k : ℕ) (q : List ℕ) (os : List ObjectRow) → entry_at k q (map object_entry os) ≡ object_at k q os
+  pub in_key_order : (rows : List Row) → IsScanned stored_object p out 9 tests project by_kind_and_key no_limit params c.objects rows → rows ≡ map shown (sort_by by_key (filter p c.objects))
+  in_key_order rows s = in_page_order no_limit rows s
+
+pub entry_found : (k : ℕ) (q : List ℕ) (os : List ObjectRow) → entry_at k q (map object_entry os) ≡ object_at k q os
 entry_found k q os = ap (option_map (λ (e : ObjectEntry). e.bytes)) (find-map (is_entry_at k q) object_entry os) ∙ twice (find (is_object_at k q) os)
   where
     twice : (o : Option ObjectRow) → option_map (λ (e : ObjectEntry). e.bytes) (option_map object_entry o) ≡ option_map (λ (x : ObjectRow). x.bytes) o
@@ -58,7 +61,7 @@ entry_found k q os = ap (option_map (λ (e : ObjectEntry). e.bytes)) (find-map (
 few_of : (p : ObjectRow → Bool) (k : ℕ) (q : List ℕ) (os : List ObjectRow) → AreApart is_same_object os → length (filter (is_object_at k q) (filter p os)) ≤ 1
 few_of p k q os apart = one_object k q (filter p os) (ascending-filter (λ a b. is_same_object a b ≡ false) p os apart)
 
-sorted_found : (p : ObjectRow → Bool) (k : ℕ) (q : List ℕ) (os : List ObjectRow) → AreApart is_same_object os
+pub sorted_found : (p : ObjectRow → Bool) (k : ℕ) (q : List ℕ) (os : List ObjectRow) → AreApart is_same_object os
     → entry_at k q (map object_entry (sort_by by_key (filter p os))) ≡ option_map (λ (o : ObjectRow). o.bytes) (find (λ o. p o && is_object_at k q o) os)
 sorted_found p k q os apart =
     entry_found k q (sort_by by_key (filter p os))

@@ -2,7 +2,8 @@
 use Rattle.std.proofs.Common.{◌≡◌, ℕ, ◌≤◌, ℤ, pos, negsuc, Bool, true, false, List, [], ◌∷◌, map, cond, ◌++◌, reverse, length, Some, None, refl, ap, subst, ◌∙◌, arith}
 use Rattle.std.specs.Prelude.{filter, bytes_eq, flat_map, IsPermutation, IsSorted, ◌&&◌, ◌==◌}
 use Rattle.std.specs.List.{list_all}
-use Rattle.std.specs.Ordering.{is_eq, int_eq}
+use Rattle.std.specs.Ordering.{is_eq, is_ge, int_eq, nat_cmp}
+use Rattle.std.specs.Cmp.Lexicographic.{slice_cmp}
 use Rattle.std.specs.declared.cmp.Ordering.{Ordering}
 use Rattle.std.specs.declared.cmp.Ordering.TheVariants.{Less}
 use Rattle.std.proofs.lemmas.Map.Text.{is_eq-slice_cmp}
@@ -16,7 +17,7 @@ use Rattle.sqlite.specs.Tree.{Trees, IsAscending}
 use Rattle.sqlite.specs.Term.{Term, lit, holds}
 use Rattle.sqlite.specs.Ops.{binary, is_true, from_truth}
 use Rattle.sqlite_sql.specs.declared.ops.BinaryOp.TheVariants.{Compare}
-use Rattle.sqlite_sql.specs.declared.ops.CompareOp.TheVariants.{Eq}
+use Rattle.sqlite_sql.specs.declared.ops.CompareOp.TheVariants.{Eq, Ge}
 use Rattle.sqlite.specs.Query.{Query, inner, end, IsAnswer, Output, output, output_cmp, matches, page}
 use Rattle.sqlite_sql.proofs.QueryLemmas.{output_cmp_total}
 use Rattle.sqlite_keyed.specs.Lists.{sort_by}
@@ -116,6 +117,10 @@ same_text a b = true_back _ ∙ ap is_eq (value_cmp-Text a b) ∙ is_eq-slice_cm
 pub same_blob : (a b : List ℕ) → is_true (binary (Compare Eq Binary) (Blob a) (Blob b)) ≡ bytes_eq a b
 unfolding binary
 same_blob a b = true_back _ ∙ ap is_eq (value_cmp-Blob a b) ∙ is_eq-slice_cmp a b
+
+pub not_below : (a b : List ℕ) → is_true (binary (Compare Ge Binary) (Blob a) (Blob b)) ≡ is_ge (slice_cmp nat_cmp a b)
+unfolding binary
+not_below a b = true_back _ ∙ ap is_ge (value_cmp-Blob a b)
 
 pub same_int : (a b : ℤ) → is_true (binary (Compare Eq Binary) (Int a) (Int b)) ≡ int_eq a b
 unfolding binary

@@ -1,10 +1,12 @@
 -- What each statement does to what a store holds, and what each query says of it.
 use Rattle.std.specs.List.{AllByRecursion}
-use Rattle.std.specs.Ordering.{nat_cmp, ordering_then}
+use Rattle.std.specs.Ordering.{nat_cmp, ordering_then, is_le, is_ge}
 use Rattle.std.specs.declared.cmp.Ordering.{Ordering}
+use Rattle.std.specs.declared.cmp.Ordering.TheVariants.{Less}
 use Rattle.std.specs.Cmp.Lexicographic.{slice_cmp}
-use Rattle.std.specs.Prelude.{◌≡◌, ◌<◌, ◌==◌, ◌&&◌, ℕ, pos, Bool, false, List, [], ◌∷◌, ◌++◌, map, filter, find, length, Option, Some, None, option_map, bytes_eq, if◌then◌else◌}
+use Rattle.std.specs.Prelude.{◌≡◌, ◌<◌, ◌==◌, ◌&&◌, ℕ, pos, false, List, [], ◌∷◌, ◌++◌, map, filter, find, length, take, Bool, true, Option, Some, None, option_map, bytes_eq, if◌then◌else◌}
 use Rattle.sqlite.specs.Effect.{Database}
+use Rattle.sqlite_trees.specs.Tree.{IsAscending}
 use Rattle.sqlite_keyed.specs.Keyed.{has_key, insert_by, get_by}
 use Rattle.sqlite_keyed.specs.Lists.{sort_by}
 use Rattle.esc_rows.specs.Rows.{ListedRow, ReceiptRow, HeldRow, StepRow, ObjectRow, UndoRow, held_number}
@@ -63,6 +65,36 @@ pub record ListsObjects (c : Content) (found : List ObjectEntry) : Type 0 where
 pub record ListsKind (kind : ℕ) (c : Content) (found : List ObjectEntry) : Type 0 where
   pub sorted : found ≡ map object_entry (sort_by by_key (filter (λ (o : ObjectRow). o.kind == kind) c.objects))
   pub same : (k : ℕ) (q : List ℕ) → entry_at k q found ≡ (if kind == k then object_at k q c.objects else None)
+
+-- a key is at these bytes or behind them
+abbrev pub is_from : List ℕ → List ℕ → Bool
+is_from from key = is_ge (slice_cmp nat_cmp key from)
+
+-- an object is of the kind, and its key is at these bytes or behind them
+abbrev pub is_kind_from : ℕ → List ℕ → ObjectRow → Bool
+is_kind_from kind from o = (o.kind == kind) && is_from from o.key
+
+-- by kind, then by key
+abbrev pub by_entry : ObjectEntry → ObjectEntry → Ordering
+by_entry a b = ordering_then (nat_cmp a.kind b.kind) (slice_cmp nat_cmp a.key b.key)
+
+-- the key of the last entry, if there is one
+abbrev pub last_key : List ObjectEntry → Option (List ℕ)
+last_key [] = None
+last_key (e ∷ []) = Some e.key
+last_key (e ∷ f ∷ es) = last_key (f ∷ es)
+
+-- a key is not behind the last one, if there is one
+abbrev pub is_up_to : Option (List ℕ) → List ℕ → Bool
+is_up_to None key = true
+is_up_to (Some last) key = is_le (slice_cmp nat_cmp key last)
+
+-- the first 256 objects of a kind from a key on, in order; up to the last of them none is left out, and where there is
+-- none at all none is left out anywhere
+pub record ListsFrom (kind : ℕ) (from : List ℕ) (c : Content) (found : List ObjectEntry) : Type 0 where
+  pub first : found ≡ map object_entry (take 256 (sort_by by_key (filter (is_kind_from kind from) c.objects)))
+  pub ascending : IsAscending (λ a b. by_entry a b ≡ Less) found
+  pub same : (k : ℕ) (q : List ℕ) → entry_at k q found ≡ (if (kind == k) && is_from from q && is_up_to (last_key found) q then object_at k q c.objects else None)
 
 -- the kind of each object, in order
 pub record ListsKinds (c : Content) (found : List ℕ) : Type 0 where

@@ -9,7 +9,7 @@ use Rattle.sqlite_keyed.specs.Keyed.{insert_by, get_by}
 use Rattle.sqlite_keyed.specs.Lists.{update_where, sort_by}
 use Rattle.esc_rows.specs.Rows.{ReceiptRow, HeldRow, ObjectRow, UndoRow, object_number, held_number, blob_or_null, shown_listed, shown_receipt, shown_step}
 use Rattle.esc_rows.specs.Content.{Content, HoldsContent, is_object_at}
-use Rattle.esc_rows.specs.Changes.{by_key, by_image, is_receipt_of}
+use Rattle.esc_rows.specs.Changes.{by_key, by_image, is_kind_from, is_receipt_of}
 
 abbrev pub with_bytes : List ℕ → ObjectRow → ObjectRow
 with_bytes bytes o = record o { bytes = bytes }
@@ -48,6 +48,9 @@ ShowsObjects c rows = rows ≡ map shown_object (sort_by by_key c.objects)
 
 abbrev pub ShowsKind : ℕ → Content → List Row → Type 0
 ShowsKind kind c rows = rows ≡ map shown_object (sort_by by_key (filter (λ (o : ObjectRow). o.kind == kind) c.objects))
+
+abbrev pub ShowsFrom : ℕ → List ℕ → Content → List Row → Type 0
+ShowsFrom kind from c rows = rows ≡ take 256 (map shown_object (sort_by by_key (filter (is_kind_from kind from) c.objects)))
 
 abbrev pub shown_kind : ObjectRow → Row
 shown_kind o = Int (pos o.kind) ∷ []

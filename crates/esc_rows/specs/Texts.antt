@@ -94,6 +94,9 @@ select_objects_text = codes "SELECT kind, key, record FROM object ORDER BY kind,
 abbrev pub select_kind_text : List ℕ
 select_kind_text = codes "SELECT kind, key, record FROM object WHERE kind = ?1 ORDER BY kind, key"
 
+abbrev pub objects_from_text : List ℕ
+objects_from_text = codes "SELECT kind, key, record FROM object WHERE kind = ?1 AND key >= ?2 ORDER BY kind, key LIMIT 256"
+
 abbrev pub select_kinds_text : List ℕ
 select_kinds_text = codes "SELECT kind FROM object ORDER BY kind, key"
 

@@ -13,3 +13,4 @@ pub mod Reading
 pub mod Registries
 pub mod Standings
 pub mod Sure
+pub mod Paging

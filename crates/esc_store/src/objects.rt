@@ -10,6 +10,7 @@ ghost use Rattle.esc_tables.specs.KeyName.{KeyName, key_cmp, key_eq};
 ghost use Rattle.esc_record.specs.Record.{record_of};
 ghost use Rattle.esc_rows.specs.Entries.{object_of, image_of};
 ghost use Rattle.esc_store.specs.Decoded.{AreObjectsOf, AreImagesOf};
+ghost use Rattle.esc_store.specs.Pages.{entry_row, stored_row};
 
 use crate::fault::SFault;
 use crate::images::record_object;
@@ -90,6 +91,30 @@ pub(crate) fn objects_of(
         add_object(alloc, &mut objects, &stored[at])?;
     }
     Ok(objects)
+}
+
+// The key and the object of a row.
+fn entry_of(alloc: Global, stored: &StoredObject) -> Result<(Key, Object), SFault>
+    ensures { IfOk result (λ entry. entry_row entry ≡ stored_row (object_of stored.now)) }
+{
+    let key = key_of(alloc, stored.kind, stored.key.as_slice())?;
+    let object = record_object(alloc, stored.record.as_slice())?;
+    Ok((key, object))
+}
+
+// The keys and objects of rows, in their order. `S1` where they are of none; `S2`.
+pub(crate) fn entries_of(
+    alloc: Global,
+    stored: &[StoredObject],
+) -> Result<Vec<(Key, Object)>, SFault>
+    ensures { IfOk result (λ entries. map entry_row entries.items ≡ map (λ it. stored_row (object_of it)) stored.now) }
+{
+    let mut entries = Vec::new(alloc);
+    for at in 0..stored.len() {
+        let entry = entry_of(alloc, &stored[at])?;
+        entries.push(entry)?;
+    }
+    Ok(entries)
 }
 
 // What stood at a key before a step: the object of the row's record, or none.

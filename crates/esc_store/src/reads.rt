@@ -3,14 +3,16 @@
 ghost use Rattle.std.specs.Prelude.{◌≡◌, ℕ, map, length, IfOk, option_map};
 ghost use Rattle.esc_apply.specs.Registry.{IsEntriesOf};
 ghost use Rattle.esc_store.specs.Kept.{Kept, kept_replies, kept_reply, kept_chain, AreHeld, AreCounts};
+ghost use Rattle.esc_store.specs.Pages.{IsPage};
 ghost use Rattle.esc_store.specs.Standing.{Stands, IsHonest, IsAsBefore};
 
 use crate::books::small;
 use crate::counts::counts_of;
 use crate::decode::{indices_of, replies_of, reply_found, steps_of};
 use crate::fault::SFault;
+use crate::images::kind_number;
 use crate::numbers::Number;
-use crate::objects::objects_of;
+use crate::objects::{entries_of, objects_of};
 use crate::reply::Reply;
 use crate::store::Store;
 use esc_apply::Step;
@@ -87,6 +89,21 @@ impl<S: Alter> Store<S> {
     {
         let stored = self.see_objects(alloc)?;
         objects_of(alloc, stored.as_slice())
+    }
+
+    /// The first objects of a kind whose keys are not below these bytes, by key: a page of them, none only where there is
+    /// none. `S1`, `S2`.
+    pub fn objects_from(
+        &mut self,
+        alloc: Global,
+        kind: Kind,
+        from: &[u8],
+    ) -> Result<Vec<(Key, Object)>, SFault>
+        ensures same { IsAsBefore S.Store self.old self.new }
+        ensures page { IsHonest S.Store self.new → (k : Kept) → Stands S.Store self.old k → IfOk result (λ page. IsPage k.registry.content kind from.now page.items) }
+    {
+        let stored = self.see_page(alloc, kind_number(kind), from)?;
+        entries_of(alloc, stored.as_slice())
     }
 
     /// How many objects the tables have of each of the six kinds. `S1`, `S2`.

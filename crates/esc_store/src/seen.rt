@@ -1,7 +1,7 @@
 //! What the tables say of what a store keeps.
 
 ghost use Rattle.std.specs.Prelude.{◌≡◌, map, option_map, IfOk};
-ghost use Rattle.esc_rows.specs.Changes.{ListsObjects, ListsKinds, last_number, receipt_of, body_of};
+ghost use Rattle.esc_rows.specs.Changes.{ListsObjects, ListsFrom, ListsKinds, last_number, receipt_of, body_of};
 ghost use Rattle.esc_rows.specs.Entries.{receipt_row, step_row, object_of};
 ghost use Rattle.esc_store.specs.Decoded.{HaveOwnKeys};
 ghost use Rattle.esc_store.specs.Kept.{Kept};
@@ -74,6 +74,19 @@ impl<S: Alter> Store<S> {
         ensures told { IfOk result (λ found. IsHonest S.Store self.new → (k : Kept) → Stands S.Store self.old k → IsTold k (λ c. ListsObjects c (map object_of found.items))) }
     {
         self.objects_here(alloc)
+    }
+
+    // The first records of a kind from a key on.
+    pub(crate) fn see_page(
+        &mut self,
+        alloc: Global,
+        kind: u32,
+        from: &[u8],
+    ) -> Result<Vec<StoredObject>, SFault>
+        ensures same { IsAsBefore S.Store self.old self.new }
+        ensures told { IfOk result (λ found. IsHonest S.Store self.new → (k : Kept) → Stands S.Store self.old k → IsTold k (λ c. ListsFrom kind from.now c (map object_of found.items))) }
+    {
+        self.page_here(alloc, kind, from)
     }
 
     // The kind of each record, of which each has a key of its own.

@@ -1,0 +1,109 @@
+#!/usr/bin/env python3
+"""statements.py [--restore PROGRAM] [--release FOLDER] [--deposit full] [--times N] [--statements PROGRAM] [--keep FOLDER]
+
+What taking a large Full costs beside the SQL statements that it runs, by the program's own engine, in the same run.
+
+Takes the one deposit of a folder of a release (`release.py`; made first where none is given) with the program, and runs the
+statements of that intake alone, over the same objects, in another store of the same manifest (`statements/main.txt`). Prints
+the least of N of each: processor time, and how many times the statements' the program's is; then what each statement takes,
+and the change without those that find nothing. The least is steadier than the mean on a busy machine; ratios hold within one run.
+
+`statements/main.txt` is Rattle's source. The gate proves what stands in `crates/` and takes no other `.rt` file, so it is copied
+into a repository of its own, where `rt run` proves that it is safe and builds it; --statements names what an earlier run built."""
+import argparse, os, re, shutil, subprocess, sys, tempfile, time
+
+HERE = os.path.dirname(os.path.abspath(__file__))
+SOURCE = os.path.join(HERE, 'statements', 'main.txt')
+TEXTS = os.path.join(HERE, '..', 'crates', 'esc_rows', 'src')
+arguments = argparse.ArgumentParser(description=__doc__, formatter_class=argparse.RawDescriptionHelpFormatter)
+arguments.add_argument('--restore', default=os.path.join(HERE, '..', 'crates', 'restore', 'out', 'restore'))
+arguments.add_argument('--release', help='a folder that release.py made')
+arguments.add_argument('--deposit', default='full', help='its folder with one Full: full, or growth/N')
+arguments.add_argument('--statements', help='the program that an earlier run built')
+arguments.add_argument('--times', type=int, default=5)
+arguments.add_argument('--keep', help='a folder to work in, which is kept')
+given = arguments.parse_args()
+work = given.keep or tempfile.mkdtemp(prefix='restore-statements-')
+os.makedirs(work, exist_ok=True)
+
+
+def check_texts():
+    """Stops where a text that is measured isn't one of the program's."""
+    own = ''.join(open(os.path.join(TEXTS, name)).read() for name in sorted(os.listdir(TEXTS)))
+    for text in re.findall(r'"((?:SELECT|INSERT|UPDATE|DELETE) [^"]*)"', open(SOURCE).read()):
+        if f'"{text}"' not in own and 'length(' not in text:
+            sys.exit(f'statements: the program has no text {text}')
+
+
+def build():
+    """Proves and builds the source in a repository of its own, and answers the program."""
+    top = os.path.join(work, 'repository')
+    crate = os.path.join(top, 'crates', 'statements')
+    os.makedirs(os.path.join(crate, 'src'), exist_ok=True)
+    with open(os.path.join(top, 'crates.txt'), 'w') as out:
+        out.write('statements: sqlite\n')
+    shutil.copy(SOURCE, os.path.join(crate, 'src', 'main.rt'))
+    # It is built and run, here without words, which it refuses.
+    ran = subprocess.run(['rt', 'run'], cwd=crate, stdout=subprocess.PIPE, stderr=subprocess.STDOUT, text=True)
+    made = os.path.join(crate, 'out', 'statements')
+    if not os.path.exists(made):
+        sys.exit(f'statements: not built\n{ran.stdout[-2000:]}')
+    return made
+
+
+def spend(*words):
+    """Runs a program, and answers its output, its processor and clock milliseconds, and its peak memory in MB."""
+    begun = time.perf_counter()
+    with open(os.path.join(work, 'out'), 'w+') as out:
+        child = subprocess.Popen(words, stdout=out)
+        _, status, usage = os.wait4(child.pid, 0)
+        took = (time.perf_counter() - begun) * 1000
+        if os.waitstatus_to_exitcode(status) != 0:
+            sys.exit(f'statements: {" ".join(words)}: status {os.waitstatus_to_exitcode(status)}')
+        out.seek(0)
+        return out.read(), (usage.ru_utime + usage.ru_stime) * 1000, took, usage.ru_maxrss / 1024
+
+
+def fresh(name, manifest):
+    store = os.path.join(work, name)
+    for path in (store, store + '-wal'):
+        if os.path.exists(path):
+            os.remove(path)
+    spend(given.restore, 'init', '--store', store, '--manifest', manifest)
+    return store
+
+
+def alone(program, store, manifest, word):
+    """The statements of an intake by themselves: each one's calls and milliseconds, and the change's processor time."""
+    text, *_ = spend(program, store, fresh('alone', manifest), word, '-')
+    return {name: (int(calls), int(micros) / 1000) for name, calls, micros in (line.split() for line in text.splitlines())}
+
+
+def main():
+    check_texts()
+    program = given.statements or build()
+    release = given.release or os.path.join(work, 'release')
+    if not given.release:
+        subprocess.run([sys.executable, os.path.join(HERE, 'release.py'), release], check=True)
+    manifest = os.path.join(release, given.deposit + '.csv' if '/' in given.deposit else 'manifest.csv')
+    names = {'snui': 'SELECT, image, UPDATE, INSERT', 'sni': 'SELECT, image, INSERT', 'ni': 'image, INSERT'}
+    takes, clocks, peaks, changes, each = [], [], [], {word: [] for word in names}, []
+    for _ in range(given.times):
+        store = fresh('taken', manifest)
+        _, processor, clock, peak = spend(given.restore, 'take', '--store', store, os.path.join(release, given.deposit))
+        takes.append(processor), clocks.append(clock), peaks.append(peak)
+        for word, found in changes.items():
+            told = alone(program, store, manifest, word)
+            found.append(told['processor'][1])
+            if word == 'snui':
+                each.append(told)
+    print(f'take {given.deposit}: {min(takes):.0f} ms of processor time, {min(clocks):.0f} ms by the clock, {max(peaks):.0f} MB')
+    for word, found in changes.items():
+        print(f'{names[word] + ", body, COMMIT":44} {min(found):7.0f} ms: take is {min(takes) / min(found):.2f} times that')
+    for name in ('select', 'image', 'update', 'insert', 'body', 'commit'):
+        print(f'  {name:8} {each[0][name][0]:7} calls {min(told[name][1] for told in each):7.0f} ms by the clock')
+    if not given.keep:
+        shutil.rmtree(work)
+
+
+main()

@@ -1,0 +1,100 @@
+-- From rows of the table of objects to a page of them.
+use Rattle.std.proofs.Common.{◌≡◌, ℕ, ◌+◌, ◌<◌, ◌==◌, ◌&&◌, Bool, true, false, cond, List, [], ◌∷◌, ◌++◌, map, take, length, get_or, Option, None, Some, option_map, refl, sym, ap, subst, ◌∙◌, arith, inl, inr, Ordering, Less}
+use Rattle.std.specs.Prelude.{bytes_eq, find}
+use Rattle.std.specs.List.{AllByRecursion}
+use Rattle.std.specs.List.Sorted.{IsStrictlySortedBy}
+use Rattle.std.specs.Map.{lookup, keys_of}
+use Rattle.std.specs.Option.{option_and_then}
+use Rattle.std.specs.Ordering.{nat_cmp, ordering_then}
+use Rattle.std.specs.Cmp.Lexicographic.{slice_cmp}
+use Rattle.std.proofs.lemmas.Bool.{cases_Bool}
+use Rattle.std.proofs.lemmas.List.{map-append, take_more}
+use Rattle.sqlite_trees.specs.Tree.{IsAscending}
+use Rattle.sqlite_keyed.proofs.ListLemmas.{ascending-map, ascending_from_map, all_map}
+use Rattle.esc_envelope.specs.declared.kind.Kind.{Kind}
+use Rattle.esc_envelope.specs.Kinds.{kind_rank}
+use Rattle.esc_tables.specs.KeyName.{KeyName, key_cmp, key_eq}
+use Rattle.esc_tables.specs.ObjectValue.{ObjectValue}
+use Rattle.esc_record.specs.Record.{record_of}
+use Rattle.esc_apply.specs.Objects.{Entry, InOrder}
+use Rattle.esc_apply.specs.Registry.{State}
+use Rattle.esc_apply.proofs.Keys.{keys_alike}
+use Rattle.esc_rows.specs.Content.{Content, object_at}
+use Rattle.esc_rows.specs.Changes.{ObjectEntry, by_entry, entry_at, is_entry_at, is_from, is_up_to, last_key, ListsFrom}
+use Rattle.esc_rows.proofs.Firsts.{last}
+use Rattle.esc_store.specs.Pages.{IsPage, last_text, is_on_page, entry_row, stored_row}
+use Rattle.esc_store.specs.TypedRows.{record_at, IsRegistry}
+use Rattle.esc_store.proofs.Gathering.{tests_alike, same_records, record_here}
+
+abbrev Shown : Type 0
+Shown = ℕ × List ℕ × Option (List ℕ)
+
+abbrev by_shown : Shown → Shown → Ordering
+by_shown a b = ordering_then (nat_cmp a.0 b.0) (slice_cmp nat_cmp a.1 b.1)
+
+abbrev is_shown_at : KeyName → Shown → Bool
+is_shown_at q t = (t.0 == kind_rank q.kind) && bytes_eq t.1 q.text
+
+abbrev record_in : Option Shown → Option (Option (List ℕ))
+record_in = option_map (λ (t : Shown). t.2)
+
+-- ---- the order
+
+in_order : (es : List Entry) → IsAscending (λ (a b : Entry). key_cmp a.0 b.0 ≡ Less) es → InOrder es
+unfolding IsStrictlySortedBy
+in_order [] up = tt
+in_order (e ∷ es) up = (all_map (λ k. key_cmp e.0 k ≡ Less) (λ (f : Entry). f.0) es up.0, in_order es up.1)
+
+order_is : (rows : List ObjectEntry) (es : List Entry) → IsAscending (λ a b. by_entry a b ≡ Less) rows → map entry_row es ≡ map stored_row rows → InOrder es
+order_is rows es up same =
+    in_order es (ascending_from_map (λ a b. by_shown a b ≡ Less) entry_row es (subst (IsAscending (λ a b. by_shown a b ≡ Less)) (sym same) (ascending-map (λ a b. by_shown a b ≡ Less) stored_row rows up)))
+
+-- ---- the last one
+
+last_of_entries : (es : List Entry) → last_text es ≡ option_map (λ (t : Shown). t.1) (last (map entry_row es))
+last_of_entries [] = refl
+last_of_entries (e ∷ []) = refl
+last_of_entries (e ∷ f ∷ es) = last_of_entries (f ∷ es)
+
+last_of_rows : (rows : List ObjectEntry) → last_key rows ≡ option_map (λ (t : Shown). t.1) (last (map stored_row rows))
+last_of_rows [] = refl
+last_of_rows (r ∷ []) = refl
+last_of_rows (r ∷ s ∷ rows) = last_of_rows (s ∷ rows)
+
+last_is : (rows : List ObjectEntry) (es : List Entry) → map entry_row es ≡ map stored_row rows → last_key rows ≡ last_text es
+last_is rows es same = last_of_rows rows ∙ ap (λ ts. option_map (λ (t : Shown). t.1) (last ts)) (sym same) ∙ sym (last_of_entries es)
+
+-- ---- what is found
+
+entries_show : (q : KeyName) (es : List Entry) → option_map record_of (lookup (key_eq q) es) ≡ record_in (find (is_shown_at q) (map entry_row es))
+entries_show q [] = refl
+entries_show q (e ∷ es) =
+    let alike : key_eq q e.0 ≡ is_shown_at q (entry_row e) = keys_alike.symm q e.0 ∙ tests_alike e.0 q (kind_rank e.0.kind) e.0.text refl refl in
+    rw alike (elim (cases_Bool (is_shown_at q (entry_row e))) [ inl is ↦ rw is refl | inr other ↦ rw other (entries_show q es) ])
+
+rows_show : (q : KeyName) (rows : List ObjectEntry) → option_map (λ bytes. Some bytes) (entry_at (kind_rank q.kind) q.text rows) ≡ record_in (find (is_shown_at q) (map stored_row rows))
+rows_show q [] = refl
+rows_show q (r ∷ rows) = elim (cases_Bool (is_entry_at (kind_rank q.kind) q.text r)) [ inl is ↦ rw is refl | inr other ↦ rw other (rows_show q rows) ]
+
+shown_alike : (q : KeyName) (rows : List ObjectEntry) (es : List Entry) → map entry_row es ≡ map stored_row rows
+    → option_map record_of (lookup (key_eq q) es) ≡ option_map (λ bytes. Some bytes) (entry_at (kind_rank q.kind) q.text rows)
+shown_alike q rows es same = entries_show q es ∙ ap (λ ts. record_in (find (is_shown_at q) ts)) same ∙ sym (rows_show q rows)
+
+-- rows that the table has from a key on are a page of what the store keeps
+pub page_is : (s : State) (c : Content) (kind : Kind) (from : List ℕ) (rows : List ObjectEntry) (es : List Entry) → IsRegistry c s → ListsFrom (kind_rank kind) from c rows → map entry_row es ≡ map stored_row rows → IsPage s.content kind from es
+page_is s c kind from rows es it lists same = record { order = order_is rows es lists.ascending same; each = each }
+  where
+    here : (q : KeyName) (b : Bool) → option_map record_of (lookup (key_eq q) es) ≡ option_map (λ bytes. Some bytes) (cond b (object_at (kind_rank q.kind) q.text c.objects) None) → lookup (key_eq q) es ≡ cond b (s.content q) None
+    here q true is = same_records (lookup (key_eq q) es) (s.content q) (is ∙ ap (option_map (λ bytes. Some bytes)) (it.objects (kind_rank q.kind) q.text ∙ record_here s.content q)) (it.recorded q)
+    here q false is = same_records (lookup (key_eq q) es) None is tt
+
+    each : (q : KeyName) → lookup (key_eq q) es ≡ cond (is_on_page kind from (last_text es) q) (s.content q) None
+    each q = here q (is_on_page kind from (last_text es) q) (shown_alike q rows es same ∙ ap (option_map (λ bytes. Some bytes)) (lists.same (kind_rank q.kind) q.text
+        ∙ ap (λ l. cond ((kind_rank kind == kind_rank q.kind) && is_from from q.text && is_up_to l q.text) (object_at (kind_rank q.kind) q.text c.objects) None) (last_is rows es same)))
+
+-- ---- one row more
+
+pub one_entry : {A : Type 0} (f : A → Shown) (stored : List A) (d : A) (at : ℕ) (es : List Entry) (e : Entry) → at < length stored → map entry_row es ≡ map f (take at stored) → entry_row e ≡ f (get_or stored at d) → map entry_row (es ++ e ∷ []) ≡ map f (take (at + 1) stored)
+one_entry f stored d at es e below so_far is =
+    map-append entry_row es (e ∷ []) ∙ ap (λ l. l ++ (entry_row e ∷ [])) so_far ∙ ap (λ t. map f (take at stored) ++ (t ∷ [])) is
+    ∙ sym (map-append f (take at stored) (get_or stored at d ∷ [])) ∙ ap (map f) (sym (take_more stored at d below))

@@ -1,0 +1,35 @@
+-- A page of a store's objects.
+use Rattle.std.specs.Prelude.{◌≡◌, ℕ, ◌==◌, ◌&&◌, Bool, List, [], ◌∷◌, Option, None, Some, if◌then◌else◌}
+use Rattle.std.specs.Map.{lookup}
+use Rattle.esc_envelope.specs.declared.kind.Kind.{Kind}
+use Rattle.esc_envelope.specs.Kinds.{kind_rank}
+use Rattle.esc_tables.specs.KeyName.{KeyName, key_eq}
+use Rattle.esc_apply.specs.Objects.{Entry, InOrder}
+use Rattle.esc_apply.specs.Registry.{Content}
+use Rattle.esc_record.specs.Record.{record_of}
+use Rattle.esc_rows.specs.Changes.{ObjectEntry, is_from, is_up_to}
+
+-- the text of the last entry's key, if there is one
+abbrev pub last_text : List Entry → Option (List ℕ)
+last_text [] = None
+last_text (e ∷ []) = Some e.0.text
+last_text (e ∷ f ∷ es) = last_text (f ∷ es)
+
+-- the keys of a page: those of the kind whose texts are at these bytes or behind them, and not behind the last one, if
+-- there is one
+abbrev pub is_on_page : Kind → List ℕ → Option (List ℕ) → KeyName → Bool
+is_on_page kind from last q = (kind_rank kind == kind_rank q.kind) && is_from from q.text && is_up_to last q.text
+
+-- by key, of each key of the page what the content has, and nothing else; so where there is no entry, the content has
+-- nothing of the kind from here on
+pub record IsPage (content : Content) (kind : Kind) (from : List ℕ) (es : List Entry) : Type 0 where
+  pub order : InOrder es
+  pub each : (q : KeyName) → lookup (key_eq q) es ≡ (if is_on_page kind from (last_text es) q then content q else None)
+
+-- a key's number and bytes, with the record of its object, if it has one
+abbrev pub entry_row : Entry → ℕ × List ℕ × Option (List ℕ)
+entry_row e = (kind_rank e.0.kind, e.0.text, record_of e.1)
+
+-- the same of a row
+abbrev pub stored_row : ObjectEntry → ℕ × List ℕ × Option (List ℕ)
+stored_row r = (r.kind, r.key, Some r.bytes)
