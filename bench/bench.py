@@ -1,10 +1,14 @@
 #!/usr/bin/env python3
 """bench.py [--restore PROGRAM] [--keep FOLDER]: how long the program takes, and how much memory.
 
-Makes a large release (seeded: every run has the same bytes), runs the program on it, and prints for each task its time,
-its peak memory and, where the task is mostly SQL, the ratio to the same SQL statements alone, run by the C library in the
-same run (`raw.py`). Times of a busy machine say little; the ratios say more."""
-import argparse, os, re, shutil, subprocess, sys, tempfile, time
+Makes a large release (seeded: every run has the same bytes) and runs the program on it: takes of a Full, of Differentials,
+of a late revision, of an Incremental and of repeats, each report and two exports of what they made, and a desk of its own on
+a socket of this machine, to which small Differentials are PUT and which is asked for reports. Prints for each task its time
+and its peak memory; where the task is mostly SQL also the ratio to the same SQL statements alone, run by the C library in
+the same run (`raw.py`); for requests how many there were in a second, and at last the peak memory of the desk that served
+them. It needs python3 alone, and the program, which `./sample` builds: `./sample >/dev/null && bench/bench.py`. Times of a
+busy machine say little; the ratios say more."""
+import argparse, http.client, os, re, shutil, socket, subprocess, sys, tempfile, time
 
 HERE = os.path.dirname(os.path.abspath(__file__))
 arguments = argparse.ArgumentParser(description=__doc__)
@@ -47,6 +51,51 @@ def fresh(name, manifest):
     return store
 
 
+def free_port():
+    with socket.socket() as listener:
+        listener.bind(('127.0.0.1', 0))
+        return listener.getsockname()[1]
+
+
+def ask(port, method, path, body=None):
+    """Sends one request by a connection of its own, and reads the whole response."""
+    connection = http.client.HTTPConnection('127.0.0.1', port)
+    connection.request(method, path, body)
+    response = connection.getresponse()
+    response.read()
+    connection.close()
+    if response.status != 200:
+        sys.exit(f'bench: {method} {path}: status {response.status}, wanted 200')
+
+
+def over_a_socket():
+    """Serves a desk of its own: PUTs in order, then as many GETs of each of some reports."""
+    small = os.path.join(release, 'small')
+    store = fresh('small', os.path.join(small, 'manifest.csv'))
+    run('take', '--store', store, os.path.join(small, 'full'))
+    bodies = []
+    for name in sorted(os.listdir(os.path.join(small, 'puts'))):
+        with open(os.path.join(small, 'puts', name), 'rb') as file:
+            bodies.append((f'/arrivals/{name}', file.read()))
+    asked = [('PUT of a small Differential', 'PUT', bodies)]
+    asked += [(f'GET {path}', 'GET', [(path, None)] * len(bodies)) for path in ('/status', '/gaps', '/export/domain')]
+    port = free_port()
+    words = ['serve', '--store', store, '--port', str(port), '--count', str(len(bodies) * len(asked))]
+    server = subprocess.Popen([given.restore, *words], stdout=subprocess.PIPE, text=True)
+    if server.stdout.readline() != f'listening 127.0.0.1:{port}\n':
+        sys.exit('bench: the desk does not listen')
+    for task, method, requests in asked:
+        begun = time.perf_counter()
+        for path, body in requests:
+            ask(port, method, path, body)
+        took = time.perf_counter() - begun
+        print(f'{len(requests)} times {task:34} {took * 1000:9.0f} ms {len(requests) / took:6.0f} a second', flush=True)
+    _, status, usage = os.wait4(server.pid, 0)
+    if status != 0:
+        sys.exit(f'bench: {" ".join(words)}: status {os.waitstatus_to_exitcode(status)}, wanted 0')
+    print(f'{"the desk that served them":44} {"":12} {usage.ru_maxrss / 1024:6.0f} MB', flush=True)
+
+
 def take(task, store, folder, want=0, compare=False):
     took, memory = run('take', '--store', store, os.path.join(release, folder), want=want)
     tell(task, took, memory, took / raw(store) if compare else None)
@@ -68,8 +117,11 @@ def main():
     take('an Incremental of 3000 objects', store, 'incr')
     take('1000 arrivals of one small deposit', store, 'again')
     take('1000 arrivals again', store, 'again')
+    for what in ('status', 'gaps', 'links', 'receipts'):
+        tell(f'report of {what}', *run('report', '--store', store, what))
     for kind in ('domain', 'contact'):
         tell(f'export of {kind}', *run('export', '--store', store, kind))
+    over_a_socket()
     if not given.keep:
         shutil.rmtree(work)
 

@@ -5,12 +5,20 @@ use crate::stop::{DONE, Stop, print};
 use esc_desk::Desk;
 use esc_http::{ServeFault, serve_one};
 use sqlite::Alter;
-use std::io::{Error, Write};
-use std::net::{Net, TcpListener, TcpStream};
+use std::io::{Error, Read, Write};
+use std::net::{Net, Shutdown, TcpListener, TcpStream};
 use std::time::Duration;
 
 /// How many seconds a connection may stand still. Then its read or write fails, so that nobody holds up the next one.
 const PATIENCE: u64 = 60;
+
+/// How many seconds a client may stand still that has its response and still sends.
+const PATIENCE_AFTER: u64 = 1;
+
+/// How often what such a client sends is read, up to so many bytes at once.
+const READS_AFTER: usize = 2048;
+
+const BYTES_AT_ONCE: usize = 16_384;
 
 /// Listens on a port of 127.0.0.1, says so, and serves connections one after the other: one request each. A read or
 /// write that fails is told, and the next connection is served. Answers the status.
@@ -44,8 +52,8 @@ where
     Ok(DONE)
 }
 
-/// Serves the next connection. At `Err` there is none, since the listener failed.
-pub fn serve_next<S: Alter, E: Write>(
+// Serves the next connection. At `Err` there is none, since the listener failed.
+fn serve_next<S: Alter, E: Write>(
     rt: &HostRuntime,
     desk: &mut Desk<S>,
     listener: &TcpListener,
@@ -55,13 +63,39 @@ pub fn serve_next<S: Alter, E: Write>(
     let patience = Some(Duration::from_secs(PATIENCE));
     stream.set_read_timeout(patience)?;
     stream.set_write_timeout(patience)?;
-    let mut reader = &stream;
-    let mut writer = &stream;
+    serve_streams(rt, desk, &mut &stream, &mut &stream, err);
+    see_off(&stream);
+    Ok(())
+}
+
+// Ends a connection. A client whose request was refused before its end still sends, and where nobody reads that it finds the
+// connection broken and may miss its response: so the rest is read and dropped, within limits.
+fn see_off(stream: &TcpStream) {
+    let patience = Some(Duration::from_secs(PATIENCE_AFTER));
+    if stream.shutdown(Shutdown::Write).is_err() || stream.set_read_timeout(patience).is_err() {
+        return;
+    }
+    let mut reader = stream;
+    let mut rest = [0; BYTES_AT_ONCE];
+    for _ in 0..READS_AFTER {
+        if !matches!(reader.read(&mut rest), Ok(1..)) {
+            return;
+        }
+    }
+}
+
+/// Serves one request over a reader and a writer. Where one of them fails, that is told.
+pub fn serve_streams<S: Alter, R: Read, W: Write, E: Write>(
+    rt: &HostRuntime,
+    desk: &mut Desk<S>,
+    reader: &mut R,
+    writer: &mut W,
+    err: &mut E,
+) {
     // Where standard error fails there is nobody to tell.
-    let _ = match serve_one(rt.alloc(), desk, &mut reader, &mut writer) {
+    let _ = match serve_one(rt.alloc(), desk, reader, writer) {
         Ok(()) => Ok(()),
         Err(ServeFault::Read) => err.write_all(b"read fault\n"),
         Err(ServeFault::Write) => err.write_all(b"write fault\n"),
     };
-    Ok(())
 }

@@ -67,6 +67,24 @@ memory), S3 (no store, or a used database), S4 (the store is full).
 Status: 0 done; 1 the manifest is refused, or a file was not taken as a listed deposit; 2 other words; 3 stopped by S or E1.
 ";
 
+const ROUTES: &str = "\
+A connection carries one request. PUT /arrivals/NUMBER takes its body as an arrival, and needs its Content-Length; GET /status,
+/gaps, /links, /receipts and /export/KIND give the reports. Example:
+
+    restore serve --store desk.db --port 8080 --count 1000
+    curl -T deposits/n1 http://127.0.0.1:8080/arrivals/n1
+    curl http://127.0.0.1:8080/gaps
+
+A connection that fails is told on standard error (read fault, write fault), and the next one is served.
+";
+
+const REPORTS_TOLD: &str = "\
+status    how many deposits are listed and held, the chain's length and end, and how many objects of each kind there are
+gaps      for each listed place: missing, blocked (and by what), in the chain or beside it, and which resend is awaited
+links     what breaks a rule in the tables: links to absent objects, counts, statuses and dates
+receipts  a line for each distinct arrival, with its verdict: A1 held, A2 not listed, A3 unreadable, A4 differs
+";
+
 /// Runs the program on the words after its name. Answers the status. Help is printed on standard output, and what is wrong
 /// with the words on standard error.
 pub fn run_words<N, O, E>(
@@ -240,6 +258,7 @@ fn serve_command<'a>(alloc: Global) -> Result<Command<'a>, AllocError> {
         .help("How many connections to serve, one request each, before it ends");
     Command::new(alloc, "serve")
         .about("Takes arrivals and gives reports over HTTP, one connection after the other")
+        .after_help(ROUTES)
         .arg(store_argument(alloc))?
         .arg(port)?
         .arg(count)
@@ -255,6 +274,7 @@ fn report_command<'a>(alloc: Global) -> Result<Command<'a>, AllocError> {
         );
     Command::new(alloc, "report")
         .about("Prints a report")
+        .after_help(REPORTS_TOLD)
         .arg(store_argument(alloc))?
         .arg(report)
 }

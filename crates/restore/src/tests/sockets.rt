@@ -1,0 +1,252 @@
+//! The desk on a socket. Both ends are in this process, one after the other: the requests are sent while the program says
+//! that it listens, and the responses are read once it has ended.
+
+use super::bodies::WITH_SAMPLE;
+use super::streams::Narrow;
+use super::{check_all, empty_folder, words_of};
+use crate::serving::serve_streams;
+use crate::words::run_words;
+use esc_desk::Desk;
+use esc_manifest::read_manifest;
+use esc_store::Store;
+use sqlite::{Connection, MemStore};
+use std::fs;
+use std::io::{self, Read, Write};
+use std::net::{Net, Shutdown, TcpListener, TcpStream};
+use std::process::Abort;
+use std::test::Fail;
+
+/// Standard output that calls an address once something is written, and sends each request by a connection of its own.
+#[derive(Drop)]
+struct Calling<'a, N: Net<Listener = TcpListener, Stream = TcpStream>> {
+    net: &'a N,
+    address: &'a str,
+    requests: &'a [&'a str],
+    calls: Vec<TcpStream>,
+    text: Vec<u8>,
+}
+
+// Sends a request, and ends what is sent.
+fn call(
+    net: &impl Net<Listener = TcpListener, Stream = TcpStream>,
+    address: &str,
+    request: &str,
+) -> io::Result<TcpStream> {
+    let stream = TcpStream::connect(net, address)?;
+    (&mut &stream).write_all(request.as_bytes())?;
+    stream.shutdown(Shutdown::Write)?;
+    Ok(stream)
+}
+
+impl<N: Net<Listener = TcpListener, Stream = TcpStream>> Write for Calling<'_, N> {
+    fn write(&mut self, buf: &[u8]) -> io::Result<usize> {
+        for request in self.requests {
+            let stream = call(self.net, self.address, request)?;
+            if self.calls.push(stream).is_err() {
+                return Err(io::Error::from(io::ErrorKind::OutOfMemory));
+            }
+        }
+        self.text.write(buf)
+    }
+
+    fn flush(&mut self) -> io::Result<()> {
+        Ok(())
+    }
+}
+
+// A port that nobody listens on.
+fn free_port(net: &impl Net<Listener = TcpListener, Stream = TcpStream>) -> Result<u16, Fail> {
+    let listener = TcpListener::bind(net, "127.0.0.1:0")?;
+    Ok(listener.local_addr()?.port())
+}
+
+const REQUESTS: [&str; 6] = [
+    "PUT /arrivals/n1 HTTP/1.1\r\nContent-Length: 228\r\n\r\nescrow-bundle 1\nenvelope.json 174\n{\"id\":\"F1\",\"type\":\"FULL\",\"watermark\":\"2024-03-03T00:00:00Z\",\"contents\":[{\"name\":\"contact\",\"kind\":\"contact\",\"role\":\"parent\",\"key\":\"id\",\"fields\":[\"id\",\"clID\"],\"file\":\"c.csv\"}]}\nc.csv 6\nC1,R1\n\nend\n",
+    "",
+    "PUT /arrivals/n2 HTTP/1.1\r\nContent-Length: 4\r\n\r\nabc",
+    "GET /receipts HTTP/1.1\r\n\r\n",
+    "GET /export/contact HTTP/1.1\r\n\r\n",
+    "GET /export/zone HTTP/1.1\r\n\r\n",
+];
+
+const RESPONSES: [&str; 6] = [
+    "HTTP/1.1 200 OK\r\nContent-Type: application/json\r\nContent-Length: 101\r\nConnection: close\r\n\r\n{\"copy\":\"new\",\"fault\":null,\"id\":\"F1\",\"number\":\"n1\",\"orphans\":0,\"receipt\":1,\"resend\":0,\"verdict\":\"A1\"}",
+    "HTTP/1.1 400 Bad Request\r\nContent-Type: text/plain\r\nContent-Length: 12\r\nConnection: close\r\n\r\nbad request\n",
+    "HTTP/1.1 400 Bad Request\r\nContent-Type: text/plain\r\nContent-Length: 12\r\nConnection: close\r\n\r\nbad request\n",
+    "HTTP/1.1 200 OK\r\nContent-Type: text/csv\r\nContent-Length: 72\r\nConnection: close\r\n\r\nreceipt,number,verdict,fault,id,resend,copy,orphans\n1,n1,A1,,F1,0,new,0\n",
+    "HTTP/1.1 200 OK\r\nContent-Type: text/csv\r\nContent-Length: 87\r\nConnection: close\r\n\r\nkind,key,table,row,field,value\ncontact,C1,contact,0,id,C1\ncontact,C1,contact,0,clID,R1\n",
+    "HTTP/1.1 404 Not Found\r\nContent-Type: text/plain\r\nContent-Length: 10\r\nConnection: close\r\n\r\nnot found\n",
+];
+
+// Serves requests from a store, and gives the responses.
+fn responses(
+    rt: &HostRuntime,
+    handles: &(impl Abort + Net<Listener = TcpListener, Stream = TcpStream>),
+    store: &str,
+    requests: &[&str],
+) -> Result<Vec<String>, Fail> {
+    let alloc = rt.alloc();
+    let (port, count) = (free_port(handles)?, requests.len());
+    let address = format!(in alloc; "127.0.0.1:{port}")?;
+    let line = format!(in alloc; "serve --store {store} --port {port} --count {count}")?;
+    let words = words_of(rt, line.as_str())?;
+    let mut out = Calling {
+        net: handles,
+        address: address.as_str(),
+        requests,
+        calls: Vec::new(alloc),
+        text: Vec::new(alloc),
+    };
+    let mut told: Vec<u8> = Vec::new(alloc);
+    let ended = run_words(rt, handles, &words, &mut out, &mut told);
+    let listening = format!(in alloc; "listening {address}\n")?;
+    assert_eq!(handles; str::from_utf8(&told)?, "");
+    assert_eq!(handles; str::from_utf8(&out.text)?, listening.as_str());
+    assert_eq!(handles; ended, 0);
+    let Calling { calls, .. } = out;
+    let mut texts = Vec::new(alloc);
+    for stream in calls {
+        texts.push(io::read_to_string(alloc, stream)?)?;
+    }
+    Ok(texts)
+}
+
+#[test]
+fn connections_are_served_one_after_the_other(rt: HostRuntime) -> Result<(), Fail> {
+    empty_folder(&rt, "served")?;
+    fs::write(&rt, "served/listed.csv", WITH_SAMPLE)?;
+    let made = (
+        "init --store served/a.db --manifest served/listed.csv",
+        0,
+        "listed 1\n",
+        "",
+    );
+    check_all(&rt, &rt, &[made])?;
+    let texts = responses(&rt, &rt, "served/a.db", REQUESTS.as_slice())?;
+    assert_eq!(rt; texts.len(), RESPONSES.len());
+    for (text, response) in texts.iter().zip(RESPONSES) {
+        assert_eq!(rt; text.as_str(), response);
+    }
+    // What was answered over a socket stands in the store.
+    let receipts = "receipt,number,verdict,fault,id,resend,copy,orphans\n1,n1,A1,,F1,0,new,0\n";
+    check_all(
+        &rt,
+        &rt,
+        &[("report --store served/a.db receipts", 0, receipts, "")],
+    )?;
+    Ok(fs::remove_dir_all(&rt, "served")?)
+}
+
+#[test]
+fn a_body_that_is_not_wanted_is_let_by(rt: HostRuntime) -> Result<(), Fail> {
+    empty_folder(&rt, "unwanted")?;
+    fs::write(&rt, "unwanted/listed.csv", WITH_SAMPLE)?;
+    let made = (
+        "init --store unwanted/a.db --manifest unwanted/listed.csv",
+        0,
+        "listed 1\n",
+        "",
+    );
+    check_all(&rt, &rt, &[made])?;
+    let mut request = Vec::from_slice(
+        rt.alloc(),
+        b"PUT /nowhere HTTP/1.1\r\nContent-Length: 99000\r\n\r\n",
+    )?;
+    request.resize(100_000, b'x')?;
+    let texts = responses(&rt, &rt, "unwanted/a.db", &[str::from_utf8(&request)?])?;
+    assert_eq!(rt; texts.len(), 1);
+    assert_eq!(rt; texts.as_slice()[0].as_str(), RESPONSES[5]);
+    Ok(fs::remove_dir_all(&rt, "unwanted")?)
+}
+
+// What the program says, tells and answers where it is to serve a connection, and standard output has so much room.
+fn serve_at(
+    rt: &HostRuntime,
+    net: &impl Net<Listener = TcpListener, Stream = TcpStream>,
+    store: &str,
+    port: u16,
+    room: usize,
+) -> Result<(Vec<u8>, Vec<u8>, u8), Fail> {
+    let line = format!(in rt.alloc(); "serve --store {store} --port {port} --count 1")?;
+    let words = words_of(rt, line.as_str())?;
+    let mut out = Narrow {
+        text: Vec::new(rt.alloc()),
+        room,
+    };
+    let mut told: Vec<u8> = Vec::new(rt.alloc());
+    let ended = run_words(rt, net, &words, &mut out, &mut told);
+    let Narrow { text, .. } = out;
+    Ok((text, told, ended))
+}
+
+#[test]
+fn a_port_that_is_taken(rt: HostRuntime) -> Result<(), Fail> {
+    empty_folder(&rt, "ports")?;
+    fs::write(&rt, "ports/listed.csv", WITH_SAMPLE)?;
+    check_all(
+        &rt,
+        &rt,
+        &[(
+            "init --store ports/a.db --manifest ports/listed.csv",
+            0,
+            "listed 1\n",
+            "",
+        )],
+    )?;
+    let listener = TcpListener::bind(&rt, "127.0.0.1:0")?;
+    let port = listener.local_addr()?.port();
+    let (said, told, ended) = serve_at(&rt, &rt, "ports/a.db", port, 100)?;
+    let want = format!(in rt.alloc(); "E1 127.0.0.1:{port}\n")?;
+    assert!(rt; said.is_empty());
+    assert_eq!(rt; str::from_utf8(&told)?, want.as_str());
+    assert_eq!(rt; ended, 3);
+    // The store is looked at first.
+    let (said, told, ended) = serve_at(&rt, &rt, "ports/absent.db", port, 100)?;
+    assert!(rt; said.is_empty());
+    assert_eq!(rt; str::from_utf8(&told)?, "S3\n");
+    assert_eq!(rt; ended, 3);
+    // Nobody is waited for where nobody can be told that the program listens.
+    let (said, told, ended) = serve_at(&rt, &rt, "ports/a.db", free_port(&rt)?, 9)?;
+    assert_eq!(rt; str::from_utf8(&said)?, "listening");
+    assert_eq!(rt; str::from_utf8(&told)?, "E1 -\n");
+    assert_eq!(rt; ended, 3);
+    Ok(fs::remove_dir_all(&rt, "ports")?)
+}
+
+/// A connection that was broken.
+#[derive(Drop)]
+struct Broken;
+
+impl Read for Broken {
+    fn read(&mut self, _buf: &mut [u8]) -> io::Result<usize> {
+        Err(io::Error::from(io::ErrorKind::ConnectionReset))
+    }
+}
+
+// A desk over a new store in memory.
+fn desk(rt: &HostRuntime) -> Result<Desk<MemStore>, Fail> {
+    let manifest = read_manifest(rt.alloc(), WITH_SAMPLE.as_bytes())?;
+    let connection = Connection::open_in_memory(rt.alloc())?;
+    match Store::create(rt.alloc(), connection, &manifest) {
+        Ok(store) => Ok(Desk::open(store)),
+        Err((fault, _)) => Err(Fail::new(fault)),
+    }
+}
+
+#[test]
+fn faults_of_a_connection_are_told(rt: HostRuntime) -> Result<(), Fail> {
+    let mut desk = desk(&rt)?;
+    let mut told: Vec<u8> = Vec::new(rt.alloc());
+    let mut text: Vec<u8> = Vec::new(rt.alloc());
+    serve_streams(&rt, &mut desk, &mut Broken, &mut text, &mut told);
+    assert!(rt; text.is_empty());
+    let mut writer = Narrow { text, room: 15 };
+    let mut request = b"GET /status HTTP/1.1\r\n\r\n".as_slice();
+    serve_streams(&rt, &mut desk, &mut request, &mut writer, &mut told);
+    assert_eq!(rt; str::from_utf8(&writer.text)?, "HTTP/1.1 200 OK");
+    assert_eq!(rt; str::from_utf8(&told)?, "read fault\nwrite fault\n");
+    // Where standard error fails too there is nobody to tell.
+    serve_streams(&rt, &mut desk, &mut Broken, &mut told, &mut writer);
+    assert_eq!(rt; str::from_utf8(&told)?, "read fault\nwrite fault\n");
+    Ok(())
+}

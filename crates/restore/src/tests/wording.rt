@@ -1,0 +1,92 @@
+//! Words that are no command, and help.
+
+use super::words_of;
+use crate::words::run_words;
+use std::test::Fail;
+
+/// Words that are no command. No file is looked at for them: there is neither store nor manifest.
+const OTHER_WORDS: [&str; 34] = [
+    "",
+    "desk",
+    "--version",
+    "init",
+    "init --store e.db",
+    "init --manifest absent.csv",
+    "init --store e.db --manifest",
+    "init --store e.db --manifest absent.csv absent.csv",
+    "init --store e.db --store f.db --manifest absent.csv",
+    "take",
+    "take deposits",
+    "take --store e.db",
+    "take --store e.db one two",
+    "serve",
+    "serve --store e.db --port 8080",
+    "serve --store e.db --count 1",
+    "serve --port 8080 --count 1",
+    "serve --store e.db --port 0 --count 1",
+    "serve --store e.db --port 65536 --count 1",
+    "serve --store e.db --port -1 --count 1",
+    "serve --store e.db --port http --count 1",
+    "serve --store e.db --port 8080 --count 0",
+    "serve --store e.db --port 8080 --count 1000001",
+    "serve --store e.db --port 8080 --count many",
+    "serve --store e.db --port 8080 --count 1 deposits",
+    "report --store e.db",
+    "report status",
+    "report --store e.db domain",
+    "report --store e.db Status",
+    "report --store e.db status gaps",
+    "export --store e.db",
+    "export domain",
+    "export --store e.db zone",
+    "export --store e.db DOMAIN",
+];
+
+#[test]
+fn other_words_are_refused(rt: HostRuntime) -> Result<(), Fail> {
+    for line in OTHER_WORDS {
+        let words = words_of(&rt, line)?;
+        let mut said: Vec<u8> = Vec::new(rt.alloc());
+        let mut told: Vec<u8> = Vec::new(rt.alloc());
+        let ended = run_words(&rt, &rt, &words, &mut said, &mut told);
+        assert_eq!(rt; ended, 2, "{line}");
+        assert!(rt; said.is_empty() && !told.is_empty(), "{line}");
+    }
+    Ok(())
+}
+
+/// Words that ask for help, and what it tells among others.
+const HELP: [(&str, &str); 9] = [
+    ("--help", "restore take --store desk.db deposits"),
+    ("-h", "id,type,watermark,prevId,resend,sha256"),
+    ("help", "Status: 0 done"),
+    ("init --help", "--manifest <FILE>"),
+    ("take --help", "<DIR>"),
+    ("serve --help", "--count <N>"),
+    (
+        "help serve",
+        "curl -T deposits/n1 http://127.0.0.1:8080/arrivals/n1",
+    ),
+    (
+        "help report",
+        "[possible values: status, gaps, links, receipts]",
+    ),
+    (
+        "export -h",
+        "[possible values: registrar, contact, host, domain, idn, nndn]",
+    ),
+];
+
+#[test]
+fn help_is_no_mistake(rt: HostRuntime) -> Result<(), Fail> {
+    for (line, part) in HELP {
+        let words = words_of(&rt, line)?;
+        let mut said: Vec<u8> = Vec::new(rt.alloc());
+        let mut told: Vec<u8> = Vec::new(rt.alloc());
+        let ended = run_words(&rt, &rt, &words, &mut said, &mut told);
+        assert_eq!(rt; ended, 0, "{line}");
+        assert!(rt; str::from_utf8(&said)?.contains(part), "{line}");
+        assert!(rt; told.is_empty(), "{line}");
+    }
+    Ok(())
+}
