@@ -3,6 +3,7 @@
 mod bodies;
 mod rows;
 mod shown;
+mod walks;
 
 use crate::{Arrival, Desk, Outcome, Reply, SFault, number};
 use bodies::{Body, bytes_of, line_of, manifest_of};

@@ -1,7 +1,8 @@
 //! The bodies of the worked rows, and the manifests that list them.
 
 use Body::{
-    Abc, Both, Cut, D2, D2Resent, D3, D3Unlisted, D6, Empty, F1, F2, F5, I4, Long, Orphan, Unequal,
+    Abc, Both, Cut, D2, D2Resent, D3, D3Unlisted, D6, Empty, F1, F2, F5, I4, Long, Many, Orphan,
+    Unequal,
 };
 use esc_bundle::write_bundle;
 use esc_manifest::{Manifest, read_manifest};
@@ -36,6 +37,8 @@ pub(crate) enum Body {
     Long,
     /// Three bytes.
     Abc,
+    /// A Full of a contact, 256 hosts and 600 domains.
+    Many,
 }
 
 /// Rows of tables: a table's name and its text.
@@ -68,6 +71,7 @@ fn listed_as(body: Body) -> [&'static str; 5] {
         I4 => ["I4", "INCR", "2024-03-06T00:00:00Z", "D3", "0"],
         F5 | Long | Abc => ["F5", "FULL", "2024-03-10T00:00:00Z", "", "0"],
         D6 => ["D6", "DIFF", "2024-03-11T00:00:00Z", "F5", "0"],
+        Many => ["M1", "FULL", "2024-03-03T00:00:00Z", "", "0"],
         Empty => ["E0", "FULL", "2024-03-01T00:00:00Z", "", "0"],
     }
 }
@@ -120,6 +124,7 @@ fn tables_of(body: Body) -> (Tables, Tables) {
                 ("domainNs", "a.example,ns1.a.example\n"),
             ],
         ),
+        Many => (&[], &[("contact", "C1,R1\n"), ("host", ""), ("domain", "")]),
         Empty | Cut | Long | Abc => (&[], &[]),
     }
 }
@@ -184,6 +189,21 @@ fn add_files(
     Ok(())
 }
 
+// The rows of so many hosts or domains, whose keys are in another order by their bytes.
+fn add_rows(
+    alloc: Global,
+    section: Option<&mut (String, Vec<u8>)>,
+    count: u32,
+    more: &str,
+) -> Result<(), Fail> {
+    let (_, bytes) = section.ok_or("no section")?;
+    for at in 0..count {
+        let row = format!(in alloc; "n{at}.example,R1{more}\n")?;
+        bytes.extend_from_slice(row.as_bytes())?;
+    }
+    Ok(())
+}
+
 /// The bytes of a body.
 pub(crate) fn bytes_of(alloc: Global, body: Body) -> Result<Vec<u8>, Fail> {
     if let Some(bytes) = bytes_alone(body) {
@@ -196,6 +216,10 @@ pub(crate) fn bytes_of(alloc: Global, body: Body) -> Result<Vec<u8>, Fail> {
     let (deletes, contents) = tables_of(body);
     add_files(alloc, &mut sections, "d", deletes)?;
     add_files(alloc, &mut sections, "c", contents)?;
+    if body == Many {
+        add_rows(alloc, sections.get_mut(2), 256, "")?;
+        add_rows(alloc, sections.get_mut(3), 600, ",C1")?;
+    }
     Ok(write_bundle(alloc, sections.as_slice())?)
 }
 
