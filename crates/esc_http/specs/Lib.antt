@@ -14,4 +14,5 @@ pub mod Router
 pub mod Seen
 pub mod Sent
 pub mod StatusText
+pub mod Walked
 pub mod Words

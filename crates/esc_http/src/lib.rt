@@ -37,7 +37,8 @@
 //! # Cost
 //!
 //! A body is read into one buffer of its length. Nothing is read that the answer doesn't need, and a response begins
-//! only when it is whole in memory, so a fault of the store is never found in the middle of one.
+//! only when it is whole in memory, so a fault of the store is never found in the middle of one. The reports of links
+//! and of a kind's objects walk the desk's objects one at a time, and hold no map of them.
 #![tactic(auto)]
 
 mod answer;

@@ -1,6 +1,6 @@
 //! The texts of reports.
 
-ghost use Rattle.std.specs.Prelude.{◌≡◌, List, IfOk};
+ghost use Rattle.std.specs.Prelude.{◌≡◌, List, Some, IfOk};
 ghost use Rattle.std.specs.FinSet as set;
 ghost use Rattle.esc_manifest.specs.declared.row.MRow.{MRow};
 ghost use Rattle.esc_chain.specs.Chain.{InRange};
@@ -8,23 +8,22 @@ ghost use Rattle.esc_store.specs.Standing.{IsHonest, IsAsBefore};
 ghost use Rattle.esc_desk.specs.ArrivalValue.{ArrivalValue};
 ghost use Rattle.esc_desk.specs.Serving.{Serves, DeskServes};
 ghost use Rattle.esc_http.specs.declared.reports.Report.TheVariants as what;
-ghost use Rattle.esc_http.specs.Reports.{AreFindings, IsReport};
+ghost use Rattle.esc_http.specs.Reports.{IsReport};
+ghost use Rattle.esc_http.specs.Walked.{AreFoundAt, walk_fault};
 
 use crate::gaps::gaps_text;
 use crate::links::links_text;
 use crate::receipts::receipts_text;
 use crate::reports::Report;
 use crate::status::status_text;
-use esc_bundle::NoMemory;
+use esc_apply::tables_are_listed;
 use esc_chain::{Held, gaps};
-use esc_check::{Finding, export_rows, verify};
+use esc_check::{Finding, StreamFault, export_from, verify_from};
 use esc_desk::{Desk, End, SFault};
 use esc_envelope::Kind;
 use esc_manifest::Manifest;
-use esc_tables::{Key, Object};
 use sqlite::Alter;
 use std::alloc::Global;
-use std::collections::BTreeMap;
 
 /// The text of a report, which the program prints too. `S1`, `S2`.
 pub fn report<S: Alter>(
@@ -87,23 +86,49 @@ fn report_links<S: Alter>(alloc: Global, desk: &mut Desk<S>) -> Result<Vec<u8>, 
     ensures serves { (m : List MRow) (l : List ArrivalValue) → DeskServes S.Store desk.old m l → DeskServes S.Store desk.new m l }
     ensures text { IsHonest S.Store desk.new.store → (m : List MRow) (l : List ArrivalValue) → Serves S.Store desk.old.store m l → IfOk result (λ text. IsReport m l what.Links text.items) }
 {
-    let tables = desk.tables(alloc)?;
     let end = desk.end(alloc)?;
-    let found = findings_at(alloc, &tables, &end)?;
+    let found = findings_at(alloc, desk, &end)?;
     Ok(links_text(alloc, &found)?)
 }
 
-// What is found in tables at the end of a chain.
-fn findings_at(
+// What is found in the tables at the end of their chain. Without a chain there is nothing to walk.
+fn findings_at<S: Alter>(
     alloc: Global,
-    tables: &BTreeMap<Key, Object>,
+    desk: &mut Desk<S>,
     end: &Option<End>,
-) -> Result<Vec<Finding>, NoMemory>
-    ensures { IfOk result (λ found. AreFindings tables.now.entries end.now found.items) }
+) -> Result<Vec<Finding>, SFault>
+    ensures same { IsAsBefore S.Store desk.old.store desk.new.store }
+    ensures serves { (m : List MRow) (l : List ArrivalValue) → DeskServes S.Store desk.old m l → DeskServes S.Store desk.new m l }
+    ensures found { IsHonest S.Store desk.new.store → (m : List MRow) (l : List ArrivalValue) → Serves S.Store desk.old.store m l → IfOk result (λ found. AreFoundAt m l end.now found.items) }
 {
+    tables_are_listed();
     match end {
-        Some(end) => verify(alloc, tables, end.watermark, &end.counts),
+        Some(end) => findings(alloc, desk, end),
         None => Ok(Vec::new(alloc)),
+    }
+}
+
+// What breaks a rule in the tables, by what the last deposit of their chain says.
+fn findings<S: Alter>(alloc: Global, desk: &mut Desk<S>, end: &End) -> Result<Vec<Finding>, SFault>
+    ensures same { IsAsBefore S.Store desk.old.store desk.new.store }
+    ensures serves { (m : List MRow) (l : List ArrivalValue) → DeskServes S.Store desk.old m l → DeskServes S.Store desk.new m l }
+    ensures found { IsHonest S.Store desk.new.store → (m : List MRow) (l : List ArrivalValue) → Serves S.Store desk.old.store m l → IfOk result (λ found. AreFoundAt m l (Some end.now) found.items) }
+{
+    tables_are_listed();
+    let mut walk = desk.walk(alloc, None)?;
+    match verify_from(alloc, &mut walk, end.watermark, &end.counts) {
+        Ok(found) => Ok(found),
+        Err(fault) => Err(walk_fault(fault)),
+    }
+}
+
+// The fault that ends a report over a walk.
+fn walk_fault(fault: StreamFault<SFault>) -> SFault
+    ensures { result ≡ walk_fault fault }
+{
+    match fault {
+        StreamFault::Source(fault) => fault,
+        StreamFault::NoMemory => SFault::S2,
     }
 }
 
@@ -121,6 +146,10 @@ fn report_export<S: Alter>(alloc: Global, desk: &mut Desk<S>, kind: Kind) -> Res
     ensures serves { (m : List MRow) (l : List ArrivalValue) → DeskServes S.Store desk.old m l → DeskServes S.Store desk.new m l }
     ensures text { IsHonest S.Store desk.new.store → (m : List MRow) (l : List ArrivalValue) → Serves S.Store desk.old.store m l → IfOk result (λ text. IsReport m l (what.Export kind) text.items) }
 {
-    let tables = desk.tables(alloc)?;
-    Ok(export_rows(alloc, &tables, kind)?)
+    tables_are_listed();
+    let mut walk = desk.walk(alloc, Some(kind))?;
+    match export_from(alloc, &mut walk, kind) {
+        Ok(text) => Ok(text),
+        Err(fault) => Err(walk_fault(fault)),
+    }
 }

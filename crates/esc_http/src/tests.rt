@@ -78,6 +78,25 @@ impl Write for Narrow {
     }
 }
 
+// Takes all that is written, and fails when it is to hand it on.
+#[derive(Drop)]
+struct Stuck {
+    text: Vec<u8>,
+}
+
+impl Write for Stuck {
+    fn write(&mut self, buf: &[u8]) -> io::Result<usize> {
+        if self.text.extend_from_slice(buf).is_err() {
+            return Err(io::Error::from(io::ErrorKind::OutOfMemory));
+        }
+        Ok(buf.len())
+    }
+
+    fn flush(&mut self) -> io::Result<()> {
+        Err(io::Error::from(io::ErrorKind::BrokenPipe))
+    }
+}
+
 // A desk over a new store in memory that lists the sample.
 fn desk(alloc: Global) -> Result<Desk<sqlite::MemStore>, Fail> {
     let manifest = read_manifest(alloc, LISTED)?;
@@ -327,6 +346,21 @@ fn a_read_that_fails(rt: HostRuntime) -> Result<(), Fail> {
 }
 
 #[test]
+fn no_more_is_read_than_the_answer_needs(rt: HostRuntime) -> Result<(), Fail> {
+    let alloc = rt.alloc();
+    let mut desk = desk(alloc)?;
+    let get = b"GET /status HTTP/1.1\r\n\r\n".as_slice();
+    let (result, _) = served(alloc, &mut desk, get, 5, get.len(), 100_000);
+    assert!(rt; result == Ok(()));
+    // The last byte stands behind the body.
+    let needed = PUT_OTHER.len() - 1;
+    let (result, text) = served(alloc, &mut desk, PUT_OTHER, 5, needed, 100_000);
+    assert!(rt; result == Ok(()));
+    assert_eq!(rt; text.as_slice(), UNLISTED);
+    Ok(())
+}
+
+#[test]
 fn a_write_that_fails(rt: HostRuntime) -> Result<(), Fail> {
     let alloc = rt.alloc();
     let mut desk = desk(alloc)?;
@@ -338,6 +372,25 @@ fn a_write_that_fails(rt: HostRuntime) -> Result<(), Fail> {
     }
     let text = answer(alloc, &mut desk, PUT_OTHER, 5)?;
     assert_eq!(rt; text.as_slice(), UNLISTED);
+    Ok(())
+}
+
+#[test]
+fn a_flush_that_fails(rt: HostRuntime) -> Result<(), Fail> {
+    let alloc = rt.alloc();
+    let mut desk = desk(alloc)?;
+    let mut reader = Pieces {
+        rest: PUT_OTHER,
+        step: 100,
+        allowed: 100_000,
+    };
+    let mut writer = Stuck {
+        text: Vec::new(alloc),
+    };
+    let result = serve_one(alloc, &mut desk, &mut reader, &mut writer);
+    assert!(rt; result == Err(ServeFault::Write));
+    assert_eq!(rt; writer.text.as_slice(), UNLISTED);
+    assert_eq!(rt; count_receipts(alloc, &mut desk)?, 1);
     Ok(())
 }
 

@@ -60,23 +60,35 @@ fn free_port(net: &impl Net<Listener = TcpListener, Stream = TcpStream>) -> Resu
     Ok(listener.local_addr()?.port())
 }
 
-const REQUESTS: [&str; 6] = [
+const REQUESTS: [&str; 9] = [
     "PUT /arrivals/n1 HTTP/1.1\r\nContent-Length: 228\r\n\r\nescrow-bundle 1\nenvelope.json 174\n{\"id\":\"F1\",\"type\":\"FULL\",\"watermark\":\"2024-03-03T00:00:00Z\",\"contents\":[{\"name\":\"contact\",\"kind\":\"contact\",\"role\":\"parent\",\"key\":\"id\",\"fields\":[\"id\",\"clID\"],\"file\":\"c.csv\"}]}\nc.csv 6\nC1,R1\n\nend\n",
     "",
     "PUT /arrivals/n2 HTTP/1.1\r\nContent-Length: 4\r\n\r\nabc",
+    "PUT /arrivals/n2 HTTP/1.1\r\nContent-Length: 3\r\n\r\nabc",
     "GET /receipts HTTP/1.1\r\n\r\n",
     "GET /export/contact HTTP/1.1\r\n\r\n",
     "GET /export/zone HTTP/1.1\r\n\r\n",
+    "GET /arrivals/n1 HTTP/1.1\r\n\r\n",
+    "GET /status HTTP/1.1\r\nA: b\r\nA: b\r\nA: b\r\nA: b\r\nA: b\r\nA: b\r\nA: b\r\nA: b\r\nA: b\r\nA: b\r\nA: b\r\nA: b\r\nA: b\r\nA: b\r\nA: b\r\nA: b\r\nA: b\r\nA: b\r\nA: b\r\nA: b\r\nA: b\r\nA: b\r\nA: b\r\nA: b\r\nA: b\r\nA: b\r\nA: b\r\nA: b\r\nA: b\r\nA: b\r\nA: b\r\nA: b\r\nA: b\r\n\r\n",
 ];
 
-const RESPONSES: [&str; 6] = [
+const RESPONSES: [&str; 9] = [
     "HTTP/1.1 200 OK\r\nContent-Type: application/json\r\nContent-Length: 101\r\nConnection: close\r\n\r\n{\"copy\":\"new\",\"fault\":null,\"id\":\"F1\",\"number\":\"n1\",\"orphans\":0,\"receipt\":1,\"resend\":0,\"verdict\":\"A1\"}",
-    "HTTP/1.1 400 Bad Request\r\nContent-Type: text/plain\r\nContent-Length: 12\r\nConnection: close\r\n\r\nbad request\n",
-    "HTTP/1.1 400 Bad Request\r\nContent-Type: text/plain\r\nContent-Length: 12\r\nConnection: close\r\n\r\nbad request\n",
-    "HTTP/1.1 200 OK\r\nContent-Type: text/csv\r\nContent-Length: 72\r\nConnection: close\r\n\r\nreceipt,number,verdict,fault,id,resend,copy,orphans\n1,n1,A1,,F1,0,new,0\n",
+    BAD_REQUEST,
+    BAD_REQUEST,
+    "HTTP/1.1 422 Unprocessable Content\r\nContent-Type: application/json\r\nContent-Length: 106\r\nConnection: close\r\n\r\n{\"copy\":null,\"fault\":null,\"id\":null,\"number\":\"n2\",\"orphans\":null,\"receipt\":2,\"resend\":null,\"verdict\":\"A2\"}",
+    "HTTP/1.1 200 OK\r\nContent-Type: text/csv\r\nContent-Length: 85\r\nConnection: close\r\n\r\nreceipt,number,verdict,fault,id,resend,copy,orphans\n1,n1,A1,,F1,0,new,0\n2,n2,A2,,,,,\n",
     "HTTP/1.1 200 OK\r\nContent-Type: text/csv\r\nContent-Length: 87\r\nConnection: close\r\n\r\nkind,key,table,row,field,value\ncontact,C1,contact,0,id,C1\ncontact,C1,contact,0,clID,R1\n",
-    "HTTP/1.1 404 Not Found\r\nContent-Type: text/plain\r\nContent-Length: 10\r\nConnection: close\r\n\r\nnot found\n",
+    NOT_FOUND,
+    "HTTP/1.1 405 Method Not Allowed\r\nContent-Type: text/plain\r\nContent-Length: 19\r\nConnection: close\r\nAllow: PUT\r\n\r\nmethod not allowed\n",
+    BAD_REQUEST,
 ];
+
+const NOT_FOUND: &str =
+    "HTTP/1.1 404 Not Found\r\nContent-Type: text/plain\r\nContent-Length: 10\r\nConnection: close\r\n\r\nnot found\n";
+
+const BAD_REQUEST: &str =
+    "HTTP/1.1 400 Bad Request\r\nContent-Type: text/plain\r\nContent-Length: 12\r\nConnection: close\r\n\r\nbad request\n";
 
 // Serves requests from a store, and gives the responses.
 fn responses(
@@ -128,7 +140,8 @@ fn connections_are_served_one_after_the_other(rt: HostRuntime) -> Result<(), Fai
         assert_eq!(rt; text.as_str(), response);
     }
     // What was answered over a socket stands in the store.
-    let receipts = "receipt,number,verdict,fault,id,resend,copy,orphans\n1,n1,A1,,F1,0,new,0\n";
+    let receipts =
+        "receipt,number,verdict,fault,id,resend,copy,orphans\n1,n1,A1,,F1,0,new,0\n2,n2,A2,,,,,\n";
     check_all(
         &rt,
         &rt,
@@ -155,7 +168,7 @@ fn a_body_that_is_not_wanted_is_let_by(rt: HostRuntime) -> Result<(), Fail> {
     request.resize(100_000, b'x')?;
     let texts = responses(&rt, &rt, "unwanted/a.db", &[str::from_utf8(&request)?])?;
     assert_eq!(rt; texts.len(), 1);
-    assert_eq!(rt; texts.as_slice()[0].as_str(), RESPONSES[5]);
+    assert_eq!(rt; texts.as_slice()[0].as_str(), NOT_FOUND);
     Ok(fs::remove_dir_all(&rt, "unwanted")?)
 }
 

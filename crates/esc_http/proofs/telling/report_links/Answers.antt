@@ -5,14 +5,15 @@ use Rattle.esc_http.proofs.telling.report_links.Goals as goal
 
 pub returns-clause-text : goal.returns-clause-text
 returns-clause-text g c = λ clean m l serves.
-    let same = c.in_ok-tables.ensures.same in
-    let at_tables = was_honest g.S.Store c.tables.new.self.store c.end.new.self.store c.in_ok-end.ensures.same clean in
+    let before = was_honest g.S.Store c.end.new.self.store c.findings_at.new.desk.store c.in_ok-found.ensures.same clean in
+    let there = stays g.S.Store c.args.desk.now.store c.end.new.self.store m l c.in_ok-end.ensures.same serves in
+    let found = c.in_ok-found.ensures.found clean m l there in
     record {
-      entries = c.in_ok-tables.tables.entries;
-      tables = c.in_ok-tables.ensures.objects at_tables m l serves;
+      entries = found.0;
+      tables = found.1;
       end = c.in_ok-end.end;
-      ends = c.in_ok-end.ensures.end clean m l (stays g.S.Store c.args.desk.now.store c.tables.new.self.store m l same serves);
+      ends = c.in_ok-end.ensures.end before m l serves;
       found = c.in_ok-found.found.items;
-      findings = c.in_ok-found.ensures;
+      findings = found.2;
       is = c.in_ok-links_text.ensures ∙ ap links_text c.deref.ensures.value;
     }

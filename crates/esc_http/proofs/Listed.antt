@@ -1,0 +1,41 @@
+-- The objects of a desk as one list by key.
+use Rattle.std.proofs.Common.{◌≡◌, Bool, true, false, cond, List, [], ◌∷◌, filter, refl, ap, ◌∙◌}
+use Rattle.std.specs.List.{flat_map}
+use Rattle.sha2.specs.Sha256.{sha256}
+use Rattle.sqlite_trees.specs.declared.store.Store.{Ghosts}
+use Rattle.esc_envelope.specs.declared.kind.Kind.{Kind}
+use Rattle.esc_tables.specs.DepositValue.{DepositValue}
+use Rattle.esc_tables.specs.Reading.{reading}
+use Rattle.esc_manifest.specs.declared.row.MRow.{MRow}
+use Rattle.esc_apply.specs.Objects.{Entry, InOrder}
+use Rattle.esc_apply.specs.Registry.{IsEntriesOf}
+use Rattle.esc_apply.specs.Tables.{tables}
+use Rattle.esc_check.specs.Export.{heading, object_lines, is_of, export_text}
+use Rattle.esc_check.specs.Lines.{text_of}
+use Rattle.esc_store.specs.declared.store.Store.{Store}
+use Rattle.esc_desk.specs.ArrivalValue.{ArrivalValue}
+use Rattle.esc_desk.specs.Reads.{AreTables}
+use Rattle.esc_desk.specs.Serving.{Serves}
+use Rattle.esc_desk.specs.Stands.{deposits_of, held_body}
+
+-- the tables of any deposits have a listing by key
+abbrev pub AreListed : Type 0
+AreListed = (ds : List DepositValue) → (es : List Entry) × InOrder es × IsEntriesOf (tables ds) es
+
+-- so have those of what a store stands for
+pub listing : {S : Type 0} (g : Ghosts S) (store : Store S) (m : List MRow) (l : List ArrivalValue) → AreListed → Serves g store m l → (es : List Entry) × AreTables m l es × InOrder es
+listing g store m l listed serves =
+    let entries = listed (deposits_of reading (held_body sha256 reading m l) serves.kept.steps) in
+    (entries.0, record { chain = serves.kept.steps; latest = serves.stands_for.chain; objects = entries.2 }, entries.1)
+
+filter_again : {X : Type 0} (p : X → Bool) (xs : List X) → filter p (filter p xs) ≡ filter p xs
+filter_again p [] = refl
+filter_again {X} p (x ∷ xs) = by_test (p x) refl (filter_again p xs)
+  where
+    by_test : (b : Bool) → p x ≡ b → filter p (filter p xs) ≡ filter p xs → filter p (cond b (x ∷ filter p xs) (filter p xs)) ≡ cond b (x ∷ filter p xs) (filter p xs)
+    by_test true e rest = ap (λ t. cond t (x ∷ filter p (filter p xs)) (filter p (filter p xs))) e ∙ ap (λ (ys : List X). x ∷ ys) rest
+    by_test false e rest = rest
+
+-- the export of a kind is made of the objects of that kind
+pub export_of_kind : (kind : Kind) (es : List Entry) → export_text kind (filter (is_of kind) es) ≡ export_text kind es
+export_of_kind kind es = ap (λ (kept : List Entry). text_of (heading ∷ flat_map (λ (e : Entry). object_lines e.0 e.1) kept)) (filter_again (is_of kind) es)

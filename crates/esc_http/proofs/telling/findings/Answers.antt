@@ -1,0 +1,23 @@
+use Rattle.std.proofs.Common.{rules, ℤ, ◌↔◌, w64, to_z, of_z, subst}
+use mir.Val.{SFits}
+use Rattle.std.specs.List.{Contains}
+use Rattle.std.proofs.lemmas.Int.{to_z-of_z}
+use Rattle.esc_check.specs.FindingValue.{FindingValue}
+use Rattle.esc_check.specs.Findings.{IsFinding}
+use Rattle.esc_check.specs.Tables.{tables_of}
+use Rattle.esc_store.specs.Standing.{IsHonest}
+use Rattle.esc_http.proofs.Listed.{listing}
+use Rattle.esc_http.proofs.StoreFacts.{was_honest}
+use Rattle.esc_http.proofs.telling.findings.Goals as goal
+
+pub returns-in-Ok-clause-found : goal.returns-in-Ok-clause-found
+returns-in-Ok-clause-found g c = λ clean m l serves.
+    let at_end : IsHonest g.S.Store c.verify_from.new.o.desk.now.store = search rules in
+    let entries = listing g.S.Store c.args.desk.now.store m l c.tables_are_listed.ensures serves in
+    let at_walk = was_honest g.S.Store c.in_ok-walk.walk.desk.now.store c.verify_from.new.o.desk.now.store c.in-Ok.ensures.follows.same at_end in
+    let lists = c.in_ok-walk.ensures.lists at_walk m l serves entries.0 entries.1 entries.2 in
+    let w = c.args.end.now.watermark in
+    let fits : SFits w64 w = search rules in
+    let each : (f : FindingValue) → Contains c.in-Ok.found.items f ↔ IsFinding (tables_of entries.0) w c.args.end.now.counts.entries f =
+    subst (λ (z : ℤ). (f : FindingValue) → Contains c.in-Ok.found.items f ↔ IsFinding (tables_of entries.0) z c.args.end.now.counts.entries f) (to_z-of_z w64 w fits) (c.in-Ok.ensures.each at_end entries.0 lists) in
+    (entries.0, entries.1, (c.in-Ok.ensures.ordered, each))
