@@ -1,7 +1,10 @@
 -- Rows and objects as values; texts are their bytes.
-use Rattle.std.specs.Prelude.{ℕ, List, string_bytes}
-use Rattle.std.specs.declared.string.String.{String}
-use Rattle.std.specs.Global.{Global}
+use Rattle.std.specs.Prelude.{ℕ, List}
+
+-- what the rows of a table have in common: its name, and the names of its fields in the declared order
+pub record HeadingValue : Type 0 where
+  pub name : List ℕ
+  pub fields : List (List ℕ)
 
 -- a table's name, and of each cell its field and its text, in the declared order
 pub record RowValue : Type 0 where
@@ -12,7 +15,3 @@ pub record RowValue : Type 0 where
 pub record ObjectValue : Type 0 where
   pub parent : RowValue
   pub children : List RowValue
-
--- a cell without where its texts lie in memory
-abbrev pub cell_texts : String Global × String Global → List ℕ × List ℕ
-cell_texts c = (string_bytes c.0, string_bytes c.1)

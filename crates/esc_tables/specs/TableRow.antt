@@ -9,7 +9,7 @@ use Rattle.esc_envelope.specs.declared.kind.Kind.{Kind}
 use Rattle.esc_envelope.specs.declared.kind.Kind.TheVariants.{Registrar, Contact, Host, Domain, Idn, Nndn}
 use Rattle.esc_envelope.specs.EnvelopeValue.{TableValue}
 use Rattle.esc_tables.specs.KeyName.{KeyName}
-use Rattle.esc_tables.specs.ObjectValue.{RowValue}
+use Rattle.esc_tables.specs.ObjectValue.{HeadingValue, RowValue}
 use Rattle.esc_tables.specs.Rows.{rows_of}
 
 -- a row of a table, as its fields
@@ -71,6 +71,10 @@ key_named kind text = record { kind = kind; text = if is_dns kind then map to_as
 
 abbrev pub key_of : TableRow → KeyName
 key_of r = key_named r.table.kind (key_field r)
+
+-- what the rows of a table have in common
+abbrev pub heading_of : TableValue → HeadingValue
+heading_of t = record { name = t.name; fields = t.fields }
 
 -- the cells: each field with its text as it stands in the file
 abbrev pub row_of : TableRow → RowValue

@@ -1,27 +1,141 @@
 //! Objects of the registry, and the rows that they are made of.
 
-ghost use Rattle.std.specs.Prelude.{◌≡◌, IfOk, map};
-ghost use Rattle.esc_tables.specs.ObjectValue.{cell_texts};
+ghost use Rattle.std.specs.Prelude.{◌≡◌, IfOk, length, map, option_map, slice_get, string_bytes};
+ghost use Rattle.std.specs.List.{zip};
+ghost use Rattle.csv.specs.Records.{fields_of};
+ghost use Rattle.esc_tables.specs.TableRow.{heading_of};
 
+use csv::StringRecord;
 use esc_bundle::NoMemory;
+use esc_envelope::Table;
 use std::alloc::Global;
 use std::marker::Model;
+use std::rc::Rc;
 
-/// A row of a table: its cells in the declared order, each with its field's name.
+/// What the rows of a table have in common: its name, and the names of its fields.
+#[derive(Debug, Drop)]
+pub struct Heading {
+    name: String,
+    fields: StringRecord,
+}
+
+impl Model for Heading {
+    ghost use Rattle.std.specs.Prelude.{string_bytes};
+    ghost use Rattle.csv.specs.Records.{fields_of};
+    ghost use Rattle.esc_tables.specs.ObjectValue.{HeadingValue};
+
+    ghost Value = { HeadingValue };
+
+    ghost view = { λ h. record { name = string_bytes h.name; fields = fields_of h.fields } };
+}
+
+impl Heading {
+    /// The heading of a declared table's rows.
+    pub fn of(alloc: Global, table: &Table) -> Result<Rc<Heading>, NoMemory>
+        ensures { IfOk result (λ heading. heading.value ≡ heading_of table.now) }
+    {
+        let fields = record_of(alloc, table.fields.as_slice())?;
+        shared(alloc, table.name.as_str(), fields)
+    }
+}
+
+// The record of these texts.
+fn record_of(alloc: Global, texts: &[String]) -> Result<StringRecord, NoMemory>
+    ensures { IfOk result (λ r. fields_of r ≡ map string_bytes texts.now) }
+{
+    let mut record = StringRecord::new(alloc);
+    for text in texts {
+        record.push_field(text.as_str())?;
+    }
+    Ok(record)
+}
+
+fn shared(alloc: Global, name: &str, fields: StringRecord) -> Result<Rc<Heading>, NoMemory>
+    ensures { IfOk result (λ heading. heading.value ≡ record { name = name.now; fields = fields_of fields }) }
+{
+    let name = String::from_str(alloc, name)?;
+    match Rc::new(alloc, Heading { name, fields }) {
+        Ok(heading) => Ok(heading),
+        Err(_) => Err(NoMemory),
+    }
+}
+
+/// A row of a table: its cells in the declared order, each with its field's name. Rows that are read of one table share its
+/// heading, and a row's texts stand one behind the other in memory.
 #[derive(Debug, Drop)]
 pub struct Row {
-    pub table: String,
-    /// Field and text of each cell.
-    pub cells: Vec<(String, String)>,
+    heading: Rc<Heading>,
+    texts: StringRecord,
 }
 
 impl Model for Row {
-    ghost use Rattle.std.specs.Prelude.{map, string_bytes};
-    ghost use Rattle.esc_tables.specs.ObjectValue.{RowValue, cell_texts};
+    ghost use Rattle.std.specs.List.{zip};
+    ghost use Rattle.csv.specs.Records.{fields_of};
+    ghost use Rattle.esc_tables.specs.ObjectValue.{RowValue};
 
     ghost Value = { RowValue };
 
-    ghost view = { λ r. record { table = string_bytes r.table; cells = map cell_texts r.cells.items } };
+    ghost view = { λ r. record { table = r.heading.value.name; cells = zip r.heading.value.fields (fields_of r.texts) } };
+}
+
+impl Row {
+    /// The row of a heading and of as many texts as it has fields.
+    pub(crate) fn under(heading: Rc<Heading>, texts: StringRecord) -> Row
+        ensures { result ≡ record { table = heading.value.name; cells = zip heading.value.fields (fields_of texts) } }
+    {
+        Row { heading, texts }
+    }
+
+    /// A row of a table with these cells, each a field's name and its text.
+    pub fn from_cells(
+        alloc: Global,
+        table: &str,
+        cells: &[(&str, &str)],
+    ) -> Result<Row, NoMemory>
+        ensures { IfOk result (λ row. row ≡ record { table = table.now; cells = map (λ c. (c.0.now, c.1.now)) cells.now }) }
+    {
+        let mut fields = StringRecord::new(alloc);
+        let mut texts = StringRecord::new(alloc);
+        for (field, text) in cells {
+            fields.push_field(field)?;
+            texts.push_field(text)?;
+        }
+        let heading = shared(alloc, table, fields)?;
+        Ok(Row { heading, texts })
+    }
+
+    /// The table's name.
+    pub fn table(&self) -> &str
+        ensures { result.now ≡ self.now.table }
+    {
+        self.heading.as_ref().name.as_str()
+    }
+
+    /// How many cells there are.
+    pub fn len(&self) -> usize
+        ensures { result ≡ length self.now.cells }
+    {
+        self.heading.as_ref().fields.len().min(self.texts.len())
+    }
+
+    /// The field's name and the text of the cell at this place, from 0.
+    pub fn cell(&self, at: usize) -> Option<(&str, &str)>
+        ensures { option_map (λ c. (c.0.now, c.1.now)) result ≡ slice_get self.now.cells at }
+    {
+        let field = self.heading.as_ref().fields.get(at)?;
+        let text = self.texts.get(at)?;
+        Some((field, text))
+    }
+
+    /// An equal row.
+    pub fn copy(&self) -> Result<Row, NoMemory>
+        ensures { IfOk result (λ r. r ≡ self.now) }
+    {
+        Ok(Row {
+            heading: self.heading.clone()?,
+            texts: self.texts.clone()?,
+        })
+    }
 }
 
 /// An object: a parent row with the child rows of its key (this project's profile of RFC 9022's CSV model).
@@ -40,38 +154,14 @@ impl Model for Object {
     ghost view = { λ o. record { parent = o.parent; children = o.children.items } };
 }
 
-fn copy_cells(alloc: Global, cells: &[(String, String)]) -> Result<Vec<(String, String)>, NoMemory>
-    ensures { IfOk result (λ v. map cell_texts v.items ≡ map cell_texts cells.now) }
-{
-    let mut copies = Vec::with_capacity(alloc, cells.len())?;
-    for (field, text) in cells {
-        let field = String::from_str(alloc, field.as_str())?;
-        let text = String::from_str(alloc, text.as_str())?;
-        copies.push((field, text))?;
-    }
-    Ok(copies)
-}
-
 fn copy_rows(alloc: Global, rows: &[Row]) -> Result<Vec<Row>, NoMemory>
     ensures { IfOk result (λ v. v.items ≡ rows.now) }
 {
     let mut copies = Vec::with_capacity(alloc, rows.len())?;
     for row in rows {
-        copies.push(row.copy(alloc)?)?;
+        copies.push(row.copy()?)?;
     }
     Ok(copies)
-}
-
-impl Row {
-    /// An equal row.
-    pub fn copy(&self, alloc: Global) -> Result<Row, NoMemory>
-        ensures { IfOk result (λ r. r ≡ self.now) }
-    {
-        Ok(Row {
-            table: String::from_str(alloc, self.table.as_str())?,
-            cells: copy_cells(alloc, self.cells.as_slice())?,
-        })
-    }
 }
 
 impl Object {
@@ -80,7 +170,7 @@ impl Object {
         ensures { IfOk result (λ o. o ≡ self.now) }
     {
         Ok(Object {
-            parent: self.parent.copy(alloc)?,
+            parent: self.parent.copy()?,
             children: copy_rows(alloc, self.children.as_slice())?,
         })
     }

@@ -1,18 +1,18 @@
 //! One row of a declared table.
 
-ghost use Rattle.std.specs.Prelude.{◌≡◌, length, map, slice_index_or, [], true, IfOk, string_bytes};
-ghost use Rattle.std.specs.List.{list_all, zip};
+ghost use Rattle.std.specs.Prelude.{◌≡◌, slice_index_or, [], true, IfOk};
+ghost use Rattle.std.specs.List.{list_all};
 ghost use Rattle.std.specs.Str.{is_utf8};
 ghost use Rattle.csv.specs.Records.{fields_of};
-ghost use Rattle.esc_tables.specs.ObjectValue.{cell_texts};
-ghost use Rattle.esc_tables.specs.TableRow.{in_table, is_whole, has_key, is_dns, key_named, key_of, row_of, keyed};
+ghost use Rattle.esc_tables.specs.TableRow.{in_table, is_whole, has_key, is_dns, key_named, key_of, heading_of, keyed};
 
 use crate::key::Key;
-use crate::object::Row;
-use csv::ByteRecord;
+use crate::object::{Heading, Row};
+use csv::{ByteRecord, StringRecord};
 use esc_bundle::NoMemory;
 use esc_envelope::{Kind, Table};
 use std::alloc::Global;
+use std::rc::Rc;
 use std::str;
 
 /// The most bytes of a key.
@@ -96,31 +96,29 @@ pub fn read_key(alloc: Global, table: &Table, row: &ByteRecord) -> Result<Key, N
     key_named(alloc, table.kind, text_of(row, table.key))
 }
 
-fn read_cells(
-    alloc: Global,
-    names: &[String],
-    row: &ByteRecord,
-) -> Result<Vec<(String, String)>, NoMemory>
-    requires texts { list_all is_utf8 (fields_of row.now) ≡ true }
-    requires many { length (fields_of row.now) ≡ length names.now }
-    ensures { IfOk result (λ v. map cell_texts v.items ≡ zip (map string_bytes names.now) (fields_of row.now)) }
+// A row's texts.
+fn texts_of(row: &ByteRecord) -> Result<StringRecord, NoMemory>
+    requires { list_all is_utf8 (fields_of row.now) ≡ true }
+    ensures { IfOk result (λ r. fields_of r ≡ fields_of row.now) }
 {
-    let mut cells = Vec::with_capacity(alloc, names.len())?;
-    for (place, name) in names.iter().enumerate() {
-        let name = String::from_str(alloc, name.as_str())?;
-        let text = String::from_str(alloc, text_of(row, place))?;
-        cells.push((name, text))?;
+    match StringRecord::from_byte_record(row.clone()?) {
+        Ok(texts) => Ok(texts),
+        Err(_) => unreachable!(),
     }
-    Ok(cells)
 }
 
-/// A row with the key of its object.
-pub fn read_row(alloc: Global, table: &Table, row: &ByteRecord) -> Result<(Key, Row), NoMemory>
-    requires { is_whole (in_table table.now (fields_of row.now)) ≡ true }
+/// A row with the key of its object, under its table's heading.
+pub fn read_row(
+    alloc: Global,
+    heading: &Rc<Heading>,
+    table: &Table,
+    row: &ByteRecord,
+) -> Result<(Key, Row), NoMemory>
+    requires heading { heading.now.value ≡ heading_of table.now }
+    requires whole { is_whole (in_table table.now (fields_of row.now)) ≡ true }
     ensures { IfOk result (λ r. r ≡ keyed (in_table table.now (fields_of row.now))) }
 {
     let key = read_key(alloc, table, row)?;
-    let cells = read_cells(alloc, table.fields.as_slice(), row)?;
-    let table = String::from_str(alloc, table.name.as_str())?;
-    Ok((key, Row { table, cells }))
+    let texts = texts_of(row)?;
+    Ok((key, Row::under(heading.clone()?, texts)))
 }

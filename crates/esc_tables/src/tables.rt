@@ -9,7 +9,7 @@ ghost use Rattle.esc_tables.specs.Reading.{by_name};
 
 use crate::files::bytes_named;
 use crate::key::Key;
-use crate::object::Row;
+use crate::object::{Heading, Row};
 use crate::order::child_tables;
 use crate::row::{read_key, read_row};
 use crate::rows::Rows;
@@ -27,10 +27,11 @@ fn read_table(
     requires { list_all is_whole (table_rows (views files.now) table.now) ≡ true }
     ensures { OnOk result (found.new.items ≡ found.old.items ++ map keyed (table_rows (views files.now) table.now)) }
 {
+    let heading = Heading::of(alloc, table)?;
     let mut rows = Rows::of(alloc, bytes_named(files, table.file.as_str()));
     let mut row = ByteRecord::new(alloc);
     while rows.next(&mut row)? {
-        found.push(read_row(alloc, table, &row)?)?;
+        found.push(read_row(alloc, &heading, table, &row)?)?;
     }
     Ok(())
 }

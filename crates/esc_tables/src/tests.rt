@@ -65,12 +65,15 @@ fn show_key(text: &mut String, alloc: Global, key: &Key) -> Result<(), NoMemory>
 }
 
 fn show_row(text: &mut String, row: &Row) -> Result<(), NoMemory> {
-    text.push_str(row.table.as_str())?;
-    for (field, cell) in &row.cells {
+    text.push_str(row.table())?;
+    for at in 0..row.len() {
+        let Some((field, cell)) = row.cell(at) else {
+            return Ok(());
+        };
         text.push_str(" ")?;
-        text.push_str(field.as_str())?;
+        text.push_str(field)?;
         text.push_str("=")?;
-        text.push_str(cell.as_str())?;
+        text.push_str(cell)?;
     }
     text.push_str("\n")?;
     Ok(())
@@ -150,7 +153,7 @@ fn child_rows_stand_by_table_name(rt: HostRuntime) -> Result<(), Fail> {
         assert!(rt; same_key == *key);
         let same_object = object.copy(alloc)?;
         assert_eq!(rt; same_object.children.len(), object.children.len());
-        assert_eq!(rt; same_object.parent.cells.len(), object.parent.cells.len());
+        assert_eq!(rt; same_object.parent.len(), object.parent.len());
     }
     Ok(())
 }
