@@ -1,0 +1,17 @@
+use Rattle.std.proofs.Common.{◌≡◌, List, ℕ, Bor, ap, ap₂, ◌∙◌, map, take, arith}
+use Rattle.std.specs.List.{zip}
+use Rattle.std.proofs.lemmas.List.{take_all}
+use Rattle.csv.specs.Records.{fields_of}
+use Rattle.esc_tables.specs.ObjectValue.{HeadingValue, RowValue}
+use Rattle.esc_tables.proofs.FieldFacts.{zip_images}
+use Rattle.esc_tables.proofs.object.Row.from_cells.Goals as goal
+
+pub returns : goal.returns
+returns c =
+    let cells : List (Bor (List ℕ) × Bor (List ℕ)) = c.args.cells.now in
+    let all : take c.loop-field.field-index cells ≡ cells = take_all c.loop-field.field-index cells (omega (arith, c.loop-field-test.false)) in
+    let fields : fields_of c.loop-field.fields ≡ map (λ c. c.0.now) cells = c.loop-field.invariant.fields ∙ ap (map (λ c. c.0.now)) all in
+    let texts : fields_of c.loop-field.texts ≡ map (λ c. c.1.now) cells = c.loop-field.invariant.texts ∙ ap (map (λ c. c.1.now)) all in
+    let row : HeadingValue → List (List ℕ) → RowValue = λ h xs. record { table = h.name; cells = zip h.fields xs } in
+    ap₂ row (c.in_ok-heading.ensures ∙ ap (λ (fs : List (List ℕ)). record { name = c.args.table.now; fields = fs }) fields) texts
+    ∙ ap (λ (ps : List (List ℕ × List ℕ)). record { table = c.args.table.now; cells = ps }) (zip_images (λ c. c.0.now) (λ c. c.1.now) cells)
