@@ -87,11 +87,7 @@ impl Row {
     }
 
     /// A row of a table with these cells, each a field's name and its text.
-    pub fn from_cells(
-        alloc: Global,
-        table: &str,
-        cells: &[(&str, &str)],
-    ) -> Result<Row, NoMemory>
+    pub fn from_cells(alloc: Global, table: &str, cells: &[(&str, &str)]) -> Result<Row, NoMemory>
         ensures { IfOk result (λ row. row ≡ record { table = table.now; cells = map (λ c. (c.0.now, c.1.now)) cells.now }) }
     {
         let mut fields = StringRecord::new(alloc);

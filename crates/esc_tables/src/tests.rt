@@ -159,6 +159,28 @@ fn child_rows_stand_by_table_name(rt: HostRuntime) -> Result<(), Fail> {
 }
 
 #[test]
+fn a_row_is_made_of_its_cells(rt: HostRuntime) -> Result<(), Fail> {
+    let alloc = rt.alloc();
+    let row = Row::from_cells(
+        alloc,
+        "contact",
+        &[("id", "C1"), ("voice", ""), ("clID", "R\u{e9}1")],
+    )?;
+    for row in &[row.copy()?, row] {
+        assert_eq!(rt; row.table(), "contact");
+        assert_eq!(rt; row.len(), 3);
+        assert_eq!(rt; row.cell(0), Some(("id", "C1")));
+        assert_eq!(rt; row.cell(1), Some(("voice", "")));
+        assert_eq!(rt; row.cell(2), Some(("clID", "R\u{e9}1")));
+        assert_eq!(rt; row.cell(3), None);
+    }
+    let empty = Row::from_cells(alloc, "idn", &[])?;
+    assert_eq!(rt; empty.len(), 0);
+    assert_eq!(rt; empty.cell(0), None);
+    Ok(())
+}
+
+#[test]
 fn orphans_are_counted(rt: HostRuntime) -> Result<(), Fail> {
     let alloc = rt.alloc();
     let contents = format!(in alloc; "{CONTACTS},{NAME_SERVERS}")?;

@@ -20,9 +20,9 @@ loop-row-preserved c =
     let pushed : c.push.new.self.items ≡ found ++ (keyed (in_table t fields) ∷ []) = c.in_ok-push.ensures.items ∙ ap (λ (x : KeyName × RowValue). found ++ (x ∷ [])) c.in_ok-read_row.ensures in
     record {
       read =
-        ap (λ (xs : List (KeyName × RowValue)). xs ++ map keyed (map (in_table t) more)) pushed
-        ∙ append_assoc found (keyed (in_table t fields) ∷ []) (map keyed (map (in_table t) more))
-        ∙ ap (λ (rs : List (List (List ℕ))). found ++ map keyed (map (in_table t) rs)) (sym rows)
-        ∙ c.loop-row.invariant.read;
+          ap (λ (xs : List (KeyName × RowValue)). xs ++ map keyed (map (in_table t) more)) pushed
+          ∙ append_assoc found (keyed (in_table t fields) ∷ []) (map keyed (map (in_table t) more))
+          ∙ ap (λ (rs : List (List (List ℕ))). found ++ map keyed (map (in_table t) rs)) (sym rows)
+          ∙ c.loop-row.invariant.read;
       whole = (both (is_whole (in_table t fields)) (list_all is_whole (map (in_table t) more)) (subst (λ (rs : List (List (List ℕ))). list_all is_whole (map (in_table t) rs) ≡ true) rows c.loop-row.invariant.whole)).1;
     }
