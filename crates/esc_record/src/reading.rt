@@ -2,7 +2,7 @@
 
 ghost use Rattle.std.specs.Prelude.{◌≡◌, ◌≢◌, Some, None, if◌then◌else◌, option_map, map, IfOk, IfSome, IfNone};
 ghost use Rattle.std.specs.Str.{is_utf8};
-ghost use Rattle.esc_tables.specs.ObjectValue.{ObjectValue, cell_texts};
+ghost use Rattle.esc_tables.specs.ObjectValue.{ObjectValue};
 ghost use Rattle.esc_record.specs.Record.{record_of, IsOfTexts};
 ghost use Rattle.esc_record.specs.Reading.{cut, number_at, text_at, cell_at, row_at, many, object_of, of_rows};
 
@@ -10,9 +10,6 @@ use esc_bundle::NoMemory;
 use esc_tables::{Object, Row};
 use std::alloc::Global;
 use std::str;
-
-/// Field and text of a cell.
-type Cell = (String, String);
 
 // A number, and the rest.
 fn number_at(bytes: &[u8]) -> Option<(u32, &[u8])>
@@ -52,30 +49,28 @@ fn text_at(bytes: &[u8]) -> Option<(&str, &[u8])>
     Some((text, rest))
 }
 
-// A cell, and the rest.
+// A cell, field and text, and the rest.
 #[tactic(auto, unfolding(crate::specs::Reading::cell_at))]
-fn cell_at(alloc: Global, bytes: &[u8]) -> Result<Option<(Cell, &[u8])>, NoMemory>
-    ensures { IfOk result (λ found. option_map (λ p. (cell_texts p.0, p.1.now)) found ≡ cell_at is_utf8 bytes.now) }
+fn cell_at(bytes: &[u8]) -> Option<((&str, &str), &[u8])>
+    ensures { option_map (λ p. ((p.0.0.now, p.0.1.now), p.1.now)) result ≡ cell_at is_utf8 bytes.now }
 {
-    let Some((field, rest)) = text_at(bytes) else {
-        return Ok(None);
-    };
-    let Some((value, rest)) = text_at(rest) else {
-        return Ok(None);
-    };
-    let field = String::from_str(alloc, field)?;
-    let value = String::from_str(alloc, value)?;
-    Ok(Some(((field, value), rest)))
+    let (field, rest) = text_at(bytes)?;
+    let (text, rest) = text_at(rest)?;
+    Some(((field, text), rest))
 }
 
 // So many cells, and the rest.
-fn cells_at(alloc: Global, count: u32, bytes: &[u8]) -> Result<Option<(Vec<Cell>, &[u8])>, NoMemory>
-    ensures { IfOk result (λ found. option_map (λ p. (map cell_texts p.0.items, p.1.now)) found ≡ many (cell_at is_utf8) count bytes.now) }
+fn cells_at(
+    alloc: Global,
+    count: u32,
+    bytes: &[u8],
+) -> Result<Option<(Vec<(&str, &str)>, &[u8])>, NoMemory>
+    ensures { IfOk result (λ found. option_map (λ p. (map (λ c. (c.0.now, c.1.now)) p.0.items, p.1.now)) found ≡ many (cell_at is_utf8) count bytes.now) }
 {
     let mut rest = bytes;
     let mut cells = Vec::new(alloc);
     for _ in 0..count {
-        let Some((cell, behind)) = cell_at(alloc, rest)? else {
+        let Some((cell, behind)) = cell_at(rest) else {
             return Ok(None);
         };
         cells.push(cell)?;
@@ -98,8 +93,8 @@ fn row_at(alloc: Global, bytes: &[u8]) -> Result<Option<(Row, &[u8])>, NoMemory>
     let Some((cells, rest)) = cells_at(alloc, count, rest)? else {
         return Ok(None);
     };
-    let table = String::from_str(alloc, table)?;
-    Ok(Some((Row { table, cells }, rest)))
+    let row = Row::from_cells(alloc, table, cells.as_slice())?;
+    Ok(Some((row, rest)))
 }
 
 // So many rows, and the rest.

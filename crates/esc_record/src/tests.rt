@@ -5,22 +5,9 @@ use esc_bundle::NoMemory;
 use esc_tables::{Object, Row};
 use std::alloc::Global;
 
-fn cell(alloc: Global, field: &str, text: &str) -> Result<(String, String), NoMemory> {
-    Ok((
-        String::from_str(alloc, field)?,
-        String::from_str(alloc, text)?,
-    ))
-}
-
 fn contact(alloc: Global) -> Result<Object, NoMemory> {
-    let mut cells = Vec::new(alloc);
-    cells.push(cell(alloc, "id", "C1")?)?;
-    cells.push(cell(alloc, "clID", "R1")?)?;
     Ok(Object {
-        parent: Row {
-            table: String::from_str(alloc, "contact")?,
-            cells,
-        },
+        parent: Row::from_cells(alloc, "contact", &[("id", "C1"), ("clID", "R1")])?,
         children: Vec::new(alloc),
     })
 }
@@ -47,9 +34,9 @@ fn the_45_bytes_are_the_contact(rt: HostRuntime) -> Result<(), NoMemory> {
         return Ok(());
     };
     assert!(rt; read.children.is_empty());
-    assert!(rt; read.parent.table.as_str() == "contact");
-    assert!(rt; read.parent.cells.len() == 2);
-    assert!(rt; read.parent.cells[1].1.as_str() == "R1");
+    assert!(rt; read.parent.table() == "contact");
+    assert!(rt; read.parent.len() == 2);
+    assert!(rt; read.parent.cell(1) == Some(("clID", "R1")));
     Ok(())
 }
 

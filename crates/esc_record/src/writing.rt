@@ -1,14 +1,17 @@
 //! Writing a record.
 
-ghost use Rattle.std.specs.Prelude.{◌≡◌, ◌++◌, ℕ, List, [], true, false, Some, option_map, IfOk, length, map};
+ghost use Rattle.std.specs.Prelude.{◌≡◌, ◌++◌, ℕ, List, [], true, false, Some, option_map, IfOk, length};
 ghost use Rattle.std.specs.List.{list_all, flat_map};
-ghost use Rattle.esc_tables.specs.ObjectValue.{ObjectValue, cell_texts};
+ghost use Rattle.esc_tables.specs.ObjectValue.{ObjectValue};
 ghost use Rattle.esc_record.specs.Record.{number_bytes, text_bytes, cell_bytes, row_bytes, object_bytes, is_small, is_small_cell, is_small_row, is_small_object, record_of, rows_of};
 ghost use Rattle.esc_record.specs.Writing.{Pushes};
 
 use esc_bundle::NoMemory;
 use esc_tables::{Object, Row};
 use std::alloc::Global;
+
+/// The bytes that a record starts with room for: most records fit, so that writing one takes one allocation.
+const USUAL_LENGTH: usize = 256;
 
 // Each of these answers whether the lengths and counts fit; where one doesn't, what was pushed is of no use.
 
@@ -33,20 +36,23 @@ fn push_text(bytes: &mut Vec<u8>, text: &str) -> Result<bool, NoMemory>
     Ok(true)
 }
 
-fn push_cell(bytes: &mut Vec<u8>, cell: &(String, String)) -> Result<bool, NoMemory>
-    ensures { Pushes (is_small_cell (cell_texts cell.now)) (cell_bytes (cell_texts cell.now)) bytes.old.items bytes.new.items result }
+fn push_cell(bytes: &mut Vec<u8>, field: &str, text: &str) -> Result<bool, NoMemory>
+    ensures { Pushes (is_small_cell (field.now, text.now)) (cell_bytes (field.now, text.now)) bytes.old.items bytes.new.items result }
 {
-    if !push_text(bytes, cell.0.as_str())? {
+    if !push_text(bytes, field)? {
         return Ok(false);
     }
-    push_text(bytes, cell.1.as_str())
+    push_text(bytes, text)
 }
 
-fn push_cells(bytes: &mut Vec<u8>, cells: &[(String, String)]) -> Result<bool, NoMemory>
-    ensures { Pushes (list_all (λ c. is_small_cell (cell_texts c)) cells.now) (flat_map (λ c. cell_bytes (cell_texts c)) cells.now) bytes.old.items bytes.new.items result }
+fn push_cells(bytes: &mut Vec<u8>, row: &Row) -> Result<bool, NoMemory>
+    ensures { Pushes (list_all is_small_cell row.now.cells) (flat_map cell_bytes row.now.cells) bytes.old.items bytes.new.items result }
 {
-    for cell in cells {
-        if !push_cell(bytes, cell)? {
+    for at in 0..row.len() {
+        let Some((field, text)) = row.cell(at) else {
+            unreachable!()
+        };
+        if !push_cell(bytes, field, text)? {
             return Ok(false);
         }
     }
@@ -56,14 +62,13 @@ fn push_cells(bytes: &mut Vec<u8>, cells: &[(String, String)]) -> Result<bool, N
 fn push_row(bytes: &mut Vec<u8>, row: &Row) -> Result<bool, NoMemory>
     ensures { Pushes (is_small_row row.now) (row_bytes row.now) bytes.old.items bytes.new.items result }
 {
-    let cells = row.cells.as_slice();
-    if !push_text(bytes, row.table.as_str())? {
+    if !push_text(bytes, row.table())? {
         return Ok(false);
     }
-    if !push_number(bytes, cells.len())? {
+    if !push_number(bytes, row.len())? {
         return Ok(false);
     }
-    push_cells(bytes, cells)
+    push_cells(bytes, row)
 }
 
 fn push_rows(bytes: &mut Vec<u8>, rows: &[Row]) -> Result<bool, NoMemory>
@@ -96,7 +101,7 @@ pub fn to_record(alloc: Global, o: &Object) -> Result<Option<Vec<u8>>, NoMemory>
     ensures record { IfOk result (λ bytes. option_map (λ b. b.items) bytes ≡ record_of o.now) }
     ensures alone { (o p : ObjectValue) (bytes more : List ℕ) → record_of o ≡ Some bytes → record_of p ≡ Some (bytes ++ more) → (more ≡ []) × (o ≡ p) }
 {
-    let mut bytes = Vec::new(alloc);
+    let mut bytes = Vec::with_capacity(alloc, USUAL_LENGTH)?;
     if push_object(&mut bytes, o)? {
         Ok(Some(bytes))
     } else {

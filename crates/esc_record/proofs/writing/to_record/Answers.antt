@@ -9,3 +9,6 @@ returns-then-branch-clause-alone c = alone
 
 pub returns-else-branch-clause-alone : goal.returns-else-branch-clause-alone
 returns-else-branch-clause-alone c = alone
+
+pub returns-in_err-bytes-clause-alone : goal.returns-in_err-bytes-clause-alone
+returns-in_err-bytes-clause-alone c = alone
