@@ -29,8 +29,9 @@
 //!
 //! # Cost
 //!
-//! Two passes over the text: the first looks at every row and keeps none, the second copies each cell once. Objects are found by a
-//! map, so the time is the number of rows times its logarithm. Nothing passes over all rows for one object or one table.
+//! Two passes over the text: the first looks at every row and keeps none, the second copies each row's texts once, in one piece; the
+//! table's name and its fields' names are kept once for all its rows. Objects are found by a map, so the time is the number of rows
+//! times its logarithm. Nothing passes over all rows for one object or one table.
 //! For the envelope alone no row is looked at: the frame is passed over from section to section.
 #![tactic(auto)]
 

@@ -78,6 +78,9 @@ impl Model for Row {
     ghost view = { λ r. record { table = r.heading.value.name; cells = zip r.heading.value.fields (fields_of r.texts) } };
 }
 
+/// How many bytes most fields' names and texts have at most, so that a row's memory is mostly taken at once.
+const USUAL_LENGTH: usize = 16;
+
 impl Row {
     /// The row of a heading and of as many texts as it has fields.
     pub(crate) fn under(heading: Rc<Heading>, texts: StringRecord) -> Row
@@ -90,8 +93,9 @@ impl Row {
     pub fn from_cells(alloc: Global, table: &str, cells: &[(&str, &str)]) -> Result<Row, NoMemory>
         ensures { IfOk result (λ row. row ≡ record { table = table.now; cells = map (λ c. (c.0.now, c.1.now)) cells.now }) }
     {
-        let mut fields = StringRecord::new(alloc);
-        let mut texts = StringRecord::new(alloc);
+        let room = cells.len().saturating_mul(USUAL_LENGTH);
+        let mut fields = StringRecord::with_capacity(alloc, room, cells.len())?;
+        let mut texts = StringRecord::with_capacity(alloc, room, cells.len())?;
         for (field, text) in cells {
             fields.push_field(field)?;
             texts.push_field(text)?;
