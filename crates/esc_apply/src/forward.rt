@@ -8,7 +8,7 @@ ghost use Rattle.std.specs.BTreeSet as sorted;
 ghost use Rattle.esc_tables.specs.KeyName.{KeyName, key_cmp, key_eq};
 ghost use Rattle.esc_tables.specs.DepositValue.{DepositValue};
 ghost use Rattle.esc_apply.specs.Tables.{deletes_of, mention_count};
-ghost use Rattle.esc_apply.specs.Registry.{State, nothing, changed, stepped, saturated};
+ghost use Rattle.esc_apply.specs.Registry.{State, nothing, noted, changed, stepped, saturated};
 ghost use Rattle.esc_apply.specs.Changes.{with_object, without, changed_by, AreNew};
 ghost use Rattle.esc_apply.specs.Images.{chain_state};
 
@@ -137,10 +137,20 @@ fn change<R: Registry>(
     ensures changed { OnOk result (R.is_honest r.new → (s : State) → R.holds r.old s → s.undo pos key.now ≡ None
         → R.holds r.new (changed s pos key.now (option_copied after.entry))) }
 {
-    let before = r.get(alloc, key)?;
-    r.put_undo(alloc, pos, key, before.as_ref())?;
+    note(r, alloc, pos, key)?;
     match after {
         Some(object) => r.put(alloc, key, object),
         None => r.remove(key),
     }
+}
+
+// Notes what stands at a key.
+fn note<R: Registry>(r: &mut R, alloc: Global, pos: u32, key: &Key) -> Result<(), R::Error>
+    ensures follows { R.follows r.old r.new }
+    ensures counted { OnOk result (R.count r.new ≡ R.count r.old) }
+    ensures noted { OnOk result (R.is_honest r.new → (s : State) → R.holds r.old s → s.undo pos key.now ≡ None
+        → R.holds r.new (noted s pos key.now (s.content key.now))) }
+{
+    let before = r.get(alloc, key)?;
+    r.put_undo(alloc, pos, key, before.as_ref())
 }
