@@ -22,7 +22,7 @@ use Rattle.sqlite_tied.specs.Compute.{everything}
 use Rattle.sqlite.proofs.Callers.{IsPlain, command_of, statement_of}
 use Rattle.esc_rows.specs.RowText.{is_write_text, is_read_text}
 use Rattle.esc_rows.specs.Schema.{no_schema, schema_1, schema_2, schema_3, schema_4, schema_5, schema_6, store_schema, info_table, listed_table, receipt_table, held_table, step_table, object_table, undo_table}
-use Rattle.esc_rows.specs.Texts.{create_info_text, create_listed_text, create_receipt_text, create_held_text, create_step_text, create_object_text, create_undo_text, insert_info_text, select_version_text, insert_listed_text, select_listed_text, insert_receipt_text, find_receipt_text, select_receipts_text, last_receipt_text, insert_held_text, select_held_text, find_body_text, clear_steps_text, insert_step_text, select_steps_text, insert_object_text, update_object_text, delete_object_text, clear_objects_text, find_object_text, select_objects_text, select_kind_text, objects_from_text, select_kinds_text, insert_undo_text, select_undo_text, delete_undo_text, clear_undo_text}
+use Rattle.esc_rows.specs.Texts.{create_info_text, create_listed_text, create_receipt_text, create_held_text, create_step_text, create_object_text, create_undo_text, insert_info_text, select_version_text, insert_listed_text, select_listed_text, insert_receipt_text, find_receipt_text, select_receipts_text, last_receipt_text, verdict_rows_text, insert_held_text, select_held_text, find_body_text, clear_steps_text, insert_step_text, select_steps_text, insert_object_text, update_object_text, delete_object_text, clear_objects_text, find_object_text, select_objects_text, select_kind_text, objects_from_text, select_kinds_text, insert_undo_text, select_undo_text, delete_undo_text, clear_undo_text}
 use Rattle.esc_rows.proofs.Scan.{scan, no_limit}
 
 -- the text is this write
@@ -154,6 +154,13 @@ last_receipt_scan = scan 4 ([]) (col 1 0 ∷ []) (down (col 1 0) ∷ []) (pos 1)
 pub last_receipt_is : IsQuery last_receipt_text last_receipt_scan
 unfolding understood is_read_text everything
 last_receipt_is = record { names = codes "receipt" ∷ []; is = refl; plain = (refl, refl); unlisted = refl; reads = refl }
+
+abbrev pub verdict_rows_scan : Query
+verdict_rows_scan = scan 4 (equals (col 1 4) (col 0 0) ∷ []) (col 1 6 ∷ []) (up (col 1 6) ∷ []) no_limit
+
+pub verdict_rows_is : IsQuery verdict_rows_text verdict_rows_scan
+unfolding understood is_read_text everything
+verdict_rows_is = record { names = codes "row" ∷ []; is = refl; plain = (refl, refl); unlisted = refl; reads = refl }
 
 -- ---- held
 

@@ -4,7 +4,8 @@ use Rattle.std.specs.Ordering.{nat_cmp, ordering_then, is_le, is_ge}
 use Rattle.std.specs.declared.cmp.Ordering.{Ordering}
 use Rattle.std.specs.declared.cmp.Ordering.TheVariants.{Less}
 use Rattle.std.specs.Cmp.Lexicographic.{slice_cmp}
-use Rattle.std.specs.Prelude.{◌≡◌, ◌<◌, ◌==◌, ◌&&◌, ℕ, pos, false, List, [], ◌∷◌, ◌++◌, map, filter, find, length, take, Bool, true, Option, Some, None, option_map, bytes_eq, if◌then◌else◌}
+use Rattle.std.specs.Prelude.{◌≡◌, ◌<◌, ◌==◌, ◌&&◌, ℕ, pos, false, List, [], ◌∷◌, ◌++◌, map, filter, find, length, take, Bool, true, Option, Some, None, option_map, bytes_eq, if◌then◌else◌, IsPermutation}
+use Rattle.std.specs.List.Sorted.{IsNonDecreasing}
 use Rattle.sqlite.specs.Effect.{Database}
 use Rattle.sqlite_trees.specs.Tree.{IsAscending}
 use Rattle.sqlite_keyed.specs.Keyed.{has_key, insert_by, get_by}
@@ -160,6 +161,14 @@ abbrev pub last_number : List ReceiptRow → ℕ
 last_number [] = 0
 last_number (r ∷ []) = r.receipt
 last_number (r ∷ s ∷ rs) = last_number (s ∷ rs)
+
+abbrev pub is_of_verdict : ℕ → ReceiptRow → Bool
+is_of_verdict verdict r = r.verdict == verdict
+
+-- the rows that the receipts of a verdict name, each as often as they do, and none before a lower one; each of them names one
+pub record ListsRows (verdict : ℕ) (c : Content) (found : List ℕ) : Type 0 where
+  pub sorted : IsNonDecreasing found
+  pub same : IsPermutation (map (λ (r : ReceiptRow). r.row) (filter (is_of_verdict verdict) c.receipts)) (map (λ n. Some n) found)
 
 -- ---- held bodies
 

@@ -1,15 +1,17 @@
 -- What the single statements do, of which the crate's calls are made.
-use Rattle.std.specs.Prelude.{◌≤◌, ◌≡◌, ◌+◌, ◌==◌, ℕ, pos, List, [], ◌∷◌, map, filter, find, fold, length, take, reverse}
+use Rattle.std.specs.Prelude.{◌≤◌, ◌≡◌, ◌+◌, ◌==◌, ℕ, pos, List, [], ◌∷◌, map, filter, find, fold, length, take, reverse, IsPermutation, IsSorted}
 use Rattle.std.specs.Option.{option_to_list}
+use Rattle.sqlite_value.specs.declared.value.Value.{Value}
 use Rattle.sqlite_value.specs.declared.value.Value.TheVariants.{Int, Blob}
-use Rattle.sqlite_value.specs.Order.{Row, column}
+use Rattle.sqlite_value.specs.Order.{Row, column, value_cmp}
 use Rattle.esc_rows.specs.Schema.{store_schema, info_tree}
 use Rattle.sqlite.specs.Effect.{Database}
 use Rattle.sqlite_keyed.specs.Keyed.{insert_by, get_by}
 use Rattle.sqlite_keyed.specs.Lists.{update_where, sort_by}
-use Rattle.esc_rows.specs.Rows.{ReceiptRow, HeldRow, ObjectRow, UndoRow, object_number, held_number, blob_or_null, shown_listed, shown_receipt, shown_step}
+use Rattle.esc_rows.specs.Rows.{ReceiptRow, HeldRow, ObjectRow, UndoRow, object_number, held_number, number_or_null, blob_or_null, shown_listed, shown_receipt, shown_step}
 use Rattle.esc_rows.specs.Content.{Content, HoldsContent, is_object_at}
-use Rattle.esc_rows.specs.Changes.{by_key, by_image, is_kind_from, is_receipt_of}
+use Rattle.esc_rows.specs.Changes.{by_key, by_image, is_kind_from, is_receipt_of, is_of_verdict}
+use Rattle.esc_rows.specs.Entries.{first_of}
 
 abbrev pub with_bytes : List ℕ → ObjectRow → ObjectRow
 with_bytes bytes o = record o { bytes = bytes }
@@ -76,6 +78,15 @@ shown_receipt_number r = Int (pos r.receipt) ∷ []
 -- the last receipt alone
 abbrev pub ShowsLast : Content → List Row → Type 0
 ShowsLast c rows = rows ≡ take 1 (map shown_receipt_number (reverse c.receipts))
+
+-- the row that a receipt names, or NULL
+abbrev pub row_value : ReceiptRow → Value
+row_value r = number_or_null r.row
+
+-- the rows that the receipts of a verdict name, in the order of values
+pub record ShowsRows (verdict : ℕ) (c : Content) (rows : List Row) : Type 0 where
+  pub sorted : IsSorted value_cmp (map first_of rows)
+  pub same : IsPermutation (map row_value (filter (is_of_verdict verdict) c.receipts)) (map first_of rows)
 
 abbrev pub shown_body : HeldRow → Row
 shown_body h = Blob h.body ∷ []

@@ -55,6 +55,9 @@ select_receipts_text = codes "SELECT receipt, number, digest, verdict, fault, ro
 abbrev pub last_receipt_text : List ℕ
 last_receipt_text = codes "SELECT receipt FROM receipt ORDER BY receipt DESC LIMIT 1"
 
+abbrev pub verdict_rows_text : List ℕ
+verdict_rows_text = codes "SELECT row FROM receipt WHERE verdict = ?1 ORDER BY row"
+
 abbrev pub insert_held_text : List ℕ
 insert_held_text = codes "INSERT INTO held (row, body) VALUES (?1, ?2)"
 

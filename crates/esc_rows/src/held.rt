@@ -29,7 +29,7 @@ fn ask_held<S: Alter>(conn: &mut Connection<S>) -> Result<Vec<Row>, Error>
     read_all(conn, "SELECT row FROM held ORDER BY row", &[])
 }
 
-/// The rows that are held, rising. It reads no body.
+/// The rows that are held, rising. The engine loads each body on the way.
 pub fn held_rows<S: Alter>(alloc: Global, conn: &mut Connection<S>) -> Result<Vec<u32>, Error>
     ensures read { IsRead (state S.Store conn.old) (state S.Store conn.new) (Tells (λ c found. found.items ≡ map (λ h. h.row) c.held)) result }
 {
