@@ -14,3 +14,4 @@ pub mod Registries
 pub mod Standings
 pub mod Sure
 pub mod Paging
+pub mod ReceiptRows

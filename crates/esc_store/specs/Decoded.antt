@@ -1,5 +1,6 @@
 -- What objects, before-images and counts are decoded from.
-use Rattle.std.specs.Prelude.{◌≡◌, ◌==◌, ℕ, false, List, [], ◌∷◌, length, map, filter, Option, Some, IsSome, option_map}
+use Rattle.std.specs.Prelude.{◌≡◌, ◌==◌, ℕ, false, List, [], ◌∷◌, length, map, filter, Option, Some, IsSome, option_map, ◌↔◌}
+use Rattle.std.specs.List.{Contains}
 use Rattle.std.specs.Map.{lookup}
 use Rattle.sqlite_trees.specs.Tree.{IsAscending}
 use Rattle.esc_envelope.specs.declared.kind.Kind.{Kind}
@@ -12,6 +13,7 @@ use Rattle.esc_apply.specs.Registry.{State}
 use Rattle.esc_rows.specs.Rows.{ObjectRow}
 use Rattle.esc_rows.specs.Content.{is_object_at}
 use Rattle.esc_rows.specs.Changes.{ObjectEntry, ImageEntry, entry_at, image_entry_at}
+use Rattle.esc_store.specs.Kept.{IsRising}
 use Rattle.esc_store.specs.TypedRows.{image_kept}
 
 -- an object stands at just the keys of the rows, and its record is the row's
@@ -30,6 +32,11 @@ pub record AreNotes (step : ℕ) (s : State) (rows : List ImageEntry) : Type 0 w
 -- no two objects have one key
 abbrev pub HaveOwnKeys : List ObjectRow → Type 0
 HaveOwnKeys = IsAscending (λ a b. is_object_at b.kind b.key a ≡ false)
+
+-- the numbers of a list, rising, each once
+pub record AreOnce (numbers rows : List ℕ) : Type 0 where
+  pub rising : IsRising rows
+  pub each : (n : ℕ) → Contains rows n ↔ Contains numbers n
 
 -- how often the number of a kind stands among these
 abbrev pub times : Kind → List ℕ → ℕ

@@ -1,6 +1,6 @@
 -- What a store keeps.
 use Rattle.std.specs.Prelude.{◌≡◌, ℕ, ◌<◌, Bool, ◌==◌, if◌then◌else◌, List, [], ◌∷◌, ◌++◌, map, All, Option, None, Some, IsSome, ◌↔◌}
-use Rattle.std.specs.List.{Contains}
+use Rattle.std.specs.List.{Contains, Any}
 use Rattle.esc_envelope.specs.declared.kind.Kind.{Kind}
 use Rattle.esc_envelope.specs.declared.kind.Kind.TheVariants.{Registrar, Contact, Host, Domain, Idn, Nndn}
 use Rattle.esc_envelope.specs.Kinds.{kind_rank}
@@ -8,6 +8,7 @@ use Rattle.esc_manifest.specs.declared.row.MRow.{MRow}
 use Rattle.esc_manifest.specs.Rows.{place_at, resend_at}
 use Rattle.esc_apply.specs.declared.front.Step.{Step}
 use Rattle.esc_apply.specs.Registry.{State, Content, empty, HasSize}
+use Rattle.esc_store.specs.declared.reply.Verdict.TheVariants.{A1}
 use Rattle.esc_store.specs.ReplyValue.{ReceiptValue, ReplyValue, replies_from, reply_alike}
 
 -- the manifest's rows, a receipt for each distinct arrival in order, the bodies of held rows, the rows of the chain in
@@ -68,6 +69,15 @@ IsRising (n ∷ ns) = All (λ m. n < m) ns × IsRising ns
 pub record AreHeld (bodies : ℕ → Option (List ℕ)) (rows : List ℕ) : Type 0 where
   pub rising : IsRising rows
   pub each : (row : ℕ) → Contains rows row ↔ IsSome (bodies row)
+
+-- a receipt says that the deposit of this row is held
+abbrev pub SaysHeld : ℕ → ReceiptValue → Type 0
+SaysHeld row r = (r.verdict ≡ A1) × (r.row ≡ Some row)
+
+-- these are the rows of which one of the receipts says so, rising
+pub record AreHeldBy (receipts : List ReceiptValue) (rows : List ℕ) : Type 0 where
+  pub rising : IsRising rows
+  pub each : (row : ℕ) → Contains rows row ↔ Any (SaysHeld row) receipts
 
 -- the objects of one kind
 abbrev pub of_kind : Kind → Content → Content

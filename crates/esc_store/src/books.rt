@@ -51,7 +51,8 @@ fn small_count(count: Option<u64>) -> Result<Option<u32>, SFault>
     }
 }
 
-fn verdict_number(verdict: Verdict) -> u32
+// The number of a verdict in the tables.
+pub(crate) fn verdict_number(verdict: Verdict) -> u32
     ensures { result ≡ verdict_number verdict }
 {
     match verdict {

@@ -1,10 +1,12 @@
 //! From the rows of the tables to replies and steps.
 
-ghost use Rattle.std.specs.Prelude.{◌≡◌, ℕ, List, Option, Bool, Some, map, option_map, string_bytes, IfOk, IfSome};
+ghost use Rattle.std.specs.Prelude.{◌≡◌, ℕ, List, Option, Bool, Some, map, option_map, string_bytes, IfOk, IfSome, IsSorted};
+ghost use Rattle.std.specs.Ordering.{nat_cmp};
 ghost use Rattle.esc_manifest.specs.Rows.{id_at, resend_at};
 ghost use Rattle.esc_rows.specs.Changes.{receipt_of};
 ghost use Rattle.esc_rows.specs.Entries.{receipt_row, step_row};
 ghost use Rattle.esc_store.specs.declared.reply.Verdict.{Verdict as verdict};
+ghost use Rattle.esc_store.specs.Decoded.{AreOnce};
 ghost use Rattle.esc_store.specs.Kept.{step_at};
 ghost use Rattle.esc_store.specs.ReplyValue.{ReceiptValue, reply_kept, reply_alike, replies_from};
 ghost use Rattle.esc_store.specs.TypedRows.{verdict_number, fault_number, bit, receipt_row as row_of, receipts_from, steps_from};
@@ -170,5 +172,14 @@ pub(crate) fn indices_of(alloc: Global, numbers: &[u32]) -> Result<Vec<usize>, S
     for number in numbers {
         rows.push(*number as usize)?;
     }
+    Ok(rows)
+}
+
+// Numbers of 32 bits that don't fall as row indices, each once.
+pub(crate) fn distinct_indices_of(alloc: Global, numbers: &[u32]) -> Result<Vec<usize>, SFault>
+    ensures { IsSorted nat_cmp numbers.now → IfOk result (λ rows. AreOnce numbers.now rows.items) }
+{
+    let mut rows = indices_of(alloc, numbers)?;
+    rows.dedup();
     Ok(rows)
 }

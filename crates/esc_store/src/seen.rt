@@ -1,7 +1,7 @@
 //! What the tables say of what a store keeps.
 
 ghost use Rattle.std.specs.Prelude.{◌≡◌, map, option_map, IfOk};
-ghost use Rattle.esc_rows.specs.Changes.{ListsObjects, ListsFrom, ListsKinds, last_number, receipt_of, body_of};
+ghost use Rattle.esc_rows.specs.Changes.{ListsObjects, ListsFrom, ListsKinds, ListsRows, last_number, receipt_of, body_of};
 ghost use Rattle.esc_rows.specs.Entries.{receipt_row, step_row, object_of};
 ghost use Rattle.esc_store.specs.Decoded.{HaveOwnKeys};
 ghost use Rattle.esc_store.specs.Kept.{Kept};
@@ -34,6 +34,14 @@ impl<S: Alter> Store<S> {
         ensures told { IfOk result (λ found. IsHonest S.Store self.new → (k : Kept) → Stands S.Store self.old k → IsTold k (λ c. option_map receipt_row found ≡ receipt_of number.now digest.now c.receipts)) }
     {
         self.receipt_here(number, digest)
+    }
+
+    // The rows that the receipts of a verdict name.
+    pub(crate) fn see_rows(&mut self, alloc: Global, verdict: u32) -> Result<Vec<u32>, SFault>
+        ensures same { IsAsBefore S.Store self.old self.new }
+        ensures told { IfOk result (λ found. IsHonest S.Store self.new → (k : Kept) → Stands S.Store self.old k → IsTold k (λ c. ListsRows verdict c found.items)) }
+    {
+        self.rows_here(alloc, verdict)
     }
 
     // The number of the last receipt, or 0.

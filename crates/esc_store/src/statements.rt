@@ -3,7 +3,7 @@
 ghost use Rattle.std.specs.Prelude.{◌≡◌, true, false, map, option_map, OnOk, IfErr};
 ghost use Rattle.sqlite.specs.Held.{state};
 ghost use Rattle.esc_rows.specs.Content.{object_at};
-ghost use Rattle.esc_rows.specs.Changes.{PutsObject, RemovesObject, Becomes, Tells, without_objects, without_undo, without_steps, PutsImage, RemovesImages, ListsImages, AddsReceipt, HoldsBody, AddsStep, ListsObjects, ListsFrom, ListsKinds, last_number, receipt_of, body_of};
+ghost use Rattle.esc_rows.specs.Changes.{PutsObject, RemovesObject, Becomes, Tells, without_objects, without_undo, without_steps, PutsImage, RemovesImages, ListsImages, AddsReceipt, HoldsBody, AddsStep, ListsObjects, ListsFrom, ListsKinds, ListsRows, last_number, receipt_of, body_of};
 ghost use Rattle.esc_rows.specs.Entries.{receipt_row, held_row, step_row, image_of, object_of, listed_row};
 ghost use Rattle.esc_store.specs.Standing.{IsStep, IsLook, IsSure};
 
@@ -15,7 +15,9 @@ use esc_rows::object::{
     StoredObject, all_objects, clear_objects, delete_object, find_object, object_kinds, put_object,
 };
 use esc_rows::page::objects_from;
-use esc_rows::receipt::{Receipt, all_receipts, find_receipt, insert_receipt, last_receipt};
+use esc_rows::receipt::{
+    Receipt, all_receipts, find_receipt, insert_receipt, last_receipt, rows_of_verdict,
+};
 use esc_rows::step::{ChainStep, all_steps, clear_steps, insert_step};
 use esc_rows::undo::{StoredImage, clear_undo, delete_undo, insert_undo, select_undo};
 use sqlite::Alter;
@@ -247,6 +249,21 @@ impl<S: Alter> Store<S> {
             Err(fault) => return Err(fault),
         }
         let done = find_receipt(&mut self.conn, number, digest);
+        self.settle(done)
+    }
+
+    // The rows that the receipts of a verdict name.
+    pub(crate) fn rows_here(&mut self, alloc: Global, verdict: u32) -> Result<Vec<u32>, SFault>
+        ensures manifest { self.new.manifest ≡ self.old.manifest }
+        ensures writes { self.new.writes ≡ self.old.writes }
+        ensures sure { IsSure (state S.Store self.old.conn) (state S.Store self.new.conn) (Tells (λ c found. ListsRows verdict c found.items)) result }
+        ensures cause { IfErr result (λ fault. fault ≡ SFault.S4 → ⊥) }
+    {
+        match self.sound() {
+            Ok(()) => {}
+            Err(fault) => return Err(fault),
+        }
+        let done = rows_of_verdict(alloc, &mut self.conn, verdict);
         self.settle(done)
     }
 

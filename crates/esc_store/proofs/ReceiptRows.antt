@@ -1,0 +1,117 @@
+-- The rows of which receipts say that their deposits are held.
+use Rattle.std.proofs.Common.{◌≡◌, ◌⊎◌, inl, inr, ℕ, zero, suc, ◌<◌, ◌==◌, Bool, true, false, cond, List, [], ◌∷◌, length, map, filter, Option, Some, refl, sym, ap, subst, ◌∙◌, arith, eqb, true≢false}
+use Rattle.std.specs.Prelude.{IsSorted, slice_index_or}
+use Rattle.std.specs.List.{Contains, Any, AllPairs, dedup}
+use Rattle.std.specs.Ordering.{nat_cmp}
+use Rattle.std.proofs.lemmas.List.{get_or-map, length-map}
+use Rattle.std.proofs.lemmas.List.Elements.{All-from_get_or}
+use Rattle.std.proofs.lemmas.List.Kept.{AllPairs-from_increasing, Contains-dedup_nat, Contains-from_dedup}
+use Rattle.std.proofs.lemmas.List.Sorted.{IsPermutation-sym, Contains-permutation}
+use Rattle.std.proofs.lemmas.Map.Keys.{IsStrictlyIncreasing-dedup}
+use Rattle.esc_rows.specs.Rows.{ReceiptRow}
+use Rattle.esc_rows.specs.Content.{Content}
+use Rattle.esc_rows.specs.Changes.{is_of_verdict, ListsRows}
+use Rattle.esc_store.specs.declared.reply.Verdict.{Verdict}
+use Rattle.esc_store.specs.declared.reply.Verdict.TheVariants.{A1, A2, A3, A4}
+use Rattle.esc_store.specs.Decoded.{AreOnce}
+use Rattle.esc_store.specs.Kept.{Kept, IsRising, SaysHeld, AreHeldBy}
+use Rattle.esc_store.specs.ReplyValue.{ReceiptValue}
+use Rattle.esc_store.specs.TypedRows.{verdict_number, receipt_row, receipts_from, IsBooks}
+
+-- ---- each once
+
+rising : (xs : List ℕ) → AllPairs (λ x y. x < y) xs → IsRising xs
+rising [] pairs = tt
+rising (x ∷ xs) pairs = (All-from_get_or (λ y. x < y) xs 0 (λ k within. pairs 0 (suc k) 0 (omega arith) (omega (arith, within))), rising xs (λ i j d below within. pairs (suc i) (suc j) d (omega (arith, below)) (omega (arith, within))))
+
+pub are_once : (numbers : List ℕ) → IsSorted nat_cmp numbers → AreOnce numbers (dedup eqb numbers)
+are_once numbers up = record {
+  rising = rising (dedup eqb numbers) (AllPairs-from_increasing (dedup eqb numbers) (IsStrictlyIncreasing-dedup numbers up));
+  each = λ n. (Contains-from_dedup eqb numbers n, Contains-dedup_nat numbers n);
+}
+
+-- ---- elements of lists
+
+first_or_later : {X : Type 0} (x y : X) (xs : List X) → Contains (x ∷ xs) y → (x ≡ y) ⊎ Contains xs y
+first_or_later x y xs (zero, within, is) = inl is
+first_or_later x y xs (suc k, within, is) = inr (k, omega (arith, within), is)
+
+later : {X : Type 0} (x y : X) (xs : List X) → Contains xs y → Contains (x ∷ xs) y
+later x y xs (k, within, is) = (suc k, omega (arith, within), is)
+
+any_first : {X : Type 0} (P : X → Type 0) (x : X) (xs : List X) → P x → Any P (x ∷ xs)
+any_first P x xs p = (0, x, omega arith, refl, p)
+
+any_later : {X : Type 0} (P : X → Type 0) (x : X) (xs : List X) → Any P xs → Any P (x ∷ xs)
+any_later P x xs (k, y, within, is, p) = (suc k, y, omega (arith, within), is, p)
+
+any_split : {X : Type 0} (P : X → Type 0) (x : X) (xs : List X) → Any P (x ∷ xs) → P x ⊎ Any P xs
+any_split P x xs (zero, y, within, is, p) = inl (subst P (sym is) p)
+any_split P x xs (suc k, y, within, is, p) = inr (k, y, omega (arith, within), is, p)
+
+some_there : (xs : List ℕ) (n : ℕ) → Contains xs n → Contains (map (λ x. Some x) xs) (Some n)
+some_there xs n (k, within, is) = (k, omega (arith, within, length-map xs (λ (x : ℕ). Some x)), get_or-map (λ x. Some x) xs k n (Some n) within ∙ ap (λ x. Some x) is)
+
+some_back : (xs : List ℕ) (n : ℕ) → Contains (map (λ x. Some x) xs) (Some n) → Contains xs n
+some_back xs n (k, within, is) =
+    let inside : k < length xs = omega (arith, within, length-map xs (λ (x : ℕ). Some x)) in
+    let same : Some (slice_index_or xs k n) ≡ Some n = sym (get_or-map (λ x. Some x) xs k n (Some n) inside) ∙ is in
+    let one : slice_index_or xs k n ≡ n = cc in
+    (k, inside, one)
+
+-- ---- the receipts of the verdict A1
+
+abbrev row_in : ReceiptRow → Option ℕ
+row_in r = r.row
+
+-- the receipts of the verdict, and the rows that they name
+abbrev a1_from : ℕ → List ReceiptValue → List ReceiptRow
+a1_from n rs = filter (is_of_verdict 1) (receipts_from n rs)
+
+abbrev rows_from : ℕ → List ReceiptValue → List (Option ℕ)
+rows_from n rs = map row_in (a1_from n rs)
+
+is_a1 : (v : Verdict) → (verdict_number v == 1) ≡ true → v ≡ A1
+is_a1 A1 is = refl
+is_a1 A2 is = absurd (true≢false (sym is))
+is_a1 (A3 n) is = absurd (true≢false (sym is))
+is_a1 A4 is = absurd (true≢false (sym is))
+
+said : (row n : ℕ) (rs : List ReceiptValue) → Contains (rows_from n rs) (Some row) → Any (SaysHeld row) rs
+said row n [] there = absurd (omega (arith, there.1))
+said row n (r ∷ rs) there = by_test (verdict_number r.verdict == 1) refl there (said row (suc n) rs)
+  where
+    by_test : (b : Bool) → (verdict_number r.verdict == 1) ≡ b → Contains (map row_in (cond b (receipt_row n r ∷ a1_from (suc n) rs) (a1_from (suc n) rs))) (Some row) → (Contains (rows_from (suc n) rs) (Some row) → Any (SaysHeld row) rs) → Any (SaysHeld row) (r ∷ rs)
+    by_test true is there more = elim (first_or_later r.row (Some row) (rows_from (suc n) rs) there) [ inl here ↦ any_first (SaysHeld row) r rs (is_a1 r.verdict is, here) | inr behind ↦ any_later (SaysHeld row) r rs (more behind) ]
+    by_test false is there more = any_later (SaysHeld row) r rs (more there)
+
+named : (row n : ℕ) (rs : List ReceiptValue) → Any (SaysHeld row) rs → Contains (rows_from n rs) (Some row)
+named row n [] any = absurd (omega (arith, any.2))
+named row n (r ∷ rs) any = by_case (any_split (SaysHeld row) r rs any) (named row (suc n) rs)
+  where
+    kept : (b : Bool) → Contains (rows_from (suc n) rs) (Some row) → Contains (map row_in (cond b (receipt_row n r ∷ a1_from (suc n) rs) (a1_from (suc n) rs))) (Some row)
+    kept true there = later r.row (Some row) (rows_from (suc n) rs) there
+    kept false there = there
+
+    by_case : SaysHeld row r ⊎ Any (SaysHeld row) rs → (Any (SaysHeld row) rs → Contains (rows_from (suc n) rs) (Some row)) → Contains (map row_in (cond (verdict_number r.verdict == 1) (receipt_row n r ∷ a1_from (suc n) rs) (a1_from (suc n) rs))) (Some row)
+    by_case (inl (is, here)) more = subst (λ v. Contains (map row_in (cond (verdict_number v == 1) (receipt_row n r ∷ a1_from (suc n) rs) (a1_from (suc n) rs))) (Some row)) (sym is) (0, omega arith, here)
+    by_case (inr there) more = kept (verdict_number r.verdict == 1) (more there)
+
+abbrev rows_named : List ReceiptRow → List (Option ℕ)
+rows_named rs = map row_in (filter (is_of_verdict 1) rs)
+
+abbrev numbered : List ℕ → List (Option ℕ)
+numbered = map (λ n. Some n)
+
+pub are_held_by : (k : Kept) (c : Content) (numbers rows : List ℕ) → IsBooks c k → ListsRows 1 c numbers → AreOnce numbers rows → AreHeldBy k.receipts rows
+are_held_by k c numbers rows books lists once = record { rising = once.rising; each = λ row. (down row, up row) }
+  where
+    down : (row : ℕ) → Contains rows row → Any (SaysHeld row) k.receipts
+    down row there =
+        let moved = Contains-permutation (numbered numbers) (rows_named c.receipts) (Some row) (IsPermutation-sym (rows_named c.receipts) (numbered numbers) lists.same) (some_there numbers row ((once.each row).0 there)) in
+        said row 1 k.receipts (subst (λ rs. Contains (rows_named rs) (Some row)) books.receipts moved)
+
+    up : (row : ℕ) → Any (SaysHeld row) k.receipts → Contains rows row
+    up row any =
+        let there = subst (λ rs. Contains (rows_named rs) (Some row)) (sym books.receipts) (named row 1 k.receipts any) in
+        (once.each row).1 (some_back numbers row (Contains-permutation (rows_named c.receipts) (numbered numbers) (Some row) lists.same there))
