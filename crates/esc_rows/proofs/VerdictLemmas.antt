@@ -4,7 +4,7 @@ use Rattle.std.specs.Prelude.{IsPermutation, IsSorted}
 use Rattle.std.specs.List.{AllByRecursion}
 use Rattle.std.proofs.lemmas.List.{get_or-map, length-map}
 use Rattle.std.proofs.lemmas.List.Elements.{recursion_from_All, All-from_recursion}
-use Rattle.std.proofs.lemmas.List.Sorted.{All-permutation, IsPermutation-map, IsNonDecreasingBy-from_sort}
+use Rattle.std.proofs.lemmas.List.Sorted.{All-permutation, IsPermutation-map}
 use Rattle.sqlite_value.specs.declared.keys.Key.{Key}
 use Rattle.sqlite_value.specs.declared.value.Value.{Value}
 use Rattle.sqlite_value.specs.declared.value.Value.TheVariants.{Int}
@@ -104,9 +104,9 @@ lists_rows verdict c rows found shows are =
     let same : IsPermutation (map row_value passed) (map number_value found) = subst (IsPermutation (map row_value passed)) (sym are) shows.same in
     let named : map row_in (map row_value passed) ≡ map (λ (r : ReceiptRow). r.row) passed = map-map row_in row_value passed ∙ map_same _ (λ (r : ReceiptRow). r.row) (λ r. row_back r.row) passed in
     record {
-      sorted = IsNonDecreasingBy-from_sort (λ n. n) found (λ k d low high.
+      sorted = λ k d low high.
           let a = get_or found (k + 1) d in
           let b = get_or found k d in
-          ap is_lt (sym (value_cmp-Int (pos a) (pos b) ∙ number_cmp a b)) ∙ sorted-unmap number_value value_cmp found up k d low high);
+          ap is_lt (sym (value_cmp-Int (pos a) (pos b) ∙ number_cmp a b)) ∙ sorted-unmap number_value value_cmp found up k d low high;
       same = subst (λ os. IsPermutation os (map (λ n. Some n) found)) named (subst (IsPermutation (map row_in (map row_value passed))) (map-map row_in number_value found) (IsPermutation-map row_in (map row_value passed) (map number_value found) same));
     }

@@ -1,15 +1,17 @@
 -- What the calls of a change as a registry keep, and what they make.
-use Rattle.std.proofs.Common.{◌≡◌, refl, sym, subst}
+use Rattle.std.proofs.Common.{◌≡◌, refl, sym, subst, ◌∙◌, Option, Some, None}
 use Rattle.std.specs.Prelude.{Result, Ok, Err, OnOk}
 use Rattle.sqlite_trees.specs.declared.store.Store.{Ghosts}
 use Rattle.sqlite.specs.Held.{state}
+use Rattle.sqlite.specs.State.{HasCleanDisk}
+use Rattle.esc_manifest.specs.declared.row.MRow.{MRow}
 use Rattle.esc_apply.specs.Registry.{State as Tables}
 use Rattle.esc_rows.specs.Content.{Content}
 use Rattle.esc_store.specs.declared.store.Store.{Store}
 use Rattle.esc_store.specs.declared.change.Change.{Change}
 use Rattle.esc_store.specs.Kept.{Kept}
 use Rattle.esc_store.specs.TypedRows.{IsBooks, IsRegistry}
-use Rattle.esc_store.specs.Standing.{IsBegun, IsMade, IsStep, BeganIn, RestIn, HoldsIn, GoesOn, Follows}
+use Rattle.esc_store.specs.Standing.{IsBegun, IsMade, IsUnderWay, IsStep, BeganIn, RestIn, HoldsIn, GoesOn, Follows}
 use Rattle.esc_store.proofs.Parts.{Turns, begun_on, made_on, made_kept, under_way_on}
 
 module _ {S : Type 0} (g : Ghosts S) {X E : Type 0} (old new : Store S) (R : Content → Content → Type 0) (r : Result X E) (manifest : new.manifest ≡ old.manifest)

@@ -1,12 +1,12 @@
 -- What a read within a change leaves as it was, and what it says.
-use Rattle.std.proofs.Common.{◌≡◌, List, true, false, refl, sym, subst, ◌∙◌}
-use Rattle.std.specs.Prelude.{Result, Ok, Err, IfOk, OnOk, OnErr}
+use Rattle.std.proofs.Common.{◌≡◌, List, Bool, true, false, refl, sym, ap, subst, ◌∙◌}
+use Rattle.std.specs.Prelude.{IsTrue, Result, Ok, Err, IfOk, OnOk, OnErr}
 use Rattle.std.proofs.lemmas.Bool.{cases_Bool}
 use Rattle.std.proofs.Common.{inl, inr}
 use Rattle.sqlite_trees.specs.declared.store.Store.{Ghosts}
 use Rattle.sqlite.specs.Effect.{Database}
 use Rattle.sqlite.specs.Held.{state}
-use Rattle.sqlite.specs.State.{State, HasCleanDisk, Shows}
+use Rattle.sqlite.specs.State.{State, HasCleanDisk, KeepsCommit, Shows, IsUnchanged}
 use Rattle.esc_manifest.specs.declared.row.MRow.{MRow}
 use Rattle.esc_apply.specs.Registry.{State as Tables}
 use Rattle.esc_rows.specs.Content.{Content, content_in}
@@ -16,8 +16,8 @@ use Rattle.esc_store.specs.declared.change.Change.{Change}
 use Rattle.esc_store.specs.Kept.{Kept}
 use Rattle.esc_store.specs.TypedRows.{IsBooks, IsRegistry}
 use Rattle.esc_store.specs.Tables.{IsStoreDatabase, HoldsTables}
-use Rattle.esc_store.specs.Standing.{IsBegun, IsMade, IsUnderWay, IsLook, BeganIn, RestIn, HoldsIn, Follows}
-use Rattle.esc_store.proofs.Ends.{at_said, was_clean}
+use Rattle.esc_store.specs.Standing.{IsBegun, IsMade, IsUnderWay, IsLook, BeganIn, RestIn, HoldsIn, GoesOn, Follows}
+use Rattle.esc_store.proofs.Ends.{at_ok, at_said, was_clean, begun_committed}
 use Rattle.esc_store.proofs.Parts.{not_both}
 
 module _ {X E : Type 0} (old new : State) (P : Content → X → Type 0) (r : Result X E) (on : OnOk r (old.in_transaction ≡ true)) (look : IsLook old new (Tells P) r) where

@@ -1,23 +1,26 @@
 -- What a part of a change does to what the change has made.
-use Rattle.std.proofs.Common.{◌≡◌, Bool, true, false, List, refl, sym, subst, ◌∙◌}
-use Rattle.std.specs.Prelude.{IsTrue, Result, Ok, Err, IfOk, OnErr, IsErr}
+use Rattle.std.proofs.Common.{◌≡◌, ◌⊎◌, inl, inr, Bool, true, false, List, refl, sym, ap, subst, ◌∙◌, arith}
+use Rattle.std.specs.Prelude.{IsTrue, Result, Ok, Err, IfOk, OnOk, OnErr, IsErr}
+use Rattle.std.proofs.lemmas.Bool.{cases_Bool}
 use Rattle.sqlite_trees.specs.declared.store.Store.{Ghosts}
+use Rattle.sqlite_trees.specs.Tree.{Trees}
 use Rattle.sqlite.specs.Effect.{Database}
 use Rattle.sqlite.specs.Held.{Held, state}
-use Rattle.sqlite.specs.State.{State, HasCleanDisk, Survives, KeepsCommit}
+use Rattle.sqlite.specs.State.{State, HasCleanDisk, Survives, KeepsCommit, Shows, IsUnchanged}
 use Rattle.sqlite.proofs.StateLemmas.{survives_then}
 use Rattle.esc_manifest.specs.declared.row.MRow.{MRow}
 use Rattle.esc_apply.specs.Registry.{State as Tables}
+use Rattle.esc_rows.specs.Schema.{store_schema}
 use Rattle.esc_rows.specs.Content.{Content, content_in, HoldsContent}
 use Rattle.esc_rows.specs.ContentIs.{content_is}
 use Rattle.esc_rows.specs.Part.{IsPart, IsRead}
 use Rattle.esc_store.specs.declared.store.Store.{Store}
 use Rattle.esc_store.specs.Kept.{Kept}
 use Rattle.esc_store.specs.TypedRows.{IsBooks, IsRegistry}
-use Rattle.esc_store.specs.Tables.{IsStoreDatabase, HoldsTables}
-use Rattle.esc_store.specs.Standing.{IsBegun, IsMade, IsUnderWay, IsGivenUp, IsStep, IsLook}
+use Rattle.esc_store.specs.Tables.{IsKept, IsStore, IsStoreDatabase, HoldsTables}
+use Rattle.esc_store.specs.Standing.{IsAtRest, IsStanding, IsBegun, IsMade, IsUnderWay, IsGivenUp, IsStep, IsLook}
 use Rattle.esc_store.proofs.Standings.{survives_same}
-use Rattle.esc_store.proofs.Ends.{at_ok, at_said, was_clean, keeps_then, begun_committed}
+use Rattle.esc_store.proofs.Ends.{at_ok, at_said, at_err, was_clean, keeps_then, tables_of, begun_committed}
 
 keeps_same : (s : State) → KeepsCommit s s
 keeps_same s = record { was_open = λ up. up; committed = λ up. refl }

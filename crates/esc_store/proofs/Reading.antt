@@ -1,23 +1,24 @@
 -- What the reads of a store answer.
-use Rattle.std.proofs.Common.{◌≡◌, ℕ, zero, suc, ◌+◌, ◌<◌, Bool, true, false, List, [], ◌∷◌, length, map, get_or, Option, refl, sym, ap, subst, ◌∙◌, arith, inl, inr}
-use Rattle.std.specs.Prelude.{Result, Ok, Err, IfOk, option_map, pos, ◌<ℤ◌, IsSome}
+use Rattle.std.proofs.Common.{◌≡◌, ℕ, zero, suc, ◌+◌, ◌<◌, Bool, true, false, List, [], ◌∷◌, length, map, get_or, Option, None, Some, refl, sym, ap, subst, ◌∙◌, arith, inl, inr}
+use Rattle.std.specs.Prelude.{Result, Ok, Err, IfOk, option_map, pos, ◌<ℤ◌, All, IsSome, ◌==◌, ◌↔◌}
 use Rattle.std.specs.List.{AllByRecursion, Contains}
 use Rattle.std.specs.Ordering.{int_eq}
-use Rattle.std.proofs.lemmas.Bool.{cases_Bool}
+use Rattle.std.proofs.lemmas.Bool.{cases_Bool, eqb-true}
 use Rattle.std.proofs.lemmas.Bool.Decides.{nat_tests}
 use Rattle.std.proofs.lemmas.Int.{ints}
 use Rattle.std.proofs.lemmas.List.Elements.{All-from_recursion}
 use Rattle.sqlite_trees.specs.declared.store.Store.{Ghosts}
-use Rattle.sqlite_keyed.specs.Keyed.{IsKeyedBy}
-use Rattle.esc_rows.specs.Rows.{HeldRow, held_number}
+use Rattle.sqlite_keyed.specs.Keyed.{IsKeyedBy, get_by}
+use Rattle.esc_manifest.specs.declared.row.MRow.{MRow}
+use Rattle.esc_rows.specs.Rows.{ReceiptRow, HeldRow, held_number}
 use Rattle.esc_rows.specs.Content.{Content}
 use Rattle.esc_rows.specs.Changes.{last_number, body_of, receipt_of}
 use Rattle.esc_rows.specs.declared.receipt.Receipt.{Receipt}
 use Rattle.esc_rows.specs.Entries.{receipt_row as stored_row}
 use Rattle.esc_store.specs.declared.store.Store.{Store}
 use Rattle.esc_store.specs.Kept.{Kept, IsRising, AreHeld}
-use Rattle.esc_store.specs.ReplyValue.{ReceiptValue, ReplyValue, reply_alike}
-use Rattle.esc_store.specs.TypedRows.{receipts_from, IsBooks}
+use Rattle.esc_store.specs.ReplyValue.{ReceiptValue, ReplyValue, reply_kept, reply_alike}
+use Rattle.esc_store.specs.TypedRows.{receipt_row, receipts_from, IsBooks}
 use Rattle.esc_store.specs.Standing.{IsTold, Stands}
 
 pub if_goes : {X E : Type 0} (r : Result X E) (P Q : X → Type 0) → IfOk r P → ((x : X) → P x → Q x) → IfOk r Q

@@ -1,6 +1,6 @@
 -- What the statements on objects and before-images do to tables and before-images by keys.
-use Rattle.std.proofs.Common.{◌≡◌, inl, inr, ℕ, Bool, true, false, List, [], Option, None, Some, refl, sym, ap, subst, ◌∙◌, arith}
-use Rattle.std.specs.Prelude.{◌==◌, ◌&&◌, if◌then◌else◌, bytes_eq, option_map, IsSome, IfSome}
+use Rattle.std.proofs.Common.{◌≡◌, ◌⊎◌, inl, inr, ℕ, Bool, true, false, List, [], ◌∷◌, Option, None, Some, refl, sym, ap, subst, ◌∙◌, arith}
+use Rattle.std.specs.Prelude.{◌==◌, ◌&&◌, if◌then◌else◌, bytes_eq, option_map, IsSome, IfSome, is_some}
 use Rattle.std.specs.Option.{option_and_then}
 use Rattle.std.proofs.lemmas.Bool.{cases_Bool, eqb-true}
 use Rattle.std.proofs.lemmas.Bool.Decides.{nat_tests}
@@ -14,14 +14,15 @@ use Rattle.esc_tables.specs.ObjectValue.{ObjectValue}
 use Rattle.esc_record.specs.Record.{record_of}
 use Rattle.esc_record.proofs.Objects.{alone}
 use Rattle.std.proofs.lemmas.List.{append-nil}
-use Rattle.esc_apply.specs.Registry.{State, Befores, empty, nothing, with_key, written, noted, taken}
+use Rattle.esc_apply.specs.Registry.{State, Befores, empty, nothing, with_key, with_step, written, noted, taken}
 use Rattle.esc_apply.specs.Registry.{Content as Objects}
 use Rattle.esc_apply.proofs.Keys.{key_itself, same_key}
-use Rattle.esc_rows.specs.Rows.{ObjectRow}
+use Rattle.esc_rows.specs.Rows.{ObjectRow, UndoRow}
 use Rattle.esc_rows.specs.Content.{Content, content_in, HoldsContent, object_at, image_at, is_same_key, is_same_image}
 use Rattle.esc_rows.specs.Changes.{PutsObject, RemovesObject, without_objects, PutsImage, RemovesImages, without_undo, Becomes}
 use Rattle.esc_store.specs.Kept.{Kept}
 use Rattle.esc_store.specs.TypedRows.{kind_at, at_key, record_at, image_kept, IsBooks, IsRegistry}
+use Rattle.esc_store.specs.Tables.{HoldsTables}
 use Rattle.esc_store.proofs.Parts.{Turns, becomes}
 
 -- ---- kinds by number

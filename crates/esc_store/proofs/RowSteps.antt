@@ -1,14 +1,15 @@
 -- What parts do to rows, receipts, bodies and steps.
-use Rattle.std.proofs.Common.{◌≡◌, ℕ, zero, suc, take, get_or, ◌+◌, ◌<◌, ◌≤◌, Bool, true, false, List, [], ◌∷◌, ◌++◌, length, map, Some, refl, sym, ap, subst, ◌∙◌, arith}
-use Rattle.std.specs.Prelude.{IsTrue, Result, Ok, Err, OnOk, pos, ◌<ℤ◌, ℤ, ◌==◌, if◌then◌else◌, option_map}
+use Rattle.std.proofs.Common.{◌≡◌, ◌⊎◌, inl, inr, ℕ, zero, suc, take, get_or, ◌+◌, ◌<◌, ◌≤◌, Bool, true, false, List, [], ◌∷◌, ◌++◌, length, map, Option, None, Some, refl, sym, ap, subst, ◌∙◌, arith}
+use Rattle.std.specs.Prelude.{IsTrue, Result, Ok, Err, IfOk, OnOk, OnErr, pos, ◌<ℤ◌, ℤ, ◌==◌, if◌then◌else◌, option_map}
 use Rattle.std.specs.List.{AllByRecursion}
 use Rattle.std.proofs.lemmas.Int.{ints}
 use Rattle.std.proofs.lemmas.List.{length-map, length-take-le, get_or-map, take_more}
+use Rattle.sqlite_trees.specs.Tree.{Trees}
 use Rattle.esc_rows.specs.declared.step.ChainStep.{ChainStep}
 use Rattle.esc_apply.specs.declared.front.Step.{Step}
 use Rattle.esc_rows.specs.Entries.{step_row}
 use Rattle.sqlite.specs.Effect.{Database}
-use Rattle.sqlite.specs.State.{State, HasCleanDisk}
+use Rattle.sqlite.specs.State.{State, HasCleanDisk, Survives, KeepsCommit, Shows, IsUnchanged}
 use Rattle.sqlite.proofs.StateLemmas.{survives_then}
 use Rattle.sqlite_keyed.specs.Keyed.{IsKeyedBy, get_by, insert_by}
 use Rattle.sqlite_keyed.proofs.KeyedLemmas.{same_int, lt_from_Less}
@@ -21,12 +22,13 @@ use Rattle.esc_rows.specs.Rows.{ReceiptRow, StepRow, HeldRow, receipt_number, he
 use Rattle.esc_rows.specs.Content.{Content, content_in, HoldsContent}
 use Rattle.esc_rows.specs.Changes.{Tells, AddsReceipt, AddsStep, HoldsBody, Becomes, without_steps, last_number, body_of}
 use Rattle.esc_apply.specs.Registry.{State as Tables}
-use Rattle.esc_store.specs.Kept.{Kept, with_receipt, with_body, with_steps}
+use Rattle.esc_store.specs.Kept.{Kept, with_receipt, with_body, with_steps, body_put}
 use Rattle.esc_store.specs.ReplyValue.{ReceiptValue}
 use Rattle.esc_store.specs.TypedRows.{IsBooks, IsRegistry, receipt_row, receipts_from, steps_from}
+use Rattle.esc_store.specs.Tables.{HoldsTables}
 use Rattle.esc_store.specs.Steps.{with_receipt_row, AddsNext, with_step_rows, SetsSteps}
 use Rattle.esc_store.specs.Standing.{IsStep, IsSure}
-use Rattle.esc_store.proofs.Ends.{at_said, was_clean, keeps_then}
+use Rattle.esc_store.proofs.Ends.{at_ok, at_said, was_clean, keeps_then}
 use Rattle.esc_store.proofs.Parts.{Turns, becomes}
 
 -- ---- receipts

@@ -1,5 +1,5 @@
 -- What a store stands for, and a change of it while it is on.
-use Rattle.std.specs.Prelude.{◌≡◌, true, false, IsTrue, List, Result, IfOk, OnOk, OnErr}
+use Rattle.std.specs.Prelude.{◌≡◌, Bool, true, false, IsTrue, List, Result, IfOk, OnOk, OnErr}
 use Rattle.sqlite_trees.specs.declared.store.Store.{Ghosts}
 use Rattle.sqlite_trees.specs.Tree.{Trees}
 use Rattle.sqlite.specs.Effect.{Database}

@@ -1,5 +1,5 @@
 -- What a store's parts do to its rows.
-use Rattle.std.specs.Prelude.{ℕ, List, [], ◌∷◌, ◌++◌}
+use Rattle.std.specs.Prelude.{◌≡◌, ℕ, List, [], ◌∷◌, ◌++◌, map}
 use Rattle.sqlite.specs.Effect.{Database}
 use Rattle.esc_rows.specs.Rows.{ReceiptRow}
 use Rattle.esc_rows.specs.Content.{Content}

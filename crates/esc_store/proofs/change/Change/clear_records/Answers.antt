@@ -1,5 +1,8 @@
-use Rattle.std.proofs.Common.{refl}
+use Rattle.std.proofs.Common.{◌≡◌, refl, ap, ◌∙◌, Some, None}
 use Rattle.sqlite.specs.Held.{state}
+use Rattle.esc_envelope.specs.Kinds.{kind_rank}
+use Rattle.esc_tables.specs.KeyName.{KeyName}
+use Rattle.esc_apply.specs.Registry.{written, noted, taken, empty}
 use Rattle.esc_store.proofs.Parts.{step_turns}
 use Rattle.esc_store.proofs.Registries.{DropsObjects, objects_turn, books_no_objects, objects_gone, no_objects}
 use Rattle.esc_store.proofs.Following.{on_ok, follows_step, holds_step}

@@ -1,6 +1,8 @@
-use Rattle.std.proofs.Common.{refl, ap, ◌∙◌}
+use Rattle.std.proofs.Common.{◌≡◌, refl, ap, ◌∙◌}
+use Rattle.std.specs.Prelude.{option_map}
 use Rattle.esc_envelope.specs.Kinds.{kind_rank}
 use Rattle.esc_tables.specs.KeyName.{KeyName}
+use Rattle.esc_rows.specs.Content.{object_at}
 use Rattle.esc_store.proofs.Registries.{record_found}
 use Rattle.esc_store.proofs.Looking.{if_ok, follows_look, holds_look, says_look}
 use Rattle.esc_store.proofs.change.Change.find_record.Goals as goal

@@ -1,6 +1,8 @@
-use Rattle.std.proofs.Common.{refl}
+use Rattle.std.proofs.Common.{◌≡◌, refl, ap, ◌∙◌, Some, None}
 use Rattle.sqlite.specs.Held.{state}
-use Rattle.esc_apply.specs.Registry.{taken}
+use Rattle.esc_envelope.specs.Kinds.{kind_rank}
+use Rattle.esc_tables.specs.KeyName.{KeyName}
+use Rattle.esc_apply.specs.Registry.{written, noted, taken, empty}
 use Rattle.esc_store.proofs.Parts.{step_turns}
 use Rattle.esc_store.proofs.Registries.{DropsImages, drop_turns, books_images, drop_registry}
 use Rattle.esc_store.proofs.Following.{on_ok, follows_step, holds_step}

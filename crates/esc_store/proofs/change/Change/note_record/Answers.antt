@@ -1,8 +1,8 @@
-use Rattle.std.proofs.Common.{refl, ap, ◌∙◌}
+use Rattle.std.proofs.Common.{◌≡◌, refl, ap, ◌∙◌, Some, None}
 use Rattle.sqlite.specs.Held.{state}
 use Rattle.esc_envelope.specs.Kinds.{kind_rank}
 use Rattle.esc_tables.specs.KeyName.{KeyName}
-use Rattle.esc_apply.specs.Registry.{noted}
+use Rattle.esc_apply.specs.Registry.{written, noted, taken, empty}
 use Rattle.std.specs.Prelude.{option_map}
 use Rattle.esc_store.proofs.Parts.{step_turns}
 use Rattle.esc_store.proofs.Registries.{PutsOneImage, image_turns, books_images, note_registry, key_note}

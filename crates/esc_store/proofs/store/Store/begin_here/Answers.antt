@@ -1,8 +1,8 @@
-use Rattle.std.proofs.Common.{◌∙◌}
+use Rattle.std.proofs.Common.{◌≡◌, ◌∙◌}
 use Rattle.sqlite.specs.Held.{state}
 use Rattle.sqlite.proofs.StateLemmas.{survives_then}
 use Rattle.esc_store.specs.Standing.{Stands, BeganIn, RestIn, HoldsIn}
-use Rattle.esc_store.proofs.Ends.{ok_goes, err_goes, at_ok, began, made, under_way, given_up, keeps_then, was_clean}
+use Rattle.esc_store.proofs.Ends.{ok_goes, err_goes, at_ok, at_err, began, made, under_way, given_up, keeps_then, was_clean}
 use Rattle.esc_store.proofs.store.Store.begin_here.Goals as goal
 
 pub returns-clause-began : goal.returns-clause-began

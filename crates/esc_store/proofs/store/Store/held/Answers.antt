@@ -1,4 +1,4 @@
-use Rattle.std.proofs.Common.{◌∙◌}
+use Rattle.std.proofs.Common.{◌≡◌, ◌∙◌, ap}
 use Rattle.esc_store.proofs.Reading.{if_goes, are_held}
 use Rattle.esc_store.proofs.store.Store.held.Goals as goal
 
