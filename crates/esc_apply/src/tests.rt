@@ -69,16 +69,8 @@ fn key(alloc: Global, kind: Kind, name: &str) -> Result<Key, NoMemory> {
 
 // An object of one row with the sponsoring registrar.
 fn object(alloc: Global, name: &str, sponsor: &str) -> Result<Object, NoMemory> {
-    let mut cells = Vec::new(alloc);
-    for (field, text) in [("name", name), ("clID", sponsor)] {
-        cells.push((
-            String::from_str(alloc, field)?,
-            String::from_str(alloc, text)?,
-        ))?;
-    }
-    let table = String::from_str(alloc, "table")?;
     Ok(Object {
-        parent: Row { table, cells },
+        parent: Row::from_cells(alloc, "table", &[("name", name), ("clID", sponsor)])?,
         children: Vec::new(alloc),
     })
 }
@@ -292,8 +284,8 @@ fn contents_come_after_deletes(rt: HostRuntime) -> Result<(), Fail> {
     );
     let domain = key(alloc, Kind::Domain, "a.example")?;
     let found = r.get(alloc, &domain)?.ok_or("no domain")?;
-    let cell = found.parent.cells.last().ok_or("no cell")?;
-    assert_eq!(rt; cell.1.as_str(), "R2");
+    let (_, text) = found.parent.cell(1).ok_or("no cell")?;
+    assert_eq!(rt; text, "R2");
     Ok(())
 }
 
@@ -357,8 +349,8 @@ fn objects_of_a_map_come_by_key(rt: HostRuntime) -> Result<(), Fail> {
     for name in ["R1", "C1", "a.example", "b.example"] {
         let (key, object) = objects.next()?.ok_or("no more objects")?;
         assert_eq!(rt; key.text.as_str(), name);
-        let cell = object.parent.cells.first().ok_or("no cell")?;
-        assert_eq!(rt; cell.1.as_str(), name);
+        let (_, text) = object.parent.cell(0).ok_or("no cell")?;
+        assert_eq!(rt; text, name);
     }
     assert!(rt; objects.next()?.is_none());
     assert!(rt; objects.next()?.is_none());

@@ -52,10 +52,7 @@ fn domain(alloc: Global) -> Result<Key, Fail> {
 
 fn object(alloc: Global) -> Result<Object, Fail> {
     Ok(Object {
-        parent: Row {
-            table: String::from_str(alloc, "domain")?,
-            cells: Vec::new(alloc),
-        },
+        parent: Row::from_cells(alloc, "domain", &[])?,
         children: Vec::new(alloc),
     })
 }

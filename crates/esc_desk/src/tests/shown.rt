@@ -44,12 +44,13 @@ pub(crate) fn line_of_reply(alloc: Global, reply: &Reply) -> Result<String, Fail
 }
 
 fn push_row(text: &mut String, row: &Row) -> Result<(), Fail> {
-    text.push_str(row.table.as_str())?;
-    for (field, cell) in &row.cells {
+    text.push_str(row.table())?;
+    for at in 0..row.len() {
+        let (field, cell) = row.cell(at).ok_or("no cell")?;
         text.push_str(" ")?;
-        text.push_str(field.as_str())?;
+        text.push_str(field)?;
         text.push_str("=")?;
-        text.push_str(cell.as_str())?;
+        text.push_str(cell)?;
     }
     Ok(())
 }
