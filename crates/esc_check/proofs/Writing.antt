@@ -1,5 +1,5 @@
 -- A text is written piece by piece.
-use Rattle.std.proofs.Common.{◌≡◌, ℕ, ◌+◌, ◌<◌, List, [], ◌∷◌, ◌++◌, length, get_or, take, drop, map, true, false, refl, sym, ap, ◌∙◌, append_assoc, String, Global}
+use Rattle.std.proofs.Common.{◌≡◌, ℕ, ◌+◌, ◌<◌, List, [], ◌∷◌, ◌++◌, length, get_or, take, drop, map, true, false, Some, slice_get, refl, sym, ap, ◌∙◌, append_assoc}
 use Rattle.std.specs.Prelude.{count_by}
 use Rattle.std.proofs.lemmas.List.{drop_more, take_more}
 use Rattle.std.proofs.lemmas.List.Concat.{flat_map-append}
@@ -8,8 +8,9 @@ use Rattle.std.proofs.lemmas.Slice.Eq.{bytes_eq-Decides}
 use Rattle.esc_envelope.specs.declared.kind.Kind.{Kind}
 use Rattle.esc_envelope.specs.Kinds.{is_kind}
 use Rattle.esc_tables.specs.KeyName.{KeyName}
-use Rattle.esc_tables.specs.ObjectValue.{RowValue, ObjectValue, cell_texts}
+use Rattle.esc_tables.specs.ObjectValue.{RowValue, ObjectValue}
 use Rattle.esc_check.specs.Lines.{Line, line_text, text_of}
+use Rattle.esc_check.proofs.Cells.{Cell, cells_from}
 use Rattle.esc_check.specs.Export.{cell_line, row_lines, is_in, number_behind, child_lines, object_lines, export_lines}
 
 -- the front of what is left has been added
@@ -21,13 +22,12 @@ pub text_of-append : (a b : List Line) → text_of (a ++ b) ≡ text_of a ++ tex
 text_of-append a b = flat_map-append line_text a b
 
 -- the lines of cells
-abbrev pub cells_text : KeyName → ℕ → List ℕ → List (String Global × String Global) → List ℕ
-cells_text k n table cells = text_of (map (cell_line k n table) (map cell_texts cells))
+abbrev pub cells_text : KeyName → ℕ → List ℕ → List Cell → List ℕ
+cells_text k n table cells = text_of (map (cell_line k n table) cells)
 
-pub cells_more : (k : KeyName) (n : ℕ) (table : List ℕ) (cells : List (String Global × String Global)) (i : ℕ) (x : String Global × String Global) → i < length cells → x ≡ get_or cells i x
-    → cells_text k n table (drop i cells) ≡ line_text (cell_line k n table (cell_texts x)) ++ cells_text k n table (drop (i + 1) cells)
-cells_more k n table cells i x within is =
-    ap (cells_text k n table) (drop_more cells i x within ∙ ap (λ (y : String Global × String Global). y ∷ drop (i + 1) cells) (sym is))
+pub cells_more : (k : KeyName) (n : ℕ) (table : List ℕ) (cells : List Cell) (i : ℕ) (x : Cell) → Some x ≡ slice_get cells i
+    → cells_text k n table (drop i cells) ≡ line_text (cell_line k n table x) ++ cells_text k n table (drop (i + 1) cells)
+cells_more k n table cells i x is = ap (cells_text k n table) (cells_from cells i x is)
 
 -- the first of the child rows that are left, and the others
 pub children_more : (k : KeyName) (rows : List RowValue) (i : ℕ) (x : RowValue) → i < length rows → x ≡ get_or rows i x

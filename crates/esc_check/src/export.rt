@@ -94,8 +94,8 @@ fn write_children(
     let mut table = "";
     let mut number = 0;
     for (index, row) in children.iter().enumerate() {
-        number = number_behind(&children[..index], table, number, row.table.as_str());
-        table = row.table.as_str();
+        number = number_behind(&children[..index], table, number, row.table());
+        table = row.table();
         write_row(alloc, lines, key, number, row)?;
     }
     Ok(())
@@ -117,9 +117,7 @@ fn number_behind(earlier: &[Row], last: &str, number: usize, table: &str) -> usi
 fn count_in(rows: &[Row], table: &str) -> usize
     ensures { result ≡ count_by (is_in table.now) rows.now }
 {
-    rows.iter()
-        .filter(|row| row.table.as_str() == table)
-        .count()
+    rows.iter().filter(|row| row.table() == table).count()
 }
 
 fn decimal_text(alloc: Global, number: usize) -> Result<String, NoMemory>
@@ -138,15 +136,10 @@ fn write_row(
     ensures { OnOk result (lines.new ≡ lines.old ++ text_of (row_lines key.now number row.now)) }
 {
     let text = decimal_text(alloc, number)?;
-    for (field, value) in &row.cells {
-        write_cell(
-            lines,
-            key,
-            text.as_str(),
-            row,
-            field.as_str(),
-            value.as_str(),
-        )?;
+    for at in 0..row.len() {
+        if let Some((field, value)) = row.cell(at) {
+            write_cell(lines, key, text.as_str(), row, field, value)?;
+        }
     }
     Ok(())
 }
@@ -165,7 +158,7 @@ fn write_cell(
         lines,
         key.kind.name().as_bytes(),
         key.text.as_str().as_bytes(),
-        row.table.as_str().as_bytes(),
+        row.table().as_bytes(),
         number.as_bytes(),
         field.as_bytes(),
         value.as_bytes(),

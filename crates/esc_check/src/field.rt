@@ -90,9 +90,11 @@ pub fn is_domain(kind: Kind) -> bool
 pub fn cell<'a>(row: &'a Row, field: &str) -> &'a str
     ensures { result.now ≡ cell field.now row.now }
 {
-    for (name, text) in &row.cells {
-        if field == name.as_str() {
-            return text.as_str();
+    for at in 0..row.len() {
+        if let Some((name, text)) = row.cell(at) {
+            if field == name {
+                return text;
+            }
         }
     }
     ""

@@ -92,7 +92,7 @@ fn add_of_parent(
 fn add_of_child(alloc: Global, links: &mut Vec<Link>, key: &Key, row: &Row) -> Result<(), NoMemory>
     ensures { OnOk result (links.new.items ≡ links.old.items ++ child_links key.now row.now) }
 {
-    match child_field(key.kind, row.table.as_str()) {
+    match child_field(key.kind, row.table()) {
         Some(field) => add_link(alloc, links, key, field, cell(row, field.name())),
         None => Ok(()),
     }

@@ -105,7 +105,7 @@ fn statuses_in<'a>(
 {
     let mut statuses = Vec::new(alloc);
     for row in children {
-        if row.table.as_str() != table {
+        if row.table() != table {
             continue;
         }
         let status = cell(row, "status");

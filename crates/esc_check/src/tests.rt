@@ -10,20 +10,6 @@ use stopping::{Stopped, Stopping};
 
 mod stopping;
 
-fn row(alloc: Global, table: &str, cells: &[(&str, &str)]) -> Result<Row, NoMemory> {
-    let mut texts = Vec::new(alloc);
-    for (field, text) in cells {
-        texts.push((
-            String::from_str(alloc, field)?,
-            String::from_str(alloc, text)?,
-        ))?;
-    }
-    Ok(Row {
-        table: String::from_str(alloc, table)?,
-        cells: texts,
-    })
-}
-
 fn put(
     alloc: Global,
     t: &mut BTreeMap<Key, Object>,
@@ -43,7 +29,7 @@ fn put(
 // Registrar R1 and its contact C1.
 fn front(alloc: Global) -> Result<BTreeMap<Key, Object>, NoMemory> {
     let mut t = BTreeMap::new(alloc);
-    let registrar = row(alloc, "registrar", &[("id", "R1")])?;
+    let registrar = Row::from_cells(alloc, "registrar", &[("id", "R1")])?;
     put(
         alloc,
         &mut t,
@@ -52,7 +38,7 @@ fn front(alloc: Global) -> Result<BTreeMap<Key, Object>, NoMemory> {
         registrar,
         Vec::new(alloc),
     )?;
-    let contact = row(alloc, "contact", &[("id", "C1"), ("clID", "R1")])?;
+    let contact = Row::from_cells(alloc, "contact", &[("id", "C1"), ("clID", "R1")])?;
     put(alloc, &mut t, Kind::Contact, "C1", contact, Vec::new(alloc))?;
     Ok(t)
 }
@@ -121,17 +107,17 @@ fn statuses_and_dates_are_verified(rt: HostRuntime) -> Result<(), Fail> {
     let alloc = rt.alloc();
     let mut t = front(alloc)?;
     let mut statuses = Vec::new(alloc);
-    statuses.push(row(
+    statuses.push(Row::from_cells(
         alloc,
         "domainStatuses",
         &[("domainName", "g.example"), ("status", "ok")],
     )?)?;
-    statuses.push(row(
+    statuses.push(Row::from_cells(
         alloc,
         "domainStatuses",
         &[("domainName", "g.example"), ("status", "gone")],
     )?)?;
-    let first = row(
+    let first = Row::from_cells(
         alloc,
         "domain",
         &[
@@ -143,7 +129,7 @@ fn statuses_and_dates_are_verified(rt: HostRuntime) -> Result<(), Fail> {
         ],
     )?;
     put(alloc, &mut t, Kind::Domain, "g.example", first, statuses)?;
-    let second = row(
+    let second = Row::from_cells(
         alloc,
         "domain",
         &[
@@ -176,23 +162,23 @@ fn links_and_counts_are_verified(rt: HostRuntime) -> Result<(), Fail> {
     let alloc = rt.alloc();
     let mut t = front(alloc)?;
     let mut servers = Vec::new(alloc);
-    servers.push(row(
+    servers.push(Row::from_cells(
         alloc,
         "domainNs",
         &[("domainName", "e.example"), ("hostName", "NS1.e.example")],
     )?)?;
-    servers.push(row(
+    servers.push(Row::from_cells(
         alloc,
         "domainNs",
         &[("hostName", "ns1.e.example"), ("hostName", "ns2.e.example")],
     )?)?;
-    let first = row(
+    let first = Row::from_cells(
         alloc,
         "domain",
         &[("name", "e.example"), ("clID", "R1"), ("registrant", "C1")],
     )?;
     put(alloc, &mut t, Kind::Domain, "e.example", first, servers)?;
-    let second = row(
+    let second = Row::from_cells(
         alloc,
         "domain",
         &[("name", "f.example"), ("clID", "R2"), ("registrant", "C9")],
@@ -229,7 +215,7 @@ fn each_field_links_to_its_kind(rt: HostRuntime) -> Result<(), Fail> {
         ("domainHostAttr", "hostName", "ns.example"),
         ("contactStatuses", "contactId", "C9"),
     ] {
-        rows.push(row(alloc, table, &[(field, text)])?)?;
+        rows.push(Row::from_cells(alloc, table, &[(field, text)])?)?;
     }
     for (kind, children) in [
         (Kind::Registrar, Vec::new(alloc)),
@@ -240,7 +226,7 @@ fn each_field_links_to_its_kind(rt: HostRuntime) -> Result<(), Fail> {
         (Kind::Nndn, Vec::new(alloc)),
     ] {
         let cells = [("clID", "R9"), ("registrant", "C9"), ("idnTableId", "I9")];
-        let parent = row(alloc, kind.name(), &cells)?;
+        let parent = Row::from_cells(alloc, kind.name(), &cells)?;
         put(alloc, &mut t, kind, "x", parent, children)?;
     }
     let counts = BTreeMap::new(alloc);
@@ -262,7 +248,7 @@ fn what_comes_later_is_linked_to(rt: HostRuntime) -> Result<(), Fail> {
         (Kind::Idn, "I1", "I2"),
         (Kind::Nndn, "n.example", "I1"),
     ] {
-        let parent = row(alloc, kind.name(), &[("idnTableId", table)])?;
+        let parent = Row::from_cells(alloc, kind.name(), &[("idnTableId", table)])?;
         put(alloc, &mut t, kind, key, parent, Vec::new(alloc))?;
     }
     let counts = BTreeMap::new(alloc);
@@ -301,7 +287,7 @@ fn dates_are_moments_of_their_years(rt: HostRuntime) -> Result<(), Fail> {
             ("crDate", "never"),
             ("exDate", expires),
         ];
-        let parent = row(alloc, kind.name(), &cells)?;
+        let parent = Row::from_cells(alloc, kind.name(), &cells)?;
         put(alloc, &mut t, kind, key, parent, Vec::new(alloc))?;
     }
     let counts = BTreeMap::new(alloc);
@@ -336,10 +322,10 @@ fn each_kind_has_its_statuses(rt: HostRuntime) -> Result<(), Fail> {
     let mut t = front(alloc)?;
     let mut statuses = Vec::new(alloc);
     for word in ["linked", "ok", "", "clientTransferProhibited", "inactive"] {
-        statuses.push(row(alloc, "hostStatuses", &[("status", word)])?)?;
-        statuses.push(row(alloc, "contactStatuses", &[("status", word)])?)?;
+        statuses.push(Row::from_cells(alloc, "hostStatuses", &[("status", word)])?)?;
+        statuses.push(Row::from_cells(alloc, "contactStatuses", &[("status", word)])?)?;
     }
-    let host = row(alloc, "host", &[("name", "ns.example"), ("clID", "R1")])?;
+    let host = Row::from_cells(alloc, "host", &[("name", "ns.example"), ("clID", "R1")])?;
     put(alloc, &mut t, Kind::Host, "ns.example", host, statuses)?;
     let counts = BTreeMap::new(alloc);
     let (found, walked) = found_at(alloc, t, "2024-03-11T00:00:00Z", &counts)?;
@@ -361,9 +347,9 @@ fn domains_are_exported_with_their_child_rows(rt: HostRuntime) -> Result<(), Fai
         ("domainStatuses", "status", "ok"),
         ("domainNs", "hostName", "ns3.e.example"),
     ] {
-        rows.push(row(alloc, table, &[("domainName", "e.example"), (field, text)])?)?;
+        rows.push(Row::from_cells(alloc, table, &[("domainName", "e.example"), (field, text)])?)?;
     }
-    let parent = row(
+    let parent = Row::from_cells(
         alloc,
         "domain",
         &[("name", "e.example"), ("clID", "R1"), ("registrant", "C1")],
@@ -382,7 +368,7 @@ fn domains_are_exported_with_their_child_rows(rt: HostRuntime) -> Result<(), Fai
 fn quotes_stand_where_they_are_needed(rt: HostRuntime) -> Result<(), Fail> {
     let alloc = rt.alloc();
     let mut t = BTreeMap::new(alloc);
-    let parent = row(
+    let parent = Row::from_cells(
         alloc,
         "registrar",
         &[("id", "R1"), ("name", "Net, \"One\"")],

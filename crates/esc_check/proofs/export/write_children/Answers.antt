@@ -16,17 +16,15 @@ loop-index-preserved c =
     let n = c.number_behind-number.result in
     let within = c.loop-index-test.true in
     let is = c.index-children-index.is in
-    let asked : c.as_str.result.now ≡ x.table = c.as_str.ensures.value ∙ ap (λ (r : RowValue). r.table) c.row.view_is in
-    let kept : c.as_str-table.result.now ≡ x.table = c.as_str-table.ensures.value ∙ ap (λ (r : RowValue). r.table) c.row.view_is in
     let one_more : n ≡ count_by (is_in x.table) (take i rows) + 1 =
-    c.number_behind-number.ensures ∙ ap (λ (table : List ℕ). count_by (is_in table) (take i rows) + 1) asked in
+    c.number_behind-number.ensures ∙ ap (λ (table : List ℕ). count_by (is_in table) (take i rows) + 1) c.table.ensures in
     let number : n ≡ number_behind (take i rows) x = one_more ∙ numbered rows i x within is in
     let parts =
     children_more k rows i x within is
     ∙ ap (λ (m : ℕ). text_of (row_lines k m x) ++ text_of (child_lines k (take (i + 1) rows) (drop (i + 1) rows))) (sym number) in (
       front_added _ _ _ _ _ _ parts c.loop-index.invariant.0 c.in_ok-write_row.ensures,
-      one_more ∙ sym (counted rows i x within is) ∙ ap (λ (table : List ℕ). count_by (is_in table) (take (i + 1) rows)) (sym kept),
-      c.as_str-table.utf8,
+      one_more ∙ sym (counted rows i x within is) ∙ ap (λ (table : List ℕ). count_by (is_in table) (take (i + 1) rows)) (sym c.table-table.ensures),
+      c.table-table.utf8,
     )
 
 pub returns : goal.returns
