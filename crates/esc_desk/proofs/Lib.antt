@@ -16,3 +16,4 @@ pub mod Working
 pub mod EntryLists
 pub mod Walks
 pub mod WalkSteps
+pub mod HeldReceipts

@@ -32,7 +32,7 @@ exact x y e = sym (same_number y x (sym (same_test y x) ∙ e))
 is_some_of : {X : Type 0} (o : Option X) (x : X) → o ≡ Some x → IsSome o
 is_some_of o x is = ap is_some is
 
-module _ (digest : List ℕ → List ℕ) (reads : List ℕ → Result DepositValue ℕ) (m : List MRow) (l : List ArrivalValue) (k : Kept) (stood : StandsFor digest reads m l k) (rows : List ℕ) (held : AreHeld k.bodies rows) where
+module _ (digest : List ℕ → List ℕ) (reads : List ℕ → Result DepositValue ℕ) (m : List MRow) (l : List ArrivalValue) (k : Kept) (stood : StandsFor digest reads m l k) where
   -- a body is held of a row exactly if one of the distinct arrivals holds it
   pub some_body : (r : ℕ) → list_any (holds digest reads m r) (distinct digest reads m l) ≡ true → IsSome (k.bodies r)
   some_body r any = by_find (find (holds digest reads m r) (distinct digest reads m l)) refl
@@ -48,6 +48,7 @@ module _ (digest : List ℕ → List ℕ) (reads : List ℕ → Result DepositVa
       by_find None none = absurd (true≢false (sym some ∙ ap is_some (stood.bodies r ∙ ap (option_map (λ (b : ArrivalValue). b.body)) none)))
       by_find (Some a) is = find_some (holds digest reads m r) (distinct digest reads m l) a is
 
+module _ (digest : List ℕ → List ℕ) (reads : List ℕ → Result DepositValue ℕ) (m : List MRow) (l : List ArrivalValue) (k : Kept) (stood : StandsFor digest reads m l k) (rows : List ℕ) (held : AreHeld k.bodies rows) where
   -- the store's rows are the held ones
   pub same_rows : set.from_list {R = nat_cmp} rows ≡ held_rows digest reads m l
   same_rows = set.same_set nat_cmp_total nat_cmp-IsAntisymmetric _ _ each
@@ -56,10 +57,10 @@ module _ (digest : List ℕ → List ℕ) (reads : List ℕ → Result DepositVa
       each r = set.contains-from_list nat_cmp_total rows r ∙ same_bool _ _ there back ∙ sym (contains_held digest reads m l r)
         where
           there : list_any (eq_by_cmp nat_cmp r) rows ≡ true → list_any (holds digest reads m r) (distinct digest reads m l) ≡ true
-          there any = body_some r ((held.each r).0 (Contains-from_any exact r rows any))
+          there any = body_some digest reads m l k stood r ((held.each r).0 (Contains-from_any exact r rows any))
 
           back : list_any (holds digest reads m r) (distinct digest reads m l) ≡ true → list_any (eq_by_cmp nat_cmp r) rows ≡ true
-          back any = list_any-from_Contains (eq_by_cmp_equiv nat_cmp_total) r rows ((held.each r).1 (some_body r any))
+          back any = list_any-from_Contains (eq_by_cmp_equiv nat_cmp_total) r rows ((held.each r).1 (some_body digest reads m l k stood r any))
 
   pub among_held : (r : ℕ) → is_among rows (Some r) ≡ set.contains (held_rows digest reads m l) r
   among_held r = sym (set.contains-from_list_nat rows r) ∙ ap (λ (h : Rows). set.contains h r) same_rows
@@ -74,7 +75,7 @@ module _ (digest : List ℕ → List ℕ) (reads : List ℕ → Result DepositVa
     where
       by_body : (o : Option (List ℕ)) → k.bodies r ≡ o → o ≡ None
       by_body None is = refl
-      by_body (Some b) is = absurd (true≢false (sym (body_some r (is_some_of (k.bodies r) b is)) ∙ sym (contains_held digest reads m l r) ∙ new))
+      by_body (Some b) is = absurd (true≢false (sym (body_some digest reads m l k stood r (is_some_of (k.bodies r) b is)) ∙ sym (contains_held digest reads m l r) ∙ new))
 
 abbrev deposit_in : Finding → DepositValue → DepositValue
 deposit_in Unlisted e = e

@@ -33,7 +33,7 @@ use std::alloc::Global;
 /// The most receipts of a store.
 const MOST_RECEIPTS: u64 = 1_000_000_000;
 
-/// A desk over a store. It remembers the rows of which a body is held, so that an arrival needn't read the bodies.
+/// A desk over a store. It remembers the rows of which a body is held, so that an arrival needn't ask for them.
 #[derive(Drop)]
 pub struct Desk<S: Alter> {
     pub(crate) store: Store<S>,
@@ -122,15 +122,16 @@ impl<S: Alter> Desk<S> {
         Ok(taken)
     }
 
-    // The rows that are held: those that were remembered, which are forgotten, or else the store's.
+    // The rows that are held: those that were remembered, which are forgotten, or else those that the store's receipts
+    // hold.
     fn take_held(&mut self, alloc: Global) -> Result<Vec<usize>, SFault>
         ensures same { IsAsBefore S.Store self.old.store self.new.store }
         ensures forgotten { self.new.known ≡ None }
-        ensures rows { IsHonest S.Store self.new.store → (k : Kept) → Stands S.Store self.old.store k → IfSome self.old.known (λ rows. AreHeld k.bodies rows.items) → IfOk result (λ rows. AreHeld k.bodies rows.items) }
+        ensures rows { IsHonest S.Store self.new.store → (m : List MRow) (l : List ArrivalValue) (k : Kept) → Stands S.Store self.old.store k → StandsFor sha256 reading m l k → IfSome self.old.known (λ rows. AreHeld k.bodies rows.items) → IfOk result (λ rows. AreHeld k.bodies rows.items) }
     {
         match self.known.take() {
             Some(rows) => Ok(rows),
-            None => self.store.held(alloc),
+            None => self.store.held_by_receipts(alloc),
         }
     }
 }

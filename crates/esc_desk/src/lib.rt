@@ -46,8 +46,8 @@
 //!
 //! An arrival alike an earlier one costs a digest and a look-up. Of another one the body is read once, and the bodies
 //! of those steps alone are read again that stand past the common front of both chains. The store is asked which rows
-//! are held, which reads every held body, at a desk's first arrival that is like none before it, and at the next one after
-//! an `Err`.
+//! are held at a desk's first arrival that is like none before it, and at the next one after an `Err`: its receipts tell,
+//! and no body is read.
 //!
 //! [`Desk::tables`] holds all objects in memory. A [`Walk`] holds a page of 256 at most, and reads each page by a look-up
 //! in the index. While it lives the desk is lent to it, so nothing arrives in between.

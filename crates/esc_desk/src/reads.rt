@@ -57,7 +57,7 @@ impl<S: Alter> Desk<S> {
         ensures serves { (m : List MRow) (l : List ArrivalValue) → DeskServes S.Store self.old m l → DeskServes S.Store self.new m l }
         ensures rows { IsHonest S.Store self.new.store → (m : List MRow) (l : List ArrivalValue) → Serves S.Store self.old.store m l → IfOk result (λ rows. AreHeld (held_body sha256 reading m l) rows.items) }
     {
-        self.store.held(alloc)
+        self.store.held_by_receipts(alloc)
     }
 
     /// The objects of the latest chain's tables. `S1`, `S2`.
@@ -96,7 +96,7 @@ impl<S: Alter> Desk<S> {
         ensures status { IsHonest S.Store self.new.store → (m : List MRow) (l : List ArrivalValue) → Serves S.Store self.old.store m l → IfOk result (λ status. IsStatus m l status) }
     {
         let receipts = self.store.receipt_count()?;
-        let held = self.store.held(alloc)?;
+        let held = self.store.held_by_receipts(alloc)?;
         let steps = self.store.chain(alloc)?;
         let objects = self.store.counts_by_kind(alloc)?;
         let listed = self.store.manifest().rows().len();

@@ -5,7 +5,7 @@ mod rows;
 mod shown;
 mod walks;
 
-use crate::{Arrival, Desk, Outcome, Reply, SFault, number};
+use crate::{Arrival, Desk, Outcome, Reply, SFault, Verdict, number};
 use bodies::{Body, bytes_of, line_of, manifest_of};
 use esc_apply::Work;
 use esc_manifest::Manifest;
@@ -239,6 +239,31 @@ fn each_row_in_a_store_that_is_opened_again(rt: HostRuntime) -> Result<(), Fail>
     for row in &ROWS {
         let conn = Connection::open_in_memory(alloc)?;
         assert_row(&rt, alloc, conn, row, true)?;
+    }
+    Ok(())
+}
+
+#[test]
+fn held_rows_of_a_store_that_is_opened_again(rt: HostRuntime) -> Result<(), Fail> {
+    let alloc = rt.alloc();
+    let listed = [Body::Empty, Body::Unequal, Body::F2, Body::D2];
+    // Under which number what arrives, its verdict, and the rows that are held then.
+    let arrivals: [(&str, Body, Verdict, &[usize]); 7] = [
+        ("1", Body::Empty, Verdict::A3(1), &[]),
+        ("2", Body::D2, Verdict::A1, &[3]),
+        ("3", Body::Unequal, Verdict::A4, &[3]),
+        ("4", Body::Abc, Verdict::A2, &[3]),
+        ("5", Body::F2, Verdict::A1, &[2, 3]),
+        ("6", Body::D2, Verdict::A1, &[2, 3]),
+        ("6", Body::D2, Verdict::A1, &[2, 3]),
+    ];
+    let mut desk = create(alloc, Connection::open_in_memory(alloc)?, &listed)?;
+    for (text, body, verdict, held) in arrivals {
+        let (reply, _) = arrive(alloc, &mut desk, text, body)?;
+        assert_eq!(rt; reply.verdict, verdict, "{text}");
+        desk = open(alloc, desk.into_store().into_connection())?;
+        assert_eq!(rt; desk.held(alloc)?.as_slice(), held, "{text}");
+        assert_eq!(rt; desk.status(alloc)?.held, held.len() as u64, "{text}");
     }
     Ok(())
 }

@@ -1,11 +1,14 @@
 use Rattle.std.proofs.Common.{List, length, option_map, sym, ap, subst, ◌∙◌}
 use Rattle.std.proofs.lemmas.List.{length-map}
+use Rattle.sha2.specs.Sha256.{sha256}
+use Rattle.esc_tables.specs.Reading.{reading}
 use Rattle.esc_manifest.specs.declared.row.MRow.{MRow}
 use Rattle.esc_apply.specs.declared.front.Step.{Step}
 use Rattle.esc_apply.specs.Registry.{Content}
 use Rattle.esc_store.specs.Kept.{step_at, AreCounts}
 use Rattle.esc_store.specs.ReplyValue.{ReceiptValue}
 use Rattle.esc_desk.specs.Reads.{last}
+use Rattle.esc_desk.proofs.HeldReceipts.{held_of_receipts}
 use Rattle.esc_desk.proofs.ReadLemmas.{same_held, same_content, same_chain}
 use Rattle.esc_desk.proofs.StoreFacts.{was_honest}
 use Rattle.esc_desk.proofs.desk.Desk.status.Goals as goal
@@ -15,8 +18,8 @@ returns-clause-status g c = λ clean m l serves.
     let k = serves.kept in
     let stood = serves.stands_for in
     let at_chain = was_honest g.S.Store c.chain.new.self c.counts_by_kind.new.self c.in_ok-objects.ensures.same clean in
-    let at_held = was_honest g.S.Store c.held.new.self c.chain.new.self c.in_ok-steps.ensures.same at_chain in
-    let at_count = was_honest g.S.Store c.receipt_count.new.self c.held.new.self c.in_ok-held.ensures.same at_held in
+    let at_held = was_honest g.S.Store c.held_by_receipts.new.self c.chain.new.self c.in_ok-steps.ensures.same at_chain in
+    let at_count = was_honest g.S.Store c.receipt_count.new.self c.held_by_receipts.new.self c.in_ok-held.ensures.same at_held in
     let stands_1 = c.in_ok-receipts.ensures.same.stands k serves.stands in
     let stands_2 = c.in_ok-held.ensures.same.stands k stands_1 in
     let stands_3 = c.in_ok-steps.ensures.same.stands k stands_2 in
@@ -25,7 +28,7 @@ returns-clause-status g c = λ clean m l serves.
     let steps = same_chain m l k stood c.deref-2.result.now (c.deref-2.ensures.value ∙ c.in_ok-steps.ensures.steps at_chain k stands_2) in
     record {
       rows = c.in_ok-held.held.items;
-      are_held = same_held m l k stood c.in_ok-held.held.items (c.in_ok-held.ensures.rows at_held k stands_1);
+      are_held = same_held m l k stood c.in_ok-held.held.items (held_of_receipts sha256 reading m l k stood c.in_ok-held.held.items (c.in_ok-held.ensures.rows at_held k stands_1));
       chain = k.steps;
       latest = stood.chain;
       listed_count = told.listed ∙ ap (λ (x : List MRow). length x) (c.rows-listed.ensures.rows ∙ c.manifest.ensures.kept k stands_4 ∙ stood.listed);

@@ -1,0 +1,75 @@
+-- The rows that receipts hold are those of which a body is held.
+use Rattle.std.proofs.Common.{◌≡◌, ◌⊎◌, inl, inr, ℕ, zero, suc, ◌<◌, Bool, true, false, ◌||◌, List, [], ◌∷◌, ◌++◌, length, Some, IsSome, Result, refl, sym, ap, subst, ◌∙◌, arith, true≢false}
+use Rattle.std.specs.List.{Any, list_any}
+use Rattle.esc_tables.specs.DepositValue.{DepositValue}
+use Rattle.esc_manifest.specs.declared.row.MRow.{MRow}
+use Rattle.esc_store.specs.Kept.{Kept, AreHeld, AreHeldBy, SaysHeld}
+use Rattle.esc_store.specs.ReplyValue.{ReceiptValue}
+use Rattle.esc_desk.specs.declared.finding.Finding.{Finding}
+use Rattle.esc_desk.specs.declared.finding.Finding.TheVariants.{Unlisted, Unreadable, Differing, Holding}
+use Rattle.esc_desk.specs.ArrivalValue.{ArrivalValue}
+use Rattle.esc_desk.specs.Finding.{finding}
+use Rattle.esc_desk.specs.Receipts.{receipt_by, holds_row, holds, distinct, receipt_for, receipts_after}
+use Rattle.esc_desk.specs.Stands.{StandsFor}
+use Rattle.esc_desk.proofs.HeldRows.{same_self, same_number}
+use Rattle.esc_desk.proofs.Searches.{same_answer}
+use Rattle.esc_desk.proofs.TakingIn.{some_body, body_some}
+
+-- ---- one receipt
+
+-- it says that a row is held exactly if what was found holds the row
+holds_from_says : (row : ℕ) (number digest : List ℕ) (f : Finding) (again : Bool) → SaysHeld row (receipt_by number digest f again) → holds_row row f ≡ true
+holds_from_says row number digest Unlisted again says = let verdict = says.0 in absurd (cc)
+holds_from_says row number digest (Unreadable r n) again says = let verdict = says.0 in absurd (cc)
+holds_from_says row number digest (Differing r) again says = let verdict = says.0 in absurd (cc)
+holds_from_says row number digest (Holding r d) again says = ap (λ (q : ℕ). holds_row q (Holding r d)) (sym (same_answer says.1)) ∙ same_self r
+
+says_from_holds : (row : ℕ) (number digest : List ℕ) (f : Finding) (again : Bool) → holds_row row f ≡ true → SaysHeld row (receipt_by number digest f again)
+says_from_holds row number digest Unlisted again is = absurd (true≢false (sym is))
+says_from_holds row number digest (Unreadable r n) again is = absurd (true≢false (sym is))
+says_from_holds row number digest (Differing r) again is = absurd (true≢false (sym is))
+says_from_holds row number digest (Holding r d) again is = (refl, ap Some (same_number r row is))
+
+-- ---- all receipts
+
+split : (P : ReceiptValue → Type 0) (r : ReceiptValue) (rs : List ReceiptValue) → Any P (r ∷ rs) → P r ⊎ Any P rs
+split P r rs (zero, x, within, is, p) = inl (subst P (sym is) p)
+split P r rs (suc k, x, within, is, p) = inr (k, x, omega (arith, within), is, p)
+
+later : (P : ReceiptValue → Type 0) (r : ReceiptValue) (rs : List ReceiptValue) → Any P rs → Any P (r ∷ rs)
+later P r rs (k, x, within, is, p) = (suc k, x, omega (arith, within), is, p)
+
+or_true : (b : Bool) → (b || true) ≡ true
+or_true true = refl
+or_true false = refl
+
+module _ (digest : List ℕ → List ℕ) (reads : List ℕ → Result DepositValue ℕ) (m : List MRow) (row : ℕ) where
+  any_holds : (before ds : List ArrivalValue) → Any (SaysHeld row) (receipts_after digest reads m before ds) → list_any (holds digest reads m row) ds ≡ true
+  any_holds before [] any = absurd (omega (arith, any.2))
+  any_holds before (a ∷ ds) any = by_case (split (SaysHeld row) (receipt_for digest reads m before a) (receipts_after digest reads m (before ++ a ∷ []) ds) any) (any_holds (before ++ a ∷ []) ds)
+    where
+      by_case : SaysHeld row (receipt_for digest reads m before a) ⊎ Any (SaysHeld row) (receipts_after digest reads m (before ++ a ∷ []) ds) → (Any (SaysHeld row) (receipts_after digest reads m (before ++ a ∷ []) ds) → list_any (holds digest reads m row) ds ≡ true)
+          → (holds digest reads m row a || list_any (holds digest reads m row) ds) ≡ true
+      by_case (inl says) more = ap (λ b. b || list_any (holds digest reads m row) ds) (holds_from_says row a.number (digest a.body) (finding digest reads m a.body) _ says)
+      by_case (inr behind) more = ap (λ b. holds digest reads m row a || b) (more behind) ∙ or_true (holds digest reads m row a)
+
+  any_says : (before ds : List ArrivalValue) → list_any (holds digest reads m row) ds ≡ true → Any (SaysHeld row) (receipts_after digest reads m before ds)
+  any_says before [] any = absurd (true≢false (sym any))
+  any_says before (a ∷ ds) any = by_test (holds digest reads m row a) refl any (any_says (before ++ a ∷ []) ds)
+    where
+      by_test : (b : Bool) → holds digest reads m row a ≡ b → (b || list_any (holds digest reads m row) ds) ≡ true → (list_any (holds digest reads m row) ds ≡ true → Any (SaysHeld row) (receipts_after digest reads m (before ++ a ∷ []) ds))
+          → Any (SaysHeld row) (receipt_for digest reads m before a ∷ receipts_after digest reads m (before ++ a ∷ []) ds)
+      by_test true is any more = (0, receipt_for digest reads m before a, omega arith, refl, says_from_holds row a.number (digest a.body) (finding digest reads m a.body) _ is)
+      by_test false is any more = later (SaysHeld row) (receipt_for digest reads m before a) (receipts_after digest reads m (before ++ a ∷ []) ds) (more any)
+
+-- ---- the rows
+
+module _ (digest : List ℕ → List ℕ) (reads : List ℕ → Result DepositValue ℕ) (m : List MRow) (l : List ArrivalValue) (k : Kept) (stood : StandsFor digest reads m l k) where
+  pub held_of_receipts : (rows : List ℕ) → AreHeldBy k.receipts rows → AreHeld k.bodies rows
+  held_of_receipts rows by = record { rising = by.rising; each = λ row. (λ there. down row ((by.each row).0 there), λ some. (by.each row).1 (up row some)) }
+    where
+      down : (row : ℕ) → Any (SaysHeld row) k.receipts → IsSome (k.bodies row)
+      down row any = some_body digest reads m l k stood row (any_holds digest reads m row [] (distinct digest reads m l) (subst (Any (SaysHeld row)) stood.receipts any))
+
+      up : (row : ℕ) → IsSome (k.bodies row) → Any (SaysHeld row) k.receipts
+      up row some = subst (Any (SaysHeld row)) (sym stood.receipts) (any_says digest reads m row [] (distinct digest reads m l) (body_some digest reads m l k stood row some))
