@@ -6,7 +6,8 @@ What taking a large Full costs beside the SQL statements that it runs, by the pr
 Takes the one deposit of a folder of a release (`release.py`; made first where none is given) with the program, and runs the
 statements of that intake alone, over the same objects, in another store of the same manifest (`statements/main.txt`). Prints
 the least of N of each: processor time, and how many times the statements' the program's is; then what each statement takes,
-and the change without those that find nothing. The least is steadier than the mean on a busy machine; ratios hold within one run.
+and the change without those that find nothing. Both end with the closing of the store, which copies its log into the file. The
+least is steadier than the mean on a busy machine; ratios hold within one run.
 
 `statements/main.txt` is Rattle's source. The gate proves what stands in `crates/` and takes no other `.rt` file, so it is copied
 into a repository of its own, where `rt run` proves that it is safe and builds it; --statements names what an earlier run built."""
@@ -94,14 +95,15 @@ def main():
         takes.append(processor), clocks.append(clock), peaks.append(peak)
         for word, found in changes.items():
             told = alone(program, store, manifest, word)
-            found.append(told['processor'][1])
+            found.append((told['processor'][1] + told['close'][1], told['processor'][1]))
             if word == 'snui':
                 each.append(told)
     print(f'take {given.deposit}: {min(takes):.0f} ms of processor time, {min(clocks):.0f} ms by the clock, {max(peaks):.0f} MB')
     for word, found in changes.items():
-        print(f'{names[word] + ", body, COMMIT":44} {min(found):7.0f} ms: take is {min(takes) / min(found):.2f} times that')
-    for name in ('select', 'image', 'update', 'insert', 'body', 'commit'):
-        print(f'  {name:8} {each[0][name][0]:7} calls {min(told[name][1] for told in each):7.0f} ms by the clock')
+        whole, change = min(whole for whole, _ in found), min(change for _, change in found)
+        print(f'{names[word] + ", body, COMMIT, close":51} {whole:7.0f} ms: take is {min(takes) / whole:.2f} times that, and {min(takes) / change:.2f} times it without the closing')
+    for name in ('select', 'image', 'update', 'insert', 'body', 'commit', 'close'):
+        print(f'  {name:8} {each[0][name][0]:7} calls {min(told[name][1] for told in each):7.0f} ms')
     if not given.keep:
         shutil.rmtree(work)
 

@@ -1,5 +1,6 @@
 -- What a store answers that stands for a manifest and a list of arrivals, in the words of these.
-use Rattle.std.proofs.Common.{◌≡◌, ℕ, ◌-◌, List, [], ◌∷◌, length, map, Option, Some, None, option_map, slice_get, refl, sym, ap, ap₂, subst, ◌∙◌}
+use Rattle.std.proofs.Common.{◌≡◌, ℕ, ◌-◌, true, List, [], ◌∷◌, length, map, Option, Some, None, option_map, slice_get, Result, Ok, Err, refl, sym, ap, ap₂, subst, ◌∙◌, true≢false}
+use Rattle.std.specs.List.{find}
 use Rattle.std.proofs.lemmas.Option.{slice_get-map}
 use Rattle.std.proofs.lemmas.List.{length-map}
 use Rattle.sha2.specs.Sha256.{sha256}
@@ -15,8 +16,11 @@ use Rattle.esc_store.specs.Kept.{Kept, kept_replies, kept_chain, step_at, AreHel
 use Rattle.esc_store.specs.ReplyValue.{ReceiptValue, replies_from}
 use Rattle.esc_desk.specs.declared.status.End.{End}
 use Rattle.esc_desk.specs.ArrivalValue.{ArrivalValue}
-use Rattle.esc_desk.specs.Stands.{deposit_of, deposits_of, held_body, StandsFor}
+use Rattle.esc_desk.specs.Finding.{found_at, row_of, held_row}
+use Rattle.esc_desk.specs.Receipts.{is_row, holds, distinct}
+use Rattle.esc_desk.specs.Stands.{or_no_deposit, deposit_of, deposits_of, held_body, StandsFor}
 use Rattle.esc_desk.proofs.Remembering.{held_by}
+use Rattle.esc_desk.proofs.Searches.{same_answer, no_answer, find_passes}
 use Rattle.esc_desk.specs.Reads.{last, replies_of, tables_of, AreTables, SaysEnd, IsEndAt, IsEnd}
 
 -- the last element of an image
@@ -35,6 +39,22 @@ last_of_steps m rows = ap (option_map (λ (s : Step). s.row)) (last_mapped (step
 pub same_deposits : (f g : ℕ → Option (List ℕ)) → ((r : ℕ) → f r ≡ g r) → (rows : List ℕ) → deposits_of reading f rows ≡ deposits_of reading g rows
 same_deposits f g same [] = refl
 same_deposits f g same (r ∷ rows) = ap₂ (λ (d : DepositValue) (ds : List DepositValue). d ∷ ds) (ap (deposit_of reading) (same r)) (same_deposits f g same rows)
+
+-- ---- what is held reads
+
+read_at : (m : List MRow) (r : ℕ) (row : Option ℕ) (told : Result DepositValue ℕ) → is_row r (held_row (found_at m row told)) ≡ true → (d : DepositValue) × (told ≡ Ok d)
+read_at m r None told is = absurd (true≢false (sym is))
+read_at m r (Some q) (Err n) is = absurd (true≢false (sym is))
+read_at m r (Some q) (Ok d) is = (d, refl)
+
+-- the body that is held of a row is a deposit
+pub held_reads : (m : List MRow) (l : List ArrivalValue) (r : ℕ) (body : List ℕ) → held_body sha256 reading m l r ≡ Some body → (d : DepositValue) × (reading body ≡ Ok d)
+held_reads m l r body held = by_find (find (holds sha256 reading m r) (distinct sha256 reading m l)) refl held
+  where
+    by_find : (o : Option ArrivalValue) → find (holds sha256 reading m r) (distinct sha256 reading m l) ≡ o → option_map (λ (a : ArrivalValue). a.body) o ≡ Some body → (d : DepositValue) × (reading body ≡ Ok d)
+    by_find None none is = absurd (no_answer is)
+    by_find (Some a) here is =
+        subst (λ (b : List ℕ). (d : DepositValue) × (reading b ≡ Ok d)) (same_answer is) (read_at m r (row_of m (sha256 a.body)) (reading a.body) (find_passes (holds sha256 reading m r) (distinct sha256 reading m l) a here))
 
 module _ (m : List MRow) (l : List ArrivalValue) (k : Kept) (stood : StandsFor sha256 reading m l k) where
   pub same_replies : kept_replies k ≡ replies_of m l
@@ -59,9 +79,13 @@ module _ (m : List MRow) (l : List ArrivalValue) (k : Kept) (stood : StandsFor s
   pub no_end : (steps : List Step) → steps ≡ kept_chain k → option_map (λ (s : Step). s.row) (last steps) ≡ None → IsEnd m l None
   no_end steps are none = record { chain = k.steps; latest = stood.chain; says = subst (λ (o : Option ℕ). IsEndAt m l o None) (sym none ∙ last_row_is steps are) tt }
 
-  pub end_said : (steps : List Step) (row : ℕ) (d : DepositValue) (end : End) → steps ≡ kept_chain k → option_map (λ (s : Step). s.row) (last steps) ≡ Some row → d ≡ deposit_of reading (k.bodies row) → SaysEnd d end → IsEnd m l (Some end)
-  end_said steps row d end are is read says = record {
-    chain = k.steps;
-    latest = stood.chain;
-    says = subst (λ (o : Option ℕ). IsEndAt m l o (Some end)) (sym is ∙ last_row_is steps are) (subst (λ (x : DepositValue). SaysEnd x end) (read ∙ ap (deposit_of reading) (stood.bodies row)) says);
-  }
+  pub end_said : (steps : List Step) (row : ℕ) (body : List ℕ) (end : End) → steps ≡ kept_chain k → option_map (λ (s : Step). s.row) (last steps) ≡ Some row → k.bodies row ≡ Some body → ((d : DepositValue) → reading body ≡ Ok d → SaysEnd d end) → IsEnd m l (Some end)
+  end_said steps row body end are is kept says =
+      let held : held_body sha256 reading m l row ≡ Some body = sym (stood.bodies row) ∙ kept in
+      let read = held_reads m l row body held in
+      let deposit : read.0 ≡ deposit_of reading (held_body sha256 reading m l row) = sym (ap (deposit_of reading) held ∙ ap or_no_deposit read.1) in
+      record {
+        chain = k.steps;
+        latest = stood.chain;
+        says = subst (λ (o : Option ℕ). IsEndAt m l o (Some end)) (sym is ∙ last_row_is steps are) (subst (λ (x : DepositValue). SaysEnd x end) deposit (says read.0 read.1));
+      }

@@ -164,8 +164,8 @@ fn next_deposit<S: Alter>(
 ghost use Rattle.std.specs.Prelude.{OnOk, IfSome};
 ghost use Rattle.esc_desk.specs.Given.{IsSomeOrLost};
 
-/// The deposit of the body that the store keeps for a row.
-pub(crate) fn stored_deposit<S: Alter>(
+// The deposit of the body that the store keeps for a row.
+fn stored_deposit<S: Alter>(
     store: &mut Store<S>,
     alloc: Global,
     row: usize,

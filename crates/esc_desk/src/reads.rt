@@ -1,25 +1,26 @@
 //! What a desk answers of its store.
 
-ghost use Rattle.std.specs.Prelude.{◌≡◌, List, length, option_map, IfOk};
+ghost use Rattle.std.specs.Prelude.{◌≡◌, ℕ, List, Ok, Some, length, option_map, IfOk};
 ghost use Rattle.sha2.specs.Sha256.{sha256};
+ghost use Rattle.esc_tables.specs.DepositValue.{DepositValue};
 ghost use Rattle.esc_tables.specs.Reading.{reading};
 ghost use Rattle.esc_manifest.specs.declared.row.MRow.{MRow};
 ghost use Rattle.esc_apply.specs.declared.front.Step.{Step};
-ghost use Rattle.esc_store.specs.Kept.{AreHeld};
-ghost use Rattle.esc_store.specs.Standing.{IsHonest, IsAsBefore};
+ghost use Rattle.esc_store.specs.Kept.{Kept, AreHeld};
+ghost use Rattle.esc_store.specs.Standing.{Stands, IsHonest, IsAsBefore};
 ghost use Rattle.esc_desk.specs.ArrivalValue.{ArrivalValue};
 ghost use Rattle.esc_desk.specs.Stands.{held_body};
 ghost use Rattle.esc_desk.specs.Serving.{Serves, DeskServes};
 ghost use Rattle.esc_desk.specs.Reads.{last, replies_of, AreTables, SaysEnd, IsEnd, IsStatus};
 
 use crate::desk::Desk;
-use crate::plan::stored_deposit;
 use crate::status::{End, Status};
 use esc_apply::Step;
-use esc_envelope::{Kind, Place};
+use esc_bundle::Fault;
+use esc_envelope::{Envelope, Kind, Place};
 use esc_manifest::Manifest;
-use esc_store::{Reply, SFault};
-use esc_tables::{Deposit, Key, Object};
+use esc_store::{Reply, SFault, Store};
+use esc_tables::{Key, Object, read_bundled_envelope};
 use sqlite::Alter;
 use std::alloc::Global;
 use std::collections::BTreeMap;
@@ -70,8 +71,8 @@ impl<S: Alter> Desk<S> {
         self.store.tables(alloc)
     }
 
-    /// What the latest chain's last deposit says of the registry, read from its body; `None` where there is no chain.
-    /// `S1`, `S2`.
+    /// What the latest chain's last deposit says of the registry, read from its body's envelope; `None` where there is no
+    /// chain. `S1`, `S2`.
     #[tactic(auto, using(crate::proofs::StoreFacts::still_serves))]
     pub fn end(&mut self, alloc: Global) -> Result<Option<End>, SFault>
         ensures same { IsAsBefore S.Store self.old.store self.new.store }
@@ -82,8 +83,8 @@ impl<S: Alter> Desk<S> {
         match last_row(&steps) {
             None => Ok(None),
             Some(row) => {
-                let deposit = stored_deposit(&mut self.store, alloc, row)?;
-                Ok(Some(end_of(deposit)))
+                let end = stored_end(&mut self.store, alloc, row)?;
+                Ok(Some(end))
             }
         }
     }
@@ -145,11 +146,27 @@ fn end_of_steps(steps: &[Step]) -> Option<(Place, u32)>
     Some((last.place, last.resend))
 }
 
-// What a deposit says of the registry.
-fn end_of(deposit: Deposit) -> End
-    ensures { SaysEnd deposit result }
+// What the deposit of the body that the store keeps for a row says of the registry. Its envelope says it: no row is read.
+fn stored_end<S: Alter>(store: &mut Store<S>, alloc: Global, row: usize) -> Result<End, SFault>
+    ensures same { IsAsBefore S.Store store.old store.new }
+    ensures says { IsHonest S.Store store.new → (k : Kept) → Stands S.Store store.old k → IfOk result (λ end. (body : List ℕ) × (k.bodies row ≡ Some body) × ((d : DepositValue) → reading body ≡ Ok d → SaysEnd d end)) }
 {
-    let Deposit { header, counts, .. } = deposit;
+    let Some(body) = store.body_of(alloc, row)? else {
+        return Err(SFault::S1);
+    };
+    match read_bundled_envelope(alloc, &body) {
+        Ok(envelope) => Ok(end_of(envelope)),
+        Err(Fault::Refused(_)) => Err(SFault::S1),
+        Err(Fault::NoMemory) => Err(SFault::S2),
+    }
+}
+
+// What an envelope says of the registry.
+fn end_of(envelope: Envelope) -> End
+    ensures watermark { result.watermark ≡ envelope.header.place.watermark }
+    ensures counts { result.counts.entries ≡ envelope.counts }
+{
+    let Envelope { header, counts, .. } = envelope;
     let place = header.place;
     End {
         watermark: place.watermark,

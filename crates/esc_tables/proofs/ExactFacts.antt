@@ -65,7 +65,7 @@ rows_right : (rows : List TableRow) → list_all is_whole rows ≡ true → list
 unfolding check_rows
 rows_right rows whole named few = let test : nat_le (length rows) most_rows ≡ true = grind (arith, nat_tests) in rw (whole, named, test) refl
 
-same_ok : {A : Type 0} (x y : A) → ◌≡◌ {A = Result A ℕ} (Ok x) (Ok y) → x ≡ y
+pub same_ok : {A : Type 0} (x y : A) → ◌≡◌ {A = Result A ℕ} (Ok x) (Ok y) → x ≡ y
 same_ok x y h = cc
 
 -- ---- a deposit is read

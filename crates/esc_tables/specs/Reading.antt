@@ -84,3 +84,12 @@ sections_deposit (first ∷ files) = envelope_of first.bytes >>= deposit_in file
 -- the deposit that a body is, or the number of the refusal
 unfoldable pub reading : List ℕ → Result DepositValue ℕ
 reading body = frame body >>= sections_deposit
+
+-- the envelope of sections, which is the first of them; no bundle has no section
+unfoldable pub sections_envelope : List Named → Result EnvelopeValue ℕ
+sections_envelope [] = Err 5
+sections_envelope (first ∷ files) = envelope_of first.bytes
+
+-- the envelope of a body, whatever its files have, or the number of the refusal: 1 to 4 of the frame, 5 to 7 of the envelope
+unfoldable pub bundled_envelope : List ℕ → Result EnvelopeValue ℕ
+bundled_envelope body = frame body >>= sections_envelope

@@ -24,10 +24,14 @@
 //! which deposit, and which refusal stands first. `read_deposits_are_small` says that a deposit has no more deletes and objects than
 //! a bundle may have rows.
 //!
+//! `read_bundled_envelope` answers exactly what `bundled_envelope` gives, the envelope of a body or the least of U1 to U7; of a
+//! deposit, its header and counts.
+//!
 //! # Cost
 //!
 //! Two passes over the text: the first looks at every row and keeps none, the second copies each cell once. Objects are found by a
 //! map, so the time is the number of rows times its logarithm. Nothing passes over all rows for one object or one table.
+//! For the envelope alone no row is looked at: the frame is passed over from section to section.
 #![tactic(auto)]
 
 mod deposit;
@@ -49,4 +53,4 @@ pub use deposit::Deposit;
 pub use key::Key;
 pub use laws::{read_deposits_are_small, reading_is_exact, tables_are_in_order};
 pub use object::{Object, Row};
-pub use reading::read_deposit;
+pub use reading::{read_bundled_envelope, read_deposit};

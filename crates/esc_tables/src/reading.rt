@@ -1,10 +1,11 @@
 //! Reading a bundle as a deposit.
 
-ghost use Rattle.std.specs.Prelude.{◌≡◌, ℕ, true, Ok, Err, IfOk, IfErr};
+ghost use Rattle.std.specs.Prelude.{◌≡◌, ℕ, true, Ok, Err, IfOk, IfErr, MatchResult};
 ghost use Rattle.std.specs.List.{list_all};
 ghost use Rattle.esc_bundle.specs.Bundle.{views};
 ghost use Rattle.esc_tables.specs.TableRow.{rows_in, is_whole};
-ghost use Rattle.esc_tables.specs.Reading.{tables_of, deposit_of, deposit_in, reading};
+ghost use Rattle.esc_tables.specs.DepositValue.{DepositValue};
+ghost use Rattle.esc_tables.specs.Reading.{tables_of, deposit_of, deposit_in, reading, bundled_envelope};
 
 use crate::deposit::Deposit;
 use crate::files::are_filed;
@@ -70,4 +71,18 @@ pub fn read_deposit(alloc: Global, body: &[u8]) -> Result<Deposit, Fault>
     };
     let envelope = read_envelope(alloc, first.bytes)?;
     read_files(alloc, files, envelope)
+}
+
+/// The envelope of a bundle, or the least refusal from U1 to U7. Of the files the frame alone is read, whatever their rows
+/// have; of a body that is a deposit, header and counts are the deposit's.
+pub fn read_bundled_envelope(alloc: Global, body: &[u8]) -> Result<Envelope, Fault>
+    ensures read { IfOk result (λ e. bundled_envelope body.now ≡ Ok e) }
+    ensures refused { IfErr result (λ e. (n : ℕ) → e ≡ Fault.Refused n → bundled_envelope body.now ≡ Err n) }
+    ensures deposit { (d : DepositValue) → reading body.now ≡ Ok d → MatchResult result (λ e. (e.header ≡ d.header) × (e.counts ≡ d.counts)) (λ e. e ≡ Fault.NoMemory) }
+{
+    let sections = sections(alloc, body)?;
+    let [envelope, ..] = sections.as_slice() else {
+        unreachable!()
+    };
+    read_envelope(alloc, envelope.bytes)
 }

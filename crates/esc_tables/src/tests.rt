@@ -1,4 +1,4 @@
-use crate::{Deposit, Key, Row, read_deposit};
+use crate::{Deposit, Key, Row, read_bundled_envelope, read_deposit};
 use esc_bundle::{Fault, NoMemory, write_bundle};
 use esc_envelope::Kind;
 use std::alloc::Global;
@@ -22,13 +22,13 @@ const STATUSES: &str =
 const CONTACT_STATUSES: &str =
     r#"{"name":"contactStatus","kind":"contact","role":"child","key":"id","fields":["id","status"],"file":"cs.csv"}"#;
 
-// The deposit of a Full that declares these tables and has these files.
-fn read_full(
+// The bundle of a Full that declares these tables and has these files.
+fn full_bundle(
     alloc: Global,
     contents: &str,
     deletes: &str,
     files: &[(&str, &[u8])],
-) -> Result<Deposit, Fault> {
+) -> Result<Vec<u8>, Fault> {
     let envelope = format!(in alloc;
         "{{\"id\":\"F1\",\"type\":\"FULL\",\"watermark\":\"2024-03-03T00:00:00Z\",\"contents\":[{contents}],\"deletes\":[{deletes}]}}"
     )?;
@@ -43,7 +43,17 @@ fn read_full(
             Vec::from_slice(alloc, bytes)?,
         ))?;
     }
-    let body = write_bundle(alloc, sections.as_slice())?;
+    write_bundle(alloc, sections.as_slice())
+}
+
+// The deposit of such a Full.
+fn read_full(
+    alloc: Global,
+    contents: &str,
+    deletes: &str,
+    files: &[(&str, &[u8])],
+) -> Result<Deposit, Fault> {
+    let body = full_bundle(alloc, contents, deletes, files)?;
     read_deposit(alloc, body.as_slice())
 }
 
@@ -240,6 +250,45 @@ fn the_least_refusal_is_answered(rt: HostRuntime) -> Result<(), Fail> {
     Ok(())
 }
 
+#[test]
+fn an_envelope_is_read_whatever_the_rows_have(rt: HostRuntime) -> Result<(), Fail> {
+    let alloc = rt.alloc();
+    let body = full_bundle(alloc, CONTACTS, "", &[("c.csv", b"\"C1,R1\n")])?;
+    assert_eq!(rt;
+        read_deposit(alloc, body.as_slice()).err(),
+        Some(Fault::Refused(9))
+    );
+    let envelope = read_bundled_envelope(alloc, body.as_slice())?;
+    assert_eq!(rt; envelope.header.id.as_str(), "F1");
+    assert_eq!(rt; envelope.contents.len(), 1);
+    Ok(())
+}
+
+#[test]
+fn an_envelope_is_refused_as_its_deposit_is(rt: HostRuntime) -> Result<(), Fail> {
+    let alloc = rt.alloc();
+    let wrong_table = full_bundle(alloc, "{}", "", &[])?;
+    let refused: [(&[u8], u8); 8] = [
+        (b"", 1),
+        (b"escrow-bundle 1\nEnvelope.json 2\n{}\nend\n", 2),
+        (b"escrow-bundle 1\nenvelope.json 1\n{\nX 0\n\nend\n", 2),
+        (
+            b"escrow-bundle 1\nenvelope.json 2\n{}\nenvelope.json 2\n{}\nend\n",
+            3,
+        ),
+        (b"escrow-bundle 1\nenvelope.json 16777217\n", 4),
+        (b"escrow-bundle 1\nenvelope.json 1\n{\nend\n", 5),
+        (b"escrow-bundle 1\nenvelope.json 2\n{}\nend\n", 6),
+        (wrong_table.as_slice(), 7),
+    ];
+    for (body, number) in refused {
+        let fault = Some(Fault::Refused(number));
+        assert_eq!(rt; read_bundled_envelope(alloc, body).err(), fault);
+        assert_eq!(rt; read_deposit(alloc, body).err(), fault);
+    }
+    Ok(())
+}
+
 // So many rows of contacts.
 fn contact_rows(alloc: Global, count: u32) -> Result<Vec<u8>, NoMemory> {
     let mut rows = Vec::new(alloc);
@@ -277,7 +326,7 @@ fn there_are_at_most_100_000_rows(rt: HostRuntime) -> Result<(), Fail> {
 fn a_fault_is_answered_where_memory_is_refused(rt: HostRuntime) -> Result<(), Fail> {
     let alloc = rt.alloc();
     let contents = format!(in alloc; "{DOMAINS},{NAME_SERVERS}")?;
-    let read = read_full(
+    let body = full_bundle(
         alloc,
         contents.as_str(),
         DELETED_DOMAINS,
@@ -286,8 +335,12 @@ fn a_fault_is_answered_where_memory_is_refused(rt: HostRuntime) -> Result<(), Fa
             ("ns.csv", b"a.example,ns1.x\n"),
             ("gone.csv", b"b.example\n"),
         ],
-    );
-    match read {
+    )?;
+    match read_bundled_envelope(alloc, body.as_slice()) {
+        Ok(envelope) => assert_eq!(rt; envelope.contents.len(), 2),
+        Err(fault) => assert_eq!(rt; fault, Fault::NoMemory),
+    }
+    match read_deposit(alloc, body.as_slice()) {
         Ok(deposit) => {
             assert_eq!(rt; deposit.contents.len(), 1);
             assert_eq!(rt; deposit.deletes.len(), 1);

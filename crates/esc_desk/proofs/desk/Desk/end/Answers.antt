@@ -9,6 +9,7 @@ returns-in-None-clause-end g c = λ clean m l serves. no_end m l serves.kept ser
 pub returns-clause-end : goal.returns-clause-end
 returns-clause-end g c = λ clean m l serves.
     let k = serves.kept in
-    let honest = was_honest g.S.Store c.chain.new.self c.stored_deposit.new.store c.in_ok-deposit-in-Some.ensures.same clean in
+    let honest = was_honest g.S.Store c.chain.new.self c.stored_end.new.store c.in_ok-end-in-Some.ensures.same clean in
     let there = c.in_ok-steps.ensures.same.stands k serves.stands in
-    end_said m l k serves.stands_for c.deref.result.now c.in-Some.row c.in_ok-deposit-in-Some.deposit c.end_of.result (c.deref.ensures.value ∙ c.in_ok-steps.ensures.steps honest k serves.stands) (sym c.last_row.ensures ∙ c.in-Some.is) (c.in_ok-deposit-in-Some.ensures.read clean k there) c.end_of.ensures
+    let says = c.in_ok-end-in-Some.ensures.says clean k there in
+    end_said m l k serves.stands_for c.deref.result.now c.in-Some.row says.0 c.in_ok-end-in-Some.end (c.deref.ensures.value ∙ c.in_ok-steps.ensures.steps honest k serves.stands) (sym c.last_row.ensures ∙ c.in-Some.is) says.1 says.2
