@@ -51,8 +51,6 @@
 //!
 //! [`Desk::end`] reads the body of the chain's last step, and takes apart its envelope alone: no row.
 //!
-//! [`Desk::end`] reads the body of the chain's last step, and takes apart its envelope alone: no row.
-//!
 //! [`Desk::tables`] holds all objects in memory. A [`Walk`] holds a page of 256 at most, and reads each page by a look-up
 //! in the index. While it lives the desk is lent to it, so nothing arrives in between.
 #![tactic(auto)]

@@ -22,7 +22,7 @@ use Rattle.sqlite_tied.specs.Compute.{everything}
 use Rattle.sqlite.proofs.Callers.{IsPlain, command_of, statement_of}
 use Rattle.esc_rows.specs.RowText.{is_write_text, is_read_text}
 use Rattle.esc_rows.specs.Schema.{no_schema, schema_1, schema_2, schema_3, schema_4, schema_5, schema_6, store_schema, info_table, listed_table, receipt_table, held_table, step_table, object_table, undo_table}
-use Rattle.esc_rows.specs.Texts.{create_info_text, create_listed_text, create_receipt_text, create_held_text, create_step_text, create_object_text, create_undo_text, insert_info_text, select_version_text, insert_listed_text, select_listed_text, insert_receipt_text, find_receipt_text, select_receipts_text, last_receipt_text, verdict_rows_text, insert_held_text, select_held_text, find_body_text, clear_steps_text, insert_step_text, select_steps_text, insert_object_text, update_object_text, delete_object_text, clear_objects_text, find_object_text, select_objects_text, select_kind_text, objects_from_text, select_kinds_text, insert_undo_text, select_undo_text, delete_undo_text, clear_undo_text}
+use Rattle.esc_rows.specs.Texts.{create_info_text, create_listed_text, create_receipt_text, create_held_text, create_step_text, create_object_text, create_undo_text, insert_info_text, select_version_text, insert_listed_text, select_listed_text, insert_receipt_text, find_receipt_text, select_receipts_text, last_receipt_text, verdict_rows_text, insert_held_text, find_body_text, clear_steps_text, insert_step_text, select_steps_text, insert_object_text, update_object_text, delete_object_text, clear_objects_text, find_object_text, select_objects_text, select_kind_text, objects_from_text, select_kinds_text, insert_undo_text, select_undo_text, delete_undo_text, clear_undo_text}
 use Rattle.esc_rows.proofs.Scan.{scan, no_limit}
 
 -- the text is this write
@@ -170,13 +170,6 @@ held_terms = col 0 0 ∷ lit Null ∷ col 0 1 ∷ []
 pub insert_held_is : IsWrite insert_held_text (Insert 3 (Values held_terms 3))
 unfolding understood is_write_text everything
 insert_held_is = record { is = refl; plain = (refl, refl); writes = refl }
-
-abbrev pub select_held_scan : Query
-select_held_scan = scan 6 ([]) (col 1 0 ∷ []) (up (col 1 0) ∷ []) no_limit
-
-pub select_held_is : IsQuery select_held_text select_held_scan
-unfolding understood is_read_text everything
-select_held_is = record { names = codes "row" ∷ []; is = refl; plain = (refl, refl); unlisted = refl; reads = refl }
 
 abbrev pub find_body_scan : Query
 find_body_scan = scan 6 (equals (col 1 0) (col 0 0) ∷ []) (col 1 2 ∷ []) ([]) no_limit

@@ -61,9 +61,6 @@ verdict_rows_text = codes "SELECT row FROM receipt WHERE verdict = ?1 ORDER BY r
 abbrev pub insert_held_text : List ℕ
 insert_held_text = codes "INSERT INTO held (row, body) VALUES (?1, ?2)"
 
-abbrev pub select_held_text : List ℕ
-select_held_text = codes "SELECT row FROM held ORDER BY row"
-
 abbrev pub find_body_text : List ℕ
 find_body_text = codes "SELECT body FROM held WHERE row = ?1"
 

@@ -165,7 +165,7 @@ pub(crate) fn steps_of(
 }
 
 // Numbers of 32 bits as row indices.
-pub(crate) fn indices_of(alloc: Global, numbers: &[u32]) -> Result<Vec<usize>, SFault>
+fn indices_of(alloc: Global, numbers: &[u32]) -> Result<Vec<usize>, SFault>
     ensures { IfOk result (λ rows. rows.items ≡ numbers.now) }
 {
     let mut rows = Vec::with_capacity(alloc, numbers.len())?;

@@ -2,13 +2,13 @@
 
 ghost use Rattle.std.specs.Prelude.{◌≡◌, ℕ, map, length, IfOk, option_map};
 ghost use Rattle.esc_apply.specs.Registry.{IsEntriesOf};
-ghost use Rattle.esc_store.specs.Kept.{Kept, kept_replies, kept_reply, kept_chain, AreHeld, AreHeldBy, AreCounts};
+ghost use Rattle.esc_store.specs.Kept.{Kept, kept_replies, kept_reply, kept_chain, AreHeldBy, AreCounts};
 ghost use Rattle.esc_store.specs.Pages.{IsPage};
 ghost use Rattle.esc_store.specs.Standing.{Stands, IsHonest, IsAsBefore};
 
 use crate::books::{small, verdict_number};
 use crate::counts::counts_of;
-use crate::decode::{distinct_indices_of, indices_of, replies_of, reply_found, steps_of};
+use crate::decode::{distinct_indices_of, replies_of, reply_found, steps_of};
 use crate::fault::SFault;
 use crate::images::kind_number;
 use crate::numbers::Number;
@@ -62,15 +62,6 @@ impl<S: Alter> Store<S> {
     {
         let row = small(row)?;
         self.see_body(row)
-    }
-
-    /// The rows of which a body is held, from 0, rising. `S1`, `S2`.
-    pub fn held(&mut self, alloc: Global) -> Result<Vec<usize>, SFault>
-        ensures same { IsAsBefore S.Store self.old self.new }
-        ensures rows { IsHonest S.Store self.new → (k : Kept) → Stands S.Store self.old k → IfOk result (λ rows. AreHeld k.bodies rows.items) }
-    {
-        let rows = self.see_held(alloc)?;
-        indices_of(alloc, rows.as_slice())
     }
 
     /// The rows, from 0, of which a receipt says that their deposit is held (`A1`), rising. No body is read. `S1`, `S2`.

@@ -60,14 +60,6 @@ impl<S: Alter> Store<S> {
         self.body_here(row)
     }
 
-    // The rows that are held.
-    pub(crate) fn see_held(&mut self, alloc: Global) -> Result<Vec<u32>, SFault>
-        ensures same { IsAsBefore S.Store self.old self.new }
-        ensures told { IfOk result (λ found. IsHonest S.Store self.new → (k : Kept) → Stands S.Store self.old k → IsTold k (λ c. found.items ≡ map (λ h. h.row) c.held)) }
-    {
-        self.held_here(alloc)
-    }
-
     // The steps of the chain.
     pub(crate) fn see_steps(&mut self, alloc: Global) -> Result<Vec<ChainStep>, SFault>
         ensures same { IsAsBefore S.Store self.old self.new }

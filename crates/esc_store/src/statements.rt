@@ -9,7 +9,7 @@ ghost use Rattle.esc_store.specs.Standing.{IsStep, IsLook, IsSure};
 
 use crate::fault::SFault;
 use crate::store::Store;
-use esc_rows::held::{find_body, held_rows, insert_held};
+use esc_rows::held::{find_body, insert_held};
 use esc_rows::listed::{Listed, all_listed};
 use esc_rows::object::{
     StoredObject, all_objects, clear_objects, delete_object, find_object, object_kinds, put_object,
@@ -279,21 +279,6 @@ impl<S: Alter> Store<S> {
             Err(fault) => return Err(fault),
         }
         let done = find_body(&mut self.conn, row);
-        self.settle(done)
-    }
-
-    // The rows that are held.
-    pub(crate) fn held_here(&mut self, alloc: Global) -> Result<Vec<u32>, SFault>
-        ensures manifest { self.new.manifest ≡ self.old.manifest }
-        ensures writes { self.new.writes ≡ self.old.writes }
-        ensures sure { IsSure (state S.Store self.old.conn) (state S.Store self.new.conn) (Tells (λ c found. found.items ≡ map (λ h. h.row) c.held)) result }
-        ensures cause { IfErr result (λ fault. fault ≡ SFault.S4 → ⊥) }
-    {
-        match self.sound() {
-            Ok(()) => {}
-            Err(fault) => return Err(fault),
-        }
-        let done = held_rows(alloc, &mut self.conn);
         self.settle(done)
     }
 

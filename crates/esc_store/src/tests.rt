@@ -103,7 +103,7 @@ fn told<S: Alter>(alloc: Global, store: &mut Store<S>) -> Result<String, Fail> {
         let one = format!(in alloc; "; {} {} {:?}", reply.receipt, reply.number, reply.verdict)?;
         text.push_str(one.as_str())?;
     }
-    for row in store.held(alloc)?.as_slice() {
+    for row in store.held_by_receipts(alloc)?.as_slice() {
         let one = format!(in alloc; "; holds {row}")?;
         text.push_str(one.as_str())?;
     }
