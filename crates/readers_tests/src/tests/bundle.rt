@@ -21,12 +21,32 @@ const REPEATED_NAME: Option<Fault> = Some(Fault::Refused(3));
 const OVER_LIMIT: Option<Fault> = Some(Fault::Refused(4));
 
 /// Bundles, each in two pieces, with their lengths and their sections.
-const BUNDLES: [(&[u8], &[u8], usize, &[(&str, &[u8])]); 1] = [(
-    FRONT,
-    b"c.csv 6\nC1,R1\n\nend\n",
-    228,
-    &[("envelope.json", ENVELOPE), ("c.csv", b"C1,R1\n")],
-)];
+const BUNDLES: [(&[u8], &[u8], usize, &[(&str, &[u8])]); 2] = [
+    (
+        FRONT,
+        b"c.csv 6\nC1,R1\n\nend\n",
+        228,
+        &[("envelope.json", ENVELOPE), ("c.csv", b"C1,R1\n")],
+    ),
+    // Ten full sections, of bytes that look like lines of a bundle or are no text.
+    (
+        b"escrow-bundle 1\nenvelope.json 2\n{}\na 4\nend\n\nb.csv 10\nc.csv 1\nx\n\nc-d 1\n\n\ne_f 2\n\n\n\n",
+        b"0 1\n\x00\n1.2 2\n\xff\xfe\nzzzzzzzzzzzzzzzzzzzzzzzzzzzzzzzz 7\nC1,R1\r\n\nend 16\nescrow-bundle 1\n\ng 10\n0123456789\nend\n",
+        183,
+        &[
+            ("envelope.json", b"{}"),
+            ("a", b"end\n"),
+            ("b.csv", b"c.csv 1\nx\n"),
+            ("c-d", b"\n"),
+            ("e_f", b"\n\n"),
+            ("0", b"\x00"),
+            ("1.2", b"\xff\xfe"),
+            ("zzzzzzzzzzzzzzzzzzzzzzzzzzzzzzzz", b"C1,R1\r\n"),
+            ("end", b"escrow-bundle 1\n"),
+            ("g", b"0123456789"),
+        ],
+    ),
+];
 
 /// Bodies that are no bundle, each in two pieces.
 const REFUSED: [(&[u8], &[u8], Option<Fault>); 12] = [

@@ -18,14 +18,15 @@ const DIGEST_OF_ABC: [u8; 32] = [
     0xb0, 0x03, 0x61, 0xa3, 0x96, 0x17, 0x7a, 0x9c, 0xb4, 0x10, 0xff, 0x61, 0xf2, 0x00, 0x15, 0xad,
 ];
 
-/// A manifest whose rows have the published digests of the empty text and of `abc`.
+/// A manifest whose rows have the published digests of the empty text and of `abc`, and one more.
 const MANIFEST: &str =
-    "id,type,watermark,prevId,resend,sha256\nF1,FULL,2024-03-03T00:00:00Z,X9,007,e3b0c44298fc1c149afbf4c8996fb92427ae41e4649b934ca495991b7852b855\nD2,DIFF,2024-03-04T00:00:00.0Z,F1,,BA7816BF8F01CFEA414140DE5DAE2223B00361A396177A9CB410FF61F20015AD\n";
+    "id,type,watermark,prevId,resend,sha256\nF1,FULL,2024-03-03T00:00:00Z,X9,007,e3b0c44298fc1c149afbf4c8996fb92427ae41e4649b934ca495991b7852b855\nD2,DIFF,2024-03-04T00:00:00.0Z,F1,,BA7816BF8F01CFEA414140DE5DAE2223B00361A396177A9CB410FF61F20015AD\nF3,FULL,2024-03-05T00:00:00Z,,999999,00000000000000000000000000000000000000000000000000000000000000fF\n";
 
 /// Its rows: id, type, watermark, previous id, resend and digest.
 const ROWS: &str =
     "F1 FULL 1709424000000000000 X9 7 e3b0c44298fc1c149afbf4c8996fb92427ae41e4649b934ca495991b7852b855
 D2 DIFF 1709510400000000000 F1 0 ba7816bf8f01cfea414140de5dae2223b00361a396177a9cb410ff61f20015ad
+F3 FULL 1709596800000000000 (none) 999999 00000000000000000000000000000000000000000000000000000000000000ff
 ";
 
 /// Texts that begin with another line than the heading, or with the heading in another form.
@@ -41,7 +42,7 @@ const FIRST_LINES: [(&[u8], &str); 5] = [
 ];
 
 /// Rows, each as its first five fields and its digest as a number, and the least fault.
-const TEXTS: [(&[(&str, u32)], &str); 31] = [
+const TEXTS: [(&[(&str, u32)], &str); 34] = [
     // Worked manifests.
     (
         &[
@@ -80,6 +81,16 @@ const TEXTS: [(&[(&str, u32)], &str); 31] = [
     (&[("F1,FULL,2024-03-03T00:00:00Z,,0,0g", 0)], "M9 row 1"),
     (&[("F1,DIFF,2024-03-03T00:00:00Z,F1,0", 1)], "M12 row 1"),
     (&[("F1,DIFF,2024-03-03T00:00:00Z,F2,0", 1)], "listed 1"),
+    (&[("F1,FULL,2024-03-03T00:00:00Z,,999999", 1)], "listed 1"),
+    (&[("F1,FULL,2024-03-03T00:00:00Z,,1000000", 1)], "M8 row 1"),
+    // The greatest resend is another revision.
+    (
+        &[
+            ("F1,FULL,2024-03-03T00:00:00Z,,999998", 1),
+            ("F1,FULL,2024-03-03T00:00:00Z,,999999", 2),
+        ],
+        "listed 2",
+    ),
     // The least of two.
     (
         &[
@@ -213,7 +224,7 @@ const F2: Listed = Listed {
 };
 
 /// Two rows, and the least fault.
-const PAIRS: [(Listed, Listed, &str); 10] = [
+const PAIRS: [(Listed, Listed, &str); 11] = [
     (F1, D2, "listed 2"),
     (
         F1,
@@ -265,6 +276,14 @@ const PAIRS: [(Listed, Listed, &str); 10] = [
         },
         F2,
         "M8 row 1",
+    ),
+    (
+        Listed {
+            resend: 999_999,
+            ..F1
+        },
+        F2,
+        "listed 2",
     ),
 ];
 

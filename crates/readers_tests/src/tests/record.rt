@@ -14,20 +14,67 @@ const CONTACT: &[u8] =
 type Cells = (&'static str, &'static [(&'static str, &'static str)]);
 
 /// Objects, each with its parent and children, its rows as a text, its record and the record's length.
-const OBJECTS: [(Cells, &[Cells], &str, &[u8], usize); 1] = [(
-    ("contact", &[("id", "C1"), ("clID", "R1")]),
-    &[],
-    "contact id=C1 clID=R1\n",
-    CONTACT,
-    45,
-)];
+const OBJECTS: [(Cells, &[Cells], &str, &[u8], usize); 4] = [
+    (
+        ("contact", &[("id", "C1"), ("clID", "R1")]),
+        &[],
+        "contact id=C1 clID=R1\n",
+        CONTACT,
+        45,
+    ),
+    (
+        ("domain", &[("name", "a.example"), ("clID", "R1")]),
+        &[
+            (
+                "domainNs",
+                &[("domainName", "a.example"), ("hostName", "ns1.x")],
+            ),
+            ("domainNs", &[]),
+            (
+                "domainStatus",
+                &[
+                    ("status", "ok"),
+                    ("name", "A.example"),
+                    ("reason", "\u{e9}"),
+                ],
+            ),
+        ],
+        "domain name=a.example clID=R1\n  domainNs domainName=a.example hostName=ns1.x\n  domainNs\n  domainStatus status=ok name=A.example reason=\u{e9}\n",
+        b"\x00\x00\x00\x04\x00\x00\x00\x06domain\x00\x00\x00\x02\x00\x00\x00\x04name\x00\x00\x00\x09a.example\x00\x00\x00\x04clID\x00\x00\x00\x02R1\x00\x00\x00\x08domainNs\x00\x00\x00\x02\x00\x00\x00\x0adomainName\x00\x00\x00\x09a.example\x00\x00\x00\x08hostName\x00\x00\x00\x05ns1.x\x00\x00\x00\x08domainNs\x00\x00\x00\x00\x00\x00\x00\x0cdomainStatus\x00\x00\x00\x03\x00\x00\x00\x06status\x00\x00\x00\x02ok\x00\x00\x00\x04name\x00\x00\x00\x09A.example\x00\x00\x00\x06reason\x00\x00\x00\x02\xc3\xa9",
+        206,
+    ),
+    // A row without cells alone, and texts without bytes.
+    (
+        ("idn", &[]),
+        &[],
+        "idn\n",
+        b"\x00\x00\x00\x01\x00\x00\x00\x03idn\x00\x00\x00\x00",
+        15,
+    ),
+    (
+        ("host", &[("name", "")]),
+        &[("", &[("", "")])],
+        "host name=\n   =\n",
+        b"\x00\x00\x00\x02\x00\x00\x00\x04host\x00\x00\x00\x01\x00\x00\x00\x04name\x00\x00\x00\x00\x00\x00\x00\x00\x00\x00\x00\x01\x00\x00\x00\x00\x00\x00\x00\x00",
+        44,
+    ),
+];
 
 /// Bytes that are no record.
-const OTHERS: [&[u8]; 4] = [
+const OTHERS: [&[u8]; 11] = [
     b"\x00\x00\x00\x01\x00\x00\x00\x07contact\x00\x00\x00\x02\x00\x00\x00\x02id\x00\x00\x00\x02C1\x00\x00\x00\x04clID\x00\x00\x00\x02R",
     b"\x00\x00\x00\x00",
     b"\x00\x00\x00\x01\x00\x00\x00\x01\xff\x00\x00\x00\x00",
     b"\x00\x00\x00\x01\x00\x00\x00\x01t\x00\x00\x00\x00!",
+    // One row too few and one too many, one cell too few and one too many, a cell without its value.
+    b"\x00\x00\x00\x02\x00\x00\x00\x07contact\x00\x00\x00\x02\x00\x00\x00\x02id\x00\x00\x00\x02C1\x00\x00\x00\x04clID\x00\x00\x00\x02R1",
+    b"\x00\x00\x00\x01\x00\x00\x00\x07contact\x00\x00\x00\x02\x00\x00\x00\x02id\x00\x00\x00\x02C1\x00\x00\x00\x04clID\x00\x00\x00\x02R1\x00\x00\x00\x03idn\x00\x00\x00\x00",
+    b"\x00\x00\x00\x01\x00\x00\x00\x03idn\x00\x00\x00\x01",
+    b"\x00\x00\x00\x01\x00\x00\x00\x03idn\x00\x00\x00\x00\x00\x00\x00\x01a\x00\x00\x00\x01b",
+    b"\x00\x00\x00\x01\x00\x00\x00\x03idn\x00\x00\x00\x01\x00\x00\x00\x01a",
+    // The greatest number of rows, and the greatest length.
+    b"\xff\xff\xff\xff\x00\x00\x00\x03idn\x00\x00\x00\x00",
+    b"\x00\x00\x00\x01\xff\xff\xff\xffidn\x00\x00\x00\x00",
 ];
 
 fn object_of(alloc: Global, parent: Cells, children: &[Cells]) -> Result<Object, NoMemory> {

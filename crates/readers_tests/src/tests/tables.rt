@@ -34,7 +34,7 @@ struct Full<'a> {
 }
 
 /// Fulls, and what they hold.
-const FULLS: [(Full<'static>, &str); 3] = [
+const FULLS: [(Full<'static>, &str); 4] = [
     // The last row of a lowered key counts.
     (
         Full {
@@ -76,6 +76,25 @@ const FULLS: [(Full<'static>, &str); 3] = [
             ],
         },
         "F1, 0 counts\nContact C1: contact id=C1 clID=R1\n1 orphans\n",
+    ),
+    // Three contact rows have no parent row, in other letters or of another id; two of the name servers have none,
+    // and a status stands at a domain that has a contact's id.
+    (
+        Full {
+            contents: &[CONTACTS, CONTACT_STATUSES, DOMAINS, NAME_SERVERS, STATUSES],
+            deletes: &[],
+            files: &[
+                ("c.csv", b"C1,R1\n"),
+                ("cs.csv", b"C1,ok\nc1,ok\nC2,ok\nC2,linked\n"),
+                ("d.csv", b"a.example,R1,C1\n"),
+                (
+                    "ns.csv",
+                    b"A.EXAMPLE,ns1.x\nb.example,ns1.x\nB.example,ns2.x\n",
+                ),
+                ("st.csv", b"ok,C1\nok,a.example\n"),
+            ],
+        },
+        "F1, 0 counts\nContact C1: contact id=C1 clID=R1\n  contactStatus id=C1 status=ok\nDomain a.example: domain name=a.example clID=R1 registrant=C1\n  domainNs domainName=A.EXAMPLE hostName=ns1.x\n  domainStatus status=ok name=a.example\n6 orphans\n",
     ),
 ];
 
