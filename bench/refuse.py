@@ -4,8 +4,8 @@ answer that changes in place of the error.
 
 Over the program, on the second sample release: `init`, `take` and `export` have to say S2 (for the database S1) with status 3, and
 the folder taken again, undisturbed, has to give the receipts and exports of an undisturbed run. Over each program of TESTS (as
-`crates/esc_tables/out/esc_tables_tests`, which `rt test` leaves there): a test has to pass or to meet want of memory. Of more
-than N allocations (1,000) every k-th is refused. It needs gcc. The last line ends with `wrong M`."""
+`crates/readers_tests/out/readers_tests_tests`, which `rt test` leaves there): a test has to pass or to meet want of memory. Of
+more than N allocations (1,000) every k-th is refused. It needs gcc. The last line ends with `wrong M`."""
 import argparse, os, shutil, subprocess, sys, tempfile
 
 HERE = os.path.dirname(os.path.abspath(__file__))

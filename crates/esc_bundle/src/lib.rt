@@ -48,6 +48,3 @@ pub use laws::{
 pub use reading::sections;
 pub use section::Section;
 pub use writing::write_bundle;
-
-#[cfg(test)]
-mod tests;

@@ -52,6 +52,3 @@ pub use kind::Kind;
 pub use moment::{printed_watermarks_are_read, watermark, watermark_text, watermarks_are_moments};
 pub use place::{DepositType, Place};
 pub use table::Table;
-
-#[cfg(test)]
-mod tests;

@@ -40,8 +40,6 @@ mod reading;
 mod record;
 mod row;
 mod rows;
-#[cfg(test)]
-mod tests;
 
 pub use fault::MFault;
 pub use laws::{accepted_texts_are_read_whole, rows_without_fault_are_accepted};

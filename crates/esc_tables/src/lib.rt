@@ -47,8 +47,6 @@ mod row;
 mod rows;
 mod survey;
 mod tables;
-#[cfg(test)]
-mod tests;
 
 pub use deposit::Deposit;
 pub use key::Key;

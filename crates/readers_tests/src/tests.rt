@@ -1,0 +1,8 @@
+//! A module for each crate.
+
+mod bundle;
+mod envelope;
+mod manifest;
+mod record;
+mod shown;
+mod tables;

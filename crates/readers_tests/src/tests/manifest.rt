@@ -1,0 +1,470 @@
+//! Manifests: the least fault of texts and of rows, and the values of fields.
+
+use esc_envelope::{DepositType, Header, Place};
+use esc_manifest::{MFault, MRow, Manifest, from_rows, read_manifest};
+use std::alloc::Global;
+use std::test::Fail;
+
+const HEADING: &str = "id,type,watermark,prevId,resend,sha256\n";
+
+// 2024-03-03T00:00:00Z, and the days after it.
+const THIRD: i64 = 1_709_424_000_000_000_000;
+
+const FOURTH: i64 = 1_709_510_400_000_000_000;
+
+/// The SHA-256 of `abc` (FIPS 180-4).
+const DIGEST_OF_ABC: [u8; 32] = [
+    0xba, 0x78, 0x16, 0xbf, 0x8f, 0x01, 0xcf, 0xea, 0x41, 0x41, 0x40, 0xde, 0x5d, 0xae, 0x22, 0x23,
+    0xb0, 0x03, 0x61, 0xa3, 0x96, 0x17, 0x7a, 0x9c, 0xb4, 0x10, 0xff, 0x61, 0xf2, 0x00, 0x15, 0xad,
+];
+
+/// A manifest whose rows have the published digests of the empty text and of `abc`, and one more.
+const MANIFEST: &str =
+    "id,type,watermark,prevId,resend,sha256\nF1,FULL,2024-03-03T00:00:00Z,X9,007,e3b0c44298fc1c149afbf4c8996fb92427ae41e4649b934ca495991b7852b855\nD2,DIFF,2024-03-04T00:00:00.0Z,F1,,BA7816BF8F01CFEA414140DE5DAE2223B00361A396177A9CB410FF61F20015AD\nF3,FULL,2024-03-05T00:00:00Z,,999999,00000000000000000000000000000000000000000000000000000000000000fF\n";
+
+/// Its rows: id, type, watermark, previous id, resend and digest.
+const ROWS: &str =
+    "F1 FULL 1709424000000000000 X9 7 e3b0c44298fc1c149afbf4c8996fb92427ae41e4649b934ca495991b7852b855
+D2 DIFF 1709510400000000000 F1 0 ba7816bf8f01cfea414140de5dae2223b00361a396177a9cb410ff61f20015ad
+F3 FULL 1709596800000000000 (none) 999999 00000000000000000000000000000000000000000000000000000000000000ff
+";
+
+/// Texts that begin with another line than the heading, or with the heading in another form.
+const FIRST_LINES: [(&[u8], &str); 5] = [
+    (b"", "M3 row 0"),
+    (b"id,type,watermark,prevId,resend\n", "M2 row 0"),
+    (b"id,type,watermark,previd,resend,sha256\n", "M3 row 0"),
+    (b"\"id\",type,watermark,prevId,resend,sha256", "listed 0"),
+    (
+        b"\xef\xbb\xbfid,type,watermark,prevId,resend,sha256\n",
+        "listed 0",
+    ),
+];
+
+/// Rows, each as its first five fields and its digest as a number, and the least fault.
+const TEXTS: [(&[(&str, u32)], &str); 34] = [
+    // Worked manifests.
+    (
+        &[
+            ("F1,FULL,2024-03-03T00:00:00Z,,", 1),
+            ("D2,DIFF,2024-03-03T00:00:00Z,F1,", 2),
+        ],
+        "M12 row 2",
+    ),
+    (
+        &[
+            ("F1,FULL,2024-03-03T00:00:00Z,,", 1),
+            ("F1,FULL,2024-03-03T00:00:00Z,,0", 2),
+        ],
+        "M10 row 2",
+    ),
+    (
+        &[
+            ("F1,FULL,2024-03-03T00:00:00Z,,,xy", 0),
+            ("a b,DIFF,2024-03-04T00:00:00Z,F1,", 2),
+        ],
+        "M4 row 2",
+    ),
+    (&[], "listed 0"),
+    // Each fault alone.
+    (&[("F1,FULL,2024-03-03T00:00:00Z,,0", 0)], "M2 row 1"),
+    (&[("F1,FULL,2024-03-03T00:00:00Z,,0,,", 1)], "M2 row 1"),
+    (&[(",FULL,2024-03-03T00:00:00Z,,0", 1)], "M4 row 1"),
+    (&[("F\u{e4},FULL,2024-03-03T00:00:00Z,,0", 1)], "M4 row 1"),
+    (&[("F1,FULL,2024-03-03T00:00:00Z,a b,0", 1)], "M4 row 1"),
+    (&[("F1,full,2024-03-03T00:00:00Z,,0", 1)], "M5 row 1"),
+    (&[("F1,FULL,2024-02-30T00:00:00Z,,0", 1)], "M6 row 1"),
+    (&[("F1,FULL,2262-01-01T00:00:00Z,,0", 1)], "M6 row 1"),
+    (&[("F1,DIFF,2024-03-03T00:00:00Z,,0", 1)], "M7 row 1"),
+    (&[("F1,FULL,2024-03-03T00:00:00Z,,0000000", 1)], "M8 row 1"),
+    (&[("F1,FULL,2024-03-03T00:00:00Z,,+1", 1)], "M8 row 1"),
+    (&[("F1,FULL,2024-03-03T00:00:00Z,,0,0g", 0)], "M9 row 1"),
+    (&[("F1,DIFF,2024-03-03T00:00:00Z,F1,0", 1)], "M12 row 1"),
+    (&[("F1,DIFF,2024-03-03T00:00:00Z,F2,0", 1)], "listed 1"),
+    (&[("F1,FULL,2024-03-03T00:00:00Z,,999999", 1)], "listed 1"),
+    (&[("F1,FULL,2024-03-03T00:00:00Z,,1000000", 1)], "M8 row 1"),
+    // The greatest resend is another revision.
+    (
+        &[
+            ("F1,FULL,2024-03-03T00:00:00Z,,999998", 1),
+            ("F1,FULL,2024-03-03T00:00:00Z,,999999", 2),
+        ],
+        "listed 2",
+    ),
+    // The least of two.
+    (
+        &[
+            ("F1,FULL,2024-03-03T00:00:00Z,,0", 1),
+            ("F1,INCR,2024-03-03T00:00:00Z,,0", 2),
+        ],
+        "M11 row 2",
+    ),
+    (
+        &[
+            ("F1,FULL,2024-03-03T00:00:00Z,,0", 1),
+            ("F2,FULL,2024-03-04T00:00:00Z,,0", 1),
+        ],
+        "M13 row 2",
+    ),
+    (
+        &[
+            ("F1,FULL,2024-03-03T00:00:00Z,,0", 1),
+            ("F2,FULL,2024-03-03T00:00:00.0Z,,", 2),
+        ],
+        "M10 row 2",
+    ),
+    (
+        &[
+            ("D1,DIFF,2024-03-03T00:00:00Z,F2,0", 1),
+            ("F2,FULL,2024-03-03T00:00:00Z,,0", 2),
+        ],
+        "M12 row 1",
+    ),
+    (
+        &[
+            ("F1,full,2024-03-03T00:00:00Z,,0", 1),
+            ("F 2,FULL,2024-03-03T00:00:00Z,,0", 1),
+        ],
+        "M4 row 2",
+    ),
+    (
+        &[
+            ("F1,FULL,2024-03-03,,0", 1),
+            ("F1,,2024-03-03T00:00:00Z,,0", 1),
+        ],
+        "M5 row 2",
+    ),
+    (
+        &[
+            ("F1,DIFF,2024-03-03T00:00:00Z,,0", 1),
+            ("F1,FULL,2024-03-03,,0", 1),
+        ],
+        "M6 row 2",
+    ),
+    (
+        &[
+            ("F1,FULL,2024-03-03T00:00:00Z,,x", 1),
+            ("F1,DIFF,2024-03-03T00:00:00Z,,0", 1),
+        ],
+        "M7 row 2",
+    ),
+    (
+        &[
+            ("F1,FULL,2024-03-03T00:00:00Z,,0,1", 0),
+            ("F1,FULL,2024-03-03T00:00:00Z,,x", 1),
+        ],
+        "M8 row 2",
+    ),
+    (
+        &[
+            ("F1,FULL,2024-03-03T00:00:00Z,,0", 1),
+            ("F1,FULL,2024-03-03T00:00:00Z,,0,1", 0),
+        ],
+        "M9 row 2",
+    ),
+    (
+        &[
+            ("F1,FULL,2024-03-03T00:00:00Z,,0", 1),
+            ("F1,FULL,2024-03-03T00:00:00Z,,0", 1),
+        ],
+        "M10 row 2",
+    ),
+    (
+        &[
+            ("F1,FULL,2024-03-03T00:00:00Z,,0", 1),
+            ("F1,DIFF,2024-03-03T00:00:00Z,F1,0", 1),
+        ],
+        "M11 row 2",
+    ),
+    (
+        &[
+            ("F1,FULL,2024-03-03T00:00:00Z,,0", 1),
+            ("D2,DIFF,2024-03-03T00:00:00Z,F1,0", 1),
+        ],
+        "M12 row 2",
+    ),
+];
+
+/// A row that is listed; each byte of its digest is the same.
+#[derive(Clone, Copy)]
+struct Listed {
+    id: &'static str,
+    watermark: i64,
+    kind: DepositType,
+    prev: Option<&'static str>,
+    resend: u32,
+    digest: u8,
+}
+
+const F1: Listed = Listed {
+    id: "F1",
+    watermark: THIRD,
+    kind: DepositType::Full,
+    prev: None,
+    resend: 0,
+    digest: 1,
+};
+
+const D2: Listed = Listed {
+    id: "D2",
+    watermark: FOURTH,
+    kind: DepositType::Diff,
+    prev: Some("F1"),
+    resend: 0,
+    digest: 2,
+};
+
+const F2: Listed = Listed {
+    id: "F2",
+    watermark: FOURTH,
+    kind: DepositType::Full,
+    prev: None,
+    resend: 0,
+    digest: 2,
+};
+
+/// Two rows, and the least fault.
+const PAIRS: [(Listed, Listed, &str); 11] = [
+    (F1, D2, "listed 2"),
+    (
+        F1,
+        Listed {
+            prev: Some(""),
+            ..D2
+        },
+        "M4 row 2",
+    ),
+    (
+        F1,
+        Listed {
+            watermark: -1,
+            ..D2
+        },
+        "M6 row 2",
+    ),
+    (
+        F1,
+        Listed {
+            watermark: 9_214_646_400_000_000_000,
+            ..D2
+        },
+        "M6 row 2",
+    ),
+    (
+        F1,
+        Listed {
+            watermark: THIRD,
+            ..F2
+        },
+        "M10 row 2",
+    ),
+    (F1, Listed { id: "F1", ..F2 }, "M11 row 2"),
+    (
+        F1,
+        Listed {
+            watermark: THIRD,
+            ..D2
+        },
+        "M12 row 2",
+    ),
+    (F1, Listed { digest: 1, ..D2 }, "M13 row 2"),
+    (F1, Listed { prev: None, ..D2 }, "M7 row 2"),
+    (
+        Listed {
+            resend: 1_000_000,
+            ..F1
+        },
+        F2,
+        "M8 row 1",
+    ),
+    (
+        Listed {
+            resend: 999_999,
+            ..F1
+        },
+        F2,
+        "listed 2",
+    ),
+];
+
+// A text of the heading and rows: each row's first five fields, and its digest as a number; 0 adds no sixth field.
+fn text_of(alloc: Global, rows: &[(&str, u32)]) -> Result<String, Fail> {
+    let mut text = String::from_str(alloc, HEADING)?;
+    for (front, digest) in rows {
+        text.push_str(front)?;
+        if *digest > 0 {
+            let last = format!(in alloc; ",{digest:064}")?;
+            text.push_str(last.as_str())?;
+        }
+        text.push_str("\n")?;
+    }
+    Ok(text)
+}
+
+// What is said of a manifest or a fault.
+fn said(alloc: Global, read: Result<Manifest, MFault>) -> Result<String, Fail> {
+    match read {
+        Ok(manifest) => {
+            let count = manifest.rows().len();
+            Ok(format!(in alloc; "listed {count}")?)
+        }
+        Err(fault) => Ok(format!(in alloc; "{fault}")?),
+    }
+}
+
+fn told(alloc: Global, text: &[u8]) -> Result<String, Fail> {
+    said(alloc, read_manifest(alloc, text))
+}
+
+fn told_of(alloc: Global, rows: &[(&str, u32)]) -> Result<String, Fail> {
+    let text = text_of(alloc, rows)?;
+    told(alloc, text.as_bytes())
+}
+
+fn row_of(alloc: Global, listed: &Listed) -> Result<MRow, Fail> {
+    let prev = match listed.prev {
+        Some(prev) => Some(String::from_str(alloc, prev)?),
+        None => None,
+    };
+    let header = Header {
+        id: String::from_str(alloc, listed.id)?,
+        place: Place {
+            watermark: listed.watermark,
+            kind: listed.kind,
+        },
+        prev,
+        resend: listed.resend,
+    };
+    Ok(MRow {
+        header,
+        digest: [listed.digest; 32],
+    })
+}
+
+fn told_of_two(alloc: Global, first: &Listed, second: &Listed) -> Result<String, Fail> {
+    let mut rows = Vec::new(alloc);
+    rows.push(row_of(alloc, first)?)?;
+    rows.push(row_of(alloc, second)?)?;
+    said(alloc, from_rows(alloc, rows))
+}
+
+// Id, type, watermark, previous id, resend and digest of a row.
+fn line_of(alloc: Global, row: &MRow) -> Result<String, Fail> {
+    let id = row.header.id.as_str();
+    let kind = row.header.place.kind.name();
+    let watermark = row.header.place.watermark;
+    let prev = match &row.header.prev {
+        Some(prev) => prev.as_str(),
+        None => "(none)",
+    };
+    let resend = row.header.resend;
+    let mut line = format!(in alloc; "{id} {kind} {watermark} {prev} {resend} ")?;
+    for byte in row.digest {
+        let digits = format!(in alloc; "{byte:02x}")?;
+        line.push_str(digits.as_str())?;
+    }
+    Ok(line)
+}
+
+// The lines of rows and the lines of their copies.
+fn lines_of(alloc: Global, rows: &[MRow]) -> Result<(String, String), Fail> {
+    let mut lines = String::new(alloc);
+    let mut copied = String::new(alloc);
+    for row in rows {
+        let copy = row.copy(alloc)?;
+        lines.push_str(line_of(alloc, row)?.as_str())?;
+        lines.push_str("\n")?;
+        copied.push_str(line_of(alloc, &copy)?.as_str())?;
+        copied.push_str("\n")?;
+    }
+    Ok((lines, copied))
+}
+
+// So many Fulls, one nanosecond apart.
+fn many(alloc: Global, count: u32) -> Result<String, Fail> {
+    let mut text = String::from_str(alloc, HEADING)?;
+    for number in 1..=count {
+        let row = format!(in alloc;
+            "F{number},FULL,2024-03-03T00:00:00.{number:09}Z,,,{number:064}\n"
+        )?;
+        text.push_str(row.as_str())?;
+    }
+    Ok(text)
+}
+
+#[test]
+fn faults_of_the_first_line(rt: HostRuntime) -> Result<(), Fail> {
+    for (text, said) in FIRST_LINES {
+        assert_eq!(rt; told(rt.alloc(), text)?.as_str(), said, "{text:?}");
+    }
+    Ok(())
+}
+
+#[test]
+fn the_least_fault_of_a_text(rt: HostRuntime) -> Result<(), Fail> {
+    for (rows, said) in TEXTS {
+        assert_eq!(rt; told_of(rt.alloc(), rows)?.as_str(), said, "{rows:?}");
+    }
+    Ok(())
+}
+
+#[test]
+fn the_least_fault_of_rows(rt: HostRuntime) -> Result<(), Fail> {
+    for (first, second, said) in &PAIRS {
+        let told = told_of_two(rt.alloc(), first, second)?;
+        assert_eq!(rt; told.as_str(), *said);
+    }
+    Ok(())
+}
+
+#[test]
+fn values_of_fields(rt: HostRuntime) -> Result<(), Fail> {
+    let manifest = read_manifest(rt.alloc(), MANIFEST.as_bytes())?;
+    let (lines, copied) = lines_of(rt.alloc(), manifest.rows())?;
+    assert_eq!(rt; (lines.as_str(), copied.as_str()), (ROWS, ROWS));
+    Ok(())
+}
+
+#[test]
+fn rows_are_found_by_their_digest(rt: HostRuntime) -> Result<(), Fail> {
+    let manifest = read_manifest(rt.alloc(), MANIFEST.as_bytes())?;
+    for (first, row) in [(0xba, Some(1)), (0, None)] {
+        let mut digest = DIGEST_OF_ABC;
+        digest[0] = first;
+        assert_eq!(rt; manifest.row_by_digest(&digest), row, "{first}");
+    }
+    Ok(())
+}
+
+#[test]
+fn the_most_rows_of_a_text(rt: HostRuntime) -> Result<(), Fail> {
+    for (count, said) in [(4096, "listed 4096"), (4097, "M1 row 0")] {
+        let text = many(rt.alloc(), count)?;
+        assert_eq!(rt; told(rt.alloc(), text.as_bytes())?.as_str(), said);
+    }
+    Ok(())
+}
+
+#[test]
+fn the_most_bytes(rt: HostRuntime) -> Result<(), Fail> {
+    for (length, said) in [(4_194_304, "listed 0"), (4_194_305, "M1 row 0")] {
+        let mut text = Vec::from_slice(rt.alloc(), HEADING.as_bytes())?;
+        text.resize(length, b'\n')?;
+        assert_eq!(rt; told(rt.alloc(), text.as_slice())?.as_str(), said);
+    }
+    Ok(())
+}
+
+#[test]
+fn more_rows_than_a_manifest_has(rt: HostRuntime) -> Result<(), Fail> {
+    let alloc = rt.alloc();
+    let mut rows = Vec::new(alloc);
+    for _ in 0..4097 {
+        rows.push(row_of(alloc, &F1)?)?;
+    }
+    assert_eq!(rt;
+        from_rows(alloc, rows).err(),
+        Some(MFault::Refused { code: 1, row: 0 })
+    );
+    Ok(())
+}
