@@ -1,6 +1,7 @@
 //! From sections to bytes.
 
-ghost use Rattle.std.specs.Prelude.{◌≡◌, ◌++◌, [], ℕ, List, Ok, Err, OnOk, IfOk, IfErr, MatchResult, IsErrAnd, ◌⊎◌, map};
+ghost use Rattle.std.specs.Prelude.{◌≡◌, ◌++◌, ◌∷◌, [], ℕ, List, length, Ok, Err, OnOk, IfOk, IfErr, MatchResult, IsErrAnd, ◌⊎◌, map};
+ghost use Rattle.std.specs.Fmt.{decimal};
 ghost use Rattle.esc_bundle.specs.Bundle.{view, views, section_text, bundle_text, IsBundle};
 ghost use Rattle.esc_bundle.specs.Steps.{GivesOrNoMemory};
 ghost use Rattle.esc_bundle.specs.Writing.{named, in_order, within_limit, bundle_of};
@@ -30,15 +31,22 @@ fn in_order(alloc: Global, list: &[(String, Vec<u8>)]) -> Result<Vec<Section<'_>
     Ok(before)
 }
 
+// The line above the bytes of a section.
+fn push_line(alloc: Global, text: &mut Vec<u8>, section: &Section<'_>) -> Result<(), NoMemory>
+    ensures { OnOk result (text.new.items ≡ text.old.items ++ (section.now.name.now
+        ++ (32 ∷ (decimal (length section.now.bytes.now) ++ (10 ∷ []))))) }
+{
+    let name = section.name;
+    let len = section.bytes.len();
+    let line = format!(in alloc; "{name} {len}\n")?;
+    text.extend_from_slice(line.as_bytes())?;
+    Ok(())
+}
+
 fn push_section(alloc: Global, text: &mut Vec<u8>, section: &Section<'_>) -> Result<(), NoMemory>
     ensures { OnOk result (text.new.items ≡ text.old.items ++ section_text (view section.now)) }
 {
-    let len = section.bytes.len();
-    let size = format!(in alloc; "{len}")?;
-    text.extend_from_slice(section.name.as_bytes())?;
-    text.push(b' ')?;
-    text.extend_from_slice(size.as_bytes())?;
-    text.push(b'\n')?;
+    push_line(alloc, text, section)?;
     text.extend_from_slice(section.bytes)?;
     text.push(b'\n')?;
     Ok(())
