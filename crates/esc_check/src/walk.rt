@@ -83,6 +83,24 @@ fn finish(
     Ok(listed(settle(found)))
 }
 
+// Takes in all objects of a source.
+fn gather<O: Objects>(
+    alloc: Global,
+    o: &mut O,
+    limit: &Limit,
+) -> Result<Gathering, StreamFault<O::Error>>
+    ensures follows { O.follows o.old o.new }
+    ensures source { IfErr result (λ fault. IfSource fault (O.has_failed o.new)) }
+    ensures leads { IfOk result (λ g. O.is_honest o.new → (es : List Entry) → O.lists o.old es
+        → InOrder es × Leads limit.now.moment (string_bytes limit.now.text) g [] es) }
+{
+    let mut gathered = start(alloc);
+    while let Some((key, object)) = o.next().map_err(StreamFault::Source)? {
+        take_in(alloc, &mut gathered, limit, key, &object)?;
+    }
+    Ok(gathered)
+}
+
 /// What `verify` finds in the tables of a registry, found of their objects as they come one at a time. It takes memory for
 /// what is found, for the keys, and for the links that lead to what had not come before them.
 pub fn verify_from<O: Objects>(
@@ -97,9 +115,6 @@ pub fn verify_from<O: Objects>(
     ensures each { IfOk result (λ found. O.is_honest o.new → (es : List Entry) → O.lists o.old es → (f : FindingValue) → Contains found.items f ↔ IsFinding (tables_of es) watermark counts.now.entries f) }
 {
     let limit = limit_at(alloc, watermark)?;
-    let mut gathered = start(alloc);
-    while let Some((key, object)) = o.next().map_err(StreamFault::Source)? {
-        take_in(alloc, &mut gathered, &limit, key, &object)?;
-    }
+    let gathered = gather(alloc, o, &limit)?;
     Ok(finish(alloc, gathered, counts)?)
 }

@@ -1,43 +1,15 @@
-use Rattle.std.proofs.Common.{◌≡◌, List, ap, subst, ◌∙◌, string_bytes, w64, to_z, of_z}
+use Rattle.std.proofs.Common.{◌≡◌, [], ap, subst, ◌∙◌, w64, to_z, of_z}
 use Rattle.std.proofs.lemmas.Int.{to_z-of_z}
 use Rattle.esc_check.specs.Findings.{printed}
 use Rattle.esc_check.specs.Gathered.{Leads}
-use Rattle.esc_check.specs.Tables.{Entry}
-use Rattle.esc_check.proofs.Steps.{came}
 use Rattle.esc_check.proofs.walk.verify_from.Goals as goal
-
-pub loop-gathered-init : goal.loop-gathered-init
-loop-gathered-init g c = record {
-  follows = g.met.O.Objects.stays _;
-  gathered = λ honest es lists. (es, lists, c.start-gathered.ensures _ _ es);
-}
-
-pub returns-in_err-take_in-clause-follows : goal.returns-in_err-take_in-clause-follows
-returns-in_err-take_in-clause-follows g c = g.met.O.Objects.goes_on _ _ _ c.loop-gathered.invariant.follows c.next.ensures.follows
-
-pub loop-gathered-preserved : goal.loop-gathered-preserved
-loop-gathered-preserved g c =
-    let objects = g.met.O.Objects in
-    record {
-      follows = objects.goes_on _ _ _ c.loop-gathered.invariant.follows c.next.ensures.follows;
-      gathered = λ honest es lists.
-          let before = c.loop-gathered.invariant.gathered (objects.was_honest _ _ c.next.ensures.follows honest) es lists in
-          let gave = came _ _ c.next.result c.map_err.result c.in_ok-key.field-0 c.map_err.ensures.cases c.in_ok-key.was c.next.ensures.given honest before.0 before.1 in
-          let one = rw c.in-Some.is at gave in
-          let limit = c.in_ok-limit.limit in
-          let leads = subst (λ (l : List Entry). Leads limit.moment (string_bytes limit.text) c.loop-gathered.gathered l es) one.1 before.2 in
-          (one.0, one.2, c.in_ok-take_in.ensures one.0 es (objects.in_order _ es lists) leads);
-    }
 
 pub returns-clause-each : goal.returns-clause-each
 returns-clause-each g c = λ honest es lists.
-    let objects = g.met.O.Objects in
-    let before = c.loop-gathered.invariant.gathered (objects.was_honest _ _ c.next.ensures.follows honest) es lists in
-    let gave = came _ _ c.next.result c.map_err.result c.in_ok-key.field-0 c.map_err.ensures.cases c.in_ok-key.was c.next.ensures.given honest before.0 before.1 in
-    let none = rw c.in_default.is at gave in
     let limit = c.in_ok-limit.ensures in
     let back : to_z w64 (of_z w64 c.args.watermark) ≡ c.args.watermark = to_z-of_z w64 c.args.watermark c.ranges.watermark in
     let moment = limit.moment ∙ back in
     let text = limit.text ∙ ap printed back in
-    let leads = subst (λ (t : Type 0). t) (λ i. Leads (moment i) (text i) c.loop-gathered.gathered (none.0 i) es) before.2 in
-    c.in_ok-finish.ensures.each es c.args.watermark (objects.in_order _ es lists) leads
+    let told = c.in_ok-gathered.ensures.leads honest es lists in
+    let leads = subst (λ (t : Type 0). t) (λ i. Leads (moment i) (text i) c.in_ok-gathered.gathered [] es) told.1 in
+    c.in_ok-finish.ensures.each es c.args.watermark told.0 leads

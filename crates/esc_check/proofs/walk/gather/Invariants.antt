@@ -1,7 +1,7 @@
 use Rattle.std.proofs.Common.{List, string_bytes}
 use Rattle.esc_check.specs.Gathered.{Leads}
 use Rattle.esc_check.specs.Tables.{Entry}
-use Rattle.esc_check.proofs.walk.verify_from.Given as goal
+use Rattle.esc_check.proofs.walk.gather.Given as goal
 
 abbrev pub invariant-loop-gathered : goal.invariant-loop-gathered
 invariant-loop-gathered g l =
