@@ -36,8 +36,6 @@ mod memory;
 mod moves;
 mod objects;
 mod registry;
-#[cfg(test)]
-mod tests;
 
 pub use back::undo_step;
 pub use forward::apply_step;

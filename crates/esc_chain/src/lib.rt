@@ -37,8 +37,6 @@ mod lines;
 mod links;
 mod revision;
 mod stops;
-#[cfg(test)]
-mod tests;
 mod unheld;
 
 pub use base::{Base, base_of};

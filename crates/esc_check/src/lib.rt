@@ -67,6 +67,3 @@ pub use lines::Lines;
 pub use stream::StreamFault;
 pub use verification::verify;
 pub use walk::verify_from;
-
-#[cfg(test)]
-mod tests;

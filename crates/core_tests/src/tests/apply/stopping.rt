@@ -1,6 +1,6 @@
 //! A registry that fails at one of its calls.
 
-use crate::{MemRegistry, Registry};
+use esc_apply::{MemRegistry, Registry};
 use esc_bundle::NoMemory;
 use esc_tables::{Key, Object};
 use std::alloc::Global;

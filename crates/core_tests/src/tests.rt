@@ -1,0 +1,5 @@
+//! The tests, a module for each library.
+
+mod apply;
+mod chain;
+mod check;
