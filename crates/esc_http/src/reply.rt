@@ -1,14 +1,14 @@
 //! Replies as JSON.
 
-ghost use Rattle.std.specs.Prelude.{◌≡◌, IfOk, string_bytes, option_map};
-ghost use Rattle.serde_json.specs.View.{view};
-ghost use Rattle.esc_http.specs.ReplyText.{text_or_null, number_or_null, copy_or_null, reply_data, reply_text};
+ghost use Rattle.std.specs.Prelude.{◌≡◌, IfOk, OnOk, string_bytes, option_map};
+ghost use Rattle.serde_json.specs.View.{view, members_view};
+ghost use Rattle.esc_http.specs.ReplyText.{text_or_null, number_or_null, copy_or_null, with_receipt, with_row, with_holding, reply_data, reply_text};
 ghost use Rattle.esc_http.specs.Words.{fault_of};
 
 use crate::words::{copy_word, fault_of, verdict_word};
 use esc_bundle::NoMemory;
 use esc_desk::{Reply, Verdict};
-use serde_json::{Value, json};
+use serde_json::{Map, Value, json, put};
 use std::alloc::{AllocError, Global};
 
 /// The JSON text of a reply: an object of eight members, where null is what isn't told.
@@ -22,21 +22,53 @@ pub(crate) fn reply_text(alloc: Global, reply: &Reply) -> Result<String, NoMemor
 fn reply_value(alloc: Global, reply: &Reply) -> Result<Value, AllocError>
     ensures { IfOk result (λ value. view value ≡ reply_data reply.now) }
 {
-    let copy = copy_value(alloc, reply.again)?;
+    let mut members = Map::new(alloc);
+    put_receipt(alloc, &mut members, reply)?;
+    put_row(alloc, &mut members, reply)?;
+    put_holding(alloc, &mut members, reply)?;
+    Ok(Value::Object(members))
+}
+
+// Puts what each receipt says.
+fn put_receipt(
+    alloc: Global,
+    members: &mut Map<String, Value>,
+    reply: &Reply,
+) -> Result<(), AllocError>
+    ensures { OnOk result (members_view members.new.entries
+        ≡ with_receipt reply.now (members_view members.old.entries)) }
+{
+    put(members, alloc, "receipt", Value::from(reply.receipt))?;
+    let number = json!(in alloc; reply.number.as_str())?;
+    put(members, alloc, "number", number)?;
+    let verdict = json!(in alloc; verdict_word(reply.verdict))?;
+    put(members, alloc, "verdict", verdict)?;
     let fault = fault_value(alloc, reply.verdict)?;
+    put(members, alloc, "fault", fault)
+}
+
+// Puts what is said of the row that lists the body.
+fn put_row(alloc: Global, members: &mut Map<String, Value>, reply: &Reply) -> Result<(), AllocError>
+    ensures { OnOk result (members_view members.new.entries
+        ≡ with_row reply.now (members_view members.old.entries)) }
+{
     let id = text_value(alloc, &reply.id)?;
-    let orphans = number_value(reply.orphans);
-    let resend = resend_value(reply.resend);
-    json!(in alloc; {
-        "copy": copy,
-        "fault": fault,
-        "id": id,
-        "number": reply.number.as_str(),
-        "orphans": orphans,
-        "receipt": reply.receipt,
-        "resend": resend,
-        "verdict": verdict_word(reply.verdict)
-    })
+    put(members, alloc, "id", id)?;
+    put(members, alloc, "resend", resend_value(reply.resend))
+}
+
+// Puts what is said of a held deposit alone.
+fn put_holding(
+    alloc: Global,
+    members: &mut Map<String, Value>,
+    reply: &Reply,
+) -> Result<(), AllocError>
+    ensures { OnOk result (members_view members.new.entries
+        ≡ with_holding reply.now (members_view members.old.entries)) }
+{
+    let copy = copy_value(alloc, reply.again)?;
+    put(members, alloc, "copy", copy)?;
+    put(members, alloc, "orphans", number_value(reply.orphans))
 }
 
 fn copy_value(alloc: Global, again: Option<bool>) -> Result<Value, AllocError>

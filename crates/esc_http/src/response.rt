@@ -1,7 +1,7 @@
 //! The texts of responses. Each function answers `None` for want of memory.
 
 ghost use Rattle.std.specs.Prelude.{◌≡◌, IfOk, IfSome, string_bytes};
-ghost use Rattle.esc_http.specs.Response.{response_head, response, refusal_response, fault_response, out_of_memory, reply_response, report_response};
+ghost use Rattle.esc_http.specs.Response.{response_head, response, refusal_response, fault_response, out_of_memory, reply_status, reply_response, report_media, report_response};
 
 use crate::plan::Refusal;
 use crate::reply::reply_text;
@@ -78,22 +78,38 @@ pub(crate) fn reply_response(alloc: Global, reply: &Reply) -> Option<Vec<u8>>
     ensures { IfSome result (λ text. text.items ≡ reply_response reply.now) }
 {
     let text = reply_text(alloc, reply).ok()?;
-    let status = match reply.verdict {
+    response(
+        alloc,
+        reply_status(reply.verdict),
+        "application/json",
+        "",
+        text.as_bytes(),
+    )
+}
+
+fn reply_status(verdict: Verdict) -> &'static str
+    ensures { result.now ≡ reply_status verdict }
+{
+    match verdict {
         Verdict::A1 => "200 OK",
         Verdict::A2 | Verdict::A3(_) | Verdict::A4 => "422 Unprocessable Content",
-    };
-    response(alloc, status, "application/json", "", text.as_bytes())
+    }
 }
 
 /// The response with a report.
 pub(crate) fn report_response(alloc: Global, report: Report, text: &[u8]) -> Option<Vec<u8>>
     ensures { IfSome result (λ whole. whole.items ≡ report_response report text.now) }
 {
-    let media = match report {
+    response(alloc, "200 OK", report_media(report), "", text)
+}
+
+fn report_media(report: Report) -> &'static str
+    ensures { result.now ≡ report_media report }
+{
+    match report {
         Report::Status => "text/plain",
         Report::Gaps | Report::Links | Report::Receipts | Report::Export(_) => "text/csv",
-    };
-    response(alloc, "200 OK", media, "", text)
+    }
 }
 
 fn response(alloc: Global, status: &str, media: &str, allow: &str, body: &[u8]) -> Option<Vec<u8>>

@@ -1,6 +1,6 @@
 //! Where the path of a request leads.
 
-ghost use Rattle.std.specs.Prelude.{◌≡◌, IfOk, option_map, option_and_then};
+ghost use Rattle.std.specs.Prelude.{◌≡◌, [], IfOk, OnOk, option_map, option_and_then};
 ghost use Rattle.esc_http.specs.Route.{Leads, route_of, strip, way_to};
 ghost use Rattle.esc_http.specs.Seen.{route_seen};
 ghost use Rattle.esc_http.specs.Router.{rows};
@@ -31,13 +31,21 @@ pub(crate) fn router(alloc: Global) -> Result<Router<Target>, InsertError>
     ensures { IfOk result (λ router. router ≡ rows) }
 {
     let mut router = Router::new(alloc);
+    add_routes(&mut router)?;
+    Ok(router)
+}
+
+fn add_routes(router: &mut Router<Target>) -> Result<(), InsertError>
+    requires { router.old ≡ [] }
+    ensures { OnOk result (router.new ≡ rows) }
+{
     router.insert("/arrivals/{number}", Target::Arrivals)?;
     router.insert("/status", Target::Tells(Report::Status))?;
     router.insert("/gaps", Target::Tells(Report::Gaps))?;
     router.insert("/links", Target::Tells(Report::Links))?;
     router.insert("/receipts", Target::Tells(Report::Receipts))?;
     router.insert("/export/{kind}", Target::Export)?;
-    Ok(router)
+    Ok(())
 }
 
 /// Where a path leads, if it has a route.

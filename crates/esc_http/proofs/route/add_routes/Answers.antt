@@ -1,6 +1,6 @@
 use Rattle.std.proofs.Common.{refl}
 use Rattle.matchit.proofs.OnLiterals.{matchit_on_literals}
-use Rattle.esc_http.proofs.route.router.Goals as goal
+use Rattle.esc_http.proofs.route.add_routes.Goals as goal
 
 pub returns : goal.returns
 unfolding matchit_on_literals
@@ -11,5 +11,5 @@ returns c = rw (
   c.in_ok-insert-3.ensures.1,
   c.in_ok-insert-2.ensures.1,
   c.in_ok-insert.ensures.1,
-  c.new-router.ensures,
+  c.requires,
 ) refl
