@@ -13,6 +13,7 @@ use Rattle.esc_rows.specs.Content.{IsStore as HasTables}
 use Rattle.esc_rows.specs.Creation.{TellsVersion}
 use Rattle.esc_store.specs.Kept.{Kept}
 use Rattle.esc_store.specs.Tables.{IsStore, IsStoreDatabase, IsOfVersion}
+use Rattle.esc_store.specs.Opening.{IsSettled}
 use Rattle.esc_store.specs.Standing.{IsStanding, RestsAt}
 use Rattle.esc_store.proofs.Ends.{was_clean}
 
@@ -58,3 +59,14 @@ opened old new m k survives unchanged told rests clean =
         autocommit = unchanged.0.mode ∙ was.autocommit;
       };
     }
+
+-- the store that the last commit is
+pub found : (old new : State) (m : List MRow) (k : Kept) → Survives old new (λ trees. ⊥) → IsUnchanged old new × IsOfVersion old.now → IsSettled old
+    → (IsStoreDatabase old.now k → m ≡ k.listed) → IsStore old.committed.trees k → HasCleanDisk new → IsStanding new m k
+unfolding IsStore
+found old new m k survives version settled told stored = opened old new m k survives version.0 told
+    (λ clean up. record {
+      kept = record { schema = ap (λ (db : Database). db.schema) (sym (settled.1 up)) ∙ version.1.schema; kept = stored };
+      same = settled.1 up;
+      autocommit = settled.0;
+    })

@@ -1,6 +1,7 @@
 pub mod Decoded
 pub mod Faults
 pub mod Kept
+pub mod Opening
 pub mod Pages
 pub mod ReplyValue
 pub mod Standing

@@ -4,6 +4,7 @@ ghost use Rattle.std.specs.Prelude.{◌≡◌, IsTrue, IfOk, IfErr, OnOk};
 ghost use Rattle.sqlite.specs.Held.{state};
 ghost use Rattle.sqlite.specs.State.{HasCleanDisk, Survives, IsUnchanged};
 ghost use Rattle.esc_store.specs.Kept.{Kept};
+ghost use Rattle.esc_store.specs.Opening.{IsSettled};
 ghost use Rattle.esc_store.specs.Tables.{IsStore, IsStoreDatabase, IsOfVersion};
 
 use crate::fault::SFault;
@@ -20,6 +21,7 @@ use std::alloc::Global;
 fn test_version<S: Alter>(conn: &mut Connection<S>) -> Result<(), SFault>
     ensures survives { Survives (state S.Store conn.old) (state S.Store conn.new) (λ _. ⊥) }
     ensures version { OnOk result (HasCleanDisk (state S.Store conn.new) → IsUnchanged (state S.Store conn.old) (state S.Store conn.new) × IsOfVersion (state S.Store conn.old).now) }
+    ensures settled { OnOk result (IsSettled (state S.Store conn.old)) }
     ensures never { IfErr result (λ fault. fault ≡ SFault.S3 → HasCleanDisk (state S.Store conn.new) → IsTrue (state S.Store conn.new).is_open → (k : Kept) → IsStore (state S.Store conn.old).committed.trees k → ⊥) }
 {
     if !conn.is_autocommit() {
@@ -41,6 +43,7 @@ pub(crate) fn find_manifest<S: Alter>(
 ) -> Result<Manifest, SFault>
     ensures survives { Survives (state S.Store conn.old) (state S.Store conn.new) (λ _. ⊥) }
     ensures version { OnOk result (HasCleanDisk (state S.Store conn.new) → IsUnchanged (state S.Store conn.old) (state S.Store conn.new) × IsOfVersion (state S.Store conn.old).now) }
+    ensures settled { OnOk result (IsSettled (state S.Store conn.old)) }
     ensures manifest { IfOk result (λ manifest. HasCleanDisk (state S.Store conn.new) → (k : Kept) → IsStoreDatabase (state S.Store conn.old).now k → manifest ≡ k.listed) }
     ensures never { IfErr result (λ fault. fault ≡ SFault.S3 → HasCleanDisk (state S.Store conn.new) → IsTrue (state S.Store conn.new).is_open → (k : Kept) → IsStore (state S.Store conn.old).committed.trees k → ⊥) }
 {

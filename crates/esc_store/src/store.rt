@@ -66,13 +66,18 @@ impl<S: Alter> Store<S> {
         }
     }
 
-    /// The store that a database is. At `Err` the connection is given back: `S3` where it is no store of this version;
-    /// `S1`, also in a transaction, or where the rows of its manifest make none; `S2`.
+    /// The store that a database is, also where the database is what a crash left of one. At `Err` the connection is
+    /// given back: `S3` where it is no store of this version; `S1`, also in a transaction, or where the rows of its
+    /// manifest make none; `S2`.
     pub fn open(
         alloc: Global,
         connection: Connection<S>,
     ) -> Result<Store<S>, (SFault, Connection<S>)>
         ensures stands { IfOk result (λ store. IsHonest S.Store store → (k : Kept) → HoldsKept S.Store connection k → Stands S.Store store k) }
+        ensures found { IfOk result (λ store. IsHonest S.Store store → (k : Kept)
+            → IsStore (state S.Store connection).committed.trees k → Stands S.Store store k) }
+        ensures left { IfOk result (λ store. (k : Kept)
+            → IsStore (state S.Store connection).committed.trees k → LeavesOnly S.Store store k) }
         ensures writes { IfOk result (λ store. store.writes ≡ 0) }
         ensures version { IfOk result (λ store. IsHonest S.Store store → IsOfVersion (state S.Store connection).now) }
         ensures never { IfErr result (λ e. e.0 ≡ SFault.S3 → HasCleanDisk (state S.Store e.1) → IsTrue (state S.Store e.1).is_open → (k : Kept) → IsStore (state S.Store connection).committed.trees k → ⊥) }
