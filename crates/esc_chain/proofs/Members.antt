@@ -1,5 +1,5 @@
 -- What the rows of a chain are.
-use Rattle.std.proofs.Common.{◌≢◌, ℕ, zero, suc, ◌-◌, ◌<◌, ◌≤◌, ℤ, pos, ◌+ℤ◌, ◌<ℤ◌, cond, List, [], ◌∷◌, length, reverse, sym, subst, ◌∙◌, arith}
+use Rattle.std.proofs.Common.{◌≢◌, ℕ, zero, suc, ◌-◌, ◌<◌, ◌≤◌, ℤ, pos, ◌+ℤ◌, ◌<ℤ◌, cond, List, [], ◌∷◌, length, reverse, Option, None, sym, subst, ◌∙◌, arith}
 use Rattle.std.specs.Prelude.{slice_index}
 use lib.Signed.{lt_z}
 use Rattle.std.proofs.lemmas.Int.{ints}
@@ -7,7 +7,7 @@ use Rattle.std.proofs.lemmas.List.{get_or-reverse, length-reverse, reverse-rever
 use Rattle.esc_manifest.specs.declared.row.MRow.{MRow}
 use Rattle.esc_manifest.specs.Rows.{place_at, watermark_at}
 use Rattle.esc_manifest.specs.Accepted.{IsAccepted}
-use Rattle.esc_chain.specs.Chain.{Rows, IsHeld, InRange, LeadsBack, IsLatestBack, IsLatestChain, AreHeldRows}
+use Rattle.esc_chain.specs.Chain.{Rows, IsHeld, InRange, LeadsBack, IsLatestChain, IsLatestBackAt, IsLatestChainAt, AreHeldRows}
 use Rattle.esc_chain.proofs.Chains.{earlier, earlier_falls, base_earlier}
 
 -- at most all rows are earlier
@@ -73,14 +73,14 @@ turned m h back are = record {
       (sym (get_or-reverse back k 0 within) ∙ sym same ∙ get_or-reverse back j 0 near);
 }
 
-back_is_held : (m : List MRow) (h : Rows) → IsAccepted m → InRange m h → (c : List ℕ) → IsLatestBack m h c → AreHeldRows m h c
-back_is_held m h ok range [] latest = record {
+back_is_held : (m : List MRow) (h : Rows) (t : Option ℤ) → IsAccepted m → InRange m h → (c : List ℕ) → IsLatestBackAt m h t c → AreHeldRows m h c
+back_is_held m h t ok range [] latest = record {
   few = omega arith;
   held = λ k below. absurd (omega arith);
   in_range = λ k below. absurd (omega arith);
   once = λ j k lt below. absurd (omega arith);
 }
-back_is_held m h ok range (r ∷ c) latest =
+back_is_held m h t ok range (r ∷ c) latest =
     let within = range r latest.0.0.held in
     let held = leads_held m h r c latest.0.0.held latest.0.1 in
     record {
@@ -91,5 +91,8 @@ back_is_held m h ok range (r ∷ c) latest =
     }
 
 -- the rows of a latest chain
+pub latest_at_is_held : (m : List MRow) (h : Rows) (t : Option ℤ) (c : List ℕ) → IsAccepted m → InRange m h → IsLatestChainAt m h t c → AreHeldRows m h c
+latest_at_is_held m h t c ok range latest = subst (AreHeldRows m h) (reverse-reverse c) (turned m h (reverse c) (back_is_held m h t ok range (reverse c) latest))
+
 pub latest_is_held : (m : List MRow) (h : Rows) (c : List ℕ) → IsAccepted m → InRange m h → IsLatestChain m h c → AreHeldRows m h c
-latest_is_held m h c ok range latest = subst (AreHeldRows m h) (reverse-reverse c) (turned m h (reverse c) (back_is_held m h ok range (reverse c) latest))
+latest_is_held m h c ok range latest = latest_at_is_held m h None c ok range latest

@@ -1,12 +1,12 @@
 -- From a row there is one way back, and there is one latest chain.
-use Rattle.std.proofs.Common.{◌≡◌, ◌↔◌, ℕ, Bool, true, false, IsTrue, List, [], ◌∷◌, reverse, refl, sym, ap, subst, ◌∙◌}
+use Rattle.std.proofs.Common.{◌≡◌, ◌↔◌, ℕ, ℤ, Bool, true, false, IsTrue, List, [], ◌∷◌, reverse, Option, None, refl, sym, ap, subst, ◌∙◌}
 use Rattle.std.specs.FinSet as set
 use Rattle.std.specs.Cmp.{nat_cmp_total}
 use Rattle.std.proofs.lemmas.List.{reverse-reverse}
 use Rattle.esc_manifest.specs.declared.row.MRow.{MRow}
 use Rattle.esc_manifest.specs.Rows.{place_at}
 use Rattle.esc_manifest.specs.Accepted.{IsAccepted}
-use Rattle.esc_chain.specs.Chain.{Rows, IsHeld, InRange, LeadsBack, IsLatestBack, IsLatestChain}
+use Rattle.esc_chain.specs.Chain.{Rows, IsHeld, InRange, LeadsBack, IsLatestChain, IsLatestBackAt, IsLatestChainAt}
 use Rattle.esc_chain.proofs.Chains.{used_same, base_same, base_not_full}
 use Rattle.esc_chain.proofs.Places.{up_to_both}
 
@@ -21,12 +21,12 @@ leads_same m h ok range r (s ∷ c) (t ∷ d) a b =
     λ i. e i ∷ rest i
 
 -- there is one latest chain
-pub latest_same : (m : List MRow) (h : Rows) → IsAccepted m → InRange m h → (c d : List ℕ) → IsLatestBack m h c → IsLatestBack m h d → c ≡ d
-latest_same m h ok range [] [] a b = refl
-latest_same m h ok range [] (q ∷ d) a b = absurd (a (q ∷ d) b.0)
-latest_same m h ok range (r ∷ c) [] a b = absurd (b (r ∷ c) a.0)
-latest_same m h ok range (r ∷ c) (q ∷ d) a b =
-    let e = used_same m h ok range r q a.0.0 b.0.0 (up_to_both _ _ (b.1 r c a.0) (a.1 q d b.0)) in
+latest_same : (m : List MRow) (h : Rows) (t : Option ℤ) → IsAccepted m → InRange m h → (c d : List ℕ) → IsLatestBackAt m h t c → IsLatestBackAt m h t d → c ≡ d
+latest_same m h t ok range [] [] a b = refl
+latest_same m h t ok range [] (q ∷ d) a b = absurd (a q d b.0 b.1)
+latest_same m h t ok range (r ∷ c) [] a b = absurd (b r c a.0 a.1)
+latest_same m h t ok range (r ∷ c) (q ∷ d) a b =
+    let e = used_same m h ok range r q a.0.0 b.0.0 (up_to_both _ _ (b.2 r c a.0 a.1) (a.2 q d b.0 b.1)) in
     let rest = leads_same m h ok range q c d (subst (λ (x : ℕ). LeadsBack m h x c) e a.0.1) b.0.1 in
     λ i. e i ∷ rest i
 
@@ -41,7 +41,10 @@ same_rows h g same = set.same_set nat_cmp_total set.nat_cmp-IsAntisymmetric h g 
     same_test false false e = refl
 
 -- there is one latest chain, by the rows that are held
-pub latest_is_one : (m : List MRow) (h g : Rows) (c d : List ℕ) → IsAccepted m → InRange m h → ((r : ℕ) → IsHeld h r ↔ IsHeld g r) → IsLatestChain m h c → IsLatestChain m g d → c ≡ d
-latest_is_one m h g c d ok range same a b =
-    let back = latest_same m h ok range (reverse c) (reverse d) a (subst (λ (x : Rows). IsLatestChain m x d) (sym (same_rows h g same)) b) in
+pub latest_at_is_one : (m : List MRow) (h g : Rows) (t : Option ℤ) (c d : List ℕ) → IsAccepted m → InRange m h → ((r : ℕ) → IsHeld h r ↔ IsHeld g r) → IsLatestChainAt m h t c → IsLatestChainAt m g t d → c ≡ d
+latest_at_is_one m h g t c d ok range same a b =
+    let back = latest_same m h t ok range (reverse c) (reverse d) a (subst (λ (x : Rows). IsLatestChainAt m x t d) (sym (same_rows h g same)) b) in
     sym (reverse-reverse c) ∙ ap reverse back ∙ reverse-reverse d
+
+pub latest_is_one : (m : List MRow) (h g : Rows) (c d : List ℕ) → IsAccepted m → InRange m h → ((r : ℕ) → IsHeld h r ↔ IsHeld g r) → IsLatestChain m h c → IsLatestChain m g d → c ≡ d
+latest_is_one m h g c d ok range same a b = latest_at_is_one m h g None c d ok range same a b

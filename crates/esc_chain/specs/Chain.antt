@@ -1,12 +1,12 @@
 -- The used rows, and chains of them (this project's profile; the types are those of RFC 8909, section 2).
-use Rattle.std.specs.Prelude.{◌≡◌, ◌≢◌, ℕ, ◌<◌, ◌≤◌, List, [], ◌∷◌, length, reverse, slice_index, IsTrue}
+use Rattle.std.specs.Prelude.{◌≡◌, ◌≢◌, ◌↔◌, ℕ, ◌<◌, ◌≤◌, ℤ, ◌≤ℤ◌, List, [], ◌∷◌, length, reverse, slice_index, Option, Some, None, IsTrue}
 use Rattle.std.specs.FinSet as set
 use Rattle.std.specs.Ordering.{nat_cmp}
 use Rattle.esc_envelope.specs.declared.place.DepositType.TheVariants.{Full}
 use Rattle.esc_envelope.specs.declared.place.Place.{Place}
 use Rattle.esc_manifest.specs.declared.row.MRow.{MRow}
 use Rattle.esc_envelope.specs.Place.{IsUpTo}
-use Rattle.esc_manifest.specs.Rows.{place_at, kind_at, resend_at}
+use Rattle.esc_manifest.specs.Rows.{place_at, kind_at, watermark_at, resend_at}
 use Rattle.esc_chain.specs.declared.base.Base.TheVariants.{At}
 use Rattle.esc_chain.specs.Base.{IsBase}
 
@@ -48,15 +48,30 @@ abbrev pub IsChainBack : List MRow → Rows → List ℕ → Type 0
 IsChainBack m h [] = ⊥
 IsChainBack m h (r ∷ rest) = IsUsed m h r × LeadsBack m h r rest
 
--- from its end back, the chain whose end is the greatest place among the ends of all chains; the empty list where there is none
-abbrev pub IsLatestBack : List MRow → Rows → List ℕ → Type 0
-IsLatestBack m h [] = (c : List ℕ) → IsChainBack m h c → ⊥
-IsLatestBack m h (r ∷ rest) = IsChainBack m h (r ∷ rest) × ((q : ℕ) (other : List ℕ) → IsChainBack m h (q ∷ other) → IsUpTo (place_at m q) (place_at m r))
-
 -- a chain, from its Full to its end
 abbrev pub IsChain : List MRow → Rows → List ℕ → Type 0
 IsChain m h c = IsChainBack m h (reverse c)
 
--- the latest chain, from its Full to its end
+-- the watermark is not later than the moment, if there is one
+abbrev pub IsBy : Option ℤ → ℤ → Type 0
+IsBy None w = Unit {0}
+IsBy (Some t) w = w ≤ℤ t
+
+-- from its end back, of the chains that end by the moment the one whose end is the greatest place; the empty list where there is none
+abbrev pub IsLatestBackAt : List MRow → Rows → Option ℤ → List ℕ → Type 0
+IsLatestBackAt m h t [] = (q : ℕ) (other : List ℕ) → IsChainBack m h (q ∷ other) → IsBy t (watermark_at m q) → ⊥
+IsLatestBackAt m h t (r ∷ rest) =
+    IsChainBack m h (r ∷ rest) × IsBy t (watermark_at m r)
+    × ((q : ℕ) (other : List ℕ) → IsChainBack m h (q ∷ other) → IsBy t (watermark_at m q) → IsUpTo (place_at m q) (place_at m r))
+
+-- the latest chain up to the moment, from its Full to its end
+abbrev pub IsLatestChainAt : List MRow → Rows → Option ℤ → List ℕ → Type 0
+IsLatestChainAt m h t c = IsLatestBackAt m h t (reverse c)
+
+-- the latest of all chains
 abbrev pub IsLatestChain : List MRow → Rows → List ℕ → Type 0
-IsLatestChain m h c = IsLatestBack m h (reverse c)
+IsLatestChain m h c = IsLatestChainAt m h None c
+
+-- these are the rows of the set with a watermark not later than the moment
+abbrev pub AreUntil : List MRow → Rows → Option ℤ → Rows → Type 0
+AreUntil m h t g = (r : ℕ) → IsHeld g r ↔ (IsHeld h r × IsBy t (watermark_at m r))

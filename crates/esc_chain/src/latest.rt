@@ -1,14 +1,16 @@
 //! The latest chain.
 
-ghost use Rattle.std.specs.Prelude.{IfOk};
-ghost use Rattle.esc_chain.specs.Chain.{InRange, AreHeldRows, IsLatestChain};
+ghost use Rattle.std.specs.Prelude.{◌↔◌, ◌<◌, length, IfOk, IsTrue};
+ghost use Rattle.esc_manifest.specs.Accepted.{IsAccepted};
+ghost use Rattle.esc_manifest.specs.Rows.{watermark_at};
+ghost use Rattle.esc_chain.specs.Chain.{InRange, AreHeldRows, AreUntil, IsBy, IsHeld, IsLatestChain, IsLatestChainAt};
 
 use crate::Held;
 use crate::bases::bases;
 use crate::links::{Link, last_with_way, links};
 use crate::revision::{in_order, used_rows};
 use esc_bundle::NoMemory;
-use esc_manifest::Manifest;
+use esc_manifest::{MRow, Manifest};
 use std::alloc::Global;
 
 /// The latest chain, as row indices from its Full to its end: of all chains of held rows the one whose end is the
@@ -39,4 +41,56 @@ pub fn latest_chain(alloc: Global, m: &Manifest, h: &Held) -> Result<Vec<usize>,
     }
     chain.reverse();
     Ok(chain)
+}
+
+/// The latest chain up to a moment: of the chains of held rows whose end has a watermark not later than the moment the one
+/// whose end is the greatest place, and the empty list where there is none. Without a moment it is the latest of all chains.
+///
+/// Takes time about as the number of rows, whatever chains there are. The one error is want of memory.
+pub fn latest_chain_at(
+    alloc: Global,
+    m: &Manifest,
+    h: &Held,
+    moment: Option<i64>,
+) -> Result<Vec<usize>, NoMemory>
+    requires { InRange m.now h.now }
+    ensures latest { IfOk result (λ c. IsLatestChainAt m.now h.now moment c.items) }
+    ensures rows { IfOk result (λ c. AreHeldRows m.now h.now c.items) }
+{
+    let until = rows_until(alloc, m, h, moment)?;
+    latest_chain(alloc, m, &until)
+}
+
+// The held rows with a watermark not later than a moment. Each base has an earlier watermark, so the chains of these rows
+// are the chains of the held rows that end by the moment.
+fn rows_until(alloc: Global, m: &Manifest, h: &Held, moment: Option<i64>) -> Result<Held, NoMemory>
+    requires { InRange m.now h.now }
+    ensures rows { IfOk result (AreUntil m.now h.now moment) }
+    ensures in_range { IfOk result (InRange m.now) }
+    ensures accepted { IsAccepted m.now }
+{
+    let rows = m.rows();
+    let mut until = Held::new(alloc);
+    for row in 0..rows.len() {
+        if !is_until(rows, h, row, moment) {
+            continue;
+        }
+        until.insert(m, row)?;
+    }
+    Ok(until)
+}
+
+// Whether a row is held and its watermark isn't later than a moment.
+fn is_until(rows: &[MRow], h: &Held, row: usize, moment: Option<i64>) -> bool
+    requires { row < length rows.now }
+    ensures { IsTrue result ↔ (IsHeld h.now row × IsBy moment (watermark_at rows.now row)) }
+{
+    if !h.contains(row) {
+        return false;
+    }
+    let header = &rows[row].header;
+    match moment {
+        Some(moment) => header.place.watermark <= moment,
+        None => true,
+    }
 }

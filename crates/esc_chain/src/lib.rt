@@ -13,18 +13,21 @@
 //!   on the place that its `prevId` names. What has arrived plays no part, so a base is a place and no row.
 //! - A chain is a list of used rows that begins with a Full, where the base of each other row is the place of the one
 //!   before. [`latest_chain`] is the chain whose end is the greatest place among the ends of all chains: not the
-//!   longest one, and not the one that grew last. Where there is no chain, it is empty.
+//!   longest one, and not the one that grew last. Where there is no chain, it is empty. [`latest_chain_at`] is the same of
+//!   the chains that end by a moment.
 //! - [`gaps`] tells of each listed place, in the order of places, which revision of it is used, its [`State`], what
 //!   stands in its way if no chain ends there, and which revision is still awaited. A [`Blocker`] is the first on the
-//!   way back that isn't held or isn't listed: not the place itself, and not the last that is missing.
+//!   way back that isn't held or isn't listed: not the place itself, and not the last that is missing. [`gaps_at`] tells
+//!   the same by the latest chain up to a moment.
 //!
 //! What goes in is a manifest whose rows were accepted and a set of its rows; what comes out are places and row
 //! indices, or a [`GapLine`] a place. The contracts give the exact answer by definitions over all rows and all chains of
 //! the manifest: `specs/Base` has bases, `specs/Chain` has used rows and chains, `specs/Gap` has the lines. The one error
 //! is want of memory, and after it nothing has changed. `base_of` and `used` take no memory.
 //!
-//! Three laws without a body hand on what follows from the definitions alone: [`latest_chain_is_one`],
-//! [`latest_chain_rows_are_held`] and [`gap_lines_are_one`].
+//! Laws without a body hand on what follows from the definitions alone: [`latest_chain_is_one`],
+//! [`latest_chain_rows_are_held`], the same two up to a moment, [`latest_chain_at_is_one`] and
+//! [`latest_chain_at_rows_are_held`], and [`gap_lines_are_one`].
 #![tactic(auto)]
 
 mod base;
@@ -42,7 +45,10 @@ mod unheld;
 pub use base::{Base, base_of};
 pub use gap::{Blocker, GapLine, Id, ListedPlace, State};
 pub use held::Held;
-pub use latest::latest_chain;
-pub use laws::{gap_lines_are_one, latest_chain_is_one, latest_chain_rows_are_held};
-pub use lines::gaps;
+pub use latest::{latest_chain, latest_chain_at};
+pub use laws::{
+    gap_lines_are_one, latest_chain_at_is_one, latest_chain_at_rows_are_held, latest_chain_is_one,
+    latest_chain_rows_are_held,
+};
+pub use lines::{gaps, gaps_at};
 pub use revision::used;

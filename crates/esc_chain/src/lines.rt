@@ -5,7 +5,7 @@ ghost use Rattle.std.specs.BTreeSet as sorted;
 ghost use Rattle.std.specs.Ordering.{nat_cmp};
 ghost use Rattle.esc_chain.specs.Chain.{InRange};
 ghost use Rattle.esc_chain.specs.Walk.{AreBases};
-ghost use Rattle.esc_chain.specs.Gap.{AreGapLines};
+ghost use Rattle.esc_chain.specs.Gap.{AreGapLines, AreGapLinesAt};
 ghost use Rattle.esc_chain.specs.Stops.{AreWays, IsRowIn, HasText, line_by, state_by, blocker_by, blocker_of};
 
 use crate::bases::bases;
@@ -14,7 +14,7 @@ use crate::links::links;
 use crate::revision::{in_order, resend_of, used_rows};
 use crate::stops::stops_of;
 use crate::unheld::{over, unheld_resends};
-use crate::{Base, Held, latest_chain};
+use crate::{Base, Held, latest_chain_at};
 use esc_bundle::NoMemory;
 use esc_envelope::{DepositType, Header, Place};
 use esc_manifest::Manifest;
@@ -29,7 +29,23 @@ pub fn gaps(alloc: Global, m: &Manifest, h: &Held) -> Result<Vec<GapLine>, NoMem
     requires { InRange m.now h.now }
     ensures { IfOk result (λ lines. AreGapLines m.now h.now lines.items) }
 {
-    let ways = ways_of(alloc, m, h)?;
+    gaps_at(alloc, m, h, None)
+}
+
+/// The lines as of a moment, if there is one: the latest chain is the one up to the moment, so that a place where a later chain
+/// ends is `Standing`. All else in them is as without a moment.
+///
+/// Takes time about as the number of rows, whatever ways there are. The one error is want of memory.
+pub fn gaps_at(
+    alloc: Global,
+    m: &Manifest,
+    h: &Held,
+    moment: Option<i64>,
+) -> Result<Vec<GapLine>, NoMemory>
+    requires { InRange m.now h.now }
+    ensures { IfOk result (λ lines. AreGapLinesAt m.now h.now moment lines.items) }
+{
+    let ways = ways_of(alloc, m, h, moment)?;
     let unheld = unheld_resends(alloc, m, h)?;
     let mut lines = Vec::new(alloc);
     for (place, greatest) in unheld.iter() {
@@ -53,16 +69,16 @@ pub(crate) struct Ways {
     chain: BTreeSet<usize>,
 }
 
-fn ways_of(alloc: Global, m: &Manifest, h: &Held) -> Result<Ways, NoMemory>
+fn ways_of(alloc: Global, m: &Manifest, h: &Held, moment: Option<i64>) -> Result<Ways, NoMemory>
     requires { InRange m.now h.now }
-    ensures { IfOk result (AreWays ⟦<Place as Ord>⟧.cmp m.now h.now) }
+    ensures { IfOk result (AreWays ⟦<Place as Ord>⟧.cmp m.now h.now moment) }
 {
     let used = used_rows(alloc, m, h)?;
     let order = in_order(alloc, &used)?;
     let bases = bases(alloc, m)?;
     let links = links(alloc, &bases, &used)?;
     let stops = stops_of(alloc, &links, &order)?;
-    let chain = latest_chain(alloc, m, h)?;
+    let chain = latest_chain_at(alloc, m, h, moment)?;
     let chain = set_of(alloc, &chain)?;
     Ok(Ways {
         used,

@@ -6,7 +6,8 @@
 //! `id,type,watermark,prevId,resend,sha256`; each further record is one row, a deposit that was released at its place
 //! (its watermark and type) with a number of resends, under the SHA-256 of its bundle. It gives a `Manifest`, a list of
 //! typed rows in the order of the text, or an `MFault`. `from_rows` gives the `Manifest` of rows that are there already,
-//! as a store keeps them.
+//! as a store keeps them. `Manifest::extend` gives the `Manifest` of one manifest's rows and the rows of another one that it
+//! doesn't list yet, where an operator releases the manifest in parts.
 //!
 //! A fault has a number from M1 to M13 and a row, counted from 1; row 0 is the heading or the whole file:
 //!
@@ -21,7 +22,8 @@
 //!   twice.
 //!
 //! Of the faults that stand anywhere in a text the one of least number is answered, at the least row that has it; the
-//! row of M10, M11 and M13 is the least that repeats or contradicts an earlier one.
+//! row of M10, M11 and M13 is the least that repeats or contradicts an earlier one. A fault of two manifests' union is told
+//! at the row of the second one that isn't listed yet and stands against the first.
 //!
 //! # What the contracts mean
 //!
@@ -30,8 +32,10 @@
 //! and `rows_fault` the least fault of rows. `read_manifest` and `from_rows` answer exactly these, but for want of
 //! memory. What the rows of an accepted manifest are is the one fact `IsAccepted` of `specs/Accepted.antt`, which each
 //! `Manifest` carries and `Manifest::rows` gives on; by a law it holds of exactly the rows without a fault.
+//! `specs/Extension.antt` has the union of two manifests, or its fault: `Manifest::extend` answers exactly that.
 #![tactic(auto)]
 
+mod extension;
 mod fault;
 mod fields;
 mod laws;

@@ -52,7 +52,7 @@ fn lacks_prev(row: &MRow) -> bool
     }
 }
 
-fn is_same_place(a: Place, b: Place) -> bool
+pub(crate) fn is_same_place(a: Place, b: Place) -> bool
     ensures { result ≡ same_place a b }
 {
     a == b
@@ -76,7 +76,7 @@ fn has_moved_id(q: &MRow, r: &MRow) -> bool
     !is_same_place(q.header.place, r.header.place)
 }
 
-fn follows_later(q: &MRow, r: &MRow) -> bool
+pub(crate) fn follows_later(q: &MRow, r: &MRow) -> bool
     ensures { result ≡ follows_later q.now r.now }
 {
     if r.header.place.kind != DepositType::Diff {
@@ -99,25 +99,25 @@ fn has_same_digest(q: &MRow, r: &MRow) -> bool
     q.digest == r.digest
 }
 
-fn repeats_revision(earlier: &[MRow], row: &MRow) -> bool
+pub(crate) fn repeats_revision(earlier: &[MRow], row: &MRow) -> bool
     ensures { result ≡ list_any (λ q. same_revision q row.now) earlier.now }
 {
     earlier.iter().any(|q| is_same_revision(q, row))
 }
 
-fn moves_id(earlier: &[MRow], row: &MRow) -> bool
+pub(crate) fn moves_id(earlier: &[MRow], row: &MRow) -> bool
     ensures { result ≡ list_any (λ q. moved_id q row.now) earlier.now }
 {
     earlier.iter().any(|q| has_moved_id(q, row))
 }
 
-fn follows_any_later(rows: &[MRow], row: &MRow) -> bool
+pub(crate) fn follows_any_later(rows: &[MRow], row: &MRow) -> bool
     ensures { result ≡ list_any (λ q. follows_later q row.now) rows.now }
 {
     rows.iter().any(|q| follows_later(q, row))
 }
 
-fn repeats_digest(earlier: &[MRow], row: &MRow) -> bool
+pub(crate) fn repeats_digest(earlier: &[MRow], row: &MRow) -> bool
     ensures { result ≡ list_any (λ q. same_digest q row.now) earlier.now }
 {
     earlier.iter().any(|q| has_same_digest(q, row))
@@ -195,7 +195,7 @@ fn first_repeated_digest(rows: &[MRow]) -> Option<usize>
 }
 
 #[tactic(auto, unfolding(crate::specs::RowFaults::rows_fault))]
-fn rows_fault(rows: &[MRow]) -> Option<(u8, u32)>
+pub(crate) fn rows_fault(rows: &[MRow]) -> Option<(u8, u32)>
     ensures { result ≡ rows_fault rows.now }
 {
     if rows.len() > MOST_ROWS {

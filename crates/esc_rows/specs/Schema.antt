@@ -5,7 +5,7 @@ use Rattle.sqlite_value.specs.declared.keys.Order.{Order}
 use Rattle.sqlite_value.specs.declared.value.Value.TheVariants.{Null, Int}
 use Rattle.sqlite_schema.specs.declared.schema.Column.{Column}
 use Rattle.sqlite_schema.specs.declared.schema.Kind.{Kind}
-use Rattle.sqlite_schema.specs.declared.schema.Kind.TheVariants.{Integer, Text, Blob}
+use Rattle.sqlite_schema.specs.declared.schema.Kind.TheVariants.{Integer, Text, Any}
 use Rattle.sqlite_schema.specs.declared.schema.Action.TheVariants.{NoAction}
 use Rattle.sqlite_schema.specs.declared.schema.Reference.{Reference}
 use Rattle.sqlite_schema.specs.declared.schema.Stamps.{Stamps}
@@ -19,9 +19,9 @@ use Rattle.sqlite_sql.specs.declared.ops.CompareOp.TheVariants.{Eq}
 abbrev pub rising : Order
 rising = record { digits = 0 }
 
--- a column of a STRICT table
+-- a column of a table; one that is declared BLOB keeps each value as it is, and is of the kind Any
 abbrev pub column_of : List ℕ → Kind → Bool → Column
-column_of name kind not_null = record { name = name; kind = kind; is_strict = true; not_null = not_null; default = Null; collation = Binary }
+column_of name kind not_null = record { name = name; kind = kind; is_strict = false; not_null = not_null; default = Null; collation = Binary }
 
 abbrev pub optional : List ℕ → Kind → Column
 optional name kind = column_of name kind false
@@ -85,27 +85,27 @@ info_table = stored_table (codes "info") 0 (optional (codes "id") Integer ∷ re
 abbrev pub listed_table : Table
 listed_table =
     stored_table (codes "listed") 1
-    (optional (codes "row") Integer ∷ required (codes "id") Text ∷ required (codes "type") Integer ∷ required (codes "watermark") Integer ∷ optional (codes "prev") Text ∷ required (codes "resend") Integer ∷ required (codes "digest") Blob ∷ [])
+    (optional (codes "row") Integer ∷ required (codes "id") Text ∷ required (codes "type") Integer ∷ required (codes "watermark") Integer ∷ optional (codes "prev") Text ∷ required (codes "resend") Integer ∷ required (codes "digest") Any ∷ [])
     (Some 0) (0 ∷ []) ((7 ∷ []) ∷ (4 ∷ 3 ∷ 6 ∷ []) ∷ []) [] []
 
 abbrev pub receipt_table : Table
 receipt_table =
     stored_table (codes "receipt") 4
-    (optional (codes "receipt") Integer ∷ required (codes "number") Text ∷ required (codes "digest") Blob ∷ required (codes "verdict") Integer ∷ optional (codes "fault") Integer ∷ optional (codes "row") Integer ∷ optional (codes "again") Integer ∷ optional (codes "orphans") Integer ∷ [])
+    (optional (codes "receipt") Integer ∷ required (codes "number") Text ∷ required (codes "digest") Any ∷ required (codes "verdict") Integer ∷ optional (codes "fault") Integer ∷ optional (codes "row") Integer ∷ optional (codes "again") Integer ∷ optional (codes "orphans") Integer ∷ [])
     (Some 0) (0 ∷ []) ((2 ∷ 3 ∷ []) ∷ []) [] (refers_to 6 (codes "listed") ∷ [])
 
 abbrev pub held_table : Table
-held_table = stored_table (codes "held") 6 (optional (codes "row") Integer ∷ required (codes "body") Blob ∷ []) (Some 0) (0 ∷ []) [] [] (refers_to 0 (codes "listed") ∷ [])
+held_table = stored_table (codes "held") 6 (optional (codes "row") Integer ∷ required (codes "body") Any ∷ []) (Some 0) (0 ∷ []) [] [] (refers_to 0 (codes "listed") ∷ [])
 
 abbrev pub step_table : Table
 step_table = stored_table (codes "step") 7 (optional (codes "pos") Integer ∷ required (codes "row") Integer ∷ []) (Some 0) (0 ∷ []) ((2 ∷ []) ∷ []) [] (refers_to 2 (codes "held") ∷ [])
 
 abbrev pub object_table : Table
-object_table = stored_table (codes "object") 9 (required (codes "kind") Integer ∷ required (codes "key") Blob ∷ required (codes "record") Blob ∷ []) None (1 ∷ 2 ∷ []) ((1 ∷ 2 ∷ []) ∷ []) [] []
+object_table = stored_table (codes "object") 9 (required (codes "kind") Integer ∷ required (codes "key") Any ∷ required (codes "record") Any ∷ []) None (1 ∷ 2 ∷ []) ((1 ∷ 2 ∷ []) ∷ []) [] []
 
 abbrev pub undo_table : Table
 undo_table =
-    stored_table (codes "undo") 11 (required (codes "pos") Integer ∷ required (codes "kind") Integer ∷ required (codes "key") Blob ∷ optional (codes "record") Blob ∷ [])
+    stored_table (codes "undo") 11 (required (codes "pos") Integer ∷ required (codes "kind") Integer ∷ required (codes "key") Any ∷ optional (codes "record") Any ∷ [])
     None (1 ∷ 2 ∷ 3 ∷ []) ((1 ∷ 2 ∷ 3 ∷ []) ∷ []) [] []
 
 -- the index that SQLite makes for a UNIQUE key

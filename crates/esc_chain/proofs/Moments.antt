@@ -1,0 +1,123 @@
+-- The latest chain up to a moment is the latest chain of the held rows that are not later.
+use Rattle.std.proofs.Common.{◌≡◌, ◌⊎◌, inl, inr, ◌↔◌, ℕ, ◌+◌, ◌<◌, Bool, true, false, ◌||◌, ℤ, ◌<ℤ◌, List, [], ◌∷◌, length, reverse, Option, Some, None, refl, sym, ap, subst, ◌∙◌, arith}
+use Rattle.std.specs.Prelude.{Result, Ok, Err, IfOk}
+use Rattle.std.specs.FinSet as set
+use Rattle.std.specs.Cmp.{nat_cmp_total}
+use Rattle.std.specs.Ordering.{nat_cmp, eq_by_cmp}
+use Rattle.std.proofs.lemmas.Bool.{cases_order, false≢true}
+use Rattle.std.proofs.lemmas.Bool.Decides.{nat_tests}
+use Rattle.std.proofs.lemmas.Int.{ints}
+use Rattle.std.proofs.lemmas.Map.Lookups.{exact_unsigned}
+use Rattle.std.proofs.lemmas.Map.Views.{tells_apart}
+use Rattle.std.proofs.lemmas.List.{reverse-reverse}
+use Rattle.esc_envelope.specs.declared.place.Place.{Place}
+use Rattle.esc_manifest.specs.declared.row.MRow.{MRow}
+use Rattle.esc_manifest.specs.Rows.{place_at, watermark_at}
+use Rattle.esc_manifest.specs.Accepted.{IsAccepted}
+use Rattle.esc_chain.specs.Chain.{Rows, IsHeld, InRange, IsUsed, LeadsBack, IsChainBack, IsLatestChain, IsBy, IsLatestBackAt, IsLatestChainAt, AreUntil}
+use Rattle.esc_chain.proofs.Chains.{base_earlier}
+use Rattle.esc_chain.proofs.HeldRows.{none_in_range, one_more_in_range}
+
+-- what is earlier is not later than the moment either
+earlier_by : (t : Option ℤ) (v w : ℤ) → v <ℤ w → IsBy t w → IsBy t v
+earlier_by None v w lt by = tt
+earlier_by (Some t) v w lt by = omega (arith, ints, lt, by)
+
+module _ (m : List MRow) (h g : Rows) (t : Option ℤ) (ok : IsAccepted m) (range : InRange m h) (are : AreUntil m h t g) where
+  -- the used rows up to the moment are those of the rows up to it
+  used_in : (r : ℕ) → IsUsed m h r → IsBy t (watermark_at m r) → IsUsed m g r
+  used_in r row by = record {
+    held = (are r).1 (row.held, by);
+    greatest = λ q there same. row.greatest q ((are q).0 there).0 same;
+  }
+
+  used_out : (r : ℕ) → IsUsed m g r → IsUsed m h r
+  used_out r row = record {
+    held = ((are r).0 row.held).0;
+    greatest = λ q there same. row.greatest q ((are q).1 (there, subst (λ (p : Place). IsBy t p.watermark) (sym same) ((are r).0 row.held).1)) same;
+  }
+
+  by_of : (r : ℕ) → IsUsed m g r → IsBy t (watermark_at m r)
+  by_of r row = ((are r).0 row.held).1
+
+  leads_out : (r : ℕ) (c : List ℕ) → LeadsBack m g r c → LeadsBack m h r c
+  leads_out r [] full = full
+  leads_out r (s ∷ c) leads = (leads.0, used_out s leads.1, leads_out s c leads.2)
+
+  leads_in : (r : ℕ) (c : List ℕ) → r < length m → IsBy t (watermark_at m r) → LeadsBack m h r c → LeadsBack m g r c
+  leads_in r [] within by full = full
+  leads_in r (s ∷ c) within by leads =
+      let lt : watermark_at m s <ℤ watermark_at m r = base_earlier m ok r (place_at m s) within leads.0 in
+      let before : IsBy t (watermark_at m s) = earlier_by t (watermark_at m s) (watermark_at m r) lt by in
+      (leads.0, used_in s leads.1 before, leads_in s c (range s leads.1.held) before leads.2)
+
+  chain_in : (q : ℕ) (other : List ℕ) → IsChainBack m h (q ∷ other) → IsBy t (watermark_at m q) → IsChainBack m g (q ∷ other)
+  chain_in q other is by = (used_in q is.0 by, leads_in q other (range q is.0.held) by is.1)
+
+  back_until : (c : List ℕ) → IsLatestBackAt m g None c → IsLatestBackAt m h t c
+  back_until [] latest = λ q other is by. latest q other (chain_in q other is by) tt
+  back_until (r ∷ rest) latest = (
+    (used_out r latest.0.0, leads_out r rest latest.0.1),
+    by_of r latest.0.0,
+    λ q other is by. latest.2 q other (chain_in q other is by) tt,
+  )
+
+  pub at_until : (c : List ℕ) → IsLatestChain m g c → IsLatestChainAt m h t c
+  at_until c latest = back_until (reverse c) latest
+
+-- ---- the rows up to a moment, found one by one
+
+-- of the first n rows those that are held and not later than the moment
+pub record IsUntilBelow (m : List MRow) (h : Rows) (t : Option ℤ) (n : ℕ) (g : Rows) : Type 0 where
+  pub in_range : InRange m g
+  pub each : (r : ℕ) → IsHeld g r ↔ ((r < n) × IsHeld h r × IsBy t (watermark_at m r))
+
+pub until_none : (m : List MRow) (h : Rows) (t : Option ℤ) (g : Rows) → g ≡ set.empty → IsUntilBelow m h t 0 g
+until_none m h t g is = record {
+  in_range = none_in_range m g is;
+  each = λ r. (λ there. absurd (false≢true (sym (ap (λ (x : Rows). set.contains x r) is ∙ set.contains-empty nat_cmp r) ∙ there)), λ at. absurd (let lt = at.0 in omega (arith, lt)));
+}
+
+pub until_skip : (m : List MRow) (h : Rows) (t : Option ℤ) (n : ℕ) (g : Rows) → ((IsHeld h n × IsBy t (watermark_at m n)) → ⊥) → IsUntilBelow m h t n g → IsUntilBelow m h t (n + 1) g
+until_skip m h t n g not_here known = record {
+  in_range = known.in_range;
+  each = λ r. (λ there. let at = (known.each r).0 there in (let lt = at.0 in omega (arith, lt), at.1, at.2), λ at. back r at (cases_order r n));
+}
+  where
+    back : (r : ℕ) → ((r < n + 1) × IsHeld h r × IsBy t (watermark_at m r)) → (r ≡ n) ⊎ ((r < n) ⊎ (n < r)) → IsHeld g r
+    back r at (inl same) = absurd (not_here (subst (λ (q : ℕ). IsHeld h q × IsBy t (watermark_at m q)) same (at.1, at.2)))
+    back r at (inr (inl before)) = (known.each r).1 (before, at.1, at.2)
+    back r at (inr (inr after)) = absurd (let lt = at.0 in omega (arith, lt, after))
+
+either : (a b : Bool) → (a || b) ≡ true → (a ≡ true) ⊎ (b ≡ true)
+either true b e = inl refl
+either false b e = inr e
+
+or_true : (b : Bool) → (b || true) ≡ true
+or_true true = refl
+or_true false = refl
+
+same_is : (r n : ℕ) → r ≡ n → eq_by_cmp nat_cmp r n ≡ true
+same_is r n same = grind (arith, nat_tests, same)
+
+pub until_more : (m : List MRow) (h : Rows) (t : Option ℤ) (n : ℕ) (g : Rows) → n < length m → (IsHeld h n × IsBy t (watermark_at m n)) → IsUntilBelow m h t n g → IsUntilBelow m h t (n + 1) (set.insert g n)
+until_more m h t n g within here known = record {
+  in_range = one_more_in_range m g n within known.in_range;
+  each = λ r. (λ there. out r (either _ _ (sym (set.contains-insert nat_cmp_total g n r) ∙ there)), λ at. back r at (cases_order r n));
+}
+  where
+    out : (r : ℕ) → (eq_by_cmp nat_cmp r n ≡ true) ⊎ (set.contains g r ≡ true) → (r < n + 1) × IsHeld h r × IsBy t (watermark_at m r)
+    out r (inl same) = let e : r ≡ n = tells_apart exact_unsigned r n same in (omega (arith, e), subst (λ (q : ℕ). IsHeld h q) (sym e) here.0, subst (λ (q : ℕ). IsBy t (watermark_at m q)) (sym e) here.1)
+    out r (inr old) = let at = (known.each r).0 old in (let lt = at.0 in omega (arith, lt), at.1, at.2)
+
+    back : (r : ℕ) → ((r < n + 1) × IsHeld h r × IsBy t (watermark_at m r)) → (r ≡ n) ⊎ ((r < n) ⊎ (n < r)) → IsHeld (set.insert g n) r
+    back r at (inl same) = set.contains-insert nat_cmp_total g n r ∙ ap (λ b. b || set.contains g r) (same_is r n same)
+    back r at (inr (inl before)) = set.contains-insert nat_cmp_total g n r ∙ ap (λ b. eq_by_cmp nat_cmp r n || b) ((known.each r).1 (before, at.1, at.2)) ∙ or_true (eq_by_cmp nat_cmp r n)
+    back r at (inr (inr after)) = absurd (let lt = at.0 in omega (arith, lt, after))
+
+pub until_all : (m : List MRow) (h : Rows) (t : Option ℤ) (g : Rows) → InRange m h → IsUntilBelow m h t (length m) g → AreUntil m h t g
+until_all m h t g range known r = (λ there. let at = (known.each r).0 there in (at.1, at.2), λ at. (known.each r).1 (range r at.0, at.0, at.1))
+
+pub if_ok : {X E : Type 0} (r : Result X E) (P Q : X → Type 0) → ((x : X) → P x → Q x) → IfOk r P → IfOk r Q
+if_ok (Ok x) P Q goes is = goes x is
+if_ok (Err e) P Q goes is = tt

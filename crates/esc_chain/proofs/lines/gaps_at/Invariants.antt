@@ -1,0 +1,14 @@
+use Rattle.std.proofs.Common.{◌≡◌, ◌++◌, ℤ, length, Option, Some}
+use Rattle.std.specs.List.{All}
+use Rattle.std.specs.Map.{keys_of}
+use Rattle.esc_chain.specs.Gap.{IsGapLineAt, places_of}
+use Rattle.esc_chain.specs.Stops.{IsUnheldEntry, AreWays}
+use Rattle.esc_chain.proofs.PlaceMaps.{place_cmp}
+use Rattle.esc_chain.proofs.lines.gaps_at.Given as goal
+
+abbrev pub invariant-loop-place : goal.invariant-loop-place
+invariant-loop-place l = record {
+  told : (t : Option ℤ) → AreWays place_cmp l.m l.h t l.ways → All (IsGapLineAt l.m l.h t) l.lines.items;
+  entries : All (λ e. IsUnheldEntry l.m l.h e.0 (length l.m) (Some e.1)) l.place-iterator;
+  in_order : places_of l.lines.items ++ keys_of l.place-iterator ≡ keys_of l.initial.place-iterator;
+}

@@ -1,0 +1,62 @@
+-- A manifest and the rows of another one (this project's profile).
+use Rattle.std.specs.Prelude.{ℕ, suc, Bool, true, false, not, ◌&&◌, ◌||◌, ◌==◌, List, ◌++◌, filter, position, Option, None, Some, Result, Ok, Err, if◌then◌else◌}
+use Rattle.std.specs.List.{list_any}
+use Rattle.std.specs.Str.{bytes_eq}
+use Rattle.esc_manifest.specs.declared.row.MRow.{MRow}
+use Rattle.esc_manifest.specs.RowFaults.{same_place, same_revision, moved_id, follows_later, same_digest, rows_fault}
+
+-- both have the same prevId, or both have none
+abbrev pub same_prev : Option (List ℕ) → Option (List ℕ) → Bool
+same_prev None None = true
+same_prev None (Some b) = false
+same_prev (Some a) None = false
+same_prev (Some a) (Some b) = bytes_eq a b
+
+-- equal in all six values
+abbrev pub same_row : MRow → MRow → Bool
+same_row q r =
+    bytes_eq q.header.id r.header.id
+    && (same_place q.header.place r.header.place
+    && (same_prev q.header.prev r.header.prev
+    && ((q.header.resend == r.header.resend) && bytes_eq q.digest r.digest)))
+
+-- one of the rows is equal to this one
+abbrev pub is_listed : List MRow → MRow → Bool
+is_listed m r = list_any (λ q. same_row q r) m
+
+-- the rows of `more` that aren't listed yet, in their order
+abbrev pub new_rows : List MRow → List MRow → List MRow
+new_rows m more = filter (λ r. not (is_listed m r)) more
+
+-- the union: the rows, and behind them those of `more` that aren't listed yet
+abbrev pub extended : List MRow → List MRow → List MRow
+extended m more = m ++ new_rows m more
+
+-- the row repeats or contradicts one of m, by the fault of this number: M10, M11 or M13, or M12, where it is a Differential
+-- that names a row of m which isn't earlier, or a Differential of m names it so
+abbrev pub is_blamed : ℕ → List MRow → MRow → Bool
+is_blamed code m r =
+    if code == 10 then list_any (λ q. same_revision q r) m
+    else if code == 11 then list_any (λ q. moved_id q r) m
+    else if code == 12 then list_any (λ q. follows_later q r) m || list_any (λ q. follows_later r q) m
+    else if code == 13 then list_any (λ q. same_digest q r) m
+    else false
+
+-- an index as a row from 1, or 0, the whole
+abbrev pub row_or_whole : Option ℕ → ℕ
+row_or_whole None = 0
+row_or_whole (Some index) = suc index
+
+-- the row of `more` that a fault of the union is told at: the least that isn't listed yet and has it (as `more` is accepted
+-- by itself, each of these faults is against a row of m)
+abbrev pub blamed : ℕ → List MRow → List MRow → ℕ
+blamed code m more = row_or_whole (position (λ r. not (is_listed m r) && is_blamed code m r) more)
+
+-- the union, or the number of its fault and the row of `more` that it is told at
+abbrev pub union_or : List MRow → List MRow → Option (ℕ × ℕ) → Result (List MRow) (ℕ × ℕ)
+union_or m more None = Ok (extended m more)
+union_or m more (Some fault) = Err (fault.0, blamed fault.0 m more)
+
+-- an accepted manifest and more rows: the union, or the least fault that stands in it
+unfoldable pub extension : List MRow → List MRow → Result (List MRow) (ℕ × ℕ)
+extension m more = union_or m more (rows_fault (extended m more))

@@ -1,0 +1,132 @@
+//! Manifests that list more rows.
+
+ghost use Rattle.std.specs.Prelude.{◌≡◌, ◌≤◌, ◌<◌, ◌&&◌, ℕ, length, not, position, IfOk, IfSome, Ok, Err, option_map, string_bytes};
+ghost use Rattle.std.specs.List.{list_any};
+ghost use Rattle.esc_manifest.specs.declared.fault.MFault.TheVariants as MFault;
+ghost use Rattle.esc_manifest.specs.RowFaults.{follows_later};
+ghost use Rattle.esc_manifest.specs.Extension.{same_prev, same_row, is_listed, extended, is_blamed, blamed, extension};
+
+use crate::fault::MFault;
+use crate::manifest::Manifest;
+use crate::row::MRow;
+use crate::rows::{
+    follows_any_later, follows_later, is_same_place, moves_id, repeats_digest, repeats_revision,
+    rows_fault,
+};
+use esc_bundle::NoMemory;
+use std::alloc::Global;
+
+fn is_same_prev(a: &Option<String>, b: &Option<String>) -> bool
+    ensures { result ≡ same_prev (option_map string_bytes a.now) (option_map string_bytes b.now) }
+{
+    match (a, b) {
+        (None, None) => true,
+        (Some(a), Some(b)) => a.as_str() == b.as_str(),
+        _ => false,
+    }
+}
+
+// Whether two rows are equal in all six values.
+fn is_same_row(q: &MRow, r: &MRow) -> bool
+    ensures { result ≡ same_row q.now r.now }
+{
+    q.header.id.as_str() == r.header.id.as_str()
+        && is_same_place(q.header.place, r.header.place)
+        && is_same_prev(&q.header.prev, &r.header.prev)
+        && q.header.resend == r.header.resend
+        && q.digest == r.digest
+}
+
+fn is_listed(rows: &[MRow], row: &MRow) -> bool
+    ensures { result ≡ is_listed rows.now row.now }
+{
+    rows.iter().any(|q| is_same_row(q, row))
+}
+
+// Rows equal to these.
+fn copied(alloc: Global, rows: &[MRow]) -> Result<Vec<MRow>, NoMemory>
+    ensures { IfOk result (λ copies. copies.items ≡ rows.now) }
+{
+    let mut copies = Vec::new(alloc);
+    for row in rows {
+        copies.push(row.copy(alloc)?)?;
+    }
+    Ok(copies)
+}
+
+// The rows, and behind them those of `more` that aren't listed yet.
+fn union_of(alloc: Global, rows: &[MRow], more: &[MRow]) -> Result<Vec<MRow>, NoMemory>
+    ensures { IfOk result (λ union. union.items ≡ extended rows.now more.now) }
+{
+    let mut union = copied(alloc, rows)?;
+    for row in more {
+        if is_listed(rows, row) {
+            continue;
+        }
+        union.push(row.copy(alloc)?)?;
+    }
+    Ok(union)
+}
+
+// Whether a Differential of these rows names this row, which isn't earlier.
+fn is_named_late(rows: &[MRow], row: &MRow) -> bool
+    ensures { result ≡ list_any (λ q. follows_later row.now q) rows.now }
+{
+    rows.iter().any(|q| follows_later(row, q))
+}
+
+// Whether a row that isn't listed yet stands against one of these rows by the fault of a number.
+fn is_blamed(code: u8, rows: &[MRow], row: &MRow) -> bool
+    ensures { result ≡ is_blamed code rows.now row.now }
+{
+    match code {
+        10 => repeats_revision(rows, row),
+        11 => moves_id(rows, row),
+        12 => follows_any_later(rows, row) || is_named_late(rows, row),
+        13 => repeats_digest(rows, row),
+        _ => false,
+    }
+}
+
+fn first_blamed(code: u8, rows: &[MRow], more: &[MRow]) -> Option<usize>
+    ensures first { result ≡ position (λ r. not (is_listed rows.now r) && is_blamed code rows.now r) more.now }
+    ensures within { IfSome result (λ r. r < length more.now) }
+{
+    more.iter()
+        .position(|row| !is_listed(rows, row) && is_blamed(code, rows, row))
+}
+
+// The row of `more` that the fault of a number is told at, from 1; 0 is the whole.
+fn blamed(code: u8, rows: &[MRow], more: &[MRow]) -> u32
+    requires few { length more.now ≤ 4096 }
+    ensures { result ≡ blamed code rows.now more.now }
+{
+    match first_blamed(code, rows, more) {
+        Some(row) => row as u32 + 1,
+        None => 0,
+    }
+}
+
+impl Manifest {
+    /// This manifest, and behind its rows those of another one that aren't equal to one of them in all six values, in their
+    /// order. Refuses with the least of M1 (more than 4,096 rows, row 0) and M10 to M13 that stands in the union. The row
+    /// is the least of `more`, counted from 1 as it stands there, that isn't listed yet and repeats or contradicts another;
+    /// for M12 the least that is a faulty Differential or whose id a faulty Differential of this manifest names.
+    #[tactic(auto, unfolding(crate::specs::Extension::extension))]
+    pub fn extend(&self, alloc: Global, more: &Manifest) -> Result<Manifest, MFault>
+        ensures accepted { IfOk result (λ m. extension self.now more.now ≡ Ok m) }
+        ensures union { IfOk result (λ m. m ≡ extended self.now more.now) }
+        ensures refused { (code row : ℕ) → result ≡ Err (MFault.Refused code row) → extension self.now more.now ≡ Err (code, row) }
+    {
+        let rows = self.rows();
+        let added = more.rows();
+        let union = union_of(alloc, rows, added)?;
+        match rows_fault(union.as_slice()) {
+            None => Ok(Manifest::of_accepted(union)),
+            Some((code, _)) => {
+                let row = blamed(code, rows, added);
+                Err(MFault::Refused { code, row })
+            }
+        }
+    }
+}
