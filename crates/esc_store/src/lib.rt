@@ -26,6 +26,3 @@ pub use form::number;
 pub use numbers::{N1, Number};
 pub use reply::{Receipt, Reply, Verdict};
 pub use store::Store;
-
-#[cfg(test)]
-mod tests;
