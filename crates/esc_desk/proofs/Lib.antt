@@ -17,3 +17,4 @@ pub mod EntryLists
 pub mod Walks
 pub mod WalkSteps
 pub mod HeldReceipts
+pub mod CrashLemmas

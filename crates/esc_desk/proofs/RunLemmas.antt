@@ -50,14 +50,14 @@ replies_lost m l a e (x ∷ xs) [] are = absurd are
 replies_lost m l a e (x ∷ xs) (Done q ∷ os) are = (are.0, replies_lost m l a e xs os are.1)
 replies_lost m l a e (x ∷ xs) (Lost f ∷ os) are = replies_lost m l a e xs os are
 
-answered_done : (m : List MRow) (l : List ArrivalValue) (a : ArrivalValue) (r : ReplyValue) (xs : List ArrivalValue) (os : List Outcome) → AreReplies m l xs os → answered (xs ++ a ∷ []) (os ++ Done r ∷ []) ≡ answered xs os ++ a ∷ []
+pub answered_done : (m : List MRow) (l : List ArrivalValue) (a : ArrivalValue) (r : ReplyValue) (xs : List ArrivalValue) (os : List Outcome) → AreReplies m l xs os → answered (xs ++ a ∷ []) (os ++ Done r ∷ []) ≡ answered xs os ++ a ∷ []
 answered_done m l a r [] [] are = refl
 answered_done m l a r [] (o ∷ os) are = absurd are
 answered_done m l a r (x ∷ xs) [] are = absurd are
 answered_done m l a r (x ∷ xs) (Done q ∷ os) are = ap (λ (k : List ArrivalValue). x ∷ k) (answered_done m l a r xs os are.1)
 answered_done m l a r (x ∷ xs) (Lost e ∷ os) are = answered_done m l a r xs os are
 
-answered_lost : (m : List MRow) (l : List ArrivalValue) (a : ArrivalValue) (e : SFault) (xs : List ArrivalValue) (os : List Outcome) → AreReplies m l xs os → answered (xs ++ a ∷ []) (os ++ Lost e ∷ []) ≡ answered xs os
+pub answered_lost : (m : List MRow) (l : List ArrivalValue) (a : ArrivalValue) (e : SFault) (xs : List ArrivalValue) (os : List Outcome) → AreReplies m l xs os → answered (xs ++ a ∷ []) (os ++ Lost e ∷ []) ≡ answered xs os
 answered_lost m l a e [] [] are = refl
 answered_lost m l a e [] (o ∷ os) are = absurd are
 answered_lost m l a e (x ∷ xs) [] are = absurd are

@@ -12,5 +12,6 @@ pub mod Serving
 pub mod Stands
 pub mod Taking
 pub mod Worked
+pub mod Crashes
 pub mod Walking
 pub mod Works

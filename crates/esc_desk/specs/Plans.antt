@@ -1,5 +1,5 @@
 -- What a plan says of a move to the chain that one more held row makes.
-use Rattle.std.specs.Prelude.{◌≡◌, ℕ, ◌<◌, List, slice_index, length, map, drop, Result}
+use Rattle.std.specs.Prelude.{◌≡◌, ℕ, ◌<◌, List, ◌++◌, slice_index, length, map, take, drop, Result}
 use Rattle.std.specs.FinSet as set
 use Rattle.esc_tables.specs.DepositValue.{DepositValue}
 use Rattle.esc_manifest.specs.declared.row.MRow.{MRow}
@@ -7,7 +7,9 @@ use Rattle.esc_manifest.specs.Accepted.{IsAccepted}
 use Rattle.esc_chain.specs.Chain.{Rows, InRange, IsLatestChain}
 use Rattle.esc_apply.specs.declared.front.Step.{Step}
 use Rattle.esc_apply.specs.Front.{common_front}
-use Rattle.esc_store.specs.Kept.{Kept, body_put, kept_chain, step_at}
+use Rattle.esc_apply.specs.Images.{chain_state}
+use Rattle.esc_store.specs.Kept.{Kept, body_put, kept_chain, step_at, with_receipt, with_body, with_steps, with_registry}
+use Rattle.esc_store.specs.ReplyValue.{ReceiptValue}
 use Rattle.esc_desk.specs.declared.plan.Plan.{Plan}
 use Rattle.esc_desk.specs.Stands.{deposits_of}
 
@@ -32,3 +34,11 @@ pub record IsPlanned (reads : List ℕ → Result DepositValue ℕ) (k : Kept) (
   pub in_range : InRange k.listed (with_held rows row)
   pub latest : IsLatestChain k.listed (with_held rows row) (rows_in plan.new.items)
   pub deposits : plan.deposits.items ≡ deposits_of reads (body_put k.bodies row body) (rows_in (drop (common_front plan.old.items plan.new.items) plan.new.items))
+
+-- what is kept once a plan was carried out: one more receipt, the body of a row, the plan's new chain, and the tables and
+-- before-images of that chain, where the old one is of these deposits
+abbrev pub kept_by : Plan → ReceiptValue → ℕ → List ℕ → Kept → List DepositValue → Kept
+kept_by plan receipt row body k c =
+    let front = common_front plan.old.items plan.new.items in
+    with_registry (with_steps (with_body (with_receipt k receipt) row body) (rows_in plan.new.items))
+    (chain_state (take front c ++ plan.deposits.items))

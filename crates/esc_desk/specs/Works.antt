@@ -16,6 +16,7 @@ use Rattle.esc_desk.specs.ArrivalValue.{ArrivalValue}
 use Rattle.esc_desk.specs.Receipts.{reply_to}
 use Rattle.esc_desk.specs.Stands.{deposits_of, held_rows, held_body}
 use Rattle.esc_desk.specs.Serving.{Serves, Answers, no_work}
+use Rattle.esc_desk.specs.Crashes.{LeavesOnlyFor}
 
 module _ (m : List MRow) (l : List ArrivalValue) (a : ArrivalValue) where
   -- the cost of going from the chain of these rows to the chain of those, by the bodies held before the arrival and with it
@@ -37,11 +38,12 @@ module _ (m : List MRow) (l : List ArrivalValue) (a : ArrivalValue) where
   abbrev pub AddsNoRow : Type 0
   AddsNoRow = held_rows sha256 reading m (l ++ a ∷ []) ≡ held_rows sha256 reading m l
 
--- a store stands for the arrivals with this one, these rows are held then, and this was its work
+-- a store stands for the arrivals with this one, also after a crash, these rows are held then, and this was its work
 pub record IsKept {S : Type 0} (g : Ghosts S) (store : Store S) (m : List MRow) (l : List ArrivalValue) (a : ArrivalValue) (rows : List ℕ) (work : Work) : Type 0 where
   pub serves : Serves g store m (l ++ a ∷ [])
   pub held : AreHeld (held_body sha256 reading m (l ++ a ∷ [])) rows
   pub works : IsWorkOf m l a work
+  pub left : LeavesOnlyFor g store.conn m (l ++ a ∷ [])
 
 -- an arrival like none before it was taken into a store with this reply and this work, and these rows are held then
 pub record IsTaken {S : Type 0} (g : Ghosts S) (store : Store S) (m : List MRow) (l : List ArrivalValue) (a : ArrivalValue) (rows : List ℕ) (reply : ReplyValue) (work : Work) : Type 0 where
@@ -49,8 +51,9 @@ pub record IsTaken {S : Type 0} (g : Ghosts S) (store : Store S) (m : List MRow)
   pub told : reply_to sha256 reading m (l ++ a ∷ []) a ≡ Some reply
   pub idle : AddsNoRow m l a → work ≡ no_work
 
--- an arrival like none before it was taken in by a desk with this reply and this work
+-- an arrival like none before it was taken in by a desk with this reply and this work, and a crash leaves it taken in
 pub record IsTakenIn {S : Type 0} (g : Ghosts S) (desk : Desk S) (m : List MRow) (l : List ArrivalValue) (a : ArrivalValue) (reply : ReplyValue) (work : Work) : Type 0 where
   pub answers : Answers g desk m l a reply
   pub works : IsWorkOf m l a work
+  pub left : LeavesOnlyFor g desk.store.conn m (l ++ a ∷ [])
   pub idle : AddsNoRow m l a → work ≡ no_work

@@ -10,10 +10,11 @@ ghost use Rattle.esc_apply.specs.Moves.{cost};
 ghost use Rattle.esc_apply.specs.Images.{chain_state};
 ghost use Rattle.esc_apply.specs.Front.{common_front};
 ghost use Rattle.esc_store.specs.Kept.{Kept, with_receipt, with_body, with_steps, with_registry};
-ghost use Rattle.esc_store.specs.Standing.{Stands, IsHonest, IsAsBefore};
-ghost use Rattle.esc_desk.specs.Plans.{rows_in};
+ghost use Rattle.esc_store.specs.Standing.{Stands, IsHonest, IsAsBefore, LeavesOnly};
+ghost use Rattle.esc_desk.specs.Plans.{rows_in, kept_by};
 ghost use Rattle.esc_store.specs.Standing.{Began, Rest, HoldsNow, GoesOn};
 ghost use Rattle.esc_desk.specs.Filled.{IsFilled};
+ghost use Rattle.esc_desk.specs.Crashes.{AddsStore};
 
 use crate::plan::Plan;
 use esc_apply::{Work, move_chain};
@@ -33,6 +34,10 @@ pub(crate) fn note_receipt<S: Alter>(
     ensures counted { OnOk result (store.new.writes ≡ saturated store.old.writes) }
     ensures uncounted { OnErr result (store.new.writes ≡ store.old.writes) }
     ensures recorded { OnOk result (IsHonest S.Store store.new → (k : Kept) → length k.receipts + 1 ≡ number → Stands S.Store store.old k → Stands S.Store store.new (with_receipt k receipt.now)) }
+    ensures left { OnOk result ((k : Kept) → length k.receipts + 1 ≡ number
+        → Stands S.Store store.old k → LeavesOnly S.Store store.new (with_receipt k receipt.now)) }
+    ensures crash { (k : Kept) → length k.receipts + 1 ≡ number → Stands S.Store store.old k
+        → AddsStore S.Store store.old.conn store.new.conn result (with_receipt k receipt.now) }
     ensures kept { OnErr result ((k : Kept) → Stands S.Store store.old k → Stands S.Store store.new k) }
 {
     let mut change = store.begin()?;
@@ -71,6 +76,15 @@ pub(crate) fn hold_deposit<S: Alter>(
     ensures honest { IsHonest S.Store store.new → IsHonest S.Store store.old }
     ensures held { OnOk result (IsHonest S.Store store.new → (k : Kept) (c : List DepositValue) → length k.receipts + 1 ≡ number → k.bodies row ≡ None → length c ≡ length plan.now.old.items → Stands S.Store store.old (with_registry k (chain_state c))
         → Stands S.Store store.new (with_registry (with_steps (with_body (with_receipt k receipt.now) row body.now) (rows_in plan.now.new.items)) (chain_state (take (common_front plan.now.old.items plan.now.new.items) c ++ plan.now.deposits.items)))) }
+    ensures left { OnOk result ((k : Kept) (c : List DepositValue) → length k.receipts + 1 ≡ number
+        → k.bodies row ≡ None → length c ≡ length plan.now.old.items
+        → Stands S.Store store.old (with_registry k (chain_state c))
+        → LeavesOnly S.Store store.new (kept_by plan.now receipt.now row body.now k c)) }
+    ensures crash { (k : Kept) (c : List DepositValue) → length k.receipts + 1 ≡ number
+        → k.bodies row ≡ None → length c ≡ length plan.now.old.items
+        → Stands S.Store store.old (with_registry k (chain_state c))
+        → AddsStore S.Store store.old.conn store.new.conn result
+        (kept_by plan.now receipt.now row body.now k c) }
     ensures worked { IfOk result (λ work. IsHonest S.Store store.new → (k : Kept) (c : List DepositValue) → length c ≡ length plan.now.old.items → Stands S.Store store.old (with_registry k (chain_state c))
         → sum_by mention_count (c ++ plan.now.deposits.items) < 2 ^ 64 → work ≡ cost c plan.now.old.items plan.now.new.items plan.now.deposits.items) }
     ensures counted { IfOk result (λ work. store.new.writes ≡ saturated (store.old.writes + work.writes)) }
@@ -119,6 +133,10 @@ fn commit_filled<S: Alter>(change: Change<'_, S>) -> Result<(), SFault>
     ensures unwritten { OnErr result (change.exit.0.now.writes ≡ change.entry.store.now.writes) }
     ensures committed { OnOk result (IsHonest S.Store change.exit.0.now → (before k : Kept) → IsFilled S.Store change.entry before k → Stands S.Store change.exit.0.now k) }
     ensures kept { OnErr result ((before : Kept) → Began S.Store change.entry before → Stands S.Store change.exit.0.now before) }
+    ensures left { OnOk result ((before k : Kept) → IsFilled S.Store change.entry before k
+        → LeavesOnly S.Store change.exit.0.now k) }
+    ensures crash { (before k : Kept) → IsFilled S.Store change.entry before k
+        → AddsStore S.Store change.entry.store.now.conn change.exit.0.now.conn result k }
 {
     change.commit()
 }

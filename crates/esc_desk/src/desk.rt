@@ -7,7 +7,7 @@ ghost use Rattle.esc_manifest.specs.declared.row.MRow.{MRow};
 ghost use Rattle.esc_apply.specs.Registry.{saturated};
 ghost use Rattle.esc_store.specs.Kept.{Kept, AreHeld};
 ghost use Rattle.esc_store.specs.ReplyValue.{ReplyValue, reply_alike};
-ghost use Rattle.esc_store.specs.Standing.{Stands, IsHonest, IsAsBefore};
+ghost use Rattle.esc_store.specs.Standing.{Stands, IsHonest, IsAsBefore, LeavesOnly};
 ghost use Rattle.esc_desk.specs.Finding.{held_row};
 ghost use Rattle.esc_desk.specs.Receipts.{is_among, is_old, receipts_of, reply_to};
 ghost use Rattle.esc_desk.specs.Stands.{StandsFor};
@@ -16,6 +16,7 @@ ghost use Rattle.esc_desk.specs.declared.finding.Finding.TheVariants.{Holding};
 ghost use Rattle.esc_desk.specs.ArrivalValue.{ArrivalValue};
 ghost use Rattle.esc_desk.specs.Serving.{Serves, DeskServes, Answers, no_work};
 ghost use Rattle.esc_desk.specs.Works.{IsWorkOf, AddsNoRow, IsKept, IsTaken, IsTakenIn};
+ghost use Rattle.esc_desk.specs.Crashes.{CrashLeaves, LeavesTaken, AddsStoreFor};
 
 use crate::changes::{hold_deposit, note_receipt};
 use crate::finding::{Finding, find, held_row};
@@ -53,6 +54,9 @@ impl<S: Alter> Desk<S> {
     pub fn open(store: Store<S>) -> Desk<S>
         ensures same { result.store ≡ store }
         ensures serves { (m : List MRow) (l : List ArrivalValue) → Serves S.Store store m l → DeskServes S.Store result m l }
+        ensures left { (m : List MRow) (l : List ArrivalValue) (k : Kept)
+            → LeavesOnly S.Store store k → StandsFor sha256 reading m l k
+            → CrashLeaves S.Store result.store.conn m l [] }
     {
         Desk { store, known: None }
     }
@@ -69,7 +73,8 @@ impl<S: Alter> Desk<S> {
     /// one's reply and makes no work; of any other the work is exactly the cost of going from the latest chain before it
     /// to the latest chain with it, which is none where it adds no row to those that are held. [`Desk::writes`] grows by
     /// the work's writes. At `Err` nothing has changed: `S1`, `S2`, or `S4` where the store has 1,000,000,000 receipts: then
-    /// no arrival is taken in that is like none before it.
+    /// no arrival is taken in that is like none before it. A crash leaves what was answered; after `S1` or `S2` it may leave
+    /// the arrival taken in.
     #[tactic(auto, using(crate::proofs::StoreFacts::was_honest))]
     pub fn arrive(
         &mut self,
@@ -86,6 +91,11 @@ impl<S: Alter> Desk<S> {
         ensures uncounted { OnErr result (self.new.store.writes ≡ self.old.store.writes) }
         ensures honest { IsHonest S.Store self.new.store → IsHonest S.Store self.old.store }
         ensures lost { OnErr result ((m : List MRow) (l : List ArrivalValue) → DeskServes S.Store self.old m l → DeskServes S.Store self.new m l) }
+        ensures crash { (m : List MRow) (l doubtful : List ArrivalValue)
+            → DeskServes S.Store self.old m l
+            → CrashLeaves S.Store self.old.store.conn m l doubtful
+            → LeavesTaken S.Store self.new.store.conn m l doubtful
+            (record { number = number.now; body = body.now }) result }
     {
         let digest = Sha256::digest(body);
         // A proof knows that a count is below 2^64 where the body reads it.
@@ -114,6 +124,13 @@ impl<S: Alter> Desk<S> {
         ensures uncounted { OnErr result (self.new.store.writes ≡ self.old.store.writes) }
         ensures lost { OnErr result ((k : Kept) → Stands S.Store self.old.store k → Stands S.Store self.new.store k) }
         ensures forgotten { OnErr result (self.new.known ≡ None) }
+        ensures crash { IsHonest S.Store self.new.store
+            → (m : List MRow) (l : List ArrivalValue) (k : Kept)
+            → Stands S.Store self.old.store k → StandsFor sha256 reading m l k
+            → IfSome self.old.known (λ rows. AreHeld k.bodies rows.items)
+            → reply_alike m 1 number.now digest k.receipts ≡ None
+            → AddsStoreFor S.Store self.old.store.conn self.new.store.conn result m
+            (l ++ record { number = number.now; body = body.now } ∷ []) }
         ensures honest { IsHonest S.Store self.new.store → IsHonest S.Store self.old.store }
     {
         let mut held = self.take_held(alloc)?;
@@ -153,6 +170,12 @@ fn take_in<S: Alter>(
     ensures counted { IfOk result (λ p. store.new.writes ≡ saturated (store.old.writes + p.1.writes)) }
     ensures uncounted { OnErr result (store.new.writes ≡ store.old.writes) }
     ensures lost { OnErr result ((k : Kept) → Stands S.Store store.old k → Stands S.Store store.new k) }
+    ensures crash { IsHonest S.Store store.new → (m : List MRow) (l : List ArrivalValue) (k : Kept)
+        → Stands S.Store store.old k → StandsFor sha256 reading m l k
+        → AreHeld k.bodies held.old.items
+        → reply_alike m 1 number.now digest k.receipts ≡ None
+        → AddsStoreFor S.Store store.old.conn store.new.conn result m
+        (l ++ record { number = number.now; body = body.now } ∷ []) }
     ensures honest { IsHonest S.Store store.new → IsHonest S.Store store.old }
 {
     let next = next_receipt(store)?;
@@ -191,6 +214,13 @@ fn keep<S: Alter>(
     requires { IfSome (held_row found) (λ r. r < length store.old.manifest) }
     ensures lost { OnErr result ((k : Kept) → Stands S.Store store.old k → Stands S.Store store.new k) }
     ensures kept { IfOk result (λ work. IsHonest S.Store store.new → (m : List MRow) (l : List ArrivalValue) (n : List ℕ) (k : Kept) → Stands S.Store store.old k → IsNew m l (record { number = n; body = body.now }) k found held.old.items number receipt.now → IsKept S.Store store.new m l (record { number = n; body = body.now }) held.new.items work) }
+    ensures crash { IsHonest S.Store store.new
+        → (m : List MRow) (l : List ArrivalValue) (n : List ℕ) (k : Kept)
+        → Stands S.Store store.old k
+        → IsNew m l (record { number = n; body = body.now }) k found held.old.items
+        number receipt.now
+        → AddsStoreFor S.Store store.old.conn store.new.conn result m
+        (l ++ record { number = n; body = body.now } ∷ []) }
     ensures idle { IfOk result (λ work. is_old held.old.items (held_row found) ≡ true → work ≡ no_work) }
     ensures counted { IfOk result (λ work. store.new.writes ≡ saturated (store.old.writes + work.writes)) }
     ensures uncounted { OnErr result (store.new.writes ≡ store.old.writes) }
@@ -223,6 +253,13 @@ fn keep_deposit<S: Alter>(
 ) -> Result<Work, SFault>
     requires { row < length store.old.manifest }
     ensures lost { OnErr result ((k : Kept) → Stands S.Store store.old k → Stands S.Store store.new k) }
+    ensures crash { IsHonest S.Store store.new
+        → (m : List MRow) (l : List ArrivalValue) (n : List ℕ) (k : Kept)
+        → Stands S.Store store.old k → is_among held.old.items (Some row) ≡ false
+        → IsNew m l (record { number = n; body = body.now }) k (Holding row deposit) held.old.items
+        number receipt.now
+        → AddsStoreFor S.Store store.old.conn store.new.conn result m
+        (l ++ record { number = n; body = body.now } ∷ []) }
     ensures kept { IfOk result (λ work. IsHonest S.Store store.new → (m : List MRow) (l : List ArrivalValue) (n : List ℕ) (k : Kept) → Stands S.Store store.old k → is_among held.old.items (Some row) ≡ false → IsNew m l (record { number = n; body = body.now }) k (Holding row deposit) held.old.items number receipt.now → IsKept S.Store store.new m l (record { number = n; body = body.now }) held.new.items work) }
     ensures counted { IfOk result (λ work. store.new.writes ≡ saturated (store.old.writes + work.writes)) }
     ensures uncounted { OnErr result (store.new.writes ≡ store.old.writes) }

@@ -37,6 +37,11 @@
 //! `S4` (there are 1,000,000,000 receipts) is as one that never came. So runs compose, whatever came before them and
 //! however they were cut.
 //!
+//! What was answered is kept through a crash. An arrival is *in doubt* once it was refused by `S1` or `S2`, until another
+//! changes a table: a crash may leave it taken in. The clauses `left` of [`Desk::open`] and `crash` of [`Desk::arrive`] and
+//! [`Desk::run`] say that whatever a crash leaves is a store of the answered arrivals, or of them and one of those in doubt
+//! (`CrashLeaves`), and none is in doubt in a store that was just made or opened. `esc_kept` follows it to the next open.
+//!
 //! Each clause on a store has the premise that the store was honest, which is that the disk gave back what was written
 //! to it. The definitions go by digests. That no two different bodies of the list have one digest is a premise of
 //! `held_as_arrived` alone, which says that what is held is what all the arrivals hold, and not only the first of each

@@ -3,6 +3,7 @@ use Rattle.std.proofs.lemmas.List.{take_more}
 use Rattle.std.proofs.lemmas.Grind.{common_steps}
 use Rattle.esc_desk.specs.ArrivalValue.{ArrivalValue}
 use Rattle.esc_desk.proofs.RunLemmas.{ran_more}
+use Rattle.esc_desk.proofs.CrashLemmas.{if_clean, left_more}
 use Rattle.esc_desk.proofs.desk.Desk.run.Goals as goal
 
 pub loop-arrival-preserved : goal.loop-arrival-preserved
@@ -18,4 +19,8 @@ loop-arrival-preserved g c =
       ran = λ clean m before served.
           let past = c.take-outcome.ensures.honest clean in
           rw (more, c.push_reserved.ensures.items) (ran_more g.S.Store c.loop-arrival.self c.take-outcome.new.self m before (take i all) c.loop-arrival.outcomes.items a c.take-outcome.result (c.loop-arrival.invariant.ran past m before served) (c.take-outcome.ensures.taken clean m));
+      crash = λ m before doubtful served start. rw (more, c.push_reserved.ensures.items) (if_clean g.S.Store c.take-outcome.new.self.store.conn m _ _ (λ clean.
+          let past = c.loop-arrival.invariant.ran (c.take-outcome.ensures.honest clean) m before served in
+          let left = c.loop-arrival.invariant.crash m before doubtful served start in
+          left_more g.S.Store c.take-outcome.new.self.store.conn m before doubtful (take i all) c.loop-arrival.outcomes.items a c.take-outcome.result past.replies (c.take-outcome.ensures.crash m _ _ past.serves left)));
     }

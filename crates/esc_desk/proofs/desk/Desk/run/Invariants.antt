@@ -1,8 +1,9 @@
-use Rattle.std.proofs.Common.{◌≡◌, ◌≤◌, List, length, take, vec_capacity}
+use Rattle.std.proofs.Common.{◌≡◌, ◌≤◌, ◌++◌, List, length, take, vec_capacity}
 use Rattle.esc_manifest.specs.declared.row.MRow.{MRow}
 use Rattle.esc_store.specs.Standing.{IsHonest}
 use Rattle.esc_desk.specs.ArrivalValue.{ArrivalValue}
-use Rattle.esc_desk.specs.Running.{Ran}
+use Rattle.esc_desk.specs.Running.{Ran, answered}
+use Rattle.esc_desk.specs.Crashes.{CrashLeaves, doubtful_after}
 use Rattle.esc_desk.specs.Serving.{DeskServes}
 use Rattle.esc_desk.proofs.desk.Desk.run.Given as goal
 
@@ -13,4 +14,6 @@ invariant-loop-arrival g l = record {
   room : length l.arrivals ≤ vec_capacity l.outcomes;
   honest : IsHonest g.S.Store l.self.store → IsHonest g.S.Store l.fn.self.store;
   ran : IsHonest g.S.Store l.self.store → (m : List MRow) (before : List ArrivalValue) → DeskServes g.S.Store l.fn.self m before → Ran g.S.Store l.self m before (take l.arrival-index l.arrivals) l.outcomes.items;
+  crash : (m : List MRow) (before doubtful : List ArrivalValue) → DeskServes g.S.Store l.fn.self m before → CrashLeaves g.S.Store l.fn.self.store.conn m before doubtful
+      → CrashLeaves g.S.Store l.self.store.conn m (before ++ answered (take l.arrival-index l.arrivals) l.outcomes.items) (doubtful_after m before doubtful (take l.arrival-index l.arrivals) l.outcomes.items);
 }
