@@ -5,6 +5,7 @@ ghost use Rattle.esc_chain.specs.Chain.{InRange};
 
 mod long;
 mod manifests;
+mod moments;
 
 use esc_bundle::NoMemory;
 use esc_chain::{
