@@ -2,6 +2,7 @@
 
 mod bundle;
 mod envelope;
+mod extension;
 mod manifest;
 mod record;
 mod shown;
