@@ -11,15 +11,14 @@ use Rattle.esc_store.specs.Kept.{fresh}
 use Rattle.esc_desk.specs.Stands.{held_rows, StandsFor}
 
 -- where no row is held there is no chain
-no_chain : (m : List MRow) (c : List ℕ) → IsChainBack m (held_rows sha256 reading m []) c → ⊥
-no_chain m [] is = is
-no_chain m (r ∷ rest) is = absurd (true≢false (sym (sym (set.contains-empty nat_cmp r) ∙ is.0.held)))
+no_chain : (m : List MRow) (r : ℕ) (rest : List ℕ) → IsChainBack m (held_rows sha256 reading m []) (r ∷ rest) → ⊥
+no_chain m r rest is = absurd (true≢false (sym (sym (set.contains-empty nat_cmp r) ∙ is.0.held)))
 
 pub stands_at_first : (m : List MRow) → StandsFor sha256 reading m [] (fresh m)
 stands_at_first m = record {
   listed = refl;
   receipts = refl;
   bodies = λ r. refl;
-  chain = no_chain m;
+  chain = λ r rest is early. no_chain m r rest is;
   registry = empty-chain;
 }
