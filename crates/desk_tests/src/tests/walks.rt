@@ -7,6 +7,7 @@ use super::{arrive, create, take_row};
 use esc_apply::Objects;
 use esc_desk::Desk;
 use esc_envelope::Kind;
+use esc_tables::Key;
 use sqlite::{Alter, Connection};
 use std::alloc::Global;
 use std::process::Abort;
@@ -102,6 +103,41 @@ fn walks_of_many_pages(rt: HostRuntime) -> Result<(), Fail> {
     for (kind, count) in [(Kind::Host, 256), (Kind::Domain, 600)] {
         assert_eq!(rt; assert_walk(&rt, alloc, &mut desk, Some(kind))?, count);
     }
+    Ok(())
+}
+
+fn comes_after(key: &Key, last: &Option<Key>) -> bool {
+    match last {
+        Some(last) => *last < *key,
+        None => true,
+    }
+}
+
+// How many objects a walk gives, and whether each comes after the one before.
+fn measured<S: Alter + Drop>(alloc: Global, desk: &mut Desk<S>) -> Result<(u64, bool), Fail> {
+    let mut walk = desk.walk(alloc, None)?;
+    let mut last: Option<Key> = None;
+    let mut is_ordered = true;
+    for count in 0..u64::MAX {
+        let Some((key, _)) = walk.next()? else {
+            return Ok((count, is_ordered));
+        };
+        is_ordered = is_ordered && comes_after(&key, &last);
+        last = Some(key);
+    }
+    Err(Fail::new("no end"))
+}
+
+// A walk over more objects than one deposit may have.
+#[test]
+fn a_walk_over_two_large_deposits(rt: HostRuntime) -> Result<(), Fail> {
+    let alloc = rt.alloc();
+    let listed = [Body::Hosts, Body::Domains];
+    let mut desk = create(alloc, Connection::open_in_memory(alloc)?, &listed)?;
+    for body in listed {
+        arrive(alloc, &mut desk, "1", body)?;
+    }
+    assert_eq!(rt; measured(alloc, &mut desk)?, (120_001, true));
     Ok(())
 }
 
