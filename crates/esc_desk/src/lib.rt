@@ -80,6 +80,3 @@ pub use laws::{held_as_arrived, new_store_stands_for_none, worked_replies};
 pub use running::Outcome;
 pub use status::{End, Status};
 pub use walk::{Pages, Walk};
-
-#[cfg(test)]
-mod tests;

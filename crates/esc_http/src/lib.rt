@@ -65,6 +65,3 @@ pub use reports::Report;
 pub use serving::{ServeFault, serve, serve_one};
 pub use streams::{ReadFailed, Sink, Source, WriteFailed};
 pub use telling::report;
-
-#[cfg(test)]
-mod tests;

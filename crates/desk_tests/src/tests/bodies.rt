@@ -1,8 +1,8 @@
 //! The bodies of the worked rows, and the manifests that list them.
 
 use Body::{
-    Abc, Both, Cut, D2, D2Resent, D3, D3Unlisted, D6, Empty, F1, F2, F5, I4, Long, Many, Orphan,
-    Unequal,
+    Abc, Both, Cut, D2, D2Resent, D3, D3Unlisted, D6, Domains, Empty, F1, F2, F5, Hosts, I4, Long,
+    Many, Orphan, Unequal,
 };
 use esc_bundle::write_bundle;
 use esc_manifest::{Manifest, read_manifest};
@@ -39,6 +39,10 @@ pub(crate) enum Body {
     Abc,
     /// A Full of a contact, 256 hosts and 600 domains.
     Many,
+    /// A Full of a contact and 60,000 hosts.
+    Hosts,
+    /// A Differential on `Hosts` of 60,000 domains.
+    Domains,
 }
 
 /// Rows of tables: a table's name and its text.
@@ -72,6 +76,8 @@ fn listed_as(body: Body) -> [&'static str; 5] {
         F5 | Long | Abc => ["F5", "FULL", "2024-03-10T00:00:00Z", "", "0"],
         D6 => ["D6", "DIFF", "2024-03-11T00:00:00Z", "F5", "0"],
         Many => ["M1", "FULL", "2024-03-03T00:00:00Z", "", "0"],
+        Hosts => ["M2", "FULL", "2024-03-03T00:00:00Z", "", "0"],
+        Domains => ["M3", "DIFF", "2024-03-04T00:00:00Z", "M2", "0"],
         Empty => ["E0", "FULL", "2024-03-01T00:00:00Z", "", "0"],
     }
 }
@@ -125,6 +131,8 @@ fn tables_of(body: Body) -> (Tables, Tables) {
             ],
         ),
         Many => (&[], &[("contact", "C1,R1\n"), ("host", ""), ("domain", "")]),
+        Hosts => (&[], &[("contact", "C1,R1\n"), ("host", "")]),
+        Domains => (&[], &[("domain", "")]),
         Empty | Cut | Long | Abc => (&[], &[]),
     }
 }
@@ -189,6 +197,16 @@ fn add_files(
     Ok(())
 }
 
+// The sections of a body that have rows of so many hosts or domains, and what each row ends with.
+fn masses_of(body: Body) -> &'static [(usize, u32, &'static str)] {
+    match body {
+        Many => &[(2, 256, ""), (3, 600, ",C1")],
+        Hosts => &[(2, 60_000, "")],
+        Domains => &[(1, 60_000, ",C1")],
+        _ => &[],
+    }
+}
+
 // The rows of so many hosts or domains, whose keys are in another order by their bytes.
 fn add_rows(
     alloc: Global,
@@ -216,9 +234,8 @@ pub(crate) fn bytes_of(alloc: Global, body: Body) -> Result<Vec<u8>, Fail> {
     let (deletes, contents) = tables_of(body);
     add_files(alloc, &mut sections, "d", deletes)?;
     add_files(alloc, &mut sections, "c", contents)?;
-    if body == Many {
-        add_rows(alloc, sections.get_mut(2), 256, "")?;
-        add_rows(alloc, sections.get_mut(3), 600, ",C1")?;
+    for (at, count, more) in masses_of(body) {
+        add_rows(alloc, sections.get_mut(*at), *count, more)?;
     }
     Ok(write_bundle(alloc, sections.as_slice())?)
 }

@@ -165,16 +165,19 @@ pub(crate) const COUNTED: Row = Row {
     tables: &[R1, C1, DOMAIN_E, DOMAIN_F],
 };
 
+/// A desk that nothing came to.
+pub(crate) const NO_ARRIVALS: Row = Row {
+    name: "no arrivals",
+    listed: B,
+    taken: &[],
+    held: &[],
+    chain: &[],
+    tables: &[],
+};
+
 /// The worked rows.
 pub(crate) const ROWS: [Row; 20] = [
-    Row {
-        name: "no arrivals",
-        listed: B,
-        taken: &[],
-        held: &[],
-        chain: &[],
-        tables: &[],
-    },
+    NO_ARRIVALS,
     Row {
         name: "a Full",
         listed: B,

@@ -1,11 +1,14 @@
-use crate::{Report, ServeFault, receipt_line, receipts_heading, report, serve_one};
+//! Requests over memory: whole, in pieces, and with a read, a write or a flush that fails.
+
 use esc_desk::Desk;
+use esc_http::{Report, ServeFault, receipt_line, receipts_heading, report, serve_one};
 use esc_manifest::read_manifest;
 use esc_store::Store;
-use sqlite::{Alter, Connection};
+use sqlite::{Alter, Connection, MemStore};
 use std::alloc::Global;
 use std::io;
 use std::io::{Read, Write};
+use std::process::Abort;
 use std::test::Fail;
 
 const LISTED: &[u8] = b"id,type,watermark,prevId,resend,sha256
@@ -98,7 +101,7 @@ impl Write for Stuck {
 }
 
 // A desk over a new store in memory that lists the sample.
-fn desk(alloc: Global) -> Result<Desk<sqlite::MemStore>, Fail> {
+fn desk(alloc: Global) -> Result<Desk<MemStore>, Fail> {
     let manifest = read_manifest(alloc, LISTED)?;
     let conn = Connection::open_in_memory(alloc)?;
     match Store::create(alloc, conn, &manifest) {
@@ -152,29 +155,39 @@ fn joined(alloc: Global, front: &[u8], back: &[u8]) -> Result<Vec<u8>, Fail> {
     Ok(bytes)
 }
 
-#[test]
-fn arrivals_are_answered(rt: HostRuntime) -> Result<(), Fail> {
-    let alloc = rt.alloc();
-    let put = joined(alloc, PUT_SAMPLE, SAMPLE)?;
-    for step in [1, 7, 100_000] {
-        let mut desk = desk(alloc)?;
-        let first = answer(alloc, &mut desk, &put, step)?;
-        assert_eq!(rt; first.as_slice(), HELD);
-        let again = answer(alloc, &mut desk, &put, step)?;
-        assert_eq!(rt; again.as_slice(), HELD);
-        assert_eq!(rt; count_receipts(alloc, &mut desk)?, 1);
-    }
+// Arrivals: the head, the body, and the response.
+const ARRIVALS: [(&[u8], &[u8], &[u8]); 2] = [
+    (PUT_SAMPLE, SAMPLE, HELD),
+    (PUT_OTHER, b"", UNLISTED),
+];
+
+// An arrival that comes twice has the same response, and one receipt.
+fn assert_answered(
+    rt: &impl Abort,
+    alloc: Global,
+    input: &[u8],
+    step: usize,
+    expected: &[u8],
+) -> Result<(), Fail> {
+    let mut desk = desk(alloc)?;
+    let first = answer(alloc, &mut desk, input, step)?;
+    let again = answer(alloc, &mut desk, input, step)?;
+    let receipts = count_receipts(alloc, &mut desk)?;
+    assert_eq!(rt;
+        (first.as_slice(), again.as_slice(), receipts),
+        (expected, expected, 1)
+    );
     Ok(())
 }
 
 #[test]
-fn a_body_that_is_not_listed_has_a_receipt(rt: HostRuntime) -> Result<(), Fail> {
+fn arrivals_are_answered(rt: HostRuntime) -> Result<(), Fail> {
     let alloc = rt.alloc();
-    for step in [1, 100_000] {
-        let mut desk = desk(alloc)?;
-        let text = answer(alloc, &mut desk, PUT_OTHER, step)?;
-        assert_eq!(rt; text.as_slice(), UNLISTED);
-        assert_eq!(rt; count_receipts(alloc, &mut desk)?, 1);
+    for (head, body, expected) in ARRIVALS {
+        let input = joined(alloc, head, body)?;
+        for step in [1, 7, 100_000] {
+            assert_answered(&rt, alloc, &input, step, expected)?;
+        }
     }
     Ok(())
 }
@@ -253,6 +266,10 @@ const REFUSED: [(&[u8], &[u8], &[u8]); 14] = [
     ),
 ];
 
+fn is_framed(text: &[u8], front: &[u8], back: &[u8]) -> bool {
+    text.starts_with(front) && text.ends_with(back)
+}
+
 #[test]
 fn refusals_in_their_order(rt: HostRuntime) -> Result<(), Fail> {
     let alloc = rt.alloc();
@@ -260,15 +277,14 @@ fn refusals_in_their_order(rt: HostRuntime) -> Result<(), Fail> {
     for (input, front, back) in REFUSED {
         for step in [1, 100_000] {
             let text = answer(alloc, &mut desk, input, step)?;
-            assert!(rt; text.as_slice().starts_with(front));
-            assert!(rt; text.as_slice().ends_with(back));
+            assert!(rt; is_framed(text.as_slice(), front, back));
         }
     }
     assert_eq!(rt; count_receipts(alloc, &mut desk)?, 0);
     Ok(())
 }
 
-// A request for the status, with a header line that makes its head so long.
+// A request for the receipts, with a header line that makes its head so long.
 fn head_of(alloc: Global, size: usize) -> Result<Vec<u8>, Fail> {
     let mut head = Vec::from_slice(alloc, b"GET /receipts HTTP/1.1\r\nX: ")?;
     let end = b"\r\n\r\n";
@@ -277,58 +293,65 @@ fn head_of(alloc: Global, size: usize) -> Result<Vec<u8>, Fail> {
     Ok(head)
 }
 
+// Lengths of heads, each with what the response begins with.
+const HEADS: [(usize, &[u8]); 2] = [
+    (8192, b"HTTP/1.1 200 OK\r\n"),
+    (8193, b"HTTP/1.1 400 Bad Request\r\n"),
+];
+
 #[test]
 fn a_head_has_a_limit(rt: HostRuntime) -> Result<(), Fail> {
     let alloc = rt.alloc();
     let mut desk = desk(alloc)?;
-    let longest = head_of(alloc, 8192)?;
-    let text = answer(alloc, &mut desk, &longest, 100_000)?;
-    assert!(rt;
-        text.as_slice()
-            .starts_with(b"HTTP/1.1 200 OK\r\n".as_slice())
-    );
-    let longer = head_of(alloc, 8193)?;
-    let text = answer(alloc, &mut desk, &longer, 100_000)?;
-    assert!(rt;
-        text.as_slice()
-            .starts_with(b"HTTP/1.1 400 Bad Request\r\n".as_slice())
-    );
+    for (size, front) in HEADS {
+        let head = head_of(alloc, size)?;
+        let text = answer(alloc, &mut desk, &head, 100_000)?;
+        assert!(rt; text.as_slice().starts_with(front), "{size}");
+    }
     Ok(())
 }
+
+// A desk that took the sample.
+fn desk_with_sample(alloc: Global) -> Result<Desk<MemStore>, Fail> {
+    let mut desk = desk(alloc)?;
+    let put = joined(alloc, PUT_SAMPLE, SAMPLE)?;
+    answer(alloc, &mut desk, &put, 100_000)?;
+    Ok(desk)
+}
+
+const GET_RECEIPTS: &[u8] = b"GET /receipts?all HTTP/1.1\r\n\r\n";
+
+const RECEIPTS: &[u8] =
+    b"HTTP/1.1 200 OK\r\nContent-Type: text/csv\r\nContent-Length: 85\r\nConnection: close\r\n\r\nreceipt,number,verdict,fault,id,resend,copy,orphans\n1,n1,A1,,F1,0,new,0\n2,n2,A2,,,,,\n";
 
 #[test]
 fn receipts_are_told(rt: HostRuntime) -> Result<(), Fail> {
     let alloc = rt.alloc();
-    let mut desk = desk(alloc)?;
-    let put = joined(alloc, PUT_SAMPLE, SAMPLE)?;
-    answer(alloc, &mut desk, &put, 100_000)?;
+    let mut desk = desk_with_sample(alloc)?;
     answer(alloc, &mut desk, PUT_OTHER, 100_000)?;
-    let text = answer(
-        alloc,
-        &mut desk,
-        b"GET /receipts?all HTTP/1.1\r\n\r\n",
-        100_000,
-    )?;
-    assert_eq!(rt;
-        text.as_slice(),
-        b"HTTP/1.1 200 OK\r\nContent-Type: text/csv\r\nContent-Length: 85\r\nConnection: close\r\n\r\nreceipt,number,verdict,fault,id,resend,copy,orphans\n1,n1,A1,,F1,0,new,0\n2,n2,A2,,,,,\n".as_slice()
-    );
+    let text = answer(alloc, &mut desk, GET_RECEIPTS, 100_000)?;
+    assert_eq!(rt; text.as_slice(), RECEIPTS);
     Ok(())
+}
+
+// The heading of the receipts with the line of each.
+fn lines_of_receipts<S: Alter>(alloc: Global, desk: &mut Desk<S>) -> Result<Vec<u8>, Fail> {
+    let mut whole = receipts_heading(alloc)?;
+    for reply in &desk.receipts(alloc)? {
+        let line = receipt_line(alloc, reply)?;
+        whole.extend_from_slice(&line)?;
+    }
+    Ok(whole)
 }
 
 #[test]
 fn a_line_of_the_receipts(rt: HostRuntime) -> Result<(), Fail> {
     let alloc = rt.alloc();
-    let mut desk = desk(alloc)?;
-    let put = joined(alloc, PUT_SAMPLE, SAMPLE)?;
-    answer(alloc, &mut desk, &put, 100_000)?;
-    let replies = desk.receipts(alloc)?;
-    assert_eq!(rt; replies.len(), 1);
-    let line = receipt_line(alloc, &replies.as_slice()[0])?;
-    let heading = receipts_heading(alloc)?;
-    let whole = joined(alloc, &heading, &line)?;
+    let mut desk = desk_with_sample(alloc)?;
+    let whole = lines_of_receipts(alloc, &mut desk)?;
     let text = report(alloc, &mut desk, Report::Receipts)?;
-    assert_eq!(rt; text.as_slice(), whole.as_slice());
+    let receipts = count_receipts(alloc, &mut desk)?;
+    assert_eq!(rt; (text.as_slice(), receipts), (whole.as_slice(), 1));
     Ok(())
 }
 
@@ -338,25 +361,31 @@ fn a_read_that_fails(rt: HostRuntime) -> Result<(), Fail> {
     let mut desk = desk(alloc)?;
     for readable in 0..PUT_OTHER.len() - 1 {
         let (result, text) = served(alloc, &mut desk, PUT_OTHER, 5, readable, 100_000);
-        assert!(rt; result == Err(ServeFault::Read));
-        assert!(rt; text.is_empty());
+        assert!(rt; result == Err(ServeFault::Read) && text.is_empty());
     }
     assert_eq!(rt; count_receipts(alloc, &mut desk)?, 0);
     Ok(())
 }
 
+const GET_STATUS: &[u8] = b"GET /status HTTP/1.1\r\n\r\n";
+
+// The status of a desk that took nothing.
+const STATUS: &[u8] =
+    b"HTTP/1.1 200 OK\r\nContent-Type: text/plain\r\nContent-Length: 95\r\nConnection: close\r\n\r\nlisted 1\nheld 0\nreceipts 0\nchain 0\nend none\nregistrar 0\ncontact 0\nhost 0\ndomain 0\nidn 0\nnndn 0\n";
+
+// Requests, how many bytes stand behind what the answer needs, and the response.
+const NEEDED: [(&[u8], usize, &[u8]); 2] = [(GET_STATUS, 0, STATUS), (PUT_OTHER, 1, UNLISTED)];
+
 #[test]
 fn no_more_is_read_than_the_answer_needs(rt: HostRuntime) -> Result<(), Fail> {
     let alloc = rt.alloc();
     let mut desk = desk(alloc)?;
-    let get = b"GET /status HTTP/1.1\r\n\r\n".as_slice();
-    let (result, _) = served(alloc, &mut desk, get, 5, get.len(), 100_000);
-    assert!(rt; result == Ok(()));
-    // The last byte stands behind the body.
-    let needed = PUT_OTHER.len() - 1;
-    let (result, text) = served(alloc, &mut desk, PUT_OTHER, 5, needed, 100_000);
-    assert!(rt; result == Ok(()));
-    assert_eq!(rt; text.as_slice(), UNLISTED);
+    for (input, behind, expected) in NEEDED {
+        let needed = input.len().saturating_sub(behind);
+        let (result, text) = served(alloc, &mut desk, input, 5, needed, 100_000);
+        let is_told = result == Ok(());
+        assert_eq!(rt; (is_told, text.as_slice()), (true, expected), "{behind}");
+    }
     Ok(())
 }
 
@@ -366,31 +395,45 @@ fn a_write_that_fails(rt: HostRuntime) -> Result<(), Fail> {
     let mut desk = desk(alloc)?;
     for writable in 0..UNLISTED.len() {
         let (result, text) = served(alloc, &mut desk, PUT_OTHER, 5, 100_000, writable);
-        assert!(rt; result == Err(ServeFault::Write));
-        assert_eq!(rt; text.as_slice(), &UNLISTED[..writable]);
-        assert_eq!(rt; count_receipts(alloc, &mut desk)?, 1);
+        let receipts = count_receipts(alloc, &mut desk)?;
+        let is_told = result == Err(ServeFault::Write);
+        assert_eq!(rt;
+            (is_told, text.as_slice(), receipts),
+            (true, &UNLISTED[..writable], 1)
+        );
     }
     let text = answer(alloc, &mut desk, PUT_OTHER, 5)?;
     assert_eq!(rt; text.as_slice(), UNLISTED);
     Ok(())
 }
 
-#[test]
-fn a_flush_that_fails(rt: HostRuntime) -> Result<(), Fail> {
-    let alloc = rt.alloc();
-    let mut desk = desk(alloc)?;
+// What is answered and written where nothing can be handed on.
+fn served_stuck<S: Alter>(
+    alloc: Global,
+    desk: &mut Desk<S>,
+    input: &[u8],
+) -> (Result<(), ServeFault>, Vec<u8>) {
     let mut reader = Pieces {
-        rest: PUT_OTHER,
+        rest: input,
         step: 100,
         allowed: 100_000,
     };
     let mut writer = Stuck {
         text: Vec::new(alloc),
     };
-    let result = serve_one(alloc, &mut desk, &mut reader, &mut writer);
-    assert!(rt; result == Err(ServeFault::Write));
-    assert_eq!(rt; writer.text.as_slice(), UNLISTED);
-    assert_eq!(rt; count_receipts(alloc, &mut desk)?, 1);
+    let result = serve_one(alloc, desk, &mut reader, &mut writer);
+    let Stuck { text } = writer;
+    (result, text)
+}
+
+#[test]
+fn a_flush_that_fails(rt: HostRuntime) -> Result<(), Fail> {
+    let alloc = rt.alloc();
+    let mut desk = desk(alloc)?;
+    let (result, text) = served_stuck(alloc, &mut desk, PUT_OTHER);
+    let receipts = count_receipts(alloc, &mut desk)?;
+    let is_told = result == Err(ServeFault::Write);
+    assert_eq!(rt; (is_told, text.as_slice(), receipts), (true, UNLISTED, 1));
     Ok(())
 }
 
@@ -415,23 +458,21 @@ const REPORTS: [(&[u8], &[u8]); 4] = [
 ];
 
 #[test]
-fn reports_are_told(rt: HostRuntime) -> Result<(), Fail> {
+fn the_status_of_a_new_desk(rt: HostRuntime) -> Result<(), Fail> {
     let alloc = rt.alloc();
     let mut desk = desk(alloc)?;
-    let text = answer(alloc, &mut desk, b"GET /status HTTP/1.1\r\n\r\n", 1)?;
-    assert_eq!(rt;
-        text.as_slice(),
-        b"HTTP/1.1 200 OK\r\nContent-Type: text/plain\r\nContent-Length: 95\r\nConnection: close\r\n\r\nlisted 1\nheld 0\nreceipts 0\nchain 0\nend none\nregistrar 0\ncontact 0\nhost 0\ndomain 0\nidn 0\nnndn 0\n".as_slice()
-    );
-    let put = joined(alloc, PUT_SAMPLE, SAMPLE)?;
-    answer(alloc, &mut desk, &put, 100_000)?;
+    let text = answer(alloc, &mut desk, GET_STATUS, 1)?;
+    assert_eq!(rt; text.as_slice(), STATUS);
+    Ok(())
+}
+
+#[test]
+fn reports_are_told(rt: HostRuntime) -> Result<(), Fail> {
+    let alloc = rt.alloc();
+    let mut desk = desk_with_sample(alloc)?;
     for (input, back) in REPORTS {
         let text = answer(alloc, &mut desk, input, 100_000)?;
-        assert!(rt;
-            text.as_slice()
-                .starts_with(b"HTTP/1.1 200 OK\r\n".as_slice())
-        );
-        assert!(rt; text.as_slice().ends_with(back));
+        assert!(rt; is_framed(text.as_slice(), b"HTTP/1.1 200 OK\r\n", back));
     }
     Ok(())
 }

@@ -1,6 +1,6 @@
 //! Replies, tables and numbers as texts.
 
-use crate::{Reply, Status, Verdict};
+use esc_desk::{Reply, Status, Verdict};
 use esc_envelope::{Kind, watermark_text};
 use esc_tables::{Key, Object, Row};
 use std::alloc::Global;

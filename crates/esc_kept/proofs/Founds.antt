@@ -1,0 +1,73 @@
+-- What files hold is what their store may leave, and what the next open finds.
+use Rattle.std.proofs.Common.{◌≡◌, inl, inr, List, [], ◌∷◌, ◌++◌, IsTrue, refl, sym, ap, subst, subst₂, ◌∙◌, arith}
+use Rattle.std.proofs.Math.Logic.{∥∥₁_map}
+use Rattle.sqlite_disk.specs.declared.Disk.{Ghosts}
+use Rattle.sqlite_disk.specs.declared.Files.{Files}
+use Rattle.sqlite_wal.specs.Files.{outcomes}
+use Rattle.sqlite_wal.specs.Reads.{AreClean}
+use Rattle.sqlite_wal.specs.Recovery.{Image}
+use Rattle.sqlite_pool.proofs.StateLemmas.{clean_is, may_leave_is}
+use Rattle.sqlite_trees.specs.Tree.{Trees}
+use Rattle.sqlite_trees.specs.View.{IsClean, IsQuiet}
+use Rattle.sqlite_trees.proofs.Doubt.{no_doubt}
+use Rattle.sqlite_store.specs.declared.store.FileStore.{FileStore}
+use Rattle.sqlite_store.specs.FileStore.{view, faults, recovers, is_shielded, files}
+use Rattle.sqlite_trees.specs.declared.store.Store as store
+use Rattle.sqlite.specs.Held.{Held, state, AreDatabases}
+use Rattle.sqlite.specs.State.{State, HasCleanDisk, Survives}
+use Rattle.sqlite.specs.Files.{over_files, file_state, HoldsDatabase}
+use Rattle.sqlite.proofs.Theorems.{opens_again}
+use Rattle.esc_manifest.specs.declared.row.MRow.{MRow}
+use Rattle.esc_store.specs.Kept.{Kept}
+use Rattle.esc_store.specs.Tables.{IsStore}
+use Rattle.esc_store.specs.Standing.{HoldsKept, LeavesOr}
+use Rattle.esc_rows.specs.Schema.{no_schema}
+use Rattle.sqlite.specs.Effect.{Database}
+use Rattle.sqlite_catalog.specs.Listing.{IsSound}
+use Rattle.esc_kept.specs.Blank.{LeavesBlankOr}
+use Rattle.esc_desk.specs.ArrivalValue.{ArrivalValue}
+use Rattle.esc_desk.specs.declared.desk.Desk.{Desk}
+use Rattle.esc_desk.specs.Serving.{DeskServes}
+use Rattle.esc_desk.specs.Crashes.{CrashLeaves, IsStoreForOneOf, IsStoreFor}
+use Rattle.esc_kept.specs.Images.{HoldsOneOf, IsOneOf, ServesOneOf}
+
+-- whatever a crash leaves of the files of a store is one of those that it may leave of the store
+pub images_of : {D : Type 0} (g : Ghosts D) (conn : Held (FileStore D g)) (it : FileStore D g) (m : List MRow) (l doubtful : List ArrivalValue) (log db : D) → (log, db) ≡ files it
+    → IsQuiet view faults recovers is_shielded conn.store it → (IsClean (view it) → IsTrue (view it).is_numbered) → (IsClean (view it) → AreDatabases (recovers it))
+    → AreClean g log db → CrashLeaves over_files conn m l doubtful → (image : Image) → outcomes g log db image → HoldsOneOf image m l doubtful
+unfolding CrashLeaves
+images_of {D = D} g conn it m l doubtful log db are quiet numbered sound clean left image may =
+    let now = subst (λ (p : D × D). AreClean g p.0 p.1) are clean in
+    let none : IsClean (view it) = no_doubt _ (clean_is it.pool ∙ now) in
+    ∥∥₁_map (opens_again it (numbered none) (sound none) image (may_leave_is it.pool image now (subst (λ (p : D × D). outcomes g p.0 p.1 image) are may)))
+    (λ found. (found.0, found.2, left (omega (arith, quiet.clean)) found.0 (quiet.outcomes found.0 found.1)))
+
+-- what a connection at rest holds is a store
+pub kept_trees : {S : Type 0} (g : store.Ghosts S) (conn : Held S) (k : Kept) → HoldsKept g conn k → HasCleanDisk (state g conn) → IsTrue (state g conn).is_open → IsStore (state g conn).committed.trees k
+unfolding HoldsKept IsStore
+kept_trees g conn k holds clean up = (holds clean up).kept.kept
+
+-- a call that adds nothing, after which the disk is clean
+pub clean_first : (old new : State) → Survives old new (λ _. ⊥) → HasCleanDisk new → HasCleanDisk old
+clean_first old new survives clean = omega (arith, survives.clean, clean)
+
+-- a connection that was just opened on a blank database is made a store, or not
+pub blank_or : {S : Type 0} (g : store.Ghosts S) (settled : (s : S) (trees : Trees) → IsTrue (g.view s).is_open → g.recovers s trees → trees ≡ (g.view s).committed) (old new : Held S) (k : Kept) → LeavesOr g old new k → LeavesBlankOr g old new k
+unfolding LeavesOr
+blank_or g settled old new k survives opens live blank clean trees may = elim (survives.crash clean trees may) [
+  | inl was ↦ inl (
+      let s = state g old in
+      let committed : s.committed.schema ≡ no_schema = ap (λ (db : Database). db.schema) (sym opens.clean) ∙ blank in
+      subst₂ IsSound committed (sym (settled old.store trees opens.is_open was)) (live opens.is_open).1)
+  | inr made ↦ inr made
+]
+
+-- one of the stores is that of one of the lists
+pick : (trees : Trees) (m : List MRow) (l doubtful : List ArrivalValue) → IsStoreForOneOf trees m l doubtful → (x : List ArrivalValue) × IsOneOf x l doubtful × IsStoreFor trees m x
+pick trees m l [] it = (l, refl, it)
+pick trees m l (y ∷ doubtful) (inl it) = (l ++ y ∷ [], inl refl, it)
+pick trees m l (y ∷ doubtful) (inr more) = let found = pick trees m l doubtful more in (found.0, inr found.1, found.2)
+
+pub serves_one : {S : Type 0} (g : store.Ghosts S) (desk : Desk S) (image : Image) (m : List MRow) (l doubtful : List ArrivalValue) → ((trees : Trees) → HoldsDatabase image trees → (x : List ArrivalValue) → IsStoreFor trees m x → DeskServes g desk m x)
+    → HoldsOneOf image m l doubtful → ServesOneOf g desk m l doubtful
+serves_one g desk image m l doubtful serves holds = ∥∥₁_map holds (λ it. let found = pick it.0 m l doubtful it.2 in (found.0, found.1, serves it.0 it.1 found.0 found.2))
