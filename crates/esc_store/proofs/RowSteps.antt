@@ -216,6 +216,8 @@ module _ {Y D : Type 0} (show : Y → List StepRow) (old mid : State) (r : Resul
           ∙ (ap (λ (n : ℕ). filter (λ (s : StepRow). ltb s.pos n) (show y)) at_is ∙ (front_before (show y) front d up within ∙ (same ∙ take_steps front 1 rows))) in
           subst (λ (ss : List StepRow). HoldsContent new.now (record c { steps = ss })) e (cut c (still clean c h))
 
+-- ---- one step more
+
 pub steps_more : {Y E : Type 0} (old mid new : State) (rows : List ℕ) (row : ℕ) (s : StepRow) (y : Y) (done : Result Y E) → s ≡ record { pos = length rows + 1; row = row } → IsStep {X = Y} {E = E} old mid (SetsSteps rows) (Ok y) → IsStep mid new (AddsStep s) done → IsStep old new (SetsSteps (rows ++ (row ∷ []))) done
 steps_more {Y} {E} old mid new rows row s y done s_is before step = record {
   survives = survives_then old mid new (λ trees. ⊥) (λ trees. ⊥) (λ trees. ⊥) (λ _ db none. none) (λ _ db none. none) before.survives step.survives;
