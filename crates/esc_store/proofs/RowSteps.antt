@@ -1,9 +1,9 @@
 -- What parts do to rows, receipts, bodies and steps.
-use Rattle.std.proofs.Common.{◌≡◌, ◌⊎◌, inl, inr, ℕ, zero, suc, take, get_or, ◌+◌, ◌<◌, ◌≤◌, Bool, true, false, List, [], ◌∷◌, ◌++◌, length, map, Option, None, Some, refl, sym, ap, subst, ◌∙◌, arith}
+use Rattle.std.proofs.Common.{◌≡◌, ◌⊎◌, inl, inr, ℕ, zero, suc, take, get_or, ◌+◌, ◌<◌, ◌≤◌, ltb, Bool, true, false, filter, List, [], ◌∷◌, ◌++◌, length, map, Option, None, Some, refl, sym, ap, subst, ◌∙◌, arith}
 use Rattle.std.specs.Prelude.{IsTrue, Result, Ok, Err, IfOk, OnOk, OnErr, pos, ◌<ℤ◌, ℤ, ◌==◌, if◌then◌else◌, option_map}
 use Rattle.std.specs.List.{AllByRecursion}
 use Rattle.std.proofs.lemmas.Int.{ints}
-use Rattle.std.proofs.lemmas.List.{length-map, length-take-le, get_or-map, take_more}
+use Rattle.std.proofs.lemmas.List.{length-map, length-take-le, get_or-map, take_more, take_more_same, take_all}
 use Rattle.sqlite_trees.specs.Tree.{Trees}
 use Rattle.esc_rows.specs.declared.step.ChainStep.{ChainStep}
 use Rattle.esc_apply.specs.declared.front.Step.{Step}
@@ -17,16 +17,17 @@ use Rattle.std.specs.Ordering.{int_cmp, int_eq, match_ordering}
 use Rattle.std.specs.declared.cmp.Ordering.{Ordering}
 use Rattle.std.specs.declared.cmp.Ordering.TheVariants.{Less, Equal, Greater}
 use Rattle.std.proofs.lemmas.Cmp.{int_ranked}
+use Rattle.std.proofs.lemmas.Bool.{lt-ltb, le-ltb}
 use Rattle.std.proofs.lemmas.Bool.Decides.{nat_tests}
-use Rattle.esc_rows.specs.Rows.{ReceiptRow, StepRow, HeldRow, receipt_number, held_number}
+use Rattle.esc_rows.specs.Rows.{ReceiptRow, StepRow, HeldRow, receipt_number, held_number, step_number}
 use Rattle.esc_rows.specs.Content.{Content, content_in, HoldsContent}
-use Rattle.esc_rows.specs.Changes.{Tells, AddsReceipt, AddsStep, HoldsBody, Becomes, without_steps, last_number, body_of}
+use Rattle.esc_rows.specs.Changes.{Tells, AddsReceipt, AddsStep, HoldsBody, Becomes, steps_before, last_number, body_of}
 use Rattle.esc_apply.specs.Registry.{State as Tables}
 use Rattle.esc_store.specs.Kept.{Kept, with_receipt, with_body, with_steps, body_put}
 use Rattle.esc_store.specs.ReplyValue.{ReceiptValue}
 use Rattle.esc_store.specs.TypedRows.{IsBooks, IsRegistry, receipt_row, receipts_from, steps_from}
 use Rattle.esc_store.specs.Tables.{HoldsTables}
-use Rattle.esc_store.specs.Steps.{with_receipt_row, AddsNext, with_step_rows, SetsSteps}
+use Rattle.esc_store.specs.Steps.{with_receipt_row, AddsNext, with_step_rows, SetsSteps, SetsFront}
 use Rattle.esc_store.specs.Standing.{IsStep, IsSure}
 use Rattle.esc_store.proofs.Ends.{at_ok, at_said, was_clean, keeps_then}
 use Rattle.esc_store.proofs.Parts.{Turns, becomes}
@@ -155,8 +156,67 @@ steps_below : (n m : ℕ) (rows : List ℕ) → length rows + n ≤ m → AllByR
 steps_below n m [] h = tt
 steps_below n m (x ∷ rows) h = (omega (arith, h), steps_below (suc n) m rows (omega (arith, h)))
 
-pub steps_started : {Y E : Type 0} (old new : State) (done : Result Y E) → IsStep old new (Becomes without_steps) done → IsStep old new (SetsSteps []) done
-steps_started old new done step = step
+-- ---- the front that stays
+
+take_steps : (n m : ℕ) (rows : List ℕ) → take n (steps_from m rows) ≡ steps_from m (take n rows)
+take_steps zero m rows = refl
+take_steps (suc n) m [] = refl
+take_steps (suc n) m (row ∷ rows) = ap (λ l. record { pos = m; row = row } ∷ l) (take_steps n (suc m) rows)
+
+all_get : {X : Type 0} (P : X → Type 0) (xs : List X) (i : ℕ) (d : X) → AllByRecursion P xs → i < length xs → P (get_or xs i d)
+all_get P [] i d all lt = absurd (omega arith)
+all_get P (x ∷ xs) zero d all lt = all.0
+all_get P (x ∷ xs) (suc i) d all lt = all_get P xs i d all.1 (omega arith)
+
+none_before : (at : ℕ) (ss : List StepRow) → AllByRecursion (λ (x : StepRow). pos at <ℤ step_number x) ss → filter (λ (s : StepRow). ltb s.pos at) ss ≡ []
+none_before at [] all = refl
+none_before at (s ∷ ss) all = let above : at < s.pos = less_pos at s.pos all.0 in rw (le-ltb s.pos at (omega arith)) (none_before at ss all.1)
+
+-- below the number of a step are the steps in front of it
+front_before : (ss : List StepRow) (n : ℕ) (d : StepRow) → IsKeyedBy step_number ss → n < length ss → filter (λ (s : StepRow). ltb s.pos (get_or ss n d).pos) ss ≡ take n ss
+front_before [] n d up lt = absurd (omega arith)
+front_before (s ∷ ss) zero d up lt = rw (le-ltb s.pos s.pos (omega arith)) (none_before s.pos ss up.0)
+front_before (s ∷ ss) (suc n) d up lt =
+    let above : s.pos < (get_or ss n d).pos = less_pos s.pos (get_or ss n d).pos (all_get (λ (x : StepRow). step_number s <ℤ step_number x) ss n d up.0 (omega arith)) in
+    rw (lt-ltb s.pos (get_or ss n d).pos above) (ap (λ l. s ∷ l) (front_before ss n d up.1 (omega arith)))
+
+module _ {Y D : Type 0} (show : Y → List StepRow) (old mid : State) (r : Result Y D) (y : Y) (rows : List ℕ) (front : ℕ) (on : old.in_transaction ≡ true) (sure : IsSure old mid (Tells (λ c y. show y ≡ c.steps)) r) (is : r ≡ Ok y)
+    (same : take front (show y) ≡ take front (steps_from 1 rows)) where
+  still : HasCleanDisk mid → (c : Content) → HoldsContent old.now c → HoldsContent mid.now c
+  still clean c h = subst (λ db. HoldsContent db c) (sym (at_said r y _ is (sure.said clean)).1.0.now_is) h
+
+  -- all the steps are in front
+  pub front_whole : length (show y) ≤ front → {E : Type 0} → IsStep {E = E} old mid (SetsFront {E = E} rows (Ok front)) (Ok front)
+  front_whole whole = record {
+    survives = sure.survives;
+    kept = sure.kept;
+    made = λ clean. let shown = (at_said r y _ is (sure.said clean)).1.0 in (on, sets clean, shown.mode ∙ on, shown.is_open);
+    failed = λ clean. tt;
+  } where
+    sets : HasCleanDisk mid → SetsSteps (take front rows) old.now mid.now
+    sets clean c h =
+        let e : c.steps ≡ steps_from 1 (take front rows) = sym ((at_said r y _ is (sure.said clean)).0 c h) ∙ (sym (take_all front (show y) whole) ∙ (same ∙ take_steps front 1 rows)) in
+        subst (λ (ss : List StepRow). HoldsContent mid.now (record c { steps = ss })) e (still clean c h)
+
+  -- those past the front are taken away
+  module _ {W E : Type 0} (new : State) (at : ℕ) (d : StepRow) (within : front < length (show y)) (at_is : at ≡ (get_or (show y) front d).pos) where
+    pub front_cut : (w : W) → IsStep {X = W} {E = E} mid new (Becomes (steps_before at)) (Ok w) → IsStep {E = E} old new (SetsFront {E = E} rows (Ok front)) (Ok front)
+    front_cut w step = record {
+      survives = survives_then old mid new (λ trees. ⊥) (λ trees. ⊥) (λ trees. ⊥) (λ _ db none. none) (λ _ db none. none) sure.survives step.survives;
+      kept = λ clean. keeps_then old mid new (sure.kept (was_clean mid new (λ trees. ⊥) step.survives clean)) (step.kept clean);
+      made = λ clean. let m = step.made clean in (on, sets (was_clean mid new (λ trees. ⊥) step.survives clean) m.1, m.2, m.3);
+      failed = λ clean. tt;
+    } where
+      sets : HasCleanDisk mid → Becomes (steps_before at) mid.now new.now → SetsSteps (take front rows) old.now new.now
+      sets clean cut c h =
+          let shown : show y ≡ c.steps = (at_said r y _ is (sure.said clean)).0 c h in
+          let up : IsKeyedBy step_number (show y) = subst (IsKeyedBy step_number) (sym shown) h.store.ordered.steps in
+          let e : filter (λ (s : StepRow). ltb s.pos at) c.steps ≡ steps_from 1 (take front rows) =
+          ap (filter (λ (s : StepRow). ltb s.pos at)) (sym shown)
+          ∙ (ap (λ (n : ℕ). filter (λ (s : StepRow). ltb s.pos n) (show y)) at_is ∙ (front_before (show y) front d up within ∙ (same ∙ take_steps front 1 rows))) in
+          subst (λ (ss : List StepRow). HoldsContent new.now (record c { steps = ss })) e (cut c (still clean c h))
+
+-- ---- one step more
 
 pub steps_more : {Y E : Type 0} (old mid new : State) (rows : List ℕ) (row : ℕ) (s : StepRow) (y : Y) (done : Result Y E) → s ≡ record { pos = length rows + 1; row = row } → IsStep {X = Y} {E = E} old mid (SetsSteps rows) (Ok y) → IsStep mid new (AddsStep s) done → IsStep old new (SetsSteps (rows ++ (row ∷ []))) done
 steps_more {Y} {E} old mid new rows row s y done s_is before step = record {
@@ -209,3 +269,19 @@ steps_stored ss steps i n row d e lt n_is row_is =
     let size : length (map row_of steps) ≡ length steps = length-map steps row_of in
     let there : get_or (map row_of steps) i 0 ≡ row = get_or-map row_of steps i d 0 lt ∙ sym row_is in
     steps_pushed ss (map row_of steps) i (record { pos = n; row = row }) e (omega arith) (rw (n_is, there) refl)
+
+-- one more step that both chains have
+pub front_more : (kept steps : List ChainStep) (i : ℕ) (d e : ChainStep) → i < length kept → i < length steps → (get_or kept i d).pos ≡ (get_or steps i e).pos → (get_or kept i d).row ≡ (get_or steps i e).row
+    → take i (map step_row kept) ≡ take i (map step_row steps) → take (i + 1) (map step_row kept) ≡ take (i + 1) (map step_row steps)
+front_more kept steps i d e here there number row same =
+    let left : length (map step_row kept) ≡ length kept = length-map kept step_row in
+    let right : length (map step_row steps) ≡ length steps = length-map steps step_row in
+    let one : step_row (get_or kept i d) ≡ step_row (get_or steps i e) = rw (number, row) refl in
+    take_more_same (map step_row kept) (map step_row steps) i (step_row d) (omega arith) (omega arith) same (get_or-map step_row kept i d (step_row d) here ∙ (one ∙ sym (get_or-map step_row steps i e (step_row d) there)))
+
+-- the place of a kept step
+pub place_at : (kept items : List ChainStep) (front : ℕ) (d : ChainStep) → kept ≡ items → front < length kept → (get_or kept front d).pos ≡ (get_or (map step_row items) front (step_row d)).pos
+place_at kept items front d is lt = subst (λ (xs : List ChainStep). (get_or kept front d).pos ≡ (get_or (map step_row xs) front (step_row d)).pos) is (sym (ap (λ (s : StepRow). s.pos) (get_or-map step_row kept front d (step_row d) lt)))
+
+pub front_same : (kept items steps : List ChainStep) (rows : List ℕ) (front : ℕ) → kept ≡ items → map step_row steps ≡ steps_from 1 rows → take front (map step_row kept) ≡ take front (map step_row steps) → take front (map step_row items) ≡ take front (steps_from 1 rows)
+front_same kept items steps rows front is e same = ap (λ (xs : List ChainStep). take front (map step_row xs)) (sym is) ∙ (same ∙ ap (take front) e)

@@ -1,5 +1,5 @@
 -- What a store's parts do to its rows.
-use Rattle.std.specs.Prelude.{◌≡◌, ℕ, List, [], ◌∷◌, ◌++◌, map}
+use Rattle.std.specs.Prelude.{◌≡◌, ℕ, List, [], ◌∷◌, ◌++◌, map, take, Result, IfOk}
 use Rattle.sqlite.specs.Effect.{Database}
 use Rattle.esc_rows.specs.Rows.{ReceiptRow}
 use Rattle.esc_rows.specs.Content.{Content}
@@ -19,3 +19,7 @@ with_step_rows rows c = record c { steps = steps_from 1 rows }
 
 abbrev pub SetsSteps : List ℕ → Database → Database → Type 0
 SetsSteps rows = Becomes (with_step_rows rows)
+
+-- the steps are as many of the first of these rows as the result says
+abbrev pub SetsFront : {E : Type 0} → List ℕ → Result ℕ E → Database → Database → Type 0
+SetsFront rows result old new = IfOk result (λ front. SetsSteps (take front rows) old new)

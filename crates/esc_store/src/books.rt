@@ -1,11 +1,11 @@
 //! The receipts, bodies and steps of a change.
 
-ghost use Rattle.std.specs.Prelude.{◌≡◌, ℕ, List, map, option_map, IfOk, IfErr};
+ghost use Rattle.std.specs.Prelude.{◌≡◌, ◌≤◌, ℕ, List, map, take, length, option_map, IfOk, IfErr};
 ghost use Rattle.sqlite.specs.Held.{state};
 ghost use Rattle.esc_rows.specs.Entries.{receipt_row, step_row};
 ghost use Rattle.esc_store.specs.ReplyValue.{ReceiptValue};
 ghost use Rattle.esc_store.specs.TypedRows.{verdict_number, fault_number, bit, receipt_row as row_of, steps_from};
-ghost use Rattle.esc_store.specs.Steps.{AddsNext, SetsSteps};
+ghost use Rattle.esc_store.specs.Steps.{AddsNext, SetsFront, SetsSteps};
 ghost use Rattle.esc_store.specs.Standing.{IsStep};
 
 use crate::fault::SFault;
@@ -126,19 +126,59 @@ impl<S: Alter> Store<S> {
         self.add_receipt_here(receipt)
     }
 
-    // Makes these the steps of the chain.
+    // Cuts the chain down to the front that it shares with these steps. The result is the length of that front.
+    fn keep_front_here(&mut self, steps: &[ChainStep]) -> Result<usize, SFault>
+        ensures manifest { self.new.manifest ≡ self.old.manifest }
+        ensures writes { self.new.writes ≡ self.old.writes }
+        ensures step { (rows : List ℕ) → map step_row steps.now ≡ steps_from 1 rows
+            → IsStep (state S.Store self.old.conn) (state S.Store self.new.conn)
+            (SetsFront rows result) result }
+        ensures cause { IfErr result (λ fault. fault ≡ SFault.S4 → ⊥) }
+    {
+        match self.goes_on() {
+            Ok(()) => {}
+            Err(fault) => return Err(fault),
+        }
+        let alloc = self.alloc;
+        let stored = match self.steps_here(alloc) {
+            Ok(stored) => stored,
+            Err(fault) => return Err(fault),
+        };
+        let kept = stored.as_slice();
+        let front = common_front(kept, steps);
+        if front < kept.len() {
+            self.clear_steps_from_here(kept[front].pos)?;
+        }
+        Ok(front)
+    }
+
+    // Makes these the steps of the chain. A step that stands already is not written anew: each INSERT makes the
+    // database read the held body that the step names.
     pub(crate) fn set_steps_here(&mut self, steps: &[ChainStep]) -> Result<(), SFault>
         ensures manifest { self.new.manifest ≡ self.old.manifest }
         ensures writes { self.new.writes ≡ self.old.writes }
         ensures step { (rows : List ℕ) → map step_row steps.now ≡ steps_from 1 rows → IsStep (state S.Store self.old.conn) (state S.Store self.new.conn) (SetsSteps rows) result }
         ensures cause { IfErr result (λ fault. fault ≡ SFault.S4 → ⊥) }
     {
-        self.clear_steps_here()?;
-        for at in 0..steps.len() {
+        let front = self.keep_front_here(steps)?;
+        for at in front..steps.len() {
             self.add_step_here(steps[at])?;
         }
         Ok(())
     }
+}
+
+// How many steps the two chains have in common from the first on.
+fn common_front(kept: &[ChainStep], steps: &[ChainStep]) -> usize
+    ensures kept { result ≤ length kept.now }
+    ensures same { take result (map step_row kept.now) ≡ take result (map step_row steps.now) }
+{
+    for at in 0..kept.len() {
+        if at >= steps.len() || kept[at].pos != steps[at].pos || kept[at].row != steps[at].row {
+            return at;
+        }
+    }
+    kept.len()
 }
 
 // The steps of a chain as their table keeps them, numbered from 1.

@@ -3,7 +3,7 @@
 ghost use Rattle.std.specs.Prelude.{◌≡◌, true, false, map, option_map, OnOk, IfErr};
 ghost use Rattle.sqlite.specs.Held.{state};
 ghost use Rattle.esc_rows.specs.Content.{object_at};
-ghost use Rattle.esc_rows.specs.Changes.{PutsObject, RemovesObject, Becomes, Tells, without_objects, without_undo, without_steps, PutsImage, RemovesImages, ListsImages, AddsReceipt, HoldsBody, AddsStep, ListsObjects, ListsFrom, ListsKinds, ListsRows, last_number, receipt_of, body_of};
+ghost use Rattle.esc_rows.specs.Changes.{PutsObject, RemovesObject, Becomes, Tells, without_objects, without_undo, steps_before, PutsImage, RemovesImages, ListsImages, AddsReceipt, HoldsBody, AddsStep, ListsObjects, ListsFrom, ListsKinds, ListsRows, last_number, receipt_of, body_of};
 ghost use Rattle.esc_rows.specs.Entries.{receipt_row, held_row, step_row, image_of, object_of, listed_row};
 ghost use Rattle.esc_store.specs.Standing.{IsStep, IsLook, IsSure};
 
@@ -18,7 +18,7 @@ use esc_rows::page::objects_from;
 use esc_rows::receipt::{
     Receipt, all_receipts, find_receipt, insert_receipt, last_receipt, rows_of_verdict,
 };
-use esc_rows::step::{ChainStep, all_steps, clear_steps, insert_step};
+use esc_rows::step::{ChainStep, all_steps, clear_steps_from, insert_step};
 use esc_rows::undo::{StoredImage, clear_undo, delete_undo, insert_undo, select_undo};
 use sqlite::Alter;
 use std::alloc::Global;
@@ -150,18 +150,18 @@ impl<S: Alter> Store<S> {
         self.settle(done)
     }
 
-    // Takes the steps of the chain away.
-    pub(crate) fn clear_steps_here(&mut self) -> Result<(), SFault>
+    // Takes the steps of the chain from a place on away.
+    pub(crate) fn clear_steps_from_here(&mut self, pos: u32) -> Result<(), SFault>
         ensures manifest { self.new.manifest ≡ self.old.manifest }
         ensures writes { self.new.writes ≡ self.old.writes }
-        ensures step { IsStep (state S.Store self.old.conn) (state S.Store self.new.conn) (Becomes without_steps) result }
+        ensures step { IsStep (state S.Store self.old.conn) (state S.Store self.new.conn) (Becomes (steps_before pos)) result }
         ensures cause { IfErr result (λ fault. fault ≡ SFault.S4 → ⊥) }
     {
         match self.goes_on() {
             Ok(()) => {}
             Err(fault) => return Err(fault),
         }
-        let done = clear_steps(&mut self.conn);
+        let done = clear_steps_from(&mut self.conn, pos);
         self.settle(done)
     }
 
