@@ -1,6 +1,5 @@
 -- Texts that are written piece by piece.
-use Rattle.std.proofs.Common.{◌≡◌, ℕ, ◌+◌, ◌<◌, List, ◌∷◌, ◌++◌, length, get_or, drop, sym, ap, ◌∙◌, append_assoc, codes}
-use Rattle.std.specs.Fmt.{decimal}
+use Rattle.std.proofs.Common.{◌≡◌, ℕ, ◌+◌, ◌<◌, List, ◌∷◌, ◌++◌, length, get_or, drop, sym, ap, ◌∙◌, append_assoc}
 use Rattle.std.proofs.lemmas.List.{drop_more}
 use Rattle.esc_envelope.specs.declared.kind.Kind.{Kind}
 use Rattle.esc_envelope.specs.Kinds.{kind_name}
@@ -10,7 +9,6 @@ use Rattle.esc_check.specs.Lines.{line_text}
 use Rattle.esc_chain.specs.declared.gap.GapLine.{GapLine}
 use Rattle.esc_http.specs.GapsText.{gap_line, gap_lines_text}
 use Rattle.esc_http.specs.LinksText.{finding_line, findings_text}
-use Rattle.esc_http.specs.Response.{crlf, response_head}
 use Rattle.esc_http.specs.ReceiptsText.{receipt_line, replies_text}
 use Rattle.esc_http.specs.StatusText.{number_line, objects_text}
 
@@ -42,18 +40,3 @@ pub objects_more : (counts left : List (Kind × ℕ)) (kind : Kind) (n : ℕ) (n
     → objects_text counts ≡ number_line name n ++ objects_text left
 objects_more counts left kind n name is named =
     ap objects_text is ∙ ap (λ (word : List ℕ). number_line word n ++ objects_text left) (sym named)
-
--- the head of a response as one row of pieces
-abbrev pub head_pieces : List ℕ → List ℕ → List ℕ → ℕ → List ℕ
-head_pieces status media allow size =
-    codes "HTTP/1.1 " ++ status ++ codes "\r\nContent-Type: " ++ media ++ codes "\r\nContent-Length: " ++ decimal size ++ codes "\r\nConnection: close\r\n" ++ allow ++ codes "\r\n"
-
-in_lines : (version status end kind media size number connection allow : List ℕ)
-    → version ++ status ++ (end ++ kind) ++ media ++ (end ++ size) ++ number ++ (end ++ (connection ++ end)) ++ allow ++ end
-    ≡ (version ++ status ++ end) ++ (kind ++ media ++ end) ++ (size ++ number ++ end) ++ (connection ++ end) ++ allow ++ end
-in_lines version status end kind media size number connection allow = simp append_assoc
-
--- the pieces are the lines
-pub head_lines : (status media allow : List ℕ) (size : ℕ) → head_pieces status media allow size ≡ response_head status media allow size
-head_lines status media allow size =
-    in_lines (codes "HTTP/1.1 ") status crlf (codes "Content-Type: ") media (codes "Content-Length: ") (decimal size) (codes "Connection: close") allow
