@@ -1,5 +1,5 @@
 pub mod AnswerLemmas
 pub mod HeldRows
 pub mod Listed
-pub mod Pieces
+pub mod StatusLemmas
 pub mod StoreFacts

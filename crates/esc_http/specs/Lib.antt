@@ -1,11 +1,6 @@
 pub mod Answering
-pub mod GapsText
-pub mod LinksText
 pub mod Plans
-pub mod ReceiptsText
-pub mod ReplyText
 pub mod Reports
 pub mod Response
 pub mod StatusText
 pub mod Walked
-pub mod Words

@@ -6,7 +6,7 @@ use Rattle.esc_store.specs.declared.reply.Verdict.{Verdict}
 use Rattle.esc_store.specs.declared.reply.Verdict.TheVariants.{A1, A2, A3, A4}
 use Rattle.esc_store.specs.ReplyValue.{ReplyValue}
 use Rattle.esc_request.specs.Response.{response, unavailable}
-use Rattle.esc_http.specs.ReplyText.{reply_text}
+use Rattle.esc_texts.specs.ReplyText.{reply_text}
 
 -- the store refuses; S3 is no answer of an open store
 abbrev pub fault_response : SFault → List ℕ

@@ -3,9 +3,9 @@
 ghost use Rattle.std.specs.Prelude.{◌≡◌, IfSome};
 ghost use Rattle.esc_http.specs.Response.{fault_response, reply_status, reply_response};
 
-use crate::reply::reply_text;
 use esc_desk::{Reply, SFault, Verdict};
 use esc_request::response;
+use esc_texts::reply_text;
 use std::alloc::Global;
 
 /// The response where the store refuses.

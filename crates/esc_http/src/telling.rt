@@ -11,9 +11,6 @@ ghost use Rattle.esc_request.specs.declared.reports.Report.TheVariants as what;
 ghost use Rattle.esc_http.specs.Reports.{IsReport};
 ghost use Rattle.esc_http.specs.Walked.{AreFoundAt, walk_fault};
 
-use crate::gaps::gaps_text;
-use crate::links::links_text;
-use crate::receipts::receipts_text;
 use crate::status::status_text;
 use esc_apply::tables_are_listed;
 use esc_chain::{Held, gaps};
@@ -22,6 +19,7 @@ use esc_desk::{Desk, End, SFault};
 use esc_envelope::Kind;
 use esc_manifest::Manifest;
 use esc_request::Report;
+use esc_texts::{gaps_text, links_text, receipts_text};
 use sqlite::Alter;
 use std::alloc::Global;
 

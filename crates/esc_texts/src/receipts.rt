@@ -3,13 +3,13 @@
 ghost use Rattle.std.specs.Prelude.{◌≡◌, ◌∷◌, [], ◌++◌, IfOk, OnOk, string_bytes, option_map};
 ghost use Rattle.std.specs.Fmt.{decimal};
 ghost use Rattle.esc_check.specs.Lines.{line_text};
-ghost use Rattle.esc_http.specs.ReceiptsText.{or_empty, heading, receipt_line, replies_text, receipts_text};
-ghost use Rattle.esc_http.specs.Words.{copy_word};
+ghost use Rattle.esc_texts.specs.ReceiptsText.{or_empty, heading, receipt_line, replies_text, receipts_text};
+ghost use Rattle.esc_texts.specs.Words.{copy_word};
 
 use crate::words::{copy_word, fault_of, verdict_word};
 use esc_bundle::NoMemory;
 use esc_check::Lines;
-use esc_desk::Reply;
+use esc_store::Reply;
 use std::alloc::Global;
 
 /// The heading of the receipts report, as a line.
@@ -31,7 +31,7 @@ pub fn receipt_line(alloc: Global, reply: &Reply) -> Result<Vec<u8>, NoMemory>
 }
 
 /// The receipts report: the heading, and a line for each reply.
-pub(crate) fn receipts_text(alloc: Global, replies: &[Reply]) -> Result<Vec<u8>, NoMemory>
+pub fn receipts_text(alloc: Global, replies: &[Reply]) -> Result<Vec<u8>, NoMemory>
     ensures { IfOk result (λ text. text.items ≡ receipts_text replies.now) }
 {
     let mut lines = Lines::new(alloc);

@@ -2,17 +2,17 @@
 
 ghost use Rattle.std.specs.Prelude.{◌≡◌, IfOk, OnOk, string_bytes, option_map};
 ghost use Rattle.serde_json.specs.View.{view, members_view};
-ghost use Rattle.esc_http.specs.ReplyText.{text_or_null, number_or_null, copy_or_null, with_receipt, with_row, with_holding, reply_data, reply_text};
-ghost use Rattle.esc_http.specs.Words.{fault_of};
+ghost use Rattle.esc_texts.specs.ReplyText.{text_or_null, number_or_null, copy_or_null, with_receipt, with_row, with_holding, reply_data, reply_text};
+ghost use Rattle.esc_texts.specs.Words.{fault_of};
 
 use crate::words::{copy_word, fault_of, verdict_word};
 use esc_bundle::NoMemory;
-use esc_desk::{Reply, Verdict};
+use esc_store::{Reply, Verdict};
 use serde_json::{Map, Value, json, put};
 use std::alloc::{AllocError, Global};
 
 /// The JSON text of a reply: an object of eight members, where null is what isn't told.
-pub(crate) fn reply_text(alloc: Global, reply: &Reply) -> Result<String, NoMemory>
+pub fn reply_text(alloc: Global, reply: &Reply) -> Result<String, NoMemory>
     ensures { IfOk result (λ text. string_bytes text ≡ reply_text reply.now) }
 {
     let value = reply_value(alloc, reply)?;

@@ -1,16 +1,13 @@
 -- Texts that are written piece by piece.
 use Rattle.std.proofs.Common.{◌≡◌, ℕ, ◌+◌, ◌<◌, List, ◌∷◌, ◌++◌, length, get_or, drop, sym, ap, ◌∙◌, append_assoc}
 use Rattle.std.proofs.lemmas.List.{drop_more}
-use Rattle.esc_envelope.specs.declared.kind.Kind.{Kind}
-use Rattle.esc_envelope.specs.Kinds.{kind_name}
 use Rattle.esc_store.specs.ReplyValue.{ReplyValue}
 use Rattle.esc_check.specs.FindingValue.{FindingValue}
 use Rattle.esc_check.specs.Lines.{line_text}
 use Rattle.esc_chain.specs.declared.gap.GapLine.{GapLine}
-use Rattle.esc_http.specs.GapsText.{gap_line, gap_lines_text}
-use Rattle.esc_http.specs.LinksText.{finding_line, findings_text}
-use Rattle.esc_http.specs.ReceiptsText.{receipt_line, replies_text}
-use Rattle.esc_http.specs.StatusText.{number_line, objects_text}
+use Rattle.esc_texts.specs.GapsText.{gap_line, gap_lines_text}
+use Rattle.esc_texts.specs.LinksText.{finding_line, findings_text}
+use Rattle.esc_texts.specs.ReceiptsText.{receipt_line, replies_text}
 
 -- the first piece of what was left has been written
 pub written : (old new whole left piece rest : List ℕ) → left ≡ piece ++ rest → old ++ left ≡ whole → new ≡ old ++ piece → new ++ rest ≡ whole
@@ -34,9 +31,3 @@ pub gap_lines_more : (gaps : List GapLine) (i : ℕ) (gap : GapLine) → i < len
     → gap_lines_text (drop i gaps) ≡ line_text (gap_line gap) ++ gap_lines_text (drop (i + 1) gaps)
 gap_lines_more gaps i gap within is =
     ap gap_lines_text (drop_more gaps i gap within ∙ ap (λ (l : GapLine). l ∷ drop (i + 1) gaps) (sym is))
-
--- the line of the first kind that is left
-pub objects_more : (counts left : List (Kind × ℕ)) (kind : Kind) (n : ℕ) (name : List ℕ) → counts ≡ (kind, n) ∷ left → name ≡ kind_name kind
-    → objects_text counts ≡ number_line name n ++ objects_text left
-objects_more counts left kind n name is named =
-    ap objects_text is ∙ ap (λ (word : List ℕ). number_line word n ++ objects_text left) (sym named)

@@ -4,20 +4,20 @@ ghost use Rattle.std.specs.Prelude.{◌≡◌, ◌∷◌, [], ◌++◌, IfOk, On
 ghost use Rattle.esc_chain.specs.GapTexts.{state_text, blocker_text};
 ghost use Rattle.esc_chain.specs.PlaceText.{place_text};
 ghost use Rattle.esc_check.specs.Lines.{line_text};
-ghost use Rattle.esc_http.specs.GapsText.{heading, gap_line, gap_lines_text, gaps_text};
-ghost use Rattle.esc_http.specs.ReceiptsText.{or_empty};
-ghost use Rattle.esc_http.specs.StatusText.{printed};
+ghost use Rattle.esc_texts.specs.GapsText.{heading, gap_line, gap_lines_text, gaps_text};
+ghost use Rattle.esc_texts.specs.ReceiptsText.{or_empty};
+ghost use Rattle.esc_texts.specs.Words.{printed};
 
 use crate::receipts::resend_text;
 use esc_chain::{Blocker, GapLine, State};
 use esc_check::Lines;
-use esc_desk::SFault;
 use esc_envelope::{Place, watermark_text};
+use esc_store::SFault;
 use std::alloc::{AllocError, Global};
 
 /// The report of gaps: the heading, and a line for each of these. `S1` where a place has a moment that has no text, as
 /// none of a manifest has.
-pub(crate) fn gaps_text(alloc: Global, gaps: &[GapLine]) -> Result<Vec<u8>, SFault>
+pub fn gaps_text(alloc: Global, gaps: &[GapLine]) -> Result<Vec<u8>, SFault>
     ensures { IfOk result (λ text. text.items ≡ gaps_text gaps.now) }
 {
     let mut lines = Lines::new(alloc);

@@ -3,14 +3,14 @@
 ghost use Rattle.std.specs.Prelude.{◌≡◌, ◌∷◌, [], ◌++◌, IfOk, OnOk, string_bytes};
 ghost use Rattle.std.specs.Fmt.{decimal};
 ghost use Rattle.esc_check.specs.Lines.{line_text};
-ghost use Rattle.esc_http.specs.LinksText.{code_text, heading, finding_line, findings_text, links_text};
+ghost use Rattle.esc_texts.specs.LinksText.{code_text, heading, finding_line, findings_text, links_text};
 
 use esc_bundle::NoMemory;
 use esc_check::{Finding, Lines};
 use std::alloc::Global;
 
 /// The report of links: the heading, and a line for each finding.
-pub(crate) fn links_text(alloc: Global, found: &[Finding]) -> Result<Vec<u8>, NoMemory>
+pub fn links_text(alloc: Global, found: &[Finding]) -> Result<Vec<u8>, NoMemory>
     ensures { IfOk result (λ text. text.items ≡ links_text found.now) }
 {
     let mut lines = Lines::new(alloc);

@@ -1,8 +1,8 @@
 use Rattle.std.proofs.Common.{List, ◌++◌, sym, ap, ◌∙◌, append-nil}
 use Rattle.std.proofs.lemmas.List.{drop_all}
-use Rattle.esc_http.specs.GapsText.{gap_lines_text}
-use Rattle.esc_http.proofs.Pieces.{written, gap_lines_more}
-use Rattle.esc_http.proofs.gaps.write_lines.Goals as goal
+use Rattle.esc_texts.specs.GapsText.{gap_lines_text}
+use Rattle.esc_texts.proofs.Pieces.{written, gap_lines_more}
+use Rattle.esc_texts.proofs.gaps.write_lines.Goals as goal
 
 pub loop-gap-preserved : goal.loop-gap-preserved
 loop-gap-preserved c =

@@ -1,8 +1,8 @@
 use Rattle.std.proofs.Common.{List, ◌++◌, sym, ap, ◌∙◌, append-nil}
 use Rattle.std.proofs.lemmas.List.{drop_all}
-use Rattle.esc_http.specs.LinksText.{findings_text}
-use Rattle.esc_http.proofs.Pieces.{written, findings_more}
-use Rattle.esc_http.proofs.links.write_findings.Goals as goal
+use Rattle.esc_texts.specs.LinksText.{findings_text}
+use Rattle.esc_texts.proofs.Pieces.{written, findings_more}
+use Rattle.esc_texts.proofs.links.write_findings.Goals as goal
 
 pub loop-finding-preserved : goal.loop-finding-preserved
 loop-finding-preserved c =

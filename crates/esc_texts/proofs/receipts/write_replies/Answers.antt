@@ -1,8 +1,8 @@
 use Rattle.std.proofs.Common.{List, ◌++◌, sym, ap, ◌∙◌, append-nil}
 use Rattle.std.proofs.lemmas.List.{drop_all}
-use Rattle.esc_http.specs.ReceiptsText.{replies_text}
-use Rattle.esc_http.proofs.Pieces.{written, replies_more}
-use Rattle.esc_http.proofs.receipts.write_replies.Goals as goal
+use Rattle.esc_texts.specs.ReceiptsText.{replies_text}
+use Rattle.esc_texts.proofs.Pieces.{written, replies_more}
+use Rattle.esc_texts.proofs.receipts.write_replies.Goals as goal
 
 pub loop-reply-preserved : goal.loop-reply-preserved
 loop-reply-preserved c =

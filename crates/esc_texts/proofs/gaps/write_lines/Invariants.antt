@@ -1,6 +1,6 @@
 use Rattle.std.proofs.Common.{◌≡◌, ◌++◌, drop}
-use Rattle.esc_http.specs.GapsText.{gap_lines_text}
-use Rattle.esc_http.proofs.gaps.write_lines.Given as goal
+use Rattle.esc_texts.specs.GapsText.{gap_lines_text}
+use Rattle.esc_texts.proofs.gaps.write_lines.Given as goal
 
 -- what was written, and the places that are left
 abbrev pub invariant-loop-gap : goal.invariant-loop-gap

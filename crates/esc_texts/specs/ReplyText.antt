@@ -3,7 +3,7 @@ use Rattle.std.specs.Prelude.{ℕ, List, Bool, Option, Some, None, codes}
 use Rattle.serde_json.specs.Data.{Data, Members, object, member, no_members, put, string, number as numeral, unsigned, null}
 use Rattle.serde_json.specs.Written.{compact_text}
 use Rattle.esc_store.specs.ReplyValue.{ReplyValue}
-use Rattle.esc_http.specs.Words.{verdict_word, copy_word, fault_of}
+use Rattle.esc_texts.specs.Words.{verdict_word, copy_word, fault_of}
 
 abbrev pub text_or_null : Option (List ℕ) → Data
 text_or_null None = null

@@ -2,9 +2,9 @@
 
 ghost use Rattle.std.specs.Prelude.{◌≡◌, IfOk, string_bytes, option_map};
 ghost use Rattle.std.specs.Fmt.{decimal};
-ghost use Rattle.esc_http.specs.Words.{verdict_word, copy_word, fault_of};
+ghost use Rattle.esc_texts.specs.Words.{verdict_word, copy_word, fault_of};
 
-use esc_desk::Verdict;
+use esc_store::Verdict;
 use std::alloc::{AllocError, Global};
 
 /// The word for a verdict, as `A1`.

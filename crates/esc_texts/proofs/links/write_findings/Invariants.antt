@@ -1,6 +1,6 @@
 use Rattle.std.proofs.Common.{◌≡◌, ◌++◌, drop}
-use Rattle.esc_http.specs.LinksText.{findings_text}
-use Rattle.esc_http.proofs.links.write_findings.Given as goal
+use Rattle.esc_texts.specs.LinksText.{findings_text}
+use Rattle.esc_texts.proofs.links.write_findings.Given as goal
 
 -- what was written, and the findings that are left
 abbrev pub invariant-loop-finding : goal.invariant-loop-finding

@@ -1,6 +1,6 @@
 use Rattle.std.proofs.Common.{◌≡◌, ◌++◌, drop}
-use Rattle.esc_http.specs.ReceiptsText.{replies_text}
-use Rattle.esc_http.proofs.receipts.write_replies.Given as goal
+use Rattle.esc_texts.specs.ReceiptsText.{replies_text}
+use Rattle.esc_texts.proofs.receipts.write_replies.Given as goal
 
 -- what was written, and the replies that are left
 abbrev pub invariant-loop-reply : goal.invariant-loop-reply
