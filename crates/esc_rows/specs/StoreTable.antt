@@ -1,5 +1,5 @@
 -- The tables of a store that hold its content: every one but `info`. A new table is a case of `StoreTable` and of each function here.
-use Rattle.std.specs.Prelude.{ℕ, ℤ, pos, ◌∷◌}
+use Rattle.std.specs.Prelude.{ℕ, ℤ, ◌∷◌}
 use Rattle.sqlite_value.specs.declared.value.Value.TheVariants.{Int}
 use Rattle.sqlite_value.specs.Order.{Row}
 use Rattle.sqlite_schema.specs.declared.schema.Table.{Table}
