@@ -1,5 +1,6 @@
 -- The seven tables of a store of version 1, as their CREATE texts define them.
-use Rattle.std.specs.Prelude.{ℕ, Bool, true, false, List, [], ◌∷◌, Option, None, Some, codes, map, pos}
+use Rattle.std.specs.List.{list_any}
+use Rattle.std.specs.Prelude.{ℕ, Bool, true, false, List, [], ◌∷◌, Option, None, Some, codes, map, take, filter, ◌==◌, pos}
 use Rattle.sqlite_value.specs.declared.keys.Collation.TheVariants.{Binary}
 use Rattle.sqlite_value.specs.declared.keys.Order.{Order}
 use Rattle.sqlite_value.specs.declared.value.Value.TheVariants.{Null, Int}
@@ -130,36 +131,6 @@ object_keys = automatic (codes "sqlite_autoindex_object_1") 10 9 (1 ∷ 2 ∷ []
 abbrev pub undo_keys : Index
 undo_keys = automatic (codes "sqlite_autoindex_undo_1") 12 11 (1 ∷ 2 ∷ 3 ∷ [])
 
--- the schema before the first CREATE, and after each of the seven
-abbrev pub no_schema : Schema
-no_schema = record { tables = []; indexes = []; views = [] }
-
-abbrev pub schema_1 : Schema
-schema_1 = record { tables = info_table ∷ []; indexes = []; views = [] }
-
-abbrev pub schema_2 : Schema
-schema_2 = record { tables = info_table ∷ listed_table ∷ []; indexes = listed_digests ∷ listed_places ∷ []; views = [] }
-
-abbrev pub schema_3 : Schema
-schema_3 = record { tables = info_table ∷ listed_table ∷ receipt_table ∷ []; indexes = listed_digests ∷ listed_places ∷ receipt_numbers ∷ []; views = [] }
-
-abbrev pub schema_4 : Schema
-schema_4 = record { tables = info_table ∷ listed_table ∷ receipt_table ∷ held_table ∷ []; indexes = listed_digests ∷ listed_places ∷ receipt_numbers ∷ []; views = [] }
-
-abbrev pub schema_5 : Schema
-schema_5 = record {
-  tables = info_table ∷ listed_table ∷ receipt_table ∷ held_table ∷ step_table ∷ [];
-  indexes = listed_digests ∷ listed_places ∷ receipt_numbers ∷ step_rows ∷ [];
-  views = [];
-}
-
-abbrev pub schema_6 : Schema
-schema_6 = record {
-  tables = info_table ∷ listed_table ∷ receipt_table ∷ held_table ∷ step_table ∷ object_table ∷ [];
-  indexes = listed_digests ∷ listed_places ∷ receipt_numbers ∷ step_rows ∷ object_keys ∷ [];
-  views = [];
-}
-
 -- the schema of a store
 abbrev pub store_schema : Schema
 store_schema = record {
@@ -167,3 +138,13 @@ store_schema = record {
   indexes = listed_digests ∷ listed_places ∷ receipt_numbers ∷ step_rows ∷ object_keys ∷ undo_keys ∷ [];
   views = [];
 }
+
+-- the schema of the first tables of a store, so many, with their indexes
+abbrev pub schema_of : ℕ → Schema
+schema_of count =
+    let tables = take count store_schema.tables in
+    record { tables = tables; indexes = filter (λ (i : Index). list_any (λ (t : Table). t.tree == i.table) tables) store_schema.indexes; views = [] }
+
+-- the schema before the first CREATE
+abbrev pub no_schema : Schema
+no_schema = record { tables = []; indexes = []; views = [] }

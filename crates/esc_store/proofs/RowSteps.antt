@@ -19,6 +19,7 @@ use Rattle.std.specs.declared.cmp.Ordering.TheVariants.{Less, Equal, Greater}
 use Rattle.std.proofs.lemmas.Cmp.{int_ranked}
 use Rattle.std.proofs.lemmas.Bool.{lt-ltb, le-ltb}
 use Rattle.std.proofs.lemmas.Bool.Decides.{nat_tests}
+use Rattle.esc_rows.specs.StoreTable.{Receipts, Steps}
 use Rattle.esc_rows.specs.Rows.{ReceiptRow, StepRow, HeldRow, receipt_number, held_number, step_number}
 use Rattle.esc_rows.specs.Content.{Content, content_in, HoldsContent}
 use Rattle.esc_rows.specs.Changes.{Tells, AddsReceipt, AddsStep, HoldsBody, Becomes, steps_before, last_number, body_of}
@@ -62,7 +63,7 @@ step_next {Y} {D} {E} old mid new r last row done on sure is next step = record 
   adds clean added c h =
       let s = at_said r last _ is (sure.said (was_clean mid new (λ trees. ⊥) step.survives clean)) in
       let there : HoldsContent mid.now c = subst (λ db. HoldsContent db c) (sym s.1.0.now_is) h in
-      added c there (below_next c.receipts row.receipt h.store.ordered.receipts (ap (λ n. n + 1) (sym (s.0 c h)) ∙ next))
+      added c there (below_next c.receipts row.receipt (h.store.ordered Receipts) (ap (λ n. n + 1) (sym (s.0 c h)) ∙ next))
 
   made_of : (d : Result Y E) → HasCleanDisk new → OnOk d ((mid.in_transaction ≡ true) × AddsReceipt row mid.now new.now × (new.in_transaction ≡ true) × IsTrue new.is_open) → OnOk d ((old.in_transaction ≡ true) × AddsNext row old.now new.now × (new.in_transaction ≡ true) × IsTrue new.is_open)
   made_of (Ok x) clean m = (on, adds clean m.1, m.2, m.3)
@@ -210,7 +211,7 @@ module _ {Y D : Type 0} (show : Y → List StepRow) (old mid : State) (r : Resul
       sets : HasCleanDisk mid → Becomes (steps_before at) mid.now new.now → SetsSteps (take front rows) old.now new.now
       sets clean cut c h =
           let shown : show y ≡ c.steps = (at_said r y _ is (sure.said clean)).0 c h in
-          let up : IsKeyedBy step_number (show y) = subst (IsKeyedBy step_number) (sym shown) h.store.ordered.steps in
+          let up : IsKeyedBy step_number (show y) = subst (IsKeyedBy step_number) (sym shown) (h.store.ordered Steps) in
           let e : filter (λ (s : StepRow). ltb s.pos at) c.steps ≡ steps_from 1 (take front rows) =
           ap (filter (λ (s : StepRow). ltb s.pos at)) (sym shown)
           ∙ (ap (λ (n : ℕ). filter (λ (s : StepRow). ltb s.pos n) (show y)) at_is ∙ (front_before (show y) front d up within ∙ (same ∙ take_steps front 1 rows))) in

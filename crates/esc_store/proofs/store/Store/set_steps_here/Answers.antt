@@ -7,6 +7,13 @@ use Rattle.esc_store.specs.Standing.{IsStep}
 use Rattle.esc_store.proofs.RowSteps.{steps_more, step_nth, same_length}
 use Rattle.esc_store.proofs.store.Store.set_steps_here.Goals as goal
 
+pub loop-at-init : goal.loop-at-init
+loop-at-init g c = (
+  c.in_ok-front.ensures.manifest,
+  c.in_ok-front.ensures.writes,
+  λ rows e. let cut = c.in_ok-front.ensures.step rows e in record { survives = cut.survives; kept = cut.kept; made = λ clean. cut.made clean; failed = λ clean. tt },
+)
+
 pub loop-at-preserved : goal.loop-at-preserved
 loop-at-preserved g c = (
   c.add_step_here.ensures.manifest ∙ c.loop-at.invariant.0,

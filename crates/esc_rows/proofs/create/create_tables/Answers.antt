@@ -1,0 +1,25 @@
+use Rattle.std.proofs.Common.{◌≡◌, ◌+◌, Ok, subst, arith}
+use Rattle.sqlite.specs.Held.{state}
+use Rattle.sqlite.specs.declared.error.Error.{Error}
+use Rattle.esc_rows.specs.Part.{IsPart}
+use Rattle.esc_rows.specs.Creation.{Builds}
+use Rattle.esc_rows.specs.Schema.{no_schema, schema_of}
+use Rattle.esc_rows.proofs.PartLemmas.{parts}
+use Rattle.esc_rows.proofs.create.create_tables.Goals as goal
+
+pub loop-at-init : goal.loop-at-init
+loop-at-init g c = c.in_ok-create_table.ensures.part
+
+pub loop-at-preserved : goal.loop-at-preserved
+loop-at-preserved g c =
+    let at = c.loop-at.at in
+    parts (state g.S.Store c.args.conn.now) (state g.S.Store c.loop-at.conn) (state g.S.Store c.create_table-in-loop-at.new.conn)
+    (Builds no_schema (schema_of at)) (Builds (schema_of at) (schema_of (at + 1))) (Builds no_schema (schema_of (at + 1))) tt tt tt
+    (λ p q r first second was. second (first was)) c.loop-at.invariant c.in_ok-create_table-2.ensures.part
+
+pub returns : goal.returns
+returns g c =
+    let all : c.loop-at.at ≡ 7 = omega (arith, c.loop-at-test.false, c.loop-at.auto.at-end) in
+    record {
+      part = subst (λ n. IsPart {X = Unit {0}} {E = Error} (state g.S.Store c.args.conn.now) (state g.S.Store c.loop-at.conn) (Builds no_schema (schema_of n)) (Ok tt)) all c.loop-at.invariant;
+    }

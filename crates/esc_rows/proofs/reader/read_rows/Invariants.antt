@@ -1,0 +1,6 @@
+use Rattle.std.proofs.Common.{take}
+use Rattle.esc_rows.specs.Reading.{AreRead}
+use Rattle.esc_rows.proofs.reader.read_rows.Given as goal
+
+abbrev pub invariant-loop-at : goal.invariant-loop-at
+invariant-loop-at g l = AreRead g.T.FromRow.is_read (take l.at l.rows) l.all.items

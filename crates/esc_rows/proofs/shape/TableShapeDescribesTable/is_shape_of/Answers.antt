@@ -1,0 +1,11 @@
+use Rattle.std.proofs.Common.{rules, arith, refl}
+use Rattle.std.proofs.lemmas.Grind.{common_steps}
+use Rattle.esc_rows.proofs.ShapeLemmas.{table_made}
+use Rattle.esc_rows.proofs.shape.TableShapeDescribesTable.is_shape_of.Goals as goal
+
+pub returns : goal.returns
+returns c = (
+  λ t. table_made c.args.it.now _ _ _ _ _ _ _ _ _ _ _ _
+      (first_of (search rules, grind (arith, common_steps))) (first_of (search rules, grind (arith, common_steps))) (first_of (search rules, grind (arith, common_steps))) (first_of (search rules, grind (arith, common_steps))) (first_of (search rules, grind (arith, common_steps))) (first_of (search rules, grind (arith, common_steps))) (first_of (search rules, grind (arith, common_steps))) (first_of (search rules, grind (arith, common_steps))) (first_of (search rules, grind (arith, common_steps))) (first_of (search rules, grind (arith, common_steps))) (first_of (search rules, grind (arith, common_steps))) (first_of (search rules, grind (arith, common_steps))),
+  λ e. refl,
+)
