@@ -9,7 +9,7 @@ use Rattle.esc_envelope.specs.declared.kind.Kind.{Kind}
 use Rattle.esc_envelope.specs.Kinds.{is_kind}
 use Rattle.esc_tables.specs.KeyName.{KeyName}
 use Rattle.esc_tables.specs.ObjectValue.{RowValue, ObjectValue}
-use Rattle.esc_check.specs.Lines.{Line, line_text, text_of}
+use Rattle.esc_csv.specs.Lines.{Line, line_text, text_of}
 use Rattle.esc_check.proofs.Cells.{Cell, cells_from}
 use Rattle.esc_check.specs.Export.{cell_line, row_lines, is_in, number_behind, child_lines, object_lines, export_lines}
 

@@ -7,7 +7,7 @@ use Rattle.esc_envelope.specs.declared.kind.Kind.{Kind}
 use Rattle.esc_envelope.specs.Kinds.{kind_name, is_kind}
 use Rattle.esc_tables.specs.KeyName.{KeyName}
 use Rattle.esc_tables.specs.ObjectValue.{RowValue, ObjectValue}
-use Rattle.esc_check.specs.Lines.{Line, text_of}
+use Rattle.esc_csv.specs.Lines.{Line, text_of}
 
 -- the first line
 abbrev pub heading : Line

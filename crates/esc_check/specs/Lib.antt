@@ -4,7 +4,7 @@ pub mod FindingOrder
 pub mod FindingValue
 pub mod Findings
 pub mod Gathered
-pub mod Lines
+pub use Rattle.esc_csv.specs.Lines
 pub mod LinkValue
 pub mod Links
 pub mod Statuses

@@ -4,14 +4,14 @@ ghost use Rattle.std.specs.Prelude.{◌≡◌, ◌+◌, [], ◌<◌, ◌^◌, �
 ghost use Rattle.std.specs.Fmt.{decimal};
 ghost use Rattle.esc_apply.specs.Objects.{Entry};
 ghost use Rattle.esc_envelope.specs.Kinds.{kind_name, is_kind};
-ghost use Rattle.esc_check.specs.Lines.{line_text, text_of};
+ghost use Rattle.esc_csv.specs.Lines.{line_text, text_of};
 ghost use Rattle.esc_check.specs.Export.{heading, row_lines, is_in, child_lines, object_lines, export_text};
 ghost use Rattle.esc_check.specs.Streams.{IfSource};
 
-use crate::lines::Lines;
 use crate::stream::StreamFault;
 use esc_apply::Objects;
 use esc_bundle::NoMemory;
+use esc_csv::Lines;
 use esc_envelope::Kind;
 use esc_tables::{Key, Object, Row};
 use std::alloc::Global;

@@ -35,7 +35,7 @@
 //! `specs/Gathered.antt` is what the functions here give one another, as lists with repeats: what is found of one object, where
 //! these keys are there. `proofs/FindingLaws.antt` shows that it is the same set.
 //!
-//! `Lines` is a text of CSV lines in the making, for these and other reports.
+//! `Lines` of `esc_csv`, in which the export is written, is passed on for other reports.
 //!
 //! # Cost
 //!
@@ -54,16 +54,15 @@ mod distinct;
 mod export;
 mod field;
 mod finding;
-mod lines;
 mod link;
 mod status;
 mod stream;
 mod verification;
 mod walk;
 
+pub use esc_csv::Lines;
 pub use export::{export_from, export_rows};
 pub use finding::Finding;
-pub use lines::Lines;
 pub use stream::StreamFault;
 pub use verification::verify;
 pub use walk::verify_from;

@@ -28,7 +28,7 @@
 //! # What the contracts mean
 //!
 //! `specs/Manifest.antt` and `specs/RowFaults.antt` say for each number which rows have that fault, over the whole list
-//! of records (as the crate `csv` reads them) or of typed rows; `manifest_of` is the rows of a text or its least fault,
+//! of records (as `esc_csv` gives them) or of typed rows; `manifest_of` is the rows of a text or its least fault,
 //! and `rows_fault` the least fault of rows. `read_manifest` and `from_rows` answer exactly these, but for want of
 //! memory. What the rows of an accepted manifest are is the one fact `IsAccepted` of `specs/Accepted.antt`, which each
 //! `Manifest` carries and `Manifest::rows` gives on; by a law it holds of exactly the rows without a fault.
@@ -41,7 +41,7 @@ mod fields;
 mod laws;
 mod manifest;
 mod reading;
-mod record;
+mod records;
 mod row;
 mod rows;
 

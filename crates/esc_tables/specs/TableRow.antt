@@ -1,16 +1,16 @@
 -- The rows of declared tables, and what each row has to be (this project's profile of RFC 9022's CSV model).
-use Rattle.std.specs.Prelude.{ℕ, List, [], length, map, Bool, true, false, ◌==◌, ◌&&◌, nat_lt, nat_le, if◌then◌else◌, slice_index_or, count_by}
+use Rattle.std.specs.Prelude.{ℕ, List, [], length, map, Bool, true, false, ◌==◌, ◌&&◌, nat_lt, nat_le, if◌then◌else◌, count_by}
 use Rattle.std.specs.Option.{option_map_or}
 use Rattle.std.specs.List.{flat_map, find, list_all, list_any, zip}
 use Rattle.std.specs.Str.{bytes_eq, is_utf8}
 use Rattle.std.specs.Char.{to_ascii_lowercase}
 use Rattle.esc_bundle.specs.Bundle.{Named}
+use Rattle.esc_csv.specs.Records.{records_of, field}
 use Rattle.esc_envelope.specs.declared.kind.Kind.{Kind}
 use Rattle.esc_envelope.specs.declared.kind.Kind.TheVariants.{Registrar, Contact, Host, Domain, Idn, Nndn}
 use Rattle.esc_envelope.specs.EnvelopeValue.{TableValue}
 use Rattle.esc_tables.specs.KeyName.{KeyName}
 use Rattle.esc_tables.specs.ObjectValue.{HeadingValue, RowValue}
-use Rattle.esc_tables.specs.Rows.{rows_of}
 
 -- a row of a table, as its fields
 pub record TableRow : Type 0 where
@@ -38,7 +38,7 @@ in_table t fields = record { table = t; fields = fields }
 
 -- the rows of a table, which the sections have
 abbrev pub table_rows : List Named → TableValue → List TableRow
-table_rows files t = map (in_table t) (rows_of (bytes_named files t.file))
+table_rows files t = map (in_table t) (records_of (bytes_named files t.file))
 
 -- the rows of these tables, in the order of tables and rows
 abbrev pub rows_in : List Named → List TableValue → List TableRow
@@ -50,7 +50,7 @@ is_whole r = (length r.fields == length r.table.fields) && list_all is_utf8 r.fi
 
 -- the key field
 abbrev pub key_field : TableRow → List ℕ
-key_field r = slice_index_or r.fields r.table.key []
+key_field r = field r.fields r.table.key
 
 -- whether a row's key has 1 to 255 bytes
 abbrev pub has_key : TableRow → Bool

@@ -14,7 +14,7 @@
 //! - or `NoMemory`, where memory is refused.
 //!
 //! Keys of hosts and domains are the field's text with ASCII letters lowered (names of the DNS have no case), all others as they
-//! stand. Cells keep the text of the file. CSV is as the crate `csv` reads it, without a heading row: empty lines are no rows, and
+//! stand. Cells keep the text of the file. CSV is as `esc_csv` reads it, without a heading row: empty lines are no rows, and
 //! a byte order mark at the start of a file is dropped.
 //!
 //! # What is promised
@@ -44,7 +44,6 @@ mod object;
 mod order;
 mod reading;
 mod row;
-mod rows;
 mod survey;
 mod tables;
 

@@ -2,7 +2,6 @@
 
 ghost use Rattle.std.specs.Prelude.{◌≡◌, ◌++◌, ℕ, true, false, Ok, Err, IfOk, IfErr, OnOk};
 ghost use Rattle.std.specs.List.{list_all, fold};
-ghost use Rattle.csv.specs.Records.{fields_of};
 ghost use Rattle.esc_bundle.specs.Bundle.{views};
 ghost use Rattle.esc_tables.specs.TableRow.{in_table, table_rows, rows_in, is_whole};
 ghost use Rattle.esc_tables.specs.Reading.{check_rows};
@@ -10,9 +9,8 @@ ghost use Rattle.esc_tables.specs.Survey.{noted, unseen};
 
 use crate::files::bytes_named;
 use crate::row::{has_key, is_whole};
-use crate::rows::Rows;
-use csv::ByteRecord;
 use esc_bundle::{Fault, Section};
+use esc_csv::{Record, Records};
 use esc_envelope::Table;
 use std::alloc::Global;
 
@@ -37,8 +35,8 @@ pub struct Survey {
     rows: u32,
 }
 
-fn note(survey: Survey, table: &Table, row: &ByteRecord) -> Survey
-    ensures { result ≡ noted survey (in_table table.now (fields_of row.now)) }
+fn note(survey: Survey, table: &Table, row: &Record) -> Survey
+    ensures { result ≡ noted survey (in_table table.now row.now) }
 {
     Survey {
         has_keys: survey.has_keys && has_key(table, row),
@@ -60,8 +58,8 @@ fn survey_table(
     ensures whole { OnOk result (list_all is_whole (table_rows (views files.now) table.now) ≡ true) }
     ensures refused { IfErr result (λ e. (n : ℕ) → e ≡ Fault.Refused n → (n ≡ 9) × (list_all is_whole (table_rows (views files.now) table.now) ≡ false)) }
 {
-    let mut rows = Rows::of(alloc, bytes_named(files, table.file.as_str()));
-    let mut row = ByteRecord::new(alloc);
+    let mut rows = Records::of(alloc, bytes_named(files, table.file.as_str()));
+    let mut row = Record::new(alloc);
     while rows.next(&mut row)? {
         if !is_whole(table, &row) {
             return Err(BROKEN_ROW);

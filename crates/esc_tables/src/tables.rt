@@ -2,7 +2,6 @@
 
 ghost use Rattle.std.specs.Prelude.{◌≡◌, ◌++◌, true, IfOk, OnOk, map, filter, not, All};
 ghost use Rattle.std.specs.List.{list_all};
-ghost use Rattle.csv.specs.Records.{fields_of};
 ghost use Rattle.esc_bundle.specs.Bundle.{views};
 ghost use Rattle.esc_tables.specs.TableRow.{table_rows, rows_in, is_whole, key_of, keyed};
 ghost use Rattle.esc_tables.specs.Reading.{by_name};
@@ -12,9 +11,8 @@ use crate::key::Key;
 use crate::object::{Heading, Row};
 use crate::order::child_tables;
 use crate::row::{read_key, read_row};
-use crate::rows::Rows;
-use csv::ByteRecord;
 use esc_bundle::{NoMemory, Section};
+use esc_csv::{Record, Records};
 use esc_envelope::Table;
 use std::alloc::Global;
 
@@ -28,8 +26,8 @@ fn read_table(
     ensures { OnOk result (found.new.items ≡ found.old.items ++ map keyed (table_rows (views files.now) table.now)) }
 {
     let heading = Heading::of(alloc, table)?;
-    let mut rows = Rows::of(alloc, bytes_named(files, table.file.as_str()));
-    let mut row = ByteRecord::new(alloc);
+    let mut rows = Records::of(alloc, bytes_named(files, table.file.as_str()));
+    let mut row = Record::new(alloc);
     while rows.next(&mut row)? {
         found.push(read_row(alloc, &heading, table, &row)?)?;
     }
@@ -45,8 +43,8 @@ fn read_keys(
     requires { list_all is_whole (table_rows (views files.now) table.now) ≡ true }
     ensures { OnOk result (found.new.items ≡ found.old.items ++ map key_of (table_rows (views files.now) table.now)) }
 {
-    let mut rows = Rows::of(alloc, bytes_named(files, table.file.as_str()));
-    let mut row = ByteRecord::new(alloc);
+    let mut rows = Records::of(alloc, bytes_named(files, table.file.as_str()));
+    let mut row = Record::new(alloc);
     while rows.next(&mut row)? {
         found.push(read_key(alloc, table, &row)?)?;
     }

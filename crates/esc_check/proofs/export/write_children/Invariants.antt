@@ -2,7 +2,7 @@ use Rattle.std.proofs.Common.{◌≡◌, [], ◌++◌, take, drop}
 use Rattle.std.specs.Prelude.{count_by}
 use denote.Text.{Utf8}
 use denote.Shadow.{shadow}
-use Rattle.esc_check.specs.Lines.{text_of}
+use Rattle.esc_csv.specs.Lines.{text_of}
 use Rattle.esc_check.specs.Export.{is_in, child_lines}
 use Rattle.esc_check.proofs.export.write_children.Given as goal
 

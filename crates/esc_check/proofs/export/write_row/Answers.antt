@@ -1,7 +1,7 @@
-use Rattle.std.proofs.Common.{◌≡◌, ◌∷◌, [], ◌∙◌, ap, List, ◌++◌, ◌+◌}
+use Rattle.std.proofs.Common.{◌≡◌, ◌∷◌, [], ◌∙◌, ap, List, ◌++◌}
 use Rattle.std.specs.Fmt.{decimal}
 use Rattle.esc_envelope.specs.Kinds.{kind_name}
-use Rattle.esc_check.specs.Lines.{line_text}
+use Rattle.esc_csv.specs.Lines.{line_text}
 use Rattle.esc_check.proofs.Cells.{Cell, cell_within}
 use Rattle.esc_check.proofs.Writing.{front_added, cells_more}
 use Rattle.esc_check.proofs.export.write_row.Goals.{in-Some+in_ok-write_cell, in_default}

@@ -1,5 +1,5 @@
 use Rattle.std.proofs.Common.{◌≡◌, ◌++◌, drop}
-use Rattle.esc_check.specs.Lines.{text_of}
+use Rattle.esc_csv.specs.Lines.{text_of}
 use Rattle.esc_check.specs.Export.{row_lines}
 use Rattle.esc_check.proofs.Writing.{cells_text}
 use Rattle.esc_check.proofs.export.write_row.Given as goal

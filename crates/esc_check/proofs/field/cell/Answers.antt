@@ -1,4 +1,4 @@
-use Rattle.std.proofs.Common.{◌≡◌, ◌+◌, sym, ◌∙◌}
+use Rattle.std.proofs.Common.{sym, ◌∙◌}
 use Rattle.esc_check.proofs.Cells.{Cell, cell_there, cell_further, cell_within}
 use Rattle.esc_check.proofs.field.cell.Goals.{in-Some+else-eq, in_default}
 use Rattle.esc_check.proofs.field.cell.Goals as goal

@@ -2,7 +2,6 @@ use Rattle.std.proofs.Common.{◌≡◌, ℕ, Bool, true, List, [], ◌∷◌, �
 use Rattle.std.specs.Prelude.{MatchBool}
 use Rattle.std.specs.List.{list_all}
 use Rattle.std.proofs.lemmas.List.{append_assoc}
-use Rattle.csv.specs.Records.{fields_of}
 use Rattle.esc_envelope.specs.EnvelopeValue.{TableValue}
 use Rattle.esc_tables.specs.KeyName.{KeyName}
 use Rattle.esc_tables.specs.ObjectValue.{RowValue}
@@ -14,7 +13,7 @@ pub loop-row-preserved : goal.loop-row-preserved
 loop-row-preserved c =
     let t : TableValue = c.args.table.now in
     let found : List (KeyName × RowValue) = c.loop-row.found.items in
-    let fields : List (List ℕ) = fields_of c.next.new.row in
+    let fields : List (List ℕ) = c.next.new.target in
     let more : List (List (List ℕ)) = c.next.new.self in
     let rows : c.loop-row.rows ≡ fields ∷ more = subst (λ (b : Bool). MatchBool b (c.loop-row.rows ≡ fields ∷ more) (c.loop-row.rows ≡ [])) c.if-branch.true c.in_ok-next.ensures in
     let pushed : c.push.new.self.items ≡ found ++ (keyed (in_table t fields) ∷ []) = c.in_ok-push.ensures.items ∙ ap (λ (x : KeyName × RowValue). found ++ (x ∷ [])) c.in_ok-read_row.ensures in

@@ -1,0 +1,4 @@
+pub mod Automaton
+pub mod FieldFacts
+pub mod ReadBack
+pub mod RecordsLeft

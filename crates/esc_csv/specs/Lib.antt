@@ -1,0 +1,3 @@
+pub mod Between
+pub mod Lines
+pub mod Records

@@ -1,0 +1,73 @@
+//! Texts of CSV lines.
+
+ghost use Rattle.std.specs.Prelude.{◌≡◌, [], ◌++◌, map, OnOk, IfOk};
+ghost use Rattle.esc_csv.specs.Lines.{line_text};
+
+use csv::{Writer, WriterBuilder};
+use esc_bundle::NoMemory;
+use std::alloc::Global;
+use std::marker::Model;
+
+/// A text of CSV lines, each ended by LF, with quotes only where a field needs them. Contracts see it as its bytes.
+///
+/// After an `Err` each later call is one.
+#[derive(Drop)]
+pub struct Lines {
+    writer: Writer<Vec<u8>>,
+    failed: bool,
+}
+
+impl Model for Lines {
+    ghost use Rattle.std.specs.Prelude.{List, ℕ, ◌≡◌, ◌++◌, false};
+    ghost use Rattle.csv.specs.Writing.{writer_under, writer_pending};
+    ghost use Rattle.esc_csv.specs.Between.{IsReady};
+
+    ghost Value = { List ℕ };
+
+    ghost view = { λ l. (writer_under l.writer).items ++ writer_pending l.writer };
+
+    ghost invariant = { λ l. l.failed ≡ false → IsReady l.writer };
+}
+
+impl Lines {
+    /// A text without lines.
+    pub fn new(alloc: Global) -> Lines
+        ensures { result ≡ [] }
+    {
+        Lines {
+            writer: WriterBuilder::new()
+                .flexible(true)
+                .from_writer(Vec::new(alloc)),
+            failed: false,
+        }
+    }
+
+    /// Writes one more line.
+    pub fn write(&mut self, fields: &[&[u8]]) -> Result<(), NoMemory>
+        ensures { OnOk result (self.new ≡ self.old ++ line_text (map (λ f. f.now) fields.now)) }
+    {
+        if self.failed {
+            return Err(NoMemory);
+        }
+        match self.writer.write_fields(fields) {
+            Ok(()) => Ok(()),
+            Err(_) => {
+                self.failed = true;
+                Err(NoMemory)
+            }
+        }
+    }
+
+    /// The text.
+    pub fn into_text(self) -> Result<Vec<u8>, NoMemory>
+        ensures { IfOk result (λ text. text.items ≡ self) }
+    {
+        if self.failed {
+            return Err(NoMemory);
+        }
+        match self.writer.into_inner() {
+            Ok(text) => Ok(text),
+            Err(_) => Err(NoMemory),
+        }
+    }
+}

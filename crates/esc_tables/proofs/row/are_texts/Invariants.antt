@@ -1,8 +1,0 @@
-use Rattle.std.proofs.Common.{◌≡◌, take, true}
-use Rattle.std.specs.List.{list_all}
-use Rattle.std.specs.Str.{is_utf8}
-use Rattle.csv.specs.Records.{fields_of}
-use Rattle.esc_tables.proofs.row.are_texts.Given as goal
-
-abbrev pub invariant-loop-place : goal.invariant-loop-place
-invariant-loop-place l = list_all is_utf8 (take l.place (fields_of l.row)) ≡ true
