@@ -11,7 +11,7 @@ use Rattle.esc_apply.specs.Objects.{Entry, InOrder}
 use Rattle.esc_apply.specs.Registry.{IsEntriesOf}
 use Rattle.esc_apply.specs.Tables.{tables}
 use Rattle.esc_check.specs.Export.{heading, object_lines, is_of, export_text}
-use Rattle.esc_check.specs.Lines.{text_of}
+use Rattle.esc_csv.specs.Lines.{text_of}
 use Rattle.esc_store.specs.declared.store.Store.{Store}
 use Rattle.esc_desk.specs.ArrivalValue.{ArrivalValue}
 use Rattle.esc_desk.specs.Reads.{AreTables}

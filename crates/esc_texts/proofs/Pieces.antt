@@ -3,7 +3,7 @@ use Rattle.std.proofs.Common.{◌≡◌, ℕ, ◌+◌, ◌<◌, List, ◌∷◌,
 use Rattle.std.proofs.lemmas.List.{drop_more}
 use Rattle.esc_store.specs.ReplyValue.{ReplyValue}
 use Rattle.esc_check.specs.FindingValue.{FindingValue}
-use Rattle.esc_check.specs.Lines.{line_text}
+use Rattle.esc_csv.specs.Lines.{line_text}
 use Rattle.esc_chain.specs.declared.gap.GapLine.{GapLine}
 use Rattle.esc_texts.specs.GapsText.{gap_line, gap_lines_text}
 use Rattle.esc_texts.specs.LinksText.{finding_line, findings_text}

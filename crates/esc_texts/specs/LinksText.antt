@@ -3,7 +3,7 @@ use Rattle.std.specs.Prelude.{ℕ, List, [], ◌∷◌, ◌++◌, map, codes}
 use Rattle.std.specs.Fmt.{decimal}
 use Rattle.esc_envelope.specs.Kinds.{kind_name}
 use Rattle.esc_check.specs.FindingValue.{FindingValue}
-use Rattle.esc_check.specs.Lines.{Line, line_text, text_of}
+use Rattle.esc_csv.specs.Lines.{Line, line_text, text_of}
 
 -- the first line
 abbrev pub heading : Line

@@ -3,7 +3,7 @@ use Rattle.std.specs.Prelude.{ℕ, List, [], ◌∷◌, ◌++◌, map, codes, Op
 use Rattle.std.specs.Fmt.{decimal}
 use Rattle.std.specs.Option.{unwrap_or}
 use Rattle.esc_store.specs.ReplyValue.{ReplyValue}
-use Rattle.esc_check.specs.Lines.{Line, line_text, text_of}
+use Rattle.esc_csv.specs.Lines.{Line, line_text, text_of}
 use Rattle.esc_texts.specs.Words.{verdict_word, copy_word, fault_of}
 
 -- the first line

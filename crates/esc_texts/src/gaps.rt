@@ -3,14 +3,14 @@
 ghost use Rattle.std.specs.Prelude.{◌≡◌, ◌∷◌, [], ◌++◌, IfOk, OnOk, string_bytes, option_and_then};
 ghost use Rattle.esc_chain.specs.GapTexts.{state_text, blocker_text};
 ghost use Rattle.esc_chain.specs.PlaceText.{place_text};
-ghost use Rattle.esc_check.specs.Lines.{line_text};
+ghost use Rattle.esc_csv.specs.Lines.{line_text};
 ghost use Rattle.esc_texts.specs.GapsText.{heading, gap_line, gap_lines_text, gaps_text};
 ghost use Rattle.esc_texts.specs.ReceiptsText.{or_empty};
 ghost use Rattle.esc_texts.specs.Words.{printed};
 
 use crate::receipts::resend_text;
 use esc_chain::{Blocker, GapLine, State};
-use esc_check::Lines;
+use esc_csv::Lines;
 use esc_envelope::{Place, watermark_text};
 use esc_store::SFault;
 use std::alloc::{AllocError, Global};

@@ -2,11 +2,12 @@
 
 ghost use Rattle.std.specs.Prelude.{◌≡◌, ◌∷◌, [], ◌++◌, IfOk, OnOk, string_bytes};
 ghost use Rattle.std.specs.Fmt.{decimal};
-ghost use Rattle.esc_check.specs.Lines.{line_text};
+ghost use Rattle.esc_csv.specs.Lines.{line_text};
 ghost use Rattle.esc_texts.specs.LinksText.{code_text, heading, finding_line, findings_text, links_text};
 
 use esc_bundle::NoMemory;
-use esc_check::{Finding, Lines};
+use esc_check::Finding;
+use esc_csv::Lines;
 use std::alloc::Global;
 
 /// The report of links: the heading, and a line for each finding.

@@ -2,13 +2,13 @@
 
 ghost use Rattle.std.specs.Prelude.{◌≡◌, ◌∷◌, [], ◌++◌, IfOk, OnOk, string_bytes, option_map};
 ghost use Rattle.std.specs.Fmt.{decimal};
-ghost use Rattle.esc_check.specs.Lines.{line_text};
+ghost use Rattle.esc_csv.specs.Lines.{line_text};
 ghost use Rattle.esc_texts.specs.ReceiptsText.{or_empty, heading, receipt_line, replies_text, receipts_text};
 ghost use Rattle.esc_texts.specs.Words.{copy_word};
 
 use crate::words::{copy_word, fault_of, verdict_word};
 use esc_bundle::NoMemory;
-use esc_check::Lines;
+use esc_csv::Lines;
 use esc_store::Reply;
 use std::alloc::Global;
 
