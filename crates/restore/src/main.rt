@@ -18,15 +18,7 @@
 //! a verdict other than A1, and went on; 2 for other words; 3 for S1 to S4 and E1, where it stops.
 #![tactic(auto)]
 
-mod files;
-mod serving;
-mod stop;
-mod stored;
-mod taking;
-#[cfg(test)]
-mod tests;
-mod words;
-
+use esc_commands::{NO_MEMORY, Stop, run_words, tell_stop};
 use std::env;
 use std::net::{Net, TcpListener, TcpStream};
 use std::process::ExitCode;
@@ -41,15 +33,15 @@ where
     N: Net<Listener = TcpListener, Stream = TcpStream>,
 {
     match given_words(rt) {
-        Ok(given) => words::run_words(rt, net, &given, &mut rt.stdout(), &mut rt.stderr()),
-        Err(stop) => stop::tell_stop(rt, &mut rt.stderr(), &stop),
+        Ok(given) => run_words(rt, net, &given, &mut rt.stdout(), &mut rt.stderr()),
+        Err(stop) => tell_stop(rt, &mut rt.stderr(), &stop),
     }
 }
 
 // The words after the program's name.
-fn given_words(rt: &HostRuntime) -> Result<Vec<String>, stop::Stop> {
+fn given_words(rt: &HostRuntime) -> Result<Vec<String>, Stop> {
     let Ok(all) = env::args(rt) else {
-        return Err(stop::NO_MEMORY);
+        return Err(NO_MEMORY);
     };
     let mut given = Vec::new(rt.alloc());
     for word in all.skip(1) {

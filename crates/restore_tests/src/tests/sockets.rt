@@ -2,10 +2,9 @@
 //! that it listens, and the responses are read once it has ended.
 
 use super::bodies::WITH_SAMPLE;
-use super::streams::Narrow;
-use super::{check_all, empty_folder, words_of};
-use crate::serving::serve_streams;
-use crate::words::run_words;
+use super::streams::{Narrow, check_narrow};
+use super::{Row, Scene, check_all, compare, set_up, words_of};
+use esc_commands::{run_words, serve_streams};
 use esc_desk::Desk;
 use esc_manifest::read_manifest;
 use esc_store::Store;
@@ -90,140 +89,161 @@ const NOT_FOUND: &str =
 const BAD_REQUEST: &str =
     "HTTP/1.1 400 Bad Request\r\nContent-Type: text/plain\r\nContent-Length: 12\r\nConnection: close\r\n\r\nbad request\n";
 
-// Serves requests from a store, and gives the responses.
-fn responses(
+// Runs the program while requests are sent to it, and gives what waits to be read.
+fn serve(
+    rt: &HostRuntime,
+    handles: &(impl Abort + Net<Listener = TcpListener, Stream = TcpStream>),
+    row: Row<'_>,
+    address: &str,
+    requests: &[&str],
+) -> Result<Vec<TcpStream>, Fail> {
+    let words = words_of(rt, row.0)?;
+    let mut out = Calling {
+        net: handles,
+        address,
+        requests,
+        calls: Vec::new(rt.alloc()),
+        text: Vec::new(rt.alloc()),
+    };
+    let mut told: Vec<u8> = Vec::new(rt.alloc());
+    let status = run_words(rt, handles, &words, &mut out, &mut told);
+    compare(handles, row, status, &out.text, &told)?;
+    let Calling { calls, .. } = out;
+    Ok(calls)
+}
+
+// Serves requests from a store, and gives the connections with the responses.
+fn calls(
     rt: &HostRuntime,
     handles: &(impl Abort + Net<Listener = TcpListener, Stream = TcpStream>),
     store: &str,
     requests: &[&str],
-) -> Result<Vec<String>, Fail> {
-    let alloc = rt.alloc();
+) -> Result<Vec<TcpStream>, Fail> {
     let (port, count) = (free_port(handles)?, requests.len());
-    let address = format!(in alloc; "127.0.0.1:{port}")?;
-    let line = format!(in alloc; "serve --store {store} --port {port} --count {count}")?;
-    let words = words_of(rt, line.as_str())?;
-    let mut out = Calling {
-        net: handles,
-        address: address.as_str(),
-        requests,
-        calls: Vec::new(alloc),
-        text: Vec::new(alloc),
-    };
-    let mut told: Vec<u8> = Vec::new(alloc);
-    let ended = run_words(rt, handles, &words, &mut out, &mut told);
-    let listening = format!(in alloc; "listening {address}\n")?;
-    assert_eq!(handles; str::from_utf8(&told)?, "");
-    assert_eq!(handles; str::from_utf8(&out.text)?, listening.as_str());
-    assert_eq!(handles; ended, 0);
-    let Calling { calls, .. } = out;
-    let mut texts = Vec::new(alloc);
-    for stream in calls {
-        texts.push(io::read_to_string(alloc, stream)?)?;
-    }
-    Ok(texts)
+    let address = format!(in rt.alloc(); "127.0.0.1:{port}")?;
+    let line = format!(in rt.alloc(); "serve --store {store} --port {port} --count {count}")?;
+    let listening = format!(in rt.alloc(); "listening {address}\n")?;
+    let row = (line.as_str(), 0, listening.as_str(), "");
+    serve(rt, handles, row, address.as_str(), requests)
 }
+
+// Serves requests from a store, and compares the responses.
+fn check_responses(
+    rt: &HostRuntime,
+    handles: &(impl Abort + Net<Listener = TcpListener, Stream = TcpStream>),
+    store: &str,
+    requests: &[&str],
+    responses: &[&str],
+) -> Result<(), Fail> {
+    let calls = calls(rt, handles, store, requests)?;
+    assert_eq!(handles; calls.len(), responses.len());
+    for (stream, response) in calls.into_iter().zip(responses) {
+        let text = io::read_to_string(rt.alloc(), stream)?;
+        assert_eq!(handles; text.as_str(), *response);
+    }
+    Ok(())
+}
+
+/// What was answered over a socket stands in the store.
+const SERVED: Scene = Scene {
+    folder: "served",
+    folders: &[],
+    files: &[("served/listed.csv", WITH_SAMPLE)],
+    rows: &[(
+        "report --store served/a.db receipts",
+        0,
+        "receipt,number,verdict,fault,id,resend,copy,orphans\n1,n1,A1,,F1,0,new,0\n2,n2,A2,,,,,\n",
+        "",
+    )],
+};
+
+const SERVED_STORE: Row<'static> = (
+    "init --store served/a.db --manifest served/listed.csv",
+    0,
+    "listed 1\n",
+    "",
+);
 
 #[test]
 fn connections_are_served_one_after_the_other(rt: HostRuntime) -> Result<(), Fail> {
-    empty_folder(&rt, "served")?;
-    fs::write(&rt, "served/listed.csv", WITH_SAMPLE)?;
-    let made = (
-        "init --store served/a.db --manifest served/listed.csv",
-        0,
-        "listed 1\n",
-        "",
-    );
-    check_all(&rt, &rt, &[made])?;
-    let texts = responses(&rt, &rt, "served/a.db", REQUESTS.as_slice())?;
-    assert_eq!(rt; texts.len(), RESPONSES.len());
-    for (text, response) in texts.iter().zip(RESPONSES) {
-        assert_eq!(rt; text.as_str(), response);
-    }
-    // What was answered over a socket stands in the store.
-    let receipts =
-        "receipt,number,verdict,fault,id,resend,copy,orphans\n1,n1,A1,,F1,0,new,0\n2,n2,A2,,,,,\n";
-    check_all(
+    set_up(&rt, &SERVED)?;
+    check_all(&rt, &rt, &[SERVED_STORE])?;
+    check_responses(
         &rt,
         &rt,
-        &[("report --store served/a.db receipts", 0, receipts, "")],
+        "served/a.db",
+        REQUESTS.as_slice(),
+        RESPONSES.as_slice(),
     )?;
-    Ok(fs::remove_dir_all(&rt, "served")?)
+    check_all(&rt, &rt, SERVED.rows)?;
+    Ok(fs::remove_dir_all(&rt, SERVED.folder)?)
 }
 
-#[test]
-fn a_body_that_is_not_wanted_is_let_by(rt: HostRuntime) -> Result<(), Fail> {
-    empty_folder(&rt, "unwanted")?;
-    fs::write(&rt, "unwanted/listed.csv", WITH_SAMPLE)?;
-    let made = (
+const UNWANTED: Scene = Scene {
+    folder: "unwanted",
+    folders: &[],
+    files: &[("unwanted/listed.csv", WITH_SAMPLE)],
+    rows: &[(
         "init --store unwanted/a.db --manifest unwanted/listed.csv",
         0,
         "listed 1\n",
         "",
-    );
-    check_all(&rt, &rt, &[made])?;
+    )],
+};
+
+#[test]
+fn a_body_that_is_not_wanted_is_let_by(rt: HostRuntime) -> Result<(), Fail> {
+    set_up(&rt, &UNWANTED)?;
+    check_all(&rt, &rt, UNWANTED.rows)?;
     let mut request = Vec::from_slice(
         rt.alloc(),
         b"PUT /nowhere HTTP/1.1\r\nContent-Length: 99000\r\n\r\n",
     )?;
     request.resize(100_000, b'x')?;
-    let texts = responses(&rt, &rt, "unwanted/a.db", &[str::from_utf8(&request)?])?;
-    assert_eq!(rt; texts.len(), 1);
-    assert_eq!(rt; texts.as_slice()[0].as_str(), NOT_FOUND);
-    Ok(fs::remove_dir_all(&rt, "unwanted")?)
+    let request = str::from_utf8(&request)?;
+    check_responses(&rt, &rt, "unwanted/a.db", &[request], &[NOT_FOUND])?;
+    Ok(fs::remove_dir_all(&rt, UNWANTED.folder)?)
 }
 
-// What the program says, tells and answers where it is to serve a connection, and standard output has so much room.
-fn serve_at(
+// Runs the program that is to serve a connection, where standard output has room for nine bytes.
+fn check_port(
     rt: &HostRuntime,
-    net: &impl Net<Listener = TcpListener, Stream = TcpStream>,
+    handles: &(impl Abort + Net<Listener = TcpListener, Stream = TcpStream>),
     store: &str,
     port: u16,
-    room: usize,
-) -> Result<(Vec<u8>, Vec<u8>, u8), Fail> {
+    said: &str,
+    told: &str,
+) -> Result<(), Fail> {
     let line = format!(in rt.alloc(); "serve --store {store} --port {port} --count 1")?;
-    let words = words_of(rt, line.as_str())?;
-    let mut out = Narrow {
-        text: Vec::new(rt.alloc()),
-        room,
-    };
-    let mut told: Vec<u8> = Vec::new(rt.alloc());
-    let ended = run_words(rt, net, &words, &mut out, &mut told);
-    let Narrow { text, .. } = out;
-    Ok((text, told, ended))
+    check_narrow(rt, handles, (line.as_str(), 3, said, told), (9, 100))
 }
+
+const PORTS: Scene = Scene {
+    folder: "ports",
+    folders: &[],
+    files: &[("ports/listed.csv", WITH_SAMPLE)],
+    rows: &[(
+        "init --store ports/a.db --manifest ports/listed.csv",
+        0,
+        "listed 1\n",
+        "",
+    )],
+};
 
 #[test]
 fn a_port_that_is_taken(rt: HostRuntime) -> Result<(), Fail> {
-    empty_folder(&rt, "ports")?;
-    fs::write(&rt, "ports/listed.csv", WITH_SAMPLE)?;
-    check_all(
-        &rt,
-        &rt,
-        &[(
-            "init --store ports/a.db --manifest ports/listed.csv",
-            0,
-            "listed 1\n",
-            "",
-        )],
-    )?;
+    set_up(&rt, &PORTS)?;
+    check_all(&rt, &rt, PORTS.rows)?;
     let listener = TcpListener::bind(&rt, "127.0.0.1:0")?;
     let port = listener.local_addr()?.port();
-    let (said, told, ended) = serve_at(&rt, &rt, "ports/a.db", port, 100)?;
-    let want = format!(in rt.alloc(); "E1 127.0.0.1:{port}\n")?;
-    assert!(rt; said.is_empty());
-    assert_eq!(rt; str::from_utf8(&told)?, want.as_str());
-    assert_eq!(rt; ended, 3);
+    let taken = format!(in rt.alloc(); "E1 127.0.0.1:{port}\n")?;
+    check_port(&rt, &rt, "ports/a.db", port, "", taken.as_str())?;
     // The store is looked at first.
-    let (said, told, ended) = serve_at(&rt, &rt, "ports/absent.db", port, 100)?;
-    assert!(rt; said.is_empty());
-    assert_eq!(rt; str::from_utf8(&told)?, "S3\n");
-    assert_eq!(rt; ended, 3);
+    check_port(&rt, &rt, "ports/absent.db", port, "", "S3\n")?;
     // Nobody is waited for where nobody can be told that the program listens.
-    let (said, told, ended) = serve_at(&rt, &rt, "ports/a.db", free_port(&rt)?, 9)?;
-    assert_eq!(rt; str::from_utf8(&said)?, "listening");
-    assert_eq!(rt; str::from_utf8(&told)?, "E1 -\n");
-    assert_eq!(rt; ended, 3);
-    Ok(fs::remove_dir_all(&rt, "ports")?)
+    let free = free_port(&rt)?;
+    check_port(&rt, &rt, "ports/a.db", free, "listening", "E1 -\n")?;
+    Ok(fs::remove_dir_all(&rt, PORTS.folder)?)
 }
 
 /// A connection that was broken.

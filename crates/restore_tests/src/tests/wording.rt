@@ -1,7 +1,7 @@
 //! Words that are no command, and help.
 
 use super::words_of;
-use crate::words::run_words;
+use esc_commands::run_words;
 use std::test::Fail;
 
 /// Words that are no command. No file is looked at for them: there is neither store nor manifest.

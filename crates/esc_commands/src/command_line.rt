@@ -1,0 +1,286 @@
+//! The command line: from the words after the program's name to what it is asked to do.
+
+use clap::builder::ValueParser;
+use clap::{Arg, ArgMatches, Command, Error};
+use esc_envelope::Kind;
+use esc_http::Report;
+use std::alloc::{AllocError, Global};
+
+/// What the program is asked to do, with the store of a file.
+#[derive(Clone, Copy)]
+pub struct Invocation<'a> {
+    /// The path of the store.
+    pub store: &'a str,
+    pub task: Task<'a>,
+}
+
+/// What is to be done with a store.
+#[derive(Clone, Copy)]
+pub enum Task<'a> {
+    /// Make it, of a manifest.
+    Init { manifest: &'a str },
+    /// Work with its desk.
+    Desk(DeskTask<'a>),
+}
+
+/// What is to be done with the desk of a store.
+#[derive(Clone, Copy)]
+pub enum DeskTask<'a> {
+    /// Take a folder of deposits.
+    Take { folder: &'a str },
+    /// Listen on a port of 127.0.0.1, and serve so many connections.
+    Serve { port: u16, count: u32 },
+    /// Print a report, or the export of one kind of objects.
+    Tell { report: Report },
+}
+
+/// An argument of a command. Each is required.
+struct Argument {
+    id: &'static str,
+    /// Whether its value is written after `--ID`, and not known by its place.
+    is_option: bool,
+    value_name: &'static str,
+    values: ValueParser<'static>,
+    help: &'static str,
+}
+
+/// A command of the program.
+struct Form {
+    name: &'static str,
+    about: &'static str,
+    /// What its help ends with.
+    details: Option<&'static str>,
+    /// Its arguments beside the store.
+    arguments: &'static [Argument],
+}
+
+const ABOUT: &str =
+    "Rebuilds a domain name registry's tables from the escrow deposits that its agent released";
+
+const DETAILS: &str = "\
+A release manifest is a CSV file that lists the deposits of a release, each with its id, type (FULL, INCR or DIFF),
+watermark, previous id, resend and the SHA-256 of its bundle:
+
+    id,type,watermark,prevId,resend,sha256
+    F1,FULL,2024-03-03T00:00:00Z,,,4894e50d..
+
+A bundle is one file with a deposit: the line 'escrow-bundle 1', its sections (envelope.json, then its CSV tables, each
+headed by its name and length) and the line 'end'. Bundles may be taken in any order, and again: the tables hold what the
+latest unbroken chain of the listed deposits that arrived says.
+
+Example, with a folder of bundles named n1, n2 and so on:
+
+    restore init --store desk.db --manifest manifest.csv
+    restore take --store desk.db deposits
+    restore report --store desk.db gaps
+    restore export --store desk.db domain
+
+Refusals go to standard error, one a line: E1 PATH (can't be read, listed or written), E2 NAME (over 16,777,216 bytes),
+N1 NAME (the name is no number of an arrival), M1 to M13 with the row (the manifest), S1 (the store failed), S2 (no
+memory), S3 (no store, or a used database), S4 (the store is full).
+Status: 0 done; 1 the manifest is refused, or a file was not taken as a listed deposit; 2 other words; 3 stopped by S or E1.
+";
+
+const ROUTES: &str = "\
+A connection carries one request. PUT /arrivals/NUMBER takes its body as an arrival, and needs its Content-Length; GET /status,
+/gaps, /links, /receipts and /export/KIND give the reports. Example:
+
+    restore serve --store desk.db --port 8080 --count 1000
+    curl -T deposits/n1 http://127.0.0.1:8080/arrivals/n1
+    curl http://127.0.0.1:8080/gaps
+
+A connection that fails is told on standard error (read fault, write fault), and the next one is served.
+";
+
+const REPORTS_TOLD: &str = "\
+status    how many deposits are listed and held, the chain's length and end, and how many objects of each kind there are
+gaps      for each listed place: missing, blocked (and by what), in the chain or beside it, and which resend is awaited
+links     what breaks a rule in the tables: links to absent objects, counts, statuses and dates
+receipts  a line for each distinct arrival, with its verdict: A1 held, A2 not listed, A3 unreadable, A4 differs
+";
+
+/// The argument of every command.
+static STORE: Argument = Argument {
+    id: "store",
+    is_option: true,
+    value_name: "FILE",
+    values: ValueParser::String,
+    help: "The store's file; beside it FILE-wal may stand, and belongs to it",
+};
+
+static COMMANDS: [Form; 5] = [
+    Form {
+        name: "init",
+        about: "Makes a store of a release manifest, and prints how many deposits it lists",
+        details: None,
+        arguments: &[Argument {
+            id: "manifest",
+            is_option: true,
+            value_name: "FILE",
+            values: ValueParser::String,
+            help: "The release manifest: CSV with a row for each listed deposit",
+        }],
+    },
+    Form {
+        name: "take",
+        about: "Takes every plain file of a folder in byte order of names, and prints a receipt for each",
+        details: None,
+        arguments: &[Argument {
+            id: "folder",
+            is_option: false,
+            value_name: "DIR",
+            values: ValueParser::String,
+            help: "The folder of bundles; each file's name is the number of its arrival",
+        }],
+    },
+    Form {
+        name: "serve",
+        about: "Takes arrivals and gives reports over HTTP, one connection after the other",
+        details: Some(ROUTES),
+        arguments: &[
+            Argument {
+                id: "port",
+                is_option: true,
+                value_name: "P",
+                values: ValueParser::Signed(1, 65_535),
+                help: "The port of 127.0.0.1 to listen on",
+            },
+            Argument {
+                id: "count",
+                is_option: true,
+                value_name: "N",
+                values: ValueParser::Signed(1, 1_000_000),
+                help: "How many connections to serve, one request each, before it ends",
+            },
+        ],
+    },
+    Form {
+        name: "report",
+        about: "Prints a report",
+        details: Some(REPORTS_TOLD),
+        arguments: &[Argument {
+            id: "report",
+            is_option: false,
+            value_name: "WHAT",
+            values: ValueParser::Names(&["status", "gaps", "links", "receipts"]),
+            help: "How far the desk has come, which deposits are missing, what breaks a rule, or all receipts",
+        }],
+    },
+    Form {
+        name: "export",
+        about: "Prints all objects of a kind as CSV, a line for each cell",
+        details: None,
+        arguments: &[Argument {
+            id: "kind",
+            is_option: false,
+            value_name: "KIND",
+            values: ValueParser::Names(&["registrar", "contact", "host", "domain", "idn", "nndn"]),
+            help: "The kind of objects",
+        }],
+    },
+];
+
+impl Argument {
+    fn arg<'a>(&self, alloc: Global) -> Arg<'a> {
+        let arg = Arg::new(alloc, self.id)
+            .value_name(self.value_name)
+            .required(true)
+            .value_parser(self.values)
+            .help(self.help);
+        if self.is_option {
+            arg.long(self.id)
+        } else {
+            arg
+        }
+    }
+}
+
+impl Form {
+    fn command<'a>(&self, alloc: Global) -> Result<Command<'a>, AllocError> {
+        let mut command = self.heading(alloc).arg(STORE.arg(alloc))?;
+        for argument in self.arguments {
+            command = command.arg(argument.arg(alloc))?;
+        }
+        Ok(command)
+    }
+
+    // The command without its arguments.
+    fn heading<'a>(&self, alloc: Global) -> Command<'a> {
+        let command = Command::new(alloc, self.name).about(self.about);
+        match self.details {
+            Some(details) => command.after_help(details),
+            None => command,
+        }
+    }
+}
+
+// The program without its commands.
+fn program<'a>(alloc: Global) -> Command<'a> {
+    Command::new(alloc, "restore")
+        .about(ABOUT)
+        .after_help(DETAILS)
+        .subcommand_required(true)
+        .arg_required_else_help(true)
+}
+
+fn command_line<'a>(alloc: Global) -> Result<Command<'a>, AllocError> {
+    let mut command = program(alloc);
+    for form in COMMANDS.as_slice() {
+        command = command.subcommand(form.command(alloc)?)?;
+    }
+    Ok(command)
+}
+
+/// What the words ask for, of which the first is the program's name. An error that asks for help is one, too.
+pub fn parse<'a>(alloc: Global, words: &'a [&'a str]) -> Result<Option<Invocation<'a>>, Error> {
+    let matches = command_line(alloc)?.try_get_matches_from(words)?;
+    Ok(invocation_of(&matches))
+}
+
+// What matches ask for. `clap` has seen to it that there is something.
+fn invocation_of<'a>(matches: &ArgMatches<'a>) -> Option<Invocation<'a>> {
+    let (name, given) = matches.subcommand()?;
+    let store = given.get_str("store")?;
+    let task = task_named(name, given)?;
+    Some(Invocation { store, task })
+}
+
+fn task_named<'a>(name: &str, given: &ArgMatches<'a>) -> Option<Task<'a>> {
+    match name {
+        "init" => {
+            let manifest = given.get_str("manifest")?;
+            Some(Task::Init { manifest })
+        }
+        "take" => {
+            let folder = given.get_str("folder")?;
+            Some(Task::Desk(DeskTask::Take { folder }))
+        }
+        "serve" => serve_task(given),
+        "report" => {
+            let report = report_named(given.get_str("report")?)?;
+            Some(Task::Desk(DeskTask::Tell { report }))
+        }
+        "export" => {
+            let kind = Kind::from_name(given.get_str("kind")?)?;
+            let report = Report::Export(kind);
+            Some(Task::Desk(DeskTask::Tell { report }))
+        }
+        _ => None,
+    }
+}
+
+fn serve_task<'a>(given: &ArgMatches<'_>) -> Option<Task<'a>> {
+    let port = given.get_one::<u16>("port")?;
+    let count = given.get_one::<u32>("count")?;
+    Some(Task::Desk(DeskTask::Serve { port, count }))
+}
+
+fn report_named(name: &str) -> Option<Report> {
+    match name {
+        "status" => Some(Report::Status),
+        "gaps" => Some(Report::Gaps),
+        "links" => Some(Report::Links),
+        "receipts" => Some(Report::Receipts),
+        _ => None,
+    }
+}

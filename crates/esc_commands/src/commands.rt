@@ -1,0 +1,324 @@
+//! The commands, each over a store in a file.
+
+use crate::command_line::{DeskTask, Invocation, Task, parse};
+use crate::files::read_file;
+use crate::serve::serve_connections;
+use crate::stop::{DONE, NO_MEMORY, Stop, USAGE, print, tell_stop};
+use crate::store_file::{
+    Closed, Used, close, connection_of, create_store, open_desk, open_file, open_store_file,
+};
+use crate::take::take_folder;
+use clap::Error;
+use clap::error::ErrorKind;
+use esc_desk::Desk;
+use esc_http::{Report, report};
+use esc_manifest::{Manifest, read_manifest};
+use sqlite::{Alter, Connection, File, FileStore};
+use std::alloc::{AllocError, Global};
+use std::io::Write;
+use std::net::{Net, TcpListener, TcpStream};
+
+/// How a command ended that went through.
+#[derive(Drop)]
+struct Ended {
+    /// The program's status.
+    status: u8,
+    /// What is printed once the store is closed.
+    text: Vec<u8>,
+}
+
+impl Ended {
+    // The end of a command that leaves nothing to be printed. Takes no memory.
+    fn silent(alloc: Global, status: u8) -> Ended {
+        Ended {
+            status,
+            text: Vec::new(alloc),
+        }
+    }
+}
+
+/// What is done with the database of a file.
+#[derive(Clone, Copy)]
+enum Job<'a> {
+    /// Make the store of a manifest.
+    Create(&'a Manifest),
+    /// Work with the desk of its store.
+    Desk(DeskTask<'a>),
+}
+
+/// Runs the program on the words after its name. Returns the status. Help is printed on standard output, and what is wrong
+/// with the words on standard error.
+pub fn run_words<N, O, E>(
+    rt: &HostRuntime,
+    net: &N,
+    words: &[String],
+    out: &mut O,
+    err: &mut E,
+) -> u8
+where
+    N: Net<Listener = TcpListener, Stream = TcpStream>,
+    O: Write,
+    E: Write,
+{
+    let Ok(named) = with_name(rt.alloc(), words) else {
+        return tell_stop(rt, err, &NO_MEMORY);
+    };
+    match parse(rt.alloc(), &named) {
+        Ok(Some(invocation)) => run(rt, net, invocation, out, err),
+        Ok(None) => USAGE,
+        Err(error) => tell_error(rt, &error, out, err),
+    }
+}
+
+// The words with a name before them, as `clap` wants them.
+fn with_name<'a>(alloc: Global, words: &'a [String]) -> Result<Vec<&'a str>, AllocError> {
+    let mut named = Vec::new(alloc);
+    named.push("restore")?;
+    for word in words {
+        named.push(word.as_str())?;
+    }
+    Ok(named)
+}
+
+// Tells the help that was asked for, or what is wrong with the words.
+fn tell_error<O: Write, E: Write>(rt: &HostRuntime, error: &Error, out: &mut O, err: &mut E) -> u8 {
+    if error.kind() == ErrorKind::OutOfMemory {
+        return tell_stop(rt, err, &NO_MEMORY);
+    }
+    let Ok(text) = format!(in rt.alloc(); "{error}") else {
+        return tell_stop(rt, err, &NO_MEMORY);
+    };
+    if error.use_stderr() {
+        let _ = err.write_all(text.as_bytes());
+        return USAGE;
+    }
+    match print(rt, out, text.as_bytes()) {
+        Ok(()) => DONE,
+        Err(stop) => tell_stop(rt, err, &stop),
+    }
+}
+
+// Does what is asked for. Returns the status.
+fn run<N, O, E>(
+    rt: &HostRuntime,
+    net: &N,
+    invocation: Invocation<'_>,
+    out: &mut O,
+    err: &mut E,
+) -> u8
+where
+    N: Net<Listener = TcpListener, Stream = TcpStream>,
+    O: Write,
+    E: Write,
+{
+    let Invocation { store, task } = invocation;
+    let done = match task {
+        Task::Init { manifest } => init(rt, net, store, manifest, out, err),
+        Task::Desk(task) => use_store(rt, net, store, task, out, err),
+    };
+    match finish(rt, done, out) {
+        Ok(status) => status,
+        Err(stop) => tell_stop(rt, err, &stop),
+    }
+}
+
+// Prints what a command leaves to be printed.
+fn finish<O: Write>(rt: &HostRuntime, done: Result<Ended, Stop>, out: &mut O) -> Result<u8, Stop> {
+    let ended = done?;
+    print(rt, out, &ended.text)?;
+    Ok(ended.status)
+}
+
+// `init --store FILE --manifest FILE`: makes a store of a manifest, and tells how many rows that lists. A store that was made
+// stands, in the file or in its log, so a close that fails refuses nothing.
+fn init<N, O, E>(
+    rt: &HostRuntime,
+    net: &N,
+    store: &str,
+    manifest: &str,
+    out: &mut O,
+    err: &mut E,
+) -> Result<Ended, Stop>
+where
+    N: Net<Listener = TcpListener, Stream = TcpStream>,
+    O: Write,
+    E: Write,
+{
+    let manifest = manifest_of(rt, manifest)?;
+    let line = listed(rt.alloc(), &manifest)?;
+    let connection = open_file(rt, store)?;
+    let made = use_file(rt, net, connection, Job::Create(&manifest), out, err);
+    made.outcome?;
+    Ok(Ended {
+        status: DONE,
+        text: line,
+    })
+}
+
+// The manifest that a file has.
+fn manifest_of(rt: &HostRuntime, path: &str) -> Result<Manifest, Stop> {
+    let text = read_file(rt, path)?;
+    match read_manifest(rt.alloc(), &text) {
+        Ok(manifest) => Ok(manifest),
+        Err(fault) => Err(Stop::Manifest(fault)),
+    }
+}
+
+// The line that tells how many rows a manifest lists.
+fn listed(alloc: Global, manifest: &Manifest) -> Result<Vec<u8>, AllocError> {
+    let count = manifest.rows().len();
+    let line = format!(in alloc; "listed {count}\n")?;
+    Ok(line.into_bytes())
+}
+
+// Does a task with the desk of the store in a file. What was answered before a stop stays, and a stop is told before a
+// close that fails.
+fn use_store<N, O, E>(
+    rt: &HostRuntime,
+    net: &N,
+    path: &str,
+    task: DeskTask<'_>,
+    out: &mut O,
+    err: &mut E,
+) -> Result<Ended, Stop>
+where
+    N: Net<Listener = TcpListener, Stream = TcpStream>,
+    O: Write,
+    E: Write,
+{
+    let connection = open_store_file(rt, path)?;
+    let Closed { outcome, closed } = use_file(rt, net, connection, Job::Desk(task), out, err);
+    let ended = outcome?;
+    closed?;
+    Ok(ended)
+}
+
+// Does a job with a file, and closes it.
+fn use_file<N, O, E>(
+    rt: &HostRuntime,
+    net: &N,
+    connection: Connection<FileStore<File>>,
+    job: Job<'_>,
+    out: &mut O,
+    err: &mut E,
+) -> Closed<Ended>
+where
+    N: Net<Listener = TcpListener, Stream = TcpStream>,
+    O: Write,
+    E: Write,
+{
+    close(use_connection(rt, net, connection, job, out, err))
+}
+
+// Does a job with a connection.
+fn use_connection<N, S, O, E>(
+    rt: &HostRuntime,
+    net: &N,
+    connection: Connection<S>,
+    job: Job<'_>,
+    out: &mut O,
+    err: &mut E,
+) -> Used<S, Ended>
+where
+    N: Net<Listener = TcpListener, Stream = TcpStream>,
+    S: Alter,
+    O: Write,
+    E: Write,
+{
+    match job {
+        Job::Create(manifest) => create(rt.alloc(), connection, manifest),
+        Job::Desk(task) => open_and_use(rt, net, connection, task, out, err),
+    }
+}
+
+// Makes a store, and tells nothing.
+fn create<S: Alter>(
+    alloc: Global,
+    connection: Connection<S>,
+    manifest: &Manifest,
+) -> Used<S, Ended> {
+    let Used {
+        connection,
+        outcome,
+    } = create_store(alloc, connection, manifest);
+    Used {
+        connection,
+        outcome: match outcome {
+            Ok(()) => Ok(Ended::silent(alloc, DONE)),
+            Err(stop) => Err(stop),
+        },
+    }
+}
+
+// Does a task with the desk of the store that a connection has.
+fn open_and_use<N, S, O, E>(
+    rt: &HostRuntime,
+    net: &N,
+    connection: Connection<S>,
+    task: DeskTask<'_>,
+    out: &mut O,
+    err: &mut E,
+) -> Used<S, Ended>
+where
+    N: Net<Listener = TcpListener, Stream = TcpStream>,
+    S: Alter,
+    O: Write,
+    E: Write,
+{
+    match open_desk(rt.alloc(), connection) {
+        Ok(mut desk) => {
+            let outcome = use_desk(rt, net, &mut desk, task, out, err);
+            Used {
+                connection: connection_of(desk),
+                outcome,
+            }
+        }
+        Err((fault, connection)) => Used {
+            connection,
+            outcome: Err(Stop::Store(fault)),
+        },
+    }
+}
+
+// Does a task with a desk.
+fn use_desk<N, S, O, E>(
+    rt: &HostRuntime,
+    net: &N,
+    desk: &mut Desk<S>,
+    task: DeskTask<'_>,
+    out: &mut O,
+    err: &mut E,
+) -> Result<Ended, Stop>
+where
+    N: Net<Listener = TcpListener, Stream = TcpStream>,
+    S: Alter,
+    O: Write,
+    E: Write,
+{
+    match task {
+        DeskTask::Take { folder } => told(rt.alloc(), take_folder(rt, desk, folder, out, err)),
+        DeskTask::Serve { port, count } => {
+            told(
+                rt.alloc(),
+                serve_connections(rt, net, desk, port, count, out, err),
+            )
+        }
+        DeskTask::Tell { report } => report_text(rt.alloc(), desk, report),
+    }
+}
+
+// The end of a command that has told all.
+fn told(alloc: Global, status: Result<u8, Stop>) -> Result<Ended, Stop> {
+    match status {
+        Ok(status) => Ok(Ended::silent(alloc, status)),
+        Err(stop) => Err(stop),
+    }
+}
+
+// `report --store FILE WHAT` and `export --store FILE KIND`: the text of a report.
+fn report_text<S: Alter>(alloc: Global, desk: &mut Desk<S>, what: Report) -> Result<Ended, Stop> {
+    match report(alloc, desk, what) {
+        Ok(text) => Ok(Ended { status: DONE, text }),
+        Err(fault) => Err(Stop::Store(fault)),
+    }
+}

@@ -1,0 +1,54 @@
+//! The commands of the program, each over a store in a file.
+//!
+//! [`run_words`] is the whole program but for its process: it is given the words after the program's name and two
+//! streams to write to, does what the words ask for, and returns the exit status. So a test can run it as a user does.
+//!
+//! What goes in: words, a release manifest and bundles in files, or HTTP requests on a port. What comes out: a store in a
+//! file, which the next command opens again; on standard output a count of listed rows, receipts, reports, exports or
+//! help; on standard error refusals, one a line; and the status.
+//!
+//! | Module | Does |
+//! |---|---|
+//! | `command_line` | words to what is asked for, and help, by `clap` |
+//! | `commands` | what is asked for, from the words to the status |
+//! | `store_file` | opens the file of a store and closes it, once for each command |
+//! | `take` | takes the plain files of a folder, in byte order of names |
+//! | `serve` | serves connections on a port, one after the other |
+//! | `files` | reads files, and lists folders |
+//! | `stop` | what a command stops for, its text and its status |
+//!
+//! # Example
+//!
+//! ```text
+//! let words = ["report", "--store", "desk.db", "gaps"];   // as a list of `String`
+//! let status = run_words(rt, net, &words, &mut rt.stdout(), &mut rt.stderr());
+//! // 0, and the report is printed; 3 and `S3` on standard error, if there is no store desk.db
+//! ```
+//!
+//! # Order of refusals
+//!
+//! The first of these that fails is told: the words (status 2), the manifest (`M1` to `M13`, status 1, or `E1` where it
+//! can't be read), the store (`S1` to `S4`), the folder or the port (`E1`), then file by file (`N1`, `E2`, and the verdict of the
+//! receipt, status 1). `S1` to `S4` and `E1` stop a command with status 3; what was answered before stays. A report is
+//! printed once the store is closed.
+//!
+//! # What is promised
+//!
+//! By proof: that no call is unsafe and that each ends, whatever the words, files and requests are. What a store stands for after
+//! each arrival is the contract of [`esc_desk::Desk::run`], what a request is answered is that of [`esc_http::serve_one`], and
+//! the texts of reports are that of [`esc_http::report`]. No contract can say what a file holds or what is printed, so the
+//! texts, statuses and the order of refusals are tested, in `restore_tests`.
+#![tactic(auto)]
+
+mod command_line;
+mod commands;
+mod files;
+mod serve;
+mod stop;
+mod store_file;
+mod take;
+
+pub use commands::run_words;
+pub use files::MOST_BYTES;
+pub use serve::serve_streams;
+pub use stop::{NO_MEMORY, Stop, tell_stop};

@@ -1,0 +1,87 @@
+//! The file of a store: each command opens it once, and closes it before it ends.
+//!
+//! The functions over a `Connection<S>` do the work. Those over a `FileStore<File>` only open and close.
+
+use crate::files::is_missing;
+use crate::stop::Stop;
+use esc_desk::{Desk, SFault};
+use esc_manifest::Manifest;
+use esc_store::Store;
+use sqlite::{Alter, Connection, File, FileStore};
+use std::alloc::Global;
+
+/// A connection after its use, and what came of that.
+pub struct Used<S: Alter, T> {
+    pub connection: Connection<S>,
+    pub outcome: Result<T, Stop>,
+}
+
+/// What came of the use of a file, and of its closing.
+#[derive(Drop)]
+pub struct Closed<T> {
+    pub outcome: Result<T, Stop>,
+    pub closed: Result<(), Stop>,
+}
+
+/// The database of a file, which is made where there is none.
+pub fn open_file(rt: &HostRuntime, path: &str) -> Result<Connection<FileStore<File>>, Stop> {
+    match Connection::open(rt, path) {
+        Ok(connection) => Ok(connection),
+        Err(error) => Err(Stop::Store(SFault::from(error))),
+    }
+}
+
+/// The database of a file that is there: `S3` where it is not.
+pub fn open_store_file(rt: &HostRuntime, path: &str) -> Result<Connection<FileStore<File>>, Stop> {
+    if is_missing(rt, path) {
+        return Err(Stop::Store(SFault::S3));
+    }
+    open_file(rt, path)
+}
+
+/// Closes the file, and copies into it what still stands in its log.
+pub fn close<T>(used: Used<FileStore<File>, T>) -> Closed<T> {
+    let Used {
+        connection,
+        outcome,
+    } = used;
+    let closed = match connection.close() {
+        Ok(()) => Ok(()),
+        Err(error) => Err(Stop::Store(SFault::from(error))),
+    };
+    Closed { outcome, closed }
+}
+
+/// Makes the store of a manifest.
+pub fn create_store<S: Alter>(
+    alloc: Global,
+    connection: Connection<S>,
+    manifest: &Manifest,
+) -> Used<S, ()> {
+    match Store::create(alloc, connection, manifest) {
+        Ok(store) => Used {
+            connection: store.into_connection(),
+            outcome: Ok(()),
+        },
+        Err((fault, connection)) => Used {
+            connection,
+            outcome: Err(Stop::Store(fault)),
+        },
+    }
+}
+
+/// The desk over the store of a database; at `Err` the connection is given back.
+pub fn open_desk<S: Alter>(
+    alloc: Global,
+    connection: Connection<S>,
+) -> Result<Desk<S>, (SFault, Connection<S>)> {
+    match Store::open(alloc, connection) {
+        Ok(store) => Ok(Desk::open(store)),
+        Err(refused) => Err(refused),
+    }
+}
+
+/// A desk's connection.
+pub fn connection_of<S: Alter>(desk: Desk<S>) -> Connection<S> {
+    desk.into_store().into_connection()
+}
