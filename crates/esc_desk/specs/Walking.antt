@@ -10,13 +10,12 @@ use Rattle.esc_envelope.specs.Kinds.{kind_rank}
 use Rattle.esc_tables.specs.KeyName.{KeyName, key_eq}
 use Rattle.esc_apply.specs.Objects.{Entry, InOrder}
 use Rattle.esc_apply.specs.Registry.{Content}
-use Rattle.esc_manifest.specs.declared.row.MRow.{MRow}
 use Rattle.esc_store.specs.declared.store.Store.{Store}
 use Rattle.esc_store.specs.Kept.{Kept}
 use Rattle.esc_store.specs.Standing.{Stands, IsAsBefore}
 use Rattle.esc_desk.specs.declared.walk.Pages.{Pages}
 use Rattle.esc_desk.specs.declared.walk.Walk.{Walk}
-use Rattle.esc_desk.specs.ArrivalValue.{ArrivalValue}
+use Rattle.esc_desk.specs.Events.{EventValue}
 use Rattle.esc_desk.specs.Serving.{DeskServes}
 
 -- the entries of one kind, or all
@@ -52,4 +51,4 @@ pub record Follows {S : Type 0} (g : Ghosts S) (old new : Walk S Pages) : Type 0
   pub same_reference : new.desk.ghost_name ≡ old.desk.ghost_name
   pub same : IsAsBefore g old.desk.now.store new.desk.now.store
   pub known : new.desk.now.known ≡ old.desk.now.known
-  pub serves : (m : List MRow) (l : List ArrivalValue) → DeskServes g old.desk.now m l → DeskServes g new.desk.now m l
+  pub serves : (e : List EventValue) → DeskServes g old.desk.now e → DeskServes g new.desk.now e

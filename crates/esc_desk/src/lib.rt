@@ -76,7 +76,9 @@ mod walk;
 pub use arrival::Arrival;
 pub use desk::Desk;
 pub use esc_store::{N1, Number, Reply, SFault, Verdict, number};
-pub use laws::{held_as_arrived, new_store_stands_for_none, worked_replies};
+pub use laws::{
+    held_as_arrived, new_store_stands_for_its_manifest, stands_for_manifest_and_arrivals, worked_replies,
+};
 pub use running::Outcome;
 pub use status::{End, Status};
 pub use walk::{Pages, Walk};

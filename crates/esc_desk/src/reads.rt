@@ -4,11 +4,10 @@ ghost use Rattle.std.specs.Prelude.{◌≡◌, ℕ, List, Ok, Some, length, opti
 ghost use Rattle.sha2.specs.Sha256.{sha256};
 ghost use Rattle.esc_tables.specs.DepositValue.{DepositValue};
 ghost use Rattle.esc_tables.specs.Reading.{reading};
-ghost use Rattle.esc_manifest.specs.declared.row.MRow.{MRow};
 ghost use Rattle.esc_apply.specs.declared.front.Step.{Step};
 ghost use Rattle.esc_store.specs.Kept.{Kept, AreHeld};
 ghost use Rattle.esc_store.specs.Standing.{Stands, IsHonest, IsAsBefore};
-ghost use Rattle.esc_desk.specs.ArrivalValue.{ArrivalValue};
+ghost use Rattle.esc_desk.specs.Events.{EventValue, union};
 ghost use Rattle.esc_desk.specs.Stands.{held_body};
 ghost use Rattle.esc_desk.specs.Serving.{Serves, DeskServes};
 ghost use Rattle.esc_desk.specs.Reads.{last, replies_of, AreTables, SaysEnd, IsEnd, IsStatus};
@@ -28,7 +27,7 @@ use std::collections::BTreeMap;
 impl<S: Alter> Desk<S> {
     /// The manifest that the desk's store was made with. Takes no memory.
     pub fn manifest(&self) -> &Manifest
-        ensures manifest { (m : List MRow) (l : List ArrivalValue) → Serves S.Store self.now.store m l → result.now ≡ m }
+        ensures manifest { (e : List EventValue) → Serves S.Store self.now.store e → result.now ≡ union e }
     {
         self.store.manifest()
     }
@@ -45,8 +44,8 @@ impl<S: Alter> Desk<S> {
     #[tactic(auto, using(crate::proofs::StoreFacts::still_serves))]
     pub fn receipts(&mut self, alloc: Global) -> Result<Vec<Reply>, SFault>
         ensures same { IsAsBefore S.Store self.old.store self.new.store }
-        ensures serves { (m : List MRow) (l : List ArrivalValue) → DeskServes S.Store self.old m l → DeskServes S.Store self.new m l }
-        ensures all { IsHonest S.Store self.new.store → (m : List MRow) (l : List ArrivalValue) → Serves S.Store self.old.store m l → IfOk result (λ replies. replies.items ≡ replies_of m l) }
+        ensures serves { (e : List EventValue) → DeskServes S.Store self.old e → DeskServes S.Store self.new e }
+        ensures all { IsHonest S.Store self.new.store → (e : List EventValue) → Serves S.Store self.old.store e → IfOk result (λ replies. replies.items ≡ replies_of e) }
     {
         self.store.receipts(alloc)
     }
@@ -55,8 +54,8 @@ impl<S: Alter> Desk<S> {
     #[tactic(auto, using(crate::proofs::StoreFacts::still_serves))]
     pub fn held(&mut self, alloc: Global) -> Result<Vec<usize>, SFault>
         ensures same { IsAsBefore S.Store self.old.store self.new.store }
-        ensures serves { (m : List MRow) (l : List ArrivalValue) → DeskServes S.Store self.old m l → DeskServes S.Store self.new m l }
-        ensures rows { IsHonest S.Store self.new.store → (m : List MRow) (l : List ArrivalValue) → Serves S.Store self.old.store m l → IfOk result (λ rows. AreHeld (held_body sha256 reading m l) rows.items) }
+        ensures serves { (e : List EventValue) → DeskServes S.Store self.old e → DeskServes S.Store self.new e }
+        ensures rows { IsHonest S.Store self.new.store → (e : List EventValue) → Serves S.Store self.old.store e → IfOk result (λ rows. AreHeld (held_body sha256 reading e) rows.items) }
     {
         self.store.held_by_receipts(alloc)
     }
@@ -65,8 +64,8 @@ impl<S: Alter> Desk<S> {
     #[tactic(auto, using(crate::proofs::StoreFacts::still_serves))]
     pub fn tables(&mut self, alloc: Global) -> Result<BTreeMap<Key, Object>, SFault>
         ensures same { IsAsBefore S.Store self.old.store self.new.store }
-        ensures serves { (m : List MRow) (l : List ArrivalValue) → DeskServes S.Store self.old m l → DeskServes S.Store self.new m l }
-        ensures objects { IsHonest S.Store self.new.store → (m : List MRow) (l : List ArrivalValue) → Serves S.Store self.old.store m l → IfOk result (λ objects. AreTables m l objects.entries) }
+        ensures serves { (e : List EventValue) → DeskServes S.Store self.old e → DeskServes S.Store self.new e }
+        ensures objects { IsHonest S.Store self.new.store → (e : List EventValue) → Serves S.Store self.old.store e → IfOk result (λ objects. AreTables e objects.entries) }
     {
         self.store.tables(alloc)
     }
@@ -76,8 +75,8 @@ impl<S: Alter> Desk<S> {
     #[tactic(auto, using(crate::proofs::StoreFacts::still_serves))]
     pub fn end(&mut self, alloc: Global) -> Result<Option<End>, SFault>
         ensures same { IsAsBefore S.Store self.old.store self.new.store }
-        ensures serves { (m : List MRow) (l : List ArrivalValue) → DeskServes S.Store self.old m l → DeskServes S.Store self.new m l }
-        ensures end { IsHonest S.Store self.new.store → (m : List MRow) (l : List ArrivalValue) → Serves S.Store self.old.store m l → IfOk result (λ end. IsEnd m l end) }
+        ensures serves { (e : List EventValue) → DeskServes S.Store self.old e → DeskServes S.Store self.new e }
+        ensures end { IsHonest S.Store self.new.store → (e : List EventValue) → Serves S.Store self.old.store e → IfOk result (λ end. IsEnd e end) }
     {
         let steps = self.store.chain(alloc)?;
         match last_row(&steps) {
@@ -93,8 +92,8 @@ impl<S: Alter> Desk<S> {
     #[tactic(auto, using(crate::proofs::StoreFacts::still_serves))]
     pub fn status(&mut self, alloc: Global) -> Result<Status, SFault>
         ensures same { IsAsBefore S.Store self.old.store self.new.store }
-        ensures serves { (m : List MRow) (l : List ArrivalValue) → DeskServes S.Store self.old m l → DeskServes S.Store self.new m l }
-        ensures status { IsHonest S.Store self.new.store → (m : List MRow) (l : List ArrivalValue) → Serves S.Store self.old.store m l → IfOk result (λ status. IsStatus m l status) }
+        ensures serves { (e : List EventValue) → DeskServes S.Store self.old e → DeskServes S.Store self.new e }
+        ensures status { IsHonest S.Store self.new.store → (e : List EventValue) → Serves S.Store self.old.store e → IfOk result (λ status. IsStatus e status) }
     {
         let receipts = self.store.receipt_count()?;
         let held = self.store.held_by_receipts(alloc)?;

@@ -1,9 +1,8 @@
 //! Runs: lists of arrivals, one after another.
 
 ghost use Rattle.std.specs.Prelude.{◌≡◌, ◌++◌, List, IfOk, OnErr};
-ghost use Rattle.esc_manifest.specs.declared.row.MRow.{MRow};
 ghost use Rattle.esc_store.specs.Standing.{IsHonest};
-ghost use Rattle.esc_desk.specs.ArrivalValue.{ArrivalValue};
+ghost use Rattle.esc_desk.specs.Events.{EventValue};
 ghost use Rattle.esc_desk.specs.Running.{Ran, Takes, answered};
 ghost use Rattle.esc_desk.specs.Serving.{DeskServes};
 ghost use Rattle.esc_desk.specs.Crashes.{CrashLeaves, LeavesOutcome, doubtful_after};
@@ -33,14 +32,14 @@ impl<S: Alter> Desk<S> {
     /// the first one's reply. Where the desk served a manifest and a list of arrivals before, it serves that list
     /// followed by the answered arrivals, so runs compose. `NoMemory` is answered before the first arrival.
     pub fn run(&mut self, alloc: Global, arrivals: &[Arrival<'_>]) -> Result<Vec<Outcome>, NoMemory>
-        ensures ran { IsHonest S.Store self.new.store → IfOk result (λ outcomes. (m : List MRow) (before : List ArrivalValue) → DeskServes S.Store self.old m before → Ran S.Store self.new m before arrivals.now outcomes.items) }
+        ensures ran { IsHonest S.Store self.new.store → IfOk result (λ outcomes. (before : List EventValue) → DeskServes S.Store self.old before → Ran S.Store self.new before arrivals.now outcomes.items) }
         ensures crash { IfOk result (λ outcomes.
-            (m : List MRow) (before doubtful : List ArrivalValue)
-            → DeskServes S.Store self.old m before
-            → CrashLeaves S.Store self.old.store.conn m before doubtful
-            → CrashLeaves S.Store self.new.store.conn m
+            (before doubtful : List EventValue)
+            → DeskServes S.Store self.old before
+            → CrashLeaves S.Store self.old.store.conn before doubtful
+            → CrashLeaves S.Store self.new.store.conn
             (before ++ answered arrivals.now outcomes.items)
-            (doubtful_after m before doubtful arrivals.now outcomes.items)) }
+            (doubtful_after before doubtful arrivals.now outcomes.items)) }
         ensures refused { OnErr result (self.new ≡ self.old) }
         ensures honest { IsHonest S.Store self.new.store → IsHonest S.Store self.old.store }
     {
@@ -54,11 +53,11 @@ impl<S: Alter> Desk<S> {
 
     // Takes one arrival.
     fn take(&mut self, alloc: Global, arrival: &Arrival<'_>) -> Outcome
-        ensures taken { IsHonest S.Store self.new.store → (m : List MRow) (l : List ArrivalValue) → DeskServes S.Store self.old m l → Takes S.Store self.new m l arrival.now result }
-        ensures crash { (m : List MRow) (l doubtful : List ArrivalValue)
-            → DeskServes S.Store self.old m l
-            → CrashLeaves S.Store self.old.store.conn m l doubtful
-            → LeavesOutcome S.Store self.new.store.conn m l doubtful arrival.now result }
+        ensures taken { IsHonest S.Store self.new.store → (e : List EventValue) → DeskServes S.Store self.old e → Takes S.Store self.new e arrival.now result }
+        ensures crash { (e doubtful : List EventValue)
+            → DeskServes S.Store self.old e
+            → CrashLeaves S.Store self.old.store.conn e doubtful
+            → LeavesOutcome S.Store self.new.store.conn e doubtful arrival.now result }
         ensures honest { IsHonest S.Store self.new.store → IsHonest S.Store self.old.store }
     {
         match self.arrive(alloc, &arrival.number, arrival.body) {
