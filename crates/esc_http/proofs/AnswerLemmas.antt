@@ -1,5 +1,5 @@
 -- What answers a request, from its parts.
-use Rattle.std.proofs.Common.{◌≡◌, ℕ, ◌≤◌, ◌<◌, List, ◌++◌, length, take, drop, Bool, true, false, if◌then◌else◌, nat_le, refl, sym, ◌∙◌, ap, subst, inl, inr, ◌⊎◌, Option, Some, None, IfSome, arith}
+use Rattle.std.proofs.Common.{◌≡◌, ℕ, ◌≤◌, ◌<◌, List, ◌++◌, length, take, drop, true, false, nat_le, refl, sym, ◌∙◌, ap, subst, inl, inr, Option, Some, None, IfSome, arith}
 use Rattle.std.proofs.lemmas.Bool.Decides.{nat_tests}
 use Rattle.std.specs.Io.KnownBytes.{Consumes, prepend_known}
 use Rattle.sqlite_trees.specs.declared.store.Store.{Ghosts}
@@ -8,13 +8,13 @@ use Rattle.httparse.proofs.GrammarLemmas.{ReadsRequest-append}
 use Rattle.esc_store.specs.declared.fault.SFault.{SFault}
 use Rattle.esc_store.specs.declared.fault.SFault.TheVariants.{S2}
 use Rattle.esc_desk.specs.declared.desk.Desk.{Desk}
-use Rattle.esc_http.specs.declared.plan.Refusal.{Refusal}
-use Rattle.esc_http.specs.declared.plan.Refusal.TheVariants.{BadRequest}
+use Rattle.esc_request.specs.declared.refusal.Refusal.TheVariants.{BadRequest}
 use Rattle.esc_http.specs.declared.plan.Plan.{Plan}
-use Rattle.esc_http.specs.declared.plan.Plan.TheVariants.{Refuse, Put, Get}
-use Rattle.esc_http.specs.Head.{HasHead, HasNoHead}
+use Rattle.esc_http.specs.declared.plan.Plan.TheVariants.{Put}
+use Rattle.esc_request.specs.Head.{HasHead, HasNoHead}
 use Rattle.esc_http.specs.Plans.{plan_of_head}
-use Rattle.esc_http.specs.Response.{out_of_memory, fault_response}
+use Rattle.esc_request.specs.Response.{out_of_memory}
+use Rattle.esc_http.specs.Response.{fault_response}
 use Rattle.esc_http.specs.Answering.{Request, refused, arrives, wants, with_body, Asks, IsAnswered, IsOrMemory, IsFault, text_or_memory}
 
 -- the text that was made, or that of want of memory

@@ -1,9 +1,5 @@
 pub mod AnswerLemmas
-pub mod BodyLemmas
-pub mod HeadLemmas
 pub mod HeldRows
-pub mod LengthLemmas
 pub mod Listed
-pub mod Pieces
-pub mod RouteLemmas
+pub mod StatusLemmas
 pub mod StoreFacts

@@ -12,15 +12,16 @@ use Rattle.esc_desk.specs.declared.desk.Desk.{Desk}
 use Rattle.esc_desk.specs.ArrivalValue.{ArrivalValue}
 use Rattle.esc_desk.specs.Receipts.{receipts_of, reply_to}
 use Rattle.esc_desk.specs.Serving.{Serves, DeskServes, Answers}
-use Rattle.esc_http.specs.declared.reports.Report.{Report}
-use Rattle.esc_http.specs.declared.plan.Refusal.{Refusal}
-use Rattle.esc_http.specs.declared.plan.Refusal.TheVariants.{BadRequest}
+use Rattle.esc_request.specs.declared.reports.Report.{Report}
+use Rattle.esc_request.specs.declared.refusal.Refusal.{Refusal}
+use Rattle.esc_request.specs.declared.refusal.Refusal.TheVariants.{BadRequest}
 use Rattle.esc_http.specs.declared.plan.Plan.{Plan}
 use Rattle.esc_http.specs.declared.plan.Plan.TheVariants.{Refuse, Put, Get}
-use Rattle.esc_http.specs.Head.{HasHead, HasNoHead}
+use Rattle.esc_request.specs.Head.{HasHead, HasNoHead}
 use Rattle.esc_http.specs.Plans.{plan_of_head}
 use Rattle.esc_http.specs.Reports.{IsReport}
-use Rattle.esc_http.specs.Response.{out_of_memory, refusal_response, fault_response, reply_response, report_response}
+use Rattle.esc_request.specs.Response.{out_of_memory, refusal_response, report_response}
+use Rattle.esc_http.specs.Response.{fault_response, reply_response}
 
 -- ---- requests
 

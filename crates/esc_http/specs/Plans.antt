@@ -1,19 +1,18 @@
 -- What the head of a request asks for: the tests that need no body, in their order (this project's profile).
-use Rattle.std.specs.Prelude.{ℕ, List, Bool, if◌then◌else◌, ◌==◌, not, map, codes, Option, Some, None}
+use Rattle.std.specs.Prelude.{ℕ, List, if◌then◌else◌, ◌==◌, map, codes, Option, Some, None}
 use Rattle.std.specs.List.{before_first}
 use Rattle.std.specs.Str.{bytes_eq}
 use Rattle.httparse.specs.Grammar.{RequestHead}
 use Rattle.httparse.specs.Spans.{name_and_value}
 use Rattle.esc_envelope.specs.Id.{is_id}
-use Rattle.esc_http.specs.declared.length.BodyLength.{BodyLength}
-use Rattle.esc_http.specs.declared.length.BodyLength.TheVariants.{Bytes, Missing, Malformed, TooLong}
-use Rattle.esc_http.specs.declared.reports.Report.{Report}
-use Rattle.esc_http.specs.declared.plan.Refusal.{Refusal}
-use Rattle.esc_http.specs.declared.plan.Refusal.TheVariants.{BadRequest, NotFound, PutOnly, GetOnly, BadNumber, LengthRequired, TooLarge}
+use Rattle.esc_request.specs.declared.length.BodyLength.{BodyLength}
+use Rattle.esc_request.specs.declared.length.BodyLength.TheVariants.{Bytes, Missing, Malformed, TooLong}
+use Rattle.esc_request.specs.declared.reports.Report.{Report}
+use Rattle.esc_request.specs.declared.refusal.Refusal.TheVariants.{BadRequest, NotFound, PutOnly, GetOnly, BadNumber, LengthRequired, TooLarge}
 use Rattle.esc_http.specs.declared.plan.Plan.{Plan}
 use Rattle.esc_http.specs.declared.plan.Plan.TheVariants.{Refuse, Put, Get}
-use Rattle.esc_http.specs.BodyLength.{Line, body_length}
-use Rattle.esc_http.specs.Route.{Leads, arrival, tells, route_of}
+use Rattle.esc_request.specs.BodyLength.{Line, body_length}
+use Rattle.esc_request.specs.Route.{Leads, arrival, tells, route_of}
 
 -- the target up to its first question mark
 abbrev pub path_of : List ℕ → List ℕ

@@ -21,11 +21,11 @@ use Rattle.esc_desk.specs.declared.status.Status.{Status as Numbers}
 use Rattle.esc_desk.specs.ArrivalValue.{ArrivalValue}
 use Rattle.esc_desk.specs.Reads.{replies_of, AreTables, IsEnd, IsStatus}
 use Rattle.esc_desk.specs.Stands.{held_body}
-use Rattle.esc_http.specs.declared.reports.Report.{Report}
-use Rattle.esc_http.specs.declared.reports.Report.TheVariants.{Status, Gaps, Links, Receipts, Export}
-use Rattle.esc_http.specs.GapsText.{gaps_text}
-use Rattle.esc_http.specs.LinksText.{links_text}
-use Rattle.esc_http.specs.ReceiptsText.{receipts_text}
+use Rattle.esc_request.specs.declared.reports.Report.{Report}
+use Rattle.esc_request.specs.declared.reports.Report.TheVariants.{Status, Gaps, Links, Receipts, Export}
+use Rattle.esc_texts.specs.GapsText.{gaps_text}
+use Rattle.esc_texts.specs.LinksText.{links_text}
+use Rattle.esc_texts.specs.ReceiptsText.{receipts_text}
 use Rattle.esc_http.specs.StatusText.{status_text}
 
 -- what breaks a rule in tables at the end of a chain, each once and in order; without a chain there is nothing

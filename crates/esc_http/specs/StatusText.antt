@@ -1,13 +1,12 @@
 -- The status report (this project's profile): eleven lines.
-use Rattle.std.specs.Prelude.{ℕ, ℤ, List, [], ◌++◌, codes, Option, Some, None}
+use Rattle.std.specs.Prelude.{ℕ, List, ◌++◌, codes, Option, Some, None}
 use Rattle.std.specs.Fmt.{decimal}
 use Rattle.std.specs.List.{flat_map}
-use Rattle.std.specs.Option.{unwrap_or}
 use Rattle.esc_envelope.specs.declared.kind.Kind.{Kind}
 use Rattle.esc_envelope.specs.declared.place.Place.{Place}
 use Rattle.esc_envelope.specs.Kinds.{kind_name}
 use Rattle.esc_envelope.specs.Members.{type_name}
-use Rattle.esc_envelope.specs.Watermark.{watermark_text_of}
+use Rattle.esc_texts.specs.Words.{printed}
 use Rattle.esc_desk.specs.declared.status.Status.{Status}
 
 -- a name and a number
@@ -17,10 +16,6 @@ number_line name n = name ++ codes " " ++ decimal n ++ codes "\n"
 -- how many rows are listed and held, how many receipts there are, and how many steps the latest chain has
 abbrev pub counts_text : Status → List ℕ
 counts_text s = number_line (codes "listed") s.listed ++ number_line (codes "held") s.held ++ number_line (codes "receipts") s.receipts ++ number_line (codes "chain") s.chain
-
--- a watermark as it is printed
-abbrev pub printed : ℤ → List ℕ
-printed w = unwrap_or (watermark_text_of w) []
 
 abbrev pub end_text : Place → ℕ → List ℕ
 end_text place resend = codes "end " ++ printed place.watermark ++ codes " " ++ type_name place.kind ++ codes " " ++ decimal resend ++ codes "\n"

@@ -6,20 +6,19 @@ ghost use Rattle.httparse.specs.Grammar.{RequestHead};
 ghost use Rattle.httparse.specs.Spans.{IsRequestAt, IsRequestWithin};
 ghost use Rattle.esc_store.specs.Standing.{IsHonest};
 ghost use Rattle.esc_http.specs.declared.plan.Plan.TheVariants.{Put};
-ghost use Rattle.esc_http.specs.Head.{ShowsHead};
+ghost use Rattle.esc_request.specs.Head.{ShowsHead};
 ghost use Rattle.esc_http.specs.Plans.{plan_of_head};
-ghost use Rattle.esc_http.specs.Router.{rows};
+ghost use Rattle.esc_request.specs.Router.{rows};
 ghost use Rattle.esc_http.specs.Answering.{Request, arrives, wants, with_body, Asks, IsAnswered, text_or_memory};
 
-use crate::body::{Body, read_body};
-use crate::head::{FoundHead, MOST_HEAD_BYTES, MOST_LINES, read_head};
-use crate::plan::{Plan, Refusal, plan_of_head};
-use crate::reports::Report;
-use crate::response::{fault_response, refusal_response, reply_response, report_response};
-use crate::route::{Target, router};
-use crate::streams::{ReadFailed, Source};
+use crate::plan::{Plan, plan_of_head};
+use crate::response::{fault_response, reply_response};
 use crate::telling::report;
 use esc_desk::{Desk, Number};
+use esc_request::{
+    Body, FoundHead, MOST_HEAD_BYTES, MOST_LINES, ReadFailed, Refusal, Report, Source, Target,
+    read_body, read_head, refusal_response, report_response, router,
+};
 use httparse::spans::{EMPTY_HEADER_SPAN, HeaderSpan};
 use matchit::Router;
 use sqlite::Alter;

@@ -18,6 +18,9 @@
 //! An arrival that was taken is answered with its reply as JSON, 200 where the deposit is held and 422 where it isn't; a
 //! report with 200 and its text. Want of memory is 503 with `S2`, whatever would be answered else.
 //!
+//! What needs no desk stands below: the head, the route, the body and the bytes of a response in `esc_request`, the texts
+//! that replies, gaps and findings are told in in `esc_texts`.
+//!
 //! [`report`] gives the text of a report, which the program prints too; [`receipts_heading`] and [`receipt_line`] are
 //! the pieces of the receipts report.
 //!
@@ -42,26 +45,13 @@
 #![tactic(auto)]
 
 mod answer;
-mod body;
-mod gaps;
-mod head;
-mod length;
-mod links;
 mod plan;
-mod receipts;
-mod reply;
-mod reports;
 mod response;
-mod route;
-mod send;
 mod serving;
 mod status;
-mod streams;
 mod telling;
-mod words;
 
-pub use receipts::{receipt_line, receipts_heading};
-pub use reports::Report;
+pub use esc_request::{ReadFailed, Report, Sink, Source, WriteFailed};
+pub use esc_texts::{receipt_line, receipts_heading};
 pub use serving::{ServeFault, serve, serve_one};
-pub use streams::{ReadFailed, Sink, Source, WriteFailed};
 pub use telling::report;

@@ -3,29 +3,14 @@
 ghost use Rattle.std.specs.Prelude.{◌≡◌, length, map, All};
 ghost use Rattle.httparse.specs.Grammar.{RequestHead};
 ghost use Rattle.httparse.specs.Spans.{IsHeaderWithin, IsRequestAt, IsRequestWithin, header_bytes};
-ghost use Rattle.esc_http.specs.Head.{ShowsHead};
+ghost use Rattle.esc_request.specs.Head.{ShowsHead};
 ghost use Rattle.esc_http.specs.Plans.{path_of, plan_of, plan_to_put, plan_to_get, plan_of_head};
-ghost use Rattle.esc_http.specs.Router.{rows};
+ghost use Rattle.esc_request.specs.Router.{rows};
 
-use crate::head::FoundHead;
-use crate::length::{BodyLength, body_length};
-use crate::reports::Report;
-use crate::route::{Route, Target, route_of};
 use esc_desk::{Number, number};
+use esc_request::{BodyLength, FoundHead, Refusal, Report, Route, Target, body_length, route_of};
 use httparse::spans::HeaderSpan;
 use matchit::Router;
-
-/// Why a request is refused, whatever the store holds.
-#[derive(Clone, Copy, Debug, PartialEq, Eq)]
-pub(crate) enum Refusal {
-    BadRequest,
-    NotFound,
-    PutOnly,
-    GetOnly,
-    BadNumber,
-    LengthRequired,
-    TooLarge,
-}
 
 /// What the head of a request asks for.
 #[derive(Debug, Drop)]

@@ -1,65 +1,12 @@
-//! The texts of responses. Each function answers `None` for want of memory.
+//! The responses that tell what the desk answers. Each function answers `None` for want of memory.
 
-ghost use Rattle.std.specs.Prelude.{◌≡◌, IfOk, IfSome, string_bytes};
-ghost use Rattle.esc_http.specs.Response.{response_head, response, refusal_response, fault_response, out_of_memory, reply_status, reply_response, report_media, report_response};
+ghost use Rattle.std.specs.Prelude.{◌≡◌, IfSome};
+ghost use Rattle.esc_http.specs.Response.{fault_response, reply_status, reply_response};
 
-use crate::plan::Refusal;
-use crate::reply::reply_text;
-use crate::reports::Report;
 use esc_desk::{Reply, SFault, Verdict};
-use std::alloc::{AllocError, Global};
-
-/// The response to want of memory. Takes none.
-pub(crate) fn out_of_memory() -> &'static [u8]
-    ensures { result.now ≡ out_of_memory }
-{
-    b"HTTP/1.1 503 Service Unavailable\r\nContent-Type: text/plain\r\nContent-Length: 3\r\nConnection: close\r\n\r\nS2\n"
-}
-
-/// The response to a request that is refused.
-pub(crate) fn refusal_response(alloc: Global, refusal: Refusal) -> Option<Vec<u8>>
-    ensures { IfSome result (λ text. text.items ≡ refusal_response refusal) }
-{
-    match refusal {
-        Refusal::BadRequest => response(
-            alloc,
-            "400 Bad Request",
-            "text/plain",
-            "",
-            b"bad request\n",
-        ),
-        Refusal::NotFound => response(alloc, "404 Not Found", "text/plain", "", b"not found\n"),
-        Refusal::PutOnly => response(
-            alloc,
-            "405 Method Not Allowed",
-            "text/plain",
-            "Allow: PUT\r\n",
-            b"method not allowed\n",
-        ),
-        Refusal::GetOnly => response(
-            alloc,
-            "405 Method Not Allowed",
-            "text/plain",
-            "Allow: GET\r\n",
-            b"method not allowed\n",
-        ),
-        Refusal::BadNumber => response(alloc, "400 Bad Request", "text/plain", "", b"N1\n"),
-        Refusal::LengthRequired => response(
-            alloc,
-            "411 Length Required",
-            "text/plain",
-            "",
-            b"length required\n",
-        ),
-        Refusal::TooLarge => response(
-            alloc,
-            "413 Content Too Large",
-            "text/plain",
-            "",
-            b"too large\n",
-        ),
-    }
-}
+use esc_request::response;
+use esc_texts::reply_text;
+use std::alloc::Global;
 
 /// The response where the store refuses.
 pub(crate) fn fault_response(alloc: Global, fault: SFault) -> Option<Vec<u8>>
@@ -94,43 +41,4 @@ fn reply_status(verdict: Verdict) -> &'static str
         Verdict::A1 => "200 OK",
         Verdict::A2 | Verdict::A3(_) | Verdict::A4 => "422 Unprocessable Content",
     }
-}
-
-/// The response with a report.
-pub(crate) fn report_response(alloc: Global, report: Report, text: &[u8]) -> Option<Vec<u8>>
-    ensures { IfSome result (λ whole. whole.items ≡ report_response report text.now) }
-{
-    response(alloc, "200 OK", report_media(report), "", text)
-}
-
-fn report_media(report: Report) -> &'static str
-    ensures { result.now ≡ report_media report }
-{
-    match report {
-        Report::Status => "text/plain",
-        Report::Gaps | Report::Links | Report::Receipts | Report::Export(_) => "text/csv",
-    }
-}
-
-fn response(alloc: Global, status: &str, media: &str, allow: &str, body: &[u8]) -> Option<Vec<u8>>
-    ensures { IfSome result (λ text. text.items ≡ response status.now media.now allow.now body.now) }
-{
-    let head = response_head(alloc, status, media, allow, body.len()).ok()?;
-    let mut text = head.into_bytes();
-    text.extend_from_slice(body).ok()?;
-    Some(text)
-}
-
-fn response_head(
-    alloc: Global,
-    status: &str,
-    media: &str,
-    allow: &str,
-    size: usize,
-) -> Result<String, AllocError>
-    ensures { IfOk result (λ head. string_bytes head ≡ response_head status.now media.now allow.now size) }
-{
-    format!(in alloc;
-        "HTTP/1.1 {status}\r\nContent-Type: {media}\r\nContent-Length: {size}\r\nConnection: close\r\n{allow}\r\n"
-    )
 }

@@ -5,13 +5,11 @@ ghost use Rattle.std.specs.Io.KnownBytes.{Appends, Keeps};
 ghost use Rattle.esc_store.specs.Standing.{IsHonest};
 ghost use Rattle.esc_http.specs.declared.serving.ServeFault.TheVariants.{Read as reading, Write as writing};
 ghost use Rattle.esc_http.specs.Answering.{Request, Asks, IsAnswered, text_or_memory};
-ghost use Rattle.esc_http.specs.Sent.{AppendsBeginning};
+ghost use Rattle.esc_request.specs.Sent.{AppendsBeginning};
 
 use crate::answer::answer_input;
-use crate::response::out_of_memory;
-use crate::send::send;
-use crate::streams::{ReadFailed, Sink, Source, WriteFailed};
 use esc_desk::Desk;
+use esc_request::{ReadFailed, Sink, Source, WriteFailed, out_of_memory, send};
 use sqlite::Alter;
 use std::alloc::Global;
 use std::io::{Read, Write};

@@ -7,14 +7,10 @@ ghost use Rattle.esc_chain.specs.Chain.{InRange};
 ghost use Rattle.esc_store.specs.Standing.{IsHonest, IsAsBefore};
 ghost use Rattle.esc_desk.specs.ArrivalValue.{ArrivalValue};
 ghost use Rattle.esc_desk.specs.Serving.{Serves, DeskServes};
-ghost use Rattle.esc_http.specs.declared.reports.Report.TheVariants as what;
+ghost use Rattle.esc_request.specs.declared.reports.Report.TheVariants as what;
 ghost use Rattle.esc_http.specs.Reports.{IsReport};
 ghost use Rattle.esc_http.specs.Walked.{AreFoundAt, walk_fault};
 
-use crate::gaps::gaps_text;
-use crate::links::links_text;
-use crate::receipts::receipts_text;
-use crate::reports::Report;
 use crate::status::status_text;
 use esc_apply::tables_are_listed;
 use esc_chain::{Held, gaps};
@@ -22,6 +18,8 @@ use esc_check::{Finding, StreamFault, export_from, verify_from};
 use esc_desk::{Desk, End, SFault};
 use esc_envelope::Kind;
 use esc_manifest::Manifest;
+use esc_request::Report;
+use esc_texts::{gaps_text, links_text, receipts_text};
 use sqlite::Alter;
 use std::alloc::Global;
 

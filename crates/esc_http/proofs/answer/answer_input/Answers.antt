@@ -1,6 +1,6 @@
 use Rattle.std.proofs.Common.{refl, take}
 use Rattle.std.proofs.lemmas.Result.{IfOk-weaker}
-use Rattle.esc_http.specs.declared.plan.Refusal.TheVariants.{BadRequest}
+use Rattle.esc_request.specs.declared.refusal.Refusal.TheVariants.{BadRequest}
 use Rattle.esc_http.specs.Answering.{refused}
 use Rattle.esc_http.proofs.AnswerLemmas.{text_is, headless, asked}
 use Rattle.esc_http.proofs.answer.answer_input.Goals as goal

@@ -1,4 +1,4 @@
-use Rattle.std.proofs.Common.{rules, ℤ, ◌↔◌, w64, to_z, of_z, subst}
+use Rattle.std.proofs.Common.{rules, ℤ, ◌↔◌, w64, subst}
 use mir.Val.{SFits}
 use Rattle.std.specs.List.{Contains}
 use Rattle.std.proofs.lemmas.Int.{to_z-of_z}

@@ -1,4 +1,4 @@
-use Rattle.std.proofs.Common.{◌≡◌, get_or, take, ap, ◌∙◌}
+use Rattle.std.proofs.Common.{get_or, ap, ◌∙◌}
 use Rattle.std.specs.FinSet as set
 use Rattle.esc_chain.specs.Chain.{Rows}
 use Rattle.esc_http.proofs.HeldRows.{one_more_row}

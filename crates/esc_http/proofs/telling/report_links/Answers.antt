@@ -1,5 +1,5 @@
 use Rattle.std.proofs.Common.{ap, ◌∙◌}
-use Rattle.esc_http.specs.LinksText.{links_text}
+use Rattle.esc_texts.specs.LinksText.{links_text}
 use Rattle.esc_http.proofs.StoreFacts.{was_honest, stays}
 use Rattle.esc_http.proofs.telling.report_links.Goals as goal
 

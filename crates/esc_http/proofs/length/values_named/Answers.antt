@@ -1,8 +1,0 @@
-use Rattle.httparse.specs.Spans.{header_bytes}
-use Rattle.esc_http.specs.BodyLength.{is_named}
-use Rattle.esc_http.proofs.LengthLemmas.{values_more}
-use Rattle.esc_http.proofs.length.values_named.Goals as goal
-
-pub loop-line-preserved : goal.loop-line-preserved
-loop-line-preserved c =
-    values_more (is_named c.args.name.now) (header_bytes c.args.bytes.now) c.args.lines.now c.loop-line.line-index _ c.loop-line-test.true _ _ c.loop-line.invariant c.values_with-values.ensures

@@ -1,7 +1,0 @@
-use Rattle.std.proofs.Common.{refl}
-use Rattle.std.specs.Fmt.{digits}
-use Rattle.esc_http.proofs.response.out_of_memory.Goals as goal
-
-pub returns : goal.returns
-unfolding digits
-returns c = refl

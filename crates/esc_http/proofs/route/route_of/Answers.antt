@@ -1,9 +1,0 @@
-use Rattle.std.proofs.Common.{◌∙◌}
-use Rattle.esc_http.proofs.RouteLemmas.{found_leads, none_leads}
-use Rattle.esc_http.proofs.route.route_of.Goals as goal
-
-pub returns-in-Ok : goal.returns-in-Ok
-returns-in-Ok c = c.way_to.ensures ∙ found_leads _ _ _ c.requires c.in-Ok.ensures.found
-
-pub returns-in-Err : goal.returns-in-Err
-returns-in-Err c = none_leads _ _ c.requires c.in-Err.ensures.missing

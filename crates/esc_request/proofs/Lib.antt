@@ -1,0 +1,5 @@
+pub mod BodyLemmas
+pub mod HeadLemmas
+pub mod LengthLemmas
+pub mod ResponseLemmas
+pub mod RouteLemmas

@@ -1,0 +1,10 @@
+-- The body of a request.
+use Rattle.std.specs.Prelude.{◌≡◌, ℕ, ◌≤◌, ◌<◌, List, length, take}
+use Rattle.esc_request.specs.declared.body.Body.{Body}
+use Rattle.esc_request.specs.declared.body.Body.TheVariants.{Whole, Cut, NoMemory}
+
+-- what came of a body of this size at the front of the input
+abbrev pub IsBody : ℕ → List ℕ → Body → Type 0
+IsBody size input (Whole body) = (size ≤ length input) × (body.items ≡ take size input)
+IsBody size input Cut = length input < size
+IsBody size input NoMemory = Unit {0}

@@ -1,0 +1,59 @@
+-- The texts of responses (RFC 9112, section 4; this project's profile): lines that end with CR LF, and a body.
+use Rattle.std.specs.Prelude.{ℕ, List, [], ◌++◌, length, codes}
+use Rattle.std.specs.Fmt.{decimal}
+use Rattle.esc_request.specs.declared.refusal.Refusal.{Refusal}
+use Rattle.esc_request.specs.declared.refusal.Refusal.TheVariants.{BadRequest, NotFound, PutOnly, GetOnly, BadNumber, LengthRequired, TooLarge}
+use Rattle.esc_request.specs.declared.reports.Report.{Report}
+use Rattle.esc_request.specs.declared.reports.Report.TheVariants.{Status, Gaps, Links, Receipts, Export}
+
+-- the end of a line
+abbrev pub crlf : List ℕ
+crlf = codes "\r\n"
+
+-- the status line, the headers in their order, and an empty line; `allow` is one more header line, or nothing
+abbrev pub response_head : List ℕ → List ℕ → List ℕ → ℕ → List ℕ
+response_head status media allow size =
+    (codes "HTTP/1.1 " ++ status ++ crlf) ++ (codes "Content-Type: " ++ media ++ crlf) ++ (codes "Content-Length: " ++ decimal size ++ crlf)
+    ++ (codes "Connection: close" ++ crlf) ++ allow ++ crlf
+
+-- the head, and the body
+abbrev pub response : List ℕ → List ℕ → List ℕ → List ℕ → List ℕ
+response status media allow body = response_head status media allow (length body) ++ body
+
+-- words in place of what was asked for
+abbrev pub plain : List ℕ → List ℕ → List ℕ
+plain status words = response status (codes "text/plain") [] words
+
+-- another method than the route's
+abbrev pub only : List ℕ → List ℕ
+only method = response (codes "405 Method Not Allowed") (codes "text/plain") (codes "Allow: " ++ method ++ crlf) (codes "method not allowed\n")
+
+-- why a request is refused
+abbrev pub refusal_response : Refusal → List ℕ
+refusal_response BadRequest = plain (codes "400 Bad Request") (codes "bad request\n")
+refusal_response NotFound = plain (codes "404 Not Found") (codes "not found\n")
+refusal_response PutOnly = only (codes "PUT")
+refusal_response GetOnly = only (codes "GET")
+refusal_response BadNumber = plain (codes "400 Bad Request") (codes "N1\n")
+refusal_response LengthRequired = plain (codes "411 Length Required") (codes "length required\n")
+refusal_response TooLarge = plain (codes "413 Content Too Large") (codes "too large\n")
+
+-- there is no answer now
+abbrev pub unavailable : List ℕ → List ℕ
+unavailable words = plain (codes "503 Service Unavailable") words
+
+-- want of memory
+abbrev pub out_of_memory : List ℕ
+out_of_memory = unavailable (codes "S2\n")
+
+-- the media type of a report
+abbrev pub report_media : Report → List ℕ
+report_media Status = codes "text/plain"
+report_media Gaps = codes "text/csv"
+report_media Links = codes "text/csv"
+report_media Receipts = codes "text/csv"
+report_media (Export kind) = codes "text/csv"
+
+-- a report
+abbrev pub report_response : Report → List ℕ → List ℕ
+report_response report text = response (codes "200 OK") (report_media report) [] text

@@ -1,0 +1,50 @@
+-- Where the path of a request leads (this project's profile).
+use Rattle.std.specs.Prelude.{ℕ, List, [], ◌∷◌, Bool, false, if◌then◌else◌, ◌==◌, nat_eq, not, length, drop, codes, Option, Some, None, option_map, option_and_then}
+use Rattle.std.specs.List.{starts_with, list_any}
+use Rattle.std.specs.Str.{bytes_eq}
+use Rattle.esc_envelope.specs.Kinds.{kind_named}
+use Rattle.esc_request.specs.declared.reports.Report.{Report}
+use Rattle.esc_request.specs.declared.reports.Report.TheVariants.{Status, Gaps, Links, Receipts, Export}
+use Rattle.esc_request.specs.declared.route.Target.{Target}
+use Rattle.esc_request.specs.declared.route.Target.TheVariants as to
+
+-- to the arrival with this number, or to a report
+pub data Leads : Type 0 where
+  arrival : List ℕ → Leads
+  tells : Report → Leads
+
+-- what follows a front
+abbrev pub strip : List ℕ → List ℕ → Option (List ℕ)
+strip front text = if starts_with nat_eq text front then Some (drop (length front) text) else None
+
+-- one segment of a path that isn't empty
+abbrev pub is_segment : List ℕ → Bool
+is_segment [] = false
+is_segment (b ∷ bytes) = not (list_any (λ c. c == 47) (b ∷ bytes))
+
+abbrev pub if_segment : List ℕ → Option (List ℕ)
+if_segment text = if is_segment text then Some text else None
+
+-- the one segment that follows a front
+abbrev pub segment_after : List ℕ → List ℕ → Option (List ℕ)
+segment_after front path = option_and_then if_segment (strip front path)
+
+-- the export of the kind of this name
+abbrev pub export_named : List ℕ → Option Leads
+export_named name = option_map (λ kind. tells (Export kind)) (kind_named name)
+
+-- where a path leads: /status, /gaps, /links, /receipts, /arrivals/ and a number, /export/ and a kind; nothing is decoded
+abbrev pub route_of : List ℕ → Option Leads
+route_of path =
+    if bytes_eq (codes "/status") path then Some (tells Status)
+    else (if bytes_eq (codes "/gaps") path then Some (tells Gaps)
+    else (if bytes_eq (codes "/links") path then Some (tells Links)
+    else (if bytes_eq (codes "/receipts") path then Some (tells Receipts)
+    else (if starts_with nat_eq path (codes "/arrivals/") then option_map arrival (segment_after (codes "/arrivals/") path)
+    else option_and_then export_named (segment_after (codes "/export/") path)))))
+
+-- where a path leads that has this target
+abbrev pub way_to : Target → List ℕ → Option Leads
+way_to to.Arrivals path = option_map arrival (strip (codes "/arrivals/") path)
+way_to to.Export path = option_and_then export_named (strip (codes "/export/") path)
+way_to (to.Tells report) path = Some (tells report)

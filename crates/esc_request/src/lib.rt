@@ -1,0 +1,50 @@
+//! What a request says, and the bytes that are sent for it, before any desk.
+//!
+//! The pieces of one HTTP/1.0 or 1.1 exchange (RFC 9112, within this project's profile), each over bytes alone:
+//!
+//! | Piece | What it does |
+//! |---|---|
+//! | [`Source`], [`Sink`] | readers and writers that tell that a call has failed; each reader and writer of std is one that doesn't tell |
+//! | [`read_head`] | reads the head, of at most 8,192 bytes and 32 header lines, in whatever pieces it comes |
+//! | [`router`], [`route_of`] | where a path leads: to the arrival with this number, or to a [`Report`] |
+//! | [`body_length`] | how long the body is, by the header lines |
+//! | [`read_body`] | reads a body of this length into one buffer |
+//! | [`response`] | the text of a response; [`refusal_response`], [`report_response`] and [`out_of_memory`] those of one kind |
+//! | [`send`] | writes a text to its end and flushes |
+//!
+//! In which order these are asked, which refusal stands first, and what a desk answers, is `esc_http`'s.
+//!
+//! # What is promised
+//!
+//! A head is what the grammar of `httparse` has as one (`specs/Head.antt`): where [`read_head`] finds none, no beginning of
+//! the input is one. The routes that `matchit` finds are those of a plain definition by the path's text
+//! (`specs/Route.antt`). A body's length is a function of the header lines (`specs/BodyLength.antt`), and a body the bytes
+//! that stand behind the head, or it is cut (`specs/Body.antt`). A response is one text (`specs/Response.antt`). Where a
+//! write failed a beginning of the text was written (`specs/Sent.antt`). A failure is answered only where a call of the
+//! source or the sink has failed; want of memory only where memory is taken.
+//!
+//! # Cost
+//!
+//! Nothing is read past the head and the body but what came with them in one piece. The head lies in a buffer of the
+//! caller's; a body is read into one buffer of its length.
+#![tactic(auto)]
+
+mod body;
+mod head;
+mod length;
+mod refusal;
+mod reports;
+mod responses;
+mod route;
+mod sending;
+mod streams;
+
+pub use body::{Body, read_body};
+pub use head::{FoundHead, MOST_HEAD_BYTES, MOST_LINES, read_head};
+pub use length::{BodyLength, MOST_BODY_BYTES, body_length};
+pub use refusal::Refusal;
+pub use reports::Report;
+pub use responses::{out_of_memory, refusal_response, report_response, response};
+pub use route::{Route, Target, route_of, router};
+pub use sending::send;
+pub use streams::{ReadFailed, Sink, Source, WriteFailed};

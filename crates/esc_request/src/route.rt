@@ -1,0 +1,80 @@
+//! Where the path of a request leads.
+
+ghost use Rattle.std.specs.Prelude.{◌≡◌, [], IfOk, OnOk, option_map, option_and_then};
+ghost use Rattle.esc_request.specs.Route.{Leads, route_of, strip, way_to};
+ghost use Rattle.esc_request.specs.Seen.{route_seen};
+ghost use Rattle.esc_request.specs.Router.{rows};
+
+use crate::reports::Report;
+use esc_envelope::Kind;
+use matchit::{InsertError, Router};
+use std::alloc::Global;
+
+/// What the router keeps of a route.
+#[derive(Clone, Copy, Debug, PartialEq, Eq)]
+pub enum Target {
+    Arrivals,
+    Export,
+    Tells(Report),
+}
+
+/// Where a path leads.
+#[derive(Clone, Copy, Debug)]
+pub enum Route<'p> {
+    /// To an arrival, which would have this number.
+    Arrival(&'p str),
+    Tells(Report),
+}
+
+/// The router of all routes.
+pub fn router(alloc: Global) -> Result<Router<Target>, InsertError>
+    ensures { IfOk result (λ router. router ≡ rows) }
+{
+    let mut router = Router::new(alloc);
+    add_routes(&mut router)?;
+    Ok(router)
+}
+
+fn add_routes(router: &mut Router<Target>) -> Result<(), InsertError>
+    requires { router.old ≡ [] }
+    ensures { OnOk result (router.new ≡ rows) }
+{
+    router.insert("/arrivals/{number}", Target::Arrivals)?;
+    router.insert("/status", Target::Tells(Report::Status))?;
+    router.insert("/gaps", Target::Tells(Report::Gaps))?;
+    router.insert("/links", Target::Tells(Report::Links))?;
+    router.insert("/receipts", Target::Tells(Report::Receipts))?;
+    router.insert("/export/{kind}", Target::Export)?;
+    Ok(())
+}
+
+/// Where a path leads, if it has a route.
+pub fn route_of<'p>(router: &Router<Target>, path: &'p str) -> Option<Route<'p>>
+    requires { router.now ≡ rows }
+    ensures { option_map route_seen result ≡ route_of path.now }
+{
+    match router.at(path) {
+        Ok(found) => way_to(*found.value, path),
+        Err(_) => None,
+    }
+}
+
+// Where a path leads of which the router knows the target.
+fn way_to<'p>(target: Target, path: &'p str) -> Option<Route<'p>>
+    ensures { option_map route_seen result ≡ way_to target path.now }
+{
+    match target {
+        Target::Arrivals => Some(Route::Arrival(strip("/arrivals/", path)?)),
+        Target::Export => {
+            let kind = Kind::from_name(strip("/export/", path)?)?;
+            Some(Route::Tells(Report::Export(kind)))
+        }
+        Target::Tells(report) => Some(Route::Tells(report)),
+    }
+}
+
+fn strip<'p>(front: &str, path: &'p str) -> Option<&'p str>
+    ensures { option_map (λ text. text.now) result ≡ strip front.now path.now }
+{
+    path.strip_prefix(front)
+}

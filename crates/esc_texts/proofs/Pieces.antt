@@ -1,0 +1,33 @@
+-- Texts that are written piece by piece.
+use Rattle.std.proofs.Common.{◌≡◌, ℕ, ◌+◌, ◌<◌, List, ◌∷◌, ◌++◌, length, get_or, drop, sym, ap, ◌∙◌, append_assoc}
+use Rattle.std.proofs.lemmas.List.{drop_more}
+use Rattle.esc_store.specs.ReplyValue.{ReplyValue}
+use Rattle.esc_check.specs.FindingValue.{FindingValue}
+use Rattle.esc_check.specs.Lines.{line_text}
+use Rattle.esc_chain.specs.declared.gap.GapLine.{GapLine}
+use Rattle.esc_texts.specs.GapsText.{gap_line, gap_lines_text}
+use Rattle.esc_texts.specs.LinksText.{finding_line, findings_text}
+use Rattle.esc_texts.specs.ReceiptsText.{receipt_line, replies_text}
+
+-- the first piece of what was left has been written
+pub written : (old new whole left piece rest : List ℕ) → left ≡ piece ++ rest → old ++ left ≡ whole → new ≡ old ++ piece → new ++ rest ≡ whole
+written old new whole left piece rest parts known wrote =
+    ap (λ (text : List ℕ). text ++ rest) wrote ∙ append_assoc old piece rest ∙ ap (λ (text : List ℕ). old ++ text) (sym parts) ∙ known
+
+-- the line of the first reply that is left
+pub replies_more : (replies : List ReplyValue) (i : ℕ) (reply : ReplyValue) → i < length replies → reply ≡ get_or replies i reply
+    → replies_text (drop i replies) ≡ line_text (receipt_line reply) ++ replies_text (drop (i + 1) replies)
+replies_more replies i reply within is =
+    ap replies_text (drop_more replies i reply within ∙ ap (λ (r : ReplyValue). r ∷ drop (i + 1) replies) (sym is))
+
+-- the line of the first finding that is left
+pub findings_more : (found : List FindingValue) (i : ℕ) (finding : FindingValue) → i < length found → finding ≡ get_or found i finding
+    → findings_text (drop i found) ≡ line_text (finding_line finding) ++ findings_text (drop (i + 1) found)
+findings_more found i finding within is =
+    ap findings_text (drop_more found i finding within ∙ ap (λ (f : FindingValue). f ∷ drop (i + 1) found) (sym is))
+
+-- the line of the first place that is left
+pub gap_lines_more : (gaps : List GapLine) (i : ℕ) (gap : GapLine) → i < length gaps → gap ≡ get_or gaps i gap
+    → gap_lines_text (drop i gaps) ≡ line_text (gap_line gap) ++ gap_lines_text (drop (i + 1) gaps)
+gap_lines_more gaps i gap within is =
+    ap gap_lines_text (drop_more gaps i gap within ∙ ap (λ (l : GapLine). l ∷ drop (i + 1) gaps) (sym is))

@@ -1,0 +1,5 @@
+pub mod GapsText
+pub mod LinksText
+pub mod ReceiptsText
+pub mod ReplyText
+pub mod Words

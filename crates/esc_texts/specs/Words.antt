@@ -1,0 +1,29 @@
+-- The words that replies and places are told in (this project's profile).
+use Rattle.std.specs.Prelude.{ℕ, ℤ, Bool, true, false, List, [], ◌++◌, codes, Option, Some, None}
+use Rattle.std.specs.Fmt.{decimal}
+use Rattle.std.specs.Option.{unwrap_or}
+use Rattle.esc_envelope.specs.Watermark.{watermark_text_of}
+use Rattle.esc_store.specs.declared.reply.Verdict.{Verdict}
+use Rattle.esc_store.specs.declared.reply.Verdict.TheVariants.{A1, A2, A3, A4}
+
+abbrev pub verdict_word : Verdict → List ℕ
+verdict_word A1 = codes "A1"
+verdict_word A2 = codes "A2"
+verdict_word (A3 n) = codes "A3"
+verdict_word A4 = codes "A4"
+
+-- whether a row was held before
+abbrev pub copy_word : Bool → List ℕ
+copy_word false = codes "new"
+copy_word true = codes "again"
+
+-- why a body is unreadable, if it is: U and the refusal's number
+abbrev pub fault_of : Verdict → Option (List ℕ)
+fault_of A1 = None
+fault_of A2 = None
+fault_of (A3 n) = Some (codes "U" ++ decimal n)
+fault_of A4 = None
+
+-- a watermark as it is printed
+abbrev pub printed : ℤ → List ℕ
+printed w = unwrap_or (watermark_text_of w) []

@@ -1,0 +1,120 @@
+//! The report of gaps.
+
+ghost use Rattle.std.specs.Prelude.{◌≡◌, ◌∷◌, [], ◌++◌, IfOk, OnOk, string_bytes, option_and_then};
+ghost use Rattle.esc_chain.specs.GapTexts.{state_text, blocker_text};
+ghost use Rattle.esc_chain.specs.PlaceText.{place_text};
+ghost use Rattle.esc_check.specs.Lines.{line_text};
+ghost use Rattle.esc_texts.specs.GapsText.{heading, gap_line, gap_lines_text, gaps_text};
+ghost use Rattle.esc_texts.specs.ReceiptsText.{or_empty};
+ghost use Rattle.esc_texts.specs.Words.{printed};
+
+use crate::receipts::resend_text;
+use esc_chain::{Blocker, GapLine, State};
+use esc_check::Lines;
+use esc_envelope::{Place, watermark_text};
+use esc_store::SFault;
+use std::alloc::{AllocError, Global};
+
+/// The report of gaps: the heading, and a line for each of these. `S1` where a place has a moment that has no text, as
+/// none of a manifest has.
+pub fn gaps_text(alloc: Global, gaps: &[GapLine]) -> Result<Vec<u8>, SFault>
+    ensures { IfOk result (λ text. text.items ≡ gaps_text gaps.now) }
+{
+    let mut lines = Lines::new(alloc);
+    write_heading(&mut lines)?;
+    write_lines(alloc, &mut lines, gaps)?;
+    Ok(lines.into_text()?)
+}
+
+fn write_heading(lines: &mut Lines) -> Result<(), SFault>
+    ensures { OnOk result (lines.new ≡ lines.old ++ line_text heading) }
+{
+    write_fields(
+        lines,
+        b"watermark",
+        b"type",
+        b"used",
+        b"state",
+        b"blocker",
+        b"awaited",
+    )
+}
+
+fn write_lines(alloc: Global, lines: &mut Lines, gaps: &[GapLine]) -> Result<(), SFault>
+    ensures { OnOk result (lines.new ≡ lines.old ++ gap_lines_text gaps.now) }
+{
+    for gap in gaps {
+        write_line(alloc, lines, gap)?;
+    }
+    Ok(())
+}
+
+fn write_line(alloc: Global, lines: &mut Lines, gap: &GapLine) -> Result<(), SFault>
+    ensures { OnOk result (lines.new ≡ lines.old ++ line_text (gap_line gap.now)) }
+{
+    let watermark = moment_text(alloc, gap.place.watermark)?;
+    let used = resend_text(alloc, gap.used)?;
+    let state = state_text(alloc, gap.state)?;
+    let blocker = blocker_text(alloc, &gap.blocker)?;
+    let awaited = resend_text(alloc, gap.awaited)?;
+    write_fields(
+        lines,
+        watermark.as_bytes(),
+        gap.place.kind.name().as_bytes(),
+        used.as_bytes(),
+        state.as_bytes(),
+        blocker.as_bytes(),
+        awaited.as_bytes(),
+    )
+}
+
+fn moment_text(alloc: Global, watermark: i64) -> Result<String, SFault>
+    ensures { IfOk result (λ text. string_bytes text ≡ printed watermark) }
+{
+    match watermark_text(alloc, watermark)? {
+        Some(text) => Ok(text),
+        None => Err(SFault::S1),
+    }
+}
+
+fn state_text(alloc: Global, state: State) -> Result<String, AllocError>
+    ensures { IfOk result (λ text. string_bytes text ≡ state_text state) }
+{
+    format!(in alloc; "{state}")
+}
+
+fn blocker_text(alloc: Global, blocker: &Option<Blocker>) -> Result<String, SFault>
+    ensures { IfOk result (λ text. string_bytes text ≡ or_empty (option_and_then blocker_text blocker.now)) }
+{
+    match blocker {
+        Some(Blocker::NotHeld(place)) => place_text(alloc, place.place()),
+        Some(Blocker::NotListed(id)) => Ok(format!(in alloc; "unlisted {}", id.text())?),
+        Some(Blocker::NoEarlierFull) => Ok(String::from_str(alloc, "no earlier FULL")?),
+        None => Ok(String::new(alloc)),
+    }
+}
+
+fn place_text(alloc: Global, place: Place) -> Result<String, SFault>
+    ensures { IfOk result (λ text. string_bytes text ≡ or_empty (place_text place)) }
+{
+    let Some(watermark) = watermark_text(alloc, place.watermark)? else {
+        return Err(SFault::S1);
+    };
+    let kind = place.kind.name();
+    Ok(format!(in alloc; "{watermark} {kind}")?)
+}
+
+fn write_fields<'x>(
+    lines: &mut Lines,
+    watermark: &'x [u8],
+    kind: &'x [u8],
+    used: &'x [u8],
+    state: &'x [u8],
+    blocker: &'x [u8],
+    awaited: &'x [u8],
+) -> Result<(), SFault>
+    ensures { OnOk result (lines.new ≡ lines.old ++ line_text (watermark.now ∷ kind.now ∷ used.now ∷ state.now ∷ blocker.now ∷ awaited.now ∷ [])) }
+{
+    lines.write(&[watermark, kind, used, state, blocker, awaited])?;
+    Ok(())
+}
