@@ -17,7 +17,7 @@ use Rattle.esc_desk.specs.declared.finding.Finding.TheVariants.{Differing, Holdi
 use Rattle.esc_desk.specs.ArrivalValue.{ArrivalValue}
 use Rattle.esc_desk.specs.Events.{EventValue, Coming, union, coming, comings, arrival_of, manifest_then}
 use Rattle.esc_desk.specs.Finding.{finding, found_at, row_of, held_row}
-use Rattle.esc_desk.specs.Receipts.{alike, is_row, found_then, holds, holds_row, distinct, distinct_after, receipts_after}
+use Rattle.esc_desk.specs.Receipts.{alike, is_row, holds, holds_row, distinct, distinct_after, receipts_after}
 use Rattle.esc_desk.specs.Stands.{rows_by, body_by, StandsFor}
 use Rattle.esc_desk.specs.AllArrivals.{Among, IsApart, IsListedAtOnce, RowsAreOfAll, BodiesAreOfAll, TablesAreOfAll, StandsForArrivals, IsForManifestAndArrivals}
 use Rattle.esc_desk.proofs.EventLemmas.{union_then, comings_then}

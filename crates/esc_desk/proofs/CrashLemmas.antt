@@ -1,5 +1,5 @@
 -- What a crash leaves, from one call to the next.
-use Rattle.std.proofs.Common.{◌≡◌, ◌≢◌, ◌⊎◌, inl, inr, ℕ, Bool, true, false, cond, ◌||◌, List, [], ◌∷◌, ◌++◌, Option, Some, None, Result, Ok, Err, refl, sym, ap, ap₂, subst, subst₂, ◌∙◌, append_assoc, append-nil, arith}
+use Rattle.std.proofs.Common.{◌≡◌, ◌≢◌, inl, inr, ℕ, Bool, true, false, cond, ◌||◌, List, [], ◌∷◌, ◌++◌, Option, Some, None, Result, Ok, Err, refl, sym, ap, ap₂, subst, subst₂, ◌∙◌, append_assoc, append-nil, arith}
 use Rattle.std.specs.Prelude.{IfOk, IfErr, OnOk, MatchResult}
 use Rattle.std.specs.List.{list_any}
 use Rattle.std.proofs.lemmas.List.Folds.{list_any-append}
@@ -223,6 +223,14 @@ module _ {S : Type 0} (g : Ghosts S) where
 pub if_then_on : {X E : Type 0} (r : Result X E) (P : X → Type 0) (Q : Type 0) → ((x : X) → P x → Q) → IfOk r P → OnOk r Q
 if_then_on (Ok x) P Q f h = f x h
 if_then_on (Err e) P Q f h = tt
+
+pub if_ok_each : {X E : Type 0} (r : Result X E) (P : X → Type 0) → ((x : X) → P x) → IfOk r P
+if_ok_each (Ok x) P f = f x
+if_ok_each (Err e) P f = tt
+
+pub on_ok_each : {X E : Type 0} (r : Result X E) (P : Type 0) (Q : X → Type 0) → (P → (x : X) → Q x) → OnOk r P → IfOk r Q
+on_ok_each (Ok x) P Q f p = f p x
+on_ok_each (Err e) P Q f p = tt
 
 -- ---- runs
 

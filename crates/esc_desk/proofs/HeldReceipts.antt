@@ -1,5 +1,5 @@
 -- The rows that receipts hold are those of which a body is held.
-use Rattle.std.proofs.Common.{◌≡◌, ◌⊎◌, inl, inr, ℕ, zero, suc, ◌<◌, Bool, true, false, ◌||◌, List, [], ◌∷◌, ◌++◌, length, Some, IsSome, Result, refl, sym, ap, subst, ◌∙◌, arith, true≢false}
+use Rattle.std.proofs.Common.{◌≡◌, ◌⊎◌, inl, inr, ℕ, zero, suc, Bool, true, false, ◌||◌, List, [], ◌∷◌, ◌++◌, Some, IsSome, Result, refl, sym, ap, subst, ◌∙◌, arith, true≢false}
 use Rattle.std.specs.List.{Any, list_any}
 use Rattle.esc_tables.specs.DepositValue.{DepositValue}
 use Rattle.esc_store.specs.Kept.{Kept, AreHeld, AreHeldBy, SaysHeld}

@@ -12,7 +12,7 @@ use Rattle.esc_chain.specs.Chain.{Rows}
 use Rattle.esc_store.specs.Kept.{body_put}
 use Rattle.esc_desk.specs.Events.{Coming}
 use Rattle.esc_desk.specs.Finding.{held_row}
-use Rattle.esc_desk.specs.Receipts.{is_row, found_then, holds, holds_any, distinct}
+use Rattle.esc_desk.specs.Receipts.{is_row, found_then, holds, holds_any}
 use Rattle.esc_desk.specs.Stands.{with_some, rows_of, rows_by, body_by}
 use Rattle.esc_desk.proofs.Searches.{find_some, find_none, find-front, find-back}
 

@@ -14,8 +14,8 @@ use Rattle.esc_desk.specs.ArrivalValue.{ArrivalValue}
 use Rattle.esc_desk.specs.Events.{EventValue, Coming, union, coming, comings}
 use Rattle.esc_desk.specs.Events.EventValue.{arrived}
 use Rattle.esc_desk.specs.Finding.{finding, held_row}
-use Rattle.esc_desk.specs.Receipts.{is_row, found_then, holds, alike, distinct, receipt_for, receipts_after, receipts_of, reply_to}
-use Rattle.esc_desk.specs.Stands.{deposits_of, rows_by, body_by, held_rows, held_body, StandsFor}
+use Rattle.esc_desk.specs.Receipts.{is_row, holds, alike, distinct, receipt_for, receipts_after, receipts_of, reply_to}
+use Rattle.esc_desk.specs.Stands.{deposits_of, rows_by, body_by, held_rows, StandsFor}
 use Rattle.esc_desk.proofs.EventLemmas.{union-arrived, comings-arrived}
 use Rattle.esc_desk.proofs.Searches.{none_alike, some_alike, alike-last}
 use Rattle.esc_desk.proofs.Distinct.{alike_laws, any_alike, distinct-push, receipts-push, kept_any}

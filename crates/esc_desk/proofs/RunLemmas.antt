@@ -15,7 +15,7 @@ use Rattle.esc_desk.specs.Events.{EventValue, Coming, union, coming, comings}
 use Rattle.esc_desk.specs.Events.EventValue.{arrived}
 use Rattle.esc_desk.specs.Receipts.{alike, distinct, receipt_for, receipts_after, receipts_of, reply_to}
 use Rattle.esc_desk.specs.Running.{AreReplies, answered, Ran, Takes}
-use Rattle.esc_desk.specs.Serving.{DeskServes}
+use Rattle.esc_desk.specs.Serving.{DeskServes, Answers}
 use Rattle.esc_desk.proofs.EventLemmas.{union-arrived, comings-arrived}
 use Rattle.esc_desk.proofs.Searches.{alike-front}
 use Rattle.esc_desk.proofs.Distinct.{distinct-push, receipts-push}
@@ -91,6 +91,10 @@ module _ {S : Type 0} (g : Ghosts S) where
         serves = subst (λ (k : List EventValue). DeskServes g new k) (sym all) (step e ran.serves);
         replies = subst (λ (k : List EventValue). AreReplies k (xs ++ a ∷ []) (os ++ Lost f ∷ [])) (sym all) (replies_lost e a f xs os ran.replies);
       }
+
+  -- an answer to an arrival is one to the same arrival
+  pub answers_same : (desk : Desk S) (e : List EventValue) (a b : ArrivalValue) (r : ReplyValue) → a ≡ b → Answers g desk e a r → Answers g desk e b r
+  answers_same desk e a b r same told = subst (λ (x : ArrivalValue). Answers g desk e x r) same told
 
   -- before the first arrival
   pub ran_none : (desk : Desk S) (before : List EventValue) → DeskServes g desk before → Ran g desk before [] []

@@ -10,6 +10,7 @@ use Rattle.esc_store.specs.declared.change.Change.{Change}
 use Rattle.esc_store.specs.Kept.{AreHeld}
 use Rattle.esc_store.specs.Standing.{IsHonest, IsAsBefore, GoesOn}
 use Rattle.esc_desk.specs.declared.desk.Desk.{Desk}
+use Rattle.esc_desk.specs.Calls.{Stays}
 use Rattle.esc_desk.specs.Events.{EventValue}
 use Rattle.esc_desk.specs.Stands.{held_body}
 use Rattle.esc_desk.specs.Serving.{DeskServes}
@@ -35,6 +36,10 @@ still_serves g old new same known e served =
       serves = record { kept = serves.kept; stands = same.stands serves.kept serves.stands; stands_for = serves.stands_for };
       remembers = subst (λ rows. IfSome rows (λ held. AreHeld (held_body sha256 reading e) held.items)) (sym known) served.remembers;
     }
+
+-- the same in one word
+pub still_stays : {S : Type 0} (g : Ghosts S) (old new : Desk S) → IsAsBefore g old.store new.store → new.known ≡ old.known → Stays g old new
+still_stays g old new same known = record { same = same; serves = still_serves g old new same known }
 
 -- a change goes on, and then goes on again
 pub goes_then : {S : Type 0} (g : Ghosts S) (a b c : Change S) → GoesOn g a b → GoesOn g b c → GoesOn g a c

@@ -27,7 +27,7 @@ use Rattle.esc_desk.specs.declared.finding.Finding.{Finding}
 use Rattle.esc_desk.specs.declared.finding.Finding.TheVariants.{Holding}
 use Rattle.esc_desk.specs.declared.plan.Plan.{Plan}
 use Rattle.esc_desk.specs.ArrivalValue.{ArrivalValue}
-use Rattle.esc_desk.specs.Events.{EventValue, union, coming, comings}
+use Rattle.esc_desk.specs.Events.{EventValue, union}
 use Rattle.esc_desk.specs.Events.EventValue.{arrived}
 use Rattle.esc_desk.specs.Finding.{finding, held_row}
 use Rattle.esc_desk.specs.Receipts.{is_row, is_among, is_old}

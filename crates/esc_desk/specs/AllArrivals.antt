@@ -1,4 +1,5 @@
--- What is held by all arrivals of a list, and not only by the first of each that are alike; and a manifest and its arrivals.
+-- What is held by all arrivals of a list, and not only by the first of each that are alike; and a
+-- manifest and its arrivals.
 use Rattle.std.specs.Prelude.{◌≡◌, ◌↔◌, ◌⊎◌, ℕ, true, List, [], ◌∷◌, map, Some}
 use Rattle.sha2.specs.Sha256.{sha256}
 use Rattle.esc_tables.specs.Reading.{reading}
@@ -19,7 +20,8 @@ Among (b ∷ l) a = (a ≡ b) ⊎ Among l a
 
 -- no two different bodies that arrived have the same digest
 abbrev pub IsApart : List EventValue → Type 0
-IsApart e = (a b : ArrivalValue) → Among (arrivals e) a → Among (arrivals e) b → sha256 a.body ≡ sha256 b.body
+IsApart e = (a b : ArrivalValue) → Among (arrivals e) a → Among (arrivals e) b
+    → sha256 a.body ≡ sha256 b.body
     → a.body ≡ b.body
 
 -- no row was listed between two arrivals
@@ -40,14 +42,16 @@ RowsAreOfAll = OfAll (λ e. held_rows sha256 reading e ≡ all_held e)
 
 -- the body of a held row is that of every arrival that holds it
 abbrev pub BodiesAreOfAll : Type 0
-BodiesAreOfAll = OfAll (λ e. (c : Coming) (r : ℕ) → Among (comings e) c → holds sha256 reading r c ≡ true
+BodiesAreOfAll = OfAll (λ e. (c : Coming) (r : ℕ) → Among (comings e) c
+    → holds sha256 reading r c ≡ true
     → held_body sha256 reading e r ≡ Some c.body)
 
--- the steps are the latest chain of the rows that any arrival holds, and the tables are those of its deposits, by the
--- bodies that arrived
+-- the steps are the latest chain of the rows that any arrival holds, and the tables are those of
+-- its deposits, by the bodies that arrived
 pub record HoldsTablesOf (e : List EventValue) (k : Kept) : Type 0 where
   pub latest : IsLatestChain (union e) (all_held e) k.steps
-  pub content : k.registry.content ≡ tables (deposits_of reading (held_body sha256 reading e) k.steps)
+  pub content : k.registry.content
+      ≡ tables (deposits_of reading (held_body sha256 reading e) k.steps)
 
 -- a store that stands for a list of events has those tables
 abbrev pub TablesAreOfAll : Type 0
@@ -59,8 +63,9 @@ TablesAreOfAll = OfAll (λ e. (k : Kept) → StandsFor sha256 reading e k → Ho
 abbrev pub distinct_of : List MRow → List ArrivalValue → List Coming
 distinct_of m l = distinct sha256 reading (map (coming m) l)
 
--- what a store holds that stands for a manifest and a list of arrivals: the manifest's rows, the receipts and bodies that
--- the arrivals leave, the rows of the latest chain of the held deposits, and that chain's tables and before-images
+-- what a store holds that stands for a manifest and a list of arrivals: the manifest's rows, the
+-- receipts and bodies that the arrivals leave, the rows of the latest chain of the held deposits,
+-- and that chain's tables and before-images
 pub record StandsForArrivals (m : List MRow) (l : List ArrivalValue) (k : Kept) : Type 0 where
   pub listed : k.listed ≡ m
   pub receipts : k.receipts ≡ receipts_after sha256 reading [] (distinct_of m l)

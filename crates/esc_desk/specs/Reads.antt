@@ -58,7 +58,7 @@ module _ (e : List EventValue) where
     pub latest : IsChainOf chain
     pub says : IsEndAt (last chain) end
 
-  -- the numbers are those of the listed rows, the held rows, the receipts, the latest chain and its tables
+  -- the numbers are those of the listed and the held rows, the receipts, the chain and its tables
   pub record IsStatus (status : Status) : Type 0 where
     pub rows : List ℕ
     pub are_held : AreHeld (held_body sha256 reading e) rows
@@ -68,5 +68,6 @@ module _ (e : List EventValue) where
     pub held_count : status.held ≡ length rows
     pub receipt_count : status.receipts ≡ length (receipts_of sha256 reading e)
     pub step_count : status.chain ≡ length chain
-    pub end_is : status.end ≡ option_map (λ (s : Step). (s.place, s.resend)) (last (map (step_at (union e)) chain))
+    pub end_is : status.end
+        ≡ option_map (λ (s : Step). (s.place, s.resend)) (last (map (step_at (union e)) chain))
     pub objects_are : AreCounts (tables_of chain) status.objects.entries

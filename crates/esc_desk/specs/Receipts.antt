@@ -1,4 +1,5 @@
--- Distinct arrivals, and the receipts and replies that a list of events leaves (this project's profile).
+-- Distinct arrivals, and the receipts and replies that a list of events leaves (this project's
+-- profile).
 use Rattle.std.specs.Prelude.{ℕ, Bool, true, false, ◌&&◌, ◌==◌, nat_eq, if◌then◌else◌, List, [], ◌∷◌, ◌++◌, Option, Some, None, Result}
 use Rattle.std.specs.List.{list_any}
 use Rattle.std.specs.Str.{bytes_eq}
@@ -91,7 +92,8 @@ module _ (digest : List ℕ → List ℕ) (reads : List ℕ → Result DepositVa
   -- the receipt of an arrival, where `before` are the distinct arrivals before it
   abbrev pub receipt_for : List Coming → Coming → ReceiptValue
   receipt_for before c =
-      receipt_by c.number (digest c.body) (found_then c) (holds_any before (held_row (found_then c)))
+      let again = holds_any before (held_row (found_then c)) in
+      receipt_by c.number (digest c.body) (found_then c) again
 
   -- the receipts of distinct arrivals, where `before` stood before them
   abbrev pub receipts_after : List Coming → List Coming → List ReceiptValue

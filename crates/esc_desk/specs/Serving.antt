@@ -21,14 +21,16 @@ pub record Serves {S : Type 0} (g : Ghosts S) (store : Store S) (e : List EventV
   pub stands : Stands g store kept
   pub stands_for : StandsFor sha256 reading e kept
 
--- a desk's store stands for this list of events, and the rows that the desk remembers, if any, are those
--- of which a body is held then
-pub record DeskServes {S : Type 0} (g : Ghosts S) (desk : Desk S) (e : List EventValue) : Type 0 where
+-- a desk's store stands for this list of events, and the rows that the desk remembers, if any, are
+-- those of which a body is held then
+pub record DeskServes {S : Type 0} (g : Ghosts S) (desk : Desk S)
+    (e : List EventValue) : Type 0 where
   pub serves : Serves g desk.store e
   pub remembers : IfSome desk.known (λ rows. AreHeld (held_body sha256 reading e) rows.items)
 
 -- after an arrival that was answered the desk serves the list with it, and the answer is its reply
-pub record Answers {S : Type 0} (g : Ghosts S) (desk : Desk S) (e : List EventValue) (a : ArrivalValue) (reply : ReplyValue) : Type 0 where
+pub record Answers {S : Type 0} (g : Ghosts S) (desk : Desk S) (e : List EventValue)
+    (a : ArrivalValue) (reply : ReplyValue) : Type 0 where
   pub serves : DeskServes g desk (e ++ arrived a ∷ [])
   pub told : reply_to sha256 reading (e ++ arrived a ∷ []) a ≡ Some reply
 

@@ -13,7 +13,13 @@ use Rattle.esc_desk.specs.Receipts.{distinct, found_then, holds, receipts_of}
 
 -- stands where no body reads: a held body always reads
 abbrev pub no_deposit : DepositValue
-no_deposit = record { header = no_row.header; counts = []; deletes = []; contents = []; orphans = 0 }
+no_deposit = record {
+  header = no_row.header;
+  counts = [];
+  deletes = [];
+  contents = [];
+  orphans = 0;
+}
 
 abbrev pub or_no_deposit : Result DepositValue ℕ → DepositValue
 or_no_deposit (Ok d) = d
@@ -25,7 +31,8 @@ deposit_of reads None = no_deposit
 deposit_of reads (Some body) = or_no_deposit (reads body)
 
 -- the deposits of rows, by the bodies that are held
-abbrev pub deposits_of : (List ℕ → Result DepositValue ℕ) → (ℕ → Option (List ℕ)) → List ℕ → List DepositValue
+abbrev pub deposits_of : (List ℕ → Result DepositValue ℕ) → (ℕ → Option (List ℕ)) → List ℕ
+    → List DepositValue
 deposits_of reads bodies rows = map (λ r. deposit_of reads (bodies r)) rows
 
 abbrev pub with_some : Option ℕ → List ℕ → List ℕ
@@ -54,8 +61,8 @@ module _ (digest : List ℕ → List ℕ) (reads : List ℕ → Result DepositVa
   abbrev pub held_body : List EventValue → ℕ → Option (List ℕ)
   held_body e = body_by (distinct digest reads (comings e))
 
-  -- the store holds the rows that are listed, the receipts and bodies that the arrivals leave, the rows of the latest
-  -- chain of the held deposits, and that chain's tables and before-images
+  -- the store holds the rows that are listed, the receipts and bodies that the arrivals leave, the
+  -- rows of the latest chain of the held deposits, and that chain's tables and before-images
   pub record StandsFor (e : List EventValue) (k : Kept) : Type 0 where
     pub listed : k.listed ≡ union e
     pub receipts : k.receipts ≡ receipts_of digest reads e

@@ -19,8 +19,8 @@ use Rattle.esc_desk.specs.Stands.{deposits_of, held_rows, held_body}
 use Rattle.esc_desk.specs.Serving.{Serves, Answers, no_work}
 use Rattle.esc_desk.specs.Crashes.{LeavesOnlyFor}
 
--- the cost of going from the chain of these rows after the events e to the chain of those after f, by the bodies that
--- are held then
+-- the cost of going from the chain of these rows after the events e to the chain of those after f,
+-- by the bodies that are held then
 abbrev pub chain_cost : List EventValue → List EventValue → List ℕ → List ℕ → Work
 chain_cost e f before after =
     let old = map (step_at (union e)) before in
@@ -30,7 +30,7 @@ chain_cost e f before after =
     (deposits_of reading (held_body sha256 reading f) past)
 
 module _ (e : List EventValue) (x : EventValue) where
-  -- the work is the cost of going from the latest chain before the event to the latest chain with it
+  -- the work is the cost of going from the latest chain before the event to that with it
   pub record IsWorkOf (work : Work) : Type 0 where
     pub before : List ℕ
     pub after : List ℕ
@@ -42,23 +42,29 @@ module _ (e : List EventValue) (x : EventValue) where
   abbrev pub AddsNoRow : Type 0
   AddsNoRow = held_rows sha256 reading (e ++ x ∷ []) ≡ held_rows sha256 reading e
 
--- a store stands for the events with this arrival, also after a crash, these rows are held then, and this was its work
-pub record IsKept {S : Type 0} (g : Ghosts S) (store : Store S) (e : List EventValue) (a : ArrivalValue)
+-- a store stands for the events with this arrival, also after a crash, these rows are held then,
+-- and this was its work
+pub record IsKept {S : Type 0} (g : Ghosts S) (store : Store S) (e : List EventValue)
+    (a : ArrivalValue)
     (rows : List ℕ) (work : Work) : Type 0 where
   pub serves : Serves g store (e ++ arrived a ∷ [])
   pub held : AreHeld (held_body sha256 reading (e ++ arrived a ∷ [])) rows
   pub works : IsWorkOf e (arrived a) work
   pub left : LeavesOnlyFor g store.conn (e ++ arrived a ∷ [])
 
--- an arrival like none before it was taken into a store with this reply and this work, and these rows are held then
-pub record IsTaken {S : Type 0} (g : Ghosts S) (store : Store S) (e : List EventValue) (a : ArrivalValue)
+-- an arrival like none before it was taken into a store with this reply and this work, and these
+-- rows are held then
+pub record IsTaken {S : Type 0} (g : Ghosts S) (store : Store S) (e : List EventValue)
+    (a : ArrivalValue)
     (rows : List ℕ) (reply : ReplyValue) (work : Work) : Type 0 where
   pub kept : IsKept g store e a rows work
   pub told : reply_to sha256 reading (e ++ arrived a ∷ []) a ≡ Some reply
   pub idle : AddsNoRow e (arrived a) → work ≡ no_work
 
--- an arrival like none before it was taken in by a desk with this reply and this work, and a crash leaves it taken in
-pub record IsTakenIn {S : Type 0} (g : Ghosts S) (desk : Desk S) (e : List EventValue) (a : ArrivalValue)
+-- an arrival like none before it was taken in by a desk with this reply and this work, and a crash
+-- leaves it taken in
+pub record IsTakenIn {S : Type 0} (g : Ghosts S) (desk : Desk S) (e : List EventValue)
+    (a : ArrivalValue)
     (reply : ReplyValue) (work : Work) : Type 0 where
   pub answers : Answers g desk e a reply
   pub works : IsWorkOf e (arrived a) work

@@ -42,9 +42,11 @@ pub fn held_as_arrived()
 /// The definitions at some lists of arrivals: a repeat has the first reply, the same body under another number is held
 /// again, and another body under the same number has a receipt of its own.
 pub fn worked_replies()
-    ensures distinct_ones { distinct itself reads_full (comings (listed_then (full_1 ∷ full_1 ∷ other_1 ∷ full_1 ∷ full_9 ∷ [])))
+    ensures distinct_ones { distinct itself reads_full
+        (comings (listed_then (full_1 ∷ full_1 ∷ other_1 ∷ full_1 ∷ full_9 ∷ [])))
         ≡ map came (full_1 ∷ other_1 ∷ full_9 ∷ []) }
-    ensures repeated { reply_to itself reads_full (listed_then (full_1 ∷ other_1 ∷ full_1 ∷ [])) full_1
+    ensures repeated { reply_to itself reads_full
+        (listed_then (full_1 ∷ other_1 ∷ full_1 ∷ [])) full_1
         ≡ Some (held_reply 1 (codes "1") false) }
     ensures again { reply_to itself reads_full (listed_then (full_1 ∷ full_9 ∷ [])) full_9
         ≡ Some (held_reply 2 (codes "9") true) }

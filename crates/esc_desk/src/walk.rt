@@ -3,12 +3,10 @@
 ghost use Rattle.std.specs.Prelude.{◌≡◌, ◌<◌, ◌++◌, ◌∷◌, [], List, Some, None, is_some, IfOk, OnOk};
 ghost use Rattle.std.specs.Vec.Iter.{into_iter_items, into_iter_len};
 ghost use Rattle.std.specs.Borrow.{sem, RestsIfErr};
-ghost use Rattle.esc_apply.specs.Objects.{Entry, InOrder};
+ghost use Rattle.esc_apply.specs.Objects.{Entry};
 ghost use Rattle.esc_store.specs.Standing.{IsHonest, IsAsBefore};
-ghost use Rattle.esc_desk.specs.Events.{EventValue};
-ghost use Rattle.esc_desk.specs.Reads.{AreTables};
 ghost use Rattle.esc_desk.specs.Places.{first_kind, later_kind, kinds_left, IsPlaceBehind};
-ghost use Rattle.esc_desk.specs.Serving.{Serves, DeskServes};
+ghost use Rattle.esc_desk.specs.Calls.{Over, OkOver, Rests};
 
 use crate::desk::Desk;
 use esc_apply::Objects;
@@ -44,29 +42,29 @@ pub struct Walk<'a, S: Alter, P = Pages> {
 
 impl<S: Alter> Desk<S> {
     ghost use Rattle.esc_desk.specs.contracts.desk.Desk.{the_row};
-    ghost use Rattle.esc_desk.specs.Walking.{of_kinds, AreToCome, Lists};
+    ghost use Rattle.esc_desk.specs.Walking.{AreToCome, ListsPages, ListsTables, desk_of};
 
     /// The objects of the latest chain's tables, those of one kind or of all, one at a time by key. No more than a page
     /// of them is held in memory. `S1`, `S2`.
     pub fn walk(&mut self, alloc: Global, kind: Option<Kind>) -> Result<Walk<'_, S>, SFault>
-        ensures* refused { sem 𝓛 (RestsIfErr (the_row S.row S.Store) self.entry (λ walk. walk.desk.ghost_name) result (λ last. IsAsBefore S.Store self.old.store last.store × (last.known ≡ self.old.known) × ((e : List EventValue) → DeskServes S.Store self.old e → DeskServes S.Store last e))) }
-        ensures same_reference { IfOk result (λ walk. walk.desk.ghost_name ≡ self.entry.ghost_name) }
-        ensures same { IfOk result (λ walk. IsAsBefore S.Store self.old.store walk.desk.now.store) }
-        ensures known { IfOk result (λ walk. walk.desk.now.known ≡ self.old.known) }
-        ensures serves { IfOk result (λ walk. (e : List EventValue) → DeskServes S.Store self.old e → DeskServes S.Store walk.desk.now e) }
-        ensures lists { IfOk result (λ walk. IsHonest S.Store walk.desk.now.store → (e : List EventValue) → Serves S.Store self.old.store e → (es : List Entry) → AreTables e es → InOrder es → Lists S.Store walk (of_kinds kind es)) }
+        ensures* refused { sem 𝓛 (RestsIfErr (the_row S.row S.Store) self.entry
+            (λ walk. walk.desk.ghost_name) result (Rests S.Store self.old)) }
+        ensures same_reference { IfOk result (λ walk. walk.desk.ghost_name
+            ≡ self.entry.ghost_name) }
+        ensures rests { IfOk result (λ walk. Rests S.Store self.old (desk_of walk)) }
+        ensures lists { IfOk result (λ walk. Over S.Store self.old (desk_of walk)
+            (λ e. ListsTables S.Store walk kind e)) }
     {
         let pages = self.first_page(alloc, kind)?;
         Ok(Walk { desk: self, pages })
     }
 
     // The first page of a walk.
-    #[tactic(auto, using(crate::proofs::StoreFacts::still_serves))]
+    #[tactic(auto, using(crate::proofs::StoreFacts::still_stays))]
     fn first_page(&mut self, alloc: Global, kind: Option<Kind>) -> Result<Pages, SFault>
-        ensures same { IsAsBefore S.Store self.old.store self.new.store }
-        ensures known { self.new.known ≡ self.old.known }
-        ensures serves { (e : List EventValue) → DeskServes S.Store self.old e → DeskServes S.Store self.new e }
-        ensures lists { IfOk result (λ pages. IsHonest S.Store self.new.store → (e : List EventValue) → Serves S.Store self.old.store e → (es : List Entry) → AreTables e es → InOrder es → AreToCome S.Store self.new.store pages (of_kinds kind es)) }
+        ensures rests { Rests S.Store self.old self.new }
+        ensures lists { OkOver S.Store self.old self.new result
+            (λ e pages. ListsPages S.Store self.new.store pages kind e) }
     {
         latest_chain_is_one();
         let _rows = self.store.manifest().rows();
@@ -81,7 +79,9 @@ impl<S: Alter> Desk<S> {
         ensures known { self.new.known ≡ self.old.known }
         ensures left { pages.new.left ≡ pages.old.left }
         ensures failed { pages.new.has_failed ≡ pages.old.has_failed }
-        ensures kept { OnOk result (IsHonest S.Store self.new.store → (es : List Entry) → AreToCome S.Store self.old.store pages.old es → AreToCome S.Store self.new.store pages.new es) }
+        ensures kept { OnOk result (IsHonest S.Store self.new.store → (es : List Entry)
+            → AreToCome S.Store self.old.store pages.old es
+            → AreToCome S.Store self.new.store pages.new es) }
         ensures full { OnOk result (into_iter_len pages.new.page ≡ 0 → pages.new.kind ≡ None) }
     {
         while pages.page.len() == 0 {
@@ -99,8 +99,12 @@ impl<S: Alter> Desk<S> {
         ensures known { self.new.known ≡ self.old.known }
         ensures left { pages.new.left ≡ pages.old.left }
         ensures failed { pages.new.has_failed ≡ pages.old.has_failed }
-        ensures kept { OnOk result (IsHonest S.Store self.new.store → pages.old.kind ≡ Some kind → into_iter_len pages.old.page ≡ 0 → (es : List Entry) → AreToCome S.Store self.old.store pages.old es → AreToCome S.Store self.new.store pages.new es) }
-        ensures nearer { OnOk result (into_iter_len pages.new.page ≡ 0 → kinds_left pages.new.kind < kinds_left (Some kind)) }
+        ensures kept { OnOk result (IsHonest S.Store self.new.store → pages.old.kind ≡ Some kind
+            → into_iter_len pages.old.page ≡ 0 → (es : List Entry)
+            → AreToCome S.Store self.old.store pages.old es
+            → AreToCome S.Store self.new.store pages.new es) }
+        ensures nearer { OnOk result (into_iter_len pages.new.page ≡ 0
+            → kinds_left pages.new.kind < kinds_left (Some kind)) }
     {
         let page = self
             .store

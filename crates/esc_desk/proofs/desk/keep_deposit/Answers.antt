@@ -6,7 +6,7 @@ use Rattle.esc_manifest.specs.Accepted.{IsAccepted}
 use Rattle.esc_store.specs.Kept.{Kept, with_registry}
 use Rattle.esc_store.specs.Standing.{Stands}
 use Rattle.esc_desk.specs.ArrivalValue.{ArrivalValue}
-use Rattle.esc_desk.specs.Events.{EventValue, union}
+use Rattle.esc_desk.specs.Events.{union}
 use Rattle.esc_desk.specs.Events.EventValue.{arrived}
 use Rattle.esc_desk.specs.Stands.{deposits_of}
 use Rattle.esc_desk.specs.Plans.{IsPlanned}

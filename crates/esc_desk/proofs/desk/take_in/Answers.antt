@@ -4,7 +4,7 @@ use Rattle.esc_tables.specs.Reading.{reading}
 use Rattle.esc_manifest.specs.declared.row.MRow.{MRow}
 use Rattle.esc_store.specs.ReplyValue.{ReceiptValue, reply_kept, reply_alike}
 use Rattle.esc_desk.specs.ArrivalValue.{ArrivalValue}
-use Rattle.esc_desk.specs.Events.{EventValue, union}
+use Rattle.esc_desk.specs.Events.{union}
 use Rattle.esc_desk.specs.Finding.{finding, held_row}
 use Rattle.esc_desk.specs.Receipts.{is_among, receipt_by}
 use Rattle.esc_desk.specs.Taking.{IsNew}

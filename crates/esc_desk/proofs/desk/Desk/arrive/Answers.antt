@@ -1,20 +1,20 @@
 use Rattle.std.proofs.Common.{rules, refl, ◌≡◌, ◌<◌, Some, None, List, [], ◌∷◌, ◌++◌, ℕ, length, sym, ap, ap₂, subst, ◌∙◌}
 use Rattle.std.proofs.lemmas.Option.{IfSome_then}
-use Rattle.std.proofs.lemmas.Result.{IfOk-weaker, on_ok_weaker}
+use Rattle.std.proofs.lemmas.Result.{IfOk-weaker}
 use Rattle.sha2.specs.Sha256.{sha256}
 use Rattle.esc_tables.specs.Reading.{reading}
 use Rattle.esc_manifest.specs.declared.row.MRow.{MRow}
 use Rattle.esc_store.specs.ReplyValue.{ReceiptValue, reply_alike}
 use Rattle.esc_store.specs.Standing.{IsHonest}
 use Rattle.esc_desk.specs.ArrivalValue.{ArrivalValue}
-use Rattle.esc_desk.specs.Events.{EventValue, union}
+use Rattle.esc_desk.specs.Events.{union}
 use Rattle.esc_desk.specs.Events.EventValue.{arrived}
 use Rattle.esc_desk.specs.Stands.{held_body}
 use Rattle.esc_desk.proofs.OneArrival.{repeated, repeated_reply}
 use Rattle.esc_desk.proofs.Remembering.{held_by}
 use Rattle.esc_desk.proofs.Searches.{same_answer, no_answer}
 use Rattle.esc_desk.proofs.Working.{chain_stays}
-use Rattle.esc_desk.proofs.CrashLemmas.{adds_then, leaves_kept, leaves_early, leaves_taken, if_clean, if_then_on}
+use Rattle.esc_desk.proofs.CrashLemmas.{adds_then, leaves_kept, leaves_early, leaves_taken, if_clean, if_then_on, if_ok_each, on_ok_each}
 use Rattle.esc_desk.proofs.desk.Desk.arrive.Goals as goal
 
 pub returns-in-Some-clause-answered : goal.returns-in-Some-clause-answered
@@ -58,12 +58,12 @@ returns-in-None-clause-worked g c = λ clean e served.
     IfOk-weaker c.take_new.result _ _ (λ p taken. taken.works) (c.take_new.ensures.answered clean e serves.kept (c.in_ok-reply.ensures.same.stands serves.kept serves.stands) serves.stands_for (IfSome_then c.args.self.now.known served.remembers (λ rows held. held_by (held_body sha256 reading e) serves.kept.bodies (λ r. sym (serves.stands_for.bodies r)) rows.items held)) none)
 
 pub returns-in-None-clause-idle : goal.returns-in-None-clause-idle
-returns-in-None-clause-idle g c = λ clean e served same.
+returns-in-None-clause-idle g c = λ clean e served.
     let serves = served.serves in
     let honest = c.take_new.ensures.honest clean in
     let none : reply_alike (union e) 1 c.args.number.now c.digest-digest.result serves.kept.receipts ≡ None =
     sym (c.in_ok-reply.ensures.found honest serves.kept serves.stands ∙ ap (λ (x : List MRow). reply_alike x 1 c.args.number.now c.digest-digest.result serves.kept.receipts) serves.stands_for.listed) ∙ c.in-None.is in
-    IfOk-weaker c.take_new.result _ _ (λ p taken. taken.idle same) (c.take_new.ensures.answered clean e serves.kept (c.in_ok-reply.ensures.same.stands serves.kept serves.stands) serves.stands_for (IfSome_then c.args.self.now.known served.remembers (λ rows held. held_by (held_body sha256 reading e) serves.kept.bodies (λ r. sym (serves.stands_for.bodies r)) rows.items held)) none)
+    IfOk-weaker c.take_new.result _ _ (λ p taken. taken.idle) (c.take_new.ensures.answered clean e serves.kept (c.in_ok-reply.ensures.same.stands serves.kept serves.stands) serves.stands_for (IfSome_then c.args.self.now.known served.remembers (λ rows held. held_by (held_body sha256 reading e) serves.kept.bodies (λ r. sym (serves.stands_for.bodies r)) rows.items held)) none)
 
 pub returns-in-Some-clause-repeated : goal.returns-in-Some-clause-repeated
 returns-in-Some-clause-repeated g c = λ clean e served r told.
@@ -75,14 +75,14 @@ returns-in-Some-clause-repeated g c = λ clean e served r told.
     (same_answer (sym there ∙ ap (reply_alike (union e) 1 number (sha256 c.args.body.now)) stood.receipts ∙ told), refl)
 
 pub returns-in-None-clause-repeated : goal.returns-in-None-clause-repeated
-returns-in-None-clause-repeated g c = λ clean e served r told.
+returns-in-None-clause-repeated g c = λ clean e served.
     let serves = served.serves in
     let stood = serves.stands_for in
     let number = c.args.number.now in
     let honest = c.take_new.ensures.honest clean in
     let none : reply_alike (union e) 1 number (sha256 c.args.body.now) serves.kept.receipts ≡ None =
     sym (c.in_ok-reply.ensures.found honest serves.kept serves.stands ∙ ap₂ (λ (x : List MRow) (d : List ℕ). reply_alike x 1 number d serves.kept.receipts) stood.listed c.digest-digest.ensures) ∙ c.in-None.is in
-    absurd (no_answer (sym none ∙ ap (reply_alike (union e) 1 number (sha256 c.args.body.now)) stood.receipts ∙ told))
+    if_ok_each c.take_new.result _ (λ p r told. absurd (no_answer (sym none ∙ ap (reply_alike (union e) 1 number (sha256 c.args.body.now)) stood.receipts ∙ told)))
 
 pub returns-in-Some-clause-room : goal.returns-in-Some-clause-room
 returns-in-Some-clause-room g c = λ clean e served none.
@@ -95,10 +95,10 @@ returns-in-Some-clause-room g c = λ clean e served none.
     absurd (no_answer (sym none ∙ ap (reply_alike (union e) 1 number digest) (sym stood.receipts) ∙ there))
 
 pub returns-in-None-clause-room : goal.returns-in-None-clause-room
-returns-in-None-clause-room g c = λ clean e served none.
+returns-in-None-clause-room g c = λ clean e served.
     let serves = served.serves in
     let few = c.take_new.ensures.room clean serves.kept (c.in_ok-reply.ensures.same.stands serves.kept serves.stands) in
-    on_ok_weaker c.take_new.result (λ room. subst (λ (rs : List ReceiptValue). length rs < 1_000_000_000) serves.stands_for.receipts room) few
+    on_ok_each c.take_new.result _ _ (λ room p none. subst (λ (rs : List ReceiptValue). length rs < 1_000_000_000) serves.stands_for.receipts room) few
 
 pub returns-in_err-reply-clause-crash : goal.returns-in_err-reply-clause-crash
 returns-in_err-reply-clause-crash g c = λ e doubtful served left.

@@ -2,7 +2,7 @@ use Rattle.std.proofs.Common.{◌≡◌, subst, ◌∙◌}
 use Rattle.esc_manifest.specs.Accepted.{IsAccepted}
 use Rattle.esc_desk.specs.Walking.{of_kinds}
 use Rattle.esc_desk.proofs.WalkSteps.{begins}
-use Rattle.esc_desk.specs.Events.{EventValue, union}
+use Rattle.esc_desk.specs.Events.{union}
 use Rattle.esc_desk.proofs.desk.Desk.first_page.Goals as goal
 
 pub returns-clause-lists : goal.returns-clause-lists

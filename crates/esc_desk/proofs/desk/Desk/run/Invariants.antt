@@ -1,7 +1,5 @@
 use Rattle.std.proofs.Common.{◌≡◌, ◌≤◌, ◌++◌, List, length, take, vec_capacity}
-use Rattle.esc_manifest.specs.declared.row.MRow.{MRow}
 use Rattle.esc_store.specs.Standing.{IsHonest}
-use Rattle.esc_desk.specs.ArrivalValue.{ArrivalValue}
 use Rattle.esc_desk.specs.Events.{EventValue}
 use Rattle.esc_desk.specs.Running.{Ran, answered}
 use Rattle.esc_desk.specs.Crashes.{CrashLeaves, doubtful_after}
