@@ -1,15 +1,13 @@
 -- The rows that receipts hold are those of which a body is held.
-use Rattle.std.proofs.Common.{◌≡◌, ◌⊎◌, inl, inr, ℕ, zero, suc, ◌<◌, Bool, true, false, ◌||◌, List, [], ◌∷◌, ◌++◌, length, Some, IsSome, Result, refl, sym, ap, subst, ◌∙◌, arith, true≢false}
+use Rattle.std.proofs.Common.{◌≡◌, ◌⊎◌, inl, inr, ℕ, zero, suc, Bool, true, false, ◌||◌, List, [], ◌∷◌, ◌++◌, Some, IsSome, Result, refl, sym, ap, subst, ◌∙◌, arith, true≢false}
 use Rattle.std.specs.List.{Any, list_any}
 use Rattle.esc_tables.specs.DepositValue.{DepositValue}
-use Rattle.esc_manifest.specs.declared.row.MRow.{MRow}
 use Rattle.esc_store.specs.Kept.{Kept, AreHeld, AreHeldBy, SaysHeld}
 use Rattle.esc_store.specs.ReplyValue.{ReceiptValue}
 use Rattle.esc_desk.specs.declared.finding.Finding.{Finding}
 use Rattle.esc_desk.specs.declared.finding.Finding.TheVariants.{Unlisted, Unreadable, Differing, Holding}
-use Rattle.esc_desk.specs.ArrivalValue.{ArrivalValue}
-use Rattle.esc_desk.specs.Finding.{finding}
-use Rattle.esc_desk.specs.Receipts.{receipt_by, holds_row, holds, distinct, receipt_for, receipts_after}
+use Rattle.esc_desk.specs.Events.{EventValue, Coming, comings}
+use Rattle.esc_desk.specs.Receipts.{receipt_by, found_then, holds_row, holds, distinct, receipt_for, receipts_after}
 use Rattle.esc_desk.specs.Stands.{StandsFor}
 use Rattle.esc_desk.proofs.HeldRows.{same_self, same_number}
 use Rattle.esc_desk.proofs.Searches.{same_answer}
@@ -43,33 +41,33 @@ or_true : (b : Bool) → (b || true) ≡ true
 or_true true = refl
 or_true false = refl
 
-module _ (digest : List ℕ → List ℕ) (reads : List ℕ → Result DepositValue ℕ) (m : List MRow) (row : ℕ) where
-  any_holds : (before ds : List ArrivalValue) → Any (SaysHeld row) (receipts_after digest reads m before ds) → list_any (holds digest reads m row) ds ≡ true
+module _ (digest : List ℕ → List ℕ) (reads : List ℕ → Result DepositValue ℕ) (row : ℕ) where
+  any_holds : (before ds : List Coming) → Any (SaysHeld row) (receipts_after digest reads before ds) → list_any (holds digest reads row) ds ≡ true
   any_holds before [] any = absurd (omega (arith, any.2))
-  any_holds before (a ∷ ds) any = by_case (split (SaysHeld row) (receipt_for digest reads m before a) (receipts_after digest reads m (before ++ a ∷ []) ds) any) (any_holds (before ++ a ∷ []) ds)
+  any_holds before (a ∷ ds) any = by_case (split (SaysHeld row) (receipt_for digest reads before a) (receipts_after digest reads (before ++ a ∷ []) ds) any) (any_holds (before ++ a ∷ []) ds)
     where
-      by_case : SaysHeld row (receipt_for digest reads m before a) ⊎ Any (SaysHeld row) (receipts_after digest reads m (before ++ a ∷ []) ds) → (Any (SaysHeld row) (receipts_after digest reads m (before ++ a ∷ []) ds) → list_any (holds digest reads m row) ds ≡ true)
-          → (holds digest reads m row a || list_any (holds digest reads m row) ds) ≡ true
-      by_case (inl says) more = ap (λ b. b || list_any (holds digest reads m row) ds) (holds_from_says row a.number (digest a.body) (finding digest reads m a.body) _ says)
-      by_case (inr behind) more = ap (λ b. holds digest reads m row a || b) (more behind) ∙ or_true (holds digest reads m row a)
+      by_case : SaysHeld row (receipt_for digest reads before a) ⊎ Any (SaysHeld row) (receipts_after digest reads (before ++ a ∷ []) ds) → (Any (SaysHeld row) (receipts_after digest reads (before ++ a ∷ []) ds) → list_any (holds digest reads row) ds ≡ true)
+          → (holds digest reads row a || list_any (holds digest reads row) ds) ≡ true
+      by_case (inl says) more = ap (λ b. b || list_any (holds digest reads row) ds) (holds_from_says row a.number (digest a.body) (found_then digest reads a) _ says)
+      by_case (inr behind) more = ap (λ b. holds digest reads row a || b) (more behind) ∙ or_true (holds digest reads row a)
 
-  any_says : (before ds : List ArrivalValue) → list_any (holds digest reads m row) ds ≡ true → Any (SaysHeld row) (receipts_after digest reads m before ds)
+  any_says : (before ds : List Coming) → list_any (holds digest reads row) ds ≡ true → Any (SaysHeld row) (receipts_after digest reads before ds)
   any_says before [] any = absurd (true≢false (sym any))
-  any_says before (a ∷ ds) any = by_test (holds digest reads m row a) refl any (any_says (before ++ a ∷ []) ds)
+  any_says before (a ∷ ds) any = by_test (holds digest reads row a) refl any (any_says (before ++ a ∷ []) ds)
     where
-      by_test : (b : Bool) → holds digest reads m row a ≡ b → (b || list_any (holds digest reads m row) ds) ≡ true → (list_any (holds digest reads m row) ds ≡ true → Any (SaysHeld row) (receipts_after digest reads m (before ++ a ∷ []) ds))
-          → Any (SaysHeld row) (receipt_for digest reads m before a ∷ receipts_after digest reads m (before ++ a ∷ []) ds)
-      by_test true is any more = (0, receipt_for digest reads m before a, omega arith, refl, says_from_holds row a.number (digest a.body) (finding digest reads m a.body) _ is)
-      by_test false is any more = later (SaysHeld row) (receipt_for digest reads m before a) (receipts_after digest reads m (before ++ a ∷ []) ds) (more any)
+      by_test : (b : Bool) → holds digest reads row a ≡ b → (b || list_any (holds digest reads row) ds) ≡ true → (list_any (holds digest reads row) ds ≡ true → Any (SaysHeld row) (receipts_after digest reads (before ++ a ∷ []) ds))
+          → Any (SaysHeld row) (receipt_for digest reads before a ∷ receipts_after digest reads (before ++ a ∷ []) ds)
+      by_test true is any more = (0, receipt_for digest reads before a, omega arith, refl, says_from_holds row a.number (digest a.body) (found_then digest reads a) _ is)
+      by_test false is any more = later (SaysHeld row) (receipt_for digest reads before a) (receipts_after digest reads (before ++ a ∷ []) ds) (more any)
 
 -- ---- the rows
 
-module _ (digest : List ℕ → List ℕ) (reads : List ℕ → Result DepositValue ℕ) (m : List MRow) (l : List ArrivalValue) (k : Kept) (stood : StandsFor digest reads m l k) where
+module _ (digest : List ℕ → List ℕ) (reads : List ℕ → Result DepositValue ℕ) (e : List EventValue) (k : Kept) (stood : StandsFor digest reads e k) where
   pub held_of_receipts : (rows : List ℕ) → AreHeldBy k.receipts rows → AreHeld k.bodies rows
   held_of_receipts rows by = record { rising = by.rising; each = λ row. (λ there. down row ((by.each row).0 there), λ some. (by.each row).1 (up row some)) }
     where
       down : (row : ℕ) → Any (SaysHeld row) k.receipts → IsSome (k.bodies row)
-      down row any = some_body digest reads m l k stood row (any_holds digest reads m row [] (distinct digest reads m l) (subst (Any (SaysHeld row)) stood.receipts any))
+      down row any = some_body digest reads e k stood row (any_holds digest reads row [] (distinct digest reads (comings e)) (subst (Any (SaysHeld row)) stood.receipts any))
 
       up : (row : ℕ) → IsSome (k.bodies row) → Any (SaysHeld row) k.receipts
-      up row some = subst (Any (SaysHeld row)) (sym stood.receipts) (any_says digest reads m row [] (distinct digest reads m l) (body_some digest reads m l k stood row some))
+      up row some = subst (Any (SaysHeld row)) (sym stood.receipts) (any_says digest reads row [] (distinct digest reads (comings e)) (body_some digest reads e k stood row some))

@@ -7,14 +7,13 @@ use Rattle.std.specs.Cmp.{nat_cmp_total}
 use Rattle.std.specs.FinSet.{nat_cmp-IsAntisymmetric}
 use Rattle.std.proofs.lemmas.Bool.Decides.{nat_tests}
 use Rattle.std.proofs.lemmas.List.Folds.{list_any-append}
-use Rattle.esc_manifest.specs.declared.row.MRow.{MRow}
 use Rattle.esc_tables.specs.DepositValue.{DepositValue}
 use Rattle.esc_chain.specs.Chain.{Rows}
 use Rattle.esc_store.specs.Kept.{body_put}
-use Rattle.esc_desk.specs.ArrivalValue.{ArrivalValue}
-use Rattle.esc_desk.specs.Finding.{finding, held_row}
-use Rattle.esc_desk.specs.Receipts.{is_row, holds, holds_any, distinct}
-use Rattle.esc_desk.specs.Stands.{with_some, rows_of, held_rows, held_body}
+use Rattle.esc_desk.specs.Events.{Coming}
+use Rattle.esc_desk.specs.Finding.{held_row}
+use Rattle.esc_desk.specs.Receipts.{is_row, found_then, holds, holds_any}
+use Rattle.esc_desk.specs.Stands.{with_some, rows_of, rows_by, body_by}
 use Rattle.esc_desk.proofs.Searches.{find_some, find_none, find-front, find-back}
 
 pub same_test : (q r : ℕ) → eq_by_cmp nat_cmp r q ≡ (q == r)
@@ -38,26 +37,26 @@ pub contains-with_row : (h : Rows) (row : Option ℕ) (r : ℕ) → set.contains
 contains-with_row h None r = refl
 contains-with_row h (Some q) r = set.contains-insert nat_cmp_total h q r ∙ ap (λ b. b || set.contains h r) (same_test q r)
 
-module _ (digest : List ℕ → List ℕ) (reads : List ℕ → Result DepositValue ℕ) (m : List MRow) where
-  pub any_row : (l : List ArrivalValue) (r : ℕ) → list_any (λ q. eq_by_cmp nat_cmp r q) (rows_of digest reads m l) ≡ list_any (holds digest reads m r) l
+module _ (digest : List ℕ → List ℕ) (reads : List ℕ → Result DepositValue ℕ) where
+  pub any_row : (l : List Coming) (r : ℕ) → list_any (λ q. eq_by_cmp nat_cmp r q) (rows_of digest reads l) ≡ list_any (holds digest reads r) l
   any_row [] r = refl
-  any_row (a ∷ l) r = one (held_row (finding digest reads m a.body)) ∙ ap (λ b. is_row r (held_row (finding digest reads m a.body)) || b) (any_row l r)
+  any_row (a ∷ l) r = one (held_row (found_then digest reads a)) ∙ ap (λ b. is_row r (held_row (found_then digest reads a)) || b) (any_row l r)
     where
-      one : (row : Option ℕ) → list_any (λ q. eq_by_cmp nat_cmp r q) (with_some row (rows_of digest reads m l)) ≡ (is_row r row || list_any (λ q. eq_by_cmp nat_cmp r q) (rows_of digest reads m l))
+      one : (row : Option ℕ) → list_any (λ q. eq_by_cmp nat_cmp r q) (with_some row (rows_of digest reads l)) ≡ (is_row r row || list_any (λ q. eq_by_cmp nat_cmp r q) (rows_of digest reads l))
       one None = refl
-      one (Some q) = ap (λ b. b || list_any (λ q. eq_by_cmp nat_cmp r q) (rows_of digest reads m l)) (same_test q r)
+      one (Some q) = ap (λ b. b || list_any (λ q. eq_by_cmp nat_cmp r q) (rows_of digest reads l)) (same_test q r)
 
-  -- a row is held exactly if one of the distinct arrivals holds it
-  pub contains_held : (l : List ArrivalValue) (r : ℕ) → set.contains (held_rows digest reads m l) r ≡ list_any (holds digest reads m r) (distinct digest reads m l)
-  contains_held l r = set.contains-from_list nat_cmp_total (rows_of digest reads m (distinct digest reads m l)) r ∙ any_row (distinct digest reads m l) r
+  -- a row is held exactly if one of the arrivals holds it
+  pub contains_held : (l : List Coming) (r : ℕ) → set.contains (rows_by digest reads l) r ≡ list_any (holds digest reads r) l
+  contains_held l r = set.contains-from_list nat_cmp_total (rows_of digest reads l) r ∙ any_row l r
 
-  pub held_any : (l : List ArrivalValue) (row : Option ℕ) → holds_any digest reads m (distinct digest reads m l) row ≡ elim row as (λ _. Bool) [ None ↦ false | Some r ↦ set.contains (held_rows digest reads m l) r ]
+  pub held_any : (l : List Coming) (row : Option ℕ) → holds_any digest reads l row ≡ elim row as (λ _. Bool) [ None ↦ false | Some r ↦ set.contains (rows_by digest reads l) r ]
   held_any l None = refl
   held_any l (Some r) = sym (contains_held l r)
 
-  -- an arrival that is like none before it
-  module _ (l : List ArrivalValue) (a : ArrivalValue) (more : distinct digest reads m (l ++ a ∷ []) ≡ distinct digest reads m l ++ a ∷ []) where
-    pub held_more : held_rows digest reads m (l ++ a ∷ []) ≡ with_row (held_rows digest reads m l) (held_row (finding digest reads m a.body))
+  -- one more arrival
+  module _ (n l : List Coming) (a : Coming) (more : n ≡ l ++ a ∷ []) where
+    pub held_more : rows_by digest reads n ≡ with_row (rows_by digest reads l) (held_row (found_then digest reads a))
     held_more = set.same_set nat_cmp_total nat_cmp-IsAntisymmetric _ _ each
       where
         swap : (x y : Bool) → (y || (x || false)) ≡ (x || y)
@@ -66,46 +65,46 @@ module _ (digest : List ℕ → List ℕ) (reads : List ℕ → Result DepositVa
         swap false true = refl
         swap false false = refl
 
-        each : (r : ℕ) → set.contains (held_rows digest reads m (l ++ a ∷ [])) r ≡ set.contains (with_row (held_rows digest reads m l) (held_row (finding digest reads m a.body))) r
+        each : (r : ℕ) → set.contains (rows_by digest reads n) r ≡ set.contains (with_row (rows_by digest reads l) (held_row (found_then digest reads a))) r
         each r =
-            contains_held (l ++ a ∷ []) r
-            ∙ ap (list_any (holds digest reads m r)) more
-            ∙ list_any-append (holds digest reads m r) (distinct digest reads m l) (a ∷ [])
-            ∙ swap (holds digest reads m r a) (list_any (holds digest reads m r) (distinct digest reads m l))
-            ∙ ap (λ b. holds digest reads m r a || b) (sym (contains_held l r))
-            ∙ sym (contains-with_row (held_rows digest reads m l) (held_row (finding digest reads m a.body)) r)
+            contains_held n r
+            ∙ ap (list_any (holds digest reads r)) more
+            ∙ list_any-append (holds digest reads r) l (a ∷ [])
+            ∙ swap (holds digest reads r a) (list_any (holds digest reads r) l)
+            ∙ ap (λ b. holds digest reads r a || b) (sym (contains_held l r))
+            ∙ sym (contains-with_row (rows_by digest reads l) (held_row (found_then digest reads a)) r)
 
     -- a row whose first holder is not this arrival keeps its body
-    pub body_same : (r : ℕ) → (holds digest reads m r a ≡ true → list_any (holds digest reads m r) (distinct digest reads m l) ≡ true) → held_body digest reads m (l ++ a ∷ []) r ≡ held_body digest reads m l r
-    body_same r old = ap (λ (x : List ArrivalValue). option_map (λ (b : ArrivalValue). b.body) (find (holds digest reads m r) x)) more ∙ ap (option_map (λ (b : ArrivalValue). b.body)) (by_find (find (holds digest reads m r) (distinct digest reads m l)) refl)
+    pub body_same : (r : ℕ) → (holds digest reads r a ≡ true → list_any (holds digest reads r) l ≡ true) → body_by digest reads n r ≡ body_by digest reads l r
+    body_same r old = ap (λ (x : List Coming). option_map (λ (b : Coming). b.body) (find (holds digest reads r) x)) more ∙ ap (option_map (λ (b : Coming). b.body)) (by_find (find (holds digest reads r) l) refl)
       where
-        none_here : (b : Bool) → holds digest reads m r a ≡ b → find (holds digest reads m r) (distinct digest reads m l) ≡ None → cond b (Some a) None ≡ None
-        none_here true is none = absurd (true≢false (sym (old is) ∙ find_none (holds digest reads m r) (distinct digest reads m l) none))
+        none_here : (b : Bool) → holds digest reads r a ≡ b → find (holds digest reads r) l ≡ None → cond b (Some a) None ≡ None
+        none_here true is none = absurd (true≢false (sym (old is) ∙ find_none (holds digest reads r) l none))
         none_here false is none = refl
 
-        by_find : (o : Option ArrivalValue) → find (holds digest reads m r) (distinct digest reads m l) ≡ o → find (holds digest reads m r) (distinct digest reads m l ++ a ∷ []) ≡ find (holds digest reads m r) (distinct digest reads m l)
-        by_find None none = find-back (holds digest reads m r) (distinct digest reads m l) (a ∷ []) none ∙ none_here (holds digest reads m r a) refl none ∙ sym none
-        by_find (Some y) is = find-front (holds digest reads m r) (distinct digest reads m l) (a ∷ []) y is ∙ sym is
+        by_find : (o : Option Coming) → find (holds digest reads r) l ≡ o → find (holds digest reads r) (l ++ a ∷ []) ≡ find (holds digest reads r) l
+        by_find None none = find-back (holds digest reads r) l (a ∷ []) none ∙ none_here (holds digest reads r a) refl none ∙ sym none
+        by_find (Some y) is = find-front (holds digest reads r) l (a ∷ []) y is ∙ sym is
 
     -- a row that this arrival is the first to hold has its body
-    pub body_new : (q : ℕ) → held_row (finding digest reads m a.body) ≡ Some q → list_any (holds digest reads m q) (distinct digest reads m l) ≡ false → (r : ℕ) → held_body digest reads m (l ++ a ∷ []) r ≡ body_put (held_body digest reads m l) q a.body r
+    pub body_new : (q : ℕ) → held_row (found_then digest reads a) ≡ Some q → list_any (holds digest reads q) l ≡ false → (r : ℕ) → body_by digest reads n r ≡ body_put (body_by digest reads l) q a.body r
     body_new q here new r = by_test (r == q) refl
       where
-        first : find (holds digest reads m q) (distinct digest reads m l) ≡ None
-        first = by_find (find (holds digest reads m q) (distinct digest reads m l)) refl
+        first : find (holds digest reads q) l ≡ None
+        first = by_find (find (holds digest reads q) l) refl
           where
-            by_find : (o : Option ArrivalValue) → find (holds digest reads m q) (distinct digest reads m l) ≡ o → o ≡ None
+            by_find : (o : Option Coming) → find (holds digest reads q) l ≡ o → o ≡ None
             by_find None is = refl
-            by_find (Some y) is = absurd (true≢false (sym (find_some (holds digest reads m q) (distinct digest reads m l) y is) ∙ new))
+            by_find (Some y) is = absurd (true≢false (sym (find_some (holds digest reads q) l y is) ∙ new))
 
-        holds_it : holds digest reads m q a ≡ true
+        holds_it : holds digest reads q a ≡ true
         holds_it = ap (is_row q) here ∙ same_self q
 
-        at_row : held_body digest reads m (l ++ a ∷ []) q ≡ Some a.body
+        at_row : body_by digest reads n q ≡ Some a.body
         at_row =
-            ap (λ (x : List ArrivalValue). option_map (λ (b : ArrivalValue). b.body) (find (holds digest reads m q) x)) more
-            ∙ ap (option_map (λ (b : ArrivalValue). b.body)) (find-back (holds digest reads m q) (distinct digest reads m l) (a ∷ []) first ∙ ap (λ b. cond b (Some a) None) holds_it)
+            ap (λ (x : List Coming). option_map (λ (b : Coming). b.body) (find (holds digest reads q) x)) more
+            ∙ ap (option_map (λ (b : Coming). b.body)) (find-back (holds digest reads q) l (a ∷ []) first ∙ ap (λ b. cond b (Some a) None) holds_it)
 
-        by_test : (b : Bool) → (r == q) ≡ b → held_body digest reads m (l ++ a ∷ []) r ≡ cond b (Some a.body) (held_body digest reads m l r)
-        by_test true is = ap (held_body digest reads m (l ++ a ∷ [])) (same_number r q is) ∙ at_row
+        by_test : (b : Bool) → (r == q) ≡ b → body_by digest reads n r ≡ cond b (Some a.body) (body_by digest reads l r)
+        by_test true is = ap (body_by digest reads n) (same_number r q is) ∙ at_row
         by_test false other = body_same r (λ h. absurd (true≢false (sym h ∙ ap (is_row r) here ∙ other_way r q other)))

@@ -22,6 +22,8 @@ use Rattle.esc_desk.specs.declared.finding.Finding.{Finding}
 use Rattle.esc_desk.specs.declared.finding.Finding.TheVariants.{Holding}
 use Rattle.esc_desk.specs.declared.plan.Plan.{Plan}
 use Rattle.esc_desk.specs.ArrivalValue.{ArrivalValue}
+use Rattle.esc_desk.specs.Events.{EventValue, union, coming, comings}
+use Rattle.esc_desk.specs.Events.EventValue.{arrived}
 use Rattle.esc_desk.specs.Finding.{finding, held_row}
 use Rattle.esc_desk.specs.Receipts.{is_among, distinct, receipt_by, receipt_for}
 use Rattle.esc_desk.specs.Stands.{deposit_of, deposits_of, held_rows, StandsFor}
@@ -58,62 +60,62 @@ or_true true = refl
 or_true false = refl
 
 -- ---- the receipt
-pub new_receipt : (m : List MRow) (l : List ArrivalValue) (a : ArrivalValue) (k : Kept) (found : Finding) (rows : List ℕ) (number : ℕ) (receipt : ReceiptValue) → IsNew m l a k found rows number receipt
-    → receipt ≡ receipt_for sha256 reading m (distinct sha256 reading m l) a
-new_receipt m l a k found rows number receipt is =
+pub new_receipt : (e : List EventValue) (a : ArrivalValue) (k : Kept) (found : Finding) (rows : List ℕ) (number : ℕ) (receipt : ReceiptValue) → IsNew e a k found rows number receipt
+    → receipt ≡ receipt_for sha256 reading (distinct sha256 reading (comings e)) (coming (union e) a)
+new_receipt e a k found rows number receipt is =
     is.receipt_is
     ∙ ap (λ (f : Finding). receipt_by a.number (sha256 a.body) f (is_among rows (held_row f))) is.found_is
-    ∙ ap (receipt_by a.number (sha256 a.body) (finding sha256 reading m a.body)) (again_is sha256 reading m l k is.stood rows is.held (held_row (finding sha256 reading m a.body)))
+    ∙ ap (receipt_by a.number (sha256 a.body) (finding sha256 reading (union e) a.body)) (again_is sha256 reading e k is.stood rows is.held (held_row (finding sha256 reading (union e) a.body)))
 
 -- nothing new is held: the receipt alone is new
-pub stands_noted : (m : List MRow) (l : List ArrivalValue) (a : ArrivalValue) (k : Kept) (found : Finding) (rows : List ℕ) (number : ℕ) (receipt : ReceiptValue) → IsNew m l a k found rows number receipt
-    → ((q : ℕ) → held_row found ≡ Some q → is_among rows (Some q) ≡ true) → StandsFor sha256 reading m (l ++ a ∷ []) (with_receipt k receipt)
-stands_noted m l a k found rows number receipt is old =
-    subst (λ (r : ReceiptValue). StandsFor sha256 reading m (l ++ a ∷ []) (with_receipt k r)) (sym (new_receipt m l a k found rows number receipt is))
-    (noted sha256 reading m l k a is.stood is.none (λ q here. sym (among_held sha256 reading m l k is.stood rows is.held q) ∙ old q (ap held_row is.found_is ∙ here)))
+pub stands_noted : (e : List EventValue) (a : ArrivalValue) (k : Kept) (found : Finding) (rows : List ℕ) (number : ℕ) (receipt : ReceiptValue) → IsNew e a k found rows number receipt
+    → ((q : ℕ) → held_row found ≡ Some q → is_among rows (Some q) ≡ true) → StandsFor sha256 reading (e ++ arrived a ∷ []) (with_receipt k receipt)
+stands_noted e a k found rows number receipt is old =
+    subst (λ (r : ReceiptValue). StandsFor sha256 reading (e ++ arrived a ∷ []) (with_receipt k r)) (sym (new_receipt e a k found rows number receipt is))
+    (noted sha256 reading e k a is.stood is.none (λ q here. sym (among_held sha256 reading e k is.stood rows is.held q) ∙ old q (ap held_row is.found_is ∙ here)))
 
 -- ---- a deposit is held
-module _ (law : LatestChainsAreHeldRows) (m : List MRow) (accepted : IsAccepted m) (l : List ArrivalValue) (a : ArrivalValue) (k : Kept) (rows : List ℕ) (number : ℕ) (receipt : ReceiptValue)
-    (row : ℕ) (d : DepositValue) (is : IsNew m l a k (Holding row d) rows number receipt) (new : is_among rows (Some row) ≡ false)
+module _ (law : LatestChainsAreHeldRows) (e : List EventValue) (accepted : IsAccepted (union e)) (a : ArrivalValue) (k : Kept) (rows : List ℕ) (number : ℕ) (receipt : ReceiptValue)
+    (row : ℕ) (d : DepositValue) (is : IsNew e a k (Holding row d) rows number receipt) (new : is_among rows (Some row) ≡ false)
     (plan : Plan) (planned : IsPlanned reading k rows row a.body plan) where
-  at_row : set.contains (held_rows sha256 reading m l) row ≡ false
-  at_row = sym (among_held sha256 reading m l k is.stood rows is.held row) ∙ new
+  at_row : set.contains (held_rows sha256 reading e) row ≡ false
+  at_row = sym (among_held sha256 reading e k is.stood rows is.held row) ∙ new
 
-  held_same : set.from_list rows ≡ held_rows sha256 reading m l
-  held_same = same_rows sha256 reading m l k is.stood rows is.held
+  held_same : set.from_list rows ≡ held_rows sha256 reading e
+  held_same = same_rows sha256 reading e k is.stood rows is.held
 
-  listed : k.listed ≡ m
+  listed : k.listed ≡ union e
   listed = is.stood.listed
 
-  in_range : InRange m (set.insert (held_rows sha256 reading m l) row)
-  in_range = subst (λ (h : Rows). InRange m (set.insert h row)) held_same (subst (λ (x : List MRow). InRange x (with_held rows row)) listed planned.in_range)
+  in_range : InRange (union e) (set.insert (held_rows sha256 reading e) row)
+  in_range = subst (λ (h : Rows). InRange (union e) (set.insert h row)) held_same (subst (λ (x : List MRow). InRange x (with_held rows row)) listed planned.in_range)
 
-  latest : IsLatestChain m (set.insert (held_rows sha256 reading m l) row) (rows_in plan.new.items)
-  latest = subst (λ (h : Rows). IsLatestChain m (set.insert h row) (rows_in plan.new.items)) held_same (subst (λ (x : List MRow). IsLatestChain x (with_held rows row) (rows_in plan.new.items)) listed planned.latest)
+  latest : IsLatestChain (union e) (set.insert (held_rows sha256 reading e) row) (rows_in plan.new.items)
+  latest = subst (λ (h : Rows). IsLatestChain (union e) (set.insert h row) (rows_in plan.new.items)) held_same (subst (λ (x : List MRow). IsLatestChain x (with_held rows row) (rows_in plan.new.items)) listed planned.latest)
 
-  old_rows : AreHeldRows m (held_rows sha256 reading m l) k.steps
-  old_rows = law m (held_rows sha256 reading m l) k.steps accepted held_in_range is.stood.chain
+  old_rows : AreHeldRows (union e) (held_rows sha256 reading e) k.steps
+  old_rows = law (union e) (held_rows sha256 reading e) k.steps accepted held_in_range is.stood.chain
     where
-      held_in_range : InRange m (held_rows sha256 reading m l)
-      held_in_range r there = in_range r (subst IsTrue (sym (set.contains-insert nat_cmp_total (held_rows sha256 reading m l) row r ∙ ap (λ b. eq_by_cmp nat_cmp r row || b) (true_of _ there) ∙ or_true (eq_by_cmp nat_cmp r row))) refl)
+      held_in_range : InRange (union e) (held_rows sha256 reading e)
+      held_in_range r there = in_range r (subst IsTrue (sym (set.contains-insert nat_cmp_total (held_rows sha256 reading e) row r ∙ ap (λ b. eq_by_cmp nat_cmp r row || b) (true_of _ there) ∙ or_true (eq_by_cmp nat_cmp r row))) refl)
 
-  new_rows : AreHeldRows m (set.insert (held_rows sha256 reading m l) row) (rows_in plan.new.items)
-  new_rows = law m (set.insert (held_rows sha256 reading m l) row) (rows_in plan.new.items) accepted in_range latest
+  new_rows : AreHeldRows (union e) (set.insert (held_rows sha256 reading e) row) (rows_in plan.new.items)
+  new_rows = law (union e) (set.insert (held_rows sha256 reading e) row) (rows_in plan.new.items) accepted in_range latest
 
   kept : Each (λ r. deposit_of reading (body_put k.bodies row a.body r) ≡ deposit_of reading (k.bodies r)) k.steps
   kept = each_of (λ r. deposit_of reading (body_put k.bodies row a.body r) ≡ deposit_of reading (k.bodies r)) k.steps (λ i within. one (slice_index k.steps i) (true_of _ (old_rows.held i within)))
     where
-      one : (r : ℕ) → set.contains (held_rows sha256 reading m l) r ≡ true → deposit_of reading (body_put k.bodies row a.body r) ≡ deposit_of reading (k.bodies r)
+      one : (r : ℕ) → set.contains (held_rows sha256 reading e) r ≡ true → deposit_of reading (body_put k.bodies row a.body r) ≡ deposit_of reading (k.bodies r)
       one r there = by_test (r == row) refl
         where
           by_test : (b : Bool) → (r == row) ≡ b → deposit_of reading (cond b (Some a.body) (k.bodies r)) ≡ deposit_of reading (k.bodies r)
-          by_test true same = absurd (true≢false (sym there ∙ ap (set.contains (held_rows sha256 reading m l)) (same_number r row same) ∙ at_row))
+          by_test true same = absurd (true≢false (sym there ∙ ap (set.contains (held_rows sha256 reading e)) (same_number r row same) ∙ at_row))
           by_test false other = refl
 
-  pub old_steps : plan.old.items ≡ map (step_at m) k.steps
+  pub old_steps : plan.old.items ≡ map (step_at (union e)) k.steps
   old_steps = planned.old ∙ ap (λ (x : List MRow). map (step_at x) k.steps) listed
 
-  pub new_steps : plan.new.items ≡ map (step_at m) (rows_in plan.new.items)
+  pub new_steps : plan.new.items ≡ map (step_at (union e)) (rows_in plan.new.items)
   new_steps = planned.new ∙ ap (λ (x : List MRow). map (step_at x) (rows_in plan.new.items)) listed
 
   pub new_deposits : plan.deposits.items ≡ deposits_of reading (body_put k.bodies row a.body) (drop (common_front plan.old.items plan.new.items) (rows_in plan.new.items))
@@ -124,22 +126,22 @@ module _ (law : LatestChainsAreHeldRows) (m : List MRow) (accepted : IsAccepted 
   deposits_are =
       let f = common_front plan.old.items plan.new.items in
       let new = rows_in plan.new.items in
-      let front : f ≡ common_front (map (step_at m) k.steps) (map (step_at m) new) = ap₂ common_front old_steps new_steps in
-      let same : take f k.steps ≡ take f new = subst (λ (n : ℕ). take n k.steps ≡ take n new) (sym front) (same_front m accepted k.steps new (are_of m k.steps (each_of (λ r. r < length m) k.steps old_rows.in_range)) (are_of m new (each_of (λ r. r < length m) new new_rows.in_range))) in
+      let front : f ≡ common_front (map (step_at (union e)) k.steps) (map (step_at (union e)) new) = ap₂ common_front old_steps new_steps in
+      let same : take f k.steps ≡ take f new = subst (λ (n : ℕ). take n k.steps ≡ take n new) (sym front) (same_front (union e) accepted k.steps new (are_of (union e) k.steps (each_of (λ r. r < length (union e)) k.steps old_rows.in_range)) (are_of (union e) new (each_of (λ r. r < length (union e)) new new_rows.in_range))) in
       let g : ℕ → DepositValue = λ r. deposit_of reading (body_put k.bodies row a.body r) in
       let first : take f (deposits_of reading k.bodies k.steps) ≡ map g (take f new) =
       ap (λ (ds : List DepositValue). take f ds) (sym (same_maps g (λ r. deposit_of reading (k.bodies r)) k.steps kept)) ∙ take-map g f k.steps ∙ ap (map g) same in
       ap₂ (λ (xs ys : List DepositValue). xs ++ ys) first new_deposits ∙ sym (map-append g (take f new) (drop f new)) ∙ ap (map g) (take-append-drop f new)
 
   -- the store stands for the arrivals with this one
-  pub stands_held : StandsFor sha256 reading m (l ++ a ∷ []) (with_registry (with_steps (with_body (with_receipt k receipt) row a.body) (rows_in plan.new.items)) (chain_state (take (common_front plan.old.items plan.new.items) (deposits_of reading k.bodies k.steps) ++ plan.deposits.items)))
+  pub stands_held : StandsFor sha256 reading (e ++ arrived a ∷ []) (with_registry (with_steps (with_body (with_receipt k receipt) row a.body) (rows_in plan.new.items)) (chain_state (take (common_front plan.old.items plan.new.items) (deposits_of reading k.bodies k.steps) ++ plan.deposits.items)))
   stands_held =
-      subst (λ (ds : List DepositValue). StandsFor sha256 reading m (l ++ a ∷ []) (with_registry (with_steps (with_body (with_receipt k receipt) row a.body) (rows_in plan.new.items)) (chain_state ds))) (sym deposits_are)
-      (subst (λ (r : ReceiptValue). StandsFor sha256 reading m (l ++ a ∷ []) (with_registry (with_steps (with_body (with_receipt k r) row a.body) (rows_in plan.new.items)) (chain_state (deposits_of reading (body_put k.bodies row a.body) (rows_in plan.new.items))))) (sym (new_receipt m l a k (Holding row d) rows number receipt is))
-      (taken_in sha256 reading m l k a is.stood is.none row (ap held_row (sym is.found_is)) at_row (rows_in plan.new.items) latest))
+      subst (λ (ds : List DepositValue). StandsFor sha256 reading (e ++ arrived a ∷ []) (with_registry (with_steps (with_body (with_receipt k receipt) row a.body) (rows_in plan.new.items)) (chain_state ds))) (sym deposits_are)
+      (subst (λ (r : ReceiptValue). StandsFor sha256 reading (e ++ arrived a ∷ []) (with_registry (with_steps (with_body (with_receipt k r) row a.body) (rows_in plan.new.items)) (chain_state (deposits_of reading (body_put k.bodies row a.body) (rows_in plan.new.items))))) (sym (new_receipt e a k (Holding row d) rows number receipt is))
+      (taken_in sha256 reading e k a is.stood is.none row (ap held_row (sym is.found_is)) at_row (rows_in plan.new.items) latest))
 
   pub no_body_yet : k.bodies row ≡ None
-  no_body_yet = no_body sha256 reading m l k is.stood rows is.held row at_row
+  no_body_yet = no_body sha256 reading e k is.stood rows is.held row at_row
 
   pub old_count : length (deposits_of reading k.bodies k.steps) ≡ length plan.old.items
   old_count = length-map k.steps (λ r. deposit_of reading (k.bodies r)) ∙ sym (ap length planned.old ∙ length-map k.steps (step_at k.listed))

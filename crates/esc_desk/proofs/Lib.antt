@@ -1,6 +1,7 @@
 pub mod AllHeld
 pub mod AtFirst
 pub mod Distinct
+pub mod EventLemmas
 pub mod FrontLemmas
 pub mod HeldRows
 pub mod Holding

@@ -5,13 +5,13 @@ use Rattle.sqlite_trees.specs.declared.store.Store.{Ghosts}
 use Rattle.sqlite.specs.State.{State, HasCleanDisk, Survives}
 use Rattle.sqlite.proofs.StateLemmas.{survives_then}
 use Rattle.esc_tables.specs.Reading.{reading}
-use Rattle.esc_manifest.specs.declared.row.MRow.{MRow}
 use Rattle.esc_store.specs.declared.store.Store.{Store}
 use Rattle.esc_store.specs.declared.change.Change.{Change}
 use Rattle.esc_store.specs.Kept.{AreHeld}
 use Rattle.esc_store.specs.Standing.{IsHonest, IsAsBefore, GoesOn}
 use Rattle.esc_desk.specs.declared.desk.Desk.{Desk}
-use Rattle.esc_desk.specs.ArrivalValue.{ArrivalValue}
+use Rattle.esc_desk.specs.Calls.{Stays}
+use Rattle.esc_desk.specs.Events.{EventValue}
 use Rattle.esc_desk.specs.Stands.{held_body}
 use Rattle.esc_desk.specs.Serving.{DeskServes}
 
@@ -29,13 +29,17 @@ as_before_then g a b c p q = record {
 }
 
 -- a desk whose store is as before, and that remembers what it did, serves what it did
-pub still_serves : {S : Type 0} (g : Ghosts S) (old new : Desk S) → IsAsBefore g old.store new.store → new.known ≡ old.known → (m : List MRow) (l : List ArrivalValue) → DeskServes g old m l → DeskServes g new m l
-still_serves g old new same known m l served =
+pub still_serves : {S : Type 0} (g : Ghosts S) (old new : Desk S) → IsAsBefore g old.store new.store → new.known ≡ old.known → (e : List EventValue) → DeskServes g old e → DeskServes g new e
+still_serves g old new same known e served =
     let serves = served.serves in
     record {
       serves = record { kept = serves.kept; stands = same.stands serves.kept serves.stands; stands_for = serves.stands_for };
-      remembers = subst (λ rows. IfSome rows (λ held. AreHeld (held_body sha256 reading m l) held.items)) (sym known) served.remembers;
+      remembers = subst (λ rows. IfSome rows (λ held. AreHeld (held_body sha256 reading e) held.items)) (sym known) served.remembers;
     }
+
+-- the same in one word
+pub still_stays : {S : Type 0} (g : Ghosts S) (old new : Desk S) → IsAsBefore g old.store new.store → new.known ≡ old.known → Stays g old new
+still_stays g old new same known = record { same = same; serves = still_serves g old new same known }
 
 -- a change goes on, and then goes on again
 pub goes_then : {S : Type 0} (g : Ghosts S) (a b c : Change S) → GoesOn g a b → GoesOn g b c → GoesOn g a c

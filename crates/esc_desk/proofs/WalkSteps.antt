@@ -1,6 +1,5 @@
 -- What a walk is still to give, from call to call.
-use Rattle.std.proofs.Common.{◌≡◌, ℕ, suc, ◌-◌, ◌<◌, slice_get, Bool, true, false, ◌||◌, List, [], ◌∷◌, ◌++◌, length, Option, Some, None, refl, sym, ap, subst, ◌∙◌, arith, true≢false}
-use Rattle.std.specs.FinSet as set
+use Rattle.std.proofs.Common.{◌≡◌, ℕ, suc, ◌-◌, ◌<◌, slice_get, Bool, true, false, cond, ◌||◌, List, [], ◌∷◌, ◌++◌, length, Option, Some, None, refl, sym, ap, subst, ◌∙◌, arith, true≢false}
 use Rattle.std.specs.List.{list_any}
 use Rattle.std.specs.Map.{lookup, keys_of}
 use Rattle.std.specs.Option.{is_some}
@@ -26,32 +25,45 @@ use Rattle.esc_store.specs.Kept.{Kept}
 use Rattle.esc_store.specs.Standing.{Stands, IsAsBefore}
 use Rattle.esc_store.specs.Pages.{IsPage, last_text}
 use Rattle.esc_desk.specs.declared.walk.Pages.{Pages}
-use Rattle.esc_desk.specs.ArrivalValue.{ArrivalValue}
+use Rattle.esc_desk.specs.Events.{EventValue, Coming, union, comings}
 use Rattle.esc_desk.specs.Finding.{row_of}
-use Rattle.esc_desk.specs.Receipts.{holds, distinct}
+use Rattle.esc_desk.specs.Receipts.{alike, holds, distinct, distinct_after}
 use Rattle.esc_desk.specs.Stands.{held_rows}
 use Rattle.esc_desk.specs.Serving.{Serves}
 use Rattle.esc_desk.specs.Reads.{AreTables, tables_of}
 use Rattle.esc_desk.specs.Places.{first_kind, IsPlaceBehind}
 use Rattle.esc_desk.specs.Walking.{of_kinds, AreBehind, AreToCome}
 use Rattle.esc_desk.proofs.AllHeld.{row_found}
+use Rattle.esc_desk.proofs.EventLemmas.{HaveUpTo, came_with_listed}
 use Rattle.esc_desk.proofs.HeldRows.{contains_held}
 use Rattle.esc_desk.proofs.ReadLemmas.{same_content}
 use Rattle.esc_desk.proofs.EntryLists.{no_first}
 use Rattle.esc_desk.proofs.Walks.{page_turned, from_the_first}
 
--- ---- the rows that are held are the manifest's
+-- ---- the rows that are held are listed
 
-any_in_range : (m : List MRow) (r : ℕ) (l : List ArrivalValue) → list_any (holds sha256 reading m r) l ≡ true → r < length m
-any_in_range m r [] is = absurd (true≢false (sym is))
-any_in_range m r (a ∷ l) is = by_test (holds sha256 reading m r a) refl is (any_in_range m r l)
+any_in_range : (n r : ℕ) (l : List Coming) → HaveUpTo n l → list_any (holds sha256 reading r) l ≡ true → r < n
+any_in_range n r [] up is = absurd (true≢false (sym is))
+any_in_range n r (c ∷ l) up is = by_test (holds sha256 reading r c) refl is (any_in_range n r l up.1)
   where
-    by_test : (b : Bool) → holds sha256 reading m r a ≡ b → (b || list_any (holds sha256 reading m r) l) ≡ true → (list_any (holds sha256 reading m r) l ≡ true → r < length m) → r < length m
-    by_test true here is more = (position-Some (λ (row : MRow). bytes_eq row.digest (sha256 a.body)) m r no_row (row_found m r (row_of m (sha256 a.body)) (reading a.body) here)).0
+    by_test : (b : Bool) → holds sha256 reading r c ≡ b → (b || list_any (holds sha256 reading r) l) ≡ true → (list_any (holds sha256 reading r) l ≡ true → r < n) → r < n
+    by_test true here is more =
+        let at = position-Some (λ (row : MRow). bytes_eq row.digest (sha256 c.body)) c.rows r no_row (row_found c.rows r (row_of c.rows (sha256 c.body)) (reading c.body) here) in
+        omega (arith, at.0, up.0)
     by_test false there is more = more is
 
-pub held_in_range : (m : List MRow) (l : List ArrivalValue) → InRange m (held_rows sha256 reading m l)
-held_in_range m l r held = any_in_range m r (distinct sha256 reading m l) (sym (contains_held sha256 reading m l r) ∙ held)
+distinct_up_to : (n : ℕ) (before l : List Coming) → HaveUpTo n l → HaveUpTo n (distinct_after sha256 reading before l)
+distinct_up_to n before [] up = tt
+distinct_up_to n before (c ∷ l) up = by_test (list_any (alike sha256 reading c) before) (distinct_up_to n (before ++ c ∷ []) l up.1)
+  where
+    by_test : (b : Bool) → HaveUpTo n (distinct_after sha256 reading (before ++ c ∷ []) l) → HaveUpTo n (cond b (distinct_after sha256 reading (before ++ c ∷ []) l) (c ∷ distinct_after sha256 reading (before ++ c ∷ []) l))
+    by_test true rest = rest
+    by_test false rest = (up.0, rest)
+
+pub held_in_range : (e : List EventValue) → InRange (union e) (held_rows sha256 reading e)
+held_in_range e r held =
+    let ds = distinct sha256 reading (comings e) in
+    any_in_range (length (union e)) r ds (distinct_up_to (length (union e)) [] (comings e) (came_with_listed e)) (sym (contains_held sha256 reading ds r) ∙ held)
 
 -- ---- the page at hand
 
@@ -129,13 +141,13 @@ module _ {S : Type 0} (g : Ghosts S) where
       }
 
   -- before the first page
-  pub begins : (store : Store S) (pages : Pages) (kind : Option Kind) (m : List MRow) (l : List ArrivalValue) (es : List Entry) → OneLatestChain → IsAccepted m → Serves g store m l → AreTables m l es → InOrder es
+  pub begins : (store : Store S) (pages : Pages) (kind : Option Kind) (e : List EventValue) (es : List Entry) → OneLatestChain → IsAccepted (union e) → Serves g store e → AreTables e es → InOrder es
       → into_iter_items pages.page ≡ [] → pages.kind ≡ Some (first_kind kind) → pages.from.items ≡ [] → pages.alone ≡ is_some kind → AreToCome g store pages (of_kinds kind es)
-  begins store pages kind m l es law accepted serves tables order items is from alone =
+  begins store pages kind e es law accepted serves tables order items is from alone =
       let k = serves.kept in
-      let rows = held_rows sha256 reading m l in
-      let one : tables.chain ≡ k.steps = law m rows rows tables.chain k.steps accepted (held_in_range m l) (λ r. (λ held. held, λ held. held)) tables.latest serves.stands_for.chain in
-      let same : tables_of m l tables.chain ≡ k.registry.content = ap (tables_of m l) one ∙ sym (same_content m l k serves.stands_for) in
+      let rows = held_rows sha256 reading e in
+      let one : tables.chain ≡ k.steps = law (union e) rows rows tables.chain k.steps accepted (held_in_range e) (λ r. (λ held. held, λ held. held)) tables.latest serves.stands_for.chain in
+      let same : tables_of e tables.chain ≡ k.registry.content = ap (tables_of e) one ∙ sym (same_content e k serves.stands_for) in
       let are = from_the_first k.registry.content kind es order (λ q. tables.objects.each q ∙ ap (λ (f : Content). f q) same) in
       record {
         order = are.order;

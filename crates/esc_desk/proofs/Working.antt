@@ -14,7 +14,7 @@ use Rattle.esc_tables.specs.DepositValue.{DepositValue}
 use Rattle.esc_tables.specs.Reading.{reading}
 use Rattle.esc_manifest.specs.declared.row.MRow.{MRow}
 use Rattle.esc_manifest.specs.Accepted.{IsAccepted}
-use Rattle.esc_chain.specs.Chain.{Rows, IsLatestChain}
+use Rattle.esc_chain.specs.Chain.{Rows}
 use Rattle.esc_chain.specs.Laws.{LatestChainsAreHeldRows}
 use Rattle.esc_apply.specs.declared.front.Step.{Step}
 use Rattle.esc_apply.specs.declared.moves.Work.{Work}
@@ -27,16 +27,20 @@ use Rattle.esc_desk.specs.declared.finding.Finding.{Finding}
 use Rattle.esc_desk.specs.declared.finding.Finding.TheVariants.{Holding}
 use Rattle.esc_desk.specs.declared.plan.Plan.{Plan}
 use Rattle.esc_desk.specs.ArrivalValue.{ArrivalValue}
+use Rattle.esc_desk.specs.Events.{EventValue, union}
+use Rattle.esc_desk.specs.Events.EventValue.{arrived}
 use Rattle.esc_desk.specs.Finding.{finding, held_row}
 use Rattle.esc_desk.specs.Receipts.{is_row, is_among, is_old}
 use Rattle.esc_desk.specs.Stands.{deposit_of, or_no_deposit, deposits_of, held_rows, held_body}
 use Rattle.esc_desk.specs.Plans.{rows_in, IsPlanned}
+use Rattle.esc_desk.specs.Reads.{IsChainOf}
 use Rattle.esc_desk.specs.Serving.{no_work}
 use Rattle.esc_desk.specs.Taking.{IsNew}
 use Rattle.esc_desk.specs.Works.{chain_cost, IsWorkOf, AddsNoRow}
 use Rattle.esc_desk.proofs.ReadLemmas.{same_deposits}
-use Rattle.esc_desk.proofs.HeldRows.{same_self, contains-with_row, held_more}
-use Rattle.esc_desk.proofs.OneArrival.{one_more}
+use Rattle.esc_desk.proofs.HeldRows.{same_self, contains-with_row}
+use Rattle.esc_desk.proofs.EventLemmas.{union-arrived}
+use Rattle.esc_desk.proofs.OneArrival.{held_with}
 use Rattle.esc_desk.proofs.TakingIn.{among_held}
 use Rattle.esc_desk.proofs.Holding.{old_steps, new_steps, new_deposits, stands_held}
 
@@ -86,16 +90,18 @@ nothing_done n c same =
 no_move : (steps : List Step) (c : List DepositValue) → length c ≡ length steps → cost c steps steps [] ≡ no_work
 no_move steps c same = ap (λ (f : ℕ). work_of (length steps) f (length steps - f) (sum_by mention_count (undone_of c f) + 0)) (front_of_same steps) ∙ nothing_done (length steps) c same
 
-module _ (m : List MRow) (l : List ArrivalValue) (a : ArrivalValue) where
-  cost_of_same : (rows : List ℕ) → chain_cost m l a rows rows ≡ no_work
+module _ (e : List EventValue) (a : ArrivalValue) where
+  cost_of_same : (rows : List ℕ) → chain_cost e (e ++ arrived a ∷ []) rows rows ≡ no_work
   cost_of_same rows =
-      let steps = map (step_at m) rows in
-      let front : common_front steps steps ≡ length rows = front_of_same steps ∙ length-map rows (step_at m) in
+      let steps = map (step_at (union e)) rows in
+      let with_it = held_body sha256 reading (e ++ arrived a ∷ []) in
+      let front : common_front steps steps ≡ length rows = front_of_same steps ∙ length-map rows (step_at (union e)) in
       let past : drop (common_front steps steps) rows ≡ [] = drop_all (common_front steps steps) rows (omega (arith, front)) in
-      ap (λ (rest : List ℕ). cost (deposits_of reading (held_body sha256 reading m l) rows) steps steps (deposits_of reading (held_body sha256 reading m (l ++ a ∷ [])) rest)) past
-      ∙ no_move steps (deposits_of reading (held_body sha256 reading m l) rows) (length-map rows (λ r. deposit_of reading (held_body sha256 reading m l r)) ∙ sym (length-map rows (step_at m)))
+      ap (λ (m : List MRow). cost (deposits_of reading (held_body sha256 reading e) rows) steps (map (step_at m) rows) (deposits_of reading with_it (drop (common_front steps (map (step_at m) rows)) rows))) (union-arrived e a)
+      ∙ ap (λ (rest : List ℕ). cost (deposits_of reading (held_body sha256 reading e) rows) steps steps (deposits_of reading with_it rest)) past
+      ∙ no_move steps (deposits_of reading (held_body sha256 reading e) rows) (length-map rows (λ r. deposit_of reading (held_body sha256 reading e r)) ∙ sym (length-map rows (step_at (union e))))
 
-  pub chain_stays : (rows : List ℕ) → IsLatestChain m (held_rows sha256 reading m l) rows → IsLatestChain m (held_rows sha256 reading m (l ++ a ∷ [])) rows → IsWorkOf m l a no_work
+  pub chain_stays : (rows : List ℕ) → IsChainOf e rows → IsChainOf (e ++ arrived a ∷ []) rows → IsWorkOf e (arrived a) no_work
   chain_stays rows before after = record { before = rows; after = rows; latest_before = before; latest_after = after; is_cost = sym (cost_of_same rows) }
 
 -- ---- there are few mentions in all
@@ -122,59 +128,67 @@ module _ (few : MentionsFew) where
 
 -- ---- a move is the work of a deposit that is held
 
-module _ (law : LatestChainsAreHeldRows) (few : MentionsFew) (m : List MRow) (accepted : IsAccepted m) (l : List ArrivalValue) (a : ArrivalValue) (k : Kept) (rows : List ℕ) (number : ℕ) (receipt : ReceiptValue)
-    (row : ℕ) (d : DepositValue) (is : IsNew m l a k (Holding row d) rows number receipt) (new : is_among rows (Some row) ≡ false)
+module _ (law : LatestChainsAreHeldRows) (few : MentionsFew) (e : List EventValue) (accepted : IsAccepted (union e)) (a : ArrivalValue) (k : Kept) (rows : List ℕ) (number : ℕ) (receipt : ReceiptValue)
+    (row : ℕ) (d : DepositValue) (is : IsNew e a k (Holding row d) rows number receipt) (new : is_among rows (Some row) ≡ false)
     (plan : Plan) (planned : IsPlanned reading k rows row a.body plan) (few_old : length plan.old.items ≤ 4096) (few_new : length plan.new.items ≤ 4096) where
-  after : List ℕ
+  abbrev after : List ℕ
   after = rows_in plan.new.items
 
-  old_are : plan.old.items ≡ map (step_at m) k.steps
-  old_are = old_steps law m accepted l a k rows number receipt row d is new plan planned
+  old_are : plan.old.items ≡ map (step_at (union e)) k.steps
+  old_are = old_steps law e accepted a k rows number receipt row d is new plan planned
 
-  new_are : plan.new.items ≡ map (step_at m) (rows_in plan.new.items)
-  new_are = new_steps law m accepted l a k rows number receipt row d is new plan planned
+  new_are : plan.new.items ≡ map (step_at (union e)) (rows_in plan.new.items)
+  new_are = new_steps law e accepted a k rows number receipt row d is new plan planned
 
   deposits_are : plan.deposits.items ≡ deposits_of reading (body_put k.bodies row a.body) (drop (common_front plan.old.items plan.new.items) (rows_in plan.new.items))
-  deposits_are = new_deposits law m accepted l a k rows number receipt row d is new plan planned
+  deposits_are = new_deposits law e accepted a k rows number receipt row d is new plan planned
 
   pub few_moved : sum_by mention_count (deposits_of reading k.bodies k.steps ++ plan.deposits.items) < 2 ^ 64
   few_moved =
       let f = common_front plan.old.items plan.new.items in
-      let olds : length k.steps ≤ 4096 = omega (arith, few_old, ap length old_are, length-map k.steps (step_at m)) in
+      let olds : length k.steps ≤ 4096 = omega (arith, few_old, ap length old_are, length-map k.steps (step_at (union e))) in
       let news : length (drop f (rows_in plan.new.items)) ≤ 4096 = omega (arith, few_new, length-drop f (rows_in plan.new.items), length-map plan.new.items (λ (s : Step). s.row)) in
       subst (λ (ds : List DepositValue). sum_by mention_count (deposits_of reading k.bodies k.steps ++ ds) < 2 ^ 64) (sym deposits_are) (few_writes few k.bodies (body_put k.bodies row a.body) k.steps (drop f (rows_in plan.new.items)) olds news)
 
-  move_cost : cost (deposits_of reading k.bodies k.steps) plan.old.items plan.new.items plan.deposits.items ≡ chain_cost m l a k.steps (rows_in plan.new.items)
-  move_cost =
-      let stands = stands_held law m accepted l a k rows number receipt row d is new plan planned in
-      let with_it = held_body sha256 reading m (l ++ a ∷ []) in
-      let past : plan.deposits.items ≡ deposits_of reading with_it (drop (common_front (map (step_at m) k.steps) (map (step_at m) (rows_in plan.new.items))) (rows_in plan.new.items)) =
-      deposits_are ∙ same_deposits (body_put k.bodies row a.body) with_it stands.bodies (drop (common_front plan.old.items plan.new.items) (rows_in plan.new.items))
-      ∙ ap₂ (λ (x y : List Step). deposits_of reading with_it (drop (common_front x y) (rows_in plan.new.items))) old_are new_are in
-      ap₂ (λ (c ds : List DepositValue). cost c plan.old.items plan.new.items ds) (same_deposits k.bodies (held_body sha256 reading m l) is.stood.bodies k.steps) past
-      ∙ ap₂ (λ (x y : List Step). cost (deposits_of reading (held_body sha256 reading m l) k.steps) x y (deposits_of reading with_it (drop (common_front (map (step_at m) k.steps) (map (step_at m) (rows_in plan.new.items))) (rows_in plan.new.items)))) old_are new_are
+  -- the cost of going to the chain with the arrival, by the rows that are listed then
+  abbrev cost_to : List MRow → Work
+  cost_to m =
+      let old = map (step_at (union e)) k.steps in
+      let new = map (step_at m) after in
+      cost (deposits_of reading (held_body sha256 reading e) k.steps) old new (deposits_of reading (held_body sha256 reading (e ++ arrived a ∷ [])) (drop (common_front old new) after))
 
-  pub moved : (work : Work) → work ≡ cost (deposits_of reading k.bodies k.steps) plan.old.items plan.new.items plan.deposits.items → IsWorkOf m l a work
+  move_cost : cost (deposits_of reading k.bodies k.steps) plan.old.items plan.new.items plan.deposits.items ≡ chain_cost e (e ++ arrived a ∷ []) k.steps after
+  move_cost =
+      let stands = stands_held law e accepted a k rows number receipt row d is new plan planned in
+      let with_it = held_body sha256 reading (e ++ arrived a ∷ []) in
+      let past : plan.deposits.items ≡ deposits_of reading with_it (drop (common_front (map (step_at (union e)) k.steps) (map (step_at (union e)) after)) after) =
+      deposits_are ∙ same_deposits (body_put k.bodies row a.body) with_it stands.bodies (drop (common_front plan.old.items plan.new.items) after)
+      ∙ ap₂ (λ (x y : List Step). deposits_of reading with_it (drop (common_front x y) after)) old_are new_are in
+      ap₂ (λ (c ds : List DepositValue). cost c plan.old.items plan.new.items ds) (same_deposits k.bodies (held_body sha256 reading e) is.stood.bodies k.steps) past
+      ∙ ap₂ (λ (x y : List Step). cost (deposits_of reading (held_body sha256 reading e) k.steps) x y (deposits_of reading with_it (drop (common_front (map (step_at (union e)) k.steps) (map (step_at (union e)) after)) after))) old_are new_are
+      ∙ ap cost_to (sym (union-arrived e a))
+
+  pub moved : (work : Work) → work ≡ cost (deposits_of reading k.bodies k.steps) plan.old.items plan.new.items plan.deposits.items → IsWorkOf e (arrived a) work
   moved work is_cost = record {
     before = k.steps;
-    after = rows_in plan.new.items;
+    after = after;
     latest_before = is.stood.chain;
-    latest_after = (stands_held law m accepted l a k rows number receipt row d is new plan planned).chain;
+    latest_after = (stands_held law e accepted a k rows number receipt row d is new plan planned).chain;
     is_cost = is_cost ∙ move_cost;
   }
 
 -- ---- an arrival that adds no row holds nothing new
 
-pub holds_nothing_new : (m : List MRow) (l : List ArrivalValue) (a : ArrivalValue) (k : Kept) (found : Finding) (rows : List ℕ) (number : ℕ) (receipt : ReceiptValue) → IsNew m l a k found rows number receipt → AddsNoRow m l a → is_old rows (held_row found) ≡ true
-holds_nothing_new m l a k found rows number receipt is same = by_row (held_row found) refl
+pub holds_nothing_new : (e : List EventValue) (a : ArrivalValue) (k : Kept) (found : Finding) (rows : List ℕ) (number : ℕ) (receipt : ReceiptValue) → IsNew e a k found rows number receipt → AddsNoRow e (arrived a) → is_old rows (held_row found) ≡ true
+holds_nothing_new e a k found rows number receipt is same = by_row (held_row found) refl
   where
-    there : (r : ℕ) → held_row found ≡ Some r → set.contains (held_rows sha256 reading m (l ++ a ∷ [])) r ≡ true
+    there : (r : ℕ) → held_row found ≡ Some r → set.contains (held_rows sha256 reading (e ++ arrived a ∷ [])) r ≡ true
     there r here =
-        ap (λ (h : Rows). set.contains h r) (held_more sha256 reading m l a (one_more sha256 reading m l k a is.stood is.none))
-        ∙ contains-with_row (held_rows sha256 reading m l) (held_row (finding sha256 reading m a.body)) r
-        ∙ ap (λ (row : Option ℕ). is_row r row || (set.contains (held_rows sha256 reading m l) r)) (sym (ap held_row is.found_is) ∙ here)
-        ∙ ap (λ b. b || (set.contains (held_rows sha256 reading m l) r)) (same_self r)
+        ap (λ (h : Rows). set.contains h r) (held_with sha256 reading e k a is.stood is.none)
+        ∙ contains-with_row (held_rows sha256 reading e) (held_row (finding sha256 reading (union e) a.body)) r
+        ∙ ap (λ (row : Option ℕ). is_row r row || (set.contains (held_rows sha256 reading e) r)) (sym (ap held_row is.found_is) ∙ here)
+        ∙ ap (λ b. b || (set.contains (held_rows sha256 reading e) r)) (same_self r)
 
     by_row : (row : Option ℕ) → held_row found ≡ row → is_old rows row ≡ true
     by_row None here = refl
-    by_row (Some r) here = among_held sha256 reading m l k is.stood rows is.held r ∙ sym (ap (λ (h : Rows). set.contains h r) same) ∙ there r here
+    by_row (Some r) here = among_held sha256 reading e k is.stood rows is.held r ∙ sym (ap (λ (h : Rows). set.contains h r) same) ∙ there r here

@@ -1,42 +1,79 @@
--- What is held by all arrivals of a list, and not only by the first of each that are alike.
-use Rattle.std.specs.Prelude.{◌≡◌, ◌⊎◌, ℕ, true, List, [], ◌∷◌, Some}
-use Rattle.std.specs.FinSet as set
+-- What is held by all arrivals of a list, and not only by the first of each that are alike; and a
+-- manifest and its arrivals.
+use Rattle.std.specs.Prelude.{◌≡◌, ◌↔◌, ◌⊎◌, ℕ, true, List, [], ◌∷◌, map, Some}
 use Rattle.sha2.specs.Sha256.{sha256}
 use Rattle.esc_tables.specs.Reading.{reading}
 use Rattle.esc_manifest.specs.declared.row.MRow.{MRow}
 use Rattle.esc_chain.specs.Chain.{Rows, IsLatestChain}
+use Rattle.esc_apply.specs.Images.{chain_state}
 use Rattle.esc_apply.specs.Tables.{tables}
 use Rattle.esc_store.specs.Kept.{Kept}
 use Rattle.esc_desk.specs.ArrivalValue.{ArrivalValue}
-use Rattle.esc_desk.specs.Receipts.{holds}
-use Rattle.esc_desk.specs.Stands.{deposits_of, rows_of, held_rows, held_body, StandsFor}
+use Rattle.esc_desk.specs.Events.{EventValue, Coming, union, coming, comings, arrivals, manifest_then}
+use Rattle.esc_desk.specs.Receipts.{distinct, holds, receipts_after}
+use Rattle.esc_desk.specs.Stands.{deposits_of, rows_by, body_by, held_rows, held_body, StandsFor}
 
--- the arrival is one of the list
-abbrev pub Among : List ArrivalValue → ArrivalValue → Type 0
+-- it is one of the list
+abbrev pub Among : {X : Type 0} → List X → X → Type 0
 Among [] a = ⊥
 Among (b ∷ l) a = (a ≡ b) ⊎ Among l a
 
--- no two different bodies of these arrivals have the same digest
-abbrev pub NoCollision : (List ℕ → List ℕ) → List ArrivalValue → Type 0
-NoCollision digest l = (a b : ArrivalValue) → Among l a → Among l b → digest a.body ≡ digest b.body → a.body ≡ b.body
+-- no two different bodies that arrived have the same digest
+abbrev pub IsApart : List EventValue → Type 0
+IsApart e = (a b : ArrivalValue) → Among (arrivals e) a → Among (arrivals e) b
+    → sha256 a.body ≡ sha256 b.body
+    → a.body ≡ b.body
 
--- the rows that any arrival of the list holds
-abbrev pub all_held : List MRow → List ArrivalValue → Rows
-all_held m l = set.from_list (rows_of sha256 reading m l)
+-- no row was listed between two arrivals
+abbrev pub IsListedAtOnce : List EventValue → Type 0
+IsListedAtOnce e = (c d : Coming) → Among (comings e) c → Among (comings e) d → c.rows ≡ d.rows
 
--- with no collision, the held rows are those of all arrivals
+-- the rows that any arrival holds
+abbrev pub all_held : List EventValue → Rows
+all_held e = rows_by sha256 reading (comings e)
+
+-- what is said of all arrivals has both as its premises
+abbrev pub OfAll : (List EventValue → Type 0) → Type 0
+OfAll says = (e : List EventValue) → IsApart e → IsListedAtOnce e → says e
+
+-- the held rows are those of all arrivals
 abbrev pub RowsAreOfAll : Type 0
-RowsAreOfAll = (m : List MRow) (l : List ArrivalValue) → NoCollision sha256 l → held_rows sha256 reading m l ≡ all_held m l
+RowsAreOfAll = OfAll (λ e. held_rows sha256 reading e ≡ all_held e)
 
--- with no collision, the body of a held row is that of every arrival that holds it
+-- the body of a held row is that of every arrival that holds it
 abbrev pub BodiesAreOfAll : Type 0
-BodiesAreOfAll = (m : List MRow) (l : List ArrivalValue) → NoCollision sha256 l → (a : ArrivalValue) (r : ℕ) → Among l a → holds sha256 reading m r a ≡ true → held_body sha256 reading m l r ≡ Some a.body
+BodiesAreOfAll = OfAll (λ e. (c : Coming) (r : ℕ) → Among (comings e) c
+    → holds sha256 reading r c ≡ true
+    → held_body sha256 reading e r ≡ Some c.body)
 
--- the steps are the latest chain of the rows that any arrival holds, and the tables are those of its deposits, by the bodies that arrived
-pub record HoldsTablesOf (m : List MRow) (l : List ArrivalValue) (k : Kept) : Type 0 where
-  pub latest : IsLatestChain m (all_held m l) k.steps
-  pub content : k.registry.content ≡ tables (deposits_of reading (held_body sha256 reading m l) k.steps)
+-- the steps are the latest chain of the rows that any arrival holds, and the tables are those of
+-- its deposits, by the bodies that arrived
+pub record HoldsTablesOf (e : List EventValue) (k : Kept) : Type 0 where
+  pub latest : IsLatestChain (union e) (all_held e) k.steps
+  pub content : k.registry.content
+      ≡ tables (deposits_of reading (held_body sha256 reading e) k.steps)
 
--- with no collision, a store that stands for a list of arrivals has those tables
+-- a store that stands for a list of events has those tables
 abbrev pub TablesAreOfAll : Type 0
-TablesAreOfAll = (m : List MRow) (l : List ArrivalValue) (k : Kept) → StandsFor sha256 reading m l k → NoCollision sha256 l → HoldsTablesOf m l k
+TablesAreOfAll = OfAll (λ e. (k : Kept) → StandsFor sha256 reading e k → HoldsTablesOf e k)
+
+-- ---- a manifest and arrivals
+
+-- the arrivals of the list that are like none before them, where these rows were listed before
+abbrev pub distinct_of : List MRow → List ArrivalValue → List Coming
+distinct_of m l = distinct sha256 reading (map (coming m) l)
+
+-- what a store holds that stands for a manifest and a list of arrivals: the manifest's rows, the
+-- receipts and bodies that the arrivals leave, the rows of the latest chain of the held deposits,
+-- and that chain's tables and before-images
+pub record StandsForArrivals (m : List MRow) (l : List ArrivalValue) (k : Kept) : Type 0 where
+  pub listed : k.listed ≡ m
+  pub receipts : k.receipts ≡ receipts_after sha256 reading [] (distinct_of m l)
+  pub bodies : (r : ℕ) → k.bodies r ≡ body_by sha256 reading (distinct_of m l) r
+  pub chain : IsLatestChain m (rows_by sha256 reading (distinct_of m l)) k.steps
+  pub registry : k.registry ≡ chain_state (deposits_of reading k.bodies k.steps)
+
+-- that is what stands for the manifest and then the arrivals, as events
+abbrev pub IsForManifestAndArrivals : Type 0
+IsForManifestAndArrivals = (m : List MRow) (l : List ArrivalValue) (k : Kept)
+    → StandsFor sha256 reading (manifest_then m l) k ↔ StandsForArrivals m l k

@@ -1,7 +1,7 @@
--- What a crash leaves of a store, by the manifest and the arrivals that it stands for.
+-- What a crash leaves of a store, by the events that it stands for.
 --
--- An arrival that was refused by S1 or S2 is as one that never came, as long as there is no crash: a crash may leave it
--- taken in. Until the next arrival that changes a table it is in doubt.
+-- An arrival that was refused by S1 or S2 is as one that never came, as long as there is no crash:
+-- a crash may leave it taken in. Until the next arrival that changes a table it is in doubt.
 use Rattle.std.specs.Prelude.{◌≢◌, ◌⊎◌, List, [], ◌∷◌, ◌++◌, Option, Some, None, Result, Ok, Err, MatchResult}
 use Rattle.sha2.specs.Sha256.{sha256}
 use Rattle.sqlite_trees.specs.declared.store.Store.{Ghosts}
@@ -9,7 +9,6 @@ use Rattle.sqlite_trees.specs.Tree.{Trees}
 use Rattle.sqlite.specs.Held.{Held, state}
 use Rattle.sqlite.specs.State.{HasCleanDisk, Survives}
 use Rattle.esc_tables.specs.Reading.{reading}
-use Rattle.esc_manifest.specs.declared.row.MRow.{MRow}
 use Rattle.esc_store.specs.declared.fault.SFault.{SFault}
 use Rattle.esc_store.specs.declared.fault.SFault.TheVariants.{S1, S2, S3, S4}
 use Rattle.esc_store.specs.Kept.{Kept}
@@ -18,93 +17,107 @@ use Rattle.esc_store.specs.Tables.{IsStore}
 use Rattle.esc_desk.specs.declared.running.Outcome.{Outcome}
 use Rattle.esc_desk.specs.declared.running.Outcome.TheVariants.{Done, Lost}
 use Rattle.esc_desk.specs.ArrivalValue.{ArrivalValue}
+use Rattle.esc_desk.specs.Events.{EventValue}
+use Rattle.esc_desk.specs.Events.EventValue.{arrived}
 use Rattle.esc_desk.specs.Receipts.{reply_to}
 use Rattle.esc_desk.specs.Stands.{StandsFor}
 
--- the trees of a database are a store that stands for this manifest and this list of arrivals
-pub record IsStoreFor (trees : Trees) (m : List MRow) (l : List ArrivalValue) : Type 0 where
+-- the trees of a database are a store that stands for this list of events
+pub record IsStoreFor (trees : Trees) (e : List EventValue) : Type 0 where
   pub kept : Kept
   pub store : IsStore trees kept
-  pub stands_for : StandsFor sha256 reading m l kept
+  pub stands_for : StandsFor sha256 reading e kept
 
--- the trees of a database are a store of these arrivals, or of them and one of those in doubt
-abbrev pub IsStoreForOneOf : Trees → List MRow → List ArrivalValue → List ArrivalValue → Type 0
-IsStoreForOneOf trees m l [] = IsStoreFor trees m l
-IsStoreForOneOf trees m l (x ∷ doubtful) = IsStoreFor trees m (l ++ x ∷ []) ⊎ IsStoreForOneOf trees m l doubtful
+-- the trees of a database are a store of these events, or of them and one of those in doubt
+abbrev pub IsStoreForOneOf : Trees → List EventValue → List EventValue → Type 0
+IsStoreForOneOf trees e [] = IsStoreFor trees e
+IsStoreForOneOf trees e (x ∷ doubtful) = IsStoreFor trees (e ++ x ∷ [])
+    ⊎ IsStoreForOneOf trees e doubtful
 
--- whatever a crash now leaves of a connection's database is a store of these arrivals, or of them and one of those in doubt
-unfoldable pub CrashLeaves : {S : Type 0} → Ghosts S → Held S → List MRow → List ArrivalValue → List ArrivalValue
+-- whatever a crash now leaves of a connection's database is a store of these events, or of them and
+-- one of those in doubt
+unfoldable pub CrashLeaves : {S : Type 0} → Ghosts S → Held S → List EventValue → List EventValue
     → Type 0
-CrashLeaves g conn m l doubtful =
+CrashLeaves g conn e doubtful =
     HasCleanDisk (state g conn) → (trees : Trees) → (state g conn).may_leave trees
-    → IsStoreForOneOf trees m l doubtful
+    → IsStoreForOneOf trees e doubtful
 
 -- ---- after an arrival
 
--- the arrivals in doubt after one was answered, by the reply to one like it before: none where there was no such reply, since
--- a table has changed; else those that were in doubt
-abbrev pub still_doubtful : Option ReplyValue → List ArrivalValue → List ArrivalValue
+-- the arrivals in doubt after one was answered, by the reply to one like it before: none where
+-- there was no such reply, since a table has changed; else those that were in doubt
+abbrev pub still_doubtful : Option ReplyValue → List EventValue → List EventValue
 still_doubtful None doubtful = []
 still_doubtful (Some r) doubtful = doubtful
 
 -- the arrivals in doubt after one was refused: it is one of them, but where the store was full
-abbrev pub doubtful_with : SFault → ArrivalValue → List ArrivalValue → List ArrivalValue
-doubtful_with S1 a doubtful = a ∷ doubtful
-doubtful_with S2 a doubtful = a ∷ doubtful
-doubtful_with S3 a doubtful = a ∷ doubtful
+abbrev pub doubtful_with : SFault → ArrivalValue → List EventValue → List EventValue
+doubtful_with S1 a doubtful = arrived a ∷ doubtful
+doubtful_with S2 a doubtful = arrived a ∷ doubtful
+doubtful_with S3 a doubtful = arrived a ∷ doubtful
 doubtful_with S4 a doubtful = doubtful
 
--- what a crash leaves after an arrival that was answered: the arrivals with it, or with it and one that is still in doubt
-abbrev pub LeavesAnswered : {S : Type 0} → Ghosts S → Held S → List MRow → List ArrivalValue → List ArrivalValue
+-- what a crash leaves after an arrival that was answered: the events with it, or with it and one
+-- that is still in doubt
+abbrev pub LeavesAnswered : {S : Type 0} → Ghosts S → Held S → List EventValue → List EventValue
     → ArrivalValue → Type 0
-LeavesAnswered g conn m l doubtful a =
-    CrashLeaves g conn m (l ++ a ∷ []) (still_doubtful (reply_to sha256 reading m l a) doubtful)
+LeavesAnswered g conn e doubtful a =
+    CrashLeaves g conn (e ++ arrived a ∷ []) (still_doubtful (reply_to sha256 reading e a) doubtful)
 
--- what a crash leaves after an arrival that was refused: the arrivals as they were, or with one in doubt
-abbrev pub LeavesRefused : {S : Type 0} → Ghosts S → Held S → List MRow → List ArrivalValue → List ArrivalValue
+-- what a crash leaves after an arrival that was refused: the events as they were, or with one in
+-- doubt
+abbrev pub LeavesRefused : {S : Type 0} → Ghosts S → Held S → List EventValue → List EventValue
     → ArrivalValue → SFault → Type 0
-LeavesRefused g conn m l doubtful a e = CrashLeaves g conn m l (doubtful_with e a doubtful)
+LeavesRefused g conn e doubtful a f = CrashLeaves g conn e (doubtful_with f a doubtful)
 
 -- what a crash leaves after an arrival, by its answer
-abbrev pub LeavesTaken : {S X : Type 0} → Ghosts S → Held S → List MRow → List ArrivalValue → List ArrivalValue
+abbrev pub LeavesTaken : {S X : Type 0} → Ghosts S → Held S → List EventValue → List EventValue
     → ArrivalValue → Result X SFault → Type 0
-LeavesTaken g conn m l doubtful a result =
-    MatchResult result (λ _. LeavesAnswered g conn m l doubtful a) (λ e. LeavesRefused g conn m l doubtful a e)
+LeavesTaken g conn e doubtful a result =
+    MatchResult result (λ _. LeavesAnswered g conn e doubtful a)
+    (λ f. LeavesRefused g conn e doubtful a f)
 
 -- what a crash leaves after an arrival of a run, by its outcome
-abbrev pub LeavesOutcome : {S : Type 0} → Ghosts S → Held S → List MRow → List ArrivalValue → List ArrivalValue
+abbrev pub LeavesOutcome : {S : Type 0} → Ghosts S → Held S → List EventValue → List EventValue
     → ArrivalValue → Outcome → Type 0
-LeavesOutcome g conn m l doubtful a (Done r) = LeavesAnswered g conn m l doubtful a
-LeavesOutcome g conn m l doubtful a (Lost e) = LeavesRefused g conn m l doubtful a e
+LeavesOutcome g conn e doubtful a (Done r) = LeavesAnswered g conn e doubtful a
+LeavesOutcome g conn e doubtful a (Lost f) = LeavesRefused g conn e doubtful a f
 
 -- the arrivals in doubt after a run over a list of them, by the outcome of each
-abbrev pub doubtful_after : List MRow → List ArrivalValue → List ArrivalValue → List ArrivalValue → List Outcome
-    → List ArrivalValue
-doubtful_after m l doubtful [] os = doubtful
-doubtful_after m l doubtful (a ∷ rest) [] = doubtful
-doubtful_after m l doubtful (a ∷ rest) (Done r ∷ os) =
-    doubtful_after m (l ++ a ∷ []) (still_doubtful (reply_to sha256 reading m l a) doubtful) rest os
-doubtful_after m l doubtful (a ∷ rest) (Lost e ∷ os) = doubtful_after m l (doubtful_with e a doubtful) rest os
+abbrev pub doubtful_after : List EventValue → List EventValue → List ArrivalValue → List Outcome
+    → List EventValue
+doubtful_after e doubtful [] os = doubtful
+doubtful_after e doubtful (a ∷ rest) [] = doubtful
+doubtful_after e doubtful (a ∷ rest) (Done r ∷ os) =
+    let doubtful_then = still_doubtful (reply_to sha256 reading e a) doubtful in
+    doubtful_after (e ++ arrived a ∷ []) doubtful_then rest os
+doubtful_after e doubtful (a ∷ rest) (Lost f ∷ os) =
+    doubtful_after e (doubtful_with f a doubtful) rest os
 
 -- ---- from one call to the next
 
 -- the answer is not that the store is full
 abbrev pub IsNotFull : {X : Type 0} → Result X SFault → Type 0
 IsNotFull (Ok x) = Unit {0}
-IsNotFull (Err e) = e ≢ S4
+IsNotFull (Err f) = f ≢ S4
 
--- a call adds a store of this alone to what a crash may leave, and nothing where it answers that the store is full
-unfoldable pub AddsStore : {S X : Type 0} → Ghosts S → Held S → Held S → Result X SFault → Kept → Type 0
+-- a call adds a store of this alone to what a crash may leave, and nothing where it answers that
+-- the store is full
+unfoldable pub AddsStore : {S X : Type 0} → Ghosts S → Held S → Held S → Result X SFault → Kept
+    → Type 0
 AddsStore g old new result k =
     Survives (state g old) (state g new) (λ trees. IsNotFull result × IsStore trees k)
 
--- a call adds stores of these arrivals alone to what a crash may leave, and nothing where it answers that the store is full
-unfoldable pub AddsStoreFor : {S X : Type 0} → Ghosts S → Held S → Held S → Result X SFault → List MRow
-    → List ArrivalValue → Type 0
-AddsStoreFor g old new result m l =
-    Survives (state g old) (state g new) (λ trees. IsNotFull result × IsStoreFor trees m l)
+-- a call adds stores of these events alone to what a crash may leave, and nothing where it answers
+-- that the store is full
+unfoldable pub AddsStoreFor : {S X : Type 0} → Ghosts S → Held S → Held S → Result X SFault
+    → List EventValue
+    → Type 0
+AddsStoreFor g old new result e =
+    Survives (state g old) (state g new) (λ trees. IsNotFull result × IsStoreFor trees e)
 
--- whatever a crash now leaves of a connection's database is a store of these arrivals
-unfoldable pub LeavesOnlyFor : {S : Type 0} → Ghosts S → Held S → List MRow → List ArrivalValue → Type 0
-LeavesOnlyFor g conn m l =
-    HasCleanDisk (state g conn) → (trees : Trees) → (state g conn).may_leave trees → IsStoreFor trees m l
+-- whatever a crash now leaves of a connection's database is a store of these events
+unfoldable pub LeavesOnlyFor : {S : Type 0} → Ghosts S → Held S → List EventValue → Type 0
+LeavesOnlyFor g conn e =
+    HasCleanDisk (state g conn) → (trees : Trees) → (state g conn).may_leave trees
+    → IsStoreFor trees e

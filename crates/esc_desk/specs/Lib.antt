@@ -1,5 +1,7 @@
 pub mod AllArrivals
 pub mod ArrivalValue
+pub mod Calls
+pub mod Events
 pub mod Filled
 pub mod Finding
 pub mod Given

@@ -1,5 +1,5 @@
 -- What a walk over a desk's objects is still to give.
-use Rattle.std.specs.Prelude.{◌≡◌, ℕ, ◌==◌, Bool, true, false, not, List, filter, ◌++◌, Option, None, Some, if◌then◌else◌}
+use Rattle.std.specs.Prelude.{◌≡◌, ℕ, ◌==◌, Bool, false, not, List, filter, ◌++◌, Option, None, Some, if◌then◌else◌}
 use Rattle.std.specs.Map.{lookup}
 use Rattle.std.specs.Ordering.{nat_cmp, is_ge, match_ordering}
 use Rattle.std.specs.Cmp.Lexicographic.{slice_cmp}
@@ -10,13 +10,14 @@ use Rattle.esc_envelope.specs.Kinds.{kind_rank}
 use Rattle.esc_tables.specs.KeyName.{KeyName, key_eq}
 use Rattle.esc_apply.specs.Objects.{Entry, InOrder}
 use Rattle.esc_apply.specs.Registry.{Content}
-use Rattle.esc_manifest.specs.declared.row.MRow.{MRow}
 use Rattle.esc_store.specs.declared.store.Store.{Store}
 use Rattle.esc_store.specs.Kept.{Kept}
 use Rattle.esc_store.specs.Standing.{Stands, IsAsBefore}
 use Rattle.esc_desk.specs.declared.walk.Pages.{Pages}
 use Rattle.esc_desk.specs.declared.walk.Walk.{Walk}
-use Rattle.esc_desk.specs.ArrivalValue.{ArrivalValue}
+use Rattle.esc_desk.specs.Events.{EventValue}
+use Rattle.esc_desk.specs.declared.desk.Desk.{Desk}
+use Rattle.esc_desk.specs.Reads.{AreTables}
 use Rattle.esc_desk.specs.Serving.{DeskServes}
 
 -- the entries of one kind, or all
@@ -24,19 +25,24 @@ abbrev pub of_kinds : Option Kind → List Entry → List Entry
 of_kinds None es = es
 of_kinds (Some kind) es = filter (λ (e : Entry). kind_rank e.0.kind == kind_rank kind) es
 
--- the keys from this place on: those of the kind whose texts are not below `from` and, unless one kind is walked alone,
--- those of each later kind; without a kind there are none
+-- the keys from this place on: those of the kind whose texts are not below `from` and, unless one
+-- kind is walked alone, those of each later kind; without a kind there are none
 abbrev pub is_behind : Option Kind → List ℕ → Bool → KeyName → Bool
 is_behind None from alone q = false
-is_behind (Some kind) from alone q = match_ordering (nat_cmp (kind_rank q.kind) (kind_rank kind)) false (is_ge (slice_cmp nat_cmp q.text from)) (not alone)
+is_behind (Some kind) from alone q =
+    let is_from = is_ge (slice_cmp nat_cmp q.text from) in
+    match_ordering (nat_cmp (kind_rank q.kind) (kind_rank kind)) false is_from (not alone)
 
 -- by key, of each key from this place on what the content has, and nothing else
-pub record AreBehind (content : Content) (kind : Option Kind) (from : List ℕ) (alone : Bool) (es : List Entry) : Type 0 where
+pub record AreBehind (content : Content) (kind : Option Kind) (from : List ℕ) (alone : Bool)
+    (es : List Entry) : Type 0 where
   pub order : InOrder es
-  pub each : (q : KeyName) → lookup (key_eq q) es ≡ (if is_behind kind from alone q then content q else None)
+  pub each : (q : KeyName)
+      → lookup (key_eq q) es ≡ (if is_behind kind from alone q then content q else None)
 
--- these entries are still to come: the page at hand, and then what the store's tables have behind it
-pub record AreToCome {S : Type 0} (g : Ghosts S) (store : Store S) (pages : Pages) (es : List Entry) : Type 0 where
+-- these entries are still to come: the page at hand, and then what the tables have behind it
+pub record AreToCome {S : Type 0} (g : Ghosts S) (store : Store S) (pages : Pages)
+    (es : List Entry) : Type 0 where
   pub order : InOrder es
   pub kept : Kept
   pub stands : Stands g store kept
@@ -47,9 +53,25 @@ pub record AreToCome {S : Type 0} (g : Ghosts S) (store : Store S) (pages : Page
 abbrev pub Lists : {S : Type 0} → Ghosts S → Walk S Pages → List Entry → Type 0
 Lists g walk es = AreToCome g walk.desk.now.store walk.pages es
 
+-- the desk that a walk goes over, as it is now
+abbrev pub desk_of : {S : Type 0} → Walk S Pages → Desk S
+desk_of walk = walk.desk.now
+
+-- a walk is still to give the objects of the tables after these events, of one kind or all
+abbrev pub ListsTables : {S : Type 0} → Ghosts S → Walk S Pages → Option Kind → List EventValue
+    → Type 0
+ListsTables g walk kind e = (es : List Entry) → AreTables e es → InOrder es
+    → Lists g walk (of_kinds kind es)
+
+-- the same of pages that stand before the first object
+abbrev pub ListsPages : {S : Type 0} → Ghosts S → Store S → Pages → Option Kind → List EventValue
+    → Type 0
+ListsPages g store pages kind e = (es : List Entry) → AreTables e es → InOrder es
+    → AreToCome g store pages (of_kinds kind es)
+
 -- what a walk leaves as it was, whatever its calls answer
 pub record Follows {S : Type 0} (g : Ghosts S) (old new : Walk S Pages) : Type 0 where
   pub same_reference : new.desk.ghost_name ≡ old.desk.ghost_name
   pub same : IsAsBefore g old.desk.now.store new.desk.now.store
   pub known : new.desk.now.known ≡ old.desk.now.known
-  pub serves : (m : List MRow) (l : List ArrivalValue) → DeskServes g old.desk.now m l → DeskServes g new.desk.now m l
+  pub serves : (e : List EventValue) → DeskServes g old.desk.now e → DeskServes g new.desk.now e

@@ -6,7 +6,8 @@ use Rattle.esc_tables.specs.DepositValue.{DepositValue}
 use Rattle.esc_manifest.specs.declared.row.MRow.{MRow}
 use Rattle.esc_store.specs.declared.reply.Verdict.TheVariants.{A1, A2}
 use Rattle.esc_store.specs.ReplyValue.{ReplyValue}
-use Rattle.esc_desk.specs.ArrivalValue.{ArrivalValue}
+use Rattle.esc_desk.specs.ArrivalValue.{ArrivalValue, an_arrival}
+use Rattle.esc_desk.specs.Events.{EventValue, Coming, coming, manifest_then}
 
 -- a body is its own digest
 abbrev pub itself : List ℕ → List ℕ
@@ -25,13 +26,13 @@ one_row = record { header = full_header; digest = codes "f1" } ∷ []
 
 -- the Full arrives as number 1, as number 9, and another body as number 1
 abbrev pub full_1 : ArrivalValue
-full_1 = record { number = codes "1"; body = codes "f1" }
+full_1 = an_arrival (codes "1") (codes "f1")
 
 abbrev pub full_9 : ArrivalValue
-full_9 = record { number = codes "9"; body = codes "f1" }
+full_9 = an_arrival (codes "9") (codes "f1")
 
 abbrev pub other_1 : ArrivalValue
-other_1 = record { number = codes "1"; body = codes "x" }
+other_1 = an_arrival (codes "1") (codes "x")
 
 -- the reply where the Full is held
 abbrev pub held_reply : ℕ → List ℕ → Bool → ReplyValue
@@ -40,3 +41,11 @@ held_reply n number again = record { receipt = n; number = number; verdict = A1;
 -- the reply where the body isn't listed
 abbrev pub unlisted_reply : ℕ → List ℕ → ReplyValue
 unlisted_reply n number = record { receipt = n; number = number; verdict = A2; id = None; resend = None; again = None; orphans = None }
+
+-- the Full is listed, and then these arrive
+abbrev pub listed_then : List ArrivalValue → List EventValue
+listed_then l = manifest_then one_row l
+
+-- the arrival as it came then
+abbrev pub came : ArrivalValue → Coming
+came a = coming one_row a

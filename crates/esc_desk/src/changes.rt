@@ -33,12 +33,15 @@ pub(crate) fn note_receipt<S: Alter>(
     ensures honest { IsHonest S.Store store.new → IsHonest S.Store store.old }
     ensures counted { OnOk result (store.new.writes ≡ saturated store.old.writes) }
     ensures uncounted { OnErr result (store.new.writes ≡ store.old.writes) }
-    ensures recorded { OnOk result (IsHonest S.Store store.new → (k : Kept) → length k.receipts + 1 ≡ number → Stands S.Store store.old k → Stands S.Store store.new (with_receipt k receipt.now)) }
+    ensures recorded { OnOk result (IsHonest S.Store store.new → (k : Kept)
+        → length k.receipts + 1 ≡ number → Stands S.Store store.old k
+        → Stands S.Store store.new (with_receipt k receipt.now)) }
     ensures left { OnOk result ((k : Kept) → length k.receipts + 1 ≡ number
         → Stands S.Store store.old k → LeavesOnly S.Store store.new (with_receipt k receipt.now)) }
     ensures crash { (k : Kept) → length k.receipts + 1 ≡ number → Stands S.Store store.old k
         → AddsStore S.Store store.old.conn store.new.conn result (with_receipt k receipt.now) }
-    ensures kept { OnErr result ((k : Kept) → Stands S.Store store.old k → Stands S.Store store.new k) }
+    ensures kept { OnErr result ((k : Kept) → Stands S.Store store.old k
+        → Stands S.Store store.new k) }
 {
     let mut change = store.begin()?;
     note_in(&mut change, number, receipt)?;
@@ -52,7 +55,9 @@ fn note_in<S: Alter>(
 ) -> Result<(), SFault>
     ensures goes_on { GoesOn S.Store change.old change.new }
     ensures count { change.new.count ≡ change.old.count }
-    ensures filled { OnOk result ((k : Kept) → length k.receipts + 1 ≡ number → Rest S.Store change.old k k → HoldsNow S.Store change.old k.registry → IsFilled S.Store change.new k (with_receipt k receipt.now)) }
+    ensures filled { OnOk result ((k : Kept) → length k.receipts + 1 ≡ number
+        → Rest S.Store change.old k k → HoldsNow S.Store change.old k.registry
+        → IsFilled S.Store change.new k (with_receipt k receipt.now)) }
 {
     change.record_receipt(number, receipt)?;
     Ok(())
@@ -71,11 +76,15 @@ pub(crate) fn hold_deposit<S: Alter>(
 ) -> Result<Work, SFault>
     requires few_old { length plan.now.old.items ≤ 4096 }
     requires few_new { length plan.now.new.items ≤ 4096 }
-    requires deposits { length plan.now.deposits.items ≡ length plan.now.new.items - common_front plan.now.old.items plan.now.new.items }
+    requires deposits { length plan.now.deposits.items
+        ≡ length plan.now.new.items - common_front plan.now.old.items plan.now.new.items }
     ensures manifest { store.new.manifest ≡ store.old.manifest }
     ensures honest { IsHonest S.Store store.new → IsHonest S.Store store.old }
-    ensures held { OnOk result (IsHonest S.Store store.new → (k : Kept) (c : List DepositValue) → length k.receipts + 1 ≡ number → k.bodies row ≡ None → length c ≡ length plan.now.old.items → Stands S.Store store.old (with_registry k (chain_state c))
-        → Stands S.Store store.new (with_registry (with_steps (with_body (with_receipt k receipt.now) row body.now) (rows_in plan.now.new.items)) (chain_state (take (common_front plan.now.old.items plan.now.new.items) c ++ plan.now.deposits.items)))) }
+    ensures held { OnOk result (IsHonest S.Store store.new → (k : Kept) (c : List DepositValue)
+        → length k.receipts + 1 ≡ number → k.bodies row ≡ None
+        → length c ≡ length plan.now.old.items
+        → Stands S.Store store.old (with_registry k (chain_state c))
+        → Stands S.Store store.new (kept_by plan.now receipt.now row body.now k c)) }
     ensures left { OnOk result ((k : Kept) (c : List DepositValue) → length k.receipts + 1 ≡ number
         → k.bodies row ≡ None → length c ≡ length plan.now.old.items
         → Stands S.Store store.old (with_registry k (chain_state c))
@@ -85,11 +94,16 @@ pub(crate) fn hold_deposit<S: Alter>(
         → Stands S.Store store.old (with_registry k (chain_state c))
         → AddsStore S.Store store.old.conn store.new.conn result
         (kept_by plan.now receipt.now row body.now k c) }
-    ensures worked { IfOk result (λ work. IsHonest S.Store store.new → (k : Kept) (c : List DepositValue) → length c ≡ length plan.now.old.items → Stands S.Store store.old (with_registry k (chain_state c))
-        → sum_by mention_count (c ++ plan.now.deposits.items) < 2 ^ 64 → work ≡ cost c plan.now.old.items plan.now.new.items plan.now.deposits.items) }
-    ensures counted { IfOk result (λ work. store.new.writes ≡ saturated (store.old.writes + work.writes)) }
+    ensures worked { IfOk result (λ work. IsHonest S.Store store.new
+        → (k : Kept) (c : List DepositValue) → length c ≡ length plan.now.old.items
+        → Stands S.Store store.old (with_registry k (chain_state c))
+        → sum_by mention_count (c ++ plan.now.deposits.items) < 2 ^ 64
+        → work ≡ cost c plan.now.old.items plan.now.new.items plan.now.deposits.items) }
+    ensures counted { IfOk result (λ work. store.new.writes
+        ≡ saturated (store.old.writes + work.writes)) }
     ensures uncounted { OnErr result (store.new.writes ≡ store.old.writes) }
-    ensures kept { OnErr result ((k : Kept) → Stands S.Store store.old k → Stands S.Store store.new k) }
+    ensures kept { OnErr result ((k : Kept) → Stands S.Store store.old k
+        → Stands S.Store store.new k) }
 {
     let mut change = store.begin()?;
     let work = fill_change(&mut change, alloc, number, receipt, row, body, plan)?;
@@ -110,13 +124,24 @@ fn fill_change<S: Alter>(
 ) -> Result<Work, SFault>
     requires few_old { length plan.now.old.items ≤ 4096 }
     requires few_new { length plan.now.new.items ≤ 4096 }
-    requires deposits { length plan.now.deposits.items ≡ length plan.now.new.items - common_front plan.now.old.items plan.now.new.items }
+    requires deposits { length plan.now.deposits.items
+        ≡ length plan.now.new.items - common_front plan.now.old.items plan.now.new.items }
     ensures goes_on { GoesOn S.Store change.old change.new }
-    ensures filled { OnOk result ((k : Kept) (c : List DepositValue) → length k.receipts + 1 ≡ number → k.bodies row ≡ None → length c ≡ length plan.now.old.items → Began S.Store change.old (with_registry k (chain_state c)) → Rest S.Store change.old (with_registry k (chain_state c)) (with_registry k (chain_state c)) → HoldsNow S.Store change.old (chain_state c)
-        → IsFilled S.Store change.new (with_registry k (chain_state c)) (with_registry (with_steps (with_body (with_receipt k receipt.now) row body.now) (rows_in plan.now.new.items)) (chain_state (take (common_front plan.now.old.items plan.now.new.items) c ++ plan.now.deposits.items)))) }
-    ensures worked { IfOk result (λ work. IsHonest S.Store change.new.store.now → (c : List DepositValue) → length c ≡ length plan.now.old.items → HoldsNow S.Store change.old (chain_state c)
-        → sum_by mention_count (c ++ plan.now.deposits.items) < 2 ^ 64 → work ≡ cost c plan.now.old.items plan.now.new.items plan.now.deposits.items) }
-    ensures counted { IfOk result (λ work. saturated change.new.count ≡ saturated (saturated change.old.count + work.writes)) }
+    ensures filled { OnOk result ((k : Kept) (c : List DepositValue)
+        → length k.receipts + 1 ≡ number → k.bodies row ≡ None
+        → length c ≡ length plan.now.old.items
+        → Began S.Store change.old (with_registry k (chain_state c))
+        → Rest S.Store change.old (with_registry k (chain_state c))
+        (with_registry k (chain_state c)) → HoldsNow S.Store change.old (chain_state c)
+        → IsFilled S.Store change.new (with_registry k (chain_state c))
+        (kept_by plan.now receipt.now row body.now k c)) }
+    ensures worked { IfOk result (λ work. IsHonest S.Store change.new.store.now
+        → (c : List DepositValue) → length c ≡ length plan.now.old.items
+        → HoldsNow S.Store change.old (chain_state c)
+        → sum_by mention_count (c ++ plan.now.deposits.items) < 2 ^ 64
+        → work ≡ cost c plan.now.old.items plan.now.new.items plan.now.deposits.items) }
+    ensures counted { IfOk result (λ work. saturated change.new.count
+        ≡ saturated (saturated change.old.count + work.writes)) }
 {
     change.record_receipt(number, receipt)?;
     change.hold(row, body)?;
@@ -129,10 +154,13 @@ fn fill_change<S: Alter>(
 fn commit_filled<S: Alter>(change: Change<'_, S>) -> Result<(), SFault>
     ensures manifest { change.exit.0.now.manifest ≡ change.entry.store.now.manifest }
     ensures honest { IsHonest S.Store change.exit.0.now → IsHonest S.Store change.entry.store.now }
-    ensures written { OnOk result (change.exit.0.now.writes ≡ saturated (change.entry.store.now.writes + change.entry.count)) }
+    ensures written { OnOk result (change.exit.0.now.writes
+        ≡ saturated (change.entry.store.now.writes + change.entry.count)) }
     ensures unwritten { OnErr result (change.exit.0.now.writes ≡ change.entry.store.now.writes) }
-    ensures committed { OnOk result (IsHonest S.Store change.exit.0.now → (before k : Kept) → IsFilled S.Store change.entry before k → Stands S.Store change.exit.0.now k) }
-    ensures kept { OnErr result ((before : Kept) → Began S.Store change.entry before → Stands S.Store change.exit.0.now before) }
+    ensures committed { OnOk result (IsHonest S.Store change.exit.0.now → (before k : Kept)
+        → IsFilled S.Store change.entry before k → Stands S.Store change.exit.0.now k) }
+    ensures kept { OnErr result ((before : Kept) → Began S.Store change.entry before
+        → Stands S.Store change.exit.0.now before) }
     ensures left { OnOk result ((before k : Kept) → IsFilled S.Store change.entry before k
         → LeavesOnly S.Store change.exit.0.now k) }
     ensures crash { (before k : Kept) → IsFilled S.Store change.entry before k

@@ -3,20 +3,22 @@
 ghost use Rattle.std.specs.Prelude.{◌≡◌, ◌+◌, ◌<◌, ◌≤◌, ◌++◌, ◌∷◌, [], ℕ, List, length, true, false, Some, None, IfOk, IfSome, OnOk, OnErr};
 ghost use Rattle.sha2.specs.Sha256.{sha256};
 ghost use Rattle.esc_tables.specs.Reading.{reading};
-ghost use Rattle.esc_manifest.specs.declared.row.MRow.{MRow};
 ghost use Rattle.esc_apply.specs.Registry.{saturated};
 ghost use Rattle.esc_store.specs.Kept.{Kept, AreHeld};
-ghost use Rattle.esc_store.specs.ReplyValue.{ReplyValue, reply_alike};
+ghost use Rattle.esc_store.specs.ReplyValue.{reply_alike};
 ghost use Rattle.esc_store.specs.Standing.{Stands, IsHonest, IsAsBefore, LeavesOnly};
 ghost use Rattle.esc_desk.specs.Finding.{held_row};
-ghost use Rattle.esc_desk.specs.Receipts.{is_among, is_old, receipts_of, reply_to};
+ghost use Rattle.esc_desk.specs.Receipts.{is_among, is_old};
 ghost use Rattle.esc_desk.specs.Stands.{StandsFor};
 ghost use Rattle.esc_desk.specs.Taking.{IsNew};
 ghost use Rattle.esc_desk.specs.declared.finding.Finding.TheVariants.{Holding};
-ghost use Rattle.esc_desk.specs.ArrivalValue.{ArrivalValue};
+ghost use Rattle.esc_desk.specs.ArrivalValue.{an_arrival};
+ghost use Rattle.esc_desk.specs.Calls.{store_of, writes_of, DeskLeaves, DeskLeavesTaken, OkAfter, CrashAfter, WasHonest, ServesStill, RepeatsReply, HadRoom};
+ghost use Rattle.esc_desk.specs.Events.{EventValue, union};
+ghost use Rattle.esc_desk.specs.Events.EventValue.{arrived};
 ghost use Rattle.esc_desk.specs.Serving.{Serves, DeskServes, Answers, no_work};
 ghost use Rattle.esc_desk.specs.Works.{IsWorkOf, AddsNoRow, IsKept, IsTaken, IsTakenIn};
-ghost use Rattle.esc_desk.specs.Crashes.{CrashLeaves, LeavesTaken, AddsStoreFor};
+ghost use Rattle.esc_desk.specs.Crashes.{AddsStoreFor};
 
 use crate::changes::{hold_deposit, note_receipt};
 use crate::finding::{Finding, find, held_row};
@@ -52,19 +54,21 @@ const NO_WORK: Work = Work {
 impl<S: Alter> Desk<S> {
     /// A desk over a store. Takes no memory.
     pub fn open(store: Store<S>) -> Desk<S>
-        ensures same { result.store ≡ store }
-        ensures serves { (m : List MRow) (l : List ArrivalValue) → Serves S.Store store m l → DeskServes S.Store result m l }
-        ensures left { (m : List MRow) (l : List ArrivalValue) (k : Kept)
-            → LeavesOnly S.Store store k → StandsFor sha256 reading m l k
-            → CrashLeaves S.Store result.store.conn m l [] }
+        ensures same { store_of result ≡ store }
+        ensures serves { (e : List EventValue) → Serves S.Store store e
+            → DeskServes S.Store result e }
+        ensures left { (e : List EventValue) (k : Kept)
+            → LeavesOnly S.Store store k → StandsFor sha256 reading e k
+            → DeskLeaves S.Store result e [] }
     {
         Desk { store, known: None }
     }
 
     /// The desk's store. Takes no memory.
     pub fn into_store(self) -> Store<S>
-        ensures same { result ≡ self.store }
-        ensures serves { (m : List MRow) (l : List ArrivalValue) → DeskServes S.Store self m l → Serves S.Store result m l }
+        ensures same { result ≡ store_of self }
+        ensures serves { (e : List EventValue) → DeskServes S.Store self e
+            → Serves S.Store result e }
     {
         self.store
     }
@@ -82,20 +86,24 @@ impl<S: Alter> Desk<S> {
         number: &Number<'_>,
         body: &[u8],
     ) -> Result<(Reply, Work), SFault>
-        ensures answered { IsHonest S.Store self.new.store → (m : List MRow) (l : List ArrivalValue) → DeskServes S.Store self.old m l → IfOk result (λ p. Answers S.Store self.new m l (record { number = number.now; body = body.now }) p.0) }
-        ensures repeated { IsHonest S.Store self.new.store → (m : List MRow) (l : List ArrivalValue) → DeskServes S.Store self.old m l → (r : ReplyValue) → reply_to sha256 reading m l (record { number = number.now; body = body.now }) ≡ Some r → IfOk result (λ p. (p.0 ≡ r) × (p.1 ≡ no_work)) }
-        ensures worked { IsHonest S.Store self.new.store → (m : List MRow) (l : List ArrivalValue) → DeskServes S.Store self.old m l → IfOk result (λ p. IsWorkOf m l (record { number = number.now; body = body.now }) p.1) }
-        ensures idle { IsHonest S.Store self.new.store → (m : List MRow) (l : List ArrivalValue) → DeskServes S.Store self.old m l → AddsNoRow m l (record { number = number.now; body = body.now }) → IfOk result (λ p. p.1 ≡ no_work) }
-        ensures room { IsHonest S.Store self.new.store → (m : List MRow) (l : List ArrivalValue) → DeskServes S.Store self.old m l → reply_to sha256 reading m l (record { number = number.now; body = body.now }) ≡ None → OnOk result (length (receipts_of sha256 reading m l) < 1_000_000_000) }
-        ensures counted { IfOk result (λ p. self.new.store.writes ≡ saturated (self.old.store.writes + p.1.writes)) }
-        ensures uncounted { OnErr result (self.new.store.writes ≡ self.old.store.writes) }
-        ensures honest { IsHonest S.Store self.new.store → IsHonest S.Store self.old.store }
-        ensures lost { OnErr result ((m : List MRow) (l : List ArrivalValue) → DeskServes S.Store self.old m l → DeskServes S.Store self.new m l) }
-        ensures crash { (m : List MRow) (l doubtful : List ArrivalValue)
-            → DeskServes S.Store self.old m l
-            → CrashLeaves S.Store self.old.store.conn m l doubtful
-            → LeavesTaken S.Store self.new.store.conn m l doubtful
-            (record { number = number.now; body = body.now }) result }
+        ensures answered { OkAfter S.Store self.old self.new result
+            (λ e p. Answers S.Store self.new e (an_arrival number.now body.now) p.0) }
+        ensures repeated { OkAfter S.Store self.old self.new result
+            (λ e p. RepeatsReply e (an_arrival number.now body.now) p.0 p.1) }
+        ensures worked { OkAfter S.Store self.old self.new result
+            (λ e p. IsWorkOf e (arrived (an_arrival number.now body.now)) p.1) }
+        ensures idle { OkAfter S.Store self.old self.new result
+            (λ e p. AddsNoRow e (arrived (an_arrival number.now body.now)) → p.1 ≡ no_work) }
+        ensures room { OkAfter S.Store self.old self.new result
+            (λ e _. HadRoom e (an_arrival number.now body.now)) }
+        ensures counted { IfOk result
+            (λ p. writes_of self.new ≡ saturated (writes_of self.old + p.1.writes)) }
+        ensures uncounted { OnErr result (writes_of self.new ≡ writes_of self.old) }
+        ensures honest { WasHonest S.Store self.old self.new }
+        ensures lost { OnErr result (ServesStill S.Store self.old self.new) }
+        ensures crash { CrashAfter S.Store self.old
+            (λ e doubtful. DeskLeavesTaken S.Store self.new e doubtful
+            (an_arrival number.now body.now) result) }
     {
         let digest = Sha256::digest(body);
         // A proof knows that a count is below 2^64 where the body reads it.
@@ -117,20 +125,27 @@ impl<S: Alter> Desk<S> {
         body: &[u8],
     ) -> Result<(Reply, Work), SFault>
         requires { digest ≡ sha256 body.now }
-        ensures answered { IsHonest S.Store self.new.store → (m : List MRow) (l : List ArrivalValue) (k : Kept) → Stands S.Store self.old.store k → StandsFor sha256 reading m l k → IfSome self.old.known (λ rows. AreHeld k.bodies rows.items) → reply_alike m 1 number.now digest k.receipts ≡ None
-            → IfOk result (λ p. IsTakenIn S.Store self.new m l (record { number = number.now; body = body.now }) p.0 p.1) }
-        ensures room { IsHonest S.Store self.new.store → (k : Kept) → Stands S.Store self.old.store k → OnOk result (length k.receipts < 1_000_000_000) }
-        ensures counted { IfOk result (λ p. self.new.store.writes ≡ saturated (self.old.store.writes + p.1.writes)) }
+        ensures answered { IsHonest S.Store self.new.store → (e : List EventValue) (k : Kept)
+            → Stands S.Store self.old.store k → StandsFor sha256 reading e k
+            → IfSome self.old.known (λ rows. AreHeld k.bodies rows.items)
+            → reply_alike (union e) 1 number.now digest k.receipts ≡ None
+            → IfOk result (λ p. IsTakenIn S.Store self.new e
+            (an_arrival number.now body.now) p.0 p.1) }
+        ensures room { IsHonest S.Store self.new.store → (k : Kept)
+            → Stands S.Store self.old.store k → OnOk result (length k.receipts < 1_000_000_000) }
+        ensures counted { IfOk result (λ p. self.new.store.writes
+            ≡ saturated (self.old.store.writes + p.1.writes)) }
         ensures uncounted { OnErr result (self.new.store.writes ≡ self.old.store.writes) }
-        ensures lost { OnErr result ((k : Kept) → Stands S.Store self.old.store k → Stands S.Store self.new.store k) }
+        ensures lost { OnErr result ((k : Kept) → Stands S.Store self.old.store k
+            → Stands S.Store self.new.store k) }
         ensures forgotten { OnErr result (self.new.known ≡ None) }
         ensures crash { IsHonest S.Store self.new.store
-            → (m : List MRow) (l : List ArrivalValue) (k : Kept)
-            → Stands S.Store self.old.store k → StandsFor sha256 reading m l k
+            → (e : List EventValue) (k : Kept)
+            → Stands S.Store self.old.store k → StandsFor sha256 reading e k
             → IfSome self.old.known (λ rows. AreHeld k.bodies rows.items)
-            → reply_alike m 1 number.now digest k.receipts ≡ None
-            → AddsStoreFor S.Store self.old.store.conn self.new.store.conn result m
-            (l ++ record { number = number.now; body = body.now } ∷ []) }
+            → reply_alike (union e) 1 number.now digest k.receipts ≡ None
+            → AddsStoreFor S.Store self.old.store.conn self.new.store.conn result
+            (e ++ arrived (an_arrival number.now body.now) ∷ []) }
         ensures honest { IsHonest S.Store self.new.store → IsHonest S.Store self.old.store }
     {
         let mut held = self.take_held(alloc)?;
@@ -144,7 +159,10 @@ impl<S: Alter> Desk<S> {
     fn take_held(&mut self, alloc: Global) -> Result<Vec<usize>, SFault>
         ensures same { IsAsBefore S.Store self.old.store self.new.store }
         ensures forgotten { self.new.known ≡ None }
-        ensures rows { IsHonest S.Store self.new.store → (m : List MRow) (l : List ArrivalValue) (k : Kept) → Stands S.Store self.old.store k → StandsFor sha256 reading m l k → IfSome self.old.known (λ rows. AreHeld k.bodies rows.items) → IfOk result (λ rows. AreHeld k.bodies rows.items) }
+        ensures rows { IsHonest S.Store self.new.store → (e : List EventValue) (k : Kept)
+            → Stands S.Store self.old.store k → StandsFor sha256 reading e k
+            → IfSome self.old.known (λ rows. AreHeld k.bodies rows.items)
+            → IfOk result (λ rows. AreHeld k.bodies rows.items) }
     {
         match self.known.take() {
             Some(rows) => Ok(rows),
@@ -164,18 +182,25 @@ fn take_in<S: Alter>(
     held: &mut Vec<usize>,
 ) -> Result<(Reply, Work), SFault>
     requires { digest ≡ sha256 body.now }
-    ensures answered { IsHonest S.Store store.new → (m : List MRow) (l : List ArrivalValue) (k : Kept) → Stands S.Store store.old k → StandsFor sha256 reading m l k → AreHeld k.bodies held.old.items → reply_alike m 1 number.now digest k.receipts ≡ None
-        → IfOk result (λ p. IsTaken S.Store store.new m l (record { number = number.now; body = body.now }) held.new.items p.0 p.1) }
-    ensures room { IsHonest S.Store store.new → (k : Kept) → Stands S.Store store.old k → OnOk result (length k.receipts < 1_000_000_000) }
-    ensures counted { IfOk result (λ p. store.new.writes ≡ saturated (store.old.writes + p.1.writes)) }
-    ensures uncounted { OnErr result (store.new.writes ≡ store.old.writes) }
-    ensures lost { OnErr result ((k : Kept) → Stands S.Store store.old k → Stands S.Store store.new k) }
-    ensures crash { IsHonest S.Store store.new → (m : List MRow) (l : List ArrivalValue) (k : Kept)
-        → Stands S.Store store.old k → StandsFor sha256 reading m l k
+    ensures answered { IsHonest S.Store store.new → (e : List EventValue) (k : Kept)
+        → Stands S.Store store.old k → StandsFor sha256 reading e k
         → AreHeld k.bodies held.old.items
-        → reply_alike m 1 number.now digest k.receipts ≡ None
-        → AddsStoreFor S.Store store.old.conn store.new.conn result m
-        (l ++ record { number = number.now; body = body.now } ∷ []) }
+        → reply_alike (union e) 1 number.now digest k.receipts ≡ None
+        → IfOk result (λ p. IsTaken S.Store store.new e (an_arrival number.now body.now)
+        held.new.items p.0 p.1) }
+    ensures room { IsHonest S.Store store.new → (k : Kept) → Stands S.Store store.old k
+        → OnOk result (length k.receipts < 1_000_000_000) }
+    ensures counted { IfOk result (λ p. store.new.writes
+        ≡ saturated (store.old.writes + p.1.writes)) }
+    ensures uncounted { OnErr result (store.new.writes ≡ store.old.writes) }
+    ensures lost { OnErr result ((k : Kept) → Stands S.Store store.old k
+        → Stands S.Store store.new k) }
+    ensures crash { IsHonest S.Store store.new → (e : List EventValue) (k : Kept)
+        → Stands S.Store store.old k → StandsFor sha256 reading e k
+        → AreHeld k.bodies held.old.items
+        → reply_alike (union e) 1 number.now digest k.receipts ≡ None
+        → AddsStoreFor S.Store store.old.conn store.new.conn result
+        (e ++ arrived (an_arrival number.now body.now) ∷ []) }
     ensures honest { IsHonest S.Store store.new → IsHonest S.Store store.old }
 {
     let next = next_receipt(store)?;
@@ -190,7 +215,8 @@ fn take_in<S: Alter>(
 // The number of the next receipt.
 fn next_receipt<S: Alter>(store: &mut Store<S>) -> Result<u64, SFault>
     ensures same { IsAsBefore S.Store store.old store.new }
-    ensures next { IsHonest S.Store store.new → (k : Kept) → Stands S.Store store.old k → IfOk result (λ n. length k.receipts + 1 ≡ n) }
+    ensures next { IsHonest S.Store store.new → (k : Kept) → Stands S.Store store.old k
+        → IfOk result (λ n. length k.receipts + 1 ≡ n) }
     ensures room { IfOk result (λ n. n ≤ 1_000_000_000) }
 {
     let count = store.receipt_count()?;
@@ -212,17 +238,23 @@ fn keep<S: Alter>(
     body: &[u8],
 ) -> Result<Work, SFault>
     requires { IfSome (held_row found) (λ r. r < length store.old.manifest) }
-    ensures lost { OnErr result ((k : Kept) → Stands S.Store store.old k → Stands S.Store store.new k) }
-    ensures kept { IfOk result (λ work. IsHonest S.Store store.new → (m : List MRow) (l : List ArrivalValue) (n : List ℕ) (k : Kept) → Stands S.Store store.old k → IsNew m l (record { number = n; body = body.now }) k found held.old.items number receipt.now → IsKept S.Store store.new m l (record { number = n; body = body.now }) held.new.items work) }
+    ensures lost { OnErr result ((k : Kept) → Stands S.Store store.old k
+        → Stands S.Store store.new k) }
+    ensures kept { IfOk result (λ work. IsHonest S.Store store.new
+        → (e : List EventValue) (n : List ℕ) (k : Kept) → Stands S.Store store.old k
+        → IsNew e (an_arrival n body.now) k found held.old.items number receipt.now
+        → IsKept S.Store store.new e (an_arrival n body.now) held.new.items work) }
     ensures crash { IsHonest S.Store store.new
-        → (m : List MRow) (l : List ArrivalValue) (n : List ℕ) (k : Kept)
+        → (e : List EventValue) (n : List ℕ) (k : Kept)
         → Stands S.Store store.old k
-        → IsNew m l (record { number = n; body = body.now }) k found held.old.items
+        → IsNew e (an_arrival n body.now) k found held.old.items
         number receipt.now
-        → AddsStoreFor S.Store store.old.conn store.new.conn result m
-        (l ++ record { number = n; body = body.now } ∷ []) }
-    ensures idle { IfOk result (λ work. is_old held.old.items (held_row found) ≡ true → work ≡ no_work) }
-    ensures counted { IfOk result (λ work. store.new.writes ≡ saturated (store.old.writes + work.writes)) }
+        → AddsStoreFor S.Store store.old.conn store.new.conn result
+        (e ++ arrived (an_arrival n body.now) ∷ []) }
+    ensures idle { IfOk result (λ work. is_old held.old.items (held_row found) ≡ true
+        → work ≡ no_work) }
+    ensures counted { IfOk result (λ work. store.new.writes
+        ≡ saturated (store.old.writes + work.writes)) }
     ensures uncounted { OnErr result (store.new.writes ≡ store.old.writes) }
     ensures honest { IsHonest S.Store store.new → IsHonest S.Store store.old }
 {
@@ -252,16 +284,22 @@ fn keep_deposit<S: Alter>(
     body: &[u8],
 ) -> Result<Work, SFault>
     requires { row < length store.old.manifest }
-    ensures lost { OnErr result ((k : Kept) → Stands S.Store store.old k → Stands S.Store store.new k) }
+    ensures lost { OnErr result ((k : Kept) → Stands S.Store store.old k
+        → Stands S.Store store.new k) }
     ensures crash { IsHonest S.Store store.new
-        → (m : List MRow) (l : List ArrivalValue) (n : List ℕ) (k : Kept)
+        → (e : List EventValue) (n : List ℕ) (k : Kept)
         → Stands S.Store store.old k → is_among held.old.items (Some row) ≡ false
-        → IsNew m l (record { number = n; body = body.now }) k (Holding row deposit) held.old.items
+        → IsNew e (an_arrival n body.now) k (Holding row deposit) held.old.items
         number receipt.now
-        → AddsStoreFor S.Store store.old.conn store.new.conn result m
-        (l ++ record { number = n; body = body.now } ∷ []) }
-    ensures kept { IfOk result (λ work. IsHonest S.Store store.new → (m : List MRow) (l : List ArrivalValue) (n : List ℕ) (k : Kept) → Stands S.Store store.old k → is_among held.old.items (Some row) ≡ false → IsNew m l (record { number = n; body = body.now }) k (Holding row deposit) held.old.items number receipt.now → IsKept S.Store store.new m l (record { number = n; body = body.now }) held.new.items work) }
-    ensures counted { IfOk result (λ work. store.new.writes ≡ saturated (store.old.writes + work.writes)) }
+        → AddsStoreFor S.Store store.old.conn store.new.conn result
+        (e ++ arrived (an_arrival n body.now) ∷ []) }
+    ensures kept { IfOk result (λ work. IsHonest S.Store store.new
+        → (e : List EventValue) (n : List ℕ) (k : Kept) → Stands S.Store store.old k
+        → is_among held.old.items (Some row) ≡ false
+        → IsNew e (an_arrival n body.now) k (Holding row deposit) held.old.items number
+        receipt.now → IsKept S.Store store.new e (an_arrival n body.now) held.new.items work) }
+    ensures counted { IfOk result (λ work. store.new.writes
+        ≡ saturated (store.old.writes + work.writes)) }
     ensures uncounted { OnErr result (store.new.writes ≡ store.old.writes) }
     ensures honest { IsHonest S.Store store.new → IsHonest S.Store store.old }
 {

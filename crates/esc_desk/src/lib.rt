@@ -27,20 +27,25 @@
 //! arrived, each at its highest arrived revision; and arrivals alike in number and body get one receipt and the first
 //! one's reply.
 //!
-//! The contracts say it by a relation, `Serves`: a store serves a manifest and a list of arrivals if it holds the
-//! manifest's rows, the receipts that the list leaves, the body of each held row, the rows of the latest chain, and
-//! that chain's tables with their before-images. A store that was just made serves the empty list
-//! ([`new_store_stands_for_none`]). A desk serves what its store serves (`DeskServes`): it also remembers which rows are
-//! held, and what it remembers is so. A desk that served a list serves, after an arrival that was answered, that list with
-//! the arrival; after an `Err` it serves the list as it was. What one arrival changes is one change of the
-//! store, whole or not at all, so an arrival that was refused by `S1` (the store failed), `S2` (memory was refused) or
-//! `S4` (there are 1,000,000,000 receipts) is as one that never came. So runs compose, whatever came before them and
-//! however they were cut.
+//! The contracts speak of lists of events (`EventValue`): a manifest was taken in, or an arrival was answered. A store
+//! serves a list of events (`Serves`) if it holds the rows that are listed, the receipts that the arrivals leave, the body
+//! of each held row, the rows of the latest chain, and that chain's tables with their before-images. A store that was just
+//! made serves its manifest alone ([`new_store_stands_for_its_manifest`]); what it means to serve a manifest and then
+//! arrivals is said without events by [`stands_for_manifest_and_arrivals`]. A desk serves what its store serves
+//! (`DeskServes`): it also remembers which rows are held, and what it remembers is so.
+//!
+//! Most clauses begin with a word of `specs/Calls.antt`, which says of which events they speak. `OkAfter` is "where the
+//! store was honest, of whatever events the desk served before the call, if it succeeded": a desk that served a list
+//! serves, after an arrival that was answered, that list with the arrival. `OkOver` is the same of a read, and `Stays`
+//! says that a call changed nothing. After an `Err` the desk serves the list as it was (`ServesStill`). What one arrival
+//! changes is one change of the store, whole or not at all, so an arrival that was refused by `S1` (the store failed), `S2`
+//! (out of memory) or `S4` (there are 1,000,000,000 receipts) is as one that never came. So runs compose, whatever came
+//! before them and however they were cut.
 //!
 //! What was answered is kept through a crash. An arrival is *in doubt* once it was refused by `S1` or `S2`, until another
 //! changes a table: a crash may leave it taken in. The clauses `left` of [`Desk::open`] and `crash` of [`Desk::arrive`] and
-//! [`Desk::run`] say that whatever a crash leaves is a store of the answered arrivals, or of them and one of those in doubt
-//! (`CrashLeaves`), and none is in doubt in a store that was just made or opened. `esc_kept` follows it to the next open.
+//! [`Desk::run`] say that whatever a crash leaves is a store of the events so far, or of them and one of those in doubt
+//! (`DeskLeaves`), and none is in doubt in a store that was just made or opened. `esc_kept` follows it to the next open.
 //!
 //! Each clause on a store has the premise that the store was honest, which is that the disk gave back what was written
 //! to it. The definitions go by digests. That no two different bodies of the list have one digest is a premise of
@@ -76,7 +81,10 @@ mod walk;
 pub use arrival::Arrival;
 pub use desk::Desk;
 pub use esc_store::{N1, Number, Reply, SFault, Verdict, number};
-pub use laws::{held_as_arrived, new_store_stands_for_none, worked_replies};
+pub use laws::{
+    held_as_arrived, new_store_stands_for_its_manifest, stands_for_manifest_and_arrivals,
+    worked_replies,
+};
 pub use running::Outcome;
 pub use status::{End, Status};
 pub use walk::{Pages, Walk};

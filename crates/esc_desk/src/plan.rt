@@ -44,8 +44,11 @@ pub(crate) fn plan_move<S: Alter>(
     ensures same { IsAsBefore S.Store store.old store.new }
     ensures few_old { IfOk result (λ p. length p.old.items ≤ 4096) }
     ensures few_new { IfOk result (λ p. length p.new.items ≤ 4096) }
-    ensures past { IfOk result (λ p. length p.deposits.items ≡ length p.new.items - common_front p.old.items p.new.items) }
-    ensures planned { IsHonest S.Store store.new → (k : Kept) → Stands S.Store store.old k → (body : List ℕ) → reading body ≡ Ok deposit → IfOk result (IsPlanned reading k held.now row body) }
+    ensures past { IfOk result (λ p. length p.deposits.items
+        ≡ length p.new.items - common_front p.old.items p.new.items) }
+    ensures planned { IsHonest S.Store store.new → (k : Kept) → Stands S.Store store.old k
+        → (body : List ℕ) → reading body ≡ Ok deposit
+        → IfOk result (IsPlanned reading k held.now row body) }
 {
     let old = store.chain(alloc)?;
     if old.len() > MOST_STEPS {
@@ -66,8 +69,10 @@ fn next_steps(
 ) -> Result<Vec<Step>, SFault>
     requires { row < length manifest.now }
     ensures few { IfOk result (λ steps. length steps.items ≤ 4096) }
-    ensures steps { IfOk result (λ steps. steps.items ≡ map (step_at manifest.now) (rows_in steps.items)) }
-    ensures latest { IfOk result (λ steps. IsLatestChain manifest.now (with_held held.now row) (rows_in steps.items)) }
+    ensures steps { IfOk result (λ steps. steps.items
+        ≡ map (step_at manifest.now) (rows_in steps.items)) }
+    ensures latest { IfOk result
+        (λ steps. IsLatestChain manifest.now (with_held held.now row) (rows_in steps.items)) }
     ensures in_range { OnOk result (InRange manifest.now (with_held held.now row)) }
     ensures accepted { OnOk result (IsAccepted manifest.now) }
 {
@@ -129,7 +134,10 @@ fn deposits_of<S: Alter>(
 ) -> Result<Vec<Deposit>, SFault>
     ensures same { IsAsBefore S.Store store.old store.new }
     ensures count { IfOk result (λ v. length v.items ≡ length steps.now) }
-    ensures read { IsHonest S.Store store.new → (k : Kept) → Stands S.Store store.old k → (body : List ℕ) → reading body ≡ Ok deposit → IfOk result (λ v. v.items ≡ deposits_of reading (body_put k.bodies row body) (rows_in steps.now)) }
+    ensures read { IsHonest S.Store store.new → (k : Kept) → Stands S.Store store.old k
+        → (body : List ℕ) → reading body ≡ Ok deposit
+        → IfOk result (λ v. v.items
+        ≡ deposits_of reading (body_put k.bodies row body) (rows_in steps.now)) }
 {
     let mut given = Some(deposit);
     let mut deposits = Vec::new(alloc);
@@ -150,7 +158,9 @@ fn next_deposit<S: Alter>(
 ) -> Result<Deposit, SFault>
     ensures same { IsAsBefore S.Store store.old store.new }
     ensures given { OnOk result (IsSomeOrLost given.old given.new) }
-    ensures read { IsHonest S.Store store.new → (k : Kept) → Stands S.Store store.old k → (body : List ℕ) → IfSome given.old (λ d. reading body ≡ Ok d) → IfOk result (λ d. d ≡ deposit_of reading (body_put k.bodies given_row body row)) }
+    ensures read { IsHonest S.Store store.new → (k : Kept) → Stands S.Store store.old k
+        → (body : List ℕ) → IfSome given.old (λ d. reading body ≡ Ok d)
+        → IfOk result (λ d. d ≡ deposit_of reading (body_put k.bodies given_row body row)) }
 {
     if row == given_row {
         return match given.take() {
@@ -171,7 +181,8 @@ fn stored_deposit<S: Alter>(
     row: usize,
 ) -> Result<Deposit, SFault>
     ensures same { IsAsBefore S.Store store.old store.new }
-    ensures read { IsHonest S.Store store.new → (k : Kept) → Stands S.Store store.old k → IfOk result (λ d. d ≡ deposit_of reading (k.bodies row)) }
+    ensures read { IsHonest S.Store store.new → (k : Kept) → Stands S.Store store.old k
+        → IfOk result (λ d. d ≡ deposit_of reading (k.bodies row)) }
 {
     let Some(body) = store.body_of(alloc, row)? else {
         return Err(SFault::S1);

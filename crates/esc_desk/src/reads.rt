@@ -4,13 +4,13 @@ ghost use Rattle.std.specs.Prelude.{◌≡◌, ℕ, List, Ok, Some, length, opti
 ghost use Rattle.sha2.specs.Sha256.{sha256};
 ghost use Rattle.esc_tables.specs.DepositValue.{DepositValue};
 ghost use Rattle.esc_tables.specs.Reading.{reading};
-ghost use Rattle.esc_manifest.specs.declared.row.MRow.{MRow};
 ghost use Rattle.esc_apply.specs.declared.front.Step.{Step};
 ghost use Rattle.esc_store.specs.Kept.{Kept, AreHeld};
 ghost use Rattle.esc_store.specs.Standing.{Stands, IsHonest, IsAsBefore};
-ghost use Rattle.esc_desk.specs.ArrivalValue.{ArrivalValue};
+ghost use Rattle.esc_desk.specs.Calls.{store_of, writes_of, OkOver, Stays};
+ghost use Rattle.esc_desk.specs.Events.{EventValue, union};
 ghost use Rattle.esc_desk.specs.Stands.{held_body};
-ghost use Rattle.esc_desk.specs.Serving.{Serves, DeskServes};
+ghost use Rattle.esc_desk.specs.Serving.{Serves};
 ghost use Rattle.esc_desk.specs.Reads.{last, replies_of, AreTables, SaysEnd, IsEnd, IsStatus};
 
 use crate::desk::Desk;
@@ -28,7 +28,8 @@ use std::collections::BTreeMap;
 impl<S: Alter> Desk<S> {
     /// The manifest that the desk's store was made with. Takes no memory.
     pub fn manifest(&self) -> &Manifest
-        ensures manifest { (m : List MRow) (l : List ArrivalValue) → Serves S.Store self.now.store m l → result.now ≡ m }
+        ensures manifest { (e : List EventValue)
+            → Serves S.Store (store_of self.now) e → result.now ≡ union e }
     {
         self.store.manifest()
     }
@@ -36,48 +37,48 @@ impl<S: Alter> Desk<S> {
     /// How many objects the desk has written or removed since its store was opened; it stays at its greatest value.
     /// Takes no memory.
     pub fn writes(&self) -> u64
-        ensures { result ≡ self.now.store.writes }
+        ensures count { result ≡ writes_of self.now }
     {
         self.store.writes()
     }
 
     /// All replies, in the order of their receipts. `S1`, `S2`.
-    #[tactic(auto, using(crate::proofs::StoreFacts::still_serves))]
+    #[tactic(auto, using(crate::proofs::StoreFacts::still_stays))]
     pub fn receipts(&mut self, alloc: Global) -> Result<Vec<Reply>, SFault>
-        ensures same { IsAsBefore S.Store self.old.store self.new.store }
-        ensures serves { (m : List MRow) (l : List ArrivalValue) → DeskServes S.Store self.old m l → DeskServes S.Store self.new m l }
-        ensures all { IsHonest S.Store self.new.store → (m : List MRow) (l : List ArrivalValue) → Serves S.Store self.old.store m l → IfOk result (λ replies. replies.items ≡ replies_of m l) }
+        ensures stays { Stays S.Store self.old self.new }
+        ensures all { OkOver S.Store self.old self.new result
+            (λ e replies. replies.items ≡ replies_of e) }
     {
         self.store.receipts(alloc)
     }
 
     /// The rows of the manifest of which a body is held, from 0, rising. `S1`, `S2`.
-    #[tactic(auto, using(crate::proofs::StoreFacts::still_serves))]
+    #[tactic(auto, using(crate::proofs::StoreFacts::still_stays))]
     pub fn held(&mut self, alloc: Global) -> Result<Vec<usize>, SFault>
-        ensures same { IsAsBefore S.Store self.old.store self.new.store }
-        ensures serves { (m : List MRow) (l : List ArrivalValue) → DeskServes S.Store self.old m l → DeskServes S.Store self.new m l }
-        ensures rows { IsHonest S.Store self.new.store → (m : List MRow) (l : List ArrivalValue) → Serves S.Store self.old.store m l → IfOk result (λ rows. AreHeld (held_body sha256 reading m l) rows.items) }
+        ensures stays { Stays S.Store self.old self.new }
+        ensures rows { OkOver S.Store self.old self.new result
+            (λ e rows. AreHeld (held_body sha256 reading e) rows.items) }
     {
         self.store.held_by_receipts(alloc)
     }
 
     /// The objects of the latest chain's tables. `S1`, `S2`.
-    #[tactic(auto, using(crate::proofs::StoreFacts::still_serves))]
+    #[tactic(auto, using(crate::proofs::StoreFacts::still_stays))]
     pub fn tables(&mut self, alloc: Global) -> Result<BTreeMap<Key, Object>, SFault>
-        ensures same { IsAsBefore S.Store self.old.store self.new.store }
-        ensures serves { (m : List MRow) (l : List ArrivalValue) → DeskServes S.Store self.old m l → DeskServes S.Store self.new m l }
-        ensures objects { IsHonest S.Store self.new.store → (m : List MRow) (l : List ArrivalValue) → Serves S.Store self.old.store m l → IfOk result (λ objects. AreTables m l objects.entries) }
+        ensures stays { Stays S.Store self.old self.new }
+        ensures objects { OkOver S.Store self.old self.new result
+            (λ e objects. AreTables e objects.entries) }
     {
         self.store.tables(alloc)
     }
 
     /// What the latest chain's last deposit says of the registry, read from its body's envelope; `None` where there is no
     /// chain. `S1`, `S2`.
-    #[tactic(auto, using(crate::proofs::StoreFacts::still_serves))]
+    #[tactic(auto, using(crate::proofs::StoreFacts::still_stays))]
     pub fn end(&mut self, alloc: Global) -> Result<Option<End>, SFault>
-        ensures same { IsAsBefore S.Store self.old.store self.new.store }
-        ensures serves { (m : List MRow) (l : List ArrivalValue) → DeskServes S.Store self.old m l → DeskServes S.Store self.new m l }
-        ensures end { IsHonest S.Store self.new.store → (m : List MRow) (l : List ArrivalValue) → Serves S.Store self.old.store m l → IfOk result (λ end. IsEnd m l end) }
+        ensures stays { Stays S.Store self.old self.new }
+        ensures end { OkOver S.Store self.old self.new result
+            (λ e end. IsEnd e end) }
     {
         let steps = self.store.chain(alloc)?;
         match last_row(&steps) {
@@ -90,11 +91,11 @@ impl<S: Alter> Desk<S> {
     }
 
     /// How far the desk has come. `S1`, `S2`.
-    #[tactic(auto, using(crate::proofs::StoreFacts::still_serves))]
+    #[tactic(auto, using(crate::proofs::StoreFacts::still_stays))]
     pub fn status(&mut self, alloc: Global) -> Result<Status, SFault>
-        ensures same { IsAsBefore S.Store self.old.store self.new.store }
-        ensures serves { (m : List MRow) (l : List ArrivalValue) → DeskServes S.Store self.old m l → DeskServes S.Store self.new m l }
-        ensures status { IsHonest S.Store self.new.store → (m : List MRow) (l : List ArrivalValue) → Serves S.Store self.old.store m l → IfOk result (λ status. IsStatus m l status) }
+        ensures stays { Stays S.Store self.old self.new }
+        ensures status { OkOver S.Store self.old self.new result
+            (λ e status. IsStatus e status) }
     {
         let receipts = self.store.receipt_count()?;
         let held = self.store.held_by_receipts(alloc)?;
@@ -149,7 +150,9 @@ fn end_of_steps(steps: &[Step]) -> Option<(Place, u32)>
 // What the deposit of the body that the store keeps for a row says of the registry. Its envelope says it: no row is read.
 fn stored_end<S: Alter>(store: &mut Store<S>, alloc: Global, row: usize) -> Result<End, SFault>
     ensures same { IsAsBefore S.Store store.old store.new }
-    ensures says { IsHonest S.Store store.new → (k : Kept) → Stands S.Store store.old k → IfOk result (λ end. (body : List ℕ) × (k.bodies row ≡ Some body) × ((d : DepositValue) → reading body ≡ Ok d → SaysEnd d end)) }
+    ensures says { IsHonest S.Store store.new → (k : Kept) → Stands S.Store store.old k
+        → IfOk result (λ end. (body : List ℕ) × (k.bodies row ≡ Some body) × ((d : DepositValue)
+        → reading body ≡ Ok d → SaysEnd d end)) }
 {
     let Some(body) = store.body_of(alloc, row)? else {
         return Err(SFault::S1);

@@ -1,12 +1,9 @@
 //! Runs: lists of arrivals, one after another.
 
-ghost use Rattle.std.specs.Prelude.{◌≡◌, ◌++◌, List, IfOk, OnErr};
-ghost use Rattle.esc_manifest.specs.declared.row.MRow.{MRow};
-ghost use Rattle.esc_store.specs.Standing.{IsHonest};
-ghost use Rattle.esc_desk.specs.ArrivalValue.{ArrivalValue};
-ghost use Rattle.esc_desk.specs.Running.{Ran, Takes, answered};
-ghost use Rattle.esc_desk.specs.Serving.{DeskServes};
-ghost use Rattle.esc_desk.specs.Crashes.{CrashLeaves, LeavesOutcome, doubtful_after};
+ghost use Rattle.std.specs.Prelude.{◌≡◌, IfOk, OnErr};
+ghost use Rattle.esc_desk.specs.Calls.{After, OkAfter, CrashAfter, WasHonest, DeskLeavesRun};
+ghost use Rattle.esc_desk.specs.Running.{Ran, Takes};
+ghost use Rattle.esc_desk.specs.Crashes.{LeavesOutcome};
 
 use crate::arrival::Arrival;
 use crate::desk::Desk;
@@ -30,19 +27,16 @@ impl<S: Alter> Desk<S> {
     /// For every accepted manifest and every list of arrivals, with repeats, losses and reorderings, the tables hold
     /// for each object what the last deposit that mentions it says on the latest unbroken chain of the listed deposits
     /// that arrived, each at its highest arrived revision; and arrivals alike in number and body get one receipt and
-    /// the first one's reply. Where the desk served a manifest and a list of arrivals before, it serves that list
-    /// followed by the answered arrivals, so runs compose. `NoMemory` is answered before the first arrival.
+    /// the first one's reply. Where the desk served a list of events before, it serves that list followed by the
+    /// answered arrivals, so runs compose. `NoMemory` is answered before the first arrival.
     pub fn run(&mut self, alloc: Global, arrivals: &[Arrival<'_>]) -> Result<Vec<Outcome>, NoMemory>
-        ensures ran { IsHonest S.Store self.new.store → IfOk result (λ outcomes. (m : List MRow) (before : List ArrivalValue) → DeskServes S.Store self.old m before → Ran S.Store self.new m before arrivals.now outcomes.items) }
-        ensures crash { IfOk result (λ outcomes.
-            (m : List MRow) (before doubtful : List ArrivalValue)
-            → DeskServes S.Store self.old m before
-            → CrashLeaves S.Store self.old.store.conn m before doubtful
-            → CrashLeaves S.Store self.new.store.conn m
-            (before ++ answered arrivals.now outcomes.items)
-            (doubtful_after m before doubtful arrivals.now outcomes.items)) }
+        ensures ran { OkAfter S.Store self.old self.new result
+            (λ before outcomes. Ran S.Store self.new before arrivals.now outcomes.items) }
+        ensures crash { IfOk result (λ outcomes. CrashAfter S.Store self.old
+            (λ before doubtful. DeskLeavesRun S.Store self.new before doubtful
+            arrivals.now outcomes.items)) }
         ensures refused { OnErr result (self.new ≡ self.old) }
-        ensures honest { IsHonest S.Store self.new.store → IsHonest S.Store self.old.store }
+        ensures honest { WasHonest S.Store self.old self.new }
     {
         let mut outcomes = Vec::with_capacity(alloc, arrivals.len())?;
         for arrival in arrivals {
@@ -54,12 +48,12 @@ impl<S: Alter> Desk<S> {
 
     // Takes one arrival.
     fn take(&mut self, alloc: Global, arrival: &Arrival<'_>) -> Outcome
-        ensures taken { IsHonest S.Store self.new.store → (m : List MRow) (l : List ArrivalValue) → DeskServes S.Store self.old m l → Takes S.Store self.new m l arrival.now result }
-        ensures crash { (m : List MRow) (l doubtful : List ArrivalValue)
-            → DeskServes S.Store self.old m l
-            → CrashLeaves S.Store self.old.store.conn m l doubtful
-            → LeavesOutcome S.Store self.new.store.conn m l doubtful arrival.now result }
-        ensures honest { IsHonest S.Store self.new.store → IsHonest S.Store self.old.store }
+        ensures taken { After S.Store self.old self.new
+            (λ e. Takes S.Store self.new e arrival.now result) }
+        ensures crash { CrashAfter S.Store self.old
+            (λ e doubtful. LeavesOutcome S.Store self.new.store.conn e doubtful
+            arrival.now result) }
+        ensures honest { WasHonest S.Store self.old self.new }
     {
         match self.arrive(alloc, &arrival.number, arrival.body) {
             Ok((reply, _work)) => Outcome::Done(reply),

@@ -3,13 +3,10 @@
 ghost use Rattle.std.specs.Prelude.{◌≡◌, ◌<◌, ◌++◌, ◌∷◌, [], List, Some, None, is_some, IfOk, OnOk};
 ghost use Rattle.std.specs.Vec.Iter.{into_iter_items, into_iter_len};
 ghost use Rattle.std.specs.Borrow.{sem, RestsIfErr};
-ghost use Rattle.esc_manifest.specs.declared.row.MRow.{MRow};
-ghost use Rattle.esc_apply.specs.Objects.{Entry, InOrder};
+ghost use Rattle.esc_apply.specs.Objects.{Entry};
 ghost use Rattle.esc_store.specs.Standing.{IsHonest, IsAsBefore};
-ghost use Rattle.esc_desk.specs.ArrivalValue.{ArrivalValue};
-ghost use Rattle.esc_desk.specs.Reads.{AreTables};
 ghost use Rattle.esc_desk.specs.Places.{first_kind, later_kind, kinds_left, IsPlaceBehind};
-ghost use Rattle.esc_desk.specs.Serving.{Serves, DeskServes};
+ghost use Rattle.esc_desk.specs.Calls.{Over, OkOver, Rests};
 
 use crate::desk::Desk;
 use esc_apply::Objects;
@@ -45,29 +42,29 @@ pub struct Walk<'a, S: Alter, P = Pages> {
 
 impl<S: Alter> Desk<S> {
     ghost use Rattle.esc_desk.specs.contracts.desk.Desk.{the_row};
-    ghost use Rattle.esc_desk.specs.Walking.{of_kinds, AreToCome, Lists};
+    ghost use Rattle.esc_desk.specs.Walking.{AreToCome, ListsPages, ListsTables, desk_of};
 
     /// The objects of the latest chain's tables, those of one kind or of all, one at a time by key. No more than a page
     /// of them is held in memory. `S1`, `S2`.
     pub fn walk(&mut self, alloc: Global, kind: Option<Kind>) -> Result<Walk<'_, S>, SFault>
-        ensures* refused { sem 𝓛 (RestsIfErr (the_row S.row S.Store) self.entry (λ walk. walk.desk.ghost_name) result (λ last. IsAsBefore S.Store self.old.store last.store × (last.known ≡ self.old.known) × ((m : List MRow) (l : List ArrivalValue) → DeskServes S.Store self.old m l → DeskServes S.Store last m l))) }
-        ensures same_reference { IfOk result (λ walk. walk.desk.ghost_name ≡ self.entry.ghost_name) }
-        ensures same { IfOk result (λ walk. IsAsBefore S.Store self.old.store walk.desk.now.store) }
-        ensures known { IfOk result (λ walk. walk.desk.now.known ≡ self.old.known) }
-        ensures serves { IfOk result (λ walk. (m : List MRow) (l : List ArrivalValue) → DeskServes S.Store self.old m l → DeskServes S.Store walk.desk.now m l) }
-        ensures lists { IfOk result (λ walk. IsHonest S.Store walk.desk.now.store → (m : List MRow) (l : List ArrivalValue) → Serves S.Store self.old.store m l → (es : List Entry) → AreTables m l es → InOrder es → Lists S.Store walk (of_kinds kind es)) }
+        ensures* refused { sem 𝓛 (RestsIfErr (the_row S.row S.Store) self.entry
+            (λ walk. walk.desk.ghost_name) result (Rests S.Store self.old)) }
+        ensures same_reference { IfOk result (λ walk. walk.desk.ghost_name
+            ≡ self.entry.ghost_name) }
+        ensures rests { IfOk result (λ walk. Rests S.Store self.old (desk_of walk)) }
+        ensures lists { IfOk result (λ walk. Over S.Store self.old (desk_of walk)
+            (λ e. ListsTables S.Store walk kind e)) }
     {
         let pages = self.first_page(alloc, kind)?;
         Ok(Walk { desk: self, pages })
     }
 
     // The first page of a walk.
-    #[tactic(auto, using(crate::proofs::StoreFacts::still_serves))]
+    #[tactic(auto, using(crate::proofs::StoreFacts::still_stays))]
     fn first_page(&mut self, alloc: Global, kind: Option<Kind>) -> Result<Pages, SFault>
-        ensures same { IsAsBefore S.Store self.old.store self.new.store }
-        ensures known { self.new.known ≡ self.old.known }
-        ensures serves { (m : List MRow) (l : List ArrivalValue) → DeskServes S.Store self.old m l → DeskServes S.Store self.new m l }
-        ensures lists { IfOk result (λ pages. IsHonest S.Store self.new.store → (m : List MRow) (l : List ArrivalValue) → Serves S.Store self.old.store m l → (es : List Entry) → AreTables m l es → InOrder es → AreToCome S.Store self.new.store pages (of_kinds kind es)) }
+        ensures rests { Rests S.Store self.old self.new }
+        ensures lists { OkOver S.Store self.old self.new result
+            (λ e pages. ListsPages S.Store self.new.store pages kind e) }
     {
         latest_chain_is_one();
         let _rows = self.store.manifest().rows();
@@ -82,7 +79,9 @@ impl<S: Alter> Desk<S> {
         ensures known { self.new.known ≡ self.old.known }
         ensures left { pages.new.left ≡ pages.old.left }
         ensures failed { pages.new.has_failed ≡ pages.old.has_failed }
-        ensures kept { OnOk result (IsHonest S.Store self.new.store → (es : List Entry) → AreToCome S.Store self.old.store pages.old es → AreToCome S.Store self.new.store pages.new es) }
+        ensures kept { OnOk result (IsHonest S.Store self.new.store → (es : List Entry)
+            → AreToCome S.Store self.old.store pages.old es
+            → AreToCome S.Store self.new.store pages.new es) }
         ensures full { OnOk result (into_iter_len pages.new.page ≡ 0 → pages.new.kind ≡ None) }
     {
         while pages.page.len() == 0 {
@@ -100,8 +99,12 @@ impl<S: Alter> Desk<S> {
         ensures known { self.new.known ≡ self.old.known }
         ensures left { pages.new.left ≡ pages.old.left }
         ensures failed { pages.new.has_failed ≡ pages.old.has_failed }
-        ensures kept { OnOk result (IsHonest S.Store self.new.store → pages.old.kind ≡ Some kind → into_iter_len pages.old.page ≡ 0 → (es : List Entry) → AreToCome S.Store self.old.store pages.old es → AreToCome S.Store self.new.store pages.new es) }
-        ensures nearer { OnOk result (into_iter_len pages.new.page ≡ 0 → kinds_left pages.new.kind < kinds_left (Some kind)) }
+        ensures kept { OnOk result (IsHonest S.Store self.new.store → pages.old.kind ≡ Some kind
+            → into_iter_len pages.old.page ≡ 0 → (es : List Entry)
+            → AreToCome S.Store self.old.store pages.old es
+            → AreToCome S.Store self.new.store pages.new es) }
+        ensures nearer { OnOk result (into_iter_len pages.new.page ≡ 0
+            → kinds_left pages.new.kind < kinds_left (Some kind)) }
     {
         let page = self
             .store
@@ -209,9 +212,9 @@ impl<'a, S: Alter> Objects for Walk<'a, S, Pages> {
 
     ghost in_order = { λ walk es h. h.order };
 
-    ghost stays = { λ walk. record { same_reference = refl; same = record { manifest = refl; writes = refl; survives = record { clean = Prim.omega arith; shield = λ h. h; counts = Prim.omega arith; limit = refl; closes = λ _ up. inl up; crash = λ _ db may. inl may }; stands = λ k h. h }; known = refl; serves = λ m l h. h } };
+    ghost stays = { λ walk. record { same_reference = refl; same = record { manifest = refl; writes = refl; survives = record { clean = Prim.omega arith; shield = λ h. h; counts = Prim.omega arith; limit = refl; closes = λ _ up. inl up; crash = λ _ db may. inl may }; stands = λ k h. h }; known = refl; serves = λ e h. h } };
 
-    ghost goes_on = { λ a b c p q. record { same_reference = q.same_reference ∙ p.same_reference; same = record { manifest = q.same.manifest ∙ p.same.manifest; writes = q.same.writes ∙ p.same.writes; survives = survives_then _ _ _ _ _ _ (λ _ db none. none) (λ _ db none. none) p.same.survives q.same.survives; stands = λ k h. q.same.stands k (p.same.stands k h) }; known = q.known ∙ p.known; serves = λ m l h. q.serves m l (p.serves m l h) } };
+    ghost goes_on = { λ a b c p q. record { same_reference = q.same_reference ∙ p.same_reference; same = record { manifest = q.same.manifest ∙ p.same.manifest; writes = q.same.writes ∙ p.same.writes; survives = survives_then _ _ _ _ _ _ (λ _ db none. none) (λ _ db none. none) p.same.survives q.same.survives; stands = λ k h. q.same.stands k (p.same.stands k h) }; known = q.known ∙ p.known; serves = λ e h. q.serves e (p.serves e h) } };
 
     ghost was_honest = { λ a b p clean. Prim.omega (arith, p.same.survives.clean, clean) };
 }

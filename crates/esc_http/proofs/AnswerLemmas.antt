@@ -80,7 +80,7 @@ module _ {S : Type 0} (g : Ghosts S) (desk : Desk S) where
   -- want of memory answers each request
   pub memory_answers : (request : Request) → IsAnswered g desk desk request out_of_memory
   memory_answers (refused refusal) = (refl, inr refl)
-  memory_answers (arrives a) = inr (record { kept = λ m l serves. serves; told = (S2, refl) })
+  memory_answers (arrives a) = inr (record { kept = λ e serves. serves; told = (S2, refl) })
   memory_answers (wants report) = (inl refl, inr (S2, refl))
 
   -- so it does whatever the input is

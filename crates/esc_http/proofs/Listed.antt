@@ -6,14 +6,13 @@ use Rattle.sqlite_trees.specs.declared.store.Store.{Ghosts}
 use Rattle.esc_envelope.specs.declared.kind.Kind.{Kind}
 use Rattle.esc_tables.specs.DepositValue.{DepositValue}
 use Rattle.esc_tables.specs.Reading.{reading}
-use Rattle.esc_manifest.specs.declared.row.MRow.{MRow}
 use Rattle.esc_apply.specs.Objects.{Entry, InOrder}
 use Rattle.esc_apply.specs.Registry.{IsEntriesOf}
 use Rattle.esc_apply.specs.Tables.{tables}
 use Rattle.esc_check.specs.Export.{heading, object_lines, is_of, export_text}
 use Rattle.esc_csv.specs.Lines.{text_of}
 use Rattle.esc_store.specs.declared.store.Store.{Store}
-use Rattle.esc_desk.specs.ArrivalValue.{ArrivalValue}
+use Rattle.esc_desk.specs.Events.{EventValue}
 use Rattle.esc_desk.specs.Reads.{AreTables}
 use Rattle.esc_desk.specs.Serving.{Serves}
 use Rattle.esc_desk.specs.Stands.{deposits_of, held_body}
@@ -23,9 +22,9 @@ abbrev pub AreListed : Type 0
 AreListed = (ds : List DepositValue) → (es : List Entry) × InOrder es × IsEntriesOf (tables ds) es
 
 -- so have those of what a store stands for
-pub listing : {S : Type 0} (g : Ghosts S) (store : Store S) (m : List MRow) (l : List ArrivalValue) → AreListed → Serves g store m l → (es : List Entry) × AreTables m l es × InOrder es
-listing g store m l listed serves =
-    let entries = listed (deposits_of reading (held_body sha256 reading m l) serves.kept.steps) in
+pub listing : {S : Type 0} (g : Ghosts S) (store : Store S) (e : List EventValue) → AreListed → Serves g store e → (es : List Entry) × AreTables e es × InOrder es
+listing g store e listed serves =
+    let entries = listed (deposits_of reading (held_body sha256 reading e) serves.kept.steps) in
     (entries.0, record { chain = serves.kept.steps; latest = serves.stands_for.chain; objects = entries.2 }, entries.1)
 
 filter_again : {X : Type 0} (p : X → Bool) (xs : List X) → filter p (filter p xs) ≡ filter p xs

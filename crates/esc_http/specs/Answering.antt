@@ -1,17 +1,14 @@
 -- Which request an input makes, and what answers it.
-use Rattle.std.specs.Prelude.{◌≡◌, ◌⊎◌, ℕ, ◌<◌, List, if◌then◌else◌, nat_le, length, take, Option, Some, None}
-use Rattle.sha2.specs.Sha256.{sha256}
+use Rattle.std.specs.Prelude.{◌≡◌, ◌⊎◌, ℕ, List, if◌then◌else◌, nat_le, length, take, Option, Some, None}
 use Rattle.sqlite_trees.specs.declared.store.Store.{Ghosts}
 use Rattle.httparse.specs.Grammar.{RequestHead}
-use Rattle.esc_tables.specs.Reading.{reading}
-use Rattle.esc_manifest.specs.declared.row.MRow.{MRow}
 use Rattle.esc_store.specs.declared.fault.SFault.{SFault}
 use Rattle.esc_store.specs.ReplyValue.{ReplyValue}
-use Rattle.esc_store.specs.Standing.{IsHonest, IsAsBefore}
 use Rattle.esc_desk.specs.declared.desk.Desk.{Desk}
-use Rattle.esc_desk.specs.ArrivalValue.{ArrivalValue}
-use Rattle.esc_desk.specs.Receipts.{receipts_of, reply_to}
-use Rattle.esc_desk.specs.Serving.{Serves, DeskServes, Answers}
+use Rattle.esc_desk.specs.ArrivalValue.{ArrivalValue, an_arrival}
+use Rattle.esc_desk.specs.Calls.{After, Over, ServesStill, Stays, HadRoom}
+use Rattle.esc_desk.specs.Events.{EventValue}
+use Rattle.esc_desk.specs.Serving.{Answers}
 use Rattle.esc_request.specs.declared.reports.Report.{Report}
 use Rattle.esc_request.specs.declared.refusal.Refusal.{Refusal}
 use Rattle.esc_request.specs.declared.refusal.Refusal.TheVariants.{BadRequest}
@@ -34,7 +31,7 @@ pub data Request : Type 0 where
 -- what a head asks for, and the bytes that follow it: a body that is cut is no arrival
 abbrev pub with_body : Plan → List ℕ → Request
 with_body (Refuse refusal) rest = refused refusal
-with_body (Put number size) rest = if nat_le size (length rest) then arrives (record { number = number; body = take size rest }) else refused BadRequest
+with_body (Put number size) rest = if nat_le size (length rest) then arrives (an_arrival number (take size rest)) else refused BadRequest
 with_body (Get report) rest = wants report
 
 -- the request that an input makes: that of its head, or a bad request where it has none
@@ -54,38 +51,33 @@ abbrev pub IsFault : List ℕ → Type 0
 IsFault text = (fault : SFault) × (text ≡ fault_response fault)
 
 module _ {S : Type 0} (g : Ghosts S) (old new : Desk S) where
-  -- the arrival was taken: the desk serves the arrivals before and this one, and the text tells its reply; it is like an earlier
-  -- one, or there was room for one more receipt
-  pub record TakesArrival (a : ArrivalValue) (m : List MRow) (l : List ArrivalValue) (text : List ℕ) : Type 0 where
+  -- the arrival was taken: the desk serves the events before and this one, and the text tells its reply; it is like an
+  -- earlier one, or there was room for one more receipt
+  pub record TakesArrival (a : ArrivalValue) (e : List EventValue) (text : List ℕ) : Type 0 where
     pub reply : ReplyValue
-    pub answers : Answers g new m l a reply
-    pub room : reply_to sha256 reading m l a ≡ None → length (receipts_of sha256 reading m l) < 1_000_000_000
+    pub answers : Answers g new e a reply
+    pub room : HadRoom e a
     pub told : IsOrMemory (reply_response reply) text
 
   abbrev pub IsTaken : ArrivalValue → List ℕ → Type 0
-  IsTaken a text = IsHonest g new.store → (m : List MRow) (l : List ArrivalValue) → DeskServes g old m l → TakesArrival a m l text
+  IsTaken a text = After g old new (λ e. TakesArrival a e text)
 
   -- the arrival was lost: the desk serves what it served, and the text tells why
   pub record LosesArrival (text : List ℕ) : Type 0 where
-    pub kept : (m : List MRow) (l : List ArrivalValue) → DeskServes g old m l → DeskServes g new m l
+    pub kept : ServesStill g old new
     pub told : IsFault text
 
   -- the report was made, of what the store stands for
   pub record TellsReport (report : Report) (text : List ℕ) : Type 0 where
     pub body : List ℕ
-    pub is : IsHonest g new.store → (m : List MRow) (l : List ArrivalValue) → Serves g old.store m l → IsReport m l report body
+    pub is : Over g old new (λ e. IsReport e report body)
     pub told : IsOrMemory (report_response report body) text
-
-  -- nothing changed: the store is as it was, and the desk serves what it served
-  pub record IsStill : Type 0 where
-    pub same : IsAsBefore g old.store new.store
-    pub serves : (m : List MRow) (l : List ArrivalValue) → DeskServes g old m l → DeskServes g new m l
 
   -- the text answers the request, and the desk serves what it served, with the arrival that was taken
   abbrev pub IsAnswered : Request → List ℕ → Type 0
   IsAnswered (refused refusal) text = (new ≡ old) × IsOrMemory (refusal_response refusal) text
   IsAnswered (arrives a) text = IsTaken a text ⊎ LosesArrival text
-  IsAnswered (wants report) text = ((new ≡ old) ⊎ IsStill) × (TellsReport report text ⊎ IsFault text)
+  IsAnswered (wants report) text = ((new ≡ old) ⊎ Stays g old new) × (TellsReport report text ⊎ IsFault text)
 
 -- the text of an answer, where there is none for want of memory
 abbrev pub text_or_memory : {A : Type 0} → (A → List ℕ) → Option A → List ℕ

@@ -1,4 +1,4 @@
--- The texts of reports, of a desk that stands for a manifest and a list of arrivals.
+-- The texts of reports, of a desk that stands for a list of events.
 use Rattle.std.specs.Prelude.{◌≡◌, ◌↔◌, ℕ, List, [], Option, Some, None}
 use Rattle.std.specs.FinSet as set
 use Rattle.std.specs.List.{Contains}
@@ -8,7 +8,6 @@ use Rattle.esc_envelope.specs.declared.kind.Kind.{Kind}
 use Rattle.esc_tables.specs.KeyName.{KeyName}
 use Rattle.esc_tables.specs.ObjectValue.{ObjectValue}
 use Rattle.esc_tables.specs.Reading.{reading}
-use Rattle.esc_manifest.specs.declared.row.MRow.{MRow}
 use Rattle.esc_chain.specs.declared.gap.GapLine.{GapLine}
 use Rattle.esc_chain.specs.Gap.{AreGapLines}
 use Rattle.esc_check.specs.Export.{export_text}
@@ -18,7 +17,7 @@ use Rattle.esc_check.specs.Tables.{tables_of}
 use Rattle.esc_store.specs.Kept.{AreHeld}
 use Rattle.esc_desk.specs.declared.status.End.{End}
 use Rattle.esc_desk.specs.declared.status.Status.{Status as Numbers}
-use Rattle.esc_desk.specs.ArrivalValue.{ArrivalValue}
+use Rattle.esc_desk.specs.Events.{EventValue, union}
 use Rattle.esc_desk.specs.Reads.{replies_of, AreTables, IsEnd, IsStatus}
 use Rattle.esc_desk.specs.Stands.{held_body}
 use Rattle.esc_request.specs.declared.reports.Report.{Report}
@@ -34,25 +33,25 @@ AreFindings entries None found = found ≡ []
 AreFindings entries (Some end) found =
     IsStrictlySortedBy listing_cmp found × ((f : FindingValue) → Contains found f ↔ IsFinding (tables_of entries) end.watermark end.counts.entries f)
 
-module _ (m : List MRow) (l : List ArrivalValue) where
+module _ (e : List EventValue) where
   -- the numbers of the status
   pub record IsStatusText (text : List ℕ) : Type 0 where
     pub status : Numbers
-    pub numbers : IsStatus m l status
+    pub numbers : IsStatus e status
     pub is : text ≡ status_text status
 
   -- the objects of a kind in the tables of the latest chain
   pub record IsExport (kind : Kind) (text : List ℕ) : Type 0 where
     pub entries : List (KeyName × ObjectValue)
-    pub tables : AreTables m l entries
+    pub tables : AreTables e entries
     pub is : text ≡ export_text kind entries
 
   -- what breaks a rule in the tables of the latest chain, by what its last deposit says
   pub record IsLinksText (text : List ℕ) : Type 0 where
     pub entries : List (KeyName × ObjectValue)
-    pub tables : AreTables m l entries
+    pub tables : AreTables e entries
     pub end : Option End
-    pub ends : IsEnd m l end
+    pub ends : IsEnd e end
     pub found : List FindingValue
     pub findings : AreFindings entries end found
     pub is : text ≡ links_text found
@@ -60,9 +59,9 @@ module _ (m : List MRow) (l : List ArrivalValue) where
   -- a line for each listed place, in their order, by the rows that are held
   pub record IsGapsText (text : List ℕ) : Type 0 where
     pub rows : List ℕ
-    pub are_held : AreHeld (held_body sha256 reading m l) rows
+    pub are_held : AreHeld (held_body sha256 reading e) rows
     pub lines : List GapLine
-    pub gaps : AreGapLines m (set.from_list rows) lines
+    pub gaps : AreGapLines (union e) (set.from_list rows) lines
     pub is : text ≡ gaps_text lines
 
   -- the text of a report
@@ -70,5 +69,5 @@ module _ (m : List MRow) (l : List ArrivalValue) where
   IsReport Status text = IsStatusText text
   IsReport Gaps text = IsGapsText text
   IsReport Links text = IsLinksText text
-  IsReport Receipts text = text ≡ receipts_text (replies_of m l)
+  IsReport Receipts text = text ≡ receipts_text (replies_of e)
   IsReport (Export kind) text = IsExport kind text

@@ -1,6 +1,5 @@
 -- What a report finds on a walk over a desk's objects.
 use Rattle.std.specs.Prelude.{List, Option}
-use Rattle.esc_manifest.specs.declared.row.MRow.{MRow}
 use Rattle.esc_apply.specs.Objects.{Entry}
 use Rattle.esc_check.specs.FindingValue.{FindingValue}
 use Rattle.esc_check.specs.declared.stream.StreamFault.{StreamFault}
@@ -8,13 +7,13 @@ use Rattle.esc_check.specs.declared.stream.StreamFault.TheVariants.{Source, NoMe
 use Rattle.esc_store.specs.declared.fault.SFault.{SFault}
 use Rattle.esc_store.specs.declared.fault.SFault.TheVariants.{S2}
 use Rattle.esc_desk.specs.declared.status.End.{End}
-use Rattle.esc_desk.specs.ArrivalValue.{ArrivalValue}
+use Rattle.esc_desk.specs.Events.{EventValue}
 use Rattle.esc_desk.specs.Reads.{AreTables}
 use Rattle.esc_http.specs.Reports.{AreFindings}
 
 -- this is what breaks a rule in the tables of the latest chain, where its end says this
-abbrev pub AreFoundAt : List MRow → List ArrivalValue → Option End → List FindingValue → Type 0
-AreFoundAt m l end found = (entries : List Entry) × AreTables m l entries × AreFindings entries end found
+abbrev pub AreFoundAt : List EventValue → Option End → List FindingValue → Type 0
+AreFoundAt e end found = (entries : List Entry) × AreTables e entries × AreFindings entries end found
 
 -- the fault that ends a report over a walk: the walk's own, or S2 where memory was refused
 abbrev pub walk_fault : StreamFault SFault → SFault

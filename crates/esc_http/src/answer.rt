@@ -4,7 +4,8 @@ ghost use Rattle.std.specs.Prelude.{◌≡◌, ◌≤◌, length, take, drop, If
 ghost use Rattle.std.specs.Io.KnownBytes.{prepend_known};
 ghost use Rattle.httparse.specs.Grammar.{RequestHead};
 ghost use Rattle.httparse.specs.Spans.{IsRequestAt, IsRequestWithin};
-ghost use Rattle.esc_store.specs.Standing.{IsHonest};
+ghost use Rattle.esc_desk.specs.ArrivalValue.{an_arrival};
+ghost use Rattle.esc_desk.specs.Calls.{WasHonest};
 ghost use Rattle.esc_http.specs.declared.plan.Plan.TheVariants.{Put};
 ghost use Rattle.esc_request.specs.Head.{ShowsHead};
 ghost use Rattle.esc_http.specs.Plans.{plan_of_head};
@@ -31,7 +32,7 @@ pub(crate) fn answer_input<S: Alter, R: Source>(
     source: &mut R,
 ) -> Result<Option<Vec<u8>>, ReadFailed>
     ensures answers { IfOk result (λ text. (request : Request) × IfSome (R.remaining source.old) (λ input. Asks input request) × IsAnswered S.Store desk.old desk.new request (text_or_memory (λ text. text.items) text)) }
-    ensures honest { IsHonest S.Store desk.new.store → IsHonest S.Store desk.old.store }
+    ensures honest { WasHonest S.Store desk.old desk.new }
     ensures same { OnErr result (desk.new ≡ desk.old) }
     ensures err { OnErr result (IsTrue (R.failed source.new)) }
 {
@@ -58,7 +59,7 @@ fn answer_head<S: Alter, R: Source>(
     requires within { IsRequestWithin bytes.now lines.now found.now.spans }
     requires head { ShowsHead bytes.now lines.now found.now.spans }
     ensures answers { IfOk result (λ text. (h : RequestHead) → IsRequestAt bytes.now lines.now found.now.spans h → (request : Request) × IfSome (prepend_known (drop found.now.spans.len bytes.now) (R.remaining source.old)) (λ rest. request ≡ with_body (plan_of_head h) rest) × IsAnswered S.Store desk.old desk.new request (text_or_memory (λ text. text.items) text)) }
-    ensures honest { IsHonest S.Store desk.new.store → IsHonest S.Store desk.old.store }
+    ensures honest { WasHonest S.Store desk.old desk.new }
     ensures same { OnErr result (desk.new ≡ desk.old) }
     ensures err { OnErr result (IsTrue (R.failed source.new)) }
 {
@@ -82,7 +83,7 @@ fn answer_routed<S: Alter, R: Source>(
     requires head { ShowsHead bytes.now lines.now found.now.spans }
     requires router_is { router.now ≡ rows }
     ensures answers { IfOk result (λ text. (h : RequestHead) → IsRequestAt bytes.now lines.now found.now.spans h → (request : Request) × IfSome (prepend_known (drop found.now.spans.len bytes.now) (R.remaining source.old)) (λ rest. request ≡ with_body (plan_of_head h) rest) × IsAnswered S.Store desk.old desk.new request (text_or_memory (λ text. text.items) text)) }
-    ensures honest { IsHonest S.Store desk.new.store → IsHonest S.Store desk.old.store }
+    ensures honest { WasHonest S.Store desk.old desk.new }
     ensures same { OnErr result (desk.new ≡ desk.old) }
     ensures err { OnErr result (IsTrue (R.failed source.new)) }
 {
@@ -106,7 +107,7 @@ fn answer_put<S: Alter, R: Source>(
     size: u32,
 ) -> Result<Option<Vec<u8>>, ReadFailed>
     ensures answers { IfOk result (λ text. (request : Request) × IfSome (prepend_known front.now (R.remaining source.old)) (λ rest. request ≡ with_body (Put number.now size) rest) × IsAnswered S.Store desk.old desk.new request (text_or_memory (λ text. text.items) text)) }
-    ensures honest { IsHonest S.Store desk.new.store → IsHonest S.Store desk.old.store }
+    ensures honest { WasHonest S.Store desk.old desk.new }
     ensures same { OnErr result (desk.new ≡ desk.old) }
     ensures err { OnErr result (IsTrue (R.failed source.new)) }
 {
@@ -123,8 +124,8 @@ fn answer_arrival<S: Alter>(
     number: &Number<'_>,
     body: &[u8],
 ) -> Option<Vec<u8>>
-    ensures answers { IsAnswered S.Store desk.old desk.new (arrives (record { number = number.now; body = body.now })) (text_or_memory (λ text. text.items) result) }
-    ensures honest { IsHonest S.Store desk.new.store → IsHonest S.Store desk.old.store }
+    ensures answers { IsAnswered S.Store desk.old desk.new (arrives (an_arrival number.now body.now)) (text_or_memory (λ text. text.items) result) }
+    ensures honest { WasHonest S.Store desk.old desk.new }
 {
     match desk.arrive(alloc, number, body) {
         Ok((reply, _)) => reply_response(alloc, &reply),
@@ -135,7 +136,7 @@ fn answer_arrival<S: Alter>(
 #[tactic(auto, using(crate::proofs::StoreFacts::was_honest))]
 fn answer_report<S: Alter>(alloc: Global, desk: &mut Desk<S>, what: Report) -> Option<Vec<u8>>
     ensures answers { IsAnswered S.Store desk.old desk.new (wants what) (text_or_memory (λ text. text.items) result) }
-    ensures honest { IsHonest S.Store desk.new.store → IsHonest S.Store desk.old.store }
+    ensures honest { WasHonest S.Store desk.old desk.new }
 {
     match report(alloc, desk, what) {
         Ok(text) => report_response(alloc, what, &text),

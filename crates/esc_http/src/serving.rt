@@ -2,7 +2,7 @@
 
 ghost use Rattle.std.specs.Prelude.{◌≡◌, ℕ, List, Err, IfSome, IsTrue, OnOk, OnErr};
 ghost use Rattle.std.specs.Io.KnownBytes.{Appends, Keeps};
-ghost use Rattle.esc_store.specs.Standing.{IsHonest};
+ghost use Rattle.esc_desk.specs.Calls.{WasHonest};
 ghost use Rattle.esc_http.specs.declared.serving.ServeFault.TheVariants.{Read as reading, Write as writing};
 ghost use Rattle.esc_http.specs.Answering.{Request, Asks, IsAnswered, text_or_memory};
 ghost use Rattle.esc_request.specs.Sent.{AppendsBeginning};
@@ -51,7 +51,7 @@ pub fn serve<S: Alter, R: Source, W: Sink>(
 ) -> Result<(), ServeFault>
     ensures ok { OnOk result ((request : Request) × (text : List ℕ) × IfSome (R.remaining source.old) (λ input. Asks input request)
         × IsAnswered S.Store desk.old desk.new request text × Appends (W.contents sink.old) (W.contents sink.new) text) }
-    ensures honest { IsHonest S.Store desk.new.store → IsHonest S.Store desk.old.store }
+    ensures honest { WasHonest S.Store desk.old desk.new }
 
     // A read failed: nothing was written, and nothing arrived.
     ensures read_failed { result ≡ Err ServeFault.Read → IsTrue (R.failed source.new) }
@@ -77,7 +77,7 @@ pub fn serve_one<S: Alter, R: Read, W: Write>(
 ) -> Result<(), ServeFault>
     ensures ok { OnOk result ((request : Request) × (text : List ℕ) × IfSome (R.remaining reader.old) (λ input. Asks input request)
         × IsAnswered S.Store desk.old desk.new request text × Appends (W.contents writer.old) (W.contents writer.new) text) }
-    ensures honest { IsHonest S.Store desk.new.store → IsHonest S.Store desk.old.store }
+    ensures honest { WasHonest S.Store desk.old desk.new }
 
     // A read failed: nothing was written, and nothing arrived.
     ensures read_wrote { result ≡ Err ServeFault.Read → Keeps (W.contents writer.old) (W.contents writer.new) }

@@ -2,11 +2,8 @@
 
 ghost use Rattle.std.specs.Prelude.{◌≡◌, List, Some, IfOk};
 ghost use Rattle.std.specs.FinSet as set;
-ghost use Rattle.esc_manifest.specs.declared.row.MRow.{MRow};
 ghost use Rattle.esc_chain.specs.Chain.{InRange};
-ghost use Rattle.esc_store.specs.Standing.{IsHonest, IsAsBefore};
-ghost use Rattle.esc_desk.specs.ArrivalValue.{ArrivalValue};
-ghost use Rattle.esc_desk.specs.Serving.{Serves, DeskServes};
+ghost use Rattle.esc_desk.specs.Calls.{OkOver, Stays};
 ghost use Rattle.esc_request.specs.declared.reports.Report.TheVariants as what;
 ghost use Rattle.esc_http.specs.Reports.{IsReport};
 ghost use Rattle.esc_http.specs.Walked.{AreFoundAt, walk_fault};
@@ -29,9 +26,9 @@ pub fn report<S: Alter>(
     desk: &mut Desk<S>,
     report: Report,
 ) -> Result<Vec<u8>, SFault>
-    ensures same { IsAsBefore S.Store desk.old.store desk.new.store }
-    ensures serves { (m : List MRow) (l : List ArrivalValue) → DeskServes S.Store desk.old m l → DeskServes S.Store desk.new m l }
-    ensures text { IsHonest S.Store desk.new.store → (m : List MRow) (l : List ArrivalValue) → Serves S.Store desk.old.store m l → IfOk result (λ text. IsReport m l report text.items) }
+    ensures stays { Stays S.Store desk.old desk.new }
+    ensures text { OkOver S.Store desk.old desk.new result
+        (λ e text. IsReport e report text.items) }
 {
     match report {
         Report::Status => report_status(alloc, desk),
@@ -43,9 +40,9 @@ pub fn report<S: Alter>(
 }
 
 fn report_gaps<S: Alter>(alloc: Global, desk: &mut Desk<S>) -> Result<Vec<u8>, SFault>
-    ensures same { IsAsBefore S.Store desk.old.store desk.new.store }
-    ensures serves { (m : List MRow) (l : List ArrivalValue) → DeskServes S.Store desk.old m l → DeskServes S.Store desk.new m l }
-    ensures text { IsHonest S.Store desk.new.store → (m : List MRow) (l : List ArrivalValue) → Serves S.Store desk.old.store m l → IfOk result (λ text. IsReport m l what.Gaps text.items) }
+    ensures stays { Stays S.Store desk.old desk.new }
+    ensures text { OkOver S.Store desk.old desk.new result
+        (λ e text. IsReport e what.Gaps text.items) }
 {
     let rows = desk.held(alloc)?;
     let manifest = desk.manifest();
@@ -70,19 +67,19 @@ fn held_of(alloc: Global, manifest: &Manifest, rows: &[usize]) -> Result<Held, S
 }
 
 fn report_status<S: Alter>(alloc: Global, desk: &mut Desk<S>) -> Result<Vec<u8>, SFault>
-    ensures same { IsAsBefore S.Store desk.old.store desk.new.store }
-    ensures serves { (m : List MRow) (l : List ArrivalValue) → DeskServes S.Store desk.old m l → DeskServes S.Store desk.new m l }
-    ensures text { IsHonest S.Store desk.new.store → (m : List MRow) (l : List ArrivalValue) → Serves S.Store desk.old.store m l → IfOk result (λ text. IsReport m l what.Status text.items) }
+    ensures stays { Stays S.Store desk.old desk.new }
+    ensures text { OkOver S.Store desk.old desk.new result
+        (λ e text. IsReport e what.Status text.items) }
 {
     let status = desk.status(alloc)?;
     Ok(status_text(alloc, &status)?.into_bytes())
 }
 
-#[tactic(auto, using(crate::proofs::StoreFacts::as_before_then))]
+#[tactic(auto, using(crate::proofs::StoreFacts::stays_then))]
 fn report_links<S: Alter>(alloc: Global, desk: &mut Desk<S>) -> Result<Vec<u8>, SFault>
-    ensures same { IsAsBefore S.Store desk.old.store desk.new.store }
-    ensures serves { (m : List MRow) (l : List ArrivalValue) → DeskServes S.Store desk.old m l → DeskServes S.Store desk.new m l }
-    ensures text { IsHonest S.Store desk.new.store → (m : List MRow) (l : List ArrivalValue) → Serves S.Store desk.old.store m l → IfOk result (λ text. IsReport m l what.Links text.items) }
+    ensures stays { Stays S.Store desk.old desk.new }
+    ensures text { OkOver S.Store desk.old desk.new result
+        (λ e text. IsReport e what.Links text.items) }
 {
     let end = desk.end(alloc)?;
     let found = findings_at(alloc, desk, &end)?;
@@ -95,9 +92,9 @@ fn findings_at<S: Alter>(
     desk: &mut Desk<S>,
     end: &Option<End>,
 ) -> Result<Vec<Finding>, SFault>
-    ensures same { IsAsBefore S.Store desk.old.store desk.new.store }
-    ensures serves { (m : List MRow) (l : List ArrivalValue) → DeskServes S.Store desk.old m l → DeskServes S.Store desk.new m l }
-    ensures found { IsHonest S.Store desk.new.store → (m : List MRow) (l : List ArrivalValue) → Serves S.Store desk.old.store m l → IfOk result (λ found. AreFoundAt m l end.now found.items) }
+    ensures stays { Stays S.Store desk.old desk.new }
+    ensures found { OkOver S.Store desk.old desk.new result
+        (λ e found. AreFoundAt e end.now found.items) }
 {
     tables_are_listed();
     match end {
@@ -107,10 +104,11 @@ fn findings_at<S: Alter>(
 }
 
 // What breaks a rule in the tables, by what the last deposit of their chain says.
+#[tactic(auto, using(crate::proofs::StoreFacts::walked))]
 fn findings<S: Alter>(alloc: Global, desk: &mut Desk<S>, end: &End) -> Result<Vec<Finding>, SFault>
-    ensures same { IsAsBefore S.Store desk.old.store desk.new.store }
-    ensures serves { (m : List MRow) (l : List ArrivalValue) → DeskServes S.Store desk.old m l → DeskServes S.Store desk.new m l }
-    ensures found { IsHonest S.Store desk.new.store → (m : List MRow) (l : List ArrivalValue) → Serves S.Store desk.old.store m l → IfOk result (λ found. AreFoundAt m l (Some end.now) found.items) }
+    ensures stays { Stays S.Store desk.old desk.new }
+    ensures found { OkOver S.Store desk.old desk.new result
+        (λ e found. AreFoundAt e (Some end.now) found.items) }
 {
     tables_are_listed();
     let mut walk = desk.walk(alloc, None)?;
@@ -131,18 +129,19 @@ fn walk_fault(fault: StreamFault<SFault>) -> SFault
 }
 
 fn report_receipts<S: Alter>(alloc: Global, desk: &mut Desk<S>) -> Result<Vec<u8>, SFault>
-    ensures same { IsAsBefore S.Store desk.old.store desk.new.store }
-    ensures serves { (m : List MRow) (l : List ArrivalValue) → DeskServes S.Store desk.old m l → DeskServes S.Store desk.new m l }
-    ensures text { IsHonest S.Store desk.new.store → (m : List MRow) (l : List ArrivalValue) → Serves S.Store desk.old.store m l → IfOk result (λ text. IsReport m l what.Receipts text.items) }
+    ensures stays { Stays S.Store desk.old desk.new }
+    ensures text { OkOver S.Store desk.old desk.new result
+        (λ e text. IsReport e what.Receipts text.items) }
 {
     let replies = desk.receipts(alloc)?;
     Ok(receipts_text(alloc, &replies)?)
 }
 
+#[tactic(auto, using(crate::proofs::StoreFacts::walked))]
 fn report_export<S: Alter>(alloc: Global, desk: &mut Desk<S>, kind: Kind) -> Result<Vec<u8>, SFault>
-    ensures same { IsAsBefore S.Store desk.old.store desk.new.store }
-    ensures serves { (m : List MRow) (l : List ArrivalValue) → DeskServes S.Store desk.old m l → DeskServes S.Store desk.new m l }
-    ensures text { IsHonest S.Store desk.new.store → (m : List MRow) (l : List ArrivalValue) → Serves S.Store desk.old.store m l → IfOk result (λ text. IsReport m l (what.Export kind) text.items) }
+    ensures stays { Stays S.Store desk.old desk.new }
+    ensures text { OkOver S.Store desk.old desk.new result
+        (λ e text. IsReport e (what.Export kind) text.items) }
 {
     tables_are_listed();
     let mut walk = desk.walk(alloc, Some(kind))?;

@@ -17,7 +17,6 @@ use Rattle.sqlite.specs.Held.{Held, state, AreDatabases}
 use Rattle.sqlite.specs.State.{State, HasCleanDisk, Survives}
 use Rattle.sqlite.specs.Files.{over_files, file_state, HoldsDatabase}
 use Rattle.sqlite.proofs.Theorems.{opens_again}
-use Rattle.esc_manifest.specs.declared.row.MRow.{MRow}
 use Rattle.esc_store.specs.Kept.{Kept}
 use Rattle.esc_store.specs.Tables.{IsStore}
 use Rattle.esc_store.specs.Standing.{HoldsKept, LeavesOr}
@@ -25,18 +24,18 @@ use Rattle.esc_rows.specs.Schema.{no_schema}
 use Rattle.sqlite.specs.Effect.{Database}
 use Rattle.sqlite_catalog.specs.Listing.{IsSound}
 use Rattle.esc_kept.specs.Blank.{LeavesBlankOr}
-use Rattle.esc_desk.specs.ArrivalValue.{ArrivalValue}
+use Rattle.esc_desk.specs.Events.{EventValue}
 use Rattle.esc_desk.specs.declared.desk.Desk.{Desk}
 use Rattle.esc_desk.specs.Serving.{DeskServes}
 use Rattle.esc_desk.specs.Crashes.{CrashLeaves, IsStoreForOneOf, IsStoreFor}
 use Rattle.esc_kept.specs.Images.{HoldsOneOf, IsOneOf, ServesOneOf}
 
 -- whatever a crash leaves of the files of a store is one of those that it may leave of the store
-pub images_of : {D : Type 0} (g : Ghosts D) (conn : Held (FileStore D g)) (it : FileStore D g) (m : List MRow) (l doubtful : List ArrivalValue) (log db : D) → (log, db) ≡ files it
+pub images_of : {D : Type 0} (g : Ghosts D) (conn : Held (FileStore D g)) (it : FileStore D g) (e doubtful : List EventValue) (log db : D) → (log, db) ≡ files it
     → IsQuiet view faults recovers is_shielded conn.store it → (IsClean (view it) → IsTrue (view it).is_numbered) → (IsClean (view it) → AreDatabases (recovers it))
-    → AreClean g log db → CrashLeaves over_files conn m l doubtful → (image : Image) → outcomes g log db image → HoldsOneOf image m l doubtful
+    → AreClean g log db → CrashLeaves over_files conn e doubtful → (image : Image) → outcomes g log db image → HoldsOneOf image e doubtful
 unfolding CrashLeaves
-images_of {D = D} g conn it m l doubtful log db are quiet numbered sound clean left image may =
+images_of {D = D} g conn it e doubtful log db are quiet numbered sound clean left image may =
     let now = subst (λ (p : D × D). AreClean g p.0 p.1) are clean in
     let none : IsClean (view it) = no_doubt _ (clean_is it.pool ∙ now) in
     ∥∥₁_map (opens_again it (numbered none) (sound none) image (may_leave_is it.pool image now (subst (λ (p : D × D). outcomes g p.0 p.1 image) are may)))
@@ -63,11 +62,11 @@ blank_or g settled old new k survives opens live blank clean trees may = elim (s
 ]
 
 -- one of the stores is that of one of the lists
-pick : (trees : Trees) (m : List MRow) (l doubtful : List ArrivalValue) → IsStoreForOneOf trees m l doubtful → (x : List ArrivalValue) × IsOneOf x l doubtful × IsStoreFor trees m x
-pick trees m l [] it = (l, refl, it)
-pick trees m l (y ∷ doubtful) (inl it) = (l ++ y ∷ [], inl refl, it)
-pick trees m l (y ∷ doubtful) (inr more) = let found = pick trees m l doubtful more in (found.0, inr found.1, found.2)
+pick : (trees : Trees) (e doubtful : List EventValue) → IsStoreForOneOf trees e doubtful → (x : List EventValue) × IsOneOf x e doubtful × IsStoreFor trees x
+pick trees e [] it = (e, refl, it)
+pick trees e (y ∷ doubtful) (inl it) = (e ++ y ∷ [], inl refl, it)
+pick trees e (y ∷ doubtful) (inr more) = let found = pick trees e doubtful more in (found.0, inr found.1, found.2)
 
-pub serves_one : {S : Type 0} (g : store.Ghosts S) (desk : Desk S) (image : Image) (m : List MRow) (l doubtful : List ArrivalValue) → ((trees : Trees) → HoldsDatabase image trees → (x : List ArrivalValue) → IsStoreFor trees m x → DeskServes g desk m x)
-    → HoldsOneOf image m l doubtful → ServesOneOf g desk m l doubtful
-serves_one g desk image m l doubtful serves holds = ∥∥₁_map holds (λ it. let found = pick it.0 m l doubtful it.2 in (found.0, found.1, serves it.0 it.1 found.0 found.2))
+pub serves_one : {S : Type 0} (g : store.Ghosts S) (desk : Desk S) (image : Image) (e doubtful : List EventValue) → ((trees : Trees) → HoldsDatabase image trees → (x : List EventValue) → IsStoreFor trees x → DeskServes g desk x)
+    → HoldsOneOf image e doubtful → ServesOneOf g desk e doubtful
+serves_one g desk image e doubtful serves holds = ∥∥₁_map holds (λ it. let found = pick it.0 e doubtful it.2 in (found.0, found.1, serves it.0 it.1 found.0 found.2))

@@ -6,11 +6,10 @@ ghost use Rattle.sqlite_wal.specs.Reads.{AreClean};
 ghost use Rattle.sqlite_wal.specs.Recovery.{Image};
 ghost use Rattle.sqlite_trees.specs.Tree.{Trees};
 ghost use Rattle.sqlite.specs.Files.{over_files, image_of, HoldsDatabase};
-ghost use Rattle.esc_manifest.specs.declared.row.MRow.{MRow};
-ghost use Rattle.esc_store.specs.Standing.{IsHonest};
-ghost use Rattle.esc_desk.specs.ArrivalValue.{ArrivalValue};
+ghost use Rattle.esc_desk.specs.Calls.{After, DeskLeaves, IsHonestDesk};
+ghost use Rattle.esc_desk.specs.Events.{EventValue};
 ghost use Rattle.esc_desk.specs.Serving.{DeskServes};
-ghost use Rattle.esc_desk.specs.Crashes.{CrashLeaves, IsStoreFor};
+ghost use Rattle.esc_desk.specs.Crashes.{IsStoreFor};
 ghost use Rattle.esc_kept.specs.Images.{HoldsOneOf, ServesOneOf};
 
 use crate::opening::open_desk;
@@ -23,10 +22,10 @@ use std::alloc::Global;
 /// store that it may leave of the desk.
 pub fn files_of<D: Disk + Drop>(desk: Desk<FileStore<D>>) -> Files<D>
     ensures left { AreClean D.Disk result.log result.db
-        → (m : List MRow) (l doubtful : List ArrivalValue)
-        → CrashLeaves over_files desk.store.conn m l doubtful
+        → (e doubtful : List EventValue)
+        → DeskLeaves over_files desk e doubtful
         → (image : Image) → outcomes D.Disk result.log result.db image
-        → HoldsOneOf image m l doubtful }
+        → HoldsOneOf image e doubtful }
 {
     desk.into_store().into_connection().into_store().close()
 }
@@ -40,18 +39,18 @@ pub fn desk_of_files<D: Disk + Drop>(
 ) -> Result<Desk<FileStore<D>>, SFault>
     requires log { IsTrue (D.Disk.is_usable files.log) }
     requires db { IsTrue (D.Disk.is_usable files.db) }
-    ensures serves { IfOk result (λ desk. IsHonest over_files desk.store
+    ensures serves { IfOk result (λ desk. IsHonestDesk over_files desk
         → (trees : Trees) → HoldsDatabase (image_of D.Disk files) trees
-        → (m : List MRow) (l : List ArrivalValue) → IsStoreFor trees m l
-        → DeskServes over_files desk m l) }
-    ensures left { IfOk result (λ desk. IsHonest over_files desk.store
+        → (e : List EventValue) → IsStoreFor trees e
+        → DeskServes over_files desk e) }
+    ensures left { IfOk result (λ desk. IsHonestDesk over_files desk
         → (trees : Trees) → HoldsDatabase (image_of D.Disk files) trees
-        → (m : List MRow) (l : List ArrivalValue) → IsStoreFor trees m l
-        → CrashLeaves over_files desk.store.conn m l []) }
-    ensures found { IfOk result (λ desk. IsHonest over_files desk.store
-        → (m : List MRow) (l doubtful : List ArrivalValue)
-        → HoldsOneOf (image_of D.Disk files) m l doubtful
-        → ServesOneOf over_files desk m l doubtful) }
+        → (e : List EventValue) → IsStoreFor trees e
+        → DeskLeaves over_files desk e []) }
+    ensures found { IfOk result (λ desk. IsHonestDesk over_files desk
+        → (e doubtful : List EventValue)
+        → HoldsOneOf (image_of D.Disk files) e doubtful
+        → ServesOneOf over_files desk e doubtful) }
 {
     let connection = match Connection::open_files(alloc, files, options) {
         Ok(connection) => connection,
@@ -70,10 +69,10 @@ pub fn open_desk_at<S: Start>(
     path: &str,
     start: S,
 ) -> Result<Desk<FileStore<FileFrom<S>>>, SFault>
-    ensures found { IfOk result (λ desk. IsHonest over_files desk.store
-        → (m : List MRow) (l doubtful : List ArrivalValue)
-        → HoldsOneOf (image_at S.Start) m l doubtful
-        → ServesOneOf over_files desk m l doubtful) }
+    ensures found { IfOk result (λ desk. IsHonestDesk over_files desk
+        → (e doubtful : List EventValue)
+        → HoldsOneOf (image_at S.Start) e doubtful
+        → ServesOneOf over_files desk e doubtful) }
 {
     let connection = match Connection::open_from(rt, path, false, start) {
         Ok(connection) => connection,
@@ -92,9 +91,8 @@ pub fn reopen_desk<D: Disk + Drop>(
     desk: Desk<FileStore<D>>,
     options: Options,
 ) -> Result<Desk<FileStore<D>>, SFault>
-    ensures serves { IfOk result (λ again. IsHonest over_files again.store
-        → (m : List MRow) (l : List ArrivalValue) → DeskServes over_files desk m l
-        → DeskServes over_files again m l) }
+    ensures serves { IfOk result (λ again. After over_files desk again
+        (λ e. DeskServes over_files again e)) }
 {
     let files = match desk.into_store().into_connection().close_files() {
         Ok(files) => files,

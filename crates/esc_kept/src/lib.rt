@@ -33,11 +33,11 @@
 //!
 //! An arrival that was refused by `S1` or `S2` is *in doubt*: a crash may leave it taken in. None is in doubt once an
 //! arrival was answered that changed a table, in a new store, and in one that was just opened. `CrashLeaves`
-//! (`crates/esc_desk/specs/Crashes.antt`) says that whatever a crash leaves is a store of the answered arrivals, or of
-//! them and one of those in doubt; the contracts of `Desk::arrive` and `Desk::run` carry it from call to call, and those
+//! (`crates/esc_desk/specs/Crashes.antt`) says that whatever a crash leaves is a store of the events so far (the manifest and
+//! the answered arrivals), or of them and one of those in doubt; the contracts of `Desk::arrive` and `Desk::run` carry it from call to call, and those
 //! here carry it on:
 //!
-//! 1. `new_desk` begins it: no arrivals, none in doubt. A crash while the store is made leaves a database without tables, or
+//! 1. `new_desk` begins it: the manifest alone, none in doubt. A crash while the store is made leaves a database without tables, or
 //!    the new store.
 //! 2. `files_of`: each pair of files that a crash may leave holds a store of the answered arrivals, or of them and one of
 //!    those in doubt (`HoldsOneOf`).

@@ -1,17 +1,17 @@
 //! The desk over a connection's database.
 
-ghost use Rattle.std.specs.Prelude.{List, [], IfOk, MatchResult};
+ghost use Rattle.std.specs.Prelude.{List, [], ◌∷◌, IfOk, MatchResult};
 ghost use Rattle.sqlite.specs.Held.{state};
 ghost use Rattle.sqlite.specs.State.{HasCleanDisk};
-ghost use Rattle.esc_manifest.specs.declared.row.MRow.{MRow};
 ghost use Rattle.esc_store.specs.Kept.{fresh};
-ghost use Rattle.esc_store.specs.Standing.{IsHonest};
-ghost use Rattle.esc_desk.specs.ArrivalValue.{ArrivalValue};
+ghost use Rattle.esc_desk.specs.Calls.{DeskLeaves, IsHonestDesk, store_of};
+ghost use Rattle.esc_desk.specs.Events.{EventValue};
+ghost use Rattle.esc_desk.specs.Events.EventValue.{listed};
 ghost use Rattle.esc_desk.specs.Serving.{DeskServes};
-ghost use Rattle.esc_desk.specs.Crashes.{CrashLeaves, IsStoreFor};
+ghost use Rattle.esc_desk.specs.Crashes.{IsStoreFor};
 ghost use Rattle.esc_kept.specs.Blank.{LeavesBlankOr};
 
-use esc_desk::{Desk, SFault, new_store_stands_for_none};
+use esc_desk::{Desk, SFault, new_store_stands_for_its_manifest};
 use esc_manifest::Manifest;
 use esc_store::Store;
 use sqlite::{Alter, Connection};
@@ -25,11 +25,11 @@ pub fn new_desk<S: Alter>(
     manifest: &Manifest,
 ) -> Result<Desk<S>, (SFault, Connection<S>)>
     ensures crash { MatchResult result
-        (λ desk. LeavesBlankOr S.Store connection desk.store.conn (fresh manifest.now))
+        (λ desk. LeavesBlankOr S.Store connection (store_of desk).conn (fresh manifest.now))
         (λ e. LeavesBlankOr S.Store connection e.1 (fresh manifest.now)) }
-    ensures left { IfOk result (λ desk. CrashLeaves S.Store desk.store.conn manifest.now [] []) }
+    ensures left { IfOk result (λ desk. DeskLeaves S.Store desk (listed manifest.now ∷ []) []) }
 {
-    new_store_stands_for_none();
+    new_store_stands_for_its_manifest();
     match Store::create(alloc, connection, manifest) {
         Ok(store) => Ok(Desk::open(store)),
         Err(e) => Err(e),
@@ -42,13 +42,13 @@ pub fn open_desk<S: Alter>(
     alloc: Global,
     connection: Connection<S>,
 ) -> Result<Desk<S>, (SFault, Connection<S>)>
-    ensures honest { IfOk result (λ desk. IsHonest S.Store desk.store → HasCleanDisk (state S.Store connection)) }
-    ensures serves { IfOk result (λ desk. IsHonest S.Store desk.store
-        → (m : List MRow) (l : List ArrivalValue)
-        → IsStoreFor (state S.Store connection).committed.trees m l → DeskServes S.Store desk m l) }
-    ensures left { IfOk result (λ desk. (m : List MRow) (l : List ArrivalValue)
-        → IsStoreFor (state S.Store connection).committed.trees m l
-        → CrashLeaves S.Store desk.store.conn m l []) }
+    ensures honest { IfOk result (λ desk. IsHonestDesk S.Store desk → HasCleanDisk (state S.Store connection)) }
+    ensures serves { IfOk result (λ desk. IsHonestDesk S.Store desk
+        → (e : List EventValue)
+        → IsStoreFor (state S.Store connection).committed.trees e → DeskServes S.Store desk e) }
+    ensures left { IfOk result (λ desk. (e : List EventValue)
+        → IsStoreFor (state S.Store connection).committed.trees e
+        → DeskLeaves S.Store desk e []) }
 {
     match Store::open(alloc, connection) {
         Ok(store) => Ok(Desk::open(store)),

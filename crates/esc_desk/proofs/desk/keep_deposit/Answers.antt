@@ -6,6 +6,8 @@ use Rattle.esc_manifest.specs.Accepted.{IsAccepted}
 use Rattle.esc_store.specs.Kept.{Kept, with_registry}
 use Rattle.esc_store.specs.Standing.{Stands}
 use Rattle.esc_desk.specs.ArrivalValue.{ArrivalValue}
+use Rattle.esc_desk.specs.Events.{union}
+use Rattle.esc_desk.specs.Events.EventValue.{arrived}
 use Rattle.esc_desk.specs.Stands.{deposits_of}
 use Rattle.esc_desk.specs.Plans.{IsPlanned}
 use Rattle.esc_desk.proofs.ReadLemmas.{same_held}
@@ -17,7 +19,7 @@ use Rattle.esc_desk.proofs.desk.keep_deposit.Goals as goal
 
 pub returns-clause-kept : goal.returns-clause-kept
 returns-clause-kept g c = IfOk-weaker c.hold_deposit.result _ _
-    (λ work made. λ clean m l n k stood new is.
+    (λ work made. λ clean e n k stood new is.
     let a : ArrivalValue = record { number = n; body = c.args.body.now } in
     let plan = c.in_ok-plan.plan in
     let rows = c.args.held.now.items in
@@ -30,32 +32,32 @@ returns-clause-kept g c = IfOk-weaker c.hold_deposit.result _ _
     let few = c.read_deposits_mention_few.ensures in
     let few_old = c.in_ok-plan.ensures.few_old in
     let few_new = c.in_ok-plan.ensures.few_new in
-    let planned = subst (λ (x : List ℕ). IsPlanned reading k x row a.body plan) c.deref.ensures.value (c.in_ok-plan.ensures.planned honest k stood a.body (reads_of sha256 reading m a.body row deposit (sym is.found_is))) in
+    let planned = subst (λ (x : List ℕ). IsPlanned reading k x row a.body plan) c.deref.ensures.value (c.in_ok-plan.ensures.planned honest k stood a.body (reads_of sha256 reading (union e) a.body row deposit (sym is.found_is))) in
     let accepted = subst IsAccepted is.stood.listed planned.accepted in
     let before = subst (λ (x : Kept). Stands g.S.Store c.plan_move.new.store x) (ap (with_registry k) is.stood.registry) (c.in_ok-plan.ensures.same.stands k stood) in
-    let stands = stands_held law m accepted l a k rows number receipt row deposit is new plan planned in
-    let count = old_count law m accepted l a k rows number receipt row deposit is new plan planned in
+    let stands = stands_held law e accepted a k rows number receipt row deposit is new plan planned in
+    let count = old_count law e accepted a k rows number receipt row deposit is new plan planned in
     record {
       serves = record {
         kept = _;
-        stands = made.1.0 clean k (deposits_of reading k.bodies k.steps) is.next (no_body_yet law m accepted l a k rows number receipt row deposit is new plan planned) count before;
+        stands = made.1.0 clean k (deposits_of reading k.bodies k.steps) is.next (no_body_yet law e accepted a k rows number receipt row deposit is new plan planned) count before;
         stands_for = stands;
       };
-      held = same_held m (l ++ a ∷ []) _ stands c.insert_row.new.rows.items (c.in_ok-insert_row.ensures k.bodies a.body is.held);
-      works = moved law few m accepted l a k rows number receipt row deposit is new plan planned few_old few_new work
-          (made.1.1 clean k (deposits_of reading k.bodies k.steps) count before (few_moved law few m accepted l a k rows number receipt row deposit is new plan planned few_old few_new));
-      left = leaves_for g.S.Store _ _ m (l ++ a ∷ []) stands (made.0 k (deposits_of reading k.bodies k.steps) is.next (no_body_yet law m accepted l a k rows number receipt row deposit is new plan planned) count before);
+      held = same_held (e ++ arrived a ∷ []) _ stands c.insert_row.new.rows.items (c.in_ok-insert_row.ensures k.bodies a.body is.held);
+      works = moved law few e accepted a k rows number receipt row deposit is new plan planned few_old few_new work
+          (made.1.1 clean k (deposits_of reading k.bodies k.steps) count before (few_moved law few e accepted a k rows number receipt row deposit is new plan planned few_old few_new));
+      left = leaves_for g.S.Store _ _ (e ++ arrived a ∷ []) stands (made.0 k (deposits_of reading k.bodies k.steps) is.next (no_body_yet law e accepted a k rows number receipt row deposit is new plan planned) count before);
     })
     (both_ok c.hold_deposit.result _ _ c.hold_deposit.ensures.left (both_ok c.hold_deposit.result _ _ c.hold_deposit.ensures.held c.hold_deposit.ensures.worked))
 
 pub returns-in_err-plan-clause-crash : goal.returns-in_err-plan-clause-crash
-returns-in_err-plan-clause-crash g c = λ clean m l n k stood new is. adds_none g.S.Store _ _ _ m _ c.in_err-plan.ensures.same.survives
+returns-in_err-plan-clause-crash g c = λ clean e n k stood new is. adds_none g.S.Store _ _ _ _ c.in_err-plan.ensures.same.survives
 
 pub returns-in_err-insert_row-clause-crash : goal.returns-in_err-insert_row-clause-crash
-returns-in_err-insert_row-clause-crash g c = λ clean m l n k stood new is. adds_none g.S.Store _ _ _ m _ c.in_ok-plan.ensures.same.survives
+returns-in_err-insert_row-clause-crash g c = λ clean e n k stood new is. adds_none g.S.Store _ _ _ _ c.in_ok-plan.ensures.same.survives
 
 pub returns-clause-crash : goal.returns-clause-crash
-returns-clause-crash g c = λ clean m l n k stood new is.
+returns-clause-crash g c = λ clean e n k stood new is.
     let a : ArrivalValue = record { number = n; body = c.args.body.now } in
     let plan = c.in_ok-plan.plan in
     let rows = c.args.held.now.items in
@@ -65,10 +67,10 @@ returns-clause-crash g c = λ clean m l n k stood new is.
     let deposit = c.args.deposit in
     let honest = c.hold_deposit.ensures.honest clean in
     let law = c.latest_chain_rows_are_held.ensures in
-    let planned = subst (λ (x : List ℕ). IsPlanned reading k x row a.body plan) c.deref.ensures.value (c.in_ok-plan.ensures.planned honest k stood a.body (reads_of sha256 reading m a.body row deposit (sym is.found_is))) in
+    let planned = subst (λ (x : List ℕ). IsPlanned reading k x row a.body plan) c.deref.ensures.value (c.in_ok-plan.ensures.planned honest k stood a.body (reads_of sha256 reading (union e) a.body row deposit (sym is.found_is))) in
     let accepted = subst IsAccepted is.stood.listed planned.accepted in
     let before = subst (λ (x : Kept). Stands g.S.Store c.plan_move.new.store x) (ap (with_registry k) is.stood.registry) (c.in_ok-plan.ensures.same.stands k stood) in
-    let stands = stands_held law m accepted l a k rows number receipt row deposit is new plan planned in
-    let count = old_count law m accepted l a k rows number receipt row deposit is new plan planned in
-    adds_then g.S.Store _ _ _ _ m _ c.in_ok-plan.ensures.same.survives (adds_for g.S.Store _ _ _ _ m _ stands
-    (c.hold_deposit.ensures.crash k (deposits_of reading k.bodies k.steps) is.next (no_body_yet law m accepted l a k rows number receipt row deposit is new plan planned) count before))
+    let stands = stands_held law e accepted a k rows number receipt row deposit is new plan planned in
+    let count = old_count law e accepted a k rows number receipt row deposit is new plan planned in
+    adds_then g.S.Store _ _ _ _ _ c.in_ok-plan.ensures.same.survives (adds_for g.S.Store _ _ _ _ _ stands
+    (c.hold_deposit.ensures.crash k (deposits_of reading k.bodies k.steps) is.next (no_body_yet law e accepted a k rows number receipt row deposit is new plan planned) count before))

@@ -5,13 +5,13 @@ use Rattle.esc_http.proofs.answer.answer_report.Goals as goal
 
 pub returns-in-Ok-clause-answers : goal.returns-in-Ok-clause-answers
 returns-in-Ok-clause-answers g c = (
-  inr (record { same = c.report.ensures.same; serves = c.report.ensures.serves }),
+  inr c.report.ensures.stays,
   inl (record {
     body = c.deref.result.now;
-    is = λ clean m l serves. subst (IsReport m l c.args.what) (sym c.deref.ensures.value) (c.in-Ok.ensures.text clean m l serves);
+    is = λ clean e serves. subst (IsReport e c.args.what) (sym c.deref.ensures.value) (c.in-Ok.ensures.text clean e serves);
     told = text_is _ _ c.report_response.result c.report_response.ensures;
   }),
 )
 
 pub returns-in-Err-clause-answers : goal.returns-in-Err-clause-answers
-returns-in-Err-clause-answers g c = (inr (record { same = c.report.ensures.same; serves = c.report.ensures.serves }), inr (fault_is _ c.in-Err.fault c.fault_response.result c.fault_response.ensures))
+returns-in-Err-clause-answers g c = (inr c.report.ensures.stays, inr (fault_is _ c.in-Err.fault c.fault_response.result c.fault_response.ensures))

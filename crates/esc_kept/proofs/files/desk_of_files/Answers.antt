@@ -5,17 +5,17 @@ use Rattle.esc_kept.proofs.Founds.{serves_one}
 use Rattle.esc_kept.proofs.files.desk_of_files.Goals as goal
 
 pub returns-in-Ok-open_desk-clause-serves : goal.returns-in-Ok-open_desk-clause-serves
-returns-in-Ok-open_desk-clause-serves g c = λ honest trees holds m l it.
+returns-in-Ok-open_desk-clause-serves g c = λ honest trees holds e it.
     let clean = c.in-Ok-open_desk.ensures.honest honest in
-    c.in-Ok-open_desk.ensures.serves honest m l (subst (λ t. IsStoreFor t m l) (sym ((c.in-Ok.ensures.found clean).holds trees holds)) it)
+    c.in-Ok-open_desk.ensures.serves honest e (subst (λ t. IsStoreFor t e) (sym ((c.in-Ok.ensures.found clean).holds trees holds)) it)
 
 pub returns-in-Ok-open_desk-clause-left : goal.returns-in-Ok-open_desk-clause-left
-returns-in-Ok-open_desk-clause-left g c = λ honest trees holds m l it.
+returns-in-Ok-open_desk-clause-left g c = λ honest trees holds e it.
     let clean = c.in-Ok-open_desk.ensures.honest honest in
-    c.in-Ok-open_desk.ensures.left m l (subst (λ t. IsStoreFor t m l) (sym ((c.in-Ok.ensures.found clean).holds trees holds)) it)
+    c.in-Ok-open_desk.ensures.left e (subst (λ t. IsStoreFor t e) (sym ((c.in-Ok.ensures.found clean).holds trees holds)) it)
 
 pub returns-in-Ok-open_desk-clause-found : goal.returns-in-Ok-open_desk-clause-found
-returns-in-Ok-open_desk-clause-found g c = λ honest m l doubtful one.
+returns-in-Ok-open_desk-clause-found g c = λ honest e doubtful one.
     let clean = c.in-Ok-open_desk.ensures.honest honest in
-    serves_one over_files c.in-Ok-open_desk.desk (image_of g.D.Disk c.args.files) m l doubtful
-    (λ trees holds x it. c.in-Ok-open_desk.ensures.serves honest m x (subst (λ t. IsStoreFor t m x) (sym ((c.in-Ok.ensures.found clean).holds trees holds)) it)) one
+    serves_one over_files c.in-Ok-open_desk.desk (image_of g.D.Disk c.args.files) e doubtful
+    (λ trees holds x it. c.in-Ok-open_desk.ensures.serves honest x (subst (λ t. IsStoreFor t x) (sym ((c.in-Ok.ensures.found clean).holds trees holds)) it)) one

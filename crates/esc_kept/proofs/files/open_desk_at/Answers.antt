@@ -7,8 +7,8 @@ use Rattle.esc_kept.proofs.files.open_desk_at.Goals as goal
 
 pub returns-in-Ok-open_desk : goal.returns-in-Ok-open_desk
 returns-in-Ok-open_desk g c = record {
-  found = λ honest m l doubtful one.
+  found = λ honest e doubtful one.
       let clean = c.in-Ok-open_desk.ensures.honest honest in
-      serves_one over_files c.in-Ok-open_desk.desk (image_at g.S.Start) m l doubtful
-      (λ trees holds x it. c.in-Ok-open_desk.ensures.serves honest m x (subst (λ t. IsStoreFor t m x) (sym ((c.in-Ok.ensures.found clean).holds trees holds)) it)) one;
+      serves_one over_files c.in-Ok-open_desk.desk (image_at g.S.Start) e doubtful
+      (λ trees holds x it. c.in-Ok-open_desk.ensures.serves honest x (subst (λ t. IsStoreFor t x) (sym ((c.in-Ok.ensures.found clean).holds trees holds)) it)) one;
 }

@@ -1,6 +1,7 @@
-use Rattle.std.proofs.Common.{◌≡◌, [], sym, ap, subst}
+use Rattle.std.proofs.Common.{◌≡◌, [], ◌∷◌, sym, ap, subst}
 use Rattle.sqlite.specs.Held.{Held}
 use Rattle.esc_store.specs.Kept.{fresh}
+use Rattle.esc_desk.specs.Events.EventValue.{listed}
 use Rattle.esc_desk.specs.Crashes.{CrashLeaves}
 use Rattle.esc_kept.specs.Blank.{LeavesBlankOr}
 use Rattle.esc_kept.proofs.Founds.{blank_or}
@@ -10,7 +11,7 @@ pub returns-in-Ok-clause-crash : goal.returns-in-Ok-clause-crash
 returns-in-Ok-clause-crash g c = subst (λ s. LeavesBlankOr g.S.Store c.args.connection s.conn (fresh c.args.manifest.now)) (sym c.open.ensures.same) (blank_or g.S.Store g.met.S.Store.settled c.args.connection c.in-Ok.store.conn (fresh c.args.manifest.now) c.in-Ok.ensures.crash)
 
 pub returns-in-Ok-clause-left : goal.returns-in-Ok-clause-left
-returns-in-Ok-clause-left g c = c.open.ensures.left c.args.manifest.now [] (fresh c.args.manifest.now) c.in-Ok.ensures.left (c.new_store_stands_for_none.ensures c.args.manifest.now)
+returns-in-Ok-clause-left g c = c.open.ensures.left (listed c.args.manifest.now ∷ []) (fresh c.args.manifest.now) c.in-Ok.ensures.left (c.new_store_stands_for_its_manifest.ensures.stands_for c.args.manifest.now)
 
 pub returns-in-Err-clause-crash : goal.returns-in-Err-clause-crash
 returns-in-Err-clause-crash g c = blank_or g.S.Store g.met.S.Store.settled c.args.connection _ (fresh c.args.manifest.now) c.in-Err.ensures.crash

@@ -10,9 +10,9 @@ returns-in-Ok-clause-honest g c = λ honest.
     clean_first (state g.S.Store c.args.connection) (state g.S.Store c.in-Ok.store.conn) c.in-Ok.ensures.survives mine
 
 pub returns-in-Ok-clause-serves : goal.returns-in-Ok-clause-serves
-returns-in-Ok-clause-serves g c = λ honest m l it.
+returns-in-Ok-clause-serves g c = λ honest e it.
     let mine = subst (λ s. IsHonest g.S.Store s) c.open-in-Ok.ensures.same honest in
-    c.open-in-Ok.ensures.serves m l (record { kept = it.kept; stands = c.in-Ok.ensures.found mine it.kept it.store; stands_for = it.stands_for })
+    c.open-in-Ok.ensures.serves e (record { kept = it.kept; stands = c.in-Ok.ensures.found mine it.kept it.store; stands_for = it.stands_for })
 
 pub returns-in-Ok-clause-left : goal.returns-in-Ok-clause-left
-returns-in-Ok-clause-left g c = λ m l it. c.open-in-Ok.ensures.left m l it.kept (c.in-Ok.ensures.left it.kept it.store) it.stands_for
+returns-in-Ok-clause-left g c = λ e it. c.open-in-Ok.ensures.left e it.kept (c.in-Ok.ensures.left it.kept it.store) it.stands_for

@@ -1,126 +1,128 @@
 use Rattle.std.proofs.Common.{rules, refl, ◌≡◌, ◌<◌, Some, None, List, [], ◌∷◌, ◌++◌, ℕ, length, sym, ap, ap₂, subst, ◌∙◌}
 use Rattle.std.proofs.lemmas.Option.{IfSome_then}
-use Rattle.std.proofs.lemmas.Result.{IfOk-weaker, on_ok_weaker}
+use Rattle.std.proofs.lemmas.Result.{IfOk-weaker}
 use Rattle.sha2.specs.Sha256.{sha256}
 use Rattle.esc_tables.specs.Reading.{reading}
 use Rattle.esc_manifest.specs.declared.row.MRow.{MRow}
 use Rattle.esc_store.specs.ReplyValue.{ReceiptValue, reply_alike}
 use Rattle.esc_store.specs.Standing.{IsHonest}
 use Rattle.esc_desk.specs.ArrivalValue.{ArrivalValue}
+use Rattle.esc_desk.specs.Events.{union}
+use Rattle.esc_desk.specs.Events.EventValue.{arrived}
 use Rattle.esc_desk.specs.Stands.{held_body}
 use Rattle.esc_desk.proofs.OneArrival.{repeated, repeated_reply}
 use Rattle.esc_desk.proofs.Remembering.{held_by}
 use Rattle.esc_desk.proofs.Searches.{same_answer, no_answer}
 use Rattle.esc_desk.proofs.Working.{chain_stays}
-use Rattle.esc_desk.proofs.CrashLemmas.{adds_then, leaves_kept, leaves_early, leaves_taken, if_clean, if_then_on}
+use Rattle.esc_desk.proofs.CrashLemmas.{adds_then, leaves_kept, leaves_early, leaves_taken, if_clean, if_then_on, if_ok_each, on_ok_each}
 use Rattle.esc_desk.proofs.desk.Desk.arrive.Goals as goal
 
 pub returns-in-Some-clause-answered : goal.returns-in-Some-clause-answered
-returns-in-Some-clause-answered g c = λ clean m l served.
+returns-in-Some-clause-answered g c = λ clean e served.
     let serves = served.serves in
     let a : ArrivalValue = record { number = c.args.number.now; body = c.args.body.now } in
-    let there : reply_alike m 1 a.number (sha256 a.body) serves.kept.receipts ≡ Some c.in-Some.reply =
+    let there : reply_alike (union e) 1 a.number (sha256 a.body) serves.kept.receipts ≡ Some c.in-Some.reply =
     sym (c.in_ok-reply.ensures.found clean serves.kept serves.stands ∙ ap₂ (λ (x : List MRow) (d : List ℕ). reply_alike x 1 a.number d serves.kept.receipts) serves.stands_for.listed c.digest-digest.ensures) ∙ c.in-Some.is in
-    let again = repeated sha256 reading m l serves.kept a serves.stands_for c.in-Some.reply there in
+    let again = repeated sha256 reading e serves.kept a serves.stands_for c.in-Some.reply there in
     record {
       serves = record {
         serves = record { kept = serves.kept; stands = c.in_ok-reply.ensures.same.stands serves.kept serves.stands; stands_for = again };
-        remembers = IfSome_then c.args.self.now.known served.remembers (λ rows held. held_by (held_body sha256 reading m l) (held_body sha256 reading m (l ++ a ∷ [])) (λ r. sym (serves.stands_for.bodies r) ∙ again.bodies r) rows.items held);
+        remembers = IfSome_then c.args.self.now.known served.remembers (λ rows held. held_by (held_body sha256 reading e) (held_body sha256 reading (e ++ arrived a ∷ [])) (λ r. sym (serves.stands_for.bodies r) ∙ again.bodies r) rows.items held);
       };
-      told = repeated_reply sha256 reading m l serves.kept a serves.stands_for c.in-Some.reply there;
+      told = repeated_reply sha256 reading e serves.kept a serves.stands_for c.in-Some.reply there;
     }
 
 pub returns-in-None-clause-answered : goal.returns-in-None-clause-answered
-returns-in-None-clause-answered g c = λ clean m l served.
+returns-in-None-clause-answered g c = λ clean e served.
     let serves = served.serves in
     let honest = c.take_new.ensures.honest clean in
-    let none : reply_alike m 1 c.args.number.now c.digest-digest.result serves.kept.receipts ≡ None =
+    let none : reply_alike (union e) 1 c.args.number.now c.digest-digest.result serves.kept.receipts ≡ None =
     sym (c.in_ok-reply.ensures.found honest serves.kept serves.stands ∙ ap (λ (x : List MRow). reply_alike x 1 c.args.number.now c.digest-digest.result serves.kept.receipts) serves.stands_for.listed) ∙ c.in-None.is in
-    IfOk-weaker c.take_new.result _ _ (λ p taken. taken.answers) (c.take_new.ensures.answered clean m l serves.kept (c.in_ok-reply.ensures.same.stands serves.kept serves.stands) serves.stands_for (IfSome_then c.args.self.now.known served.remembers (λ rows held. held_by (held_body sha256 reading m l) serves.kept.bodies (λ r. sym (serves.stands_for.bodies r)) rows.items held)) none)
+    IfOk-weaker c.take_new.result _ _ (λ p taken. taken.answers) (c.take_new.ensures.answered clean e serves.kept (c.in_ok-reply.ensures.same.stands serves.kept serves.stands) serves.stands_for (IfSome_then c.args.self.now.known served.remembers (λ rows held. held_by (held_body sha256 reading e) serves.kept.bodies (λ r. sym (serves.stands_for.bodies r)) rows.items held)) none)
 
 pub returns-in-Some-clause-worked : goal.returns-in-Some-clause-worked
-returns-in-Some-clause-worked g c = λ clean m l served.
+returns-in-Some-clause-worked g c = λ clean e served.
     let serves = served.serves in
     let a : ArrivalValue = record { number = c.args.number.now; body = c.args.body.now } in
     let stood = serves.stands_for in
-    let there : reply_alike m 1 a.number (sha256 a.body) serves.kept.receipts ≡ Some c.in-Some.reply =
+    let there : reply_alike (union e) 1 a.number (sha256 a.body) serves.kept.receipts ≡ Some c.in-Some.reply =
     sym (c.in_ok-reply.ensures.found clean serves.kept serves.stands ∙ ap₂ (λ (x : List MRow) (d : List ℕ). reply_alike x 1 a.number d serves.kept.receipts) stood.listed c.digest-digest.ensures) ∙ c.in-Some.is in
-    chain_stays m l a serves.kept.steps stood.chain (repeated sha256 reading m l serves.kept a stood c.in-Some.reply there).chain
+    chain_stays e a serves.kept.steps stood.chain (repeated sha256 reading e serves.kept a stood c.in-Some.reply there).chain
 
 pub returns-in-None-clause-worked : goal.returns-in-None-clause-worked
-returns-in-None-clause-worked g c = λ clean m l served.
+returns-in-None-clause-worked g c = λ clean e served.
     let serves = served.serves in
     let honest = c.take_new.ensures.honest clean in
-    let none : reply_alike m 1 c.args.number.now c.digest-digest.result serves.kept.receipts ≡ None =
+    let none : reply_alike (union e) 1 c.args.number.now c.digest-digest.result serves.kept.receipts ≡ None =
     sym (c.in_ok-reply.ensures.found honest serves.kept serves.stands ∙ ap (λ (x : List MRow). reply_alike x 1 c.args.number.now c.digest-digest.result serves.kept.receipts) serves.stands_for.listed) ∙ c.in-None.is in
-    IfOk-weaker c.take_new.result _ _ (λ p taken. taken.works) (c.take_new.ensures.answered clean m l serves.kept (c.in_ok-reply.ensures.same.stands serves.kept serves.stands) serves.stands_for (IfSome_then c.args.self.now.known served.remembers (λ rows held. held_by (held_body sha256 reading m l) serves.kept.bodies (λ r. sym (serves.stands_for.bodies r)) rows.items held)) none)
+    IfOk-weaker c.take_new.result _ _ (λ p taken. taken.works) (c.take_new.ensures.answered clean e serves.kept (c.in_ok-reply.ensures.same.stands serves.kept serves.stands) serves.stands_for (IfSome_then c.args.self.now.known served.remembers (λ rows held. held_by (held_body sha256 reading e) serves.kept.bodies (λ r. sym (serves.stands_for.bodies r)) rows.items held)) none)
 
 pub returns-in-None-clause-idle : goal.returns-in-None-clause-idle
-returns-in-None-clause-idle g c = λ clean m l served same.
+returns-in-None-clause-idle g c = λ clean e served.
     let serves = served.serves in
     let honest = c.take_new.ensures.honest clean in
-    let none : reply_alike m 1 c.args.number.now c.digest-digest.result serves.kept.receipts ≡ None =
+    let none : reply_alike (union e) 1 c.args.number.now c.digest-digest.result serves.kept.receipts ≡ None =
     sym (c.in_ok-reply.ensures.found honest serves.kept serves.stands ∙ ap (λ (x : List MRow). reply_alike x 1 c.args.number.now c.digest-digest.result serves.kept.receipts) serves.stands_for.listed) ∙ c.in-None.is in
-    IfOk-weaker c.take_new.result _ _ (λ p taken. taken.idle same) (c.take_new.ensures.answered clean m l serves.kept (c.in_ok-reply.ensures.same.stands serves.kept serves.stands) serves.stands_for (IfSome_then c.args.self.now.known served.remembers (λ rows held. held_by (held_body sha256 reading m l) serves.kept.bodies (λ r. sym (serves.stands_for.bodies r)) rows.items held)) none)
+    IfOk-weaker c.take_new.result _ _ (λ p taken. taken.idle) (c.take_new.ensures.answered clean e serves.kept (c.in_ok-reply.ensures.same.stands serves.kept serves.stands) serves.stands_for (IfSome_then c.args.self.now.known served.remembers (λ rows held. held_by (held_body sha256 reading e) serves.kept.bodies (λ r. sym (serves.stands_for.bodies r)) rows.items held)) none)
 
 pub returns-in-Some-clause-repeated : goal.returns-in-Some-clause-repeated
-returns-in-Some-clause-repeated g c = λ clean m l served r told.
+returns-in-Some-clause-repeated g c = λ clean e served r told.
     let serves = served.serves in
     let stood = serves.stands_for in
     let number = c.args.number.now in
-    let there : reply_alike m 1 number (sha256 c.args.body.now) serves.kept.receipts ≡ Some c.in-Some.reply =
+    let there : reply_alike (union e) 1 number (sha256 c.args.body.now) serves.kept.receipts ≡ Some c.in-Some.reply =
     sym (c.in_ok-reply.ensures.found clean serves.kept serves.stands ∙ ap₂ (λ (x : List MRow) (d : List ℕ). reply_alike x 1 number d serves.kept.receipts) stood.listed c.digest-digest.ensures) ∙ c.in-Some.is in
-    (same_answer (sym there ∙ ap (reply_alike m 1 number (sha256 c.args.body.now)) stood.receipts ∙ told), refl)
+    (same_answer (sym there ∙ ap (reply_alike (union e) 1 number (sha256 c.args.body.now)) stood.receipts ∙ told), refl)
 
 pub returns-in-None-clause-repeated : goal.returns-in-None-clause-repeated
-returns-in-None-clause-repeated g c = λ clean m l served r told.
+returns-in-None-clause-repeated g c = λ clean e served.
     let serves = served.serves in
     let stood = serves.stands_for in
     let number = c.args.number.now in
     let honest = c.take_new.ensures.honest clean in
-    let none : reply_alike m 1 number (sha256 c.args.body.now) serves.kept.receipts ≡ None =
+    let none : reply_alike (union e) 1 number (sha256 c.args.body.now) serves.kept.receipts ≡ None =
     sym (c.in_ok-reply.ensures.found honest serves.kept serves.stands ∙ ap₂ (λ (x : List MRow) (d : List ℕ). reply_alike x 1 number d serves.kept.receipts) stood.listed c.digest-digest.ensures) ∙ c.in-None.is in
-    absurd (no_answer (sym none ∙ ap (reply_alike m 1 number (sha256 c.args.body.now)) stood.receipts ∙ told))
+    if_ok_each c.take_new.result _ (λ p r told. absurd (no_answer (sym none ∙ ap (reply_alike (union e) 1 number (sha256 c.args.body.now)) stood.receipts ∙ told)))
 
 pub returns-in-Some-clause-room : goal.returns-in-Some-clause-room
-returns-in-Some-clause-room g c = λ clean m l served none.
+returns-in-Some-clause-room g c = λ clean e served none.
     let serves = served.serves in
     let stood = serves.stands_for in
     let number = c.args.number.now in
     let digest = sha256 c.args.body.now in
-    let there : reply_alike m 1 number digest serves.kept.receipts ≡ Some c.in-Some.reply =
+    let there : reply_alike (union e) 1 number digest serves.kept.receipts ≡ Some c.in-Some.reply =
     sym (c.in_ok-reply.ensures.found clean serves.kept serves.stands ∙ ap₂ (λ (x : List MRow) (d : List ℕ). reply_alike x 1 number d serves.kept.receipts) stood.listed c.digest-digest.ensures) ∙ c.in-Some.is in
-    absurd (no_answer (sym none ∙ ap (reply_alike m 1 number digest) (sym stood.receipts) ∙ there))
+    absurd (no_answer (sym none ∙ ap (reply_alike (union e) 1 number digest) (sym stood.receipts) ∙ there))
 
 pub returns-in-None-clause-room : goal.returns-in-None-clause-room
-returns-in-None-clause-room g c = λ clean m l served none.
+returns-in-None-clause-room g c = λ clean e served.
     let serves = served.serves in
     let few = c.take_new.ensures.room clean serves.kept (c.in_ok-reply.ensures.same.stands serves.kept serves.stands) in
-    on_ok_weaker c.take_new.result (λ room. subst (λ (rs : List ReceiptValue). length rs < 1_000_000_000) serves.stands_for.receipts room) few
+    on_ok_each c.take_new.result _ _ (λ room p none. subst (λ (rs : List ReceiptValue). length rs < 1_000_000_000) serves.stands_for.receipts room) few
 
 pub returns-in_err-reply-clause-crash : goal.returns-in_err-reply-clause-crash
-returns-in_err-reply-clause-crash g c = λ m l doubtful served left.
-    leaves_early g.S.Store _ _ m l doubtful _ _ c.in_err-reply.field-0.0 (search rules) left c.in_err-reply.ensures.same.survives
+returns-in_err-reply-clause-crash g c = λ e doubtful served left.
+    leaves_early g.S.Store _ _ e doubtful _ _ c.in_err-reply.field-0.0 (search rules) left c.in_err-reply.ensures.same.survives
 
 pub returns-in-Some-clause-crash : goal.returns-in-Some-clause-crash
-returns-in-Some-clause-crash g c = λ m l doubtful served left. if_clean g.S.Store _ m _ _ (λ clean.
+returns-in-Some-clause-crash g c = λ e doubtful served left. if_clean g.S.Store _ _ _ (λ clean.
     let serves = served.serves in
     let stood = serves.stands_for in
     let a : ArrivalValue = record { number = c.args.number.now; body = c.args.body.now } in
-    let there : reply_alike m 1 a.number (sha256 a.body) serves.kept.receipts ≡ Some c.in-Some.reply =
+    let there : reply_alike (union e) 1 a.number (sha256 a.body) serves.kept.receipts ≡ Some c.in-Some.reply =
     sym (c.in_ok-reply.ensures.found clean serves.kept serves.stands ∙ ap₂ (λ (x : List MRow) (d : List ℕ). reply_alike x 1 a.number d serves.kept.receipts) stood.listed c.digest-digest.ensures) ∙ c.in-Some.is in
-    leaves_kept g.S.Store _ _ m l doubtful left a c.in-Some.reply (ap (reply_alike m 1 a.number (sha256 a.body)) (sym stood.receipts) ∙ there) c.in_ok-reply.ensures.same.survives)
+    leaves_kept g.S.Store _ _ e doubtful left a c.in-Some.reply (ap (reply_alike (union e) 1 a.number (sha256 a.body)) (sym stood.receipts) ∙ there) c.in_ok-reply.ensures.same.survives)
 
 pub returns-in-None-clause-crash : goal.returns-in-None-clause-crash
-returns-in-None-clause-crash g c = λ m l doubtful served left.
+returns-in-None-clause-crash g c = λ e doubtful served left.
     let serves = served.serves in
     let stood = serves.stands_for in
     let a : ArrivalValue = record { number = c.args.number.now; body = c.args.body.now } in
     let there = c.in_ok-reply.ensures.same.stands serves.kept serves.stands in
-    let known = IfSome_then c.args.self.now.known served.remembers (λ rows held. held_by (held_body sha256 reading m l) serves.kept.bodies (λ r. sym (stood.bodies r)) rows.items held) in
-    let none : IsHonest g.S.Store c.take_new.new.self.store → reply_alike m 1 a.number c.digest-digest.result serves.kept.receipts ≡ None = λ clean.
+    let known = IfSome_then c.args.self.now.known served.remembers (λ rows held. held_by (held_body sha256 reading e) serves.kept.bodies (λ r. sym (stood.bodies r)) rows.items held) in
+    let none : IsHonest g.S.Store c.take_new.new.self.store → reply_alike (union e) 1 a.number c.digest-digest.result serves.kept.receipts ≡ None = λ clean.
     sym (c.in_ok-reply.ensures.found (c.take_new.ensures.honest clean) serves.kept serves.stands ∙ ap (λ (x : List MRow). reply_alike x 1 a.number c.digest-digest.result serves.kept.receipts) stood.listed) ∙ c.in-None.is in
-    leaves_taken g.S.Store _ _ m l doubtful a c.take_new.result left
-    (λ clean. ap₂ (λ (d : List ℕ) (rs : List ReceiptValue). reply_alike m 1 a.number d rs) (sym c.digest-digest.ensures) (sym stood.receipts) ∙ none clean)
-    (λ clean. adds_then g.S.Store _ _ _ _ m _ c.in_ok-reply.ensures.same.survives (c.take_new.ensures.crash clean m l serves.kept there stood known (none clean)))
-    (λ clean. if_then_on c.take_new.result _ _ (λ p taken. taken.left) (c.take_new.ensures.answered clean m l serves.kept there stood known (none clean)))
+    leaves_taken g.S.Store _ _ e doubtful a c.take_new.result left
+    (λ clean. ap₂ (λ (d : List ℕ) (rs : List ReceiptValue). reply_alike (union e) 1 a.number d rs) (sym c.digest-digest.ensures) (sym stood.receipts) ∙ none clean)
+    (λ clean. adds_then g.S.Store _ _ _ _ _ c.in_ok-reply.ensures.same.survives (c.take_new.ensures.crash clean e serves.kept there stood known (none clean)))
+    (λ clean. if_then_on c.take_new.result _ _ (λ p taken. taken.left) (c.take_new.ensures.answered clean e serves.kept there stood known (none clean)))

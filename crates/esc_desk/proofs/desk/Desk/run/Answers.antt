@@ -16,11 +16,11 @@ loop-arrival-preserved g c =
       counted = grind (arith, common_steps);
       room = omega arith;
       honest = λ clean. c.loop-arrival.invariant.honest (c.take-outcome.ensures.honest clean);
-      ran = λ clean m before served.
+      ran = λ clean before served.
           let past = c.take-outcome.ensures.honest clean in
-          rw (more, c.push_reserved.ensures.items) (ran_more g.S.Store c.loop-arrival.self c.take-outcome.new.self m before (take i all) c.loop-arrival.outcomes.items a c.take-outcome.result (c.loop-arrival.invariant.ran past m before served) (c.take-outcome.ensures.taken clean m));
-      crash = λ m before doubtful served start. rw (more, c.push_reserved.ensures.items) (if_clean g.S.Store c.take-outcome.new.self.store.conn m _ _ (λ clean.
-          let past = c.loop-arrival.invariant.ran (c.take-outcome.ensures.honest clean) m before served in
-          let left = c.loop-arrival.invariant.crash m before doubtful served start in
-          left_more g.S.Store c.take-outcome.new.self.store.conn m before doubtful (take i all) c.loop-arrival.outcomes.items a c.take-outcome.result past.replies (c.take-outcome.ensures.crash m _ _ past.serves left)));
+          rw (more, c.push_reserved.ensures.items) (ran_more g.S.Store c.loop-arrival.self c.take-outcome.new.self before (take i all) c.loop-arrival.outcomes.items a c.take-outcome.result (c.loop-arrival.invariant.ran past before served) (c.take-outcome.ensures.taken clean));
+      crash = λ before doubtful served start. rw (more, c.push_reserved.ensures.items) (if_clean g.S.Store c.take-outcome.new.self.store.conn _ _ (λ clean.
+          let past = c.loop-arrival.invariant.ran (c.take-outcome.ensures.honest clean) before served in
+          let left = c.loop-arrival.invariant.crash before doubtful served start in
+          left_more g.S.Store c.take-outcome.new.self.store.conn before doubtful (take i all) c.loop-arrival.outcomes.items a c.take-outcome.result past.replies (c.take-outcome.ensures.crash _ _ past.serves left)));
     }

@@ -1,7 +1,6 @@
 use Rattle.std.proofs.Common.{◌≡◌, ◌≤◌, ◌++◌, List, length, take, vec_capacity}
-use Rattle.esc_manifest.specs.declared.row.MRow.{MRow}
 use Rattle.esc_store.specs.Standing.{IsHonest}
-use Rattle.esc_desk.specs.ArrivalValue.{ArrivalValue}
+use Rattle.esc_desk.specs.Events.{EventValue}
 use Rattle.esc_desk.specs.Running.{Ran, answered}
 use Rattle.esc_desk.specs.Crashes.{CrashLeaves, doubtful_after}
 use Rattle.esc_desk.specs.Serving.{DeskServes}
@@ -13,7 +12,7 @@ invariant-loop-arrival g l = record {
   counted : length l.outcomes.items ≡ l.arrival-index;
   room : length l.arrivals ≤ vec_capacity l.outcomes;
   honest : IsHonest g.S.Store l.self.store → IsHonest g.S.Store l.fn.self.store;
-  ran : IsHonest g.S.Store l.self.store → (m : List MRow) (before : List ArrivalValue) → DeskServes g.S.Store l.fn.self m before → Ran g.S.Store l.self m before (take l.arrival-index l.arrivals) l.outcomes.items;
-  crash : (m : List MRow) (before doubtful : List ArrivalValue) → DeskServes g.S.Store l.fn.self m before → CrashLeaves g.S.Store l.fn.self.store.conn m before doubtful
-      → CrashLeaves g.S.Store l.self.store.conn m (before ++ answered (take l.arrival-index l.arrivals) l.outcomes.items) (doubtful_after m before doubtful (take l.arrival-index l.arrivals) l.outcomes.items);
+  ran : IsHonest g.S.Store l.self.store → (before : List EventValue) → DeskServes g.S.Store l.fn.self before → Ran g.S.Store l.self before (take l.arrival-index l.arrivals) l.outcomes.items;
+  crash : (before doubtful : List EventValue) → DeskServes g.S.Store l.fn.self before → CrashLeaves g.S.Store l.fn.self.store.conn before doubtful
+      → CrashLeaves g.S.Store l.self.store.conn (before ++ answered (take l.arrival-index l.arrivals) l.outcomes.items) (doubtful_after before doubtful (take l.arrival-index l.arrivals) l.outcomes.items);
 }

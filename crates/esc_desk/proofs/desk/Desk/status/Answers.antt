@@ -7,6 +7,7 @@ use Rattle.esc_apply.specs.declared.front.Step.{Step}
 use Rattle.esc_apply.specs.Registry.{Content}
 use Rattle.esc_store.specs.Kept.{step_at, AreCounts}
 use Rattle.esc_store.specs.ReplyValue.{ReceiptValue}
+use Rattle.esc_desk.specs.Events.{union}
 use Rattle.esc_desk.specs.Reads.{last}
 use Rattle.esc_desk.proofs.HeldReceipts.{held_of_receipts}
 use Rattle.esc_desk.proofs.ReadLemmas.{same_held, same_content, same_chain}
@@ -14,7 +15,7 @@ use Rattle.esc_desk.proofs.StoreFacts.{was_honest}
 use Rattle.esc_desk.proofs.desk.Desk.status.Goals as goal
 
 pub returns-clause-status : goal.returns-clause-status
-returns-clause-status g c = λ clean m l serves.
+returns-clause-status g c = λ clean e serves.
     let k = serves.kept in
     let stood = serves.stands_for in
     let at_chain = was_honest g.S.Store c.chain.new.self c.counts_by_kind.new.self c.in_ok-objects.ensures.same clean in
@@ -25,16 +26,16 @@ returns-clause-status g c = λ clean m l serves.
     let stands_3 = c.in_ok-steps.ensures.same.stands k stands_2 in
     let stands_4 = c.in_ok-objects.ensures.same.stands k stands_3 in
     let told = c.status_of.ensures in
-    let steps = same_chain m l k stood c.deref-2.result.now (c.deref-2.ensures.value ∙ c.in_ok-steps.ensures.steps at_chain k stands_2) in
+    let steps = same_chain e k stood c.deref-2.result.now (c.deref-2.ensures.value ∙ c.in_ok-steps.ensures.steps at_chain k stands_2) in
     record {
       rows = c.in_ok-held.held.items;
-      are_held = same_held m l k stood c.in_ok-held.held.items (held_of_receipts sha256 reading m l k stood c.in_ok-held.held.items (c.in_ok-held.ensures.rows at_held k stands_1));
+      are_held = same_held e k stood c.in_ok-held.held.items (held_of_receipts sha256 reading e k stood c.in_ok-held.held.items (c.in_ok-held.ensures.rows at_held k stands_1));
       chain = k.steps;
       latest = stood.chain;
       listed_count = told.listed ∙ ap (λ (x : List MRow). length x) (c.rows-listed.ensures.rows ∙ c.manifest.ensures.kept k stands_4 ∙ stood.listed);
       held_count = told.held ∙ ap length c.deref.ensures.value;
       receipt_count = told.receipts ∙ c.in_ok-receipts.ensures.count at_count k serves.stands ∙ ap (λ (x : List ReceiptValue). length x) stood.receipts;
-      step_count = told.chain ∙ ap length steps ∙ length-map k.steps (step_at m);
+      step_count = told.chain ∙ ap length steps ∙ length-map k.steps (step_at (union e));
       end_is = told.end ∙ ap (λ (x : List Step). option_map (λ (s : Step). (s.place, s.resend)) (last x)) steps;
-      objects_are = subst (λ (f : Content). AreCounts f c.status_of.result.objects.entries) (same_content m l k stood) (subst (λ x. AreCounts k.registry.content x.entries) (sym told.objects) (c.in_ok-objects.ensures.counts clean k stands_3));
+      objects_are = subst (λ (f : Content). AreCounts f c.status_of.result.objects.entries) (same_content e k stood) (subst (λ x. AreCounts k.registry.content x.entries) (sym told.objects) (c.in_ok-objects.ensures.counts clean k stands_3));
     }

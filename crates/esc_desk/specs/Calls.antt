@@ -1,0 +1,108 @@
+-- The words of a desk's contracts: what a call says of whatever events the desk served before it.
+use Rattle.std.specs.Prelude.{◌≡◌, ℕ, ◌<◌, ◌++◌, List, length, Some, None, Result, IfOk}
+use Rattle.sha2.specs.Sha256.{sha256}
+use Rattle.sqlite_trees.specs.declared.store.Store.{Ghosts}
+use Rattle.esc_tables.specs.Reading.{reading}
+use Rattle.esc_apply.specs.declared.moves.Work.{Work}
+use Rattle.esc_store.specs.declared.fault.SFault.{SFault}
+use Rattle.esc_store.specs.declared.store.Store.{Store}
+use Rattle.esc_store.specs.ReplyValue.{ReplyValue}
+use Rattle.esc_store.specs.Standing.{IsHonest, IsAsBefore}
+use Rattle.esc_desk.specs.declared.desk.Desk.{Desk}
+use Rattle.esc_desk.specs.declared.running.Outcome.{Outcome}
+use Rattle.esc_desk.specs.ArrivalValue.{ArrivalValue}
+use Rattle.esc_desk.specs.Crashes.{CrashLeaves, LeavesTaken, doubtful_after}
+use Rattle.esc_desk.specs.Events.{EventValue}
+use Rattle.esc_desk.specs.Receipts.{receipts_of, reply_to}
+use Rattle.esc_desk.specs.Running.{answered}
+use Rattle.esc_desk.specs.Serving.{Serves, DeskServes, no_work}
+
+-- ---- a desk
+
+abbrev pub store_of : {S : Type 0} → Desk S → Store S
+store_of desk = desk.store
+
+-- the disk gave back what was written to it
+abbrev pub IsHonestDesk : {S : Type 0} → Ghosts S → Desk S → Type 0
+IsHonestDesk g desk = IsHonest g desk.store
+
+-- how many objects were written or removed since the desk's store was opened
+abbrev pub writes_of : {S : Type 0} → Desk S → ℕ
+writes_of desk = desk.store.writes
+
+-- whatever a crash now leaves is a store of these events, or of them and one of those in doubt
+abbrev pub DeskLeaves : {S : Type 0} → Ghosts S → Desk S → List EventValue → List EventValue
+    → Type 0
+DeskLeaves g desk e doubtful = CrashLeaves g desk.store.conn e doubtful
+
+-- ---- a call, by the desk before it and after it
+
+module _ {S : Type 0} (g : Ghosts S) (old new : Desk S) where
+  -- where the store was honest, this is so of whatever events the desk served
+  abbrev pub After : (List EventValue → Type 0) → Type 0
+  After says = IsHonestDesk g new → (e : List EventValue) → DeskServes g old e → says e
+
+  -- the same of these events and of the answer, where the call succeeded
+  abbrev pub OkAfter : {X E : Type 0} → Result X E → (List EventValue → X → Type 0) → Type 0
+  OkAfter result says = After (λ e. IfOk result (says e))
+
+  -- where the store was honest, this is so of whatever events the store stood for
+  abbrev pub Over : (List EventValue → Type 0) → Type 0
+  Over says = IsHonestDesk g new → (e : List EventValue) → Serves g old.store e → says e
+
+  -- the same of these events and of the answer, where the call succeeded
+  abbrev pub OkOver : {X E : Type 0} → Result X E → (List EventValue → X → Type 0) → Type 0
+  OkOver result says = Over (λ e. IfOk result (says e))
+
+  -- a store that is honest after the call was so before
+  abbrev pub WasHonest : Type 0
+  WasHonest = IsHonestDesk g new → IsHonestDesk g old
+
+  -- the desk serves what it served
+  abbrev pub ServesStill : Type 0
+  ServesStill = (e : List EventValue) → DeskServes g old e → DeskServes g new e
+
+  -- the call changed nothing: the manifest, the writes, what the store is and what a crash leaves
+  -- of it are as before, it was honest before if it is now, and the desk serves what it served
+  pub record Stays : Type 0 where
+    pub same : IsAsBefore g old.store new.store
+    pub serves : ServesStill
+
+  -- the desk remembers what it did
+  abbrev pub RemembersStill : Type 0
+  RemembersStill = new.known ≡ old.known
+
+  -- the call changed nothing, and the desk remembers what it did
+  abbrev pub Rests : Type 0
+  Rests = Stays × RemembersStill
+
+-- this is so of whatever events the desk served before the call, and whatever was in doubt
+abbrev pub CrashAfter : {S : Type 0} → Ghosts S → Desk S
+    → (List EventValue → List EventValue → Type 0) → Type 0
+CrashAfter g old says = (e doubtful : List EventValue) → DeskServes g old e
+    → DeskLeaves g old e doubtful → says e doubtful
+
+-- ---- an arrival
+
+-- an arrival alike an earlier one: this is that one's reply, and nothing was done
+abbrev pub RepeatsReply : List EventValue → ArrivalValue → ReplyValue → Work → Type 0
+RepeatsReply e a reply work = (r : ReplyValue) → reply_to sha256 reading e a ≡ Some r
+    → (reply ≡ r) × (work ≡ no_work)
+
+-- an arrival like none before it: there was room for its receipt
+abbrev pub HadRoom : List EventValue → ArrivalValue → Type 0
+HadRoom e a = reply_to sha256 reading e a ≡ None
+    → length (receipts_of sha256 reading e) < 1_000_000_000
+
+-- what a crash leaves after an arrival, by its answer
+abbrev pub DeskLeavesTaken : {S X : Type 0} → Ghosts S → Desk S → List EventValue → List EventValue
+    → ArrivalValue → Result X SFault → Type 0
+DeskLeavesTaken g desk e doubtful a result = LeavesTaken g desk.store.conn e doubtful a result
+
+-- what a crash leaves after a run over arrivals: the events before it and the answered arrivals,
+-- and those in doubt then
+abbrev pub DeskLeavesRun : {S : Type 0} → Ghosts S → Desk S → List EventValue → List EventValue
+    → List ArrivalValue → List Outcome → Type 0
+DeskLeavesRun g desk e doubtful arrivals outcomes =
+    DeskLeaves g desk (e ++ answered arrivals outcomes)
+    (doubtful_after e doubtful arrivals outcomes)
