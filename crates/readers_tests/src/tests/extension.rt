@@ -1,6 +1,8 @@
 //! Manifests that list more rows: the union of two, or its fault.
 
-use esc_manifest::read_manifest;
+use super::shown::manifest_text;
+use esc_bundle::NoMemory;
+use esc_manifest::{MRow, Manifest, read_manifest};
 use std::alloc::Global;
 use std::test::Fail;
 
@@ -32,7 +34,7 @@ const D8_AT_D2: Listed = ("D8,DIFF,2024-03-04T00:00:00Z,F1,", 8);
 const X9: Listed = ("X9,FULL,2024-03-05T00:00:00Z,,", 9);
 
 /// The rows of two manifests, and the ids of their union or its fault, whose row is one of the second.
-const UNIONS: [(&[Listed], &[Listed], &str); 13] = [
+static UNIONS: [(&[Listed], &[Listed], &str); 13] = [
     (&[F1], &[F1, D2], "F1 D2"),
     (&[F1, D2], &[F1_IN_OTHER_WORDS], "F1 D2"),
     (&[F1, D2], &[], "F1 D2"),
@@ -50,30 +52,34 @@ const UNIONS: [(&[Listed], &[Listed], &str); 13] = [
     (&[F1, D2], &[F5_WITH_BYTES_OF_F1, D8_AT_D2], "M10 row 2"),
 ];
 
-fn text_of(alloc: Global, rows: &[Listed]) -> Result<String, Fail> {
-    let mut text = String::from_str(alloc, "id,type,watermark,prevId,resend,sha256\n")?;
-    for (fields, digest) in rows {
-        let row = format!(in alloc; "{fields},{digest:064}\n")?;
-        text.push_str(row.as_str())?;
-    }
-    Ok(text)
+fn manifest_of(alloc: Global, rows: &[Listed]) -> Result<Manifest, Fail> {
+    let text = manifest_text(alloc, rows)?;
+    Ok(read_manifest(alloc, text.as_bytes())?)
 }
 
-fn told(alloc: Global, rows: &[Listed], more: &[Listed]) -> Result<String, Fail> {
-    let first = read_manifest(alloc, text_of(alloc, rows)?.as_bytes())?;
-    let second = read_manifest(alloc, text_of(alloc, more)?.as_bytes())?;
-    let union = match first.extend(alloc, &second) {
-        Ok(union) => union,
-        Err(fault) => return Ok(format!(in alloc; "{fault}")?),
-    };
+fn ids_of(alloc: Global, rows: &[MRow]) -> Result<String, NoMemory> {
     let mut ids = String::new(alloc);
-    for row in union.rows() {
+    for row in rows {
         if !ids.is_empty() {
             ids.push_str(" ")?;
         }
         ids.push_str(row.header.id.as_str())?;
     }
     Ok(ids)
+}
+
+// The ids of the union of two manifests, or its fault.
+fn union_told(alloc: Global, first: &Manifest, second: &Manifest) -> Result<String, NoMemory> {
+    match first.extend(alloc, second) {
+        Ok(union) => ids_of(alloc, union.rows()),
+        Err(fault) => Ok(format!(in alloc; "{fault}")?),
+    }
+}
+
+fn told(alloc: Global, rows: &[Listed], more: &[Listed]) -> Result<String, Fail> {
+    let first = manifest_of(alloc, rows)?;
+    let second = manifest_of(alloc, more)?;
+    Ok(union_told(alloc, &first, &second)?)
 }
 
 #[test]

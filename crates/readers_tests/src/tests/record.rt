@@ -14,7 +14,7 @@ const CONTACT: &[u8] =
 type Cells = (&'static str, &'static [(&'static str, &'static str)]);
 
 /// Objects, each with its parent and children, its rows as a text, its record and the record's length.
-const OBJECTS: [(Cells, &[Cells], &str, &[u8], usize); 4] = [
+static OBJECTS: [(Cells, &[Cells], &str, &[u8], usize); 4] = [
     (
         ("contact", &[("id", "C1"), ("clID", "R1")]),
         &[],
@@ -61,7 +61,7 @@ const OBJECTS: [(Cells, &[Cells], &str, &[u8], usize); 4] = [
 ];
 
 /// Bytes that are no record.
-const OTHERS: [&[u8]; 11] = [
+static OTHERS: [&[u8]; 11] = [
     b"\x00\x00\x00\x01\x00\x00\x00\x07contact\x00\x00\x00\x02\x00\x00\x00\x02id\x00\x00\x00\x02C1\x00\x00\x00\x04clID\x00\x00\x00\x02R",
     b"\x00\x00\x00\x00",
     b"\x00\x00\x00\x01\x00\x00\x00\x01\xff\x00\x00\x00\x00",
@@ -77,21 +77,34 @@ const OTHERS: [&[u8]; 11] = [
     b"\x00\x00\x00\x01\xff\xff\xff\xffidn\x00\x00\x00\x00",
 ];
 
-fn object_of(alloc: Global, parent: Cells, children: &[Cells]) -> Result<Object, NoMemory> {
-    let (table, cells) = parent;
-    let parent = Row::from_cells(alloc, table, cells)?;
+fn rows_of(alloc: Global, tables: &[Cells]) -> Result<Vec<Row>, NoMemory> {
     let mut rows = Vec::new(alloc);
-    for (table, cells) in children {
+    for (table, cells) in tables {
         rows.push(Row::from_cells(alloc, table, cells)?)?;
     }
+    Ok(rows)
+}
+
+fn object_of(alloc: Global, parent: &Cells, children: &[Cells]) -> Result<Object, NoMemory> {
+    let (table, cells) = parent;
     Ok(Object {
-        parent,
-        children: rows,
+        parent: Row::from_cells(alloc, table, cells)?,
+        children: rows_of(alloc, children)?,
     })
 }
 
+// The record of an object.
+fn record_of(
+    alloc: Global,
+    parent: &Cells,
+    children: &[Cells],
+) -> Result<Option<Vec<u8>>, NoMemory> {
+    let object = object_of(alloc, parent, children)?;
+    to_record(alloc, &object)
+}
+
 // The rows of the object whose record these bytes are.
-fn rows_of(alloc: Global, bytes: &[u8]) -> Result<Option<String>, NoMemory> {
+fn told(alloc: Global, bytes: &[u8]) -> Result<Option<String>, NoMemory> {
     let Some(object) = read_record(alloc, bytes)? else {
         return Ok(None);
     };
@@ -102,13 +115,11 @@ fn rows_of(alloc: Global, bytes: &[u8]) -> Result<Option<String>, NoMemory> {
 
 #[test]
 fn objects_are_written(rt: HostRuntime) -> Result<(), Fail> {
-    let alloc = rt.alloc();
-    for (parent, children, text, record, length) in OBJECTS {
-        let object = object_of(alloc, parent, children)?;
-        let written = to_record(alloc, &object)?;
+    for (parent, children, text, record, length) in &OBJECTS {
+        let written = record_of(rt.alloc(), parent, children)?;
         assert_eq!(rt;
             (written.as_deref(), record.len()),
-            (Some(record), length),
+            (Some(*record), *length),
             "{text}"
         );
     }
@@ -117,20 +128,16 @@ fn objects_are_written(rt: HostRuntime) -> Result<(), Fail> {
 
 #[test]
 fn records_are_read(rt: HostRuntime) -> Result<(), Fail> {
-    let alloc = rt.alloc();
-    for (_, _, text, record, _) in OBJECTS {
-        let read = rows_of(alloc, record)?;
-        assert_eq!(rt; read.as_deref(), Some(text));
+    for (_, _, text, record, _) in &OBJECTS {
+        assert_eq!(rt; told(rt.alloc(), record)?.as_deref(), Some(*text));
     }
     Ok(())
 }
 
 #[test]
 fn other_bytes_are_no_record(rt: HostRuntime) -> Result<(), Fail> {
-    let alloc = rt.alloc();
-    for bytes in OTHERS {
-        let read = rows_of(alloc, bytes)?;
-        assert_eq!(rt; read.as_deref(), None, "{bytes:?}");
+    for bytes in &OTHERS {
+        assert_eq!(rt; told(rt.alloc(), bytes)?.as_deref(), None, "{bytes:?}");
     }
     Ok(())
 }
