@@ -1,8 +1,8 @@
 //! Bundles: their sections, what is refused, and what is written.
 
+use super::asserts::assert_told;
 use esc_bundle::{Fault, NoMemory, sections, write_bundle};
 use std::alloc::Global;
-use std::test::Fail;
 
 /// The sample bundle as far as its second section.
 const FRONT: &[u8] =
@@ -20,19 +20,18 @@ const REPEATED_NAME: Result<usize, Fault> = Err(Fault::Refused(3));
 
 const OVER_LIMIT: Result<usize, Fault> = Err(Fault::Refused(4));
 
-/// Bundles, each in two pieces, with their lengths and their sections.
-static BUNDLES: [(&[u8], &[u8], usize, &[(&str, &[u8])]); 2] = [
+/// Bundles, each in two pieces, with their sections, their lengths, and whether they are read and written so.
+static BUNDLES: [(&[u8], &[u8], &[(&str, &[u8])], &str); 2] = [
     (
         FRONT,
         b"c.csv 6\nC1,R1\n\nend\n",
-        228,
         &[("envelope.json", ENVELOPE), ("c.csv", b"C1,R1\n")],
+        "228 bytes, true, true",
     ),
     // Ten full sections, of bytes that look like lines of a bundle or are no text.
     (
         b"escrow-bundle 1\nenvelope.json 2\n{}\na 4\nend\n\nb.csv 10\nc.csv 1\nx\n\nc-d 1\n\n\ne_f 2\n\n\n\n",
         b"0 1\n\x00\n1.2 2\n\xff\xfe\nzzzzzzzzzzzzzzzzzzzzzzzzzzzzzzzz 7\nC1,R1\r\n\nend 16\nescrow-bundle 1\n\ng 10\n0123456789\nend\n",
-        183,
         &[
             ("envelope.json", b"{}"),
             ("a", b"end\n"),
@@ -45,6 +44,7 @@ static BUNDLES: [(&[u8], &[u8], usize, &[(&str, &[u8])]); 2] = [
             ("end", b"escrow-bundle 1\n"),
             ("g", b"0123456789"),
         ],
+        "183 bytes, true, true",
     ),
 ];
 
@@ -293,44 +293,53 @@ fn written(alloc: Global, parts: &[(&str, &[u8])], zeros: usize) -> Result<Vec<u
     write_bundle(alloc, list.as_slice())
 }
 
-// The length of a bundle, whether its sections are these, and whether it is what is written of them.
-fn there_and_back(
-    alloc: Global,
-    body: &[u8],
-    parts: &[(&str, &[u8])],
-) -> Result<(usize, bool, bool), Fault> {
-    let is_read = parts_of(alloc, body)?.as_slice() == parts;
-    let is_written = written(alloc, parts, 0)?.as_slice() == body;
-    Ok((body.len(), is_read, is_written))
-}
-
 fn joined(alloc: Global, front: &[u8], back: &[u8]) -> Result<Vec<u8>, NoMemory> {
     let mut bytes = Vec::from_slice(alloc, front)?;
     bytes.extend_from_slice(back)?;
     Ok(bytes)
 }
 
-#[test]
-fn bundles_are_read_and_written(rt: HostRuntime) -> Result<(), Fail> {
-    let alloc = rt.alloc();
-    for (front, back, length, parts) in &BUNDLES {
-        let body = joined(alloc, front, back)?;
-        assert_eq!(rt;
-            there_and_back(alloc, body.as_slice(), parts)?,
-            (*length, true, true)
-        );
-    }
-    Ok(())
+// The length of a bundle, whether its sections are these, and whether it is what is written of them.
+fn told(alloc: Global, body: &[u8], parts: &[(&str, &[u8])]) -> Result<String, Fault> {
+    let is_read = parts_of(alloc, body)?.as_slice() == parts;
+    let is_written = written(alloc, parts, 0)?.as_slice() == body;
+    let length = body.len();
+    Ok(format!(in alloc; "{length} bytes, {is_read}, {is_written}")?)
+}
+
+fn told_of(
+    alloc: Global,
+    front: &[u8],
+    back: &[u8],
+    parts: &[(&str, &[u8])],
+) -> Result<String, Fault> {
+    let body = joined(alloc, front, back)?;
+    told(alloc, body.as_slice(), parts)
 }
 
 #[test]
-fn each_beginning_of_the_sample_is_refused(rt: HostRuntime) -> Result<(), Fail> {
-    let alloc = rt.alloc();
-    let body = joined(alloc, FRONT, b"c.csv 6\nC1,R1\n\nend\n")?;
-    for len in 0..body.len() {
-        assert_eq!(rt; count_in(alloc, &body[..len]), BROKEN_FRAME);
+fn bundles_are_read_and_written(rt: HostRuntime) {
+    for (front, back, parts, text) in &BUNDLES {
+        assert_told(&rt, *back, told_of(rt.alloc(), front, back, parts), text);
     }
-    Ok(())
+}
+
+// How many beginnings of a body have a broken frame.
+fn count_broken(alloc: Global, body: &[u8]) -> usize {
+    (0..body.len())
+        .filter(|len| count_in(alloc, &body[..*len]) == BROKEN_FRAME)
+        .count()
+}
+
+fn broken_told(alloc: Global) -> Result<String, NoMemory> {
+    let body = joined(alloc, FRONT, b"c.csv 6\nC1,R1\n\nend\n")?;
+    let count = count_broken(alloc, body.as_slice());
+    Ok(format!(in alloc; "{count} beginnings")?)
+}
+
+#[test]
+fn each_beginning_of_the_sample_is_refused(rt: HostRuntime) {
+    assert_told(&rt, "sample", broken_told(rt.alloc()), "228 beginnings");
 }
 
 #[test]
@@ -360,10 +369,11 @@ fn printed(alloc: Global) -> Result<String, NoMemory> {
 }
 
 #[test]
-fn faults_print_their_codes(rt: HostRuntime) -> Result<(), Fail> {
-    assert_eq!(rt;
-        printed(rt.alloc())?.as_str(),
-        "U11, out of memory, out of memory, out of memory"
+fn faults_print_their_codes(rt: HostRuntime) {
+    assert_told(
+        &rt,
+        "faults",
+        printed(rt.alloc()),
+        "U11, out of memory, out of memory, out of memory",
     );
-    Ok(())
 }

@@ -1,12 +1,12 @@
 //! Envelopes: each fault of each member, the moments of watermarks, places and names.
 
+use super::asserts::assert_told;
 use esc_bundle::{Fault, NoMemory};
 use esc_envelope::{
     DepositType, Envelope, Header, Kind, Place, Table, is_id, read_envelope, watermark,
     watermark_text,
 };
 use std::alloc::Global;
-use std::test::Fail;
 
 /// The envelope of the sample bundle, 174 bytes.
 const SAMPLE: &str =
@@ -16,15 +16,15 @@ const SAMPLE: &str =
 const COUNTED: &str =
     "{\"id\":\"D6\",\"type\":\"DIFF\",\"prevId\":\"F5\",\"resend\":2,\"watermark\":\"2024-03-11T00:00:00Z\",\"counts\":{\"domain\":3,\"host\":0,\"registrar\":1}}";
 
-/// Envelopes, and what they say: the header and its copy, the counts and the tables.
+/// Envelopes, and what they say: their lengths, the header and its copy, the counts and the tables.
 static ENVELOPES: [(&str, &str); 2] = [
     (
         SAMPLE,
-        "F1 FULL 1709424000000000000 (none) 0\nF1 FULL 1709424000000000000 (none) 0\n0 counts\n+ contact contact parent 0 c.csv id clID\n",
+        "174 bytes\nF1 FULL 1709424000000000000 (none) 0\nF1 FULL 1709424000000000000 (none) 0\n0 counts\n+ contact contact parent 0 c.csv id clID\n",
     ),
     (
         COUNTED,
-        "D6 DIFF 1710115200000000000 F5 2\nD6 DIFF 1710115200000000000 F5 2\n3 counts\nregistrar 1\nhost 0\ndomain 3\n",
+        "130 bytes\nD6 DIFF 1710115200000000000 F5 2\nD6 DIFF 1710115200000000000 F5 2\n3 counts\nregistrar 1\nhost 0\ndomain 3\n",
     ),
 ];
 
@@ -200,51 +200,24 @@ static MOMENTS: [(&str, Option<i64>); 34] = [
 ];
 
 /// Moments and their texts.
-static PRINTED: [(i64, Option<&str>); 17] = [
-    (1_709_424_000_000_000_000, Some("2024-03-03T00:00:00Z")),
-    (1_709_424_000_100_000_000, Some("2024-03-03T00:00:00.1Z")),
-    (1_709_424_000_120_000_000, Some("2024-03-03T00:00:00.12Z")),
-    (1_709_424_000_123_000_000, Some("2024-03-03T00:00:00.123Z")),
-    (1_709_424_000_123_400_000, Some("2024-03-03T00:00:00.1234Z")),
-    (
-        1_709_424_000_123_450_000,
-        Some("2024-03-03T00:00:00.12345Z"),
-    ),
-    (
-        1_709_424_000_123_456_000,
-        Some("2024-03-03T00:00:00.123456Z"),
-    ),
-    (
-        1_709_424_000_123_456_700,
-        Some("2024-03-03T00:00:00.1234567Z"),
-    ),
-    (
-        1_709_424_000_123_456_780,
-        Some("2024-03-03T00:00:00.12345678Z"),
-    ),
-    (1_709_424_000_010_000_000, Some("2024-03-03T00:00:00.01Z")),
-    (
-        1_709_424_000_000_000_010,
-        Some("2024-03-03T00:00:00.00000001Z"),
-    ),
-    (
-        1_709_424_000_100_000_100,
-        Some("2024-03-03T00:00:00.1000001Z"),
-    ),
-    (
-        1_709_424_000_123_456_789,
-        Some("2024-03-03T00:00:00.123456789Z"),
-    ),
-    (
-        1_709_424_000_000_000_001,
-        Some("2024-03-03T00:00:00.000000001Z"),
-    ),
-    (
-        9_214_646_399_999_999_999,
-        Some("2261-12-31T23:59:59.999999999Z"),
-    ),
-    (9_214_646_400_000_000_000, None),
-    (-1, None),
+static PRINTED: [(i64, &str); 17] = [
+    (1_709_424_000_000_000_000, "2024-03-03T00:00:00Z"),
+    (1_709_424_000_100_000_000, "2024-03-03T00:00:00.1Z"),
+    (1_709_424_000_120_000_000, "2024-03-03T00:00:00.12Z"),
+    (1_709_424_000_123_000_000, "2024-03-03T00:00:00.123Z"),
+    (1_709_424_000_123_400_000, "2024-03-03T00:00:00.1234Z"),
+    (1_709_424_000_123_450_000, "2024-03-03T00:00:00.12345Z"),
+    (1_709_424_000_123_456_000, "2024-03-03T00:00:00.123456Z"),
+    (1_709_424_000_123_456_700, "2024-03-03T00:00:00.1234567Z"),
+    (1_709_424_000_123_456_780, "2024-03-03T00:00:00.12345678Z"),
+    (1_709_424_000_010_000_000, "2024-03-03T00:00:00.01Z"),
+    (1_709_424_000_000_000_010, "2024-03-03T00:00:00.00000001Z"),
+    (1_709_424_000_100_000_100, "2024-03-03T00:00:00.1000001Z"),
+    (1_709_424_000_123_456_789, "2024-03-03T00:00:00.123456789Z"),
+    (1_709_424_000_000_000_001, "2024-03-03T00:00:00.000000001Z"),
+    (9_214_646_399_999_999_999, "2261-12-31T23:59:59.999999999Z"),
+    (9_214_646_400_000_000_000, "none"),
+    (-1, "none"),
 ];
 
 const DIFF: Place = Place {
@@ -292,12 +265,18 @@ fn answer(alloc: Global, json: &[u8]) -> u8 {
     }
 }
 
-// The answer to members behind a right header.
-fn answer_to_members(alloc: Global, members: &str) -> Result<u8, NoMemory> {
-    let json = format!(in alloc;
+fn with_header(alloc: Global, members: &str) -> Result<String, NoMemory> {
+    Ok(format!(in alloc;
         "{{\"id\":\"F1\",\"type\":\"FULL\",\"watermark\":\"2024-03-03T00:00:00Z\"{members}}}"
-    )?;
-    Ok(answer(alloc, json.as_bytes()))
+    )?)
+}
+
+// The answer to members behind a right header.
+fn answer_to_members(alloc: Global, members: &str) -> u8 {
+    match with_header(alloc, members) {
+        Ok(json) => answer(alloc, json.as_bytes()),
+        Err(NoMemory) => 255,
+    }
 }
 
 // Id, type, watermark, previous id and resend of a header.
@@ -362,7 +341,8 @@ fn push_envelope(text: &mut String, alloc: Global, envelope: &Envelope) -> Resul
 // What an envelope says.
 fn told(alloc: Global, json: &str) -> Result<String, Fault> {
     let envelope = read_envelope(alloc, json.as_bytes())?;
-    let mut text = String::new(alloc);
+    let length = json.len();
+    let mut text = format!(in alloc; "{length} bytes\n")?;
     push_envelope(&mut text, alloc, &envelope)?;
     Ok(text)
 }
@@ -378,6 +358,14 @@ fn with_fields(alloc: Global, count: u8) -> Result<String, NoMemory> {
     }
     members.push_str("]}]")?;
     Ok(members)
+}
+
+// The answer to a table of so many fields more than one.
+fn answer_to_fields(alloc: Global, count: u8) -> u8 {
+    match with_fields(alloc, count) {
+        Ok(members) => answer_to_members(alloc, &members),
+        Err(NoMemory) => 255,
+    }
 }
 
 // A line for each pair of places: whether the first stands before the second, and whether it is up to it.
@@ -436,24 +424,21 @@ fn words_told(alloc: Global) -> Result<String, NoMemory> {
 }
 
 #[test]
-fn envelopes_are_read(rt: HostRuntime) -> Result<(), Fail> {
+fn envelopes_are_read(rt: HostRuntime) {
     for (json, text) in &ENVELOPES {
-        assert_eq!(rt; told(rt.alloc(), json)?.as_str(), *text);
+        assert_told(&rt, *json, told(rt.alloc(), json), text);
     }
-    assert_eq!(rt; SAMPLE.len(), 174);
-    Ok(())
 }
 
 #[test]
-fn each_member(rt: HostRuntime) -> Result<(), Fail> {
+fn each_member(rt: HostRuntime) {
     for (members, number) in &MEMBERS {
         assert_eq!(rt;
-            answer_to_members(rt.alloc(), members)?,
+            answer_to_members(rt.alloc(), members),
             *number,
             "{members}"
         );
     }
-    Ok(())
 }
 
 #[test]
@@ -464,12 +449,10 @@ fn no_header(rt: HostRuntime) {
 }
 
 #[test]
-fn many_fields(rt: HostRuntime) -> Result<(), Fail> {
+fn many_fields(rt: HostRuntime) {
     for (more, number) in [(63, 0), (64, 7)] {
-        let members = with_fields(rt.alloc(), more)?;
-        assert_eq!(rt; answer_to_members(rt.alloc(), &members)?, number, "{more}");
+        assert_eq!(rt; answer_to_fields(rt.alloc(), more), number, "{more}");
     }
-    Ok(())
 }
 
 fn moment_of(text: &str) -> Option<i64> {
@@ -483,21 +466,22 @@ fn moments_are_read(rt: HostRuntime) {
     }
 }
 
-fn text_at(alloc: Global, moment: i64) -> Result<Option<String>, NoMemory> {
-    watermark_text(alloc, moment)
-}
-
-#[test]
-fn moments_are_printed(rt: HostRuntime) -> Result<(), Fail> {
-    for (moment, text) in &PRINTED {
-        let printed = text_at(rt.alloc(), *moment)?;
-        assert_eq!(rt; printed.as_deref(), *text, "{moment}");
+// The text of a moment, or `none`.
+fn text_at(alloc: Global, moment: i64) -> Result<String, NoMemory> {
+    match watermark_text(alloc, moment)? {
+        Some(text) => Ok(text),
+        None => Ok(String::from_str(alloc, "none")?),
     }
-    Ok(())
 }
 
 #[test]
-fn places_types_kinds_and_ids(rt: HostRuntime) -> Result<(), Fail> {
-    assert_eq!(rt; words_told(rt.alloc())?.as_str(), TOLD);
-    Ok(())
+fn moments_are_printed(rt: HostRuntime) {
+    for (moment, text) in &PRINTED {
+        assert_told(&rt, *moment, text_at(rt.alloc(), *moment), text);
+    }
+}
+
+#[test]
+fn places_types_kinds_and_ids(rt: HostRuntime) {
+    assert_told(&rt, "words", words_told(rt.alloc()), TOLD);
 }

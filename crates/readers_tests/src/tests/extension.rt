@@ -1,10 +1,10 @@
 //! Manifests that list more rows: the union of two, or its fault.
 
+use super::asserts::assert_told;
 use super::shown::manifest_text;
 use esc_bundle::NoMemory;
-use esc_manifest::{MRow, Manifest, read_manifest};
+use esc_manifest::{MFault, MRow, Manifest, read_manifest};
 use std::alloc::Global;
-use std::test::Fail;
 
 /// A row: its first five fields, and its digest as a number.
 type Listed = (&'static str, u32);
@@ -52,9 +52,9 @@ static UNIONS: [(&[Listed], &[Listed], &str); 13] = [
     (&[F1, D2], &[F5_WITH_BYTES_OF_F1, D8_AT_D2], "M10 row 2"),
 ];
 
-fn manifest_of(alloc: Global, rows: &[Listed]) -> Result<Manifest, Fail> {
+fn manifest_of(alloc: Global, rows: &[Listed]) -> Result<Manifest, MFault> {
     let text = manifest_text(alloc, rows)?;
-    Ok(read_manifest(alloc, text.as_bytes())?)
+    read_manifest(alloc, text.as_bytes())
 }
 
 fn ids_of(alloc: Global, rows: &[MRow]) -> Result<String, NoMemory> {
@@ -76,16 +76,15 @@ fn union_told(alloc: Global, first: &Manifest, second: &Manifest) -> Result<Stri
     }
 }
 
-fn told(alloc: Global, rows: &[Listed], more: &[Listed]) -> Result<String, Fail> {
+fn told(alloc: Global, rows: &[Listed], more: &[Listed]) -> Result<String, MFault> {
     let first = manifest_of(alloc, rows)?;
     let second = manifest_of(alloc, more)?;
     Ok(union_told(alloc, &first, &second)?)
 }
 
 #[test]
-fn unions_of_two_manifests(rt: HostRuntime) -> Result<(), Fail> {
+fn unions_of_two_manifests(rt: HostRuntime) {
     for (rows, more, want) in &UNIONS {
-        assert_eq!(rt; told(rt.alloc(), rows, more)?.as_str(), *want);
+        assert_told(&rt, *more, told(rt.alloc(), rows, more), want);
     }
-    Ok(())
 }

@@ -1,11 +1,11 @@
 //! Manifests: the least fault of texts and of rows, and the values of fields.
 
+use super::asserts::assert_told;
 use super::shown::{HEADING, manifest_text};
 use esc_bundle::NoMemory;
 use esc_envelope::{DepositType, Header, Place};
 use esc_manifest::{MFault, MRow, Manifest, from_rows, read_manifest};
 use std::alloc::Global;
-use std::test::Fail;
 
 // 2024-03-03T00:00:00Z, and the days after it.
 const THIRD: i64 = 1_709_424_000_000_000_000;
@@ -404,6 +404,11 @@ fn rows_told(alloc: Global, manifest: &Manifest) -> Result<String, NoMemory> {
     Ok(text)
 }
 
+fn values_told(alloc: Global) -> Result<String, MFault> {
+    let manifest = read_manifest(alloc, MANIFEST.as_bytes())?;
+    Ok(rows_told(alloc, &manifest)?)
+}
+
 // So many Fulls, one nanosecond apart, and line feeds up to so many bytes.
 fn sized(alloc: Global, count: u32, size: usize) -> Result<Vec<u8>, NoMemory> {
     let mut text = String::from_str(alloc, HEADING)?;
@@ -420,48 +425,43 @@ fn sized(alloc: Global, count: u32, size: usize) -> Result<Vec<u8>, NoMemory> {
     Ok(bytes)
 }
 
+// What is said of so many Fulls in so many bytes.
+fn told_of_size(alloc: Global, count: u32, size: usize) -> Result<String, NoMemory> {
+    let text = sized(alloc, count, size)?;
+    told(alloc, text.as_slice())
+}
+
 #[test]
-fn faults_of_the_first_line(rt: HostRuntime) -> Result<(), Fail> {
+fn faults_of_the_first_line(rt: HostRuntime) {
     for (text, said) in &FIRST_LINES {
-        assert_eq!(rt; told(rt.alloc(), text)?.as_str(), *said, "{text:?}");
+        assert_told(&rt, *text, told(rt.alloc(), text), said);
     }
-    Ok(())
 }
 
 #[test]
-fn the_least_fault_of_a_text(rt: HostRuntime) -> Result<(), Fail> {
+fn the_least_fault_of_a_text(rt: HostRuntime) {
     for (rows, said) in &TEXTS {
-        assert_eq!(rt; told_of(rt.alloc(), rows)?.as_str(), *said, "{rows:?}");
+        assert_told(&rt, *rows, told_of(rt.alloc(), rows), said);
     }
-    Ok(())
 }
 
 #[test]
-fn the_least_fault_of_rows(rt: HostRuntime) -> Result<(), Fail> {
+fn the_least_fault_of_rows(rt: HostRuntime) {
     for (first, second, said) in &PAIRS {
-        assert_eq!(rt; told_of_two(rt.alloc(), first, second)?.as_str(), *said);
+        assert_told(&rt, *said, told_of_two(rt.alloc(), first, second), said);
     }
-    Ok(())
 }
 
 #[test]
-fn more_rows_than_a_manifest_has(rt: HostRuntime) -> Result<(), Fail> {
-    assert_eq!(rt; told_of_many(rt.alloc(), &F1, 4097)?.as_str(), "M1 row 0");
-    Ok(())
-}
-
-#[test]
-fn values_of_fields(rt: HostRuntime) -> Result<(), Fail> {
-    let manifest = read_manifest(rt.alloc(), MANIFEST.as_bytes())?;
-    assert_eq!(rt; rows_told(rt.alloc(), &manifest)?.as_str(), ROWS);
-    Ok(())
-}
-
-#[test]
-fn the_largest_texts(rt: HostRuntime) -> Result<(), Fail> {
+fn values_and_sizes(rt: HostRuntime) {
+    assert_told(&rt, "values", values_told(rt.alloc()), ROWS);
+    assert_told(&rt, "rows", told_of_many(rt.alloc(), &F1, 4097), "M1 row 0");
     for (count, size, said) in &SIZES {
-        let text = sized(rt.alloc(), *count, *size)?;
-        assert_eq!(rt; told(rt.alloc(), text.as_slice())?.as_str(), *said);
+        assert_told(
+            &rt,
+            (*count, *size),
+            told_of_size(rt.alloc(), *count, *size),
+            said,
+        );
     }
-    Ok(())
 }

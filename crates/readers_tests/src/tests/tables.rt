@@ -1,11 +1,11 @@
 //! Deposits: what bundles hold, what is refused, and how much there may be.
 
+use super::asserts::assert_told;
 use super::shown::push_object;
 use esc_bundle::{Fault, NoMemory, write_bundle};
 use esc_tables::{Deposit, Key, Object, Row, read_bundled_envelope, read_deposit};
 use std::alloc::Global;
 use std::collections::BTreeMap;
-use std::test::Fail;
 
 const CONTACTS: &str =
     r#"{"name":"contact","kind":"contact","role":"parent","key":"id","fields":["id","clID"],"file":"c.csv"}"#;
@@ -197,13 +197,17 @@ static UNREADABLE: [(&[u8], &str); 8] = [
     ),
 ];
 
-/// Contacts by the letters before each one's number and how many there are: what is said of them alone, and of them beside
-/// a deleted domain.
-static SIZES: [(u8, u32, &str, &str); 4] = [
-    (254, 1, "1 objects", "1 objects"),
-    (255, 1, "U10", "U10"),
-    (0, 100_000, "100000 objects", "U11"),
-    (0, 100_001, "U11", "U11"),
+/// Contacts by the letters before each one's number and how many there are, whether a deleted domain stands beside them, and
+/// what is said.
+static SIZES: [(u8, u32, bool, &str); 8] = [
+    (254, 1, false, "1 objects"),
+    (254, 1, true, "1 objects"),
+    (255, 1, false, "U10"),
+    (255, 1, true, "U10"),
+    (0, 100_000, false, "100000 objects"),
+    (0, 100_000, true, "U11"),
+    (0, 100_001, false, "U11"),
+    (0, 100_001, true, "U11"),
 ];
 
 /// Tables and cells of rows, and how many there are and each of them, up to one behind the last.
@@ -394,6 +398,16 @@ fn contact_rows(alloc: Global, letters: u8, count: u32) -> Result<Vec<u8>, NoMem
     Ok(rows)
 }
 
+// What is said of contacts, beside a deleted domain or not.
+fn size_told(alloc: Global, letters: u8, count: u32, beside: bool) -> Result<String, Fault> {
+    let rows = contact_rows(alloc, letters, count)?;
+    if beside {
+        contacts_told_beside_a_delete(alloc, rows.as_slice())
+    } else {
+        contacts_told(alloc, rows.as_slice())
+    }
+}
+
 // A row's table, how many cells it has, and each of them, up to one behind the last.
 fn push_cells(text: &mut String, row: &Row) -> Result<(), NoMemory> {
     let table = row.table();
@@ -426,45 +440,39 @@ fn cells_told(
 }
 
 #[test]
-fn deposits_and_envelopes_are_read(rt: HostRuntime) -> Result<(), Fail> {
+fn deposits_and_envelopes_are_read(rt: HostRuntime) {
     for (full, text) in &FULLS {
         for copied in [false, true] {
-            assert_eq!(rt; told_of(rt.alloc(), full, copied)?.as_str(), *text);
+            assert_told(&rt, full.files, told_of(rt.alloc(), full, copied), text);
         }
     }
-    Ok(())
 }
 
 #[test]
-fn an_envelope_is_refused_as_its_deposit_is(rt: HostRuntime) -> Result<(), Fail> {
+fn an_envelope_is_refused_as_its_deposit_is(rt: HostRuntime) {
     for (body, text) in &UNREADABLE {
-        assert_eq!(rt; told(rt.alloc(), body, false)?.as_str(), *text);
+        assert_told(&rt, *body, told(rt.alloc(), body, false), text);
     }
-    Ok(())
 }
 
 #[test]
-fn rows_are_made_of_their_cells(rt: HostRuntime) -> Result<(), Fail> {
+fn rows_are_made_of_their_cells(rt: HostRuntime) {
     for (table, cells, text) in &ROWS {
         for copied in [false, true] {
-            assert_eq!(rt;
-                cells_told(rt.alloc(), table, cells, copied)?.as_str(),
-                *text
+            assert_told(
+                &rt,
+                *table,
+                cells_told(rt.alloc(), table, cells, copied),
+                text,
             );
         }
     }
-    Ok(())
 }
 
 #[test]
-fn keys_and_rows_have_limits(rt: HostRuntime) -> Result<(), Fail> {
-    let alloc = rt.alloc();
-    for (letters, count, alone, beside) in &SIZES {
-        let rows = contact_rows(alloc, *letters, *count)?;
-        let found = contacts_told(alloc, rows.as_slice())?;
-        assert_eq!(rt; found.as_str(), *alone, "{count}");
-        let found = contacts_told_beside_a_delete(alloc, rows.as_slice())?;
-        assert_eq!(rt; found.as_str(), *beside, "{count}");
+fn keys_and_rows_have_limits(rt: HostRuntime) {
+    for (letters, count, beside, text) in &SIZES {
+        let found = size_told(rt.alloc(), *letters, *count, *beside);
+        assert_told(&rt, (*letters, *count, *beside), found, text);
     }
-    Ok(())
 }
