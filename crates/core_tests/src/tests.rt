@@ -1,5 +1,6 @@
-//! The tests, a module for each library.
+//! The tests, a module for each library, and how they compare.
 
 mod apply;
+mod asserts;
 mod chain;
 mod check;

@@ -1,5 +1,6 @@
-//! A module for each crate.
+//! A module for each crate, how rows are told, and how texts are compared.
 
+mod asserts;
 mod bundle;
 mod envelope;
 mod extension;

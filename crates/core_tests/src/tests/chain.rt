@@ -7,16 +7,17 @@ mod long;
 mod manifests;
 mod moments;
 
+use super::asserts::assert_told;
 use esc_bundle::NoMemory;
 use esc_chain::{
     Base, Blocker, GapLine, Held, Id, ListedPlace, State, base_of, gap_lines_are_one, gaps,
-    latest_chain, latest_chain_is_one, latest_chain_rows_are_held, used,
+    latest_chain, latest_chain_at_is_one, latest_chain_at_rows_are_held, latest_chain_is_one,
+    latest_chain_rows_are_held, used,
 };
 use esc_envelope::{DepositType, Place, watermark_text};
-use esc_manifest::{Manifest, read_manifest};
+use esc_manifest::{MFault, Manifest, read_manifest};
 use manifests::{B, B_WITH_F4, B_WITH_I7, B_WITH_X9, TIES};
 use std::alloc::Global;
-use std::test::Fail;
 
 // Midnight of 2024-03-01, and a day, in nanoseconds.
 const FIRST: i64 = 1_709_251_200_000_000_000;
@@ -24,17 +25,16 @@ const FIRST: i64 = 1_709_251_200_000_000_000;
 const DAY: i64 = 86_400_000_000_000;
 
 // A manifest of rows: each row's first five fields. A row's digest is its number, from 1.
-fn manifest_of(alloc: Global, rows: &[&str]) -> Result<Manifest, Fail> {
+fn manifest_of(alloc: Global, rows: &[&str]) -> Result<Manifest, MFault> {
     let mut text = String::from_str(alloc, "id,type,watermark,prevId,resend,sha256\n")?;
     for (row, fields) in rows.iter().enumerate() {
-        let line = format!(in alloc; "{fields},{row:064}\n")?;
-        text.push_str(line.as_str())?;
+        writeln!(text, "{fields},{row:064}")?;
     }
-    Ok(read_manifest(alloc, text.as_bytes())?)
+    read_manifest(alloc, text.as_bytes())
 }
 
 // The rows of a manifest that are held; rows past its end are left out.
-fn held_of(alloc: Global, m: &Manifest, rows: &[usize]) -> Result<Held, Fail>
+fn held_of(alloc: Global, m: &Manifest, rows: &[usize]) -> Result<Held, NoMemory>
     ensures { IfOk result (InRange m.now) }
 {
     let mut held = Held::new(alloc);
@@ -47,91 +47,98 @@ fn held_of(alloc: Global, m: &Manifest, rows: &[usize]) -> Result<Held, Fail>
     Ok(held)
 }
 
-// The latest chain where these rows arrived in this order.
-fn chain_of(alloc: Global, m: &Manifest, rows: &[usize]) -> Result<Vec<usize>, Fail> {
-    let held = held_of(alloc, m, rows)?;
-    Ok(latest_chain(alloc, m, &held)?)
+// A number, if there is one.
+fn push_number(text: &mut String, number: Option<u32>) -> Result<(), NoMemory> {
+    if let Some(number) = number {
+        write!(text, "{number}")?;
+    }
+    Ok(())
 }
 
-// What a line tells, as the report on gaps has it.
-fn text_of(alloc: Global, line: &GapLine) -> Result<String, Fail> {
-    let watermark = watermark_text(alloc, line.place.watermark)?.ok_or("none")?;
-    let kind = line.place.kind.name();
-    let state = line.state;
-    let mut text = format!(in alloc; "{watermark},{kind},")?;
-    if let Some(used) = line.used {
-        text.push_str(format!(in alloc; "{used}")?.as_str())?;
+fn push_place(text: &mut String, alloc: Global, place: Place) -> Result<(), NoMemory> {
+    if let Some(watermark) = watermark_text(alloc, place.watermark)? {
+        let kind = place.kind.name();
+        write!(text, "{watermark},{kind},")?;
     }
-    text.push_str(format!(in alloc; ",{state},")?.as_str())?;
+    Ok(())
+}
+
+// What a line tells, as the report on gaps has it, and a line feed.
+fn push_line(text: &mut String, alloc: Global, line: &GapLine) -> Result<(), NoMemory> {
+    let state = line.state;
+    push_place(text, alloc, line.place)?;
+    push_number(text, line.used)?;
+    write!(text, ",{state},")?;
     if let Some(blocker) = &line.blocker {
-        text.push_str(format!(in alloc; "{blocker}")?.as_str())?;
+        write!(text, "{blocker}")?;
     }
     text.push_str(",")?;
-    if let Some(awaited) = line.awaited {
-        text.push_str(format!(in alloc; "{awaited}")?.as_str())?;
-    }
-    Ok(text)
+    push_number(text, line.awaited)?;
+    text.push_str("\n")?;
+    Ok(())
 }
 
-// Lines, each ended by a line feed.
-fn text_of_lines(alloc: Global, lines: &[GapLine]) -> Result<String, Fail> {
+fn text_of_lines(alloc: Global, lines: &[GapLine]) -> Result<String, NoMemory> {
     let mut text = String::new(alloc);
     for line in lines {
-        text.push_str(text_of(alloc, line)?.as_str())?;
-        text.push_str("\n")?;
+        push_line(&mut text, alloc, line)?;
     }
     Ok(text)
 }
 
 // The lines where these rows arrived in this order.
-fn gaps_of(alloc: Global, m: &Manifest, rows: &[usize]) -> Result<String, Fail> {
+fn gaps_of(alloc: Global, m: &Manifest, rows: &[usize]) -> Result<String, NoMemory> {
     let held = held_of(alloc, m, rows)?;
     let lines = gaps(alloc, m, &held)?;
     text_of_lines(alloc, &lines)
 }
 
 // The rows that a manifest lists, those that are held in the order of their arrivals, and the latest chain.
-const CHAINS: [(&[&str], &[usize], &[usize]); 21] = [
-    (&B, &[], &[]),
-    (&B, &[0], &[0]),
-    (&B, &[0, 1, 2], &[0, 1, 2]),
-    (&B, &[2, 1, 0], &[0, 1, 2]),
-    (&B, &[2, 1], &[]),
-    (&B, &[0, 1, 2, 3], &[0, 3]),
-    (&B, &[0, 1, 5], &[0, 1]),
-    (&B, &[0, 1, 2, 6], &[0, 6, 2]),
-    (&B, &[0, 6, 1], &[0, 6]),
-    (&B, &[0, 1, 0, 0, 1], &[0, 1]),
-    (&B, &[4, 5], &[4, 5]),
-    (&B, &[0, 1, 2, 3, 4, 5, 6], &[4, 5]),
-    (&B_WITH_X9, &[0, 1, 2, 7], &[0, 1]),
-    (&TIES, &[2, 1, 0], &[0]),
-    (&TIES, &[0, 1, 2], &[0]),
-    (&TIES, &[1, 2, 3], &[2, 3]),
-    (&TIES, &[0, 3], &[0]),
-    (&TIES, &[4], &[]),
-    (&B_WITH_I7, &[0, 1, 2, 7], &[0, 1, 2]),
-    (&B_WITH_I7, &[0, 1, 2, 4, 7], &[4, 7]),
-    (&B_WITH_F4, &[0, 3], &[0]),
+static CHAINS: [(&[&str], &[usize], &str); 21] = [
+    (&B, &[], "[]"),
+    (&B, &[0], "[0]"),
+    (&B, &[0, 1, 2], "[0, 1, 2]"),
+    (&B, &[2, 1, 0], "[0, 1, 2]"),
+    (&B, &[2, 1], "[]"),
+    (&B, &[0, 1, 2, 3], "[0, 3]"),
+    (&B, &[0, 1, 5], "[0, 1]"),
+    (&B, &[0, 1, 2, 6], "[0, 6, 2]"),
+    (&B, &[0, 6, 1], "[0, 6]"),
+    (&B, &[0, 1, 0, 0, 1], "[0, 1]"),
+    (&B, &[4, 5], "[4, 5]"),
+    (&B, &[0, 1, 2, 3, 4, 5, 6], "[4, 5]"),
+    (&B_WITH_X9, &[0, 1, 2, 7], "[0, 1]"),
+    (&TIES, &[2, 1, 0], "[0]"),
+    (&TIES, &[0, 1, 2], "[0]"),
+    (&TIES, &[1, 2, 3], "[2, 3]"),
+    (&TIES, &[0, 3], "[0]"),
+    (&TIES, &[4], "[]"),
+    (&B_WITH_I7, &[0, 1, 2, 7], "[0, 1, 2]"),
+    (&B_WITH_I7, &[0, 1, 2, 4, 7], "[4, 7]"),
+    (&B_WITH_F4, &[0, 3], "[0]"),
 ];
 
+// The latest chain of a manifest where these rows arrived in this order.
+fn chain_of(alloc: Global, m: &Manifest, rows: &[usize]) -> Result<String, NoMemory> {
+    let held = held_of(alloc, m, rows)?;
+    let chain = latest_chain(alloc, m, &held)?;
+    Ok(format!(in alloc; "{chain:?}")?)
+}
+
+// The latest chain of a manifest of these rows.
+fn chain_in(alloc: Global, listed: &[&str], rows: &[usize]) -> Result<String, MFault> {
+    let m = manifest_of(alloc, listed)?;
+    Ok(chain_of(alloc, &m, rows)?)
+}
+
 #[test]
-fn latest_chains(rt: HostRuntime) -> Result<(), Fail> {
-    let alloc = rt.alloc();
-    for (listed, held, chain) in CHAINS {
-        let m = manifest_of(alloc, listed)?;
-        let found = chain_of(alloc, &m, held)?;
-        assert_eq!(rt; found.as_slice(), chain, "{held:?}");
+fn latest_chains(rt: HostRuntime) {
+    for (listed, held, chain) in &CHAINS {
+        assert_told(&rt, *held, chain_in(rt.alloc(), listed, held), chain);
     }
-    Ok(())
 }
 
 // The places of manifest B.
-const F1: Place = Place {
-    watermark: FIRST + 2 * DAY,
-    kind: DepositType::Full,
-};
-
 const D2: Place = Place {
     watermark: FIRST + 3 * DAY,
     kind: DepositType::Diff,
@@ -156,31 +163,21 @@ fn base_at(m: &Manifest, row: usize) -> Option<Base> {
     }
 }
 
-#[test]
-fn bases(rt: HostRuntime) -> Result<(), Fail> {
-    let m = manifest_of(rt.alloc(), &B_WITH_X9)?;
-    let rows = [
-        (0, Some(Base::Whole)),
-        (1, Some(Base::At(F1))),
-        (2, Some(Base::At(D2))),
-        (3, Some(Base::At(F1))),
-        (5, Some(Base::At(F5))),
-        (7, Some(Base::Unlisted)),
-        (8, None),
-    ];
-    for (row, base) in rows {
-        assert_eq!(rt; base_at(&m, row), base, "row {row}");
+// What rows build on.
+fn push_bases(text: &mut String, m: &Manifest) -> Result<(), NoMemory> {
+    for row in [0, 1, 2, 3, 5, 7, 8] {
+        let base = base_at(m, row);
+        writeln!(text, "{row} on {base:?}")?;
     }
     Ok(())
 }
 
-#[test]
-fn used_rows(rt: HostRuntime) -> Result<(), Fail> {
-    let alloc = rt.alloc();
-    let m = manifest_of(alloc, &B_WITH_X9)?;
-    let held = held_of(alloc, &m, &[1, 6, 2, 7, 0])?;
-    for (place, row) in [(D2, Some(6)), (D3, Some(7)), (F5, None)] {
-        assert_eq!(rt; used(&m, &held, place), row, "{place:?}");
+// The rows that are used of places, where some are held.
+fn push_used(text: &mut String, alloc: Global, m: &Manifest) -> Result<(), NoMemory> {
+    let held = held_of(alloc, m, &[1, 6, 2, 7, 0])?;
+    for place in [D2, D3, F5] {
+        let row = used(m, &held, place);
+        writeln!(text, "used {row:?}")?;
     }
     Ok(())
 }
@@ -194,34 +191,64 @@ fn insert(held: &mut Held, m: &Manifest, row: usize) -> Result<Option<bool>, NoM
     }
 }
 
-#[test]
-fn held_rows(rt: HostRuntime) -> Result<(), Fail> {
-    let alloc = rt.alloc();
-    let m = manifest_of(alloc, &B)?;
+// Adds rows one after the other: of each whether it is new, and whether the rows 3 and 2 are held then.
+fn push_inserts(text: &mut String, alloc: Global, m: &Manifest) -> Result<(), NoMemory> {
     let mut held = Held::new(alloc);
-    // A row that is added, whether it is new, and whether the rows 3 and 2 are held then.
-    let rows = [
-        (3, Some(true), true, false),
-        (3, Some(false), true, false),
-        (6, Some(true), true, false),
-        (7, None, true, false),
-    ];
-    for (row, new, third, second) in rows {
-        let found = insert(&mut held, &m, row)?;
-        assert_eq!(rt;
-            (found, held.contains(3), held.contains(2)),
-            (new, third, second),
-            "row {row}"
-        );
+    for row in [3, 3, 6, 7] {
+        let new = insert(&mut held, m, row)?;
+        let third = held.contains(3);
+        let second = held.contains(2);
+        writeln!(text, "{row}: {new:?}, {third}, {second}")?;
     }
-    latest_chain_is_one();
-    latest_chain_rows_are_held();
-    gap_lines_are_one();
     Ok(())
 }
 
+fn rows_told(alloc: Global) -> Result<String, MFault> {
+    let m = manifest_of(alloc, &B_WITH_X9)?;
+    let mut text = String::new(alloc);
+    push_bases(&mut text, &m)?;
+    push_used(&mut text, alloc, &m)?;
+    Ok(text)
+}
+
+fn inserts_told(alloc: Global) -> Result<String, MFault> {
+    let m = manifest_of(alloc, &B)?;
+    let mut text = String::new(alloc);
+    push_inserts(&mut text, alloc, &m)?;
+    Ok(text)
+}
+
+const ROWS: &str = "0 on Some(Whole)
+1 on Some(At(Place { watermark: 1709424000000000000, kind: Full }))
+2 on Some(At(Place { watermark: 1709510400000000000, kind: Diff }))
+3 on Some(At(Place { watermark: 1709424000000000000, kind: Full }))
+5 on Some(At(Place { watermark: 1710028800000000000, kind: Full }))
+7 on Some(Unlisted)
+8 on None
+used Some(6)
+used Some(7)
+used None
+";
+
+const INSERTS: &str = "3: Some(true), true, false
+3: Some(false), true, false
+6: Some(true), true, false
+7: None, true, false
+";
+
+#[test]
+fn bases_used_and_held_rows(rt: HostRuntime) {
+    assert_told(&rt, "rows", rows_told(rt.alloc()), ROWS);
+    assert_told(&rt, "inserts", inserts_told(rt.alloc()), INSERTS);
+    latest_chain_is_one();
+    latest_chain_rows_are_held();
+    gap_lines_are_one();
+    latest_chain_at_is_one();
+    latest_chain_at_rows_are_held();
+}
+
 // The rows that a manifest lists, those that are held in the order of their arrivals, and the lines of the gaps.
-const GAPS: [(&[&str], &[usize], &str); 8] = [
+static GAPS: [(&[&str], &[usize], &str); 8] = [
     (&B, &[], NONE_HELD),
     (&B, &[2, 1], BLOCKED_BY_F1),
     (&B, &[0, 1, 2, 3], STANDING),
@@ -297,15 +324,17 @@ const I0_ON_NONE: &str = "2024-03-02T00:00:00Z,INCR,0,blocked,no earlier FULL,
 2024-03-04T00:00:00Z,FULL,0,chain,,
 ";
 
+// The lines of a manifest of these rows, where these of them arrived in this order.
+fn gaps_in(alloc: Global, listed: &[&str], rows: &[usize]) -> Result<String, MFault> {
+    let m = manifest_of(alloc, listed)?;
+    Ok(gaps_of(alloc, &m, rows)?)
+}
+
 #[test]
-fn lines_of_gaps(rt: HostRuntime) -> Result<(), Fail> {
-    let alloc = rt.alloc();
-    for (listed, held, lines) in GAPS {
-        let m = manifest_of(alloc, listed)?;
-        let found = gaps_of(alloc, &m, held)?;
-        assert_eq!(rt; found.as_str(), lines, "{held:?}");
+fn lines_of_gaps(rt: HostRuntime) {
+    for (listed, held, lines) in &GAPS {
+        assert_told(&rt, *held, gaps_in(rt.alloc(), listed, held), lines);
     }
-    Ok(())
 }
 
 const MARCH_1: Place = Place {
@@ -313,20 +342,40 @@ const MARCH_1: Place = Place {
     kind: DepositType::Full,
 };
 
-#[test]
-fn blockers_print(rt: HostRuntime) -> Result<(), Fail> {
-    let alloc = rt.alloc();
+// A blocker that is listed, and whether its place is the one that it was made of.
+fn push_not_held(text: &mut String, alloc: Global) -> Result<(), NoMemory> {
     let listed = ListedPlace::new(alloc, MARCH_1)?;
-    assert_eq!(rt; listed.place(), MARCH_1);
-    let id = Id::new(String::from_str(alloc, "X9")?);
-    assert_eq!(rt; id.text(), "X9");
-    let not_held = Blocker::NotHeld(listed);
-    let not_listed = Blocker::NotListed(id);
-    let no_full = Blocker::NoEarlierFull;
-    let shown = format!(in alloc; "{not_held}, {not_listed}, {no_full}, {}", State::Blocked)?;
-    assert_eq!(rt;
-        shown.as_str(),
-        "2024-03-01T00:00:00Z FULL, unlisted X9, no earlier FULL, blocked"
-    );
+    let is_same = listed.place() == MARCH_1;
+    let blocker = Blocker::NotHeld(listed);
+    write!(text, "{blocker}, {is_same}, ")?;
     Ok(())
+}
+
+// A blocker that isn't listed, behind its id.
+fn push_not_listed(text: &mut String, alloc: Global) -> Result<(), NoMemory> {
+    let id = Id::new(String::from_str(alloc, "X9")?);
+    text.push_str(id.text())?;
+    let blocker = Blocker::NotListed(id);
+    write!(text, ", {blocker}, ")?;
+    Ok(())
+}
+
+fn blockers(alloc: Global) -> Result<String, NoMemory> {
+    let mut text = String::new(alloc);
+    push_not_held(&mut text, alloc)?;
+    push_not_listed(&mut text, alloc)?;
+    let blocker = Blocker::NoEarlierFull;
+    let state = State::Blocked;
+    write!(text, "{blocker}, {state}")?;
+    Ok(text)
+}
+
+#[test]
+fn blockers_print(rt: HostRuntime) {
+    assert_told(
+        &rt,
+        "blockers",
+        blockers(rt.alloc()),
+        "2024-03-01T00:00:00Z FULL, true, X9, unlisted X9, no earlier FULL, blocked",
+    );
 }

@@ -3,36 +3,43 @@
 mod registries;
 mod stopping;
 
+use super::asserts::assert_told;
 use esc_apply::MapObjects;
 use esc_bundle::NoMemory;
 use esc_check::{Finding, Lines, StreamFault, export_from, export_rows, verify, verify_from};
 use esc_envelope::{Kind, watermark};
 use esc_tables::{Key, Object, Row};
-use registries::{EXPORTS, FOUND, FRONT, Told};
+use registries::{EXPORTS, FOUND, FRONT, Found, Told};
 use std::alloc::Global;
 use std::collections::BTreeMap;
-use std::test::Fail;
 use stopping::{Stopped, Stopping};
 
-fn object_of(alloc: Global, told: &Told) -> Result<Object, NoMemory> {
+fn children_of(alloc: Global, told: &Told) -> Result<Vec<Row>, NoMemory> {
     let mut children = Vec::new(alloc);
     for (table, cells) in told.children {
         children.push(Row::from_cells(alloc, table, cells)?)?;
     }
+    Ok(children)
+}
+
+fn object_of(alloc: Global, told: &Told) -> Result<Object, NoMemory> {
     Ok(Object {
         parent: Row::from_cells(alloc, told.kind.name(), told.cells)?,
-        children,
+        children: children_of(alloc, told)?,
+    })
+}
+
+fn key_of(alloc: Global, told: &Told) -> Result<Key, NoMemory> {
+    Ok(Key {
+        kind: told.kind,
+        text: String::from_str(alloc, told.key)?,
     })
 }
 
 fn tables_of(alloc: Global, objects: &[Told]) -> Result<BTreeMap<Key, Object>, NoMemory> {
     let mut tables = BTreeMap::new(alloc);
     for told in objects {
-        let key = Key {
-            kind: told.kind,
-            text: String::from_str(alloc, told.key)?,
-        };
-        tables.insert(key, object_of(alloc, told)?)?;
+        tables.insert(key_of(alloc, told)?, object_of(alloc, told)?)?;
     }
     Ok(tables)
 }
@@ -45,51 +52,72 @@ fn counts_of(alloc: Global, numbers: &[(Kind, u64)]) -> Result<BTreeMap<Kind, u6
     Ok(counts)
 }
 
+fn push_finding(text: &mut String, finding: &Finding) -> Result<(), NoMemory> {
+    let code = finding.code;
+    let kind = finding.kind.name();
+    let key = finding.key.as_str();
+    let field = finding.field.as_str();
+    let value = finding.value.as_str();
+    let other = finding.other.as_str();
+    writeln!(text, "V{code},{kind},{key},{field},{value},{other}")?;
+    Ok(())
+}
+
 // A line for each finding.
 fn shown(alloc: Global, found: &[Finding]) -> Result<String, NoMemory> {
     let mut text = String::new(alloc);
     for finding in found {
-        let code = finding.code;
-        let kind = finding.kind.name();
-        let key = finding.key.as_str();
-        let field = finding.field.as_str();
-        let value = finding.value.as_str();
-        let other = finding.other.as_str();
-        let line = format!(in alloc; "V{code},{kind},{key},{field},{value},{other}\n")?;
-        text.push_str(line.as_str())?;
+        push_finding(&mut text, finding)?;
     }
     Ok(text)
 }
 
-// What is found in the tables, and what is found of their objects one at a time.
-fn found_at(
+// What is found of the objects of tables one at a time.
+fn walked(
     alloc: Global,
-    objects: &[Told],
-    moment: &str,
-    numbers: &[(Kind, u64)],
-) -> Result<(String, String), Fail> {
-    let tables = tables_of(alloc, objects)?;
-    let counts = counts_of(alloc, numbers)?;
-    let moment = watermark(moment).ok_or("no moment")?;
-    let found = verify(alloc, &tables, moment, &counts)?;
-    let mut objects = MapObjects::new(tables);
-    match verify_from(alloc, &mut objects, moment, &counts) {
-        Ok(walked) => Ok((
-            shown(alloc, found.as_slice())?,
-            shown(alloc, walked.as_slice())?,
-        )),
-        Err(StreamFault::Source(NoMemory) | StreamFault::NoMemory) => Err(NoMemory.into()),
+    tables: BTreeMap<Key, Object>,
+    moment: i64,
+    counts: &BTreeMap<Kind, u64>,
+) -> Result<Vec<Finding>, NoMemory> {
+    match verify_from(alloc, &mut MapObjects::new(tables), moment, counts) {
+        Ok(found) => Ok(found),
+        Err(StreamFault::Source(NoMemory) | StreamFault::NoMemory) => Err(NoMemory),
     }
 }
 
-#[test]
-fn what_is_found(rt: HostRuntime) -> Result<(), Fail> {
-    let alloc = rt.alloc();
-    for (objects, moment, numbers, expected) in FOUND {
-        let (found, walked) = found_at(alloc, objects, moment, numbers)?;
-        assert_eq!(rt; (found.as_str(), walked.as_str()), (expected, expected));
+// What is found in tables, or of their objects one at a time.
+fn findings(
+    alloc: Global,
+    tables: BTreeMap<Key, Object>,
+    moment: i64,
+    counts: &BTreeMap<Kind, u64>,
+    walk: bool,
+) -> Result<Vec<Finding>, NoMemory> {
+    if walk {
+        walked(alloc, tables, moment, counts)
+    } else {
+        verify(alloc, &tables, moment, counts)
     }
-    Ok(())
+}
+
+fn found_of(alloc: Global, told: &Found, walk: bool) -> Result<String, NoMemory> {
+    let (objects, moment, numbers, _) = told;
+    let tables = tables_of(alloc, objects)?;
+    let counts = counts_of(alloc, numbers)?;
+    let Some(moment) = watermark(moment) else {
+        return Ok(String::from_str(alloc, "no moment")?);
+    };
+    let found = findings(alloc, tables, moment, &counts, walk)?;
+    shown(alloc, &found)
+}
+
+#[test]
+fn what_is_found(rt: HostRuntime) {
+    for told in &FOUND {
+        for walk in [false, true] {
+            assert_told(&rt, walk, found_of(rt.alloc(), told, walk), told.3);
+        }
+    }
 }
 
 // Whether a finding is equal to another one, differs from it, and comes before it.
@@ -104,61 +132,95 @@ fn compared(
     Some((one == other, one != other, one < other))
 }
 
-#[test]
-fn findings_are_compared_by_all_fields(rt: HostRuntime) -> Result<(), Fail> {
-    let alloc = rt.alloc();
+// The findings of two objects where there are to be more.
+fn missing(alloc: Global) -> Result<Vec<Finding>, NoMemory> {
     let tables = tables_of(alloc, FRONT)?;
     let counts = counts_of(alloc, &[(Kind::Registrar, 10), (Kind::Contact, 9)])?;
-    let found = verify(alloc, &tables, 0, &counts)?;
-    let again = verify(alloc, &tables, 0, &counts)?;
-    for (one, other, expected) in [
-        (0, 0, Some((true, false, false))),
-        (0, 1, Some((false, true, true))),
-        (0, 2, None),
-        (2, 0, None),
-    ] {
-        assert_eq!(rt;
-            compared(&found, &again, one, other),
-            expected,
-            "{one}, {other}"
-        );
+    verify(alloc, &tables, 0, &counts)
+}
+
+fn push_compared(text: &mut String, found: &[Finding], others: &[Finding]) -> Result<(), NoMemory> {
+    for (one, other) in [(0, 0), (0, 1), (0, 2), (2, 0)] {
+        let compared = compared(found, others, one, other);
+        writeln!(text, "{one}, {other}: {compared:?}")?;
     }
     Ok(())
 }
 
-// The export of the tables, and that of their objects one at a time.
-fn exported(alloc: Global, objects: &[Told], kind: Kind) -> Result<(Vec<u8>, Vec<u8>), NoMemory> {
-    let tables = tables_of(alloc, objects)?;
-    let text = export_rows(alloc, &tables, kind)?;
-    let mut objects = MapObjects::new(tables);
-    match export_from(alloc, &mut objects, kind) {
-        Ok(walked) => Ok((text, walked)),
+fn comparisons(alloc: Global) -> Result<String, NoMemory> {
+    let found = missing(alloc)?;
+    let again = missing(alloc)?;
+    let mut text = String::new(alloc);
+    push_compared(&mut text, &found, &again)?;
+    Ok(text)
+}
+
+const COMPARED: &str = "0, 0: Some((true, false, false))
+0, 1: Some((false, true, true))
+0, 2: None
+2, 0: None
+";
+
+#[test]
+fn findings_are_compared_by_all_fields(rt: HostRuntime) {
+    assert_told(&rt, "findings", comparisons(rt.alloc()), COMPARED);
+}
+
+// Bytes as a text; of bytes that are none it is empty.
+fn text_of(alloc: Global, bytes: Vec<u8>) -> Result<String, NoMemory> {
+    match str::from_utf8(&bytes) {
+        Ok(text) => Ok(String::from_str(alloc, text)?),
+        Err(_) => Ok(String::new(alloc)),
+    }
+}
+
+// The export of the objects of tables one at a time.
+fn exported_from(
+    alloc: Global,
+    tables: BTreeMap<Key, Object>,
+    kind: Kind,
+) -> Result<Vec<u8>, NoMemory> {
+    match export_from(alloc, &mut MapObjects::new(tables), kind) {
+        Ok(text) => Ok(text),
         Err(StreamFault::Source(NoMemory) | StreamFault::NoMemory) => Err(NoMemory),
     }
 }
 
-#[test]
-fn what_is_exported(rt: HostRuntime) -> Result<(), Fail> {
-    let alloc = rt.alloc();
-    for (objects, kind, expected) in EXPORTS {
-        let (text, walked) = exported(alloc, objects, kind)?;
-        assert_eq!(rt;
-            (text.as_slice(), walked.as_slice()),
-            (expected, expected),
-            "{kind:?}"
-        );
-    }
-    Ok(())
+// The export of tables, or that of their objects one at a time, as a text.
+fn exported(alloc: Global, objects: &[Told], kind: Kind, walk: bool) -> Result<String, NoMemory> {
+    let tables = tables_of(alloc, objects)?;
+    let bytes = if walk {
+        exported_from(alloc, tables, kind)?
+    } else {
+        export_rows(alloc, &tables, kind)?
+    };
+    text_of(alloc, bytes)
 }
 
 #[test]
-fn lines_may_differ_in_length(rt: HostRuntime) -> Result<(), Fail> {
-    let mut lines = Lines::new(rt.alloc());
+fn what_is_exported(rt: HostRuntime) {
+    for (objects, kind, expected) in &EXPORTS {
+        for walk in [false, true] {
+            assert_told(
+                &rt,
+                kind,
+                exported(rt.alloc(), objects, *kind, walk),
+                expected,
+            );
+        }
+    }
+}
+
+fn unequal_lines(alloc: Global) -> Result<String, NoMemory> {
+    let mut lines = Lines::new(alloc);
     lines.write(&[b"a", b"b c"])?;
     lines.write(&[b"d\n"])?;
-    let text = lines.into_text()?;
-    assert_eq!(rt; text.as_slice(), b"a,b c\n\"d\n\"\n".as_slice());
-    Ok(())
+    text_of(alloc, lines.into_text()?)
+}
+
+#[test]
+fn lines_may_differ_in_length(rt: HostRuntime) {
+    assert_told(&rt, "lines", unequal_lines(rt.alloc()), "a,b c\n\"d\n\"\n");
 }
 
 // Two objects up to a call that fails.
@@ -169,43 +231,53 @@ fn front_within(alloc: Global, calls: u32) -> Result<Stopping, NoMemory> {
     })
 }
 
-// What is found of two objects, none where their source failed.
-fn found_within(alloc: Global, calls: u32) -> Result<Option<String>, NoMemory> {
+// What is found of two objects.
+fn push_found(text: &mut String, alloc: Global, calls: u32) -> Result<(), NoMemory> {
     let counts = BTreeMap::new(alloc);
     match verify_from(alloc, &mut front_within(alloc, calls)?, 0, &counts) {
-        Ok(found) => Ok(Some(shown(alloc, &found)?)),
-        Err(StreamFault::Source(Stopped)) => Ok(None),
-        Err(StreamFault::NoMemory) => Err(NoMemory),
-    }
-}
-
-// The export of two objects, none where their source failed.
-fn exported_within(alloc: Global, calls: u32) -> Result<Option<Vec<u8>>, NoMemory> {
-    match export_from(alloc, &mut front_within(alloc, calls)?, Kind::Registrar) {
-        Ok(text) => Ok(Some(text)),
-        Err(StreamFault::Source(Stopped)) => Ok(None),
-        Err(StreamFault::NoMemory) => Err(NoMemory),
-    }
-}
-
-// Two objects are given by three calls: the last answers that there are no more.
-#[test]
-fn a_fault_of_the_source_is_handed_on(rt: HostRuntime) -> Result<(), Fail> {
-    let alloc = rt.alloc();
-    let exports = b"kind,key,table,row,field,value\nregistrar,R1,registrar,0,id,R1\n".as_slice();
-    for calls in 0..5 {
-        let expected = if calls < 3 {
-            (None, None)
-        } else {
-            (Some(""), Some(exports))
-        };
-        let found = found_within(alloc, calls)?;
-        let text = exported_within(alloc, calls)?;
-        assert_eq!(rt;
-            (found.as_deref(), text.as_deref()),
-            expected,
-            "after {calls}"
-        );
+        Ok(found) => text.push_str(shown(alloc, &found)?.as_str())?,
+        Err(StreamFault::Source(Stopped)) => text.push_str("stopped\n")?,
+        Err(StreamFault::NoMemory) => return Err(NoMemory),
     }
     Ok(())
+}
+
+// The export of two objects.
+fn push_exported(text: &mut String, alloc: Global, calls: u32) -> Result<(), NoMemory> {
+    match export_from(alloc, &mut front_within(alloc, calls)?, Kind::Registrar) {
+        Ok(bytes) => text.push_str(text_of(alloc, bytes)?.as_str())?,
+        Err(StreamFault::Source(Stopped)) => text.push_str("stopped\n")?,
+        Err(StreamFault::NoMemory) => return Err(NoMemory),
+    }
+    Ok(())
+}
+
+// What is found of two objects, and their export.
+fn told_within(alloc: Global, calls: u32) -> Result<String, NoMemory> {
+    let mut text = String::new(alloc);
+    push_found(&mut text, alloc, calls)?;
+    push_exported(&mut text, alloc, calls)?;
+    Ok(text)
+}
+
+const STOPPED: &str = "stopped\nstopped\n";
+
+// Nothing is found, and there is an export.
+const EXPORTED: &str = "kind,key,table,row,field,value\nregistrar,R1,registrar,0,id,R1\n";
+
+/// How many calls a source lets through, and what is told. Two objects are given by three calls: the last answers that there
+/// are no more.
+static WITHIN: [(u32, &str); 5] = [
+    (0, STOPPED),
+    (1, STOPPED),
+    (2, STOPPED),
+    (3, EXPORTED),
+    (4, EXPORTED),
+];
+
+#[test]
+fn a_fault_of_the_source_is_handed_on(rt: HostRuntime) {
+    for (calls, text) in &WITHIN {
+        assert_told(&rt, calls, told_within(rt.alloc(), *calls), text);
+    }
 }

@@ -1,8 +1,8 @@
 //! Bundles: their sections, what is refused, and what is written.
 
+use super::asserts::assert_told;
 use esc_bundle::{Fault, NoMemory, sections, write_bundle};
 use std::alloc::Global;
-use std::test::Fail;
 
 /// The sample bundle as far as its second section.
 const FRONT: &[u8] =
@@ -12,27 +12,26 @@ const FRONT: &[u8] =
 const ENVELOPE: &[u8] =
     b"{\"id\":\"F1\",\"type\":\"FULL\",\"watermark\":\"2024-03-03T00:00:00Z\",\"contents\":[{\"name\":\"contact\",\"kind\":\"contact\",\"role\":\"parent\",\"key\":\"id\",\"fields\":[\"id\",\"clID\"],\"file\":\"c.csv\"}]}";
 
-const BROKEN_FRAME: Option<Fault> = Some(Fault::Refused(1));
+const BROKEN_FRAME: Result<usize, Fault> = Err(Fault::Refused(1));
 
-const WRONG_NAME: Option<Fault> = Some(Fault::Refused(2));
+const WRONG_NAME: Result<usize, Fault> = Err(Fault::Refused(2));
 
-const REPEATED_NAME: Option<Fault> = Some(Fault::Refused(3));
+const REPEATED_NAME: Result<usize, Fault> = Err(Fault::Refused(3));
 
-const OVER_LIMIT: Option<Fault> = Some(Fault::Refused(4));
+const OVER_LIMIT: Result<usize, Fault> = Err(Fault::Refused(4));
 
-/// Bundles, each in two pieces, with their lengths and their sections.
-const BUNDLES: [(&[u8], &[u8], usize, &[(&str, &[u8])]); 2] = [
+/// Bundles, each in two pieces, with their sections, their lengths, and whether they are read and written so.
+static BUNDLES: [(&[u8], &[u8], &[(&str, &[u8])], &str); 2] = [
     (
         FRONT,
         b"c.csv 6\nC1,R1\n\nend\n",
-        228,
         &[("envelope.json", ENVELOPE), ("c.csv", b"C1,R1\n")],
+        "228 bytes, true, true",
     ),
     // Ten full sections, of bytes that look like lines of a bundle or are no text.
     (
         b"escrow-bundle 1\nenvelope.json 2\n{}\na 4\nend\n\nb.csv 10\nc.csv 1\nx\n\nc-d 1\n\n\ne_f 2\n\n\n\n",
         b"0 1\n\x00\n1.2 2\n\xff\xfe\nzzzzzzzzzzzzzzzzzzzzzzzzzzzzzzzz 7\nC1,R1\r\n\nend 16\nescrow-bundle 1\n\ng 10\n0123456789\nend\n",
-        183,
         &[
             ("envelope.json", b"{}"),
             ("a", b"end\n"),
@@ -45,52 +44,254 @@ const BUNDLES: [(&[u8], &[u8], usize, &[(&str, &[u8])]); 2] = [
             ("end", b"escrow-bundle 1\n"),
             ("g", b"0123456789"),
         ],
+        "183 bytes, true, true",
     ),
 ];
 
-/// Bodies that are no bundle, each in two pieces.
-const REFUSED: [(&[u8], &[u8], Option<Fault>); 12] = [
-    (FRONT, b"C.csv 6\nC1,R1\n\nend\n", WRONG_NAME),
-    (FRONT, b"c.csv 06\nC1,R1\n\nend\n", BROKEN_FRAME),
-    (FRONT, b"C.csv 06\nC1,R1\n\nend\n", BROKEN_FRAME),
-    (FRONT, b"c.csv 5\nC1,R1\n\nend\n", BROKEN_FRAME),
-    (FRONT, b"c.csv 7\nC1,R1\n\nend\n", BROKEN_FRAME),
+/// A body: its beginning, so many sections without a byte, so many letters, and its end.
+#[derive(Clone, Copy)]
+struct Body {
+    front: &'static [u8],
+    empty: u32,
+    letters: u32,
+    back: &'static [u8],
+}
+
+/// The sample's beginning.
+const SAMPLE: Body = Body {
+    front: FRONT,
+    empty: 0,
+    letters: 0,
+    back: b"",
+};
+
+/// A bundle's beginning alone.
+const OTHER: Body = Body {
+    front: b"escrow-bundle 1\n",
+    ..SAMPLE
+};
+
+/// A bundle with as many sections as there may be.
+const FULL: Body = Body {
+    front: b"escrow-bundle 1\nenvelope.json 0\n\n",
+    empty: 63,
+    ..SAMPLE
+};
+
+/// Letters alone.
+const LETTERS: Body = Body {
+    front: b"",
+    ..SAMPLE
+};
+
+/// Bodies, and how many sections they have or why they are no bundle.
+static BODIES: [(Body, Result<usize, Fault>); 17] = [
     (
-        FRONT,
-        b"c.csv 99999999999999999999\nC1,R1\n\nend\n",
+        Body {
+            back: b"C.csv 6\nC1,R1\n\nend\n",
+            ..SAMPLE
+        },
+        WRONG_NAME,
+    ),
+    (
+        Body {
+            back: b"c.csv 06\nC1,R1\n\nend\n",
+            ..SAMPLE
+        },
+        BROKEN_FRAME,
+    ),
+    (
+        Body {
+            back: b"C.csv 06\nC1,R1\n\nend\n",
+            ..SAMPLE
+        },
+        BROKEN_FRAME,
+    ),
+    (
+        Body {
+            back: b"c.csv 5\nC1,R1\n\nend\n",
+            ..SAMPLE
+        },
+        BROKEN_FRAME,
+    ),
+    (
+        Body {
+            back: b"c.csv 7\nC1,R1\n\nend\n",
+            ..SAMPLE
+        },
+        BROKEN_FRAME,
+    ),
+    (
+        Body {
+            back: b"c.csv 99999999999999999999\nC1,R1\n\nend\n",
+            ..SAMPLE
+        },
         OVER_LIMIT,
     ),
     (
-        b"escrow-bundle 1\n",
-        b"envelope.json 16777217\n",
+        Body {
+            back: b"envelope.json 16777217\n",
+            ..OTHER
+        },
         OVER_LIMIT,
     ),
     (
-        FRONT,
-        b"c.csv 6\nC1,R1\n\nc.csv 6\nC1,R1\n\nend\n",
+        Body {
+            back: b"c.csv 6\nC1,R1\n\nc.csv 6\nC1,R1\n\nend\n",
+            ..SAMPLE
+        },
         REPEATED_NAME,
     ),
-    (FRONT, b"c.csv 6\nC1,R1\n\nend\n\n", BROKEN_FRAME),
-    (b"escrow-bundle 1\n", b"c.csv 0\n\nend\n", BROKEN_FRAME),
-    (b"escrow-bundle 1\n", b"c.csv 16777217\n", OVER_LIMIT),
-    (b"escrow-bundle 1\n", b"end\n", BROKEN_FRAME),
+    (
+        Body {
+            back: b"c.csv 6\nC1,R1\n\nend\n\n",
+            ..SAMPLE
+        },
+        BROKEN_FRAME,
+    ),
+    (
+        Body {
+            back: b"c.csv 0\n\nend\n",
+            ..OTHER
+        },
+        BROKEN_FRAME,
+    ),
+    (
+        Body {
+            back: b"c.csv 16777217\n",
+            ..OTHER
+        },
+        OVER_LIMIT,
+    ),
+    (
+        Body {
+            back: b"end\n",
+            ..OTHER
+        },
+        BROKEN_FRAME,
+    ),
+    // Sixty-four sections and no more.
+    (
+        Body {
+            back: b"end\n",
+            ..FULL
+        },
+        Ok(64),
+    ),
+    (
+        Body {
+            back: b"s64 0\n\nend\n",
+            ..FULL
+        },
+        OVER_LIMIT,
+    ),
+    (
+        Body {
+            back: b"s63 0\n\nend\n",
+            ..FULL
+        },
+        REPEATED_NAME,
+    ),
+    // The longest body.
+    (
+        Body {
+            letters: 16_777_216,
+            ..LETTERS
+        },
+        BROKEN_FRAME,
+    ),
+    (
+        Body {
+            letters: 16_777_217,
+            ..LETTERS
+        },
+        OVER_LIMIT,
+    ),
 ];
 
-/// Lists of sections, and why no bundle has them.
-const UNWRITTEN: [(&[(&str, &[u8])], Option<Fault>); 5] = [
+/// Lists of sections, each with an envelope of so many zeros behind them, if there are any, and why no bundle has them.
+static LISTS: [(&[(&str, &[u8])], usize, Option<Fault>); 7] = [
     (
         &[
             ("envelope.json", ENVELOPE),
             ("c.csv", b"C1,R1\n"),
             ("c.csv", b""),
         ],
-        REPEATED_NAME,
+        0,
+        Some(Fault::Refused(3)),
     ),
-    (&[], BROKEN_FRAME),
-    (&[("c.csv", b"")], BROKEN_FRAME),
-    (&[("C.csv", b"")], WRONG_NAME),
-    (&[("envelope.json", b"")], None),
+    (&[], 0, Some(Fault::Refused(1))),
+    (&[("c.csv", b"")], 0, Some(Fault::Refused(1))),
+    (&[("C.csv", b"")], 0, Some(Fault::Refused(2))),
+    (&[("envelope.json", b"")], 0, None),
+    (&[], 16_777_216, Some(Fault::Refused(4))),
+    (&[], 16_777_217, Some(Fault::Refused(4))),
 ];
+
+// Adds so many sections without a byte.
+fn push_empty(bytes: &mut Vec<u8>, alloc: Global, count: u32) -> Result<(), NoMemory> {
+    for number in 1..=count {
+        let section = format!(in alloc; "s{number} 0\n\n")?;
+        bytes.extend_from_slice(section.as_bytes())?;
+    }
+    Ok(())
+}
+
+fn bytes_of(alloc: Global, body: &Body) -> Result<Vec<u8>, NoMemory> {
+    let mut bytes = Vec::from_slice(alloc, body.front)?;
+    push_empty(&mut bytes, alloc, body.empty)?;
+    bytes.resize(bytes.len() + body.letters as usize, b'e')?;
+    bytes.extend_from_slice(body.back)?;
+    Ok(bytes)
+}
+
+// How many sections there are.
+fn count_in(alloc: Global, bytes: &[u8]) -> Result<usize, Fault> {
+    Ok(sections(alloc, bytes)?.len())
+}
+
+fn count_of(alloc: Global, body: &Body) -> Result<usize, Fault> {
+    let bytes = bytes_of(alloc, body)?;
+    count_in(alloc, bytes.as_slice())
+}
+
+// The names and bytes of a body's sections.
+fn parts_of(alloc: Global, bytes: &[u8]) -> Result<Vec<(&str, &[u8])>, Fault> {
+    let mut parts = Vec::new(alloc);
+    for section in &sections(alloc, bytes)? {
+        parts.push((section.name, section.bytes))?;
+    }
+    Ok(parts)
+}
+
+fn part(alloc: Global, name: &str, bytes: &[u8]) -> Result<(String, Vec<u8>), NoMemory> {
+    Ok((
+        String::from_str(alloc, name)?,
+        Vec::from_slice(alloc, bytes)?,
+    ))
+}
+
+// These sections, and an envelope of so many zeros behind them, if there are any.
+fn list_of(
+    alloc: Global,
+    parts: &[(&str, &[u8])],
+    zeros: usize,
+) -> Result<Vec<(String, Vec<u8>)>, NoMemory> {
+    let mut list = Vec::new(alloc);
+    for (name, bytes) in parts {
+        list.push(part(alloc, name, bytes)?)?;
+    }
+    if zeros > 0 {
+        let long = vec![in alloc; 0; zeros]?;
+        list.push((String::from_str(alloc, "envelope.json")?, long))?;
+    }
+    Ok(list)
+}
+
+fn written(alloc: Global, parts: &[(&str, &[u8])], zeros: usize) -> Result<Vec<u8>, Fault> {
+    let list = list_of(alloc, parts, zeros)?;
+    write_bundle(alloc, list.as_slice())
+}
 
 fn joined(alloc: Global, front: &[u8], back: &[u8]) -> Result<Vec<u8>, NoMemory> {
     let mut bytes = Vec::from_slice(alloc, front)?;
@@ -98,139 +299,81 @@ fn joined(alloc: Global, front: &[u8], back: &[u8]) -> Result<Vec<u8>, NoMemory>
     Ok(bytes)
 }
 
-// The names and bytes of a body's sections.
-fn parts_of(alloc: Global, body: &[u8]) -> Result<Vec<(&str, &[u8])>, Fault> {
-    let mut parts = Vec::new(alloc);
-    for section in &sections(alloc, body)? {
-        parts.push((section.name, section.bytes))?;
-    }
-    Ok(parts)
+// The length of a bundle, whether its sections are these, and whether it is what is written of them.
+fn told(alloc: Global, body: &[u8], parts: &[(&str, &[u8])]) -> Result<String, Fault> {
+    let is_read = parts_of(alloc, body)?.as_slice() == parts;
+    let is_written = written(alloc, parts, 0)?.as_slice() == body;
+    let length = body.len();
+    Ok(format!(in alloc; "{length} bytes, {is_read}, {is_written}")?)
 }
 
-// How many sections a body in two pieces has.
-fn count_of(alloc: Global, front: &[u8], back: &[u8]) -> Result<usize, Fault> {
+fn told_of(
+    alloc: Global,
+    front: &[u8],
+    back: &[u8],
+    parts: &[(&str, &[u8])],
+) -> Result<String, Fault> {
     let body = joined(alloc, front, back)?;
-    let found = sections(alloc, body.as_slice())?;
-    Ok(found.len())
-}
-
-// A bundle's beginning with so many sections without a byte.
-fn empty_sections(alloc: Global, count: u32) -> Result<Vec<u8>, NoMemory> {
-    let mut bytes = Vec::from_slice(alloc, b"escrow-bundle 1\nenvelope.json 0\n\n")?;
-    for number in 1..count {
-        let section = format!(in alloc; "s{number} 0\n\n")?;
-        bytes.extend_from_slice(section.as_bytes())?;
-    }
-    Ok(bytes)
-}
-
-// The bundle of these sections.
-fn written(alloc: Global, parts: &[(&str, &[u8])]) -> Result<Vec<u8>, Fault> {
-    let mut list = Vec::new(alloc);
-    for (name, bytes) in parts {
-        list.push((
-            String::from_str(alloc, name)?,
-            Vec::from_slice(alloc, bytes)?,
-        ))?;
-    }
-    write_bundle(alloc, list.as_slice())
+    told(alloc, body.as_slice(), parts)
 }
 
 #[test]
-fn bundles_are_read(rt: HostRuntime) -> Result<(), Fail> {
-    let alloc = rt.alloc();
-    for (front, back, length, parts) in BUNDLES {
-        let body = joined(alloc, front, back)?;
-        let found = parts_of(alloc, body.as_slice())?;
-        assert_eq!(rt; (body.len(), found.as_slice()), (length, parts));
+fn bundles_are_read_and_written(rt: HostRuntime) {
+    for (front, back, parts, text) in &BUNDLES {
+        assert_told(&rt, *back, told_of(rt.alloc(), front, back, parts), text);
     }
-    Ok(())
 }
 
-#[test]
-fn bundles_are_written(rt: HostRuntime) -> Result<(), Fail> {
-    let alloc = rt.alloc();
-    for (front, back, _, parts) in BUNDLES {
-        let body = joined(alloc, front, back)?;
-        assert_eq!(rt; written(alloc, parts)?.as_slice(), body.as_slice());
-    }
-    Ok(())
+// How many beginnings of a body have a broken frame.
+fn count_broken(alloc: Global, body: &[u8]) -> usize {
+    (0..body.len())
+        .filter(|len| count_in(alloc, &body[..*len]) == BROKEN_FRAME)
+        .count()
 }
 
-#[test]
-fn each_beginning_of_the_sample_is_refused(rt: HostRuntime) -> Result<(), Fail> {
-    let alloc = rt.alloc();
+fn broken_told(alloc: Global) -> Result<String, NoMemory> {
     let body = joined(alloc, FRONT, b"c.csv 6\nC1,R1\n\nend\n")?;
-    for len in 0..body.len() {
-        assert_eq!(rt; sections(alloc, &body[..len]).err(), BROKEN_FRAME);
-    }
-    Ok(())
+    let count = count_broken(alloc, body.as_slice());
+    Ok(format!(in alloc; "{count} beginnings")?)
 }
 
 #[test]
-fn other_bodies_are_refused(rt: HostRuntime) -> Result<(), Fail> {
-    let alloc = rt.alloc();
-    for (front, back, fault) in REFUSED {
-        assert_eq!(rt; count_of(alloc, front, back).err(), fault, "{back:?}");
-    }
-    Ok(())
+fn each_beginning_of_the_sample_is_refused(rt: HostRuntime) {
+    assert_told(&rt, "sample", broken_told(rt.alloc()), "228 beginnings");
 }
 
 #[test]
-fn sixty_four_sections_and_no_more(rt: HostRuntime) -> Result<(), Fail> {
-    let alloc = rt.alloc();
-    let front = empty_sections(alloc, 64)?;
-    let backs: [(&[u8], Result<usize, Fault>); 3] = [
-        (b"end\n", Ok(64)),
-        (b"s64 0\n\nend\n", Err(Fault::Refused(4))),
-        (b"s63 0\n\nend\n", Err(Fault::Refused(3))),
-    ];
-    for (back, count) in backs {
-        assert_eq!(rt; count_of(alloc, front.as_slice(), back), count, "{back:?}");
+fn other_bodies(rt: HostRuntime) {
+    for (body, count) in &BODIES {
+        assert_eq!(rt; count_of(rt.alloc(), body), *count, "{:?}", body.back);
     }
-    Ok(())
 }
 
 #[test]
-fn the_longest_body(rt: HostRuntime) -> Result<(), Fail> {
-    let alloc = rt.alloc();
-    for (length, fault) in [(16_777_216, BROKEN_FRAME), (16_777_217, OVER_LIMIT)] {
-        let body = vec![in alloc; b'e'; length]?;
-        assert_eq!(rt; sections(alloc, body.as_slice()).err(), fault, "{length}");
+fn lists_without_a_bundle(rt: HostRuntime) {
+    for (parts, zeros, fault) in &LISTS {
+        assert_eq!(rt;
+            written(rt.alloc(), parts, *zeros).err(),
+            *fault,
+            "{parts:?} {zeros}"
+        );
     }
-    Ok(())
+}
+
+// The faults of a text, of memory, and of memory as the former.
+fn printed(alloc: Global) -> Result<String, NoMemory> {
+    let refused = Fault::Refused(11);
+    let no_memory = Fault::NoMemory;
+    let from = Fault::from(NoMemory);
+    Ok(format!(in alloc; "{refused}, {no_memory}, {from}, {NoMemory}")?)
 }
 
 #[test]
-fn lists_without_a_bundle(rt: HostRuntime) -> Result<(), Fail> {
-    let alloc = rt.alloc();
-    for (parts, fault) in UNWRITTEN {
-        assert_eq!(rt; written(alloc, parts).err(), fault, "{parts:?}");
-    }
-    Ok(())
-}
-
-#[test]
-fn sections_too_long_for_a_bundle(rt: HostRuntime) -> Result<(), Fail> {
-    let alloc = rt.alloc();
-    for length in [16_777_216, 16_777_217] {
-        let long = vec![in alloc; 0; length]?;
-        let fault = written(alloc, &[("envelope.json", long.as_slice())]).err();
-        assert_eq!(rt; fault, OVER_LIMIT, "{length}");
-    }
-    Ok(())
-}
-
-#[test]
-fn faults_print_their_codes(rt: HostRuntime) -> Result<(), Fail> {
-    let alloc = rt.alloc();
-    assert_eq!(rt; Fault::from(NoMemory), Fault::NoMemory);
-    for (fault, text) in [
-        (Fault::Refused(11), "U11, out of memory"),
-        (Fault::NoMemory, "out of memory, out of memory"),
-    ] {
-        let shown = format!(in alloc; "{fault}, {NoMemory}")?;
-        assert_eq!(rt; shown.as_str(), text);
-    }
-    Ok(())
+fn faults_print_their_codes(rt: HostRuntime) {
+    assert_told(
+        &rt,
+        "faults",
+        printed(rt.alloc()),
+        "U11, out of memory, out of memory, out of memory",
+    );
 }

@@ -1,12 +1,12 @@
 //! Envelopes: each fault of each member, the moments of watermarks, places and names.
 
+use super::asserts::assert_told;
 use esc_bundle::{Fault, NoMemory};
 use esc_envelope::{
     DepositType, Envelope, Header, Kind, Place, Table, is_id, read_envelope, watermark,
     watermark_text,
 };
 use std::alloc::Global;
-use std::test::Fail;
 
 /// The envelope of the sample bundle, 174 bytes.
 const SAMPLE: &str =
@@ -16,20 +16,20 @@ const SAMPLE: &str =
 const COUNTED: &str =
     "{\"id\":\"D6\",\"type\":\"DIFF\",\"prevId\":\"F5\",\"resend\":2,\"watermark\":\"2024-03-11T00:00:00Z\",\"counts\":{\"domain\":3,\"host\":0,\"registrar\":1}}";
 
-/// Envelopes, and what they say: the header, the counts and the tables.
-const ENVELOPES: [(&str, &str); 2] = [
+/// Envelopes, and what they say: their lengths, the header and its copy, the counts and the tables.
+static ENVELOPES: [(&str, &str); 2] = [
     (
         SAMPLE,
-        "F1 FULL 1709424000000000000 (none) 0\n0 counts\n+ contact contact parent 0 c.csv id clID\n",
+        "174 bytes\nF1 FULL 1709424000000000000 (none) 0\nF1 FULL 1709424000000000000 (none) 0\n0 counts\n+ contact contact parent 0 c.csv id clID\n",
     ),
     (
         COUNTED,
-        "D6 DIFF 1710115200000000000 F5 2\n3 counts\nregistrar 1\nhost 0\ndomain 3\n",
+        "130 bytes\nD6 DIFF 1710115200000000000 F5 2\nD6 DIFF 1710115200000000000 F5 2\n3 counts\nregistrar 1\nhost 0\ndomain 3\n",
     ),
 ];
 
 /// Members that stand behind a right header, of which the last of a name counts, and the answer to them.
-const MEMBERS: [(&str, u8); 57] = [
+static MEMBERS: [(&str, u8); 57] = [
     ("", 0),
     (",\"tld\":1", 0),
     (",\"id\":null", 6),
@@ -141,7 +141,7 @@ const MEMBERS: [(&str, u8); 57] = [
 ];
 
 /// Texts without a right header, and the answer to them.
-const NO_HEADERS: [(&[u8], u8); 8] = [
+static NO_HEADERS: [(&[u8], u8); 8] = [
     (b"", 5),
     (b"{} {}", 5),
     (b"\"\xff\"", 5),
@@ -156,7 +156,7 @@ const NO_HEADERS: [(&[u8], u8); 8] = [
 ];
 
 /// Texts and their moments.
-const MOMENTS: [(&str, Option<i64>); 34] = [
+static MOMENTS: [(&str, Option<i64>); 34] = [
     ("1970-01-01T00:00:00Z", Some(0)),
     ("2024-03-03T00:00:00Z", Some(1_709_424_000_000_000_000)),
     ("2024-02-29T23:59:59.5Z", Some(1_709_251_199_500_000_000)),
@@ -200,51 +200,24 @@ const MOMENTS: [(&str, Option<i64>); 34] = [
 ];
 
 /// Moments and their texts.
-const PRINTED: [(i64, Option<&str>); 17] = [
-    (1_709_424_000_000_000_000, Some("2024-03-03T00:00:00Z")),
-    (1_709_424_000_100_000_000, Some("2024-03-03T00:00:00.1Z")),
-    (1_709_424_000_120_000_000, Some("2024-03-03T00:00:00.12Z")),
-    (1_709_424_000_123_000_000, Some("2024-03-03T00:00:00.123Z")),
-    (1_709_424_000_123_400_000, Some("2024-03-03T00:00:00.1234Z")),
-    (
-        1_709_424_000_123_450_000,
-        Some("2024-03-03T00:00:00.12345Z"),
-    ),
-    (
-        1_709_424_000_123_456_000,
-        Some("2024-03-03T00:00:00.123456Z"),
-    ),
-    (
-        1_709_424_000_123_456_700,
-        Some("2024-03-03T00:00:00.1234567Z"),
-    ),
-    (
-        1_709_424_000_123_456_780,
-        Some("2024-03-03T00:00:00.12345678Z"),
-    ),
-    (1_709_424_000_010_000_000, Some("2024-03-03T00:00:00.01Z")),
-    (
-        1_709_424_000_000_000_010,
-        Some("2024-03-03T00:00:00.00000001Z"),
-    ),
-    (
-        1_709_424_000_100_000_100,
-        Some("2024-03-03T00:00:00.1000001Z"),
-    ),
-    (
-        1_709_424_000_123_456_789,
-        Some("2024-03-03T00:00:00.123456789Z"),
-    ),
-    (
-        1_709_424_000_000_000_001,
-        Some("2024-03-03T00:00:00.000000001Z"),
-    ),
-    (
-        9_214_646_399_999_999_999,
-        Some("2261-12-31T23:59:59.999999999Z"),
-    ),
-    (9_214_646_400_000_000_000, None),
-    (-1, None),
+static PRINTED: [(i64, &str); 17] = [
+    (1_709_424_000_000_000_000, "2024-03-03T00:00:00Z"),
+    (1_709_424_000_100_000_000, "2024-03-03T00:00:00.1Z"),
+    (1_709_424_000_120_000_000, "2024-03-03T00:00:00.12Z"),
+    (1_709_424_000_123_000_000, "2024-03-03T00:00:00.123Z"),
+    (1_709_424_000_123_400_000, "2024-03-03T00:00:00.1234Z"),
+    (1_709_424_000_123_450_000, "2024-03-03T00:00:00.12345Z"),
+    (1_709_424_000_123_456_000, "2024-03-03T00:00:00.123456Z"),
+    (1_709_424_000_123_456_700, "2024-03-03T00:00:00.1234567Z"),
+    (1_709_424_000_123_456_780, "2024-03-03T00:00:00.12345678Z"),
+    (1_709_424_000_010_000_000, "2024-03-03T00:00:00.01Z"),
+    (1_709_424_000_000_000_010, "2024-03-03T00:00:00.00000001Z"),
+    (1_709_424_000_100_000_100, "2024-03-03T00:00:00.1000001Z"),
+    (1_709_424_000_123_456_789, "2024-03-03T00:00:00.123456789Z"),
+    (1_709_424_000_000_000_001, "2024-03-03T00:00:00.000000001Z"),
+    (9_214_646_399_999_999_999, "2261-12-31T23:59:59.999999999Z"),
+    (9_214_646_400_000_000_000, "none"),
+    (-1, "none"),
 ];
 
 const DIFF: Place = Place {
@@ -262,18 +235,26 @@ const NEXT: Place = Place {
     kind: DepositType::Diff,
 };
 
-/// Two places, whether the first stands before the second, and whether it is up to it.
-const PLACES: [(Place, Place, bool, bool); 3] = [
-    (DIFF, FULL, true, true),
-    (FULL, NEXT, true, true),
-    (FULL, FULL, false, true),
-];
+/// Places, two at a time.
+static PLACES: [(Place, Place); 3] = [(DIFF, FULL), (FULL, NEXT), (FULL, FULL)];
 
-const TYPES: [(&str, DepositType); 3] = [
-    ("FULL", DepositType::Full),
-    ("INCR", DepositType::Incr),
-    ("DIFF", DepositType::Diff),
-];
+/// What is told of the places, of types and kinds by their names, and of ids.
+const TOLD: &str = "before, up to
+before, up to
+up to
+FULL Some(Full) FULL
+INCR Some(Incr) INCR
+DIFF Some(Diff) DIFF
+diff None none
+registrar Some(Registrar)
+contact Some(Contact)
+host Some(Host)
+domain Some(Domain)
+idn Some(Idn)
+nndn Some(Nndn)
+a.B_9- true
+a b false
+";
 
 // The number of the refusal, 0 for an envelope, 255 for want of memory.
 fn answer(alloc: Global, json: &[u8]) -> u8 {
@@ -284,8 +265,22 @@ fn answer(alloc: Global, json: &[u8]) -> u8 {
     }
 }
 
+fn with_header(alloc: Global, members: &str) -> Result<String, NoMemory> {
+    Ok(format!(in alloc;
+        "{{\"id\":\"F1\",\"type\":\"FULL\",\"watermark\":\"2024-03-03T00:00:00Z\"{members}}}"
+    )?)
+}
+
+// The answer to members behind a right header.
+fn answer_to_members(alloc: Global, members: &str) -> u8 {
+    match with_header(alloc, members) {
+        Ok(json) => answer(alloc, json.as_bytes()),
+        Err(NoMemory) => 255,
+    }
+}
+
 // Id, type, watermark, previous id and resend of a header.
-fn line_of(alloc: Global, header: &Header) -> Result<String, NoMemory> {
+fn push_header(text: &mut String, header: &Header) -> Result<(), NoMemory> {
     let id = header.id.as_str();
     let kind = header.place.kind.name();
     let watermark = header.place.watermark;
@@ -294,173 +289,199 @@ fn line_of(alloc: Global, header: &Header) -> Result<String, NoMemory> {
         None => "(none)",
     };
     let resend = header.resend;
-    Ok(format!(in alloc; "{id} {kind} {watermark} {prev} {resend}\n")?)
+    writeln!(text, "{id} {kind} {watermark} {prev} {resend}")?;
+    Ok(())
 }
 
-// Name, kind, role, key, file and fields of a table, behind a sign.
-fn push_table(text: &mut String, alloc: Global, sign: &str, table: &Table) -> Result<(), NoMemory> {
+// Name, kind, role, key and file of a table, behind a sign.
+fn push_front(text: &mut String, sign: &str, table: &Table) -> Result<(), NoMemory> {
     let name = table.name.as_str();
     let kind = table.kind.name();
     let role = if table.parent { "parent" } else { "child" };
     let key = table.key;
     let file = table.file.as_str();
-    let front = format!(in alloc; "{sign} {name} {kind} {role} {key} {file}")?;
-    text.push_str(front.as_str())?;
-    for field in &table.fields {
-        text.push_str(" ")?;
-        text.push_str(field.as_str())?;
+    write!(text, "{sign} {name} {kind} {role} {key} {file}")?;
+    Ok(())
+}
+
+// Tables: of each what stands before its fields, and these.
+fn push_tables(text: &mut String, sign: &str, tables: &[Table]) -> Result<(), NoMemory> {
+    for table in tables {
+        push_front(text, sign, table)?;
+        for field in &table.fields {
+            write!(text, " {field}")?;
+        }
+        text.push_str("\n")?;
     }
-    text.push_str("\n")?;
     Ok(())
 }
 
 // How many counts there are, and those of each kind.
-fn push_counts(text: &mut String, alloc: Global, envelope: &Envelope) -> Result<(), NoMemory> {
+fn push_counts(text: &mut String, envelope: &Envelope) -> Result<(), NoMemory> {
     let number = envelope.counts.len();
-    let line = format!(in alloc; "{number} counts\n")?;
-    text.push_str(line.as_str())?;
+    writeln!(text, "{number} counts")?;
     for kind in Kind::ALL {
         if let Some(count) = envelope.counts.get(&kind) {
             let name = kind.name();
-            let line = format!(in alloc; "{name} {count}\n")?;
-            text.push_str(line.as_str())?;
+            writeln!(text, "{name} {count}")?;
         }
     }
     Ok(())
 }
 
-// What an envelope says: the header, the counts, the tables of what is and of what was deleted.
-fn shown(alloc: Global, json: &str) -> Result<String, Fault> {
+// The header, its copy, the counts, the tables of what is and of what was deleted.
+fn push_envelope(text: &mut String, alloc: Global, envelope: &Envelope) -> Result<(), NoMemory> {
+    push_header(text, &envelope.header)?;
+    push_header(text, &envelope.header.copy(alloc)?)?;
+    push_counts(text, envelope)?;
+    push_tables(text, "+", &envelope.contents)?;
+    push_tables(text, "-", &envelope.deletes)
+}
+
+// What an envelope says.
+fn told(alloc: Global, json: &str) -> Result<String, Fault> {
     let envelope = read_envelope(alloc, json.as_bytes())?;
-    let mut text = line_of(alloc, &envelope.header)?;
-    push_counts(&mut text, alloc, &envelope)?;
-    for table in &envelope.contents {
-        push_table(&mut text, alloc, "+", table)?;
-    }
-    for table in &envelope.deletes {
-        push_table(&mut text, alloc, "-", table)?;
-    }
+    let length = json.len();
+    let mut text = format!(in alloc; "{length} bytes\n")?;
+    push_envelope(&mut text, alloc, &envelope)?;
     Ok(text)
 }
 
-fn with_fields(alloc: Global, count: u8) -> Result<String, Fail> {
-    let mut json = String::from_str(
+// Members with so many fields more than one.
+fn with_fields(alloc: Global, count: u8) -> Result<String, NoMemory> {
+    let mut members = String::from_str(
         alloc,
-        "{\"id\":\"F1\",\"type\":\"DIFF\",\"watermark\":\"2024-03-03T00:00:00Z\",\"contents\":[{\"name\":\"h\",\"kind\":\"host\",\"role\":\"parent\",\"key\":\"a\",\"file\":\"f\",\"fields\":[\"a\"",
+        ",\"contents\":[{\"name\":\"h\",\"kind\":\"host\",\"role\":\"parent\",\"key\":\"a\",\"file\":\"f\",\"fields\":[\"a\"",
     )?;
-    for i in 0..count {
-        let field = format!(in alloc; ",\"b{i}\"")?;
-        json.push_str(field.as_str())?;
+    for number in 0..count {
+        write!(members, ",\"b{number}\"")?;
     }
-    json.push_str("]}]}")?;
-    Ok(json)
+    members.push_str("]}]")?;
+    Ok(members)
 }
 
-#[test]
-fn envelopes_are_read(rt: HostRuntime) -> Result<(), Fail> {
-    let alloc = rt.alloc();
-    assert_eq!(rt; SAMPLE.len(), 174);
-    for (json, text) in ENVELOPES {
-        assert_eq!(rt; shown(alloc, json)?.as_str(), text);
+// The answer to a table of so many fields more than one.
+fn answer_to_fields(alloc: Global, count: u8) -> u8 {
+    match with_fields(alloc, count) {
+        Ok(members) => answer_to_members(alloc, &members),
+        Err(NoMemory) => 255,
     }
-    Ok(())
 }
 
-#[test]
-fn headers_are_copied(rt: HostRuntime) -> Result<(), Fail> {
-    let alloc = rt.alloc();
-    for (json, _) in ENVELOPES {
-        let envelope = read_envelope(alloc, json.as_bytes())?;
-        let copy = envelope.header.copy(alloc)?;
-        assert_eq!(rt;
-            line_of(alloc, &copy)?.as_str(),
-            line_of(alloc, &envelope.header)?.as_str()
-        );
+// A line for each pair of places: whether the first stands before the second, and whether it is up to it.
+fn push_places(text: &mut String) -> Result<(), NoMemory> {
+    for (first, second) in &PLACES {
+        let before = if first.is_before(*second) {
+            "before, "
+        } else {
+            ""
+        };
+        let up_to = if first.is_up_to(*second) { "up to" } else { "" };
+        writeln!(text, "{before}{up_to}")?;
     }
     Ok(())
 }
 
-#[test]
-fn each_member(rt: HostRuntime) -> Result<(), Fail> {
-    for (members, number) in MEMBERS {
-        let json = format!(in rt.alloc();
-            "{{\"id\":\"F1\",\"type\":\"FULL\",\"watermark\":\"2024-03-03T00:00:00Z\"{members}}}"
-        )?;
-        assert_eq!(rt; answer(rt.alloc(), json.as_bytes()), number, "{members}");
+// A line for each word: the type of that name, and its name.
+fn push_types(text: &mut String) -> Result<(), NoMemory> {
+    for word in ["FULL", "INCR", "DIFF", "diff"] {
+        let found = DepositType::from_name(word);
+        let name = match found {
+            Some(kind) => kind.name(),
+            None => "none",
+        };
+        writeln!(text, "{word} {found:?} {name}")?;
     }
     Ok(())
 }
 
-#[test]
-fn no_header(rt: HostRuntime) -> Result<(), Fail> {
-    for (json, number) in NO_HEADERS {
-        assert_eq!(rt; answer(rt.alloc(), json), number, "{json:?}");
-    }
-    Ok(())
-}
-
-#[test]
-fn many_fields(rt: HostRuntime) -> Result<(), Fail> {
-    for (more, number) in [(63, 0), (64, 7)] {
-        let json = with_fields(rt.alloc(), more)?;
-        assert_eq!(rt; answer(rt.alloc(), json.as_bytes()), number, "{more}");
-    }
-    Ok(())
-}
-
-#[test]
-fn moments_are_read(rt: HostRuntime) -> Result<(), Fail> {
-    for (text, moment) in MOMENTS {
-        assert_eq!(rt; watermark(text), moment, "{text}");
-    }
-    Ok(())
-}
-
-#[test]
-fn moments_are_printed(rt: HostRuntime) -> Result<(), Fail> {
-    for (moment, text) in PRINTED {
-        let printed = watermark_text(rt.alloc(), moment)?;
-        assert_eq!(rt; printed.as_deref(), text, "{moment}");
-    }
-    Ok(())
-}
-
-#[test]
-fn places_are_ordered(rt: HostRuntime) -> Result<(), Fail> {
-    for (first, second, before, up_to) in PLACES {
-        assert_eq!(rt;
-            (first.is_before(second), first.is_up_to(second)),
-            (before, up_to),
-            "{first:?} {second:?}"
-        );
-    }
-    Ok(())
-}
-
-#[test]
-fn types_have_names(rt: HostRuntime) -> Result<(), Fail> {
-    for (name, kind) in TYPES {
-        assert_eq!(rt;
-            (kind.name(), DepositType::from_name(name)),
-            (name, Some(kind))
-        );
-    }
-    assert_eq!(rt; DepositType::from_name("diff"), None);
-    Ok(())
-}
-
-#[test]
-fn kinds_have_names(rt: HostRuntime) -> Result<(), Fail> {
+// A line for each kind: its name, and the kind of that name.
+fn push_kinds(text: &mut String) -> Result<(), NoMemory> {
     for kind in Kind::ALL {
-        assert_eq!(rt; Kind::from_name(kind.name()), Some(kind));
+        let name = kind.name();
+        let found = Kind::from_name(name);
+        writeln!(text, "{name} {found:?}")?;
     }
     Ok(())
 }
 
-#[test]
-fn ids(rt: HostRuntime) -> Result<(), Fail> {
-    for (id, is_one) in [("a.B_9-", true), ("a b", false)] {
-        assert_eq!(rt; is_id(id), is_one, "{id}");
+// A line for each text: whether it is an id.
+fn push_ids(text: &mut String) -> Result<(), NoMemory> {
+    for id in ["a.B_9-", "a b"] {
+        let is_one = is_id(id);
+        writeln!(text, "{id} {is_one}")?;
     }
     Ok(())
+}
+
+fn words_told(alloc: Global) -> Result<String, NoMemory> {
+    let mut text = String::new(alloc);
+    push_places(&mut text)?;
+    push_types(&mut text)?;
+    push_kinds(&mut text)?;
+    push_ids(&mut text)?;
+    Ok(text)
+}
+
+#[test]
+fn envelopes_are_read(rt: HostRuntime) {
+    for (json, text) in &ENVELOPES {
+        assert_told(&rt, *json, told(rt.alloc(), json), text);
+    }
+}
+
+#[test]
+fn each_member(rt: HostRuntime) {
+    for (members, number) in &MEMBERS {
+        assert_eq!(rt;
+            answer_to_members(rt.alloc(), members),
+            *number,
+            "{members}"
+        );
+    }
+}
+
+#[test]
+fn no_header(rt: HostRuntime) {
+    for (json, number) in &NO_HEADERS {
+        assert_eq!(rt; answer(rt.alloc(), json), *number, "{json:?}");
+    }
+}
+
+#[test]
+fn many_fields(rt: HostRuntime) {
+    for (more, number) in [(63, 0), (64, 7)] {
+        assert_eq!(rt; answer_to_fields(rt.alloc(), more), number, "{more}");
+    }
+}
+
+fn moment_of(text: &str) -> Option<i64> {
+    watermark(text)
+}
+
+#[test]
+fn moments_are_read(rt: HostRuntime) {
+    for (text, moment) in &MOMENTS {
+        assert_eq!(rt; moment_of(text), *moment, "{text}");
+    }
+}
+
+// The text of a moment, or `none`.
+fn text_at(alloc: Global, moment: i64) -> Result<String, NoMemory> {
+    match watermark_text(alloc, moment)? {
+        Some(text) => Ok(text),
+        None => Ok(String::from_str(alloc, "none")?),
+    }
+}
+
+#[test]
+fn moments_are_printed(rt: HostRuntime) {
+    for (moment, text) in &PRINTED {
+        assert_told(&rt, *moment, text_at(rt.alloc(), *moment), text);
+    }
+}
+
+#[test]
+fn places_types_kinds_and_ids(rt: HostRuntime) {
+    assert_told(&rt, "words", words_told(rt.alloc()), TOLD);
 }

@@ -1,8 +1,10 @@
 //! Manifests that list more rows: the union of two, or its fault.
 
-use esc_manifest::read_manifest;
+use super::asserts::assert_told;
+use super::shown::manifest_text;
+use esc_bundle::NoMemory;
+use esc_manifest::{MFault, MRow, Manifest, read_manifest};
 use std::alloc::Global;
-use std::test::Fail;
 
 /// A row: its first five fields, and its digest as a number.
 type Listed = (&'static str, u32);
@@ -32,7 +34,7 @@ const D8_AT_D2: Listed = ("D8,DIFF,2024-03-04T00:00:00Z,F1,", 8);
 const X9: Listed = ("X9,FULL,2024-03-05T00:00:00Z,,", 9);
 
 /// The rows of two manifests, and the ids of their union or its fault, whose row is one of the second.
-const UNIONS: [(&[Listed], &[Listed], &str); 13] = [
+static UNIONS: [(&[Listed], &[Listed], &str); 13] = [
     (&[F1], &[F1, D2], "F1 D2"),
     (&[F1, D2], &[F1_IN_OTHER_WORDS], "F1 D2"),
     (&[F1, D2], &[], "F1 D2"),
@@ -50,24 +52,14 @@ const UNIONS: [(&[Listed], &[Listed], &str); 13] = [
     (&[F1, D2], &[F5_WITH_BYTES_OF_F1, D8_AT_D2], "M10 row 2"),
 ];
 
-fn text_of(alloc: Global, rows: &[Listed]) -> Result<String, Fail> {
-    let mut text = String::from_str(alloc, "id,type,watermark,prevId,resend,sha256\n")?;
-    for (fields, digest) in rows {
-        let row = format!(in alloc; "{fields},{digest:064}\n")?;
-        text.push_str(row.as_str())?;
-    }
-    Ok(text)
+fn manifest_of(alloc: Global, rows: &[Listed]) -> Result<Manifest, MFault> {
+    let text = manifest_text(alloc, rows)?;
+    read_manifest(alloc, text.as_bytes())
 }
 
-fn told(alloc: Global, rows: &[Listed], more: &[Listed]) -> Result<String, Fail> {
-    let first = read_manifest(alloc, text_of(alloc, rows)?.as_bytes())?;
-    let second = read_manifest(alloc, text_of(alloc, more)?.as_bytes())?;
-    let union = match first.extend(alloc, &second) {
-        Ok(union) => union,
-        Err(fault) => return Ok(format!(in alloc; "{fault}")?),
-    };
+fn ids_of(alloc: Global, rows: &[MRow]) -> Result<String, NoMemory> {
     let mut ids = String::new(alloc);
-    for row in union.rows() {
+    for row in rows {
         if !ids.is_empty() {
             ids.push_str(" ")?;
         }
@@ -76,10 +68,23 @@ fn told(alloc: Global, rows: &[Listed], more: &[Listed]) -> Result<String, Fail>
     Ok(ids)
 }
 
-#[test]
-fn unions_of_two_manifests(rt: HostRuntime) -> Result<(), Fail> {
-    for (rows, more, want) in &UNIONS {
-        assert_eq!(rt; told(rt.alloc(), rows, more)?.as_str(), *want);
+// The ids of the union of two manifests, or its fault.
+fn union_told(alloc: Global, first: &Manifest, second: &Manifest) -> Result<String, NoMemory> {
+    match first.extend(alloc, second) {
+        Ok(union) => ids_of(alloc, union.rows()),
+        Err(fault) => Ok(format!(in alloc; "{fault}")?),
     }
-    Ok(())
+}
+
+fn told(alloc: Global, rows: &[Listed], more: &[Listed]) -> Result<String, MFault> {
+    let first = manifest_of(alloc, rows)?;
+    let second = manifest_of(alloc, more)?;
+    Ok(union_told(alloc, &first, &second)?)
+}
+
+#[test]
+fn unions_of_two_manifests(rt: HostRuntime) {
+    for (rows, more, want) in &UNIONS {
+        assert_told(&rt, *more, told(rt.alloc(), rows, more), want);
+    }
 }

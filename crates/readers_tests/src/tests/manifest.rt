@@ -1,11 +1,11 @@
 //! Manifests: the least fault of texts and of rows, and the values of fields.
 
+use super::asserts::assert_told;
+use super::shown::{HEADING, manifest_text};
+use esc_bundle::NoMemory;
 use esc_envelope::{DepositType, Header, Place};
 use esc_manifest::{MFault, MRow, Manifest, from_rows, read_manifest};
 use std::alloc::Global;
-use std::test::Fail;
-
-const HEADING: &str = "id,type,watermark,prevId,resend,sha256\n";
 
 // 2024-03-03T00:00:00Z, and the days after it.
 const THIRD: i64 = 1_709_424_000_000_000_000;
@@ -22,15 +22,20 @@ const DIGEST_OF_ABC: [u8; 32] = [
 const MANIFEST: &str =
     "id,type,watermark,prevId,resend,sha256\nF1,FULL,2024-03-03T00:00:00Z,X9,007,e3b0c44298fc1c149afbf4c8996fb92427ae41e4649b934ca495991b7852b855\nD2,DIFF,2024-03-04T00:00:00.0Z,F1,,BA7816BF8F01CFEA414140DE5DAE2223B00361A396177A9CB410FF61F20015AD\nF3,FULL,2024-03-05T00:00:00Z,,999999,00000000000000000000000000000000000000000000000000000000000000fF\n";
 
-/// Its rows: id, type, watermark, previous id, resend and digest.
+/// Its rows and their copies: id, type, watermark, previous id, resend and digest; and the rows of the digest of `abc` and
+/// of one that has another first byte.
 const ROWS: &str =
     "F1 FULL 1709424000000000000 X9 7 e3b0c44298fc1c149afbf4c8996fb92427ae41e4649b934ca495991b7852b855
+F1 FULL 1709424000000000000 X9 7 e3b0c44298fc1c149afbf4c8996fb92427ae41e4649b934ca495991b7852b855
+D2 DIFF 1709510400000000000 F1 0 ba7816bf8f01cfea414140de5dae2223b00361a396177a9cb410ff61f20015ad
 D2 DIFF 1709510400000000000 F1 0 ba7816bf8f01cfea414140de5dae2223b00361a396177a9cb410ff61f20015ad
 F3 FULL 1709596800000000000 (none) 999999 00000000000000000000000000000000000000000000000000000000000000ff
+F3 FULL 1709596800000000000 (none) 999999 00000000000000000000000000000000000000000000000000000000000000ff
+Some(1) None
 ";
 
 /// Texts that begin with another line than the heading, or with the heading in another form.
-const FIRST_LINES: [(&[u8], &str); 5] = [
+static FIRST_LINES: [(&[u8], &str); 5] = [
     (b"", "M3 row 0"),
     (b"id,type,watermark,prevId,resend\n", "M2 row 0"),
     (b"id,type,watermark,previd,resend,sha256\n", "M3 row 0"),
@@ -42,7 +47,7 @@ const FIRST_LINES: [(&[u8], &str); 5] = [
 ];
 
 /// Rows, each as its first five fields and its digest as a number, and the least fault.
-const TEXTS: [(&[(&str, u32)], &str); 34] = [
+static TEXTS: [(&[(&str, u32)], &str); 34] = [
     // Worked manifests.
     (
         &[
@@ -224,7 +229,7 @@ const F2: Listed = Listed {
 };
 
 /// Two rows, and the least fault.
-const PAIRS: [(Listed, Listed, &str); 11] = [
+static PAIRS: [(Listed, Listed, &str); 11] = [
     (F1, D2, "listed 2"),
     (
         F1,
@@ -287,22 +292,16 @@ const PAIRS: [(Listed, Listed, &str); 11] = [
     ),
 ];
 
-// A text of the heading and rows: each row's first five fields, and its digest as a number; 0 adds no sixth field.
-fn text_of(alloc: Global, rows: &[(&str, u32)]) -> Result<String, Fail> {
-    let mut text = String::from_str(alloc, HEADING)?;
-    for (front, digest) in rows {
-        text.push_str(front)?;
-        if *digest > 0 {
-            let last = format!(in alloc; ",{digest:064}")?;
-            text.push_str(last.as_str())?;
-        }
-        text.push_str("\n")?;
-    }
-    Ok(text)
-}
+/// So many Fulls in a text of so many bytes at least, and what is said of it.
+static SIZES: [(u32, usize, &str); 4] = [
+    (4096, 0, "listed 4096"),
+    (4097, 0, "M1 row 0"),
+    (0, 4_194_304, "listed 0"),
+    (0, 4_194_305, "M1 row 0"),
+];
 
 // What is said of a manifest or a fault.
-fn said(alloc: Global, read: Result<Manifest, MFault>) -> Result<String, Fail> {
+fn said(alloc: Global, read: Result<Manifest, MFault>) -> Result<String, NoMemory> {
     match read {
         Ok(manifest) => {
             let count = manifest.rows().len();
@@ -312,44 +311,58 @@ fn said(alloc: Global, read: Result<Manifest, MFault>) -> Result<String, Fail> {
     }
 }
 
-fn told(alloc: Global, text: &[u8]) -> Result<String, Fail> {
+fn told(alloc: Global, text: &[u8]) -> Result<String, NoMemory> {
     said(alloc, read_manifest(alloc, text))
 }
 
-fn told_of(alloc: Global, rows: &[(&str, u32)]) -> Result<String, Fail> {
-    let text = text_of(alloc, rows)?;
+fn told_of(alloc: Global, rows: &[(&str, u32)]) -> Result<String, NoMemory> {
+    let text = manifest_text(alloc, rows)?;
     told(alloc, text.as_bytes())
 }
 
-fn row_of(alloc: Global, listed: &Listed) -> Result<MRow, Fail> {
-    let prev = match listed.prev {
-        Some(prev) => Some(String::from_str(alloc, prev)?),
-        None => None,
-    };
-    let header = Header {
-        id: String::from_str(alloc, listed.id)?,
-        place: Place {
-            watermark: listed.watermark,
-            kind: listed.kind,
-        },
-        prev,
-        resend: listed.resend,
+fn prev_of(alloc: Global, listed: &Listed) -> Result<Option<String>, NoMemory> {
+    match listed.prev {
+        Some(prev) => Ok(Some(String::from_str(alloc, prev)?)),
+        None => Ok(None),
+    }
+}
+
+fn row_of(alloc: Global, listed: &Listed) -> Result<MRow, NoMemory> {
+    let prev = prev_of(alloc, listed)?;
+    let id = String::from_str(alloc, listed.id)?;
+    let place = Place {
+        watermark: listed.watermark,
+        kind: listed.kind,
     };
     Ok(MRow {
-        header,
+        header: Header {
+            id,
+            place,
+            prev,
+            resend: listed.resend,
+        },
         digest: [listed.digest; 32],
     })
 }
 
-fn told_of_two(alloc: Global, first: &Listed, second: &Listed) -> Result<String, Fail> {
+fn told_of_two(alloc: Global, first: &Listed, second: &Listed) -> Result<String, NoMemory> {
     let mut rows = Vec::new(alloc);
     rows.push(row_of(alloc, first)?)?;
     rows.push(row_of(alloc, second)?)?;
     said(alloc, from_rows(alloc, rows))
 }
 
+// What is said of one row so many times.
+fn told_of_many(alloc: Global, listed: &Listed, count: usize) -> Result<String, NoMemory> {
+    let mut rows = Vec::new(alloc);
+    for _ in 0..count {
+        rows.push(row_of(alloc, listed)?)?;
+    }
+    said(alloc, from_rows(alloc, rows))
+}
+
 // Id, type, watermark, previous id, resend and digest of a row.
-fn line_of(alloc: Global, row: &MRow) -> Result<String, Fail> {
+fn push_row(text: &mut String, row: &MRow) -> Result<(), NoMemory> {
     let id = row.header.id.as_str();
     let kind = row.header.place.kind.name();
     let watermark = row.header.place.watermark;
@@ -358,113 +371,97 @@ fn line_of(alloc: Global, row: &MRow) -> Result<String, Fail> {
         None => "(none)",
     };
     let resend = row.header.resend;
-    let mut line = format!(in alloc; "{id} {kind} {watermark} {prev} {resend} ")?;
+    write!(text, "{id} {kind} {watermark} {prev} {resend} ")?;
     for byte in row.digest {
-        let digits = format!(in alloc; "{byte:02x}")?;
-        line.push_str(digits.as_str())?;
+        write!(text, "{byte:02x}")?;
     }
-    Ok(line)
+    text.push_str("\n")?;
+    Ok(())
 }
 
-// The lines of rows and the lines of their copies.
-fn lines_of(alloc: Global, rows: &[MRow]) -> Result<(String, String), Fail> {
-    let mut lines = String::new(alloc);
-    let mut copied = String::new(alloc);
+// Each row and its copy.
+fn push_rows(text: &mut String, alloc: Global, rows: &[MRow]) -> Result<(), NoMemory> {
     for row in rows {
-        let copy = row.copy(alloc)?;
-        lines.push_str(line_of(alloc, row)?.as_str())?;
-        lines.push_str("\n")?;
-        copied.push_str(line_of(alloc, &copy)?.as_str())?;
-        copied.push_str("\n")?;
+        push_row(text, row)?;
+        push_row(text, &row.copy(alloc)?)?;
     }
-    Ok((lines, copied))
+    Ok(())
 }
 
-// So many Fulls, one nanosecond apart.
-fn many(alloc: Global, count: u32) -> Result<String, Fail> {
-    let mut text = String::from_str(alloc, HEADING)?;
-    for number in 1..=count {
-        let row = format!(in alloc;
-            "F{number},FULL,2024-03-03T00:00:00.{number:09}Z,,,{number:064}\n"
-        )?;
-        text.push_str(row.as_str())?;
-    }
+// The row of the digest of `abc` with another first byte.
+fn found(manifest: &Manifest, first: u8) -> Option<usize> {
+    let mut digest = DIGEST_OF_ABC;
+    digest[0] = first;
+    manifest.row_by_digest(&digest)
+}
+
+fn rows_told(alloc: Global, manifest: &Manifest) -> Result<String, NoMemory> {
+    let mut text = String::new(alloc);
+    push_rows(&mut text, alloc, manifest.rows())?;
+    let listed = found(manifest, 0xba);
+    let other = found(manifest, 0);
+    writeln!(text, "{listed:?} {other:?}")?;
     Ok(text)
 }
 
-#[test]
-fn faults_of_the_first_line(rt: HostRuntime) -> Result<(), Fail> {
-    for (text, said) in FIRST_LINES {
-        assert_eq!(rt; told(rt.alloc(), text)?.as_str(), said, "{text:?}");
+fn values_told(alloc: Global) -> Result<String, MFault> {
+    let manifest = read_manifest(alloc, MANIFEST.as_bytes())?;
+    Ok(rows_told(alloc, &manifest)?)
+}
+
+// So many Fulls, one nanosecond apart, and line feeds up to so many bytes.
+fn sized(alloc: Global, count: u32, size: usize) -> Result<Vec<u8>, NoMemory> {
+    let mut text = String::from_str(alloc, HEADING)?;
+    for number in 1..=count {
+        writeln!(
+            text,
+            "F{number},FULL,2024-03-03T00:00:00.{number:09}Z,,,{number:064}"
+        )?;
     }
-    Ok(())
+    let mut bytes = text.into_bytes();
+    if bytes.len() < size {
+        bytes.resize(size, b'\n')?;
+    }
+    Ok(bytes)
+}
+
+// What is said of so many Fulls in so many bytes.
+fn told_of_size(alloc: Global, count: u32, size: usize) -> Result<String, NoMemory> {
+    let text = sized(alloc, count, size)?;
+    told(alloc, text.as_slice())
 }
 
 #[test]
-fn the_least_fault_of_a_text(rt: HostRuntime) -> Result<(), Fail> {
-    for (rows, said) in TEXTS {
-        assert_eq!(rt; told_of(rt.alloc(), rows)?.as_str(), said, "{rows:?}");
+fn faults_of_the_first_line(rt: HostRuntime) {
+    for (text, said) in &FIRST_LINES {
+        assert_told(&rt, *text, told(rt.alloc(), text), said);
     }
-    Ok(())
 }
 
 #[test]
-fn the_least_fault_of_rows(rt: HostRuntime) -> Result<(), Fail> {
+fn the_least_fault_of_a_text(rt: HostRuntime) {
+    for (rows, said) in &TEXTS {
+        assert_told(&rt, *rows, told_of(rt.alloc(), rows), said);
+    }
+}
+
+#[test]
+fn the_least_fault_of_rows(rt: HostRuntime) {
     for (first, second, said) in &PAIRS {
-        let told = told_of_two(rt.alloc(), first, second)?;
-        assert_eq!(rt; told.as_str(), *said);
+        assert_told(&rt, *said, told_of_two(rt.alloc(), first, second), said);
     }
-    Ok(())
 }
 
 #[test]
-fn values_of_fields(rt: HostRuntime) -> Result<(), Fail> {
-    let manifest = read_manifest(rt.alloc(), MANIFEST.as_bytes())?;
-    let (lines, copied) = lines_of(rt.alloc(), manifest.rows())?;
-    assert_eq!(rt; (lines.as_str(), copied.as_str()), (ROWS, ROWS));
-    Ok(())
-}
-
-#[test]
-fn rows_are_found_by_their_digest(rt: HostRuntime) -> Result<(), Fail> {
-    let manifest = read_manifest(rt.alloc(), MANIFEST.as_bytes())?;
-    for (first, row) in [(0xba, Some(1)), (0, None)] {
-        let mut digest = DIGEST_OF_ABC;
-        digest[0] = first;
-        assert_eq!(rt; manifest.row_by_digest(&digest), row, "{first}");
+fn values_and_sizes(rt: HostRuntime) {
+    assert_told(&rt, "values", values_told(rt.alloc()), ROWS);
+    assert_told(&rt, "rows", told_of_many(rt.alloc(), &F1, 4097), "M1 row 0");
+    for (count, size, said) in &SIZES {
+        assert_told(
+            &rt,
+            (*count, *size),
+            told_of_size(rt.alloc(), *count, *size),
+            said,
+        );
     }
-    Ok(())
-}
-
-#[test]
-fn the_most_rows_of_a_text(rt: HostRuntime) -> Result<(), Fail> {
-    for (count, said) in [(4096, "listed 4096"), (4097, "M1 row 0")] {
-        let text = many(rt.alloc(), count)?;
-        assert_eq!(rt; told(rt.alloc(), text.as_bytes())?.as_str(), said);
-    }
-    Ok(())
-}
-
-#[test]
-fn the_most_bytes(rt: HostRuntime) -> Result<(), Fail> {
-    for (length, said) in [(4_194_304, "listed 0"), (4_194_305, "M1 row 0")] {
-        let mut text = Vec::from_slice(rt.alloc(), HEADING.as_bytes())?;
-        text.resize(length, b'\n')?;
-        assert_eq!(rt; told(rt.alloc(), text.as_slice())?.as_str(), said);
-    }
-    Ok(())
-}
-
-#[test]
-fn more_rows_than_a_manifest_has(rt: HostRuntime) -> Result<(), Fail> {
-    let alloc = rt.alloc();
-    let mut rows = Vec::new(alloc);
-    for _ in 0..4097 {
-        rows.push(row_of(alloc, &F1)?)?;
-    }
-    assert_eq!(rt;
-        from_rows(alloc, rows).err(),
-        Some(MFault::Refused { code: 1, row: 0 })
-    );
-    Ok(())
 }

@@ -1,11 +1,11 @@
 //! Records: objects as bytes, there and back.
 
+use super::asserts::assert_told;
 use super::shown::push_object;
 use esc_bundle::NoMemory;
 use esc_record::{read_record, to_record};
 use esc_tables::{Object, Row};
 use std::alloc::Global;
-use std::test::Fail;
 
 const CONTACT: &[u8] =
     b"\x00\x00\x00\x01\x00\x00\x00\x07contact\x00\x00\x00\x02\x00\x00\x00\x02id\x00\x00\x00\x02C1\x00\x00\x00\x04clID\x00\x00\x00\x02R1";
@@ -13,14 +13,14 @@ const CONTACT: &[u8] =
 /// A row's table and its cells.
 type Cells = (&'static str, &'static [(&'static str, &'static str)]);
 
-/// Objects, each with its parent and children, its rows as a text, its record and the record's length.
-const OBJECTS: [(Cells, &[Cells], &str, &[u8], usize); 4] = [
+/// Objects, each with its parent and children, its record, whether that is written, its length, and the rows that are read of
+/// it.
+static OBJECTS: [(Cells, &[Cells], &[u8], &str); 4] = [
     (
         ("contact", &[("id", "C1"), ("clID", "R1")]),
         &[],
-        "contact id=C1 clID=R1\n",
         CONTACT,
-        45,
+        "true, 45 bytes\ncontact id=C1 clID=R1\n",
     ),
     (
         ("domain", &[("name", "a.example"), ("clID", "R1")]),
@@ -39,29 +39,26 @@ const OBJECTS: [(Cells, &[Cells], &str, &[u8], usize); 4] = [
                 ],
             ),
         ],
-        "domain name=a.example clID=R1\n  domainNs domainName=a.example hostName=ns1.x\n  domainNs\n  domainStatus status=ok name=A.example reason=\u{e9}\n",
         b"\x00\x00\x00\x04\x00\x00\x00\x06domain\x00\x00\x00\x02\x00\x00\x00\x04name\x00\x00\x00\x09a.example\x00\x00\x00\x04clID\x00\x00\x00\x02R1\x00\x00\x00\x08domainNs\x00\x00\x00\x02\x00\x00\x00\x0adomainName\x00\x00\x00\x09a.example\x00\x00\x00\x08hostName\x00\x00\x00\x05ns1.x\x00\x00\x00\x08domainNs\x00\x00\x00\x00\x00\x00\x00\x0cdomainStatus\x00\x00\x00\x03\x00\x00\x00\x06status\x00\x00\x00\x02ok\x00\x00\x00\x04name\x00\x00\x00\x09A.example\x00\x00\x00\x06reason\x00\x00\x00\x02\xc3\xa9",
-        206,
+        "true, 206 bytes\ndomain name=a.example clID=R1\n  domainNs domainName=a.example hostName=ns1.x\n  domainNs\n  domainStatus status=ok name=A.example reason=\u{e9}\n",
     ),
     // A row without cells alone, and texts without bytes.
     (
         ("idn", &[]),
         &[],
-        "idn\n",
         b"\x00\x00\x00\x01\x00\x00\x00\x03idn\x00\x00\x00\x00",
-        15,
+        "true, 15 bytes\nidn\n",
     ),
     (
         ("host", &[("name", "")]),
         &[("", &[("", "")])],
-        "host name=\n   =\n",
         b"\x00\x00\x00\x02\x00\x00\x00\x04host\x00\x00\x00\x01\x00\x00\x00\x04name\x00\x00\x00\x00\x00\x00\x00\x00\x00\x00\x00\x01\x00\x00\x00\x00\x00\x00\x00\x00",
-        44,
+        "true, 44 bytes\nhost name=\n   =\n",
     ),
 ];
 
 /// Bytes that are no record.
-const OTHERS: [&[u8]; 11] = [
+static OTHERS: [&[u8]; 11] = [
     b"\x00\x00\x00\x01\x00\x00\x00\x07contact\x00\x00\x00\x02\x00\x00\x00\x02id\x00\x00\x00\x02C1\x00\x00\x00\x04clID\x00\x00\x00\x02R",
     b"\x00\x00\x00\x00",
     b"\x00\x00\x00\x01\x00\x00\x00\x01\xff\x00\x00\x00\x00",
@@ -77,60 +74,75 @@ const OTHERS: [&[u8]; 11] = [
     b"\x00\x00\x00\x01\xff\xff\xff\xffidn\x00\x00\x00\x00",
 ];
 
-fn object_of(alloc: Global, parent: Cells, children: &[Cells]) -> Result<Object, NoMemory> {
-    let (table, cells) = parent;
-    let parent = Row::from_cells(alloc, table, cells)?;
+fn rows_of(alloc: Global, tables: &[Cells]) -> Result<Vec<Row>, NoMemory> {
     let mut rows = Vec::new(alloc);
-    for (table, cells) in children {
+    for (table, cells) in tables {
         rows.push(Row::from_cells(alloc, table, cells)?)?;
     }
+    Ok(rows)
+}
+
+fn object_of(alloc: Global, parent: &Cells, children: &[Cells]) -> Result<Object, NoMemory> {
+    let (table, cells) = parent;
     Ok(Object {
-        parent,
-        children: rows,
+        parent: Row::from_cells(alloc, table, cells)?,
+        children: rows_of(alloc, children)?,
     })
 }
 
-// The rows of the object whose record these bytes are.
-fn rows_of(alloc: Global, bytes: &[u8]) -> Result<Option<String>, NoMemory> {
-    let Some(object) = read_record(alloc, bytes)? else {
-        return Ok(None);
-    };
+// Whether an object's record is this.
+fn is_record(
+    alloc: Global,
+    parent: &Cells,
+    children: &[Cells],
+    record: &[u8],
+) -> Result<bool, NoMemory> {
+    let object = object_of(alloc, parent, children)?;
+    Ok(to_record(alloc, &object)?.as_deref() == Some(record))
+}
+
+// The rows of the object whose record these bytes are, or `none`.
+fn push_read(text: &mut String, alloc: Global, bytes: &[u8]) -> Result<(), NoMemory> {
+    match read_record(alloc, bytes)? {
+        Some(object) => push_object(text, &object),
+        None => Ok(text.push_str("none")?),
+    }
+}
+
+fn told(
+    alloc: Global,
+    parent: &Cells,
+    children: &[Cells],
+    record: &[u8],
+) -> Result<String, NoMemory> {
+    let is_written = is_record(alloc, parent, children, record)?;
+    let length = record.len();
+    let mut text = format!(in alloc; "{is_written}, {length} bytes\n")?;
+    push_read(&mut text, alloc, record)?;
+    Ok(text)
+}
+
+fn read_told(alloc: Global, bytes: &[u8]) -> Result<String, NoMemory> {
     let mut text = String::new(alloc);
-    push_object(&mut text, &object)?;
-    Ok(Some(text))
+    push_read(&mut text, alloc, bytes)?;
+    Ok(text)
 }
 
 #[test]
-fn objects_are_written(rt: HostRuntime) -> Result<(), Fail> {
-    let alloc = rt.alloc();
-    for (parent, children, text, record, length) in OBJECTS {
-        let object = object_of(alloc, parent, children)?;
-        let written = to_record(alloc, &object)?;
-        assert_eq!(rt;
-            (written.as_deref(), record.len()),
-            (Some(record), length),
-            "{text}"
+fn objects_are_written_and_read(rt: HostRuntime) {
+    for (parent, children, record, text) in &OBJECTS {
+        assert_told(
+            &rt,
+            *record,
+            told(rt.alloc(), parent, children, record),
+            text,
         );
     }
-    Ok(())
 }
 
 #[test]
-fn records_are_read(rt: HostRuntime) -> Result<(), Fail> {
-    let alloc = rt.alloc();
-    for (_, _, text, record, _) in OBJECTS {
-        let read = rows_of(alloc, record)?;
-        assert_eq!(rt; read.as_deref(), Some(text));
+fn other_bytes_are_no_record(rt: HostRuntime) {
+    for bytes in &OTHERS {
+        assert_told(&rt, *bytes, read_told(rt.alloc(), bytes), "none");
     }
-    Ok(())
-}
-
-#[test]
-fn other_bytes_are_no_record(rt: HostRuntime) -> Result<(), Fail> {
-    let alloc = rt.alloc();
-    for bytes in OTHERS {
-        let read = rows_of(alloc, bytes)?;
-        assert_eq!(rt; read.as_deref(), None, "{bytes:?}");
-    }
-    Ok(())
 }

@@ -1,11 +1,11 @@
 //! Deposits: what bundles hold, what is refused, and how much there may be.
 
+use super::asserts::assert_told;
 use super::shown::push_object;
 use esc_bundle::{Fault, NoMemory, write_bundle};
-use esc_envelope::Kind;
 use esc_tables::{Deposit, Key, Object, Row, read_bundled_envelope, read_deposit};
 use std::alloc::Global;
-use std::test::Fail;
+use std::collections::BTreeMap;
 
 const CONTACTS: &str =
     r#"{"name":"contact","kind":"contact","role":"parent","key":"id","fields":["id","clID"],"file":"c.csv"}"#;
@@ -33,8 +33,8 @@ struct Full<'a> {
     files: &'a [(&'a str, &'a [u8])],
 }
 
-/// Fulls, and what they hold.
-const FULLS: [(Full<'static>, &str); 4] = [
+/// Fulls, each with the id and the number of contents of its envelope, and what it holds or the least refusal.
+static FULLS: [(Full<'static>, &str); 13] = [
     // The last row of a lowered key counts.
     (
         Full {
@@ -48,7 +48,7 @@ const FULLS: [(Full<'static>, &str); 4] = [
                 ("gone.csv", b"A.EXAMPLE\n"),
             ],
         },
-        "F1, 0 counts\n- Domain a.example\nDomain a.example: domain name=a.example clID=R2 registrant=C1\nDomain b.example: domain name=B.example clID=R1 registrant=C1\n0 orphans\n",
+        "F1, 1 tables\nF1, 0 counts\n- Domain a.example\nDomain a.example: domain name=a.example clID=R2 registrant=C1\nDomain b.example: domain name=B.example clID=R1 registrant=C1\n0 orphans\n",
     ),
     // Child rows stand by table name.
     (
@@ -63,7 +63,7 @@ const FULLS: [(Full<'static>, &str); 4] = [
                 ("d.csv", b"\xEF\xBB\xBFa.example,R1,C1"),
             ],
         },
-        "F1, 0 counts\nContact C1: contact id=C1 clID=R1\n  contactStatus id=C1 status=linked\nContact c1: contact id=c1 clID=R,1\nDomain a.example: domain name=a.example clID=R1 registrant=C1\n  domainNs domainName=a.example hostName=ns2.x\n  domainNs domainName=a.example hostName=ns1.x\n  domainStatus status=ok name=a.example\n  domainStatus status=locked name=A.example\n2 orphans\n",
+        "F1, 5 tables\nF1, 0 counts\nContact C1: contact id=C1 clID=R1\n  contactStatus id=C1 status=linked\nContact c1: contact id=c1 clID=R,1\nDomain a.example: domain name=a.example clID=R1 registrant=C1\n  domainNs domainName=a.example hostName=ns2.x\n  domainNs domainName=a.example hostName=ns1.x\n  domainStatus status=ok name=a.example\n  domainStatus status=locked name=A.example\n2 orphans\n",
     ),
     // Orphans are counted.
     (
@@ -75,7 +75,7 @@ const FULLS: [(Full<'static>, &str); 4] = [
                 ("ns.csv", b"a.example,ns1.a.example\n"),
             ],
         },
-        "F1, 0 counts\nContact C1: contact id=C1 clID=R1\n1 orphans\n",
+        "F1, 2 tables\nF1, 0 counts\nContact C1: contact id=C1 clID=R1\n1 orphans\n",
     ),
     // Three contact rows have no parent row, in other letters or of another id; two of the name servers have none,
     // and a status stands at a domain that has a contact's id.
@@ -94,19 +94,16 @@ const FULLS: [(Full<'static>, &str); 4] = [
                 ("st.csv", b"ok,C1\nok,a.example\n"),
             ],
         },
-        "F1, 0 counts\nContact C1: contact id=C1 clID=R1\n  contactStatus id=C1 status=ok\nDomain a.example: domain name=a.example clID=R1 registrant=C1\n  domainNs domainName=A.EXAMPLE hostName=ns1.x\n  domainStatus status=ok name=a.example\n6 orphans\n",
+        "F1, 5 tables\nF1, 0 counts\nContact C1: contact id=C1 clID=R1\n  contactStatus id=C1 status=ok\nDomain a.example: domain name=a.example clID=R1 registrant=C1\n  domainNs domainName=A.EXAMPLE hostName=ns1.x\n  domainStatus status=ok name=a.example\n6 orphans\n",
     ),
-];
-
-/// Fulls that are no deposit, and the least refusal.
-const REFUSED: [(Full<'static>, u8); 8] = [
+    // No deposits.
     (
         Full {
             contents: &[CONTACTS],
             deletes: &[],
             files: &[("c.csv", b",R1\n")],
         },
-        10,
+        "F1, 1 tables\nU10\n",
     ),
     (
         Full {
@@ -114,7 +111,7 @@ const REFUSED: [(Full<'static>, u8); 8] = [
             deletes: &[],
             files: &[("c.csv", b",R1\n"), ("x", b"")],
         },
-        8,
+        "F1, 1 tables\nU8\n",
     ),
     (
         Full {
@@ -122,7 +119,7 @@ const REFUSED: [(Full<'static>, u8); 8] = [
             deletes: &[],
             files: &[],
         },
-        8,
+        "F1, 1 tables\nU8\n",
     ),
     (
         Full {
@@ -130,7 +127,7 @@ const REFUSED: [(Full<'static>, u8); 8] = [
             deletes: &[CONTACTS],
             files: &[("c.csv", b"C1,R1\n")],
         },
-        8,
+        "F1, 1 tables\nU8\n",
     ),
     (
         Full {
@@ -138,7 +135,7 @@ const REFUSED: [(Full<'static>, u8); 8] = [
             deletes: &[],
             files: &[("c.csv", b"\"C1,R1\n")],
         },
-        9,
+        "F1, 1 tables\nU9\n",
     ),
     (
         Full {
@@ -146,7 +143,7 @@ const REFUSED: [(Full<'static>, u8); 8] = [
             deletes: &[],
             files: &[("c.csv", b",R1\n"), ("d.csv", b"a.example,R1\n")],
         },
-        9,
+        "F1, 2 tables\nU9\n",
     ),
     (
         Full {
@@ -154,7 +151,7 @@ const REFUSED: [(Full<'static>, u8); 8] = [
             deletes: &[],
             files: &[("c.csv", b"C1,R1\n"), ("d.csv", b"a.example,\xFF,C1\n")],
         },
-        9,
+        "F1, 2 tables\nU9\n",
     ),
     (
         Full {
@@ -162,35 +159,65 @@ const REFUSED: [(Full<'static>, u8); 8] = [
             deletes: &[DELETED_DOMAINS],
             files: &[("gone.csv", b"a.example\n\xFF\n")],
         },
-        9,
+        "F1, 0 tables\nU9\n",
+    ),
+    // Deletes, an object with a child row, and no orphan.
+    (
+        Full {
+            contents: &[DOMAINS, NAME_SERVERS],
+            deletes: &[DELETED_DOMAINS],
+            files: &[
+                ("d.csv", b"a.example,R1,C1\n"),
+                ("ns.csv", b"a.example,ns1.x\n"),
+                ("gone.csv", b"b.example\n"),
+            ],
+        },
+        "F1, 2 tables\nF1, 0 counts\n- Domain b.example\nDomain a.example: domain name=a.example clID=R1 registrant=C1\n  domainNs domainName=a.example hostName=ns1.x\n0 orphans\n",
     ),
 ];
 
-/// Bodies whose frame or envelope is none, and the refusal.
-const UNREADABLE: [(&[u8], u8); 8] = [
-    (b"", 1),
-    (b"escrow-bundle 1\nEnvelope.json 2\n{}\nend\n", 2),
-    (b"escrow-bundle 1\nenvelope.json 1\n{\nX 0\n\nend\n", 2),
+/// Bodies whose frame or envelope is none: the refusal of the envelope and of the deposit.
+static UNREADABLE: [(&[u8], &str); 8] = [
+    (b"", "U1\nU1\n"),
+    (b"escrow-bundle 1\nEnvelope.json 2\n{}\nend\n", "U2\nU2\n"),
+    (
+        b"escrow-bundle 1\nenvelope.json 1\n{\nX 0\n\nend\n",
+        "U2\nU2\n",
+    ),
     (
         b"escrow-bundle 1\nenvelope.json 2\n{}\nenvelope.json 2\n{}\nend\n",
-        3,
+        "U3\nU3\n",
     ),
-    (b"escrow-bundle 1\nenvelope.json 16777217\n", 4),
-    (b"escrow-bundle 1\nenvelope.json 1\n{\nend\n", 5),
-    (b"escrow-bundle 1\nenvelope.json 2\n{}\nend\n", 6),
+    (b"escrow-bundle 1\nenvelope.json 16777217\n", "U4\nU4\n"),
+    (b"escrow-bundle 1\nenvelope.json 1\n{\nend\n", "U5\nU5\n"),
+    (b"escrow-bundle 1\nenvelope.json 2\n{}\nend\n", "U6\nU6\n"),
     (
         b"escrow-bundle 1\nenvelope.json 89\n{\"id\":\"F1\",\"type\":\"FULL\",\"watermark\":\"2024-03-03T00:00:00Z\",\"contents\":[{}],\"deletes\":[]}\nend\n",
-        7,
+        "U7\nU7\n",
     ),
 ];
 
-/// Tables and cells of rows.
-const ROWS: [(&str, &[(&str, &str)]); 2] = [
+/// Contacts by the letters before each one's number and how many there are, whether a deleted domain stands beside them, and
+/// what is said.
+static SIZES: [(u8, u32, bool, &str); 8] = [
+    (254, 1, false, "1 objects"),
+    (254, 1, true, "1 objects"),
+    (255, 1, false, "U10"),
+    (255, 1, true, "U10"),
+    (0, 100_000, false, "100000 objects"),
+    (0, 100_000, true, "U11"),
+    (0, 100_001, false, "U11"),
+    (0, 100_001, true, "U11"),
+];
+
+/// Tables and cells of rows, and how many there are and each of them, up to one behind the last.
+static ROWS: [(&str, &[(&str, &str)], &str); 2] = [
     (
         "contact",
         &[("id", "C1"), ("voice", ""), ("clID", "R\u{e9}1")],
+        "contact 3: id=C1 voice= clID=R\u{e9}1 none\n",
     ),
-    ("idn", &[]),
+    ("idn", &[], "idn 0: none\n"),
 ];
 
 fn joined(alloc: Global, texts: &[&str]) -> Result<String, NoMemory> {
@@ -219,122 +246,84 @@ fn part(alloc: Global, name: &str, bytes: &[u8]) -> Result<(String, Vec<u8>), No
     ))
 }
 
-// The bundle of a Full.
-fn bundle_of(alloc: Global, full: &Full) -> Result<Vec<u8>, Fault> {
-    let envelope = envelope_of(alloc, full)?;
+fn sections_of(alloc: Global, full: &Full) -> Result<Vec<(String, Vec<u8>)>, NoMemory> {
     let mut sections = Vec::new(alloc);
+    let envelope = envelope_of(alloc, full)?;
     sections.push(part(alloc, "envelope.json", envelope.as_bytes())?)?;
     for (name, bytes) in full.files {
         sections.push(part(alloc, name, bytes)?)?;
     }
+    Ok(sections)
+}
+
+// The bundle of a Full.
+fn bundle_of(alloc: Global, full: &Full) -> Result<Vec<u8>, Fault> {
+    let sections = sections_of(alloc, full)?;
     write_bundle(alloc, sections.as_slice())
 }
 
-// The deposit of a Full.
-fn deposit_of(alloc: Global, full: &Full) -> Result<Deposit, Fault> {
-    let body = bundle_of(alloc, full)?;
-    read_deposit(alloc, body.as_slice())
-}
-
-fn push_key(text: &mut String, alloc: Global, key: &Key) -> Result<(), NoMemory> {
+fn push_key(text: &mut String, key: &Key) -> Result<(), NoMemory> {
     let kind = key.kind;
     let name = key.text.as_str();
-    let shown = format!(in alloc; "{kind:?} {name}")?;
-    text.push_str(shown.as_str())?;
+    write!(text, "{kind:?} {name}")?;
     Ok(())
 }
 
 // An object's key and its rows.
-fn push_keyed(
-    text: &mut String,
-    alloc: Global,
-    key: &Key,
-    object: &Object,
-) -> Result<(), NoMemory> {
-    push_key(text, alloc, key)?;
+fn push_keyed(text: &mut String, key: &Key, object: &Object) -> Result<(), NoMemory> {
+    push_key(text, key)?;
     text.push_str(": ")?;
     push_object(text, object)
 }
 
-// The id and how many counts there are; the deletes, the objects with their rows, and the number of orphans, a line each.
-fn shown(alloc: Global, deposit: &Deposit) -> Result<String, NoMemory> {
-    let id = deposit.header.id.as_str();
-    let counts = deposit.counts.len();
-    let mut text = format!(in alloc; "{id}, {counts} counts\n")?;
-    for key in &deposit.deletes {
-        text.push_str("- ")?;
-        push_key(&mut text, alloc, key)?;
-        text.push_str("\n")?;
+// The copies of a key and an object.
+fn push_copy(text: &mut String, alloc: Global, key: &Key, object: &Object) -> Result<(), NoMemory> {
+    let same = key.copy(alloc)?;
+    if same != *key {
+        text.push_str("another key, ")?;
     }
-    for (key, object) in &deposit.contents {
-        push_keyed(&mut text, alloc, key, object)?;
-    }
-    let orphans = deposit.orphans;
-    let last = format!(in alloc; "{orphans} orphans\n")?;
-    text.push_str(last.as_str())?;
-    Ok(text)
+    push_keyed(text, &same, &object.copy(alloc)?)
 }
 
-// Whether the copies of a deposit's keys are equal, and those of its objects have the same texts.
-fn has_equal_copies(alloc: Global, deposit: &Deposit) -> Result<bool, NoMemory> {
-    let mut texts = String::new(alloc);
-    let mut copied = String::new(alloc);
-    let mut are_equal = true;
-    for (key, object) in &deposit.contents {
-        let same = key.copy(alloc)?;
-        are_equal = are_equal && same == *key;
-        push_keyed(&mut texts, alloc, key, object)?;
-        push_keyed(&mut copied, alloc, &same, &object.copy(alloc)?)?;
-    }
-    Ok(are_equal && texts == copied)
-}
-
-// The cells that a row tells, also behind its last one.
-fn cells_of(alloc: Global, row: &Row) -> Result<Vec<(&str, &str)>, NoMemory> {
-    let mut cells = Vec::new(alloc);
-    for at in 0..=row.len() {
-        if let Some(cell) = row.cell(at) {
-            cells.push(cell)?;
+// The objects with their rows, or their copies.
+fn push_contents(
+    text: &mut String,
+    alloc: Global,
+    contents: &BTreeMap<Key, Object>,
+    copied: bool,
+) -> Result<(), NoMemory> {
+    for (key, object) in contents {
+        if copied {
+            push_copy(text, alloc, key, object)?;
+        } else {
+            push_keyed(text, key, object)?;
         }
     }
-    Ok(cells)
+    Ok(())
 }
 
-// So many rows of contacts.
-fn contact_rows(alloc: Global, count: u32) -> Result<Vec<u8>, NoMemory> {
-    let mut rows = Vec::new(alloc);
-    for number in 0..count {
-        let row = format!(in alloc; "C{number},R1\n")?;
-        rows.extend_from_slice(row.as_bytes())?;
+// The id and how many counts there are, and the deletes, a line each.
+fn push_front(text: &mut String, deposit: &Deposit) -> Result<(), NoMemory> {
+    let id = deposit.header.id.as_str();
+    let counts = deposit.counts.len();
+    writeln!(text, "{id}, {counts} counts")?;
+    for key in &deposit.deletes {
+        text.push_str("- ")?;
+        push_key(text, key)?;
+        text.push_str("\n")?;
     }
-    Ok(rows)
+    Ok(())
 }
 
-// How many objects a Full of these contacts has.
-fn objects_of(alloc: Global, contacts: &[u8]) -> Result<usize, Fault> {
-    let full = Full {
-        contents: &[CONTACTS],
-        deletes: &[],
-        files: &[("c.csv", contacts)],
-    };
-    Ok(deposit_of(alloc, &full)?.contents.len())
-}
-
-// How many objects a Full of these contacts and of a deleted domain has.
-fn objects_beside_a_delete(alloc: Global, contacts: &[u8]) -> Result<usize, Fault> {
-    let full = Full {
-        contents: &[CONTACTS],
-        deletes: &[DELETED_DOMAINS],
-        files: &[("c.csv", contacts), ("gone.csv", b"a.example\n")],
-    };
-    Ok(deposit_of(alloc, &full)?.contents.len())
-}
-
-// The row of a contact whose key has so many bytes.
-fn keyed_row(alloc: Global, length: usize) -> Result<Vec<u8>, NoMemory> {
-    let mut row = vec![in alloc; b'x'; length]?;
-    row.extend_from_slice(b",R1\n")?;
-    Ok(row)
+// Id, counts and deletes, the objects or their copies, and the number of orphans.
+fn deposit_told(alloc: Global, body: &[u8], copied: bool) -> Result<String, Fault> {
+    let deposit = read_deposit(alloc, body)?;
+    let mut text = String::new(alloc);
+    push_front(&mut text, &deposit)?;
+    push_contents(&mut text, alloc, &deposit.contents, copied)?;
+    let orphans = deposit.orphans;
+    writeln!(text, "{orphans} orphans")?;
+    Ok(text)
 }
 
 // The id of a body's envelope, and how many tables it has.
@@ -342,144 +331,148 @@ fn envelope_told(alloc: Global, body: &[u8]) -> Result<String, Fault> {
     let envelope = read_bundled_envelope(alloc, body)?;
     let id = envelope.header.id.as_str();
     let tables = envelope.contents.len();
-    Ok(format!(in alloc; "{id}, {tables} tables")?)
+    Ok(format!(in alloc; "{id}, {tables} tables\n")?)
 }
 
-// How many objects, deletes and orphans a deposit has.
-fn numbers_of(alloc: Global, body: &[u8]) -> Result<(usize, usize, u64), Fault> {
-    let deposit = read_deposit(alloc, body)?;
-    Ok((
-        deposit.contents.len(),
-        deposit.deletes.len(),
-        deposit.orphans,
-    ))
-}
-
-#[test]
-fn deposits_are_read(rt: HostRuntime) -> Result<(), Fail> {
-    let alloc = rt.alloc();
-    for (full, text) in &FULLS {
-        let deposit = deposit_of(alloc, full)?;
-        assert_eq!(rt; shown(alloc, &deposit)?.as_str(), *text);
+// What is told, or the refusal.
+fn push_answer(text: &mut String, answer: Result<String, Fault>) -> Result<(), NoMemory> {
+    match answer {
+        Ok(told) => text.push_str(told.as_str())?,
+        Err(Fault::Refused(number)) => writeln!(text, "U{number}")?,
+        Err(Fault::NoMemory) => return Err(NoMemory),
     }
     Ok(())
 }
 
-#[test]
-fn keys_and_objects_are_copied(rt: HostRuntime) -> Result<(), Fail> {
-    let alloc = rt.alloc();
-    for (full, text) in &FULLS {
-        let deposit = deposit_of(alloc, full)?;
-        assert!(rt; has_equal_copies(alloc, &deposit)?, "{text}");
-    }
-    Ok(())
+// What is told of a body's envelope and of its deposit.
+fn told(alloc: Global, body: &[u8], copied: bool) -> Result<String, NoMemory> {
+    let mut text = String::new(alloc);
+    push_answer(&mut text, envelope_told(alloc, body))?;
+    push_answer(&mut text, deposit_told(alloc, body, copied))?;
+    Ok(text)
 }
 
-#[test]
-fn rows_are_made_of_their_cells(rt: HostRuntime) -> Result<(), Fail> {
-    let alloc = rt.alloc();
-    for (table, cells) in ROWS {
-        let row = Row::from_cells(alloc, table, cells)?;
-        for row in &[row.copy()?, row] {
-            let found = cells_of(alloc, row)?;
-            assert_eq!(rt;
-                (row.table(), row.len(), found.as_slice()),
-                (table, cells.len(), cells)
-            );
+fn told_of(alloc: Global, full: &Full, copied: bool) -> Result<String, Fault> {
+    let body = bundle_of(alloc, full)?;
+    Ok(told(alloc, body.as_slice(), copied)?)
+}
+
+// How many objects a body has, or its refusal.
+fn count_told(alloc: Global, full: &Full) -> Result<String, Fault> {
+    let body = bundle_of(alloc, full)?;
+    match read_deposit(alloc, body.as_slice()) {
+        Ok(deposit) => {
+            let count = deposit.contents.len();
+            Ok(format!(in alloc; "{count} objects")?)
+        }
+        Err(fault) => Ok(format!(in alloc; "{fault}")?),
+    }
+}
+
+fn contacts_told(alloc: Global, contacts: &[u8]) -> Result<String, Fault> {
+    let full = Full {
+        contents: &[CONTACTS],
+        deletes: &[],
+        files: &[("c.csv", contacts)],
+    };
+    count_told(alloc, &full)
+}
+
+fn contacts_told_beside_a_delete(alloc: Global, contacts: &[u8]) -> Result<String, Fault> {
+    let full = Full {
+        contents: &[CONTACTS],
+        deletes: &[DELETED_DOMAINS],
+        files: &[("c.csv", contacts), ("gone.csv", b"a.example\n")],
+    };
+    count_told(alloc, &full)
+}
+
+// Rows of contacts whose keys are so many letters and a number.
+fn contact_rows(alloc: Global, letters: u8, count: u32) -> Result<Vec<u8>, NoMemory> {
+    let mut rows = Vec::new(alloc);
+    for number in 0..count {
+        rows.resize(rows.len() + letters as usize, b'x')?;
+        let row = format!(in alloc; "{number},R1\n")?;
+        rows.extend_from_slice(row.as_bytes())?;
+    }
+    Ok(rows)
+}
+
+// What is said of contacts, beside a deleted domain or not.
+fn size_told(alloc: Global, letters: u8, count: u32, beside: bool) -> Result<String, Fault> {
+    let rows = contact_rows(alloc, letters, count)?;
+    if beside {
+        contacts_told_beside_a_delete(alloc, rows.as_slice())
+    } else {
+        contacts_told(alloc, rows.as_slice())
+    }
+}
+
+// A row's table, how many cells it has, and each of them, up to one behind the last.
+fn push_cells(text: &mut String, row: &Row) -> Result<(), NoMemory> {
+    let table = row.table();
+    let count = row.len();
+    write!(text, "{table} {count}:")?;
+    for at in 0..=count {
+        match row.cell(at) {
+            Some((field, cell)) => write!(text, " {field}={cell}")?,
+            None => text.push_str(" none\n")?,
         }
     }
     Ok(())
 }
 
-#[test]
-fn the_least_refusal_is_answered(rt: HostRuntime) -> Result<(), Fail> {
-    let alloc = rt.alloc();
-    for (full, number) in &REFUSED {
-        let fault = deposit_of(alloc, full).err();
-        assert_eq!(rt; fault, Some(Fault::Refused(*number)), "{:?}", full.files);
+// A row of these cells, or its copy.
+fn cells_told(
+    alloc: Global,
+    table: &str,
+    cells: &[(&str, &str)],
+    copied: bool,
+) -> Result<String, NoMemory> {
+    let row = Row::from_cells(alloc, table, cells)?;
+    let mut text = String::new(alloc);
+    if copied {
+        push_cells(&mut text, &row.copy()?)?;
+    } else {
+        push_cells(&mut text, &row)?;
     }
-    Ok(())
+    Ok(text)
 }
 
 #[test]
-fn keys_have_at_most_255_bytes(rt: HostRuntime) -> Result<(), Fail> {
-    let alloc = rt.alloc();
-    for (length, objects) in [(255, Ok(1)), (256, Err(Fault::Refused(10)))] {
-        let row = keyed_row(alloc, length)?;
-        assert_eq!(rt; objects_of(alloc, row.as_slice()), objects, "{length}");
+fn deposits_and_envelopes_are_read(rt: HostRuntime) {
+    for (full, text) in &FULLS {
+        for copied in [false, true] {
+            assert_told(&rt, full.files, told_of(rt.alloc(), full, copied), text);
+        }
     }
-    Ok(())
 }
 
 #[test]
-fn there_are_at_most_100_000_rows(rt: HostRuntime) -> Result<(), Fail> {
-    let alloc = rt.alloc();
-    for (count, objects) in [(100_000, Ok(100_000)), (100_001, Err(Fault::Refused(11)))] {
-        let rows = contact_rows(alloc, count)?;
-        assert_eq!(rt; objects_of(alloc, rows.as_slice()), objects, "{count}");
+fn an_envelope_is_refused_as_its_deposit_is(rt: HostRuntime) {
+    for (body, text) in &UNREADABLE {
+        assert_told(&rt, *body, told(rt.alloc(), body, false), text);
     }
-    let rows = contact_rows(alloc, 100_000)?;
-    assert_eq!(rt;
-        objects_beside_a_delete(alloc, rows.as_slice()),
-        Err(Fault::Refused(11))
-    );
-    Ok(())
 }
 
 #[test]
-fn an_envelope_is_read_whatever_the_rows_have(rt: HostRuntime) -> Result<(), Fail> {
-    let alloc = rt.alloc();
-    let full = Full {
-        contents: &[CONTACTS],
-        deletes: &[],
-        files: &[("c.csv", b"\"C1,R1\n")],
-    };
-    let body = bundle_of(alloc, &full)?;
-    assert_eq!(rt; numbers_of(alloc, body.as_slice()), Err(Fault::Refused(9)));
-    assert_eq!(rt;
-        envelope_told(alloc, body.as_slice())?.as_str(),
-        "F1, 1 tables"
-    );
-    Ok(())
+fn rows_are_made_of_their_cells(rt: HostRuntime) {
+    for (table, cells, text) in &ROWS {
+        for copied in [false, true] {
+            assert_told(
+                &rt,
+                *table,
+                cells_told(rt.alloc(), table, cells, copied),
+                text,
+            );
+        }
+    }
 }
 
 #[test]
-fn an_envelope_is_refused_as_its_deposit_is(rt: HostRuntime) -> Result<(), Fail> {
-    let alloc = rt.alloc();
-    for (body, number) in UNREADABLE {
-        let fault = Some(Fault::Refused(number));
-        assert_eq!(rt;
-            (
-                envelope_told(alloc, body).err(),
-                numbers_of(alloc, body).err()
-            ),
-            (fault, fault),
-            "{number}"
-        );
+fn keys_and_rows_have_limits(rt: HostRuntime) {
+    for (letters, count, beside, text) in &SIZES {
+        let found = size_told(rt.alloc(), *letters, *count, *beside);
+        assert_told(&rt, (*letters, *count, *beside), found, text);
     }
-    Ok(())
-}
-
-#[test]
-fn a_fault_is_answered_where_memory_is_refused(rt: HostRuntime) -> Result<(), Fail> {
-    let alloc = rt.alloc();
-    let full = Full {
-        contents: &[DOMAINS, NAME_SERVERS],
-        deletes: &[DELETED_DOMAINS],
-        files: &[
-            ("d.csv", b"a.example,R1,C1\n"),
-            ("ns.csv", b"a.example,ns1.x\n"),
-            ("gone.csv", b"b.example\n"),
-        ],
-    };
-    let body = bundle_of(alloc, &full)?;
-    match envelope_told(alloc, body.as_slice()) {
-        Ok(told) => assert_eq!(rt; told.as_str(), "F1, 2 tables"),
-        Err(fault) => assert_eq!(rt; fault, Fault::NoMemory),
-    }
-    match numbers_of(alloc, body.as_slice()) {
-        Ok(numbers) => assert_eq!(rt; numbers, (1, 1, 0)),
-        Err(fault) => assert_eq!(rt; fault, Fault::NoMemory),
-    }
-    Ok(())
 }

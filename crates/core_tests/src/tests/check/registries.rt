@@ -24,7 +24,7 @@ pub(crate) type Found = (
 );
 
 /// Objects, a kind, and its export.
-pub(crate) type Export = (&'static [Told], Kind, &'static [u8]);
+pub(crate) type Export = (&'static [Told], Kind, &'static str);
 
 const R1: Told = Told {
     kind: Kind::Registrar,
@@ -331,7 +331,7 @@ V3,host,ns.example,status,inactive,
 ",
 );
 
-pub(crate) const FOUND: [Found; 7] = [
+pub(crate) static FOUND: [Found; 7] = [
     (&[], "1970-01-01T00:00:00Z", &[], ""),
     STATUSES_AND_DATES,
     LINKS_AND_COUNTS,
@@ -371,7 +371,7 @@ const DOMAIN_WITH_CHILDREN: Export = (
         },
     ],
     Kind::Domain,
-    b"kind,key,table,row,field,value
+    "kind,key,table,row,field,value
 domain,e.example,domain,0,name,e.example
 domain,e.example,domain,0,clID,R1
 domain,e.example,domain,0,registrant,C1
@@ -394,13 +394,13 @@ const QUOTED: &[Told] = &[Told {
     children: &[],
 }];
 
-pub(crate) const EXPORTS: [Export; 3] = [
+pub(crate) static EXPORTS: [Export; 3] = [
     DOMAIN_WITH_CHILDREN,
-    (QUOTED, Kind::Nndn, b"kind,key,table,row,field,value\n"),
+    (QUOTED, Kind::Nndn, "kind,key,table,row,field,value\n"),
     (
         QUOTED,
         Kind::Registrar,
-        b"kind,key,table,row,field,value
+        "kind,key,table,row,field,value
 registrar,R1,registrar,0,id,R1
 registrar,R1,registrar,0,name,\"Net, \"\"One\"\"\"
 ",
