@@ -139,11 +139,12 @@ store_schema = record {
   views = [];
 }
 
--- the schema of the first tables of a store, so many, with their indexes
+-- the schema of the first tables of a store, this many, with their indexes
 abbrev pub schema_of : ℕ → Schema
 schema_of count =
     let tables = take count store_schema.tables in
-    record { tables = tables; indexes = filter (λ (i : Index). list_any (λ (t : Table). t.tree == i.table) tables) store_schema.indexes; views = [] }
+    let is_among : Index → Bool = λ i. list_any (λ (t : Table). t.tree == i.table) tables in
+    record { tables = tables; indexes = filter is_among store_schema.indexes; views = [] }
 
 -- the schema before the first CREATE
 abbrev pub no_schema : Schema

@@ -1,4 +1,5 @@
--- The tables of a store that hold its content: every one but `info`. A new table is a case of `StoreTable` and of each function here.
+-- The tables of a store that hold its content: every one but `info`. A new table is a case of
+-- `StoreTable` and of each function here.
 use Rattle.std.specs.Prelude.{ℕ, ℤ, ◌∷◌}
 use Rattle.sqlite_value.specs.declared.value.Value.TheVariants.{Int}
 use Rattle.sqlite_value.specs.Order.{Row}

@@ -8,8 +8,8 @@ ghost use Rattle.esc_rows.specs.Reading.{AreRead};
 use sqlite::{Error, ErrorCode, Row};
 use std::alloc::Global;
 
-/// A value that a row of an answer is read as. What a row is read as is `is_read`; a row that is not of the value's
-/// columns is an error.
+/// A value that can be read from a row of an answer: `is_read` relates a row to its value. A row
+/// without the value's columns is an error.
 pub trait FromRow: Drop {
     ghost is_read: { StoredRow → Self → Type 0 };
 
