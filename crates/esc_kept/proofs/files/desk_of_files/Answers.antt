@@ -1,4 +1,4 @@
-use Rattle.std.proofs.Common.{◌≡◌, sym, subst}
+use Rattle.std.proofs.Common.{sym, subst}
 use Rattle.sqlite.specs.Files.{over_files, image_of}
 use Rattle.esc_desk.specs.Crashes.{IsStoreFor}
 use Rattle.esc_kept.proofs.Founds.{serves_one}

@@ -1,6 +1,4 @@
-use Rattle.std.proofs.Common.{◌≡◌, sym, ap, subst, ◌∙◌}
-use Rattle.sqlite.specs.Held.{Held}
-use Rattle.sqlite_store.specs.declared.store.FileStore.{FileStore}
+use Rattle.std.proofs.Common.{sym, ap, subst, ◌∙◌}
 use Rattle.sqlite.specs.Files.{over_files}
 use Rattle.esc_desk.specs.Crashes.{CrashLeaves}
 use Rattle.esc_kept.proofs.Founds.{images_of}

@@ -1,4 +1,4 @@
-use Rattle.std.proofs.Common.{◌≡◌, sym, subst}
+use Rattle.std.proofs.Common.{sym, subst}
 use Rattle.sqlite.specs.Files.{over_files}
 use Rattle.sqlite.proofs.Callers.{finds_again}
 use Rattle.esc_store.specs.Tables.{IsStore}

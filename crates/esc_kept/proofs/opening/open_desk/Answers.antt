@@ -1,4 +1,4 @@
-use Rattle.std.proofs.Common.{◌≡◌, subst}
+use Rattle.std.proofs.Common.{subst}
 use Rattle.sqlite.specs.Held.{state}
 use Rattle.esc_store.specs.Standing.{IsHonest}
 use Rattle.esc_kept.proofs.Founds.{clean_first}
