@@ -476,3 +476,14 @@ fn keys_and_rows_have_limits(rt: HostRuntime) {
         assert_told(&rt, (*letters, *count, *beside), found, text);
     }
 }
+
+// With ample memory this says less than the test of the same deposits. It is for runs in which an allocation is refused.
+#[test]
+fn a_fault_is_answered_where_memory_is_refused(rt: HostRuntime) {
+    for (full, text) in &FULLS {
+        match told_of(rt.alloc(), full, false) {
+            Ok(found) => assert_eq!(rt; found.as_str(), *text),
+            Err(fault) => assert_eq!(rt; fault, Fault::NoMemory),
+        }
+    }
+}
