@@ -1,36 +1,49 @@
-//! Databases, stores, and the worked rows over a desk whose store is a database in memory.
+//! Desks over databases, and what arrives at them.
 
 mod bodies;
-mod database;
 mod desk;
 mod rows;
+mod seen;
 mod shown;
 mod stops;
-mod store;
 mod walks;
 
 use bodies::{Body, bytes_of, manifest_of};
 use esc_apply::Work;
 use esc_desk::{Desk, Reply, number};
+use esc_manifest::Manifest;
 use esc_store::Store;
 use rows::{Row, Taken};
-use shown::{line_of_reply, text_of_object};
+use shown::{tell_reply, tell_work};
 use sqlite::{Alter, Connection};
 use std::alloc::Global;
 use std::process::Abort;
 use std::test::Fail;
 
-// These have no clause, so that the proof of a test does not carry what each call says of the store.
+// One assertion for all texts: so each test that compares is short.
+fn assert_text(rt: &impl Abort, name: &str, found: &str, expected: &str) {
+    assert_eq!(rt; found, expected, "{name}");
+}
+
 fn create<S: Alter + Drop>(
+    alloc: Global,
+    conn: Connection<S>,
+    manifest: &Manifest,
+) -> Result<Desk<S>, Fail> {
+    match Store::create(alloc, conn, manifest) {
+        Ok(store) => Ok(Desk::open(store)),
+        Err((fault, _)) => Err(Fail::new(fault)),
+    }
+}
+
+// A desk over a new store that lists these bodies.
+fn desk_of<S: Alter + Drop>(
     alloc: Global,
     conn: Connection<S>,
     listed: &[Body],
 ) -> Result<Desk<S>, Fail> {
     let manifest = manifest_of(alloc, listed)?;
-    match Store::create(alloc, conn, &manifest) {
-        Ok(store) => Ok(Desk::open(store)),
-        Err((fault, _)) => Err(Fail::new(fault)),
-    }
+    create(alloc, conn, &manifest)
 }
 
 fn open<S: Alter + Drop>(alloc: Global, conn: Connection<S>) -> Result<Desk<S>, Fail> {
@@ -38,6 +51,14 @@ fn open<S: Alter + Drop>(alloc: Global, conn: Connection<S>) -> Result<Desk<S>, 
         Ok(store) => Ok(Desk::open(store)),
         Err((fault, _)) => Err(Fail::new(fault)),
     }
+}
+
+fn close<S: Alter + Drop>(desk: Desk<S>) -> Connection<S> {
+    desk.into_store().into_connection()
+}
+
+fn writes<S: Alter + Drop>(desk: &Desk<S>) -> u64 {
+    desk.writes()
 }
 
 fn arrive<S: Alter + Drop>(
@@ -51,92 +72,70 @@ fn arrive<S: Alter + Drop>(
     Ok(desk.arrive(alloc, &number, bytes.as_slice())?)
 }
 
-fn assert_texts(rt: &impl Abort, name: &str, found: &[String], expected: &[&str]) {
-    assert_eq!(rt; found.len(), expected.len(), "{name}");
-    for (found, expected) in found.iter().zip(expected) {
-        assert_eq!(rt; found.as_str(), *expected, "{name}");
-    }
-}
-
-// Takes an arrival of a row.
-fn assert_taken<S: Alter + Drop>(
-    rt: &impl Abort,
+// Takes an arrival: its reply and its work, and how many writes the desk counted with it.
+fn tell_arrival<S: Alter + Drop>(
     alloc: Global,
+    text: &mut String,
     desk: &mut Desk<S>,
-    row: &str,
     taken: &Taken,
 ) -> Result<(), Fail> {
-    let before = desk.writes();
+    let before = writes(desk);
     let (reply, work) = arrive(alloc, desk, taken.number, taken.body)?;
-    let line = line_of_reply(alloc, &reply)?;
-    let written = desk.writes().checked_sub(before);
-    let (cleared, undone, applied, writes) = taken.work;
-    let expected = Work {
-        cleared,
-        undone,
-        applied,
-        writes,
-    };
-    assert_eq!(rt;
-        (line.as_str(), work, written),
-        (taken.reply, expected, Some(writes)),
-        "{row}"
-    );
-    Ok(())
+    let counted = writes(desk).saturating_sub(before);
+    tell_reply(text, &reply)?;
+    tell_work(
+        text,
+        (work.cleared, work.undone, work.applied, work.writes),
+        counted,
+    )
 }
 
-fn assert_tables<S: Alter + Drop>(
-    rt: &impl Abort,
-    alloc: Global,
-    desk: &mut Desk<S>,
-    row: &Row,
-) -> Result<(), Fail> {
-    let tables = desk.tables(alloc)?;
-    let mut shown = Vec::new(alloc);
-    for (key, object) in &tables {
-        shown.push(text_of_object(alloc, key, object)?)?;
-    }
-    assert_texts(rt, row.name, shown.as_slice(), row.tables);
-    Ok(())
-}
-
-// The chain of a desk, by the rows of the manifest.
-fn assert_chain<S: Alter + Drop>(
-    rt: &impl Abort,
+// The desk, which is opened again if asked.
+fn before_arrival<S: Alter + Drop>(
     alloc: Global,
     desk: Desk<S>,
-    row: &Row,
-) -> Result<(), Fail> {
-    let mut store = desk.into_store();
-    let steps = store.chain(alloc)?;
-    let listed = store.manifest().rows();
-    assert_eq!(rt; steps.len(), row.chain.len(), "{}", row.name);
-    for (step, at) in steps.iter().zip(row.chain) {
-        let header = &listed.get(*at).ok_or("no row")?.header;
-        assert_eq!(rt;
-            (step.row, step.place, step.resend),
-            (*at, header.place, header.resend),
-            "{}",
-            row.name
-        );
+    opens_again: bool,
+) -> Result<Desk<S>, Fail> {
+    if opens_again {
+        open(alloc, close(desk))
+    } else {
+        Ok(desk)
     }
-    Ok(())
+}
+
+fn take<S: Alter + Drop>(
+    alloc: Global,
+    text: &mut String,
+    desk: Desk<S>,
+    taken: &Taken,
+    opens_again: bool,
+) -> Result<Desk<S>, Fail> {
+    let mut desk = before_arrival(alloc, desk, opens_again)?;
+    tell_arrival(alloc, text, &mut desk, taken)?;
+    Ok(desk)
 }
 
 // Takes a row's arrivals in a new store, which is opened again before each of them if asked.
 fn take_row<S: Alter + Drop>(
-    rt: &impl Abort,
     alloc: Global,
+    text: &mut String,
     conn: Connection<S>,
     row: &Row,
     opens_again: bool,
 ) -> Result<Desk<S>, Fail> {
-    let mut desk = create(alloc, conn, row.listed)?;
+    let mut desk = desk_of(alloc, conn, row.listed)?;
     for taken in row.taken {
-        if opens_again {
-            desk = open(alloc, desk.into_store().into_connection())?;
-        }
-        assert_taken(rt, alloc, &mut desk, row.name, taken)?;
+        desk = take(alloc, text, desk, taken, opens_again)?;
     }
     Ok(desk)
+}
+
+// The desk that took a row's arrivals in a new store.
+fn desk_after<S: Alter + Drop>(
+    alloc: Global,
+    conn: Connection<S>,
+    row: &Row,
+) -> Result<Desk<S>, Fail> {
+    let mut text = String::new(alloc);
+    take_row(alloc, &mut text, conn, row, false)
 }

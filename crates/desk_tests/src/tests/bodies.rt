@@ -4,10 +4,10 @@ use Body::{
     Abc, Both, Cut, D2, D2Resent, D3, D3Unlisted, D6, Domains, Empty, F1, F2, F5, Hosts, I4, Long,
     Many, Orphan, Unequal,
 };
-use esc_bundle::write_bundle;
 use esc_manifest::{Manifest, read_manifest};
 use sha2::{Digest, Sha256};
 use std::alloc::Global;
+use std::fmt::Write;
 use std::test::Fail;
 
 /// A body of the worked rows.
@@ -45,7 +45,7 @@ pub(crate) enum Body {
     Domains,
 }
 
-/// Rows of tables: a table's name and its text.
+/// Tables: of each its name and the text of its rows.
 type Tables = &'static [(&'static str, &'static str)];
 
 // A bundle of one contact, without its last byte.
@@ -63,8 +63,8 @@ fn bytes_alone(body: Body) -> Option<&'static [u8]> {
     }
 }
 
-// What a manifest says of a body: id, type, watermark, previous id and resend.
-fn listed_as(body: Body) -> [&'static str; 5] {
+/// What a manifest says of a body: id, type, watermark, previous id and resend.
+pub(crate) fn listed_as(body: Body) -> [&'static str; 5] {
     match body {
         F1 | Orphan | Unequal | Cut => ["F1", "FULL", "2024-03-03T00:00:00Z", "", "0"],
         D2 | Both => ["D2", "DIFF", "2024-03-04T00:00:00Z", "F1", "0"],
@@ -145,120 +145,167 @@ fn counts_of(body: Body) -> &'static str {
     }
 }
 
-// Kind, role, key field and further fields of a table.
-fn shape(table: &str) -> (&'static str, &'static str, &'static str, &'static str) {
+// The declaration of a table up to its key field, and its further fields.
+fn shape(table: &str) -> (&'static str, &'static str) {
     match table {
-        "registrar" => ("registrar", "parent", "id", ""),
-        "contact" => ("contact", "parent", "id", r#","clID""#),
-        "host" => ("host", "parent", "name", r#","clID""#),
-        "domain" => ("domain", "parent", "name", r#","clID","registrant""#),
-        _ => ("domain", "child", "domainName", r#","hostName""#),
+        "registrar" => (
+            r#"{"name":"registrar","kind":"registrar","role":"parent","key":"id","fields":["id""#,
+            "",
+        ),
+        "contact" => (
+            r#"{"name":"contact","kind":"contact","role":"parent","key":"id","fields":["id""#,
+            r#","clID""#,
+        ),
+        "host" => (
+            r#"{"name":"host","kind":"host","role":"parent","key":"name","fields":["name""#,
+            r#","clID""#,
+        ),
+        "domain" => (
+            r#"{"name":"domain","kind":"domain","role":"parent","key":"name","fields":["name""#,
+            r#","clID","registrant""#,
+        ),
+        _ => (
+            r#"{"name":"domainNs","kind":"domain","role":"child","key":"domainName","fields":["domainName""#,
+            r#","hostName""#,
+        ),
     }
 }
 
-// The declarations of tables. A delete table has keys alone.
-fn declarations(alloc: Global, tables: Tables, are_deletes: bool) -> Result<String, Fail> {
-    let mut text = String::new(alloc);
+// A table's declaration. A delete table has keys alone.
+fn declare(text: &mut String, table: &str, prefix: &str, at: usize) -> Result<(), Fail> {
+    let (begin, more) = shape(table);
+    if at > 0 {
+        text.push_str(",")?;
+    }
+    text.push_str(begin)?;
+    if prefix == "c" {
+        text.push_str(more)?;
+    }
+    write!(text, "],\"file\":\"{prefix}{at}\"}}")?;
+    Ok(())
+}
+
+fn declare_all(text: &mut String, prefix: &str, tables: Tables) -> Result<(), Fail> {
     for (at, (table, _)) in tables.iter().enumerate() {
-        let (kind, role, key, more) = shape(table);
-        let (prefix, more) = if are_deletes { ("d", "") } else { ("c", more) };
-        let comma = if at == 0 { "" } else { "," };
-        let one = format!(in alloc;
-            "{comma}{{\"name\":\"{table}\",\"kind\":\"{kind}\",\"role\":\"{role}\",\"key\":\"{key}\",\"fields\":[\"{key}\"{more}],\"file\":\"{prefix}{at}\"}}"
-        )?;
-        text.push_str(one.as_str())?;
+        declare(text, table, prefix, at)?;
     }
-    Ok(text)
+    Ok(())
 }
 
-fn envelope(alloc: Global, body: Body) -> Result<String, Fail> {
+fn begin_envelope(text: &mut String, body: Body) -> Result<(), Fail> {
     let [id, kind, watermark, prev, listed] = listed_as(body);
     let resend = if body == Unequal { "1" } else { listed };
     let counts = counts_of(body);
-    let (deletes, contents) = tables_of(body);
-    let deletes = declarations(alloc, deletes, true)?;
-    let contents = declarations(alloc, contents, false)?;
-    Ok(format!(in alloc;
-        "{{\"id\":\"{id}\",\"type\":\"{kind}\",\"watermark\":\"{watermark}\",\"prevId\":\"{prev}\",\"resend\":{resend},\"counts\":{{{counts}}},\"deletes\":[{deletes}],\"contents\":[{contents}]}}"
-    )?)
+    write!(
+        text,
+        "{{\"id\":\"{id}\",\"type\":\"{kind}\",\"watermark\":\"{watermark}\",\"prevId\":\"{prev}\",\"resend\":{resend},\"counts\":{{{counts}}},"
+    )?;
+    Ok(())
 }
 
-fn add_files(
+fn envelope(alloc: Global, body: Body) -> Result<String, Fail> {
+    let (deletes, contents) = tables_of(body);
+    let mut text = String::new(alloc);
+    begin_envelope(&mut text, body)?;
+    text.push_str("\"deletes\":[")?;
+    declare_all(&mut text, "d", deletes)?;
+    text.push_str("],\"contents\":[")?;
+    declare_all(&mut text, "c", contents)?;
+    text.push_str("]}")?;
+    Ok(text)
+}
+
+// How many rows a body has of hosts or domains beside those of the text, and what each of them ends with.
+fn numbered_of(body: Body, table: &str) -> Option<(u32, &'static str)> {
+    match body {
+        Many if table == "host" => Some((256, "")),
+        Many if table == "domain" => Some((600, ",C1")),
+        Hosts if table == "host" => Some((60_000, "")),
+        Domains => Some((60_000, ",C1")),
+        _ => None,
+    }
+}
+
+// Rows whose keys are in another order by their bytes.
+fn push_numbered(text: &mut String, count: u32, more: &str) -> Result<(), Fail> {
+    for at in 0..count {
+        write!(text, "n{at}.example,R1{more}\n")?;
+    }
+    Ok(())
+}
+
+fn push_section(bundle: &mut String, name: &str, text: &str) -> Result<(), Fail> {
+    write!(bundle, "{name} {}\n", text.len())?;
+    bundle.push_str(text)?;
+    bundle.push_str("\n")?;
+    Ok(())
+}
+
+fn push_tables(
     alloc: Global,
-    sections: &mut Vec<(String, Vec<u8>)>,
+    bundle: &mut String,
+    body: Body,
     prefix: &str,
     tables: Tables,
 ) -> Result<(), Fail> {
-    for (at, (_, text)) in tables.iter().enumerate() {
+    for (at, (table, rows)) in tables.iter().enumerate() {
         let name = format!(in alloc; "{prefix}{at}")?;
-        let bytes = Vec::from_slice(alloc, text.as_bytes())?;
-        sections.push((name, bytes))?;
+        let mut text = String::from_str(alloc, rows)?;
+        if let Some((count, more)) = numbered_of(body, table) {
+            push_numbered(&mut text, count, more)?;
+        }
+        push_section(bundle, name.as_str(), text.as_str())?;
     }
     Ok(())
 }
 
-// The sections of a body that have rows of so many hosts or domains, and what each row ends with.
-fn masses_of(body: Body) -> &'static [(usize, u32, &'static str)] {
-    match body {
-        Many => &[(2, 256, ""), (3, 600, ",C1")],
-        Hosts => &[(2, 60_000, "")],
-        Domains => &[(1, 60_000, ",C1")],
-        _ => &[],
-    }
-}
-
-// The rows of so many hosts or domains, whose keys are in another order by their bytes.
-fn add_rows(
-    alloc: Global,
-    section: Option<&mut (String, Vec<u8>)>,
-    count: u32,
-    more: &str,
-) -> Result<(), Fail> {
-    let (_, bytes) = section.ok_or("no section")?;
-    for at in 0..count {
-        let row = format!(in alloc; "n{at}.example,R1{more}\n")?;
-        bytes.extend_from_slice(row.as_bytes())?;
-    }
-    Ok(())
+// The bundle that a body is.
+fn bundle(alloc: Global, body: Body) -> Result<String, Fail> {
+    let (deletes, contents) = tables_of(body);
+    let envelope = envelope(alloc, body)?;
+    let mut bundle = String::from_str(alloc, "escrow-bundle 1\n")?;
+    push_section(&mut bundle, "envelope.json", envelope.as_str())?;
+    push_tables(alloc, &mut bundle, body, "d", deletes)?;
+    push_tables(alloc, &mut bundle, body, "c", contents)?;
+    bundle.push_str("end\n")?;
+    Ok(bundle)
 }
 
 /// The bytes of a body.
 pub(crate) fn bytes_of(alloc: Global, body: Body) -> Result<Vec<u8>, Fail> {
-    if let Some(bytes) = bytes_alone(body) {
-        return Ok(Vec::from_slice(alloc, bytes)?);
+    match bytes_alone(body) {
+        Some(bytes) => Ok(Vec::from_slice(alloc, bytes)?),
+        None => Ok(bundle(alloc, body)?.into_bytes()),
     }
-    let envelope = envelope(alloc, body)?;
-    let name = String::from_str(alloc, "envelope.json")?;
-    let mut sections = Vec::new(alloc);
-    sections.push((name, Vec::from_slice(alloc, envelope.as_bytes())?))?;
-    let (deletes, contents) = tables_of(body);
-    add_files(alloc, &mut sections, "d", deletes)?;
-    add_files(alloc, &mut sections, "c", contents)?;
-    for (at, count, more) in masses_of(body) {
-        add_rows(alloc, sections.get_mut(*at), *count, more)?;
+}
+
+fn push_line(alloc: Global, text: &mut String, body: Body) -> Result<(), Fail> {
+    let [id, kind, watermark, prev, resend] = listed_as(body);
+    write!(text, "{id},{kind},{watermark},{prev},{resend},")?;
+    let bytes = bytes_of(alloc, body)?;
+    for byte in Sha256::digest(bytes.as_slice()) {
+        write!(text, "{byte:02x}")?;
     }
-    Ok(write_bundle(alloc, sections.as_slice())?)
+    Ok(())
 }
 
 /// The row of a manifest that lists a body.
 pub(crate) fn line_of(alloc: Global, body: Body) -> Result<String, Fail> {
-    let [id, kind, watermark, prev, resend] = listed_as(body);
-    let mut line = format!(in alloc; "{id},{kind},{watermark},{prev},{resend},")?;
-    let bytes = bytes_of(alloc, body)?;
-    for byte in Sha256::digest(bytes.as_slice()) {
-        let digits = format!(in alloc; "{byte:02x}")?;
-        line.push_str(digits.as_str())?;
-    }
+    let mut line = String::new(alloc);
+    push_line(alloc, &mut line, body)?;
     Ok(line)
+}
+
+fn read(alloc: Global, text: &str) -> Result<Manifest, Fail> {
+    Ok(read_manifest(alloc, text.as_bytes())?)
 }
 
 /// The manifest that lists these bodies.
 pub(crate) fn manifest_of(alloc: Global, bodies: &[Body]) -> Result<Manifest, Fail> {
     let mut text = String::from_str(alloc, "id,type,watermark,prevId,resend,sha256\n")?;
     for body in bodies {
-        let line = line_of(alloc, *body)?;
-        text.push_str(line.as_str())?;
+        push_line(alloc, &mut text, *body)?;
         text.push_str("\n")?;
     }
-    Ok(read_manifest(alloc, text.as_bytes())?)
+    read(alloc, text.as_str())
 }

@@ -35,13 +35,13 @@ const NO_WORK: (bool, u32, u32, u64) = (false, 0, 0, 0);
 
 const B: &[Body] = &[F1, D2, D3, I4, F5, D6, D2Resent];
 
-const R1: &str = "registrar R1: registrar id=R1";
+pub(crate) const R1: &str = "registrar R1: registrar id=R1";
 
 const C1: &str = "contact C1: contact id=C1 clID=R1";
 
-const DOMAIN_A: &str = "domain a.example: domain name=a.example clID=R1 registrant=C1";
+pub(crate) const DOMAIN_A: &str = "domain a.example: domain name=a.example clID=R1 registrant=C1";
 
-const DOMAIN_B: &str = "domain b.example: domain name=b.example clID=R1 registrant=C1";
+pub(crate) const DOMAIN_B: &str = "domain b.example: domain name=b.example clID=R1 registrant=C1";
 
 const DOMAIN_C: &str = "domain c.example: domain name=c.example clID=R1 registrant=C1";
 
@@ -54,14 +54,19 @@ const DOMAIN_E: &str =
 
 const DOMAIN_F: &str = "domain f.example: domain name=f.example clID=R1 registrant=C9";
 
-const TAKEN_F1: Taken = Taken {
+/// What stood at a.example before step 3: f1's domain as a record, which is its rows, and of each its table, cells, fields and
+/// texts, with their numbers and lengths.
+pub(crate) const IMAGE_OF_A: &str =
+    "3 3 a.example \0\0\0\x01\0\0\0\x06domain\0\0\0\x03\0\0\0\x04name\0\0\0\x09a.example\0\0\0\x04clID\0\0\0\x02R1\0\0\0\x0aregistrant\0\0\0\x02C1";
+
+pub(crate) const TAKEN_F1: Taken = Taken {
     number: "1",
     body: F1,
     reply: "1,1,A1,,F1,0,new,0",
     work: (false, 0, 1, 3),
 };
 
-const TAKEN_D2: Taken = Taken {
+pub(crate) const TAKEN_D2: Taken = Taken {
     number: "2",
     body: D2,
     reply: "2,2,A1,,D2,0,new,0",
@@ -175,8 +180,7 @@ pub(crate) const NO_ARRIVALS: Row = Row {
     tables: &[],
 };
 
-/// The worked rows.
-pub(crate) const ROWS: [Row; 20] = [
+const ROWS: &[Row] = &[
     NO_ARRIVALS,
     Row {
         name: "a Full",
@@ -450,3 +454,9 @@ pub(crate) const ROWS: [Row; 20] = [
         tables: &[],
     },
 ];
+
+/// The worked rows.
+// A function, so that the proof of one that goes over them has not all of them in it.
+pub(crate) fn rows() -> &'static [Row] {
+    ROWS
+}

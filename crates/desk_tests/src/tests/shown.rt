@@ -1,93 +1,136 @@
-//! Replies, tables and numbers as texts.
+//! Replies, objects and numbers as texts.
 
 use esc_desk::{Reply, Status, Verdict};
-use esc_envelope::{Kind, watermark_text};
+use esc_envelope::{Kind, Place, watermark_text};
 use esc_tables::{Key, Object, Row};
 use std::alloc::Global;
-use std::fmt::Display;
+use std::collections::BTreeMap;
+use std::fmt::{Display, Write};
 use std::test::Fail;
 
-// A value if there is one.
-fn shown_if<T: Display + Copy>(alloc: Global, value: Option<T>) -> Result<String, Fail> {
-    match value {
-        Some(value) => Ok(format!(in alloc; "{value}")?),
-        None => Ok(String::new(alloc)),
-    }
-}
-
-/// Receipt, number, verdict, fault, id, resend, copy and orphans of a reply.
-pub(crate) fn line_of_reply(alloc: Global, reply: &Reply) -> Result<String, Fail> {
-    let receipt = reply.receipt;
-    let number = reply.number.as_str();
-    let (verdict, fault) = match reply.verdict {
-        Verdict::A1 => ("A1", None),
-        Verdict::A2 => ("A2", None),
-        Verdict::A3(fault) => ("A3", Some(fault)),
-        Verdict::A4 => ("A4", None),
-    };
-    let letter = if fault.is_some() { "U" } else { "" };
-    let fault = shown_if(alloc, fault)?;
-    let id = match &reply.id {
-        Some(id) => id.as_str(),
-        None => "",
-    };
-    let resend = shown_if(alloc, reply.resend)?;
-    let copy = match reply.again {
-        Some(true) => "again",
-        Some(false) => "new",
-        None => "",
-    };
-    let orphans = shown_if(alloc, reply.orphans)?;
-    Ok(format!(in alloc;
-        "{receipt},{number},{verdict},{letter}{fault},{id},{resend},{copy},{orphans}"
-    )?)
-}
-
-fn push_row(text: &mut String, row: &Row) -> Result<(), Fail> {
-    text.push_str(row.table())?;
-    for at in 0..row.len() {
-        let (field, cell) = row.cell(at).ok_or("no cell")?;
-        text.push_str(" ")?;
-        text.push_str(field)?;
-        text.push_str("=")?;
-        text.push_str(cell)?;
+/// Lines, each with its end.
+pub(crate) fn tell_lines(text: &mut String, lines: &[&str]) -> Result<(), Fail> {
+    for line in lines {
+        writeln!(text, "{line}")?;
     }
     Ok(())
 }
 
-/// Kind, key and rows of an object.
-pub(crate) fn text_of_object(alloc: Global, key: &Key, object: &Object) -> Result<String, Fail> {
-    let kind = key.kind.name();
-    let name = key.text.as_str();
-    let mut text = format!(in alloc; "{kind} {name}: ")?;
-    push_row(&mut text, &object.parent)?;
-    for child in &object.children {
-        text.push_str("; ")?;
-        push_row(&mut text, child)?;
-    }
+/// The text of lines.
+pub(crate) fn text_of(alloc: Global, lines: &[&str]) -> Result<String, Fail> {
+    let mut text = String::new(alloc);
+    tell_lines(&mut text, lines)?;
     Ok(text)
 }
 
+// A value if there is one.
+fn tell_if<T: Display + Drop>(text: &mut String, value: Option<T>) -> Result<(), Fail> {
+    if let Some(value) = value {
+        write!(text, "{value}")?;
+    }
+    Ok(())
+}
+
+// A verdict, and the fault after a comma.
+fn tell_verdict(text: &mut String, verdict: Verdict) -> Result<(), Fail> {
+    match verdict {
+        Verdict::A1 => text.push_str("A1,")?,
+        Verdict::A2 => text.push_str("A2,")?,
+        Verdict::A3(fault) => write!(text, "A3,U{fault}")?,
+        Verdict::A4 => text.push_str("A4,")?,
+    }
+    Ok(())
+}
+
+fn copy_of(again: Option<bool>) -> &'static str {
+    match again {
+        Some(true) => "again",
+        Some(false) => "new",
+        None => "",
+    }
+}
+
+/// Receipt, number, verdict, fault, id, resend, copy and orphans of a reply, with no end of line.
+pub(crate) fn tell_reply(text: &mut String, reply: &Reply) -> Result<(), Fail> {
+    write!(text, "{},{},", reply.receipt, reply.number.as_str())?;
+    tell_verdict(text, reply.verdict)?;
+    write!(text, ",{},", reply.id.as_deref().unwrap_or(""))?;
+    tell_if(text, reply.resend)?;
+    write!(text, ",{},", copy_of(reply.again))?;
+    tell_if(text, reply.orphans)
+}
+
+/// The end of a reply's line: whether all was cleared, steps taken back, steps applied, writes, and how many were counted.
+pub(crate) fn tell_work(
+    text: &mut String,
+    work: (bool, u32, u32, u64),
+    counted: u64,
+) -> Result<(), Fail> {
+    let (cleared, undone, applied, writes) = work;
+    writeln!(
+        text,
+        "; cleared {cleared}, {undone} undone, {applied} applied, {writes} written, {counted} counted"
+    )?;
+    Ok(())
+}
+
+fn tell_cells(text: &mut String, row: &Row) -> Result<(), Fail> {
+    text.push_str(row.table())?;
+    for at in 0..row.len() {
+        let (field, cell) = row.cell(at).ok_or("no cell")?;
+        write!(text, " {field}={cell}")?;
+    }
+    Ok(())
+}
+
+/// A line of an object: kind, key and rows.
+pub(crate) fn tell_object(text: &mut String, key: &Key, object: &Object) -> Result<(), Fail> {
+    write!(text, "{} {}: ", key.kind.name(), key.text.as_str())?;
+    tell_cells(text, &object.parent)?;
+    for child in &object.children {
+        text.push_str("; ")?;
+        tell_cells(text, child)?;
+    }
+    text.push_str("\n")?;
+    Ok(())
+}
+
+/// The moment and the type of a deposit, and its resend.
+pub(crate) fn tell_place(
+    alloc: Global,
+    text: &mut String,
+    place: Place,
+    resend: u32,
+) -> Result<(), Fail> {
+    let moment = watermark_text(alloc, place.watermark)?.ok_or("no moment")?;
+    writeln!(text, "{moment} {} {resend}", place.kind.name())?;
+    Ok(())
+}
+
+fn tell_end(alloc: Global, text: &mut String, end: Option<(Place, u32)>) -> Result<(), Fail> {
+    text.push_str("end ")?;
+    match end {
+        Some((place, resend)) => tell_place(alloc, text, place, resend),
+        None => Ok(text.push_str("none\n")?),
+    }
+}
+
+/// A line for each kind that has a count.
+pub(crate) fn tell_counts(text: &mut String, counts: &BTreeMap<Kind, u64>) -> Result<(), Fail> {
+    for (kind, count) in counts {
+        writeln!(text, "{} {count}", kind.name())?;
+    }
+    Ok(())
+}
+
 /// The eleven numbers of a status, a line each.
-pub(crate) fn text_of_status(alloc: Global, status: &Status) -> Result<String, Fail> {
+pub(crate) fn tell_status(alloc: Global, text: &mut String, status: &Status) -> Result<(), Fail> {
     let (listed, held) = (status.listed, status.held);
     let (receipts, chain) = (status.receipts, status.chain);
-    let mut text = format!(in alloc;
-        "listed {listed}\nheld {held}\nreceipts {receipts}\nchain {chain}\n"
+    writeln!(
+        text,
+        "listed {listed}\nheld {held}\nreceipts {receipts}\nchain {chain}"
     )?;
-    match status.end {
-        Some((place, resend)) => {
-            let moment = watermark_text(alloc, place.watermark)?.ok_or("no moment")?;
-            let kind = place.kind.name();
-            let end = format!(in alloc; "end {moment} {kind} {resend}\n")?;
-            text.push_str(end.as_str())?;
-        }
-        None => text.push_str("end none\n")?,
-    }
-    for (kind, count) in &status.objects {
-        let name = kind.name();
-        let line = format!(in alloc; "{name} {count}\n")?;
-        text.push_str(line.as_str())?;
-    }
-    Ok(text)
+    tell_end(alloc, text, status.end)?;
+    tell_counts(text, &status.objects)
 }
