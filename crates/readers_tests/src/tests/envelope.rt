@@ -338,11 +338,17 @@ fn push_envelope(text: &mut String, alloc: Global, envelope: &Envelope) -> Resul
     push_tables(text, "-", &envelope.deletes)
 }
 
+fn push_length(text: &mut String, json: &str) -> Result<(), NoMemory> {
+    let length = json.len();
+    writeln!(text, "{length} bytes")?;
+    Ok(())
+}
+
 // What an envelope says.
 fn told(alloc: Global, json: &str) -> Result<String, Fault> {
     let envelope = read_envelope(alloc, json.as_bytes())?;
-    let length = json.len();
-    let mut text = format!(in alloc; "{length} bytes\n")?;
+    let mut text = String::new(alloc);
+    push_length(&mut text, json)?;
     push_envelope(&mut text, alloc, &envelope)?;
     Ok(text)
 }
