@@ -7,11 +7,15 @@ import os, subprocess
 TOP = os.path.dirname(os.path.dirname(os.path.abspath(__file__)))
 
 
+def uses():
+    """The crates in the order of crates.txt, lowest first, each with the libraries that it names."""
+    lines = [it for it in open(f'{TOP}/crates.txt').read().splitlines() if it and not it.startswith('#')]
+    return {name.split()[0]: rest.split() for name, _, rest in (it.partition(':') for it in lines)}
+
+
 def libraries():
     """The crates in the order of crates.txt, lowest first, each with all crates of the repository that are below it."""
-    lines = [it for it in open(f'{TOP}/crates.txt').read().splitlines() if it and not it.startswith('#')]
-    listed = {name.split()[0]: rest.split() for name, _, rest in (it.partition(':') for it in lines)}
-    below = {}
+    listed, below = uses(), {}
     for name, rest in listed.items():
         own = [it for it in rest if it in listed]
         below[name] = [it for it in below if it in own or any(it in below[lower] for lower in own)]

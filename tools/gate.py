@@ -1,12 +1,17 @@
 #!/usr/bin/env python3
-"""gate.py: runs the gate, `rt ci`, and says what it cost.
+"""gate.py: runs the gate, and says what it cost.
 
-It prints what `rt ci` prints, then a table as in docs/GATE.md, and at last the gate's last line, 'N passed, M failed'. The table has
-processor seconds for each crate's proof, tests and wrong bodies, as /proc shows them once a second (what lives shorter is in the sum
-alone); below it stand the whole gate's time, its processor minutes and the most memory that was in use beyond that at its start."""
-import os, re, resource, subprocess, sys, threading, time
+`rt ci` proves each crate and its tests from nothing and runs the tests and the program, in a copy of the tree without the wrong
+bodies. These are then tried over the libraries that it built, as tools/wrong_bodies.py says: `rt ci` would check a crate once more
+for each of them. What was built is moved to the tree. It prints what `rt ci` prints, the verdict on each wrong body, a table as in
+docs/GATE.md, and at last 'N passed, M failed', the sums of both. The table has processor seconds for each crate's proof, tests and
+wrong bodies, as /proc shows them once a second (what lives shorter is in the sum alone); below it stand the whole gate's time, its
+processor minutes and the most memory that was in use beyond that at its start."""
+import os, re, resource, shutil, subprocess, sys, tempfile, threading, time
 
-TOP = os.path.dirname(os.path.dirname(os.path.abspath(__file__)))
+from crates import TOP, libraries
+from wrong_bodies import edits_of, tried
+
 TICK = os.sysconf('SC_CLK_TCK')
 PARTS = ('proof', 'tests', 'edits')
 
@@ -25,7 +30,7 @@ def part_of(pid):
     if '--crate-name' not in words:
         return None
     crate, folder = words[words.index('--crate-name') + 1], os.readlink(f'/proc/{pid}/cwd')
-    return crate, 'edits' if '/rt-edit-' in folder else 'tests' if '--test' in words else 'proof'
+    return crate, 'edits' if '/wrong-bodies-' in folder else 'tests' if '--test' in words else 'proof'
 
 
 class Watch:
@@ -61,24 +66,110 @@ class Watch:
         sums = {}
         for key, seconds in self.seconds.items():
             sums[self.parts[key]] = sums.get(self.parts[key], 0) + seconds
-        with open(f'{TOP}/crates.txt') as file:
-            crates = [it.partition(':')[0].split()[0] for it in file if it.strip() and not it.startswith('#')]
         lines = ['| Crate | Proof | Tests | Wrong bodies |', '|---|---|---|---|']
-        lines += [f'| `{crate}` | ' + ' | '.join(f'{sums.get((crate, part), 0):.0f}' for part in PARTS) + ' |' for crate in crates]
+        lines += [f'| `{crate}` | ' + ' | '.join(f'{sums.get((crate, part), 0):.0f}' for part in PARTS) + ' |' for crate in libraries()]
         spent = resource.getrusage(resource.RUSAGE_CHILDREN)
         lines.append(f'\n{(time.monotonic() - self.begun) / 60:.0f} minutes, {(spent.ru_utime + spent.ru_stime) / 60:.0f} processor minutes, '
                      f'{os.environ.get("RT_JOBS", "-")} lanes, {self.memory / 1_000_000:.1f} GB at most')
         return '\n'.join(lines)
 
 
-def main():
-    watch, last = Watch(), ''
-    with subprocess.Popen(['rt', 'ci'], cwd=TOP, stdin=subprocess.DEVNULL, stdout=subprocess.PIPE, stderr=subprocess.STDOUT) as gate:
+def copied_tree(tree):
+    """Copies the repository to a folder, without wrong bodies and without what earlier runs kept."""
+    for name in ('crates.txt', 'HANDLES'):
+        shutil.copy(f'{TOP}/{name}', f'{tree}/{name}')
+    shutil.copytree(f'{TOP}/crates', f'{tree}/crates', symlinks=True, ignore=lambda folder, _: {'out', 'must-fail', 'plants'})
+
+
+class WrongBodies:
+    """Tries the wrong bodies of each crate over the libraries of a tree, the crates with the most of them first, in as many lanes as
+    it is given. A crate's turn comes once `rt ci` has proved it."""
+
+    def __init__(self, tree, lanes):
+        self.tree, self.edits = tree, {it: edits_of(it, 'must-fail') for it in libraries()}
+        self.left = sorted((it for it in self.edits if self.edits[it]), key=lambda it: -len(self.edits[it]))
+        self.proved, self.free, self.is_over, self.changed = set(), 0, False, threading.Condition()
+        self.counts = []
+        self.lanes = [threading.Thread(target=self.run) for _ in range(lanes)]
+        for lane in self.lanes:
+            lane.start()
+
+    def note(self, crates, lanes):
+        """Takes note of crates that are proved, and of lanes that are free."""
+        with self.changed:
+            self.proved.update(crates)
+            self.free += lanes
+            self.changed.notify_all()
+
+    def next(self):
+        """The crate that a lane is to try, once there is one; None where no one is left."""
+        with self.changed:
+            self.changed.wait_for(lambda: self.is_over or self.free > 0)
+            self.free -= 1
+            self.changed.wait_for(lambda: self.is_over or not self.left or self.proved.intersection(self.left))
+            crate = next((it for it in self.left if it in self.proved), None)
+            if crate:
+                self.left.remove(crate)
+            return crate
+
+    def run(self):
+        while crate := self.next():
+            verdicts = tried(self.tree, crate, self.edits[crate])
+            with self.changed:
+                for name, verdict in sorted(verdicts.items()):
+                    said = 'refused, as it must be' if verdict.is_refused else 'NOT REFUSED'
+                    print(f'must-fail {crate}/{name}: {said}: {verdict.why[:200]}', flush=True)
+                    self.counts.append(verdict.is_refused)
+                self.free += 1
+
+    def ended(self):
+        """Waits until all are tried; how many were refused, and how many were not or could not be tried."""
+        with self.changed:
+            self.is_over = True
+            self.changed.notify_all()
+        for lane in self.lanes:
+            lane.join()
+        refused = sum(self.counts)
+        return refused, sum(map(len, self.edits.values())) - refused
+
+
+def has_tests(crate):
+    return any('#[test]' in open(f'{at}/{name}').read() for at, _, names in os.walk(f'{TOP}/crates/{crate}/src') for name in names)
+
+
+def proved(tree, lanes, bodies):
+    """Runs `rt ci` in a tree, prints what it prints but its last line, and gives the numbers of that line. It lends the lanes that
+    are idle at its end to the wrong bodies."""
+    last, left = '', len(libraries()) + sum(map(has_tests, libraries()))
+    with subprocess.Popen(['rt', 'ci'], cwd=tree, stdin=subprocess.DEVNULL, stdout=subprocess.PIPE, stderr=subprocess.STDOUT) as gate:
         for line in gate.stdout:
             print(last, end='', flush=True)
             last = line.decode(errors='replace')
-    print(f'{watch.table()}\n{last}', end='', flush=True)
-    return gate.returncode
+            if done := re.match(r'rt: (\w+)(: its tests are)? (NOT PROVED|proved)', last):
+                left -= 1
+                bodies.note([done[1]] if done[3] == 'proved' and not done[2] else [], 1 if left < lanes else 0)
+    found = re.fullmatch(r'(\d+) passed, (\d+) failed\s*', last)
+    if not found:
+        print(last, end='', flush=True)
+    return (int(found[1]), int(found[2])) if found else (0, 1)
+
+
+def main():
+    watch, lanes = Watch(), int(os.environ.get('RT_JOBS') or os.cpu_count() or 1)
+    with tempfile.TemporaryDirectory(prefix='gate-') as tree:
+        # `rt ci` runs programs as another user, who must be able to come this far.
+        os.chmod(tree, 0o755)
+        copied_tree(tree)
+        bodies = WrongBodies(tree, lanes)
+        passed, failed = proved(tree, lanes, bodies)
+        refused, through = bodies.ended()
+        passed, failed = passed + refused, failed + through
+        for crate in libraries():
+            if os.path.isdir(f'{tree}/crates/{crate}/out'):
+                shutil.rmtree(f'{TOP}/crates/{crate}/out', ignore_errors=True)
+                shutil.move(f'{tree}/crates/{crate}/out', f'{TOP}/crates/{crate}/out')
+    print(f'{watch.table()}\n{passed} passed, {failed} failed', flush=True)
+    return 1 if failed else 0
 
 
 sys.exit(main())

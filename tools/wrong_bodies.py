@@ -1,0 +1,215 @@
+"""Wrong bodies: edits of a crate that its prover must refuse.
+
+An edit is a file with lines 'file: PATH', 'old: TEXT' and 'new: TEXT'; each old text occurs once in its file. Edits of different
+functions are made together in one copy of the crate, and one check is asked for just these functions: what it says of each function
+is the verdict on its edit. A function's proof rests on the contracts of those that it calls and not on their bodies, so that one
+wrong body hides no other. What isn't refused so is tried alone, and at last with a check of the whole crate."""
+import os, re, shutil, subprocess, tempfile
+from dataclasses import dataclass
+
+from crates import TOP, libraries, uses
+
+# What the prover says of a text that it can't read, so that no contract was tried.
+UNREAD = re.compile(r'is not in scope|has no field|is no name|operand is missing|expected the end|cannot continue')
+# What it says of an answer that names a step which the edit took away.
+NAMES = re.compile(r'(\./)?proofs/.*(has no field|is not in scope|has no `|was not admitted)')
+
+
+@dataclass
+class Function:
+    """A function of a crate: what a check is asked for, and what its name in the check's lines looks like."""
+    asked: str
+    line: re.Pattern
+
+
+@dataclass
+class Edit:
+    """An edit: the changes of its file's texts, and the functions that it changes (None where it changes what is in no function)."""
+    name: str
+    changes: list
+    functions: list
+
+
+@dataclass
+class Verdict:
+    is_refused: bool
+    why: str
+
+
+def edits_of(crate, kind):
+    folder = f'{TOP}/crates/{crate}/{kind}'
+    names = sorted(os.listdir(folder)) if os.path.isdir(folder) else []
+    return [f'{folder}/{it}' for it in names if it.endswith('.edit')]
+
+
+def changes_of(path):
+    """The changes of an edit: file, old text, new text."""
+    changes, file, old = [], None, None
+    with open(path) as text:
+        for line in text.read().split('\n'):
+            word, _, rest = line.partition(':')
+            rest = rest.removeprefix(' ')
+            if word == 'file':
+                file = rest.strip()
+            elif word == 'old':
+                old = rest
+            elif word == 'new':
+                changes.append((file, old, rest))
+    if not changes:
+        raise ValueError('it changes nothing')
+    return changes
+
+
+def function_at(crate, file, text, at):
+    """The function of a .rt file in which a place stands; None where it stands in none."""
+    if not file.startswith('src/') or not file.endswith('.rt'):
+        return None
+    found, block = None, ''
+    for line in text[:text.index('\n', at)].split('\n'):
+        header = re.match(r'(?:unsafe )?impl\b(?:<.*?>)? ?(?:(.*) for )?(?:&(?:mut )?)?(\w+)|(?:pub(?:\([a-z]+\))? )?trait (\w+)', line)
+        item = re.match(r'( *)(?:pub(?:\([a-z]+\))? )?(?:const )?fn (\w+)', line)
+        if header:
+            block, is_trait = header[2] or header[3], bool(header[1] or header[3])
+        elif item:
+            found = (item[2], block if item[1] else '', bool(item[1]) and is_trait)
+        elif line.startswith('}'):
+            block, found = '', None
+        elif line and not line[0].isspace() and not line.startswith(('{', '//', '#', ')', 'where')):
+            found = None
+    if not found:
+        return None
+    name, block, is_trait = found
+    module = '::'.join([crate, *(it for it in file[len('src/'):-len('.rt')].split('/') if it not in ('lib', 'main', 'mod'))])
+    if is_trait:
+        return Function(module, re.compile(rf'fn {module}::{block}\w*::{name}\b'))
+    inner = f'{block}::{name}' if block else name
+    closure = rf'{block}::fn::{name}' if block else rf'fn::{name}'
+    return Function(f'{module}::{inner}', re.compile(rf'fn {module}::(?:{inner}|(?:{closure}|fn::{inner})::\S+):'))
+
+
+def read_edit(crate, folder, path):
+    changes, functions = changes_of(path), []
+    for file, old, _ in changes:
+        with open(f'{folder}/{file}') as it:
+            text = it.read()
+        if text.count(old) != 1:
+            raise ValueError(f'its old text is in {file} {text.count(old)} times')
+        functions.append(function_at(crate, file, text, text.index(old)))
+    return Edit(os.path.basename(path), changes, functions)
+
+
+def check_words(tree, crate):
+    """The command that checks the crate in the current folder over the libraries of a tree, as `rt` calls it."""
+    kit = os.path.dirname(os.path.dirname(os.path.realpath(shutil.which('rt'))))
+    listed = uses()
+    rlib = {it: f'{tree}/crates/{it}/out/rlib' for it in libraries()[crate]}
+    words = [f'{kit}/bin/rattle', 'check', '--crate-name', crate, 'src/lib.rt', '--extern', f'std={kit}/rlibs/std.rlib']
+    for name in listed[crate]:
+        words += ['--extern', f'{name}={rlib.get(name, kit + "/rlibs")}/{name}.rlib']
+    for folder in (f'{kit}/rlibs', *rlib.values()):
+        words += ['-L', f'dependency={folder}']
+    words += ['--antt-project', f'{kit}/rattle/logic/antt-project.json', '--logic-built', f'{kit}/logic_built']
+    return [*words, '--links', f'{crate}=', '--jobs', '1', '--incremental', 'out/incremental']
+
+
+def reason(line, lines):
+    """Why a function isn't proved: what its line says, or the first error in its answers that isn't only about a step's name."""
+    name = line.split()[1].rstrip(':').partition('::')[2].replace('::', '/')
+    errors = [it for it in lines if re.match(rf'\./proofs/{re.escape(name)}/\S+: error', it)]
+    told = next((it for it in errors if not NAMES.match(it)), None)
+    if errors and not told:
+        return f'only because an answer names what the edit took away: {errors[0]}'
+    return re.sub(r'; it (calls|passes) .*', '', line) + (f': {told}' if told else '')
+
+
+class Room:
+    """A copy of a crate in which edits are tried, with what its checks keep. `tree` is the repository, or a copy of it, whose
+    folders crates/NAME/out/rlib hold the libraries below as they are built."""
+
+    def __init__(self, tree, crate, folder):
+        self.crate, self.folder, self.words = crate, folder, check_words(tree, crate)
+        for part in ('src', 'specs', 'proofs', 'out/incremental'):
+            if os.path.isdir(f'{tree}/crates/{crate}/{part}'):
+                shutil.copytree(f'{tree}/crates/{crate}/{part}', f'{folder}/{part}')
+
+    def said(self, edits, functions):
+        """What a check of these functions (of all where there is none) says of the crate with these edits."""
+        own = {}
+        for edit in edits:
+            for file, old, new in edit.changes:
+                with open(f'{self.folder}/{file}') as it:
+                    text = it.read()
+                own.setdefault(file, text)
+                with open(f'{self.folder}/{file}', 'w') as it:
+                    it.write(text.replace(old, new))
+        only = [word for it in sorted({it.asked for it in functions}) for word in ('--only', it)]
+        try:
+            ran = subprocess.run([*self.words, *only], cwd=self.folder, text=True, errors='replace',
+                                 stdin=subprocess.DEVNULL, stdout=subprocess.PIPE, stderr=subprocess.STDOUT)
+        finally:
+            for file, text in own.items():
+                with open(f'{self.folder}/{file}', 'w') as it:
+                    it.write(text)
+        return ran.stdout.split('\n')
+
+    def tried_together(self, edits):
+        """The verdicts on edits of different functions that one check gives: those that it refuses, by name."""
+        lines = self.said(edits, [function for edit in edits for function in edit.functions])
+        if not any(it.startswith('only=') for it in lines):
+            return {}
+        refused = {}
+        for edit in edits:
+            own = [line for line in lines for function in edit.functions if function.line.match(line)]
+            # A function whose own proof holds and that calls one without a proof reads 'no proof: it calls ..'.
+            own = [it for it in own if re.search(r': (no proof|not proved)', it) and ': no proof: it calls ' not in it]
+            if own:
+                refused[edit.name] = Verdict(True, reason(own[0], lines))
+        return refused
+
+    def tried_alone(self, edit):
+        """The verdict on an edit by a check of the whole crate."""
+        lines = self.said([edit], [])
+        last = next((it for it in lines if it.startswith('logic=')), '')
+        unread = next((it for it in lines if re.match(r'src/\S+:\d+:\d+: error', it) and UNREAD.search(it)), None)
+        if unread or not last:
+            return Verdict(False, f'the prover can\'t read it: {unread or next((it for it in reversed(lines) if it), "")}')
+        if not last.startswith('logic=not-proved'):
+            return Verdict(False, 'the crate is still proved')
+        told = [it for it in lines if re.match(r'(note: )?\S+:\d+:\d+:', it) or re.search(r'^fn .*: (no proof|not proved)', it)]
+        why = next((it for it in told if not NAMES.match(it)), None)
+        return Verdict(True, why or f'only because an answer names what the edit took away: {(told or [last])[0]}')
+
+
+def rounds_of(edits):
+    """The edits in rounds, so that no two edits of a round change one function."""
+    rounds = []
+    for edit in edits:
+        asked = {it.asked for it in edit.functions}
+        fits = next((it for it in rounds if not any(asked & {other.asked for other in one.functions} for one in it)), None)
+        if fits is None:
+            rounds.append([edit])
+        else:
+            fits.append(edit)
+    return rounds
+
+
+def tried(tree, crate, paths):
+    """Tries edits of a crate over the crates below it as they are built in a tree, and gives the verdict on each, by the edit's name."""
+    verdicts, edits = {}, []
+    with tempfile.TemporaryDirectory(prefix='wrong-bodies-') as place:
+        room = Room(tree, crate, place)
+        for path in paths:
+            try:
+                edits.append(read_edit(crate, room.folder, path))
+            except (ValueError, OSError) as error:
+                verdicts[os.path.basename(path)] = Verdict(False, str(error))
+        placed = [it for it in edits if None not in it.functions]
+        for one in rounds_of(placed):
+            verdicts |= room.tried_together(one)
+        for edit in placed:
+            if edit.name not in verdicts:
+                verdicts |= room.tried_together([edit])
+        for edit in edits:
+            if edit.name not in verdicts:
+                verdicts[edit.name] = room.tried_alone(edit)
+    return verdicts
