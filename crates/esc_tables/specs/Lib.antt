@@ -1,5 +1,6 @@
 pub mod DepositOf
 pub mod DepositValue
+pub mod KeyLaws
 pub mod KeyName
 pub mod ObjectValue
 pub mod Objects
