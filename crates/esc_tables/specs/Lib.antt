@@ -5,5 +5,6 @@ pub mod KeyName
 pub mod ObjectValue
 pub mod Objects
 pub mod Reading
+pub mod SmallObject
 pub mod Survey
 pub mod TableRow
