@@ -7,7 +7,7 @@ use Rattle.esc_envelope.specs.declared.place.DepositType.TheVariants.{Diff, Incr
 use Rattle.esc_tables.specs.KeyName.{KeyName, key_cmp}
 use Rattle.esc_tables.specs.DepositValue.{DepositValue}
 use Rattle.esc_apply.specs.Tables.{deletes_by, deletes_of, mentioned, mention_count}
-use Rattle.esc_apply.proofs.Keys.{keys_total}
+use Rattle.esc_tables.specs.KeyLaws.{keys_total}
 use Rattle.esc_apply.proofs.Mentions.{length-keys}
 
 few_keys : (ks : List KeyName) → set.len (set.from_list {R = key_cmp} ks) ≤ length ks

@@ -16,7 +16,7 @@ use Rattle.esc_tables.specs.DepositValue.{DepositValue}
 use Rattle.esc_apply.specs.Objects.{Entry, InOrder}
 use Rattle.esc_apply.specs.Registry.{Content, IsEntriesOf}
 use Rattle.esc_apply.specs.Tables.{mentioned, mentions, says, tables}
-use Rattle.esc_apply.proofs.Keys.{keys_total, same_key}
+use Rattle.esc_tables.specs.KeyLaws.{keys_total, one_key}
 
 -- ---- entries in order
 split : (a b : Bool) → T (a && b) → T a × T b
@@ -81,7 +81,7 @@ found : (f : Content) (ks : List KeyName) (q : KeyName) → entries.find key_cmp
 found f [] q = refl
 found f (k ∷ ks) q =
     found_add q k (f k) (listed f ks)
-    ∙ added_is (key_eq q k) (list_any (key_eq q) ks) (f k) (f q) (entries.find key_cmp q (listed f ks)) (λ e. ap f (same_key q k e)) (found f ks q)
+    ∙ added_is (key_eq q k) (list_any (key_eq q) ks) (f k) (f q) (entries.find key_cmp q (listed f ks)) (λ e. ap f (one_key q k e)) (found f ks q)
 
 -- ---- the keys that deposits mention
 abbrev all_mentioned : List DepositValue → List KeyName

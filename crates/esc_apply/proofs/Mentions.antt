@@ -10,7 +10,8 @@ use Rattle.esc_tables.specs.ObjectValue.{ObjectValue}
 use Rattle.esc_tables.specs.DepositValue.{DepositValue}
 use Rattle.esc_apply.specs.Tables.{deletes_of, mentioned, mentions, says, mention_count}
 use Rattle.esc_apply.specs.Changes.{Change, with_object, without}
-use Rattle.esc_apply.proofs.Keys.{keys_total, keys_exact, Keys, one, two, keys, key_itself}
+use Rattle.esc_tables.specs.KeyLaws.{keys_total, keys_exact, key_itself}
+use Rattle.esc_apply.proofs.Keys.{Keys, one, two, keys}
 use Rattle.esc_apply.proofs.Runs.{AreChangesOf}
 
 -- what shall stand at a key, if a change is of it

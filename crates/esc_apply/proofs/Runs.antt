@@ -11,7 +11,8 @@ use Rattle.esc_tables.specs.DepositValue.{DepositValue}
 use Rattle.esc_apply.specs.Tables.{mentions, says, mention_count}
 use Rattle.esc_apply.specs.Registry.{State, Content, nothing, with_key, written, taken, changed, stepped, restored, IsEntriesOf}
 use Rattle.esc_apply.specs.Changes.{Change, changed_by, AreNew, written_by}
-use Rattle.esc_apply.proofs.Keys.{Keys, one, two, keys, key_itself, not_among}
+use Rattle.esc_tables.specs.KeyLaws.{key_itself}
+use Rattle.esc_apply.proofs.Keys.{Keys, one, two, keys, not_among}
 
 -- what was noted of a key, if anything
 abbrev Noted : Type 0

@@ -1,4 +1,5 @@
 pub mod Automaton
 pub mod FieldFacts
+pub mod Lengths
 pub mod ReadBack
 pub mod RecordsLeft

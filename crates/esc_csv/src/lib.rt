@@ -29,7 +29,8 @@
 //! written, and each `write` adds a line to it.
 //!
 //! `written_lines_read_back`, a law, says that the records of a text of lines are those that were written. A record without fields
-//! is written as one empty field, and a text that begins as a byte order mark would lose it.
+//! is written as one empty field, and a text that begins as a byte order mark would lose it. `fields_are_no_longer_than_the_text`,
+//! another, bounds each field by the text.
 //!
 //! Where memory is refused a call answers `NoMemory`. From then on `Records` has no record, and `Lines` answers `NoMemory`.
 //!
@@ -43,7 +44,7 @@ mod lines;
 mod record;
 mod records;
 
-pub use laws::written_lines_read_back;
+pub use laws::{fields_are_no_longer_than_the_text, written_lines_read_back};
 pub use lines::Lines;
 pub use record::Record;
 pub use records::Records;

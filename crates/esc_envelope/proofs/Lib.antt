@@ -1,5 +1,6 @@
 pub mod Calendar
 pub mod CountLoop
+pub mod Declared
 pub mod Distinct
 pub mod Fractions
 pub mod Gather
@@ -10,4 +11,5 @@ pub mod MomentReads
 pub mod Printed
 pub mod RealParts
 pub mod Shown
+pub mod Sound
 pub mod Years

@@ -1,21 +1,12 @@
 -- The envelope that a JSON text is, or why it is none (this project's profile).
-use Rattle.std.specs.Prelude.{ℕ, List, if◌then◌else◌, Option, Some, None, Result, Ok, Err, codes}
+use Rattle.std.specs.Prelude.{ℕ, List, if◌then◌else◌, Option, Some, None, Result, Ok, codes}
 use Rattle.std.specs.Str.{is_utf8}
 use Rattle.serde_json.specs.Data.{Data}
 use Rattle.serde_json.specs.Read.{read}
+use Rattle.esc_bundle.specs.Steps.{◌>>=◌, or_fault}
 use Rattle.esc_envelope.specs.EnvelopeValue.{EnvelopeValue}
 use Rattle.esc_envelope.specs.Members.{header_of, counts_of, array_of}
 use Rattle.esc_envelope.specs.Tables.{contents_in, deletes_in}
-
--- the value, or else the fault with this number
-abbrev pub or_fault : {A : Type 0} → ℕ → Option A → Result A ℕ
-or_fault n None = Err n
-or_fault n (Some x) = Ok x
-
-infixl 10 ◌>>=◌
-abbrev ◌>>=◌ : {A B : Type 0} → Result A ℕ → (A → Result B ℕ) → Result B ℕ
-(Ok x) >>= f = f x
-(Err n) >>= f = Err n
 
 -- the JSON that a text is, which has to be UTF-8
 unfoldable pub json_of : List ℕ → Option Data

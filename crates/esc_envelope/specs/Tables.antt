@@ -1,11 +1,12 @@
 -- The tables that an envelope declares (this project's profile).
-use Rattle.std.specs.Prelude.{ℕ, List, [], ◌∷◌, length, map, Bool, true, false, not, ◌==◌, ◌&&◌, ◌||◌, nat_lt, nat_le, if◌then◌else◌, count_by, position, Option, Some, None, option_and_then, codes}
+use Rattle.std.specs.Prelude.{◌≡◌, ◌<◌, ◌≤◌, ℕ, List, [], ◌∷◌, length, map, Bool, true, false, not, ◌==◌, ◌&&◌, ◌||◌, nat_lt, nat_le, if◌then◌else◌, count_by, position, Option, Some, None, option_and_then, codes}
 use Rattle.std.specs.List.{list_all, list_any}
 use Rattle.std.specs.Str.{bytes_eq}
 use Rattle.serde_json.specs.Data.{Data}
 use Rattle.serde_json.specs.Find.{get, as_str}
 use Rattle.esc_envelope.specs.declared.kind.Kind.{Kind}
 use Rattle.esc_envelope.specs.EnvelopeValue.{TableValue}
+use Rattle.esc_envelope.specs.Id.{is_id}
 use Rattle.esc_envelope.specs.Kinds.{kinds, is_kind, kind_named}
 use Rattle.esc_envelope.specs.Members.{text_at, array_in, if_id}
 use Rattle.esc_envelope.specs.Steps.{◌>>=◌}
@@ -76,6 +77,14 @@ place_of texts text = position (λ other. bytes_eq other text) texts
 abbrev pub key_of : Data → List (List ℕ) → Option ℕ
 key_of json fields = option_and_then (place_of fields) (text_at (codes "key") json)
 
+-- a declared table: its name and its fields have their forms, no field stands twice, and the key is one of them
+pub record IsTable (t : TableValue) : Type 0 where
+  pub named : is_name t.name ≡ true
+  pub formed : list_all is_id t.fields ≡ true
+  pub few : length t.fields ≤ 64
+  pub distinct : are_distinct t.fields ≡ true
+  pub keyed : t.key < length t.fields
+
 -- the table of a declaration, if each member is of its form
 unfoldable pub table_of : Data → Option TableValue
 table_of json = do
@@ -98,6 +107,14 @@ is_parent_of kind table = table.parent && is_kind kind table.kind
 -- whether each kind has at most one parent table
 abbrev pub have_one_parent : List TableValue → Bool
 have_one_parent tables = list_all (λ kind. nat_le (count_by (is_parent_of kind) tables) 1) kinds
+
+-- tables of what is: names once, and at most one parent table for each kind
+abbrev pub AreContents : List TableValue → Type 0
+AreContents tables = (have_distinct_names tables ≡ true) × (have_one_parent tables ≡ true)
+
+-- tables of what was deleted: names once, and parent tables alone
+abbrev pub AreDeletes : List TableValue → Type 0
+AreDeletes tables = (have_distinct_names tables ≡ true) × (list_all (λ t. t.parent) tables ≡ true)
 
 abbrev pub if_contents : List TableValue → Option (List TableValue)
 if_contents tables = if have_distinct_names tables && have_one_parent tables then Some tables else None

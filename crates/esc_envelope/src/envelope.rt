@@ -23,18 +23,21 @@ pub struct Envelope {
     pub header: Header,
     /// The numbers of objects in the registry at the watermark, of the kinds for which they are declared.
     pub counts: BTreeMap<Kind, u64>,
-    /// The tables of what is, at most one parent table for each kind.
+    /// The tables of what is: each name once, and at most one parent table for each kind.
     pub contents: Vec<Table>,
-    /// The tables of what was deleted, parent tables alone.
+    /// The tables of what was deleted: each name once, and parent tables alone.
     pub deletes: Vec<Table>,
 }
 
 impl Model for Envelope {
     ghost use Rattle.esc_envelope.specs.EnvelopeValue.{EnvelopeValue};
+    ghost use Rattle.esc_envelope.specs.Tables.{AreContents, AreDeletes};
 
     ghost Value = { EnvelopeValue };
 
     ghost view = { λ e. record { header = e.header; counts = e.counts.entries; contents = e.contents.items; deletes = e.deletes.items } };
+
+    ghost invariant = { λ e. AreContents e.contents.items × AreDeletes e.deletes.items };
 }
 
 fn parsed(alloc: Global, json: &[u8]) -> Result<Value, Fault>

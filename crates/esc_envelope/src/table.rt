@@ -3,7 +3,8 @@
 use crate::kind::Kind;
 use std::marker::Model;
 
-/// A table of a deposit, as its envelope declares it (this project's profile).
+/// A table of a deposit, as its envelope declares it (this project's profile): its fields have the forms that they say, and the key is
+/// one of them. Whoever makes a table proves it.
 #[derive(Debug, Drop)]
 pub struct Table {
     /// 1 to 64 of `A-Z a-z 0-9 _`.
@@ -23,8 +24,11 @@ pub struct Table {
 impl Model for Table {
     ghost use Rattle.std.specs.Prelude.{map, string_bytes};
     ghost use Rattle.esc_envelope.specs.EnvelopeValue.{TableValue};
+    ghost use Rattle.esc_envelope.specs.Tables.{IsTable};
 
     ghost Value = { TableValue };
 
     ghost view = { λ t. record { name = string_bytes t.name; kind = t.kind; parent = t.parent; key = t.key; fields = map string_bytes t.fields.items; file = string_bytes t.file } };
+
+    ghost invariant = { λ t. IsTable (record { name = string_bytes t.name; kind = t.kind; parent = t.parent; key = t.key; fields = map string_bytes t.fields.items; file = string_bytes t.file }) };
 }

@@ -4,15 +4,40 @@
 //! table as a text, the number of its cells, then each cell as two texts, field and value. A *record* is the number of
 //! an object's rows, then the rows: the parent first, then the children in their order.
 //!
-//! - [`to_record`] gives the one record of an object, and `None` exactly where a length or a count needs more than four
-//!   bytes, which no bundle's object has. No record begins another, so records may stand side by side.
-//! - [`read_record`] gives the object whose record some bytes are, and `None` exactly where they are the record of none.
+//! A database keeps each object of the registry as its record.
 //!
-//! Both take time in proportion to the bytes. The contracts speak of `record_of`, the record of an object as a value.
+//! # In and out
+//!
+//! - [`to_record`] takes an object and returns its record, or `None` where a length or a count needs more than four bytes.
+//! - [`read_record`] takes bytes and returns the object whose record they are, or `None` where they are the record of none.
+//! - Both return `NoMemory` where memory is refused.
+//!
+//! ```text
+//! let record = to_record(alloc, &object)?;
+//! // the record of an object of a deposit: it is there
+//! if let Some(record) = record {
+//!     let again = read_record(alloc, record.as_slice())?;
+//! }
+//! ```
+//!
+//! # What the contracts mean
+//!
+//! `specs/Record.antt` has `record_of`, the record of an object as a value. `to_record` returns exactly what it gives. What
+//! `read_record` finds has these bytes as its record, and where it finds nothing no object of texts has them.
+//!
+//! `no_record_begins_another`, a law, says that no record begins another, so records may stand side by side, and that each record
+//! is the record of one object. `read_objects_have_records`, another, says that each object of a deposit that was read from a body
+//! has a record.
+//!
+//! # Cost
+//!
+//! Both take time in proportion to the bytes.
 #![tactic(auto)]
 
+mod laws;
 mod reading;
 mod writing;
 
+pub use laws::{no_record_begins_another, read_objects_have_records};
 pub use reading::read_record;
 pub use writing::to_record;

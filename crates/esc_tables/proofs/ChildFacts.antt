@@ -11,7 +11,7 @@ use Rattle.std.proofs.lemmas.List.Sums.{sum_by_push, fold_push}
 use Rattle.esc_tables.specs.KeyName.{KeyName, key_cmp, key_eq}
 use Rattle.esc_tables.specs.ObjectValue.{RowValue, ObjectValue}
 use Rattle.esc_tables.specs.Objects.{at_key, has_pair, with_children, with_child, alone, object_of, in_order, objects_of, orphans_of}
-use Rattle.esc_tables.proofs.KeyFacts.{key_same, key_is}
+use Rattle.esc_tables.specs.KeyLaws.{keys_alike, one_key}
 use Rattle.esc_tables.proofs.ObjectFacts.{putting, put_is, found_is, sorted_from, same_objects, in_order_found, objects_found, objects_sorted}
 
 -- ---- one step of the map
@@ -21,15 +21,15 @@ Added old new key row k = get key_cmp new k ≡ cond (key_eq k key) (option_map 
 
 pub none_added : (m : BTreeMap KeyName ObjectValue) (key : KeyName) (row : RowValue) → None ≡ get key_cmp m key → (k : KeyName) → Added m m key row k
 none_added m key row none k = elim (cases_Bool (key_eq k key)) [
-  | inl same ↦ let gone : get key_cmp m k ≡ None = ap (get key_cmp m) (key_is k key same) ∙ sym none in rw (same, gone) refl
+  | inl same ↦ let gone : get key_cmp m k ≡ None = ap (get key_cmp m) (one_key k key same) ∙ sym none in rw (same, gone) refl
   | inr other ↦ rw other refl
 ]
 
 pub child_added : (old new : BTreeMap KeyName ObjectValue) (key : KeyName) (row : RowValue) (before after : ObjectValue) → Some before ≡ get key_cmp old key → UpdatesBy key_cmp (key_cmp key) old new (Some after) → after ≡ with_child row before → (k : KeyName) → Added old new key row k
 child_added old new key row before after found updates pushed k =
-    let put : get key_cmp new k ≡ cond (key_eq k key) (Some after) (get key_cmp old k) = updates.0 k ∙ ap (λ (b : Bool). cond b (Some after) (get key_cmp old k)) (key_same.symm key k) in
+    let put : get key_cmp new k ≡ cond (key_eq k key) (Some after) (get key_cmp old k) = updates.0 k ∙ ap (λ (b : Bool). cond b (Some after) (get key_cmp old k)) (keys_alike.symm key k) in
     elim (cases_Bool (key_eq k key)) [
-      | inl same ↦ let here : get key_cmp old k ≡ Some before = ap (get key_cmp old) (key_is k key same) ∙ sym found in rw (put, same, here, pushed) refl
+      | inl same ↦ let here : get key_cmp old k ≡ Some before = ap (get key_cmp old) (one_key k key same) ∙ sym found in rw (put, same, here, pushed) refl
       | inr other ↦ rw (put, other) refl
     ]
 

@@ -1,7 +1,8 @@
 -- The fields of a row, and its cells.
-use Rattle.std.proofs.Common.{◌≡◌, ℕ, zero, suc, Bool, true, false, List, [], ◌∷◌, map, Some, None, slice_get, refl, ap}
+use Rattle.std.proofs.Common.{◌≡◌, ℕ, zero, suc, Bool, true, false, List, [], ◌∷◌, map, Some, None, slice_get, length, refl, ap, arith}
 use Rattle.std.specs.Prelude.{◌&&◌}
 use Rattle.std.specs.List.{zip}
+use Rattle.std.proofs.lemmas.Slice.Zip.{length-zip}
 use Rattle.csv.specs.Records.{field_at}
 
 pub both : (a b : Bool) → (a && b) ≡ true → (a ≡ true) × (b ≡ true)
@@ -30,6 +31,10 @@ no_text [] texts i x = refl
 no_text (a ∷ names) [] i x = refl
 no_text (a ∷ names) (b ∷ texts) zero x = absurd cc
 no_text (a ∷ names) (b ∷ texts) (suc i) x = no_text names texts i x
+
+-- as many cells as texts, where there are as many texts as names
+pub all_cells : (names texts : List (List ℕ)) → length texts ≡ length names → length (zip names texts) ≡ length texts
+all_cells names texts same = omega (arith, same, length-zip names texts)
 
 -- the pairs of two images of a list
 pub zip_images : {X Y Z : Type 0} (f : X → Y) (g : X → Z) (xs : List X) → zip (map f xs) (map g xs) ≡ map (λ x. (f x, g x)) xs

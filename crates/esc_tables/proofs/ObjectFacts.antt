@@ -13,7 +13,7 @@ use Rattle.std.proofs.lemmas.Bool.{cases_Bool}
 use Rattle.esc_tables.specs.KeyName.{KeyName, key_cmp, key_eq}
 use Rattle.esc_tables.specs.ObjectValue.{RowValue, ObjectValue}
 use Rattle.esc_tables.specs.Objects.{at_key, with_children, object_of, in_order, objects_of}
-use Rattle.esc_tables.proofs.KeyFacts.{key_total, key_cmp-IsAntisymmetric, key_is}
+use Rattle.esc_tables.specs.KeyLaws.{keys_total, keys_exact, one_key}
 
 -- ---- the words of the map, and those of the definition
 
@@ -45,7 +45,7 @@ sorted_from (e ∷ es) h = both_hold (below_all key_cmp e.0 es) (is_sorted key_c
 
 -- entries in order that have the same for each key are the same
 pub same_objects : {X : Type 0} (es fs : List (KeyName × X)) → T (is_sorted key_cmp es) → T (is_sorted key_cmp fs) → ((k : KeyName) → find key_cmp k es ≡ find key_cmp k fs) → es ≡ fs
-same_objects es fs first then same = same_entries key_cmp key_total key_cmp-IsAntisymmetric es fs first then same
+same_objects es fs first then same = same_entries key_cmp keys_total keys_exact es fs first then same
 
 -- ---- each key once, with its last value
 
@@ -58,11 +58,11 @@ putting entries p = put key_cmp p.0 p.1 entries
 found_from : {X : Type 0} (k : KeyName) (ps es : List (KeyName × X)) → find key_cmp k (fold putting es ps) ≡ last_or (find key_cmp k es) (at_key k ps)
 found_from k [] es = refl
 found_from {X = X} k (p ∷ ps) es =
-    found_from k ps (put key_cmp p.0 p.1 es) ∙ ap (λ (o : Option X). last_or o (at_key k ps)) (find-put key_cmp key_total k p.0 p.1 es) ∙ sym (last_at k p ps (find key_cmp k es))
+    found_from k ps (put key_cmp p.0 p.1 es) ∙ ap (λ (o : Option X). last_or o (at_key k ps)) (find-put key_cmp keys_total k p.0 p.1 es) ∙ sym (last_at k p ps (find key_cmp k es))
 
 sorted_onward : {X : Type 0} (ps es : List (KeyName × X)) → T (is_sorted key_cmp es) → T (is_sorted key_cmp (fold putting es ps))
 sorted_onward [] es h = h
-sorted_onward (p ∷ ps) es h = sorted_onward ps (put key_cmp p.0 p.1 es) (is_sorted-put key_cmp key_total p.0 p.1 es h)
+sorted_onward (p ∷ ps) es h = sorted_onward ps (put key_cmp p.0 p.1 es) (is_sorted-put key_cmp keys_total p.0 p.1 es h)
 
 pub in_order_found : {X : Type 0} (k : KeyName) (ps : List (KeyName × X)) → find key_cmp k (in_order ps) ≡ last_or None (at_key k ps)
 in_order_found k ps = found_from k ps []
@@ -78,7 +78,7 @@ object_at children e = (e.0, with_children (at_key e.0 children) e.1)
 found_object : (k : KeyName) (children es : List (KeyName × RowValue)) → find key_cmp k (map (object_at children) es) ≡ option_map (with_children (at_key k children)) (find key_cmp k es)
 found_object k children [] = refl
 found_object k children (e ∷ es) = elim (cases_Bool (key_eq k e.0)) [
-  | inl same ↦ rw same (ap (λ (l : KeyName). Some (with_children (at_key l children) e.1)) (sym (key_is k e.0 same)))
+  | inl same ↦ rw same (ap (λ (l : KeyName). Some (with_children (at_key l children) e.1)) (sym (one_key k e.0 same)))
   | inr other ↦ rw other (found_object k children es)
 ]
 

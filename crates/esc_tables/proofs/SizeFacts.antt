@@ -16,7 +16,7 @@ use Rattle.esc_tables.specs.ObjectValue.{RowValue, ObjectValue}
 use Rattle.esc_tables.specs.DepositValue.{DepositValue}
 use Rattle.esc_tables.specs.TableRow.{TableRow, table_rows, rows_in, key_of, keyed}
 use Rattle.esc_tables.specs.Objects.{at_key, with_children, in_order, objects_of}
-use Rattle.esc_tables.specs.Reading.{deposit_of, deposit_in, sections_deposit, reading, most_rows, parent_rows, child_rows}
+use Rattle.esc_tables.specs.Reading.{placed, is_before, by_name, deposit_of, deposit_in, sections_deposit, reading, most_rows, parent_rows, child_rows}
 use Rattle.esc_tables.specs.DepositOf.{all_rows}
 use Rattle.esc_tables.proofs.ObjectFacts.{putting}
 use Rattle.esc_tables.proofs.ExactFacts.{Parts, parts_of, steps_of, right_rows}
@@ -49,11 +49,34 @@ one_table_less files p t ts few = by_test (p t)
     by_test true = omega (arith, few, length-append (table_rows files t) (rows_in files (filter p ts)), length-append (table_rows files t) (rows_in files ts))
     by_test false = omega (arith, few, length-append (table_rows files t) (rows_in files ts))
 
-fewer_tables : (files : List Named) (p : TableValue → Bool) (ts : List TableValue) → length (rows_in files (filter p ts)) ≤ length (rows_in files ts)
+pub fewer_tables : (files : List Named) (p : TableValue → Bool) (ts : List TableValue) → length (rows_in files (filter p ts)) ≤ length (rows_in files ts)
 fewer_tables files p [] = omega arith
 fewer_tables files p (t ∷ ts) = one_table_less files p t ts (fewer_tables files p ts)
 
+-- ---- as many rows in another order of tables
+
+one_placed : (files : List Named) (us : List TableValue) (t : TableValue) → length (rows_in files (placed us t)) ≡ length (table_rows files t) + length (rows_in files us)
+one_placed files [] t = length-append (table_rows files t) []
+one_placed files (u ∷ us) t = by_test (is_before t u) (one_placed files us t)
+  where
+    by_test : (b : Bool) → length (rows_in files (placed us t)) ≡ length (table_rows files t) + length (rows_in files us)
+        → length (rows_in files (cond b (t ∷ u ∷ us) (u ∷ placed us t))) ≡ length (table_rows files t) + length (rows_in files (u ∷ us))
+    by_test true later = length-append (table_rows files t) (rows_in files (u ∷ us))
+    by_test false later = omega (arith, later, length-append (table_rows files u) (rows_in files (placed us t)), length-append (table_rows files u) (rows_in files us))
+
+all_placed : (files : List Named) (ts us : List TableValue) → length (rows_in files (fold placed us ts)) ≡ length (rows_in files us) + length (rows_in files ts)
+all_placed files [] us = omega arith
+all_placed files (t ∷ ts) us = omega (arith, all_placed files ts (placed us t), one_placed files us t, length-append (table_rows files t) (rows_in files ts))
+
+pub same_length : (files : List Named) (ts : List TableValue) → length (rows_in files (by_name ts)) ≡ length (rows_in files ts)
+same_length files ts = omega (arith, all_placed files ts [])
+
 -- ---- the deposit
+
+pub few_contents : (files : List Named) (e : EnvelopeValue) → length (rows_in files e.contents) ≤ length (all_rows files e)
+few_contents files e =
+    let all : length (all_rows files e) ≡ length (rows_in files e.contents) + length (rows_in files e.deletes) = ap (λ (rows : List TableRow). length rows) (flat_map-append (table_rows files) e.contents e.deletes) ∙ length-append (rows_in files e.contents) (rows_in files e.deletes) in
+    omega (arith, all)
 
 few_in : (files : List Named) (e : EnvelopeValue) → length (deposit_of files e).deletes + length (deposit_of files e).contents ≤ length (all_rows files e)
 unfolding deposit_of

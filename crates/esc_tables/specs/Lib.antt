@@ -1,8 +1,10 @@
 pub mod DepositOf
 pub mod DepositValue
+pub mod KeyLaws
 pub mod KeyName
 pub mod ObjectValue
 pub mod Objects
 pub mod Reading
+pub mod SmallObject
 pub mod Survey
 pub mod TableRow

@@ -1,31 +1,46 @@
 //! From the bytes of a bundle to the deposit that it is.
 //!
 //! A bundle (`esc_bundle`) is an envelope and files. The envelope (`esc_envelope`) declares tables, each with a kind of objects,
-//! its fields, one of them the key, and the file that has its rows as CSV. This crate takes the bytes of a body and answers
+//! its fields, one of them the key, and the file that has its rows as CSV. This crate makes the objects of a registry from them.
+//!
+//! # In and out
+//!
+//! `read_deposit` takes the bytes of a body and returns
 //!
 //! - the `Deposit`: header and counts of the envelope; the keys of the delete rows in the order of declarations and rows; a map
 //!   from keys to objects, where an object is the last parent row of its key with all child rows of that kind and key, by table
 //!   name in byte order and then as in the file; and the number of orphans, the child rows that have no parent row;
-//! - or the least refusal that stands in the whole bundle: U1 to U4 of its frame, U5 to U7 of its envelope, and then
+//! - or the least refusal of the whole bundle: U1 to U4 of its frame, U5 to U7 of its envelope, and then
 //!   U8: a declared file is no section behind the envelope, or such a section is not declared exactly once;
 //!   U9: a row has another number of fields than declared, or a field that is no UTF-8;
 //!   U10: a key is empty or longer than 255 bytes;
 //!   U11: there are more than 100,000 rows;
 //! - or `NoMemory`, where memory is refused.
 //!
+//! `read_bundled_envelope` takes the same bytes and returns the envelope alone, or the least of U1 to U7.
+//!
+//! ```text
+//! let deposit = read_deposit(alloc, body)?;
+//! for (key, object) in &deposit.contents {
+//!     // object.parent.cell(0) is the first field's name and its text
+//! }
+//! ```
+//!
 //! Keys of hosts and domains are the field's text with ASCII letters lowered (names of the DNS have no case), all others as they
-//! stand. Cells keep the text of the file. CSV is as `esc_csv` reads it, without a heading row: empty lines are no rows, and
+//! are. Cells keep the text of the file. CSV is as `esc_csv` reads it, without a heading row: empty lines are no rows, and
 //! a byte order mark at the start of a file is dropped.
 //!
-//! # What is promised
+//! # What the contracts mean
 //!
-//! `read_deposit` answers exactly what the definition `reading` of `specs/Reading.antt` gives. That one selects from lists of rows;
-//! the code builds a map. `reading_is_exact` says that `reading` is what the relations of `specs/DepositOf.antt` say: which body is
-//! which deposit, and which refusal stands first. `read_deposits_are_small` says that a deposit has no more deletes and objects than
-//! a bundle may have rows.
+//! `read_deposit` returns exactly what the definition `reading` of `specs/Reading.antt` gives. That one selects from lists of rows;
+//! the code builds a map. `read_bundled_envelope` returns exactly what `bundled_envelope` gives; of a deposit, its header and counts.
+//! Both say the range of their refusals' numbers. A `Row` has as many texts as its heading has fields: no call makes another.
 //!
-//! `read_bundled_envelope` answers exactly what `bundled_envelope` gives, the envelope of a body or the least of U1 to U7; of a
-//! deposit, its header and counts.
+//! The laws: `reading_is_exact` says that `reading` is what the relations of `specs/DepositOf.antt` say: which body is
+//! which deposit, and which refusal is the least. `refusals_are_1_to_11` says the range of the numbers. `read_deposits_are_small` says
+//! that a deposit has no more deletes and objects than a bundle may have rows, and `read_objects_are_small` how large each object can
+//! be. `tables_are_in_order` says that child tables are put in the order of their names. `specs/KeyLaws.antt` has the laws of keys: their
+//! order is total, and keys that tie are one key.
 //!
 //! # Cost
 //!
@@ -49,6 +64,9 @@ mod tables;
 
 pub use deposit::Deposit;
 pub use key::Key;
-pub use laws::{read_deposits_are_small, reading_is_exact, tables_are_in_order};
+pub use laws::{
+    read_deposits_are_small, read_objects_are_small, reading_is_exact, refusals_are_1_to_11,
+    tables_are_in_order,
+};
 pub use object::{Object, Row};
 pub use reading::{read_bundled_envelope, read_deposit};

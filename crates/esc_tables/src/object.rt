@@ -60,8 +60,8 @@ fn shared(alloc: Global, name: &str, fields: StringRecord) -> Result<Rc<Heading>
     }
 }
 
-/// A row of a table: its cells in the declared order, each with its field's name. Rows that are read of one table share its
-/// heading, and a row's texts stand one behind the other in memory.
+/// A row of a table: its cells in the declared order, each with its field's name. It has as many texts as its heading has fields.
+/// Rows that are read of one table share its heading, and a row's texts stand one behind the other in memory.
 #[derive(Debug, Drop)]
 pub struct Row {
     heading: Rc<Heading>,
@@ -69,6 +69,7 @@ pub struct Row {
 }
 
 impl Model for Row {
+    ghost use Rattle.std.specs.Prelude.{◌≡◌, length};
     ghost use Rattle.std.specs.List.{zip};
     ghost use Rattle.csv.specs.Records.{fields_of};
     ghost use Rattle.esc_tables.specs.ObjectValue.{RowValue};
@@ -76,6 +77,8 @@ impl Model for Row {
     ghost Value = { RowValue };
 
     ghost view = { λ r. record { table = r.heading.value.name; cells = zip r.heading.value.fields (fields_of r.texts) } };
+
+    ghost invariant = { λ r. length (fields_of r.texts) ≡ length r.heading.value.fields };
 }
 
 /// How many bytes most fields' names and texts have at most, so that a row's memory is mostly taken at once.
@@ -84,6 +87,7 @@ const USUAL_LENGTH: usize = 16;
 impl Row {
     /// The row of a heading and of as many texts as it has fields.
     pub(crate) fn under(heading: Rc<Heading>, texts: StringRecord) -> Row
+        requires { length (fields_of texts) ≡ length heading.value.fields }
         ensures { result ≡ record { table = heading.value.name; cells = zip heading.value.fields (fields_of texts) } }
     {
         Row { heading, texts }
@@ -115,7 +119,7 @@ impl Row {
     pub fn len(&self) -> usize
         ensures { result ≡ length self.now.cells }
     {
-        self.heading.as_ref().fields.len().min(self.texts.len())
+        self.texts.len()
     }
 
     /// The field's name and the text of the cell at this place, from 0.

@@ -1,6 +1,6 @@
 //! Reading a bundle as a deposit.
 
-ghost use Rattle.std.specs.Prelude.{◌≡◌, ℕ, true, Ok, Err, IfOk, IfErr, MatchResult};
+ghost use Rattle.std.specs.Prelude.{◌≡◌, ◌≤◌, ℕ, true, Ok, Err, IfOk, IfErr, MatchResult};
 ghost use Rattle.std.specs.List.{list_all};
 ghost use Rattle.esc_bundle.specs.Bundle.{views};
 ghost use Rattle.esc_tables.specs.TableRow.{rows_in, is_whole};
@@ -10,6 +10,7 @@ ghost use Rattle.esc_tables.specs.Reading.{tables_of, deposit_of, deposit_in, re
 use crate::deposit::Deposit;
 use crate::files::are_filed;
 use crate::gather::gather;
+use crate::laws::refusals_are_1_to_11;
 use crate::survey::check_rows;
 use crate::tables::{read_children, read_deletes, read_parents};
 use esc_bundle::{Fault, NoMemory, Section, sections};
@@ -64,6 +65,15 @@ fn read_files(alloc: Global, files: &[Section<'_>], envelope: Envelope) -> Resul
 pub fn read_deposit(alloc: Global, body: &[u8]) -> Result<Deposit, Fault>
     ensures read { IfOk result (λ d. reading body.now ≡ Ok d) }
     ensures refused { IfErr result (λ e. (n : ℕ) → e ≡ Fault.Refused n → reading body.now ≡ Err n) }
+    ensures numbers { IfErr result (λ e. (n : ℕ) → e ≡ Fault.Refused n → (1 ≤ n) × (n ≤ 11)) }
+{
+    refusals_are_1_to_11();
+    read_body(alloc, body)
+}
+
+fn read_body(alloc: Global, body: &[u8]) -> Result<Deposit, Fault>
+    ensures read { IfOk result (λ d. reading body.now ≡ Ok d) }
+    ensures refused { IfErr result (λ e. (n : ℕ) → e ≡ Fault.Refused n → reading body.now ≡ Err n) }
 {
     let sections = sections(alloc, body)?;
     let [first, files @ ..] = sections.as_slice() else {
@@ -77,8 +87,21 @@ pub fn read_deposit(alloc: Global, body: &[u8]) -> Result<Deposit, Fault>
 /// have; of a body that is a deposit, header and counts are the deposit's.
 pub fn read_bundled_envelope(alloc: Global, body: &[u8]) -> Result<Envelope, Fault>
     ensures read { IfOk result (λ e. bundled_envelope body.now ≡ Ok e) }
-    ensures refused { IfErr result (λ e. (n : ℕ) → e ≡ Fault.Refused n → bundled_envelope body.now ≡ Err n) }
-    ensures deposit { (d : DepositValue) → reading body.now ≡ Ok d → MatchResult result (λ e. (e.header ≡ d.header) × (e.counts ≡ d.counts)) (λ e. e ≡ Fault.NoMemory) }
+    ensures refused { IfErr result (λ e. (n : ℕ) → e ≡ Fault.Refused n
+        → bundled_envelope body.now ≡ Err n) }
+    ensures numbers { IfErr result (λ e. (n : ℕ) → e ≡ Fault.Refused n → (1 ≤ n) × (n ≤ 7)) }
+    ensures deposit { (d : DepositValue) → reading body.now ≡ Ok d →
+        MatchResult result (λ e. (e.header ≡ d.header) × (e.counts ≡ d.counts))
+        (λ e. e ≡ Fault.NoMemory) }
+{
+    refusals_are_1_to_11();
+    first_envelope(alloc, body)
+}
+
+fn first_envelope(alloc: Global, body: &[u8]) -> Result<Envelope, Fault>
+    ensures read { IfOk result (λ e. bundled_envelope body.now ≡ Ok e) }
+    ensures refused { IfErr result (λ e. (n : ℕ) → e ≡ Fault.Refused n
+        → bundled_envelope body.now ≡ Err n) }
 {
     let sections = sections(alloc, body)?;
     let [envelope, ..] = sections.as_slice() else {

@@ -1,33 +1,9 @@
-use Rattle.std.proofs.Common.{◌∙◌, Err}
-use Rattle.std.proofs.lemmas.Result.{err_from_is_err_and, IfOk-weaker, IfErr-weaker}
-use Rattle.esc_tables.proofs.DepositFacts.{framed_as, first_of, rest_of}
-use Rattle.esc_tables.proofs.EnvelopeFacts.{unframed, same_envelope, heads_deposit}
+use Rattle.std.proofs.lemmas.Result.{IfErr-weaker}
+use Rattle.esc_tables.proofs.EnvelopeFacts.{heads_deposit}
 use Rattle.esc_tables.proofs.reading.read_bundled_envelope.Goals as goal
 
-pub returns-in_err-sections-clause-refused : goal.returns-in_err-sections-clause-refused
-returns-in_err-sections-clause-refused c =
-    let p = err_from_is_err_and c.from_residual.result c.from_residual.ensures.1 in
-    rw (p.1, p.2) (λ n same. unframed c.args.body.now n (c.in_err-sections.ensures.unframed n same))
-
-pub returns-in_err-sections-clause-deposit : goal.returns-in_err-sections-clause-deposit
-returns-in_err-sections-clause-deposit c =
-    let p = err_from_is_err_and c.from_residual.result c.from_residual.ensures.1 in
-    rw (p.1, p.2) (heads_deposit c.args.body.now (Err c.in_err-sections.field-0.0) tt (λ n same. unframed c.args.body.now n (c.in_err-sections.ensures.unframed n same)))
-
-pub returns-clause-read : goal.returns-clause-read
-returns-clause-read c =
-    let framed = framed_as c.args.body.now c.in_ok-sections.sections.items c.as_slice.result.now c.in_ok-sections.ensures.framed c.as_slice.ensures.value c.in-len1-up.len_at_least in
-    let same = same_envelope c.args.body.now (first_of c.as_slice.result.now) (rest_of c.as_slice.result.now) framed in
-    IfOk-weaker c.read_envelope.result _ _ (λ e read. same ∙ read) c.read_envelope.ensures.envelope
-
-pub returns-clause-refused : goal.returns-clause-refused
-returns-clause-refused c =
-    let framed = framed_as c.args.body.now c.in_ok-sections.sections.items c.as_slice.result.now c.in_ok-sections.ensures.framed c.as_slice.ensures.value c.in-len1-up.len_at_least in
-    let same = same_envelope c.args.body.now (first_of c.as_slice.result.now) (rest_of c.as_slice.result.now) framed in
-    IfErr-weaker c.read_envelope.result _ _ (λ e refused n number. same ∙ refused n number) c.read_envelope.ensures.refused
+pub returns-clause-numbers : goal.returns-clause-numbers
+returns-clause-numbers c = IfErr-weaker c.first_envelope.result _ _ (λ e refused n number. c.refusals_are_1_to_11.ensures.envelope c.args.body.now n (refused n number)) c.first_envelope.ensures.refused
 
 pub returns-clause-deposit : goal.returns-clause-deposit
-returns-clause-deposit c =
-    let framed = framed_as c.args.body.now c.in_ok-sections.sections.items c.as_slice.result.now c.in_ok-sections.ensures.framed c.as_slice.ensures.value c.in-len1-up.len_at_least in
-    let same = same_envelope c.args.body.now (first_of c.as_slice.result.now) (rest_of c.as_slice.result.now) framed in
-    heads_deposit c.args.body.now c.read_envelope.result (IfOk-weaker c.read_envelope.result _ _ (λ e read. same ∙ read) c.read_envelope.ensures.envelope) (IfErr-weaker c.read_envelope.result _ _ (λ e refused n number. same ∙ refused n number) c.read_envelope.ensures.refused)
+returns-clause-deposit c = heads_deposit c.args.body.now c.first_envelope.result c.first_envelope.ensures.read c.first_envelope.ensures.refused

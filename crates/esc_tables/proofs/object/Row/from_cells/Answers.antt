@@ -1,10 +1,16 @@
-use Rattle.std.proofs.Common.{◌≡◌, List, ℕ, Bor, ap, ap₂, ◌∙◌, map, take, arith}
+use Rattle.std.proofs.Common.{◌≡◌, List, ℕ, Bor, sym, ap, ap₂, ◌∙◌, map, take, length, arith}
 use Rattle.std.specs.List.{zip}
-use Rattle.std.proofs.lemmas.List.{take_all}
+use Rattle.std.proofs.lemmas.List.{take_all, length-map}
 use Rattle.csv.specs.Records.{fields_of}
 use Rattle.esc_tables.specs.ObjectValue.{HeadingValue, RowValue}
 use Rattle.esc_tables.proofs.FieldFacts.{zip_images}
 use Rattle.esc_tables.proofs.object.Row.from_cells.Goals as goal
+
+pub invariant_of-result : goal.invariant_of-result
+invariant_of-result c =
+    let taken : List (Bor (List ℕ) × Bor (List ℕ)) = take c.loop-field.field-index c.args.cells.now in
+    ap length c.loop-field.invariant.texts ∙ length-map taken (λ c. c.1.now) ∙ sym (length-map taken (λ c. c.0.now)) ∙ ap length (sym c.loop-field.invariant.fields)
+    ∙ ap (λ (h : HeadingValue). length h.fields) (sym c.in_ok-heading.ensures)
 
 pub returns : goal.returns
 returns c =
