@@ -31,7 +31,7 @@ value_in_range : {A : Type 0} (o : Option A) → InRange (or_fault 1 o)
 value_in_range None = fault_in_range 1 (omega arith) (omega arith)
 value_in_range (Some x) = done_in_range x
 
-stands_in_range : (before : List Named) (name : List ℕ) (size : ℕ) → InRange (stands_at before name size)
+pub stands_in_range : (before : List Named) (name : List ℕ) (size : ℕ) → InRange (stands_at before name size)
 unfolding stands_at
 stands_in_range before name size =
     bind_in_range _ _ (check_in_range (is_name name) 2 (omega arith) (omega arith)) (λ named.

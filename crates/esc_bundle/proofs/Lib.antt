@@ -7,4 +7,5 @@ pub mod Frames
 pub mod Gathering
 pub mod Answered
 pub mod FaultNumbers
+pub mod Unwritten
 pub mod Written

@@ -21,11 +21,11 @@ use Rattle.esc_bundle.proofs.OneReading.{may_follow}
 
 -- ---- sections in order
 
-move_over : (before : List Named) (s : Named) (more : List Named) → before ++ (s ∷ more) ≡ (before ++ (s ∷ [])) ++ more
+pub move_over : (before : List Named) (s : Named) (more : List Named) → before ++ (s ∷ more) ≡ (before ++ (s ∷ [])) ++ more
 move_over before s more = simp append_assoc
 
 -- what is in order are sections
-in_order_takes : (before ss all : List Named) → AreSections before → in_order before ss ≡ Ok all → AreSections all × (all ≡ before ++ ss)
+pub in_order_takes : (before ss all : List Named) → AreSections before → in_order before ss ≡ Ok all → AreSections all × (all ≡ before ++ ss)
 unfolding in_order
 in_order_takes before [] all old e = let same : before ≡ all = done_is before all e in (subst AreSections same old, sym same ∙ sym (append-nil before))
 in_order_takes before (s ∷ ss) all old e =
@@ -35,7 +35,7 @@ in_order_takes before (s ∷ ss) all old e =
     (rest.0, rest.1 ∙ sym (move_over before s ss))
 
 -- sections are in order
-in_order_again : (before ss : List Named) → AreSections (before ++ ss) → in_order before ss ≡ Ok (before ++ ss)
+pub in_order_again : (before ss : List Named) → AreSections (before ++ ss) → in_order before ss ≡ Ok (before ++ ss)
 unfolding in_order
 in_order_again before [] all = ap done (sym (append-nil before))
 in_order_again before (s ∷ ss) all =

@@ -1,8 +1,8 @@
 -- The bundle of a list of sections, or the number of the fault for which there is none, as a function.
-use Rattle.std.specs.Prelude.{ℕ, List, [], ◌∷◌, ◌++◌, length, nat_lt, nat_le, String, string_bytes, Result, Ok}
+use Rattle.std.specs.Prelude.{◌≡◌, ◌⊎◌, ◌<◌, ℕ, List, [], ◌∷◌, ◌++◌, length, nat_lt, nat_le, String, string_bytes, Result, Ok, Err}
 use Rattle.std.specs.Global.{Vec}
 use Rattle.std.specs.declared.alloc.Global.{Global}
-use Rattle.esc_bundle.specs.Bundle.{Named, limit, bundle_text}
+use Rattle.esc_bundle.specs.Bundle.{Named, limit, bundle_text, AreSections}
 use Rattle.esc_bundle.specs.Steps.{◌>>=◌, check}
 use Rattle.esc_bundle.specs.Reading.{stands_at}
 
@@ -25,3 +25,19 @@ bundle_of ss = do
   some ← check (nat_lt 0 (length ss)) 1
   sections ← in_order [] ss
   within_limit (bundle_text sections)
+
+-- the first section that may not stand behind those before it, and why
+pub record FaultAmong (ss : List Named) (n : ℕ) : Type 0 where
+  pub before : List Named
+  pub section : Named
+  pub after : List Named
+  pub list : ss ≡ before ++ (section ∷ after)
+  pub sections : AreSections before
+  pub fault : stands_at before section.name (length section.bytes) ≡ Err n
+
+-- why no bundle has these sections: there is none, or one of them may not stand where it does, or the whole is too long
+abbrev pub IsUnwritten : List Named → ℕ → Type 0
+IsUnwritten ss n =
+    ((length ss ≡ 0) × (n ≡ 1))
+    ⊎ FaultAmong ss n
+    ⊎ (AreSections ss × (0 < length ss) × (limit < length (bundle_text ss)) × (n ≡ 4))

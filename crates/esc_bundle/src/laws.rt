@@ -6,7 +6,7 @@ ghost use Rattle.std.specs.Prelude.{◌≡◌, ◌≤◌, ◌⊎◌, ◌↔◌, 
 ghost use Rattle.esc_bundle.specs.Bundle.{Named, IsBundle};
 ghost use Rattle.esc_bundle.specs.Reading.{IsFault};
 ghost use Rattle.esc_bundle.specs.Frame.{frame};
-ghost use Rattle.esc_bundle.specs.Writing.{bundle_of};
+ghost use Rattle.esc_bundle.specs.Writing.{bundle_of, IsUnwritten};
 
 /// No bundle begins another.
 pub fn no_bundle_begins_another()
@@ -33,13 +33,15 @@ pub fn frame_is_exact()
     ensures fault { (body : List ℕ) (n : ℕ) → (frame body ≡ Err n) ↔ IsFault body n }
 {}
 
-/// The function `bundle_of` of a list of sections gives its bundle, or a fault where no bundle has
-/// these sections.
+/// The function `bundle_of` of a list of sections gives its bundle, or the fault for which no bundle has
+/// these sections, from U1 to U4.
 pub fn bundle_of_is_exact()
     ensures bundle { (ss : List Named) (body : List ℕ) →
         (bundle_of ss ≡ Ok body) ↔ IsBundle body ss }
     ensures fault { (ss : List Named) (n : ℕ) →
         bundle_of ss ≡ Err n → (body : List ℕ) → IsBundle body ss → ⊥ }
+    ensures unwritten { (ss : List Named) (n : ℕ) → (bundle_of ss ≡ Err n) ↔ IsUnwritten ss n }
+    ensures numbers { (ss : List Named) (n : ℕ) → IsUnwritten ss n → (1 ≤ n) × (n ≤ 4) }
 {}
 
 /// The definition at some texts: the shortest bundle, and one text for each kind of fault.

@@ -1,11 +1,11 @@
 //! From bytes to sections.
 
-ghost use Rattle.std.specs.Prelude.{◌≡◌, ◌<◌, ◌≤◌, List, [], ℕ, length, option_map, IfOk, IfErr, MatchResult, IsErrAnd, Ok, Err, true, if◌then◌else◌, Some, None, ◌==◌, ◌||◌, ◌⊎◌, not};
+ghost use Rattle.std.specs.Prelude.{◌≡◌, ◌≢◌, ◌<◌, ◌≤◌, ◌++◌, List, [], ℕ, length, option_map, IfOk, IfErr, MatchResult, IsErrAnd, Ok, Err, true, if◌then◌else◌, Some, None, ◌==◌, ◌||◌, ◌⊎◌, not};
 ghost use Rattle.std.specs.List.{list_all, list_any, position};
 ghost use Rattle.std.specs.Char.{is_ascii_digit};
 ghost use Rattle.std.specs.Str.{bytes_eq};
 ghost use Rattle.std.specs.Str.Parse.{digits_value};
-ghost use Rattle.esc_bundle.specs.Bundle.{Named, view, views, limit, envelope_name, is_name_byte, is_name, is_length, IsBundle};
+ghost use Rattle.esc_bundle.specs.Bundle.{Named, view, views, limit, first_line, envelope_name, is_name_byte, is_name, is_length, IsBundle};
 ghost use Rattle.esc_bundle.specs.Steps.{Gives, GivesOrNoMemory};
 ghost use Rattle.esc_bundle.specs.Reading.{IsFault, parted, stands_at, length_at, section_at, end_at, next_at};
 ghost use Rattle.esc_bundle.specs.Frame.{frame_after, frame};
@@ -241,7 +241,7 @@ fn gather(alloc: Global, text: &[u8]) -> Result<Vec<Section<'_>>, Fault>
 }
 
 /// The sections of a bundle, in order. Their names and bytes are slices of `body`: nothing is
-/// copied.
+/// copied, as the lifetime of the result says.
 ///
 /// A bundle is the line `escrow-bundle 1`, then one or more sections, then the line `end`. A section
 /// is its name, a space, its length in bytes, a line feed, the bytes and a line feed (this project's
@@ -256,7 +256,8 @@ fn gather(alloc: Global, text: &[u8]) -> Result<Vec<Section<'_>>, Fault>
 /// - `Refused(3)`: a name stood before;
 /// - `Refused(4)`: the body or a section has more than 16,777,216 bytes, or there is a 65th section.
 ///
-/// `NoMemory`, of any body, if there was none for the list of sections.
+/// `NoMemory`, if there was none for the list of sections: of any body up to the limit that begins with
+/// the first line.
 pub fn sections(alloc: Global, body: &[u8]) -> Result<Vec<Section<'_>>, Fault>
     ensures found { IfOk result (λ v. IsBundle body.now (views v.items)) }
     ensures refused { IfErr result (λ e. (n : ℕ) → e ≡ Fault.Refused n → IsFault body.now n) }
@@ -266,6 +267,9 @@ pub fn sections(alloc: Global, body: &[u8]) -> Result<Vec<Section<'_>>, Fault>
         IsErrAnd result (λ e. (e ≡ Fault.Refused n) ⊎ (e ≡ Fault.NoMemory)) }
     ensures framed { IfOk result (λ v. frame body.now ≡ Ok (views v.items)) }
     ensures unframed { IfErr result (λ e. (n : ℕ) → e ≡ Fault.Refused n → frame body.now ≡ Err n) }
+    ensures over_limit { limit < length body.now → result ≡ Err (Fault.Refused 4) }
+    ensures other_line { length body.now ≤ limit →
+        ((rest : List ℕ) → body.now ≢ first_line ++ rest) → result ≡ Err (Fault.Refused 1) }
 {
     if body.len() > LIMIT {
         return Err(OVER_LIMIT);

@@ -4,7 +4,7 @@ ghost use Rattle.std.specs.Prelude.{◌≡◌, ◌++◌, ◌∷◌, [], ℕ, Lis
 ghost use Rattle.std.specs.Fmt.{decimal};
 ghost use Rattle.esc_bundle.specs.Bundle.{view, views, section_text, bundle_text, IsBundle};
 ghost use Rattle.esc_bundle.specs.Steps.{GivesOrNoMemory};
-ghost use Rattle.esc_bundle.specs.Writing.{named, in_order, within_limit, bundle_of};
+ghost use Rattle.esc_bundle.specs.Writing.{named, in_order, within_limit, bundle_of, IsUnwritten};
 
 use crate::fault::{Fault, NoMemory};
 use crate::reading::{BROKEN_FRAME, FIRST_LINE, LAST_LINE, LIMIT, OVER_LIMIT, check_stand};
@@ -83,8 +83,8 @@ fn join(alloc: Global, sections: &[Section<'_>]) -> Result<Vec<u8>, Fault>
 /// - `Refused(4)`: a section or the whole has more than 16,777,216 bytes, or there is a 65th section.
 ///
 /// The faults of the first section that has one count before those of later sections, and its own in
-/// the order 2, 3, 4, 1; the length of the whole comes last. `NoMemory`, for any list, if there was
-/// none for the text.
+/// the order 2, 3, 4, 1; the length of the whole comes last. `NoMemory`, for any list but an empty one,
+/// if there was none for the text.
 pub fn write_bundle(alloc: Global, list: &[(String, Vec<u8>)]) -> Result<Vec<u8>, Fault>
     ensures written { IfOk result (λ v. IsBundle v.items (map named list.now)) }
     ensures refused { IfErr result (λ e. (n : ℕ) → e ≡ Fault.Refused n →
@@ -94,7 +94,11 @@ pub fn write_bundle(alloc: Global, list: &[(String, Vec<u8>)]) -> Result<Vec<u8>
     ensures fault_told { (n : ℕ) → bundle_of (map named list.now) ≡ Err n →
         IsErrAnd result (λ e. (e ≡ Fault.Refused n) ⊎ (e ≡ Fault.NoMemory)) }
     ensures made { IfOk result (λ v. bundle_of (map named list.now) ≡ Ok v.items) }
-    ensures unmade { IfErr result (λ e. (n : ℕ) → e ≡ Fault.Refused n → bundle_of (map named list.now) ≡ Err n) }
+    ensures unmade { IfErr result (λ e. (n : ℕ) → e ≡ Fault.Refused n →
+        bundle_of (map named list.now) ≡ Err n) }
+    ensures unwritten { IfErr result (λ e. (n : ℕ) → e ≡ Fault.Refused n →
+        IsUnwritten (map named list.now) n) }
+    ensures empty { length list.now ≡ 0 → result ≡ Err (Fault.Refused 1) }
 {
     if list.is_empty() {
         return Err(BROKEN_FRAME);

@@ -121,7 +121,7 @@ impl Manifest {
         let rows = self.rows();
         let added = more.rows();
         let union = union_of(alloc, rows, added)?;
-        match rows_fault(union.as_slice()) {
+        match rows_fault(alloc, union.as_slice()) {
             None => Ok(Manifest::of_accepted(union)),
             Some((code, _)) => {
                 let row = blamed(code, rows, added);

@@ -35,6 +35,7 @@
 //! `specs/Extension.antt` has the union of two manifests, or its fault: `Manifest::extend` answers exactly that.
 #![tactic(auto)]
 
+mod apart;
 mod extension;
 mod fault;
 mod fields;

@@ -6,6 +6,9 @@ ghost use Rattle.esc_envelope.specs.Id.{is_id};
 ghost use Rattle.esc_manifest.specs.declared.fault.MFault.TheVariants as MFault;
 ghost use Rattle.esc_manifest.specs.RowFaults.{has_bad_id, has_bad_watermark, lacks_prev, has_bad_resend, same_place, same_revision, moved_id, follows_later, same_digest, first_against_earlier, first_against_any, rows_fault};
 
+use crate::apart::{
+    after_later, id_in_two_places, places_of_ids, repeated_digest, repeated_revision,
+};
 use crate::fault::MFault;
 use crate::manifest::Manifest;
 use crate::row::MRow;
@@ -151,7 +154,7 @@ fn first_bad_resend(rows: &[MRow]) -> Option<usize>
     rows.iter().position(|row| row.header.resend > MOST_RESEND)
 }
 
-fn first_repeated_revision(rows: &[MRow]) -> Option<usize>
+pub(crate) fn first_repeated_revision(rows: &[MRow]) -> Option<usize>
     ensures first { result ≡ first_against_earlier same_revision rows.now }
     ensures within { IfSome result (λ r. r < length rows.now) }
 {
@@ -163,7 +166,7 @@ fn first_repeated_revision(rows: &[MRow]) -> Option<usize>
     None
 }
 
-fn first_moved_id(rows: &[MRow]) -> Option<usize>
+pub(crate) fn first_moved_id(rows: &[MRow]) -> Option<usize>
     ensures first { result ≡ first_against_earlier moved_id rows.now }
     ensures within { IfSome result (λ r. r < length rows.now) }
 {
@@ -175,14 +178,14 @@ fn first_moved_id(rows: &[MRow]) -> Option<usize>
     None
 }
 
-fn first_after_later(rows: &[MRow]) -> Option<usize>
+pub(crate) fn first_after_later(rows: &[MRow]) -> Option<usize>
     ensures first { result ≡ first_against_any follows_later rows.now }
     ensures within { IfSome result (λ r. r < length rows.now) }
 {
     rows.iter().position(|row| follows_any_later(rows, row))
 }
 
-fn first_repeated_digest(rows: &[MRow]) -> Option<usize>
+pub(crate) fn first_repeated_digest(rows: &[MRow]) -> Option<usize>
     ensures first { result ≡ first_against_earlier same_digest rows.now }
     ensures within { IfSome result (λ r. r < length rows.now) }
 {
@@ -195,7 +198,7 @@ fn first_repeated_digest(rows: &[MRow]) -> Option<usize>
 }
 
 #[tactic(auto, unfolding(crate::specs::RowFaults::rows_fault))]
-pub(crate) fn rows_fault(rows: &[MRow]) -> Option<(u8, u32)>
+pub(crate) fn rows_fault(alloc: Global, rows: &[MRow]) -> Option<(u8, u32)>
     ensures { result ≡ rows_fault rows.now }
 {
     if rows.len() > MOST_ROWS {
@@ -213,28 +216,29 @@ pub(crate) fn rows_fault(rows: &[MRow]) -> Option<(u8, u32)>
     if let Some(row) = first_bad_resend(rows) {
         return Some((8, row as u32 + 1));
     }
-    if let Some(row) = first_repeated_revision(rows) {
+    if let Some(row) = repeated_revision(alloc, rows) {
         return Some((10, row as u32 + 1));
     }
-    if let Some(row) = first_moved_id(rows) {
+    let places = places_of_ids(alloc, rows);
+    if let Some(row) = id_in_two_places(&places, rows) {
         return Some((11, row as u32 + 1));
     }
-    if let Some(row) = first_after_later(rows) {
+    if let Some(row) = after_later(&places, rows) {
         return Some((12, row as u32 + 1));
     }
-    if let Some(row) = first_repeated_digest(rows) {
+    if let Some(row) = repeated_digest(alloc, rows) {
         return Some((13, row as u32 + 1));
     }
     None
 }
 
 /// The manifest of these rows. Refuses with the least of M1 (more than 4,096 rows), M4, M6 to M8 and M10 to M13 that
-/// stands in them; a `prev` of an empty text is M4. Takes no memory.
-pub fn from_rows(_alloc: Global, rows: Vec<MRow>) -> Result<Manifest, MFault>
+/// stands in them; a `prev` of an empty text is M4. Memory makes it quick; where that is refused it answers the same.
+pub fn from_rows(alloc: Global, rows: Vec<MRow>) -> Result<Manifest, MFault>
     ensures accepted { rows_fault rows.items ≡ None → result ≡ Ok rows.items }
     ensures refused { (code row : ℕ) → rows_fault rows.items ≡ Some (code, row) → result ≡ Err (MFault.Refused code row) }
 {
-    match rows_fault(rows.as_slice()) {
+    match rows_fault(alloc, rows.as_slice()) {
         Some((code, row)) => Err(MFault::Refused { code, row }),
         None => Ok(Manifest::of_accepted(rows)),
     }

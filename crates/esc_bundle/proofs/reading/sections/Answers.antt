@@ -1,4 +1,4 @@
-use Rattle.std.proofs.Common.{◌≡◌, ◌∙◌, ◌++◌, ap, Err, Some, None}
+use Rattle.std.proofs.Common.{◌≡◌, ◌∙◌, ◌++◌, ap, Err, Some, None, arith}
 use Rattle.std.proofs.lemmas.Slice.Eq.{strip_prefix_is}
 use Rattle.std.proofs.lemmas.Bool.Decides.{Decides-eqb}
 use Rattle.esc_bundle.specs.Bundle.{first_line}
@@ -27,4 +27,6 @@ returns-in-Some c =
       fault_told = a.fault_told;
       framed = a.framed;
       unframed = a.unframed;
+      over_limit = λ over. absurd (omega (arith, over, c.if-body-gt-LIMIT.false));
+      other_line = λ within other. absurd (other c.in-Some.rest.now text);
     }

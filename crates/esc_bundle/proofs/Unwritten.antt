@@ -1,0 +1,88 @@
+-- Why no bundle has some sections.
+use Rattle.std.proofs.Common.{◌≡◌, ◌⊎◌, ℕ, ◌<◌, ◌≤◌, true, false, Bool, List, [], ◌∷◌, ◌++◌, length, Result, Ok, Err, refl, sym, ap, subst, ◌∙◌, arith, inl, inr}
+use Rattle.std.specs.Prelude.{IfErr, nat_le}
+use Rattle.std.specs.Global.{Vec}
+use Rattle.std.proofs.lemmas.Bool.{cases_lt}
+use Rattle.std.proofs.lemmas.Bool.Decides.{nat_tests}
+use Rattle.std.proofs.lemmas.List.{append-nil, length-append}
+use Rattle.esc_bundle.specs.declared.fault.Fault.{Fault}
+use Rattle.esc_bundle.specs.declared.fault.Fault.TheVariants.{Refused}
+use Rattle.esc_bundle.specs.Bundle.{Named, limit, bundle_text, AreSections}
+use Rattle.esc_bundle.specs.Steps.{◌>>=◌, check}
+use Rattle.esc_bundle.specs.Reading.{stands_at}
+use Rattle.esc_bundle.specs.Writing.{in_order, within_limit, bundle_of, FaultAmong, IsUnwritten}
+use Rattle.esc_bundle.proofs.FaultNumbers.{stands_in_range}
+use Rattle.esc_bundle.proofs.OneReading.{may_follow}
+use Rattle.esc_bundle.proofs.SectionTexts.{sections_push, no_sections}
+use Rattle.esc_bundle.proofs.Standing.{stands_takes, stands_again}
+use Rattle.esc_bundle.proofs.Written.{move_over, in_order_takes, in_order_again, over_limit_is, bundle_of_none, bundle_of_some}
+
+-- the first step had the fault, or the next one
+bind_fault : {A B : Type 0} (r : Result A ℕ) (next : A → Result B ℕ) (n : ℕ) → (r >>= next) ≡ Err n → (r ≡ Err n) ⊎ ((x : A) × (r ≡ Ok x) × (next x ≡ Err n))
+bind_fault (Ok x) next n e = inr (x, refl, e)
+bind_fault {A} (Err m) next n e = let same : m ≡ n = cc in inl (ap (λ (k : ℕ). Err k) same)
+
+within_limit_refuses : (text : List ℕ) (n : ℕ) → within_limit text ≡ Err n → (limit < length text) × (n ≡ 4)
+unfolding within_limit
+within_limit_refuses text n e = elim (cases_lt limit (length text)) [
+  | inl over ↦ let four : ◌≡◌ {A = Result (List ℕ) ℕ} (Err n) (Err 4) = sym e ∙ over_limit_is text over in (over, cc)
+  | inr within ↦ let fits : nat_le (length text) limit ≡ true = grind (arith, nat_tests) in absurd (cc (rw fits at e))
+]
+
+-- the first that may not stand where it does
+among : (before ss : List Named) (n : ℕ) → AreSections before → in_order before ss ≡ Err n → FaultAmong (before ++ ss) n
+unfolding in_order
+among before [] n old e = absurd cc
+among before (s ∷ ss) n old e = elim (bind_fault (stands_at before s.name (length s.bytes)) _ n e) [
+  | inl here ↦ record { before = before; section = s; after = ss; list = refl; sections = old; fault = here }
+  | inr (u, stands, later) ↦
+      let more = sections_push before s old (stands_takes before s.name (length s.bytes) u stands) in
+      subst (λ (all : List Named). FaultAmong all n) (sym (move_over before s ss)) (among (before ++ (s ∷ [])) ss n more later)
+]
+
+pub is_unwritten : (ss : List Named) (n : ℕ) → bundle_of ss ≡ Err n → IsUnwritten ss n
+unfolding bundle_of
+is_unwritten ss n e = elim (cases_lt 0 (length ss)) [
+  | inl some ↦ elim (bind_fault (in_order [] ss) (λ all. within_limit (bundle_text all)) n (sym (bundle_of_some ss some) ∙ e)) [
+    | inl disorder ↦ inr (inl (among [] ss n no_sections disorder))
+    | inr (all, order, long) ↦
+        let taken = in_order_takes [] ss all no_sections order in
+        let whole = within_limit_refuses (bundle_text all) n long in
+        inr (inr (subst AreSections taken.1 taken.0, some, subst (λ (l : List Named). limit < length (bundle_text l)) taken.1 whole.0, whole.1))
+  ]
+  | inr none ↦
+      let empty : length ss ≡ 0 = omega arith in
+      let one : ◌≡◌ {A = Result (List ℕ) ℕ} (Err n) (Err 1) = sym e ∙ bundle_of_none ss empty in
+      inl (empty, cc)
+]
+
+-- what stands in order before the rest
+order_at : (before xs ys : List Named) → AreSections (before ++ xs) → in_order before (xs ++ ys) ≡ in_order (before ++ xs) ys
+unfolding in_order
+order_at before [] ys all = ap (λ (b : List Named). in_order b ys) (sym (append-nil before))
+order_at before (s ∷ xs) ys all =
+    let moved : AreSections ((before ++ (s ∷ [])) ++ xs) = subst AreSections (move_over before s xs) all in
+    let rest : in_order (before ++ (s ∷ [])) (xs ++ ys) ≡ in_order (before ++ (s ∷ xs)) ys = order_at (before ++ (s ∷ [])) xs ys moved ∙ ap (λ (b : List Named). in_order b ys) (sym (move_over before s xs)) in
+    rw (stands_again before s.name (length s.bytes) (may_follow before s xs all)) rest
+
+disorder : (before : List Named) (s : Named) (after : List Named) (n : ℕ) → AreSections before → stands_at before s.name (length s.bytes) ≡ Err n → in_order [] (before ++ (s ∷ after)) ≡ Err n
+unfolding in_order
+disorder before s after n old fault = order_at [] before (s ∷ after) old ∙ rw fault refl
+
+pub unwritten_is : (ss : List Named) (n : ℕ) → IsUnwritten ss n → bundle_of ss ≡ Err n
+unwritten_is ss n (inl (none, one)) = bundle_of_none ss none ∙ ap (λ (k : ℕ). Err k) (sym one)
+unwritten_is ss n (inr (inl f)) =
+    let some : 0 < length ss = rw f.list (omega (arith, length-append f.before (f.section ∷ f.after))) in
+    let fault : in_order [] ss ≡ Err n = ap (in_order []) f.list ∙ disorder f.before f.section f.after n f.sections f.fault in
+    bundle_of_some ss some ∙ rw fault refl
+unwritten_is ss n (inr (inr (all, some, long, four))) =
+    bundle_of_some ss some ∙ rw (in_order_again [] ss all) (over_limit_is (bundle_text ss) long) ∙ ap (λ (k : ℕ). Err k) (sym four)
+
+pub unwritten_numbers : (ss : List Named) (n : ℕ) → IsUnwritten ss n → (1 ≤ n) × (n ≤ 4)
+unwritten_numbers ss n (inl (none, one)) = (omega (arith, one), omega (arith, one))
+unwritten_numbers ss n (inr (inl f)) = (stands_in_range f.before f.section.name (length f.section.bytes)).range n f.fault
+unwritten_numbers ss n (inr (inr (all, some, long, four))) = (omega (arith, four), omega (arith, four))
+
+pub unwritten_of : (ss : List Named) (result : Result (Vec ℕ) Fault) → IfErr result (λ e. (n : ℕ) → e ≡ Refused n → bundle_of ss ≡ Err n) → IfErr result (λ e. (n : ℕ) → e ≡ Refused n → IsUnwritten ss n)
+unwritten_of ss (Ok v) told = tt
+unwritten_of ss (Err e) told = λ n same. is_unwritten ss n (told n same)

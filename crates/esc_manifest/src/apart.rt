@@ -1,0 +1,167 @@
+//! The first rows that stand against others. Keys that are looked up in sorted collections tell quickly that there is no
+//! such row, as in each manifest that is accepted; else, and where memory is refused, each row is compared with each.
+
+ghost use Rattle.std.specs.Prelude.{◌≡◌, ◌<◌, length, not, IfOk, IfSome, Some, None, true};
+ghost use Rattle.std.specs.List.{list_all};
+ghost use Rattle.esc_envelope.specs.declared.place.Place.{Place};
+ghost use Rattle.esc_manifest.specs.Lookups.{place_in, HavePlaces, is_no_earlier, names_later};
+ghost use Rattle.esc_manifest.specs.RowFaults.{same_revision, moved_id, follows_later, same_digest, first_against_earlier, first_against_any};
+
+use crate::row::MRow;
+use crate::rows::{
+    first_after_later, first_moved_id, first_repeated_digest, first_repeated_revision,
+};
+use esc_bundle::NoMemory;
+use esc_envelope::{DepositType, Place};
+use std::alloc::Global;
+use std::collections::{BTreeMap, BTreeSet};
+
+fn revision_of(row: &MRow) -> (Place, u32)
+    ensures { result ≡ (row.now.header.place, row.now.header.resend) }
+{
+    (row.header.place, row.header.resend)
+}
+
+// Whether each row's place and resend are its own.
+fn have_own_revisions(alloc: Global, rows: &[MRow]) -> Result<bool, NoMemory>
+    ensures { IfOk result (λ own. own ≡ true → first_against_earlier same_revision rows.now ≡ None) }
+{
+    let mut seen = BTreeSet::new(alloc);
+    for row in rows {
+        if !seen.insert(revision_of(row))? {
+            return Ok(false);
+        }
+    }
+    Ok(true)
+}
+
+// Whether each row's digest is its own.
+fn have_own_digests(alloc: Global, rows: &[MRow]) -> Result<bool, NoMemory>
+    ensures { IfOk result (λ own. own ≡ true → first_against_earlier same_digest rows.now ≡ None) }
+{
+    let mut seen = BTreeSet::new(alloc);
+    for row in rows {
+        if !seen.insert(row.digest)? {
+            return Ok(false);
+        }
+    }
+    Ok(true)
+}
+
+// Whether an id stood in no place before, or in this one.
+fn is_own(before: Option<Place>, place: Place) -> bool
+    ensures { result ≡ true → (other : Place) → before ≡ Some other → other ≡ place }
+{
+    match before {
+        Some(before) => before == place,
+        None => true,
+    }
+}
+
+// The place of each id, if no id stands in two.
+fn own_places(alloc: Global, rows: &[MRow]) -> Result<Option<BTreeMap<&str, Place>>, NoMemory>
+    ensures { IfOk result (λ o. IfSome o (HavePlaces rows.now)) }
+{
+    let mut places = BTreeMap::new(alloc);
+    for row in rows {
+        let header = &row.header;
+        let before = places.insert(header.id.as_str(), header.place)?;
+        if !is_own(before, header.place) {
+            return Ok(None);
+        }
+    }
+    Ok(Some(places))
+}
+
+fn place_of(places: &BTreeMap<&str, Place>, id: &str) -> Option<Place>
+    ensures { result ≡ place_in places.now id.now }
+{
+    places.get(id).copied()
+}
+
+fn is_no_earlier(place: Option<Place>, moment: i64) -> bool
+    ensures { result ≡ is_no_earlier place moment }
+{
+    match place {
+        Some(place) => place.watermark >= moment,
+        None => false,
+    }
+}
+
+// Whether a row is a Differential that names an id with a place that isn't earlier.
+fn names_later(places: &BTreeMap<&str, Place>, row: &MRow) -> bool
+    ensures { result ≡ names_later places.now row.now }
+{
+    if row.header.place.kind != DepositType::Diff {
+        return false;
+    }
+    match &row.header.prev {
+        Some(prev) => is_no_earlier(place_of(places, prev.as_str()), row.header.place.watermark),
+        None => false,
+    }
+}
+
+fn name_earlier(places: &BTreeMap<&str, Place>, rows: &[MRow]) -> bool
+    ensures { result ≡ list_all (λ row. not (names_later places.now row)) rows.now }
+{
+    rows.iter().all(|row| !names_later(places, row))
+}
+
+/// The least row that repeats the place and resend of an earlier one.
+pub(crate) fn repeated_revision(alloc: Global, rows: &[MRow]) -> Option<usize>
+    ensures first { result ≡ first_against_earlier same_revision rows.now }
+    ensures within { IfSome result (λ r. r < length rows.now) }
+{
+    match have_own_revisions(alloc, rows) {
+        Ok(true) => None,
+        _ => first_repeated_revision(rows),
+    }
+}
+
+/// The least row that repeats the digest of an earlier one.
+pub(crate) fn repeated_digest(alloc: Global, rows: &[MRow]) -> Option<usize>
+    ensures first { result ≡ first_against_earlier same_digest rows.now }
+    ensures within { IfSome result (λ r. r < length rows.now) }
+{
+    match have_own_digests(alloc, rows) {
+        Ok(true) => None,
+        _ => first_repeated_digest(rows),
+    }
+}
+
+/// The place of each id, if no id stands in two, and if memory suffices.
+pub(crate) fn places_of_ids(alloc: Global, rows: &[MRow]) -> Option<BTreeMap<&str, Place>>
+    ensures { IfSome result (HavePlaces rows.now) }
+{
+    match own_places(alloc, rows) {
+        Ok(places) => places,
+        Err(NoMemory) => None,
+    }
+}
+
+/// The least row whose id stands in another place too.
+pub(crate) fn id_in_two_places(
+    places: &Option<BTreeMap<&str, Place>>,
+    rows: &[MRow],
+) -> Option<usize>
+    requires { IfSome places.now (HavePlaces rows.now) }
+    ensures first { result ≡ first_against_earlier moved_id rows.now }
+    ensures within { IfSome result (λ r. r < length rows.now) }
+{
+    match places {
+        Some(_) => None,
+        None => first_moved_id(rows),
+    }
+}
+
+/// The least Differential that names a row which isn't earlier.
+pub(crate) fn after_later(places: &Option<BTreeMap<&str, Place>>, rows: &[MRow]) -> Option<usize>
+    requires { IfSome places.now (HavePlaces rows.now) }
+    ensures first { result ≡ first_against_any follows_later rows.now }
+    ensures within { IfSome result (λ r. r < length rows.now) }
+{
+    match places {
+        Some(places) if name_earlier(places, rows) => None,
+        _ => first_after_later(rows),
+    }
+}
