@@ -1,7 +1,7 @@
 //! The commands, each over a store in a file.
 
 use crate::command_line::{DeskTask, Invocation, Task, parse};
-use crate::files::read_file;
+use crate::files::{MOST_MANIFEST_BYTES, read_file};
 use crate::serve::serve_connections;
 use crate::stop::{DONE, NO_MEMORY, Stop, USAGE, print, tell_stop};
 use crate::store_file::{
@@ -155,9 +155,9 @@ where
     })
 }
 
-// The manifest that a file has.
+// The manifest that a file has. One that is too long is refused by its first bytes.
 fn manifest_of(rt: &HostRuntime, path: &str) -> Result<Manifest, Stop> {
-    let text = read_file(rt, path)?;
+    let text = read_file(rt, path, MOST_MANIFEST_BYTES)?;
     match read_manifest(rt.alloc(), &text) {
         Ok(manifest) => Ok(manifest),
         Err(fault) => Err(Stop::Manifest(fault)),

@@ -1,11 +1,14 @@
 //! Files and folders.
 
 use crate::stop::{NO_MEMORY, Stop};
-use std::fs;
-use std::io::{Error, ErrorKind};
+use std::fs::{self, File};
+use std::io::{Error, ErrorKind, Read};
 
 /// The most bytes of a body.
 pub const MOST_BYTES: u64 = 16_777_216;
+
+/// The most bytes of a manifest.
+pub const MOST_MANIFEST_BYTES: u64 = 4_194_304;
 
 /// The plain files of a folder.
 #[derive(Drop)]
@@ -35,20 +38,65 @@ pub fn is_missing(rt: &HostRuntime, path: &str) -> bool {
     }
 }
 
-/// A file's bytes.
-pub fn read_file(rt: &HostRuntime, path: &str) -> Result<Vec<u8>, Stop> {
-    match fs::read(rt, path) {
+/// Whether the system lets a file be read and written: `E1 PATH` if not. None is made.
+pub fn check_access(rt: &HostRuntime, path: &str) -> Result<(), Stop> {
+    match File::options().read(true).write(true).open(rt, path) {
+        Ok(_) => Ok(()),
+        Err(error) => Err(stop_at(rt, path, &error)),
+    }
+}
+
+/// The bytes of a plain file, or of one that a link leads to: at most one more than `most`. So a file that is too long shows
+/// in the length of what was read, and its end is not waited for.
+pub fn read_file(rt: &HostRuntime, path: &str, most: u64) -> Result<Vec<u8>, Stop> {
+    plain_length(rt, path, fs::metadata(rt, path))?;
+    read_front(rt, path, most)
+}
+
+/// The body in a plain file, which may not be a link. There is none in a file that is too long for one.
+pub fn read_body(rt: &HostRuntime, path: &str) -> Result<Option<Vec<u8>>, Stop> {
+    if plain_length(rt, path, fs::symlink_metadata(rt, path))? > MOST_BYTES {
+        return Ok(None);
+    }
+    let body = read_front(rt, path, MOST_BYTES)?;
+    if body.len() as u64 > MOST_BYTES {
+        Ok(None)
+    } else {
+        Ok(Some(body))
+    }
+}
+
+// The length of what was found at a path, which has to be a plain file: a pipe would be waited for until somebody writes it,
+// and a device may have no end.
+fn plain_length(
+    rt: &HostRuntime,
+    path: &str,
+    found: Result<fs::Metadata, Error>,
+) -> Result<u64, Stop> {
+    match found {
+        Ok(found) if found.is_file() => Ok(found.len()),
+        Ok(_) => Err(stop_at(rt, path, &Error::from(ErrorKind::Unsupported))),
+        Err(error) => Err(stop_at(rt, path, &error)),
+    }
+}
+
+// The first bytes of a plain file, one more than `most` at most.
+fn read_front(rt: &HostRuntime, path: &str, most: u64) -> Result<Vec<u8>, Stop> {
+    match front_of(rt, path, most) {
         Ok(bytes) => Ok(bytes),
         Err(error) => Err(stop_at(rt, path, &error)),
     }
 }
 
-/// How many bytes a file has.
-pub fn file_length(rt: &HostRuntime, path: &str) -> Result<u64, Stop> {
-    match fs::metadata(rt, path) {
-        Ok(metadata) => Ok(metadata.len()),
-        Err(error) => Err(stop_at(rt, path, &error)),
+// What was opened is looked at again: something else may have come to stand at the path.
+fn front_of(rt: &HostRuntime, path: &str, most: u64) -> Result<Vec<u8>, Error> {
+    let file = File::open(rt, path)?;
+    if !file.metadata()?.is_file() {
+        return Err(Error::from(ErrorKind::Unsupported));
     }
+    let mut bytes = Vec::new(rt.alloc());
+    file.take(most.saturating_add(1)).read_to_end(&mut bytes)?;
+    Ok(bytes)
 }
 
 /// The plain files of a folder. Folders in it are passed over.

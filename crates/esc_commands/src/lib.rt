@@ -13,7 +13,7 @@
 //! | `commands` | what is asked for, from the words to the status |
 //! | `store_file` | opens the file of a store and closes it, once for each command |
 //! | `take` | takes the plain files of a folder, in byte order of names |
-//! | `serve` | serves connections on a port, one after the other |
+//! | `serve` | serves connections on a port, one after the other, each within a time |
 //! | `files` | reads files, and lists folders |
 //! | `stop` | what a command stops for, its text and its status |
 //!
@@ -28,16 +28,17 @@
 //! # Order of refusals
 //!
 //! The first of these that fails is told: the words (status 2), the manifest (`M1` to `M13`, status 1, or `E1` where it
-//! can't be read), the store (`S1` to `S4`), the folder or the port (`E1`), then file by file (`N1`, `E2`, and the verdict of the
-//! receipt, status 1). `S1` to `S4` and `E1` stop a command with status 3; what was answered before stays. A report is
-//! printed once the store is closed.
+//! can't be read), the store (`S1` to `S4`, or `E1` where its file can't be read and written), the folder or the port
+//! (`E1`), then file by file (`N1`, `E1`, `E2`, and the verdict of the receipt, status 1). `S1` to `S4` and `E1` stop a
+//! command with status 3; what was answered before stays. A report is printed once the store is closed.
 //!
 //! # What is promised
 //!
-//! By proof: that no call is unsafe and that each ends, whatever the words, files and requests are. What a store stands for after
-//! each arrival is the contract of [`esc_desk::Desk::run`], what a request is answered is that of [`esc_http::serve_one`], and
-//! the texts of reports are that of [`esc_http::report`]. No contract can say what a file holds or what is printed, so the
-//! texts, statuses and the order of refusals are tested, in `restore_tests`.
+//! By proof: that no call is unsafe and that each ends, whatever the words, files and requests are. What a store stands
+//! for after each arrival is the contract of [`esc_desk::Desk::run`], what a request is answered is that of
+//! [`esc_http::serve_one`], how long its client is waited for that of [`esc_client::Client`], and the texts of reports are
+//! that of [`esc_http::report`]. No contract can say what a file holds or what is printed, so the texts, statuses and the
+//! order of refusals are tested, in `restore_tests`.
 #![tactic(auto)]
 
 mod command_line;
@@ -51,4 +52,4 @@ mod take;
 pub use commands::run_words;
 pub use files::MOST_BYTES;
 pub use serve::serve_streams;
-pub use stop::{NO_MEMORY, Stop, tell_stop};
+pub use stop::{NO_MEMORY, Stop, tell_no_text, tell_stop};

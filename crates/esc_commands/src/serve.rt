@@ -2,26 +2,21 @@
 
 use crate::files::stop_at;
 use crate::stop::{DONE, Stop, print};
+use esc_client::{Client, Patience};
 use esc_desk::Desk;
 use esc_http::{ServeFault, serve_one};
 use sqlite::Alter;
 use std::io::{Error, Read, Write};
 use std::net::{Net, Shutdown, TcpListener, TcpStream};
-use std::time::Duration;
 
-/// How many seconds a connection may stand still. Then its read or write fails, so that nobody holds up the next one.
-const PATIENCE: u64 = 60;
-
-/// How many seconds a client may stand still that has its response and still sends.
-const PATIENCE_AFTER: u64 = 1;
-
-/// How often what such a client sends is read, up to so many bytes at once.
+/// How often it is read what a client sends that has its response, up to so many bytes at once.
 const READS_AFTER: usize = 2048;
 
 const BYTES_AT_ONCE: usize = 16_384;
 
 /// Listens on a port of 127.0.0.1, says so, and serves connections one after the other: one request each. A read or
-/// write that fails is told, and the next connection is served. Answers the status.
+/// write that fails is told, as one does of a client that was waited for too long, and the next connection is served. Returns
+/// the status.
 pub fn serve_connections<N, S, O, E>(
     rt: &HostRuntime,
     net: &N,
@@ -60,22 +55,20 @@ fn serve_next<S: Alter, E: Write>(
     err: &mut E,
 ) -> Result<(), Error> {
     let (stream, _address) = listener.accept()?;
-    let patience = Some(Duration::from_secs(PATIENCE));
-    stream.set_read_timeout(patience)?;
-    stream.set_write_timeout(patience)?;
-    serve_streams(rt, desk, &mut &stream, &mut &stream, err);
-    see_off(&stream);
+    let mut reader = Client::new(rt, &stream, Patience::for_request());
+    let mut writer = Client::new(rt, &stream, Patience::for_response());
+    serve_streams(rt, desk, &mut reader, &mut writer, err);
+    see_off(rt, &stream);
     Ok(())
 }
 
 // Ends a connection. A client whose request was refused before its end still sends, and where nobody reads that it finds the
 // connection broken and may miss its response: so the rest is read and dropped, within limits.
-fn see_off(stream: &TcpStream) {
-    let patience = Some(Duration::from_secs(PATIENCE_AFTER));
-    if stream.shutdown(Shutdown::Write).is_err() || stream.set_read_timeout(patience).is_err() {
+fn see_off(rt: &HostRuntime, stream: &TcpStream) {
+    if stream.shutdown(Shutdown::Write).is_err() {
         return;
     }
-    let mut reader = stream;
+    let mut reader = Client::new(rt, stream, Patience::for_rest());
     let mut rest = [0; BYTES_AT_ONCE];
     for _ in 0..READS_AFTER {
         if !matches!(reader.read(&mut rest), Ok(1..)) {

@@ -47,7 +47,7 @@ impl Stop {
 impl fmt::Display for Stop {
     fn fmt<W: fmt::Write>(&self, f: &mut fmt::Formatter<W>) -> fmt::Result {
         match self {
-            Stop::Unreadable(path) => write!(f, "E1 {path}"),
+            Stop::Unreadable(path) => write!(f, "E1 {}", OneLine(path.as_str())),
             Stop::Manifest(MFault::NoMemory) => f.write_str("S2"),
             Stop::Manifest(fault) => write!(f, "{fault}"),
             Stop::Store(fault) => write!(f, "{fault}"),
@@ -79,6 +79,30 @@ impl<T: Drop> From<AllocFailed<T>> for Stop {
     }
 }
 
+/// A name or a path as a refusal tells it: in one line, so that no name can look like a second refusal. Where a control
+/// character is in it, as a line end, those are escaped as Rust writes them (`\n`, `\u{1b}`), and so are backslashes.
+#[derive(Clone, Copy)]
+struct OneLine<'a>(&'a str);
+
+impl fmt::Display for OneLine<'_> {
+    fn fmt<W: fmt::Write>(&self, f: &mut fmt::Formatter<W>) -> fmt::Result {
+        if self.0.is_empty() {
+            return f.write_str("(an empty path)");
+        }
+        if !self.0.chars().any(char::is_control) {
+            return f.write_str(self.0);
+        }
+        for letter in self.0.chars() {
+            if letter.is_control() || letter == '\\' {
+                write!(f, "{}", letter.escape_default())?;
+            } else {
+                f.write_char(letter)?;
+            }
+        }
+        Ok(())
+    }
+}
+
 /// Prints on standard output, whose path is `-`.
 pub fn print<O: Write>(rt: &HostRuntime, out: &mut O, text: &[u8]) -> Result<(), Stop> {
     match out.write_all(text) {
@@ -94,9 +118,17 @@ pub fn tell<E: Write>(
     refusal: &str,
     name: &str,
 ) -> Result<(), Stop> {
-    let line = format!(in rt.alloc(); "{refusal} {name}\n")?;
+    let line = format!(in rt.alloc(); "{refusal} {}\n", OneLine(name))?;
     let _ = err.write_all(line.as_bytes());
     Ok(())
+}
+
+/// Tells that a word is no text, as `clap` does where it is given one, and answers the status.
+pub fn tell_no_text<E: Write>(err: &mut E) -> u8 {
+    let _ = err.write_all(
+        b"error: invalid UTF-8 was detected in one or more arguments\n\nFor more information, try '--help'.\n",
+    );
+    USAGE
 }
 
 /// Tells what the program stops for, and answers its status. Want of memory is told without any.

@@ -2,12 +2,12 @@
 //!
 //! The functions over a `Connection<S>` do the work. Those over a `FileStore<File>` only open and close.
 
-use crate::files::is_missing;
+use crate::files::{check_access, is_missing};
 use crate::stop::Stop;
 use esc_desk::{Desk, SFault};
 use esc_manifest::Manifest;
 use esc_store::Store;
-use sqlite::{Alter, Connection, File, FileStore};
+use sqlite::{Alter, Connection, Error, ErrorCode, File, FileStore};
 use std::alloc::Global;
 
 /// A connection after its use, and what came of that.
@@ -27,8 +27,25 @@ pub struct Closed<T> {
 pub fn open_file(rt: &HostRuntime, path: &str) -> Result<Connection<FileStore<File>>, Stop> {
     match Connection::open(rt, path) {
         Ok(connection) => Ok(connection),
+        Err(Error::SqliteFailure(ErrorCode::CannotOpen)) => Err(why_closed(rt, path)),
         Err(error) => Err(Stop::Store(SFault::from(error))),
     }
+}
+
+// Why a file can't be opened as a database: `E1` where the system doesn't let it be read and written, else `S1`.
+fn why_closed(rt: &HostRuntime, path: &str) -> Stop {
+    if names_no_file(path) {
+        return Stop::Store(SFault::S1);
+    }
+    match check_access(rt, path) {
+        Ok(()) => Stop::Store(SFault::S1),
+        Err(stop) => stop,
+    }
+}
+
+// Whether a path means something else to SQLite than a file of that name.
+fn names_no_file(path: &str) -> bool {
+    path == ":memory:" || path.starts_with("file:")
 }
 
 /// The database of a file that is there: `S3` where it is not.

@@ -1,6 +1,6 @@
 //! Taking a folder of deposits.
 
-use crate::files::{MOST_BYTES, file_length, path_in, plain_files, read_file};
+use crate::files::{path_in, plain_files, read_body};
 use crate::stop::{DONE, NO_MEMORY, REFUSED, Stop, print, tell};
 use esc_desk::{Arrival, Desk, Outcome, Reply, Verdict, number};
 use esc_http::{receipt_line, receipts_heading};
@@ -46,11 +46,10 @@ fn take_file<S: Alter, O: Write, E: Write>(
         return Ok(false);
     };
     let path = path_in(rt, folder, name)?;
-    if file_length(rt, path.as_str())? > MOST_BYTES {
+    let Some(body) = read_body(rt, path.as_str())? else {
         tell(rt, err, "E2", name)?;
         return Ok(false);
-    }
-    let body = read_file(rt, path.as_str())?;
+    };
     let reply = answer(
         rt,
         desk,

@@ -1,0 +1,104 @@
+//! A client's connection.
+
+ghost use Rattle.std.specs.Prelude.{◌≡◌, None, IsErr, IfOk};
+ghost use Rattle.std.specs.Duration.{as_nanos};
+ghost use Rattle.std.specs.Io.{ReadsAtMost, WritesAtMost};
+ghost use Rattle.std.specs.Io.KnownBytes.{ReadConsumes, WriteAppends};
+ghost use Rattle.esc_client.specs.Patience.{IsOver, next_wait};
+
+use crate::patience::Patience;
+use std::io::{Error, ErrorKind, Read, Result, Write};
+use std::net::TcpStream;
+use std::time::{Clock, Duration, Instant};
+
+/// A stream whose reads and writes can be limited in time.
+pub trait Timed {
+    /// From now on a read that waits longer fails.
+    fn limit_reads(&self, time: Duration) -> Result<()>;
+
+    /// From now on a write that waits longer fails, or takes some bytes alone.
+    fn limit_writes(&self, time: Duration) -> Result<()>;
+}
+
+impl Timed for &TcpStream {
+    fn limit_reads(&self, time: Duration) -> Result<()> {
+        self.set_read_timeout(Some(time))
+    }
+
+    fn limit_writes(&self, time: Duration) -> Result<()> {
+        self.set_write_timeout(Some(time))
+    }
+}
+
+/// A stream that is read, or written, as long as the patience with its client lasts.
+#[derive(Drop)]
+pub struct Client<'a, C, S: Drop> {
+    clock: &'a C,
+    stream: S,
+    patience: Patience,
+}
+
+impl<'a, C: Clock, S: Timed + Drop> Client<'a, C, S> {
+    /// A client that has not been waited for.
+    pub fn new(clock: &'a C, stream: S, patience: Patience) -> Client<'a, C, S> {
+        Client {
+            clock,
+            stream,
+            patience,
+        }
+    }
+
+    // How long the next wait may last.
+    fn next_wait(&self) -> Result<Duration>
+        ensures over { IsOver self.now.patience → IsErr result }
+        ensures time { IfOk result (λ time. as_nanos time ≡ next_wait self.now.patience) }
+    {
+        match self.patience.next_wait() {
+            Some(time) => Ok(time),
+            None => Err(Error::from(ErrorKind::TimedOut)),
+        }
+    }
+
+    // Counts a wait that began then, in which so many bytes came or went.
+    fn count(&mut self, begun: Instant, moved: &Result<usize>) -> Result<()> {
+        let bytes = match moved {
+            Ok(bytes) => *bytes,
+            Err(_) => 0,
+        };
+        let time = begun.elapsed(self.clock)?;
+        self.patience.count(time, bytes);
+        Ok(())
+    }
+}
+
+impl<C: Clock, S: Read + Timed + Drop> Read for Client<'_, C, S> {
+    fn read(&mut self, buf: &mut [u8]) -> Result<usize>
+        ensures bound { ReadsAtMost result buf.new }
+        ensures bytes { ReadConsumes None None result buf.new }
+        ensures over { IsOver self.old.patience → IsErr result }
+    {
+        self.stream.limit_reads(self.next_wait()?)?;
+        let begun = Instant::now(self.clock)?;
+        let moved = self.stream.read(buf);
+        self.count(begun, &moved)?;
+        moved
+    }
+}
+
+impl<C: Clock, S: Write + Timed + Drop> Write for Client<'_, C, S> {
+    fn write(&mut self, buf: &[u8]) -> Result<usize>
+        ensures bound { WritesAtMost result buf.now }
+        ensures bytes { WriteAppends None None result buf.now }
+        ensures over { IsOver self.old.patience → IsErr result }
+    {
+        self.stream.limit_writes(self.next_wait()?)?;
+        let begun = Instant::now(self.clock)?;
+        let moved = self.stream.write(buf);
+        self.count(begun, &moved)?;
+        moved
+    }
+
+    fn flush(&mut self) -> Result<()> {
+        self.stream.flush()
+    }
+}

@@ -1,0 +1,109 @@
+//! How long a client is waited for.
+
+ghost use Rattle.std.specs.Prelude.{◌≡◌, ◌+◌, ◌^◌, ◌-◌, ◌↔◌, min, IsNone, IfSome};
+ghost use Rattle.std.specs.Duration.{as_nanos, max_nanos};
+ghost use Rattle.esc_client.specs.Patience.{most_seconds, pause, moved, waited, granted, next_wait, IsOver, IsNew};
+
+use std::time::Duration;
+
+/// How many seconds a client is waited for before any byte has come or gone.
+pub const FIRST_SECONDS: u64 = 10;
+
+/// For each so many bytes that come or go a client is waited for a second more.
+pub const BYTES_A_SECOND: u64 = 65_536;
+
+/// How many seconds a request is waited for at most.
+pub const MOST_REQUEST_SECONDS: u64 = 300;
+
+/// How many seconds are spent at most on what a client still sends that has its response.
+pub const REST_SECONDS: u64 = 10;
+
+/// How many seconds such a client may stand still.
+pub const REST_PAUSE_SECONDS: u64 = 1;
+
+/// How long a client is still waited for.
+#[derive(Clone, Copy, Debug)]
+pub struct Patience {
+    /// How many seconds at most, whatever comes or goes.
+    most: u64,
+    /// How long at once.
+    pause: Duration,
+    /// How many bytes have come or gone.
+    bytes: u64,
+    /// How long the client has been waited for.
+    waited: Duration,
+}
+
+impl Patience {
+    /// With a client that sends its request.
+    pub fn for_request() -> Patience
+        ensures new { IsNew result }
+        ensures most { most_seconds result ≡ 300 }
+        ensures pause { pause result ≡ max_nanos }
+    {
+        Patience::new(MOST_REQUEST_SECONDS, Duration::MAX)
+    }
+
+    /// With a client that takes its response.
+    pub fn for_response() -> Patience
+        ensures new { IsNew result }
+        ensures most { most_seconds result ≡ 2 ^ 64 - 1 }
+        ensures pause { pause result ≡ max_nanos }
+    {
+        Patience::new(u64::MAX, Duration::MAX)
+    }
+
+    /// With a client that has its response and still sends.
+    pub fn for_rest() -> Patience
+        ensures new { IsNew result }
+        ensures most { most_seconds result ≡ 10 }
+        ensures pause { pause result ≡ 1_000_000_000 }
+    {
+        Patience::new(REST_SECONDS, Duration::from_secs(REST_PAUSE_SECONDS))
+    }
+
+    fn new(most: u64, at_once: Duration) -> Patience
+        ensures new { IsNew result }
+        ensures most { most_seconds result ≡ most }
+        ensures pause { pause result ≡ as_nanos at_once }
+    {
+        Patience {
+            most,
+            pause: at_once,
+            bytes: 0,
+            waited: Duration::ZERO,
+        }
+    }
+
+    // How long the client is waited for in all, by the bytes so far.
+    fn granted(&self) -> Duration
+        ensures { as_nanos result ≡ granted self.now }
+    {
+        let seconds = FIRST_SECONDS + self.bytes / BYTES_A_SECOND;
+        Duration::from_secs(seconds.min(self.most))
+    }
+
+    /// How long the next wait may last. There is none once the client was waited for as long as it is granted.
+    pub fn next_wait(&self) -> Option<Duration>
+        ensures none { IsNone result ↔ IsOver self.now }
+        ensures some { IfSome result (λ time. as_nanos time ≡ next_wait self.now) }
+    {
+        let left = self.granted().saturating_sub(self.waited);
+        if left.is_zero() {
+            None
+        } else {
+            Some(left.min(self.pause))
+        }
+    }
+
+    /// Counts a wait, and the bytes that came or went in it.
+    pub fn count(&mut self, time: Duration, bytes: usize)
+        ensures waited { waited self.new ≡ min (waited self.old + as_nanos time) max_nanos }
+        ensures moved { moved self.new ≡ min (moved self.old + bytes) (2 ^ 64 - 1) }
+        ensures most { most_seconds self.new ≡ most_seconds self.old }
+        ensures pause { pause self.new ≡ pause self.old }
+    {
+        self.waited = self.waited.saturating_add(time);
+        self.bytes = self.bytes.saturating_add(bytes as u64);
+    }
+}
