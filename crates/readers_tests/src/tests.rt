@@ -4,6 +4,7 @@ mod asserts;
 mod bundle;
 mod envelope;
 mod extension;
+mod lying;
 mod manifest;
 mod record;
 mod shown;

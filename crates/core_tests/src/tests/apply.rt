@@ -4,10 +4,7 @@ mod bodies;
 mod stopping;
 
 use super::asserts::assert_told;
-use bodies::{
-    Body, D2, D2_BOTH, D2_RESENT, D3, D6, F1, F2, F5, I4, deposit, deposits_from, key, object,
-    steps,
-};
+use bodies::{deposit, deposits_from, insert, key, named, steps};
 use esc_apply::{
     MapObjects, MemRegistry, Objects, Registry, Step, Work, apply_step, common_front, move_chain,
     undo_step,
@@ -39,8 +36,8 @@ fn go<R: Registry>(
     rt: &impl Abort,
     alloc: Global,
     r: &mut R,
-    old: &[Body],
-    new: &[Body],
+    old: &str,
+    new: &str,
 ) -> Result<Work, R::Error> {
     let old_steps = steps(alloc, old)?;
     let new_steps = steps(alloc, new)?;
@@ -49,20 +46,10 @@ fn go<R: Registry>(
     move_along(rt, alloc, r, &old_steps, &new_steps, &deposits)
 }
 
-/// Domains, by their first letters.
-static DOMAINS: [(&str, &str); 7] = [
-    ("a", "a.example"),
-    ("b", "b.example"),
-    ("c", "c.example"),
-    ("d", "d.example"),
-    ("e", "e.example"),
-    ("f", "f.example"),
-    ("z", "z.example"),
-];
-
-// A domain of a registry, if it is there.
-fn domain(alloc: Global, r: &mut MemRegistry, name: &str) -> Result<Option<Object>, NoMemory> {
-    r.get(alloc, &key(alloc, Kind::Domain, name)?)
+// The domain of a registry that begins with this letter, if it is there.
+fn domain(alloc: Global, r: &mut MemRegistry, letter: char) -> Result<Option<Object>, NoMemory> {
+    let name = format!(in alloc; "{letter}.example")?;
+    r.get(alloc, &key(alloc, Kind::Domain, &name)?)
 }
 
 // The registrar that sponsors an object.
@@ -73,13 +60,29 @@ fn sponsor(object: &Object) -> &str {
     }
 }
 
+fn push_sponsor(text: &mut String, letter: char, object: &Object) -> Result<(), NoMemory> {
+    let sponsor = sponsor(object);
+    write!(text, " {letter}={sponsor}")?;
+    Ok(())
+}
+
+// A domain with its sponsor, if it is there.
+fn push_domain(
+    text: &mut String,
+    alloc: Global,
+    r: &mut MemRegistry,
+    letter: char,
+) -> Result<(), NoMemory> {
+    match domain(alloc, r, letter)? {
+        Some(domain) => push_sponsor(text, letter, &domain),
+        None => Ok(()),
+    }
+}
+
 // The domains of a registry, each with its sponsor, and a line feed.
 fn push_domains(text: &mut String, alloc: Global, r: &mut MemRegistry) -> Result<(), NoMemory> {
-    for (letter, name) in &DOMAINS {
-        if let Some(domain) = domain(alloc, r, name)? {
-            let sponsor = sponsor(&domain);
-            write!(text, " {letter}={sponsor}")?;
-        }
+    for letter in "abcdefz".chars() {
+        push_domain(text, alloc, r, letter)?;
     }
     text.push_str("\n")?;
     Ok(())
@@ -104,8 +107,8 @@ fn push_move(
     rt: &impl Abort,
     alloc: Global,
     r: &mut MemRegistry,
-    old: &[Body],
-    new: &[Body],
+    old: &str,
+    new: &str,
 ) -> Result<(), NoMemory> {
     let before = r.writes();
     let work = go(rt, alloc, r, old, new)?;
@@ -116,64 +119,60 @@ fn push_move(
 }
 
 // What a registry did in a move, how many writes it counts more, and which domains it has then.
-fn moved(rt: &impl Abort, alloc: Global, old: &[Body], new: &[Body]) -> Result<String, NoMemory> {
+fn moved(rt: &impl Abort, alloc: Global, old: &str, new: &str) -> Result<String, NoMemory> {
     let mut text = String::new(alloc);
     let mut r = MemRegistry::new(alloc);
-    go(rt, alloc, &mut r, &[], old)?;
+    go(rt, alloc, &mut r, "", old)?;
     push_move(&mut text, rt, alloc, &mut r, old, new)?;
     push_domains(&mut text, alloc, &mut r)?;
     Ok(text)
 }
 
 /// The chain that was, the chain that is, and what is told of the move.
-static MOVES: [(&[Body], &[Body], &str); 12] = [
-    (&[], &[], "kept, 0 back, 0 on, 0 writes, Some(0):\n"),
-    (&[], &[F1], "kept, 0 back, 1 on, 3 writes, Some(3): a=R1\n"),
+static MOVES: [(&str, &str, &str); 12] = [
+    ("", "", "kept, 0 back, 0 on, 0 writes, Some(0):\n"),
+    ("", "F1", "kept, 0 back, 1 on, 3 writes, Some(3): a=R1\n"),
+    ("F1", "F1", "kept, 0 back, 0 on, 0 writes, Some(0): a=R1\n"),
     (
-        &[F1],
-        &[F1],
-        "kept, 0 back, 0 on, 0 writes, Some(0): a=R1\n",
-    ),
-    (
-        &[],
-        &[F1, D2, D3],
+        "",
+        "F1 D2 D3",
         "kept, 0 back, 3 on, 5 writes, Some(5): b=R1\n",
     ),
     (
-        &[F1, D2],
-        &[F1, D2, D3],
+        "F1 D2",
+        "F1 D2 D3",
         "kept, 0 back, 1 on, 1 writes, Some(1): b=R1\n",
     ),
-    (&[], &[F5], "kept, 0 back, 1 on, 4 writes, Some(4): e=R1\n"),
+    ("", "F5", "kept, 0 back, 1 on, 4 writes, Some(4): e=R1\n"),
     (
-        &[F5],
-        &[F5, D6],
+        "F5",
+        "F5 D6",
         "kept, 0 back, 1 on, 2 writes, Some(2): e=R1 f=R1\n",
     ),
     (
-        &[F1, D2, D3],
-        &[F1, I4],
+        "F1 D2 D3",
+        "F1 I4",
         "kept, 2 back, 1 on, 3 writes, Some(3): a=R1 d=R1\n",
     ),
     (
-        &[F1, D2, D3],
-        &[F1, D2_RESENT, D3],
+        "F1 D2 D3",
+        "F1 D2-resent D3",
         "kept, 2 back, 2 on, 5 writes, Some(5): b=R1 c=R1\n",
     ),
     (
-        &[F1, D2, D3],
-        &[F1, D2],
+        "F1 D2 D3",
+        "F1 D2",
         "kept, 1 back, 0 on, 1 writes, Some(1): a=R1 b=R1\n",
     ),
     (
-        &[F1, D2],
-        &[F2],
+        "F1 D2",
+        "F2",
         "cleared, 0 back, 1 on, 3 writes, Some(3): z=R1\n",
     ),
     // Contents come after deletes.
     (
-        &[F1],
-        &[F1, D2_BOTH],
+        "F1",
+        "F1 D2-both",
         "kept, 0 back, 1 on, 1 writes, Some(1): a=R2\n",
     ),
 ];
@@ -185,14 +184,28 @@ fn moves(rt: HostRuntime) {
     }
 }
 
+// A body applied as a step, with its writes.
+fn push_step(
+    text: &mut String,
+    alloc: Global,
+    r: &mut MemRegistry,
+    step: u32,
+    name: &str,
+) -> Result<(), NoMemory> {
+    let Some(body) = named(name) else {
+        return Ok(());
+    };
+    let deposit = deposit(alloc, &body)?;
+    let writes = apply_step(r, alloc, step, &deposit)?;
+    writeln!(text, "{step} on, {writes}")?;
+    Ok(())
+}
+
 // F1, D2 and D3 applied, with the writes of each.
 fn push_applied(text: &mut String, alloc: Global, r: &mut MemRegistry) -> Result<(), NoMemory> {
-    for (step, body) in [(1, &F1), (2, &D2), (3, &D3)] {
-        let deposit = deposit(alloc, body)?;
-        let writes = apply_step(r, alloc, step, &deposit)?;
-        writeln!(text, "{step} on, {writes}")?;
-    }
-    Ok(())
+    push_step(text, alloc, r, 1, "F1")?;
+    push_step(text, alloc, r, 2, "D2")?;
+    push_step(text, alloc, r, 3, "D3")
 }
 
 // What is noted of a step: `+` or `-` where an object stood or not, and the key.
@@ -258,13 +271,13 @@ fn push_counted(text: &mut String, work: &Work, writes: u64) -> Result<(), NoMem
 // A registry with F1, D2 and D3 that lets so many calls through.
 fn stopping_registry(rt: &impl Abort, alloc: Global, calls: u32) -> Result<Stopping, NoMemory> {
     let mut inner = MemRegistry::new(alloc);
-    go(rt, alloc, &mut inner, &[], &[F1, D2, D3])?;
+    go(rt, alloc, &mut inner, "", "F1 D2 D3")?;
     Ok(Stopping { inner, left: calls })
 }
 
 // The work of a move that takes two steps back and applies two.
 fn stopping_move(rt: &impl Abort, alloc: Global, r: &mut Stopping) -> Result<Work, Stopped> {
-    go(rt, alloc, r, &[F1, D2, D3], &[F1, D2_RESENT, D3])
+    go(rt, alloc, r, "F1 D2 D3", "F1 D2-resent D3")
 }
 
 // What is told of that move where so many calls are let through, with the writes that the registry counts.
@@ -279,29 +292,17 @@ fn moved_within(rt: &impl Abort, alloc: Global, calls: u32) -> Result<String, No
     Ok(text)
 }
 
-/// What is told of a move where so many calls are let through. Back: for each step `take_undo` and one write; forward: three
-/// calls for each of three mentions.
-static WITHIN: [(u32, &str); 14] = [
-    (0, "stopped"),
-    (1, "stopped"),
-    (2, "stopped"),
-    (3, "stopped"),
-    (4, "stopped"),
-    (5, "stopped"),
-    (6, "stopped"),
-    (7, "stopped"),
-    (8, "stopped"),
-    (9, "stopped"),
-    (10, "stopped"),
-    (11, "stopped"),
-    (12, "stopped"),
-    (13, "kept, 2 back, 2 on, 5 writes, 10"),
-];
+// What is told of a move where all its calls are let through. Back: for each step `take_undo` and one write; forward: three
+// calls for each of three mentions.
+const CALLS: u32 = 13;
+
+const WHOLE: &str = "kept, 2 back, 2 on, 5 writes, 10";
 
 #[test]
 fn a_fault_of_the_registry_is_answered(rt: HostRuntime) {
-    for (calls, text) in &WITHIN {
-        assert_told(&rt, calls, moved_within(&rt, rt.alloc(), *calls), text);
+    for calls in 0..=CALLS {
+        let text = if calls < CALLS { "stopped" } else { WHOLE };
+        assert_told(&rt, calls, moved_within(&rt, rt.alloc(), calls), text);
     }
 }
 
@@ -324,22 +325,26 @@ none
 fn map_of(alloc: Global, keys: &[(Kind, &str)]) -> Result<BTreeMap<Key, Object>, NoMemory> {
     let mut objects = BTreeMap::new(alloc);
     for (kind, name) in keys {
-        objects.insert(key(alloc, *kind, name)?, object(alloc, name, "R1")?)?;
+        insert(&mut objects, alloc, *kind, name, "R1")?;
     }
     Ok(objects)
 }
 
-// The next object's key and first cell.
-fn push_next(text: &mut String, objects: &mut MapObjects) -> Result<(), NoMemory> {
-    let Some((key, object)) = objects.next()? else {
-        text.push_str("none\n")?;
-        return Ok(());
-    };
+// An object's key and first cell.
+fn push_first_cell(text: &mut String, key: &Key, object: &Object) -> Result<(), NoMemory> {
+    let key = key.text.as_str();
     if let Some((_, cell)) = object.parent.cell(0) {
-        let key = key.text.as_str();
         writeln!(text, "{key}: {cell}")?;
     }
     Ok(())
+}
+
+// The next object's key and first cell.
+fn push_next(text: &mut String, objects: &mut MapObjects) -> Result<(), NoMemory> {
+    match objects.next()? {
+        Some((key, object)) => push_first_cell(text, &key, &object),
+        None => Ok(text.push_str("none\n")?),
+    }
 }
 
 fn objects_told(alloc: Global) -> Result<String, NoMemory> {

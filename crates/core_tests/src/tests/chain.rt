@@ -16,7 +16,7 @@ use esc_chain::{
 };
 use esc_envelope::{DepositType, Place, watermark_text};
 use esc_manifest::{MFault, Manifest, read_manifest};
-use manifests::{B, B_WITH_F4, B_WITH_I7, B_WITH_X9, TIES};
+use manifests::{B, named};
 use std::alloc::Global;
 
 // Midnight of 2024-03-01, and a day, in nanoseconds.
@@ -24,10 +24,10 @@ const FIRST: i64 = 1_709_251_200_000_000_000;
 
 const DAY: i64 = 86_400_000_000_000;
 
-// A manifest of rows: each row's first five fields. A row's digest is its number, from 1.
-fn manifest_of(alloc: Global, rows: &[&str]) -> Result<Manifest, MFault> {
+// A manifest of rows: a line with the first five fields of each. A row's digest is its number.
+fn manifest_of(alloc: Global, rows: &str) -> Result<Manifest, MFault> {
     let mut text = String::from_str(alloc, "id,type,watermark,prevId,resend,sha256\n")?;
-    for (row, fields) in rows.iter().enumerate() {
+    for (row, fields) in rows.lines().enumerate() {
         writeln!(text, "{fields},{row:064}")?;
     }
     read_manifest(alloc, text.as_bytes())
@@ -93,30 +93,40 @@ fn gaps_of(alloc: Global, m: &Manifest, rows: &[usize]) -> Result<String, NoMemo
     text_of_lines(alloc, &lines)
 }
 
-// The rows that a manifest lists, those that are held in the order of their arrivals, and the latest chain.
-static CHAINS: [(&[&str], &[usize], &str); 21] = [
-    (&B, &[], "[]"),
-    (&B, &[0], "[0]"),
-    (&B, &[0, 1, 2], "[0, 1, 2]"),
-    (&B, &[2, 1, 0], "[0, 1, 2]"),
-    (&B, &[2, 1], "[]"),
-    (&B, &[0, 1, 2, 3], "[0, 3]"),
-    (&B, &[0, 1, 5], "[0, 1]"),
-    (&B, &[0, 1, 2, 6], "[0, 6, 2]"),
-    (&B, &[0, 6, 1], "[0, 6]"),
-    (&B, &[0, 1, 0, 0, 1], "[0, 1]"),
-    (&B, &[4, 5], "[4, 5]"),
-    (&B, &[0, 1, 2, 3, 4, 5, 6], "[4, 5]"),
-    (&B_WITH_X9, &[0, 1, 2, 7], "[0, 1]"),
-    (&TIES, &[2, 1, 0], "[0]"),
-    (&TIES, &[0, 1, 2], "[0]"),
-    (&TIES, &[1, 2, 3], "[2, 3]"),
-    (&TIES, &[0, 3], "[0]"),
-    (&TIES, &[4], "[]"),
-    (&B_WITH_I7, &[0, 1, 2, 7], "[0, 1, 2]"),
-    (&B_WITH_I7, &[0, 1, 2, 4, 7], "[4, 7]"),
-    (&B_WITH_F4, &[0, 3], "[0]"),
-];
+// A manifest, the rows that are held in the order of their arrivals, and the latest chain.
+const CHAINS: &str = "B: gives []
+B: 0 gives [0]
+B: 0 1 2 gives [0, 1, 2]
+B: 2 1 0 gives [0, 1, 2]
+B: 2 1 gives []
+B: 0 1 2 3 gives [0, 3]
+B: 0 1 5 gives [0, 1]
+B: 0 1 2 6 gives [0, 6, 2]
+B: 0 6 1 gives [0, 6]
+B: 0 1 0 0 1 gives [0, 1]
+B: 4 5 gives [4, 5]
+B: 0 1 2 3 4 5 6 gives [4, 5]
+B with X9: 0 1 2 7 gives [0, 1]
+ties: 2 1 0 gives [0]
+ties: 0 1 2 gives [0]
+ties: 1 2 3 gives [2, 3]
+ties: 0 3 gives [0]
+ties: 4 gives []
+B with I7: 0 1 2 7 gives [0, 1, 2]
+B with I7: 0 1 2 4 7 gives [4, 7]
+B with F4: 0 3 gives [0]
+";
+
+// The numbers of rows.
+fn rows_of(alloc: Global, text: &str) -> Result<Vec<usize>, NoMemory> {
+    let mut rows = Vec::new(alloc);
+    for word in text.split_whitespace() {
+        if let Ok(row) = word.parse::<usize>() {
+            rows.push(row)?;
+        }
+    }
+    Ok(rows)
+}
 
 // The latest chain of a manifest where these rows arrived in this order.
 fn chain_of(alloc: Global, m: &Manifest, rows: &[usize]) -> Result<String, NoMemory> {
@@ -125,16 +135,25 @@ fn chain_of(alloc: Global, m: &Manifest, rows: &[usize]) -> Result<String, NoMem
     Ok(format!(in alloc; "{chain:?}")?)
 }
 
-// The latest chain of a manifest of these rows.
-fn chain_in(alloc: Global, listed: &[&str], rows: &[usize]) -> Result<String, MFault> {
-    let m = manifest_of(alloc, listed)?;
-    Ok(chain_of(alloc, &m, rows)?)
+// The latest chain of the manifest of this name.
+fn chain_in(alloc: Global, name: &str, rows: &str) -> Result<String, MFault> {
+    let rows = rows_of(alloc, rows)?;
+    let m = manifest_of(alloc, named(name))?;
+    Ok(chain_of(alloc, &m, &rows)?)
+}
+
+// A manifest's name, rows and the latest chain.
+fn told_chain(line: &str) -> Option<(&str, &str, &str)> {
+    let (name, rest) = line.split_once(": ")?;
+    let (rows, chain) = rest.split_once("gives ")?;
+    Some((name, rows, chain))
 }
 
 #[test]
 fn latest_chains(rt: HostRuntime) {
-    for (listed, held, chain) in &CHAINS {
-        assert_told(&rt, *held, chain_in(rt.alloc(), listed, held), chain);
+    for line in CHAINS.lines() {
+        let (name, held, chain) = told_chain(line).unwrap_or((line, "", ""));
+        assert_told(&rt, line, chain_in(rt.alloc(), name, held), chain);
     }
 }
 
@@ -204,7 +223,7 @@ fn push_inserts(text: &mut String, alloc: Global, m: &Manifest) -> Result<(), No
 }
 
 fn rows_told(alloc: Global) -> Result<String, MFault> {
-    let m = manifest_of(alloc, &B_WITH_X9)?;
+    let m = manifest_of(alloc, named("B with X9"))?;
     let mut text = String::new(alloc);
     push_bases(&mut text, &m)?;
     push_used(&mut text, alloc, &m)?;
@@ -212,7 +231,7 @@ fn rows_told(alloc: Global) -> Result<String, MFault> {
 }
 
 fn inserts_told(alloc: Global) -> Result<String, MFault> {
-    let m = manifest_of(alloc, &B)?;
+    let m = manifest_of(alloc, B)?;
     let mut text = String::new(alloc);
     push_inserts(&mut text, alloc, &m)?;
     Ok(text)
@@ -247,16 +266,16 @@ fn bases_used_and_held_rows(rt: HostRuntime) {
     latest_chain_at_rows_are_held();
 }
 
-// The rows that a manifest lists, those that are held in the order of their arrivals, and the lines of the gaps.
-static GAPS: [(&[&str], &[usize], &str); 8] = [
-    (&B, &[], NONE_HELD),
-    (&B, &[2, 1], BLOCKED_BY_F1),
-    (&B, &[0, 1, 2, 3], STANDING),
-    (&B, &[0, 1, 5], D6_BLOCKED),
-    (&B, &[0, 1, 2, 6], D2_AGAIN),
-    (&B, &[4, 5, 6], ON_F5),
-    (&B_WITH_X9, &[0, 1, 2, 7], D3_ON_X9),
-    (&TIES, &[4, 1, 0], I0_ON_NONE),
+// A manifest, the rows that are held in the order of their arrivals, and the lines of the gaps.
+static GAPS: [(&str, &str, &str); 8] = [
+    ("B", "", NONE_HELD),
+    ("B", "2 1", BLOCKED_BY_F1),
+    ("B", "0 1 2 3", STANDING),
+    ("B", "0 1 5", D6_BLOCKED),
+    ("B", "0 1 2 6", D2_AGAIN),
+    ("B", "4 5 6", ON_F5),
+    ("B with X9", "0 1 2 7", D3_ON_X9),
+    ("ties", "4 1 0", I0_ON_NONE),
 ];
 
 const NONE_HELD: &str = "2024-03-03T00:00:00Z,FULL,,missing,,0
@@ -324,16 +343,17 @@ const I0_ON_NONE: &str = "2024-03-02T00:00:00Z,INCR,0,blocked,no earlier FULL,
 2024-03-04T00:00:00Z,FULL,0,chain,,
 ";
 
-// The lines of a manifest of these rows, where these of them arrived in this order.
-fn gaps_in(alloc: Global, listed: &[&str], rows: &[usize]) -> Result<String, MFault> {
-    let m = manifest_of(alloc, listed)?;
-    Ok(gaps_of(alloc, &m, rows)?)
+// The lines of the manifest of this name, where these rows arrived in this order.
+fn gaps_in(alloc: Global, name: &str, rows: &str) -> Result<String, MFault> {
+    let rows = rows_of(alloc, rows)?;
+    let m = manifest_of(alloc, named(name))?;
+    Ok(gaps_of(alloc, &m, &rows)?)
 }
 
 #[test]
 fn lines_of_gaps(rt: HostRuntime) {
-    for (listed, held, lines) in &GAPS {
-        assert_told(&rt, *held, gaps_in(rt.alloc(), listed, held), lines);
+    for (name, held, lines) in &GAPS {
+        assert_told(&rt, *held, gaps_in(rt.alloc(), name, held), lines);
     }
 }
 

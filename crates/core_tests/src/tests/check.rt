@@ -9,23 +9,64 @@ use esc_bundle::NoMemory;
 use esc_check::{Finding, Lines, StreamFault, export_from, export_rows, verify, verify_from};
 use esc_envelope::{Kind, watermark};
 use esc_tables::{Key, Object, Row};
-use registries::{EXPORTS, FOUND, FRONT, Found, Told};
+use registries::{EXPORTS, FOUND, FRONT, Found};
 use std::alloc::Global;
 use std::collections::BTreeMap;
 use stopping::{Stopped, Stopping};
 
-fn children_of(alloc: Global, told: &Told) -> Result<Vec<Row>, NoMemory> {
+/// An object as its text tells it.
+#[derive(Clone, Copy)]
+struct Told<'a> {
+    kind: Kind,
+    key: &'a str,
+    cells: &'a str,
+    /// A line for each child row.
+    children: &'a str,
+}
+
+// What the text of an object tells, or nothing where it is no such text.
+fn told_of(text: &str) -> Option<Told<'_>> {
+    let (parent, children) = text.split_once('\n').unwrap_or((text, ""));
+    let (name, cells) = parent.split_once(": ")?;
+    let (kind, key) = name.split_once(' ')?;
+    Some(Told {
+        kind: Kind::from_name(kind)?,
+        key,
+        cells,
+        children,
+    })
+}
+
+fn cells_of<'a>(alloc: Global, text: &'a str) -> Result<Vec<(&'a str, &'a str)>, NoMemory> {
+    let mut cells = Vec::new(alloc);
+    for cell in text.split('|') {
+        cells.push(cell.split_once('=').unwrap_or((cell, "")))?;
+    }
+    Ok(cells)
+}
+
+fn row_of(alloc: Global, table: &str, cells: &str) -> Result<Row, NoMemory> {
+    let cells = cells_of(alloc, cells)?;
+    Ok(Row::from_cells(alloc, table, &cells)?)
+}
+
+fn child_of(alloc: Global, line: &str) -> Result<Row, NoMemory> {
+    let (table, cells) = line.trim_start().split_once(": ").unwrap_or((line, ""));
+    row_of(alloc, table, cells)
+}
+
+fn children_of(alloc: Global, lines: &str) -> Result<Vec<Row>, NoMemory> {
     let mut children = Vec::new(alloc);
-    for (table, cells) in told.children {
-        children.push(Row::from_cells(alloc, table, cells)?)?;
+    for line in lines.lines() {
+        children.push(child_of(alloc, line)?)?;
     }
     Ok(children)
 }
 
 fn object_of(alloc: Global, told: &Told) -> Result<Object, NoMemory> {
     Ok(Object {
-        parent: Row::from_cells(alloc, told.kind.name(), told.cells)?,
-        children: children_of(alloc, told)?,
+        parent: row_of(alloc, told.kind.name(), told.cells)?,
+        children: children_of(alloc, told.children)?,
     })
 }
 
@@ -36,18 +77,35 @@ fn key_of(alloc: Global, told: &Told) -> Result<Key, NoMemory> {
     })
 }
 
-fn tables_of(alloc: Global, objects: &[Told]) -> Result<BTreeMap<Key, Object>, NoMemory> {
+fn insert(tables: &mut BTreeMap<Key, Object>, alloc: Global, told: &Told) -> Result<(), NoMemory> {
+    let object = object_of(alloc, told)?;
+    tables.insert(key_of(alloc, told)?, object)?;
+    Ok(())
+}
+
+// The objects of a text.
+fn tables_of(alloc: Global, text: &str) -> Result<BTreeMap<Key, Object>, NoMemory> {
     let mut tables = BTreeMap::new(alloc);
-    for told in objects {
-        tables.insert(key_of(alloc, told)?, object_of(alloc, told)?)?;
+    for object in text.split("\n\n") {
+        if let Some(told) = told_of(object) {
+            insert(&mut tables, alloc, &told)?;
+        }
     }
     Ok(tables)
 }
 
-fn counts_of(alloc: Global, numbers: &[(Kind, u64)]) -> Result<BTreeMap<Kind, u64>, NoMemory> {
+// A kind and its number.
+fn count_of(line: &str) -> Option<(Kind, u64)> {
+    let (kind, number) = line.split_once(' ')?;
+    Some((Kind::from_name(kind)?, number.parse::<u64>().ok()?))
+}
+
+fn counts_of(alloc: Global, text: &str) -> Result<BTreeMap<Kind, u64>, NoMemory> {
     let mut counts = BTreeMap::new(alloc);
-    for (kind, number) in numbers {
-        counts.insert(*kind, *number)?;
+    for line in text.lines() {
+        if let Some((kind, number)) = count_of(line) {
+            counts.insert(kind, number)?;
+        }
     }
     Ok(counts)
 }
@@ -135,7 +193,7 @@ fn compared(
 // The findings of two objects where there are to be more.
 fn missing(alloc: Global) -> Result<Vec<Finding>, NoMemory> {
     let tables = tables_of(alloc, FRONT)?;
-    let counts = counts_of(alloc, &[(Kind::Registrar, 10), (Kind::Contact, 9)])?;
+    let counts = counts_of(alloc, "registrar 10\ncontact 9\n")?;
     verify(alloc, &tables, 0, &counts)
 }
 
@@ -187,7 +245,7 @@ fn exported_from(
 }
 
 // The export of tables, or that of their objects one at a time, as a text.
-fn exported(alloc: Global, objects: &[Told], kind: Kind, walk: bool) -> Result<String, NoMemory> {
+fn exported(alloc: Global, objects: &str, kind: Kind, walk: bool) -> Result<String, NoMemory> {
     let tables = tables_of(alloc, objects)?;
     let bytes = if walk {
         exported_from(alloc, tables, kind)?

@@ -5,7 +5,7 @@ use esc_bundle::{Fault, NoMemory, sections, write_bundle};
 use std::alloc::Global;
 
 /// The sample bundle as far as its second section.
-const FRONT: &[u8] =
+pub(crate) const FRONT: &[u8] =
     b"escrow-bundle 1\nenvelope.json 174\n{\"id\":\"F1\",\"type\":\"FULL\",\"watermark\":\"2024-03-03T00:00:00Z\",\"contents\":[{\"name\":\"contact\",\"kind\":\"contact\",\"role\":\"parent\",\"key\":\"id\",\"fields\":[\"id\",\"clID\"],\"file\":\"c.csv\"}]}\n";
 
 /// The sample's envelope.
@@ -293,7 +293,7 @@ fn written(alloc: Global, parts: &[(&str, &[u8])], zeros: usize) -> Result<Vec<u
     write_bundle(alloc, list.as_slice())
 }
 
-fn joined(alloc: Global, front: &[u8], back: &[u8]) -> Result<Vec<u8>, NoMemory> {
+pub(crate) fn joined(alloc: Global, front: &[u8], back: &[u8]) -> Result<Vec<u8>, NoMemory> {
     let mut bytes = Vec::from_slice(alloc, front)?;
     bytes.extend_from_slice(back)?;
     Ok(bytes)

@@ -2,10 +2,11 @@
 
 use super::asserts::assert_told;
 use super::shown::push_object;
-use esc_bundle::{Fault, NoMemory, write_bundle};
+use esc_bundle::{Fault, NoMemory};
 use esc_tables::{Deposit, Key, Object, Row, read_bundled_envelope, read_deposit};
 use std::alloc::Global;
 use std::collections::BTreeMap;
+use std::process::Abort;
 
 const CONTACTS: &str =
     r#"{"name":"contact","kind":"contact","role":"parent","key":"id","fields":["id","clID"],"file":"c.csv"}"#;
@@ -25,12 +26,12 @@ const STATUSES: &str =
 const CONTACT_STATUSES: &str =
     r#"{"name":"contactStatus","kind":"contact","role":"child","key":"id","fields":["id","status"],"file":"cs.csv"}"#;
 
-/// A Full: the declarations of its contents and deletes, and its files.
-#[derive(Clone, Copy)]
+/// A Full: the tables that its contents and its deletes declare, and the sections of its files.
+#[derive(Clone, Copy, Debug)]
 struct Full<'a> {
-    contents: &'a [&'a str],
-    deletes: &'a [&'a str],
-    files: &'a [(&'a str, &'a [u8])],
+    contents: &'a str,
+    deletes: &'a str,
+    files: &'a [u8],
 }
 
 /// Fulls, each with the id and the number of contents of its envelope, and what it holds or the least refusal.
@@ -38,42 +39,27 @@ static FULLS: [(Full<'static>, &str); 13] = [
     // The last row of a lowered key counts.
     (
         Full {
-            contents: &[DOMAINS],
-            deletes: &[DELETED_DOMAINS],
-            files: &[
-                (
-                    "d.csv",
-                    b"A.example,R1,C1\na.example,R2,C1\nB.example,R1,C1\n",
-                ),
-                ("gone.csv", b"A.EXAMPLE\n"),
-            ],
+            contents: "domain",
+            deletes: "deleted",
+            files: b"d.csv 48\nA.example,R1,C1\na.example,R2,C1\nB.example,R1,C1\n\ngone.csv 10\nA.EXAMPLE\n\n",
         },
         "F1, 1 tables\nF1, 0 counts\n- Domain a.example\nDomain a.example: domain name=a.example clID=R2 registrant=C1\nDomain b.example: domain name=B.example clID=R1 registrant=C1\n0 orphans\n",
     ),
     // Child rows stand by table name.
     (
         Full {
-            contents: &[STATUSES, CONTACT_STATUSES, CONTACTS, NAME_SERVERS, DOMAINS],
-            deletes: &[],
-            files: &[
-                ("st.csv", b"ok,a.example\nlocked,A.example\nok,c.example\n"),
-                ("cs.csv", b"a.example,ok\nC1,linked\n"),
-                ("c.csv", b"C1,R1\nc1,\"R,1\"\n"),
-                ("ns.csv", b"a.example,ns2.x\r\n\r\na.example,ns1.x"),
-                ("d.csv", b"\xEF\xBB\xBFa.example,R1,C1"),
-            ],
+            contents: "domainStatus contactStatus contact domainNs domain",
+            deletes: "",
+            files: b"st.csv 43\nok,a.example\nlocked,A.example\nok,c.example\n\ncs.csv 23\na.example,ok\nC1,linked\n\nc.csv 15\nC1,R1\nc1,\"R,1\"\n\nns.csv 34\na.example,ns2.x\r\n\r\na.example,ns1.x\nd.csv 18\n\xEF\xBB\xBFa.example,R1,C1\n",
         },
         "F1, 5 tables\nF1, 0 counts\nContact C1: contact id=C1 clID=R1\n  contactStatus id=C1 status=linked\nContact c1: contact id=c1 clID=R,1\nDomain a.example: domain name=a.example clID=R1 registrant=C1\n  domainNs domainName=a.example hostName=ns2.x\n  domainNs domainName=a.example hostName=ns1.x\n  domainStatus status=ok name=a.example\n  domainStatus status=locked name=A.example\n2 orphans\n",
     ),
     // Orphans are counted.
     (
         Full {
-            contents: &[CONTACTS, NAME_SERVERS],
-            deletes: &[],
-            files: &[
-                ("c.csv", b"C1,R1\n"),
-                ("ns.csv", b"a.example,ns1.a.example\n"),
-            ],
+            contents: "contact domainNs",
+            deletes: "",
+            files: b"c.csv 6\nC1,R1\n\nns.csv 24\na.example,ns1.a.example\n\n",
         },
         "F1, 2 tables\nF1, 0 counts\nContact C1: contact id=C1 clID=R1\n1 orphans\n",
     ),
@@ -81,96 +67,83 @@ static FULLS: [(Full<'static>, &str); 13] = [
     // and a status stands at a domain that has a contact's id.
     (
         Full {
-            contents: &[CONTACTS, CONTACT_STATUSES, DOMAINS, NAME_SERVERS, STATUSES],
-            deletes: &[],
-            files: &[
-                ("c.csv", b"C1,R1\n"),
-                ("cs.csv", b"C1,ok\nc1,ok\nC2,ok\nC2,linked\n"),
-                ("d.csv", b"a.example,R1,C1\n"),
-                (
-                    "ns.csv",
-                    b"A.EXAMPLE,ns1.x\nb.example,ns1.x\nB.example,ns2.x\n",
-                ),
-                ("st.csv", b"ok,C1\nok,a.example\n"),
-            ],
+            contents: "contact contactStatus domain domainNs domainStatus",
+            deletes: "",
+            files: b"c.csv 6\nC1,R1\n\ncs.csv 28\nC1,ok\nc1,ok\nC2,ok\nC2,linked\n\nd.csv 16\na.example,R1,C1\n\nns.csv 48\nA.EXAMPLE,ns1.x\nb.example,ns1.x\nB.example,ns2.x\n\nst.csv 19\nok,C1\nok,a.example\n\n",
         },
         "F1, 5 tables\nF1, 0 counts\nContact C1: contact id=C1 clID=R1\n  contactStatus id=C1 status=ok\nDomain a.example: domain name=a.example clID=R1 registrant=C1\n  domainNs domainName=A.EXAMPLE hostName=ns1.x\n  domainStatus status=ok name=a.example\n6 orphans\n",
     ),
     // No deposits.
     (
         Full {
-            contents: &[CONTACTS],
-            deletes: &[],
-            files: &[("c.csv", b",R1\n")],
+            contents: "contact",
+            deletes: "",
+            files: b"c.csv 4\n,R1\n\n",
         },
         "F1, 1 tables\nU10\n",
     ),
     (
         Full {
-            contents: &[CONTACTS],
-            deletes: &[],
-            files: &[("c.csv", b",R1\n"), ("x", b"")],
+            contents: "contact",
+            deletes: "",
+            files: b"c.csv 4\n,R1\n\nx 0\n\n",
         },
         "F1, 1 tables\nU8\n",
     ),
     (
         Full {
-            contents: &[CONTACTS],
-            deletes: &[],
-            files: &[],
+            contents: "contact",
+            deletes: "",
+            files: b"",
         },
         "F1, 1 tables\nU8\n",
     ),
     (
         Full {
-            contents: &[CONTACTS],
-            deletes: &[CONTACTS],
-            files: &[("c.csv", b"C1,R1\n")],
+            contents: "contact",
+            deletes: "contact",
+            files: b"c.csv 6\nC1,R1\n\n",
         },
         "F1, 1 tables\nU8\n",
     ),
     (
         Full {
-            contents: &[CONTACTS],
-            deletes: &[],
-            files: &[("c.csv", b"\"C1,R1\n")],
+            contents: "contact",
+            deletes: "",
+            files: b"c.csv 7\n\"C1,R1\n\n",
         },
         "F1, 1 tables\nU9\n",
     ),
     (
         Full {
-            contents: &[CONTACTS, DOMAINS],
-            deletes: &[],
-            files: &[("c.csv", b",R1\n"), ("d.csv", b"a.example,R1\n")],
+            contents: "contact domain",
+            deletes: "",
+            files: b"c.csv 4\n,R1\n\nd.csv 13\na.example,R1\n\n",
         },
         "F1, 2 tables\nU9\n",
     ),
     (
         Full {
-            contents: &[CONTACTS, DOMAINS],
-            deletes: &[],
-            files: &[("c.csv", b"C1,R1\n"), ("d.csv", b"a.example,\xFF,C1\n")],
+            contents: "contact domain",
+            deletes: "",
+            files: b"c.csv 6\nC1,R1\n\nd.csv 15\na.example,\xFF,C1\n\n",
         },
         "F1, 2 tables\nU9\n",
     ),
     (
         Full {
-            contents: &[],
-            deletes: &[DELETED_DOMAINS],
-            files: &[("gone.csv", b"a.example\n\xFF\n")],
+            contents: "",
+            deletes: "deleted",
+            files: b"gone.csv 12\na.example\n\xFF\n\n",
         },
         "F1, 0 tables\nU9\n",
     ),
     // Deletes, an object with a child row, and no orphan.
     (
         Full {
-            contents: &[DOMAINS, NAME_SERVERS],
-            deletes: &[DELETED_DOMAINS],
-            files: &[
-                ("d.csv", b"a.example,R1,C1\n"),
-                ("ns.csv", b"a.example,ns1.x\n"),
-                ("gone.csv", b"b.example\n"),
-            ],
+            contents: "domain domainNs",
+            deletes: "deleted",
+            files: b"d.csv 16\na.example,R1,C1\n\nns.csv 16\na.example,ns1.x\n\ngone.csv 10\nb.example\n\n",
         },
         "F1, 2 tables\nF1, 0 counts\n- Domain b.example\nDomain a.example: domain name=a.example clID=R1 registrant=C1\n  domainNs domainName=a.example hostName=ns1.x\n0 orphans\n",
     ),
@@ -220,46 +193,61 @@ static ROWS: [(&str, &[(&str, &str)], &str); 2] = [
     ("idn", &[], "idn 0: none\n"),
 ];
 
-fn joined(alloc: Global, texts: &[&str]) -> Result<String, NoMemory> {
-    let mut joined = String::new(alloc);
-    for (at, text) in texts.iter().enumerate() {
-        if at > 0 {
-            joined.push_str(",")?;
-        }
-        joined.push_str(text)?;
+// The declaration of a table. Another name is that of the delete table of domains.
+fn declaration(name: &str) -> &'static str {
+    match name {
+        "contact" => CONTACTS,
+        "domain" => DOMAINS,
+        "domainNs" => NAME_SERVERS,
+        "domainStatus" => STATUSES,
+        "contactStatus" => CONTACT_STATUSES,
+        _ => DELETED_DOMAINS,
     }
-    Ok(joined)
+}
+
+// The declarations of these tables.
+fn declared(alloc: Global, names: &str) -> Result<String, NoMemory> {
+    let mut text = String::new(alloc);
+    for name in names.split_whitespace() {
+        if !text.is_empty() {
+            text.push_str(",")?;
+        }
+        text.push_str(declaration(name))?;
+    }
+    Ok(text)
 }
 
 fn envelope_of(alloc: Global, full: &Full) -> Result<String, NoMemory> {
-    let contents = joined(alloc, full.contents)?;
-    let deletes = joined(alloc, full.deletes)?;
+    let contents = declared(alloc, full.contents)?;
+    let deletes = declared(alloc, full.deletes)?;
     Ok(format!(in alloc;
         "{{\"id\":\"F1\",\"type\":\"FULL\",\"watermark\":\"2024-03-03T00:00:00Z\",\"contents\":[{contents}],\"deletes\":[{deletes}]}}"
     )?)
 }
 
-fn part(alloc: Global, name: &str, bytes: &[u8]) -> Result<(String, Vec<u8>), NoMemory> {
-    Ok((
-        String::from_str(alloc, name)?,
-        Vec::from_slice(alloc, bytes)?,
-    ))
-}
-
-fn sections_of(alloc: Global, full: &Full) -> Result<Vec<(String, Vec<u8>)>, NoMemory> {
-    let mut sections = Vec::new(alloc);
-    let envelope = envelope_of(alloc, full)?;
-    sections.push(part(alloc, "envelope.json", envelope.as_bytes())?)?;
-    for (name, bytes) in full.files {
-        sections.push(part(alloc, name, bytes)?)?;
-    }
-    Ok(sections)
+// Adds a section.
+fn push_section(
+    body: &mut Vec<u8>,
+    alloc: Global,
+    name: &str,
+    bytes: &[u8],
+) -> Result<(), NoMemory> {
+    let length = bytes.len();
+    let line = format!(in alloc; "{name} {length}\n")?;
+    body.extend_from_slice(line.as_bytes())?;
+    body.extend_from_slice(bytes)?;
+    body.push(b'\n')?;
+    Ok(())
 }
 
 // The bundle of a Full.
-fn bundle_of(alloc: Global, full: &Full) -> Result<Vec<u8>, Fault> {
-    let sections = sections_of(alloc, full)?;
-    write_bundle(alloc, sections.as_slice())
+fn bundle_of(alloc: Global, full: &Full) -> Result<Vec<u8>, NoMemory> {
+    let envelope = envelope_of(alloc, full)?;
+    let mut body = Vec::from_slice(alloc, b"escrow-bundle 1\n")?;
+    push_section(&mut body, alloc, "envelope.json", envelope.as_bytes())?;
+    body.extend_from_slice(full.files)?;
+    body.extend_from_slice(b"end\n")?;
+    Ok(body)
 }
 
 fn push_key(text: &mut String, key: &Key) -> Result<(), NoMemory> {
@@ -352,39 +340,22 @@ fn told(alloc: Global, body: &[u8], copied: bool) -> Result<String, NoMemory> {
     Ok(text)
 }
 
-fn told_of(alloc: Global, full: &Full, copied: bool) -> Result<String, Fault> {
+fn told_of(alloc: Global, full: &Full, copied: bool) -> Result<String, NoMemory> {
     let body = bundle_of(alloc, full)?;
-    Ok(told(alloc, body.as_slice(), copied)?)
+    told(alloc, body.as_slice(), copied)
+}
+
+fn count_objects(alloc: Global, body: &[u8]) -> Result<usize, Fault> {
+    Ok(read_deposit(alloc, body)?.contents.len())
 }
 
 // How many objects a body has, or its refusal.
-fn count_told(alloc: Global, full: &Full) -> Result<String, Fault> {
+fn count_told(alloc: Global, full: &Full) -> Result<String, NoMemory> {
     let body = bundle_of(alloc, full)?;
-    match read_deposit(alloc, body.as_slice()) {
-        Ok(deposit) => {
-            let count = deposit.contents.len();
-            Ok(format!(in alloc; "{count} objects")?)
-        }
+    match count_objects(alloc, body.as_slice()) {
+        Ok(count) => Ok(format!(in alloc; "{count} objects")?),
         Err(fault) => Ok(format!(in alloc; "{fault}")?),
     }
-}
-
-fn contacts_told(alloc: Global, contacts: &[u8]) -> Result<String, Fault> {
-    let full = Full {
-        contents: &[CONTACTS],
-        deletes: &[],
-        files: &[("c.csv", contacts)],
-    };
-    count_told(alloc, &full)
-}
-
-fn contacts_told_beside_a_delete(alloc: Global, contacts: &[u8]) -> Result<String, Fault> {
-    let full = Full {
-        contents: &[CONTACTS],
-        deletes: &[DELETED_DOMAINS],
-        files: &[("c.csv", contacts), ("gone.csv", b"a.example\n")],
-    };
-    count_told(alloc, &full)
 }
 
 // Rows of contacts whose keys are so many letters and a number.
@@ -398,14 +369,26 @@ fn contact_rows(alloc: Global, letters: u8, count: u32) -> Result<Vec<u8>, NoMem
     Ok(rows)
 }
 
-// What is said of contacts, beside a deleted domain or not.
-fn size_told(alloc: Global, letters: u8, count: u32, beside: bool) -> Result<String, Fault> {
+// The section of contacts, and beside it that of a deleted domain or not.
+fn files_of(alloc: Global, letters: u8, count: u32, beside: bool) -> Result<Vec<u8>, NoMemory> {
     let rows = contact_rows(alloc, letters, count)?;
+    let mut files = Vec::new(alloc);
+    push_section(&mut files, alloc, "c.csv", rows.as_slice())?;
     if beside {
-        contacts_told_beside_a_delete(alloc, rows.as_slice())
-    } else {
-        contacts_told(alloc, rows.as_slice())
+        files.extend_from_slice(b"gone.csv 10\na.example\n\n")?;
     }
+    Ok(files)
+}
+
+// What is said of contacts, beside a deleted domain or not.
+fn size_told(alloc: Global, letters: u8, count: u32, beside: bool) -> Result<String, NoMemory> {
+    let files = files_of(alloc, letters, count, beside)?;
+    let full = Full {
+        contents: "contact",
+        deletes: if beside { "deleted" } else { "" },
+        files: files.as_slice(),
+    };
+    count_told(alloc, &full)
 }
 
 // A row's table, how many cells it has, and each of them, up to one behind the last.
@@ -439,13 +422,23 @@ fn cells_told(
     Ok(text)
 }
 
-#[test]
-fn deposits_and_envelopes_are_read(rt: HostRuntime) {
+// Compares what is told of each Full, or says how often memory was refused.
+fn count_refused(rt: &impl Abort, alloc: Global) -> u32 {
+    let mut refused = 0u32;
     for (full, text) in &FULLS {
         for copied in [false, true] {
-            assert_told(&rt, full.files, told_of(rt.alloc(), full, copied), text);
+            match told_of(alloc, full, copied) {
+                Ok(found) => assert_eq!(rt; found.as_str(), *text, "{full:?} {copied}"),
+                Err(NoMemory) => refused = refused.saturating_add(1),
+            }
         }
     }
+    refused
+}
+
+#[test]
+fn deposits_and_envelopes_are_read(rt: HostRuntime) {
+    assert_eq!(rt; count_refused(&rt, rt.alloc()), 0);
 }
 
 #[test]
@@ -480,10 +473,5 @@ fn keys_and_rows_have_limits(rt: HostRuntime) {
 // With ample memory this says less than the test of the same deposits. It is for runs in which an allocation is refused.
 #[test]
 fn a_fault_is_answered_where_memory_is_refused(rt: HostRuntime) {
-    for (full, text) in &FULLS {
-        match told_of(rt.alloc(), full, false) {
-            Ok(found) => assert_eq!(rt; found.as_str(), *text),
-            Err(fault) => assert_eq!(rt; fault, Fault::NoMemory),
-        }
-    }
+    assert!(rt; count_refused(&rt, rt.alloc()) < 2);
 }

@@ -13,89 +13,90 @@ pub(crate) struct Body {
     day: i64,
     kind: DepositType,
     resend: u32,
-    deletes: &'static [(Kind, &'static str)],
-    /// Keys with the sponsoring registrar.
-    contents: &'static [(Kind, &'static str, &'static str)],
+    /// Kinds and keys.
+    deletes: &'static str,
+    /// The same, each with the sponsoring registrar.
+    contents: &'static str,
 }
 
-pub(crate) const F1: Body = Body {
+const F1: Body = Body {
     day: 0,
     kind: DepositType::Full,
     resend: 0,
-    deletes: &[],
-    contents: &[
-        (Kind::Registrar, "R1", "R1"),
-        (Kind::Contact, "C1", "R1"),
-        (Kind::Domain, "a.example", "R1"),
-    ],
+    deletes: "",
+    contents: "registrar R1 R1,contact C1 R1,domain a.example R1",
 };
 
-pub(crate) const D2: Body = Body {
+const D2: Body = Body {
     day: 1,
     kind: DepositType::Diff,
     resend: 0,
-    deletes: &[],
-    contents: &[(Kind::Domain, "b.example", "R1")],
+    deletes: "",
+    contents: "domain b.example R1",
 };
 
-pub(crate) const D2_RESENT: Body = Body {
+const D2_RESENT: Body = Body {
     resend: 1,
-    contents: &[
-        (Kind::Domain, "b.example", "R1"),
-        (Kind::Domain, "c.example", "R1"),
-    ],
+    contents: "domain b.example R1,domain c.example R1",
     ..D2
 };
 
-/// Deletes the domain a.example and has it with clID R2.
-pub(crate) const D2_BOTH: Body = Body {
-    deletes: &[(Kind::Domain, "a.example")],
-    contents: &[(Kind::Domain, "a.example", "R2")],
+// Deletes the domain a.example and has it with clID R2.
+const D2_BOTH: Body = Body {
+    deletes: "domain a.example",
+    contents: "domain a.example R2",
     ..D2
 };
 
-/// A Full at the watermark of D2.
-pub(crate) const F2: Body = Body {
+// A Full at the watermark of D2.
+const F2: Body = Body {
     day: 1,
-    contents: &[
-        (Kind::Registrar, "R1", "R1"),
-        (Kind::Contact, "C1", "R1"),
-        (Kind::Domain, "z.example", "R1"),
-    ],
+    contents: "registrar R1 R1,contact C1 R1,domain z.example R1",
     ..F1
 };
 
-pub(crate) const D3: Body = Body {
+const D3: Body = Body {
     day: 2,
-    deletes: &[(Kind::Domain, "a.example")],
-    contents: &[],
+    deletes: "domain a.example",
+    contents: "",
     ..D2
 };
 
-pub(crate) const I4: Body = Body {
+const I4: Body = Body {
     day: 3,
     kind: DepositType::Incr,
-    contents: &[(Kind::Domain, "d.example", "R1")],
+    contents: "domain d.example R1",
     ..D2
 };
 
-pub(crate) const F5: Body = Body {
+const F5: Body = Body {
     day: 7,
-    contents: &[
-        (Kind::Registrar, "R1", "R1"),
-        (Kind::Contact, "C1", "R1"),
-        (Kind::Host, "ns1.e.example", "R1"),
-        (Kind::Domain, "e.example", "R1"),
-    ],
+    contents: "registrar R1 R1,contact C1 R1,host ns1.e.example R1,domain e.example R1",
     ..F1
 };
 
-pub(crate) const D6: Body = Body {
+const D6: Body = Body {
     day: 8,
-    deletes: &[(Kind::Host, "ns1.e.example")],
-    contents: &[(Kind::Domain, "f.example", "R1")],
+    deletes: "host ns1.e.example",
+    contents: "domain f.example R1",
     ..D2
 };
+
+/// The body of this name.
+pub(crate) fn named(name: &str) -> Option<Body> {
+    match name {
+        "F1" => Some(F1),
+        "D2" => Some(D2),
+        "D2-resent" => Some(D2_RESENT),
+        "D2-both" => Some(D2_BOTH),
+        "F2" => Some(F2),
+        "D3" => Some(D3),
+        "I4" => Some(I4),
+        "F5" => Some(F5),
+        "D6" => Some(D6),
+        _ => None,
+    }
+}
 
 impl Body {
     fn place(&self) -> Place {
@@ -114,10 +115,13 @@ impl Body {
     }
 }
 
-pub(crate) fn steps(alloc: Global, bodies: &[Body]) -> Result<Vec<Step>, NoMemory> {
+/// The steps of the bodies of these names.
+pub(crate) fn steps(alloc: Global, names: &str) -> Result<Vec<Step>, NoMemory> {
     let mut steps = Vec::new(alloc);
-    for body in bodies {
-        steps.push(body.step())?;
+    for name in names.split_whitespace() {
+        if let Some(body) = named(name) {
+            steps.push(body.step())?;
+        }
     }
     Ok(steps)
 }
@@ -135,18 +139,48 @@ pub(crate) fn object(alloc: Global, name: &str, sponsor: &str) -> Result<Object,
     })
 }
 
-fn deletes_of(alloc: Global, body: &Body) -> Result<Vec<Key>, NoMemory> {
+/// Adds an object.
+pub(crate) fn insert(
+    objects: &mut BTreeMap<Key, Object>,
+    alloc: Global,
+    kind: Kind,
+    name: &str,
+    sponsor: &str,
+) -> Result<(), NoMemory> {
+    let object = object(alloc, name, sponsor)?;
+    objects.insert(key(alloc, kind, name)?, object)?;
+    Ok(())
+}
+
+// A kind and what follows it.
+fn kind_at(text: &str) -> Option<(Kind, &str)> {
+    let (kind, rest) = text.split_once(' ')?;
+    Some((Kind::from_name(kind)?, rest))
+}
+
+fn deletes_of(alloc: Global, text: &str) -> Result<Vec<Key>, NoMemory> {
     let mut deletes = Vec::new(alloc);
-    for (kind, name) in body.deletes {
-        deletes.push(key(alloc, *kind, name)?)?;
+    for told in text.split(',') {
+        if let Some((kind, name)) = kind_at(told) {
+            deletes.push(key(alloc, kind, name)?)?;
+        }
     }
     Ok(deletes)
 }
 
-fn contents_of(alloc: Global, body: &Body) -> Result<BTreeMap<Key, Object>, NoMemory> {
+// A kind, a key and the sponsoring registrar.
+fn object_at(text: &str) -> Option<(Kind, &str, &str)> {
+    let (kind, rest) = kind_at(text)?;
+    let (name, sponsor) = rest.split_once(' ')?;
+    Some((kind, name, sponsor))
+}
+
+fn contents_of(alloc: Global, text: &str) -> Result<BTreeMap<Key, Object>, NoMemory> {
     let mut contents = BTreeMap::new(alloc);
-    for (kind, name, sponsor) in body.contents {
-        contents.insert(key(alloc, *kind, name)?, object(alloc, name, sponsor)?)?;
+    for told in text.split(',') {
+        if let Some((kind, name, sponsor)) = object_at(told) {
+            insert(&mut contents, alloc, kind, name, sponsor)?;
+        }
     }
     Ok(contents)
 }
@@ -161,24 +195,28 @@ fn header_of(alloc: Global, body: &Body) -> Result<Header, NoMemory> {
 }
 
 pub(crate) fn deposit(alloc: Global, body: &Body) -> Result<Deposit, NoMemory> {
+    let contents = contents_of(alloc, body.contents)?;
+    let deletes = deletes_of(alloc, body.deletes)?;
     Ok(Deposit {
         header: header_of(alloc, body)?,
         counts: BTreeMap::new(alloc),
-        deletes: deletes_of(alloc, body)?,
-        contents: contents_of(alloc, body)?,
+        deletes,
+        contents,
         orphans: 0,
     })
 }
 
-/// The deposits of bodies from one on.
+/// The deposits of these bodies from one on.
 pub(crate) fn deposits_from(
     alloc: Global,
-    bodies: &[Body],
+    names: &str,
     first: usize,
 ) -> Result<Vec<Deposit>, NoMemory> {
     let mut deposits = Vec::new(alloc);
-    for body in bodies.iter().skip(first) {
-        deposits.push(deposit(alloc, body)?)?;
+    for name in names.split_whitespace().skip(first) {
+        if let Some(body) = named(name) {
+            deposits.push(deposit(alloc, &body)?)?;
+        }
     }
     Ok(deposits)
 }

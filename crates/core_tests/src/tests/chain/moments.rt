@@ -14,7 +14,7 @@ const BEFORE_F1: i64 = FIRST + 2 * DAY - 1_000_000_000;
 
 // The latest chain up to a moment, if there is one, where these rows of a manifest arrived.
 fn chain_at(alloc: Global, rows: &[usize], moment: Option<i64>) -> Result<String, MFault> {
-    let m = manifest_of(alloc, &B)?;
+    let m = manifest_of(alloc, B)?;
     let held = held_of(alloc, &m, rows)?;
     let chain = latest_chain_at(alloc, &m, &held, moment)?;
     Ok(format!(in alloc; "{chain:?}")?)
@@ -37,7 +37,7 @@ fn chains_up_to_a_moment(rt: HostRuntime) {
 
 // The lines of the gaps where these rows of a manifest arrived, with the chain up to a moment.
 fn gaps_up_to(alloc: Global, rows: &[usize], moment: Option<i64>) -> Result<String, MFault> {
-    let m = manifest_of(alloc, &B)?;
+    let m = manifest_of(alloc, B)?;
     let held = held_of(alloc, &m, rows)?;
     let lines = gaps_at(alloc, &m, &held, moment)?;
     Ok(text_of_lines(alloc, &lines)?)
