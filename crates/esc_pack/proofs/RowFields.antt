@@ -1,0 +1,88 @@
+-- What a row is written as is read as that row.
+use Rattle.std.proofs.Common.{◌≡◌, ℕ, ◌<◌, ◌≤◌, true, false, List, [], length, Option, Some, None, refl, arith, rules, inl, inr}
+use Rattle.std.specs.Prelude.{IsTrue, IsSome, IfSome, codes, ◌&&◌, ◌==◌, nat_le, unwrap_or}
+use Rattle.std.specs.List.{list_all}
+use Rattle.std.specs.Char.{is_ascii_digit}
+use Rattle.std.specs.Str.{bytes_eq}
+use Rattle.std.specs.Fmt.{decimal}
+use Rattle.std.specs.Str.Parse.{digits_value}
+use Rattle.std.proofs.lemmas.Bool.{cases_Bool}
+use Rattle.std.proofs.lemmas.Bool.Decides.{nat_tests}
+use Rattle.std.proofs.lemmas.Fmt.{decimal_nonempty, length-decimal-le, digits_decimal, digits_value-decimal}
+use Rattle.std.proofs.lemmas.Str.Parse.{IsNumeralModel, numerals_by_value}
+use Rattle.esc_envelope.specs.declared.place.DepositType.{DepositType}
+use Rattle.esc_envelope.specs.declared.place.DepositType.TheVariants.{Diff, Incr, Full}
+use Rattle.esc_envelope.specs.Id.{is_id}
+use Rattle.esc_envelope.specs.Members.{type_name}
+use Rattle.esc_manifest.specs.declared.row.MRow.{MRow}
+use Rattle.esc_manifest.specs.Fields.{id_of, type_of, prev_of, resend_of, row_of}
+use Rattle.esc_manifest.specs.Manifest.{lacks_id, lacks_type, lacks_watermark, lacks_resend, lacks_digest, is_diff_alone}
+use Rattle.esc_pack.specs.Written.{resend_field, row_line, IsLegible}
+
+own_digits : IsNumeralModel (λ ds. list_all is_ascii_digit ds ≡ true) (digits_value 10)
+own_digits = numerals_by_value _ (search rules)
+
+id_read : (id : List ℕ) → IsTrue (is_id id) → id_of id ≡ Some id
+id_read id good = rw good refl
+
+type_read : (kind : DepositType) → type_of (type_name kind) ≡ Some kind
+type_read Diff = refl
+type_read Incr = refl
+type_read Full = refl
+
+-- an id is not empty
+id_there : (id : List ℕ) → IsTrue (is_id id) → (length id == 0) ≡ false
+id_there id good = grind (arith, nat_tests)
+
+prev_read : (prev : Option (List ℕ)) → IfSome prev (λ id. IsTrue (is_id id)) → prev_of (unwrap_or prev []) ≡ Some prev
+prev_read None good = refl
+prev_read (Some id) good = rw (id_there id good, id_read id good) refl
+
+some_digits : (n : ℕ) → 0 < n → n ≤ 999999 → resend_of (decimal n) ≡ Some n
+some_digits n some few =
+    let there = decimal_nonempty n (omega arith) in
+    let empty : (length (decimal n) == 0) ≡ false = grind (arith, nat_tests) in
+    let short : nat_le (length (decimal n)) 6 ≡ true = let six = length-decimal-le 6 n (omega arith) (omega arith) (omega arith) in grind (arith, nat_tests) in
+    rw (empty, short, digits_decimal own_digits n (omega arith), digits_value-decimal own_digits n (omega arith)) refl
+
+resend_read : (n : ℕ) → n ≤ 999999 → resend_of (resend_field n) ≡ Some n
+resend_read n few =
+    elim (cases_Bool (n == 0)) [
+      | inl zero ↦ let none : n ≡ 0 = grind (arith, nat_tests) in rw none refl
+      | inr more ↦ let some : 0 < n = grind (arith, nat_tests) in rw more (some_digits n some few)
+    ]
+
+-- each field of a row's line reads, and the line as the row
+pub record Reads (r : MRow) : Type 0 where
+  pub id : lacks_id (row_line r) ≡ false
+  pub kind : lacks_type (row_line r) ≡ false
+  pub watermark : lacks_watermark (row_line r) ≡ false
+  pub resend : lacks_resend (row_line r) ≡ false
+  pub digest : lacks_digest (row_line r) ≡ false
+  pub row : row_of (row_line r) ≡ Some r
+
+pub row_reads : (r : MRow) → IsTrue (is_id r.header.id) → IfSome r.header.prev (λ id. IsTrue (is_id id)) → r.header.resend ≤ 999999 → IsLegible r → Reads r
+unfolding row_of
+row_reads r good prev_good few legible =
+    let id = id_read r.header.id good in
+    let kind = type_read r.header.place.kind in
+    let prev = prev_read r.header.prev prev_good in
+    let resend = resend_read r.header.resend few in
+    record {
+      id = rw (id, prev) refl;
+      kind = rw kind refl;
+      watermark = rw legible.moment refl;
+      resend = rw resend refl;
+      digest = rw legible.digest refl;
+      row = rw (id, kind, legible.moment, prev, resend, legible.digest) refl;
+    }
+
+-- a Differential has its prevId
+pub not_alone : (r : MRow) → IfSome r.header.prev (λ id. IsTrue (is_id id)) → (r.header.place.kind ≡ Diff → IsSome r.header.prev) → is_diff_alone (row_line r) ≡ false
+not_alone r = alone r.header.place.kind r.header.prev
+  where
+    alone : (kind : DepositType) (prev : Option (List ℕ)) → IfSome prev (λ id. IsTrue (is_id id)) → (kind ≡ Diff → IsSome prev) → (bytes_eq (type_name kind) (codes "DIFF") && (length (unwrap_or prev []) == 0)) ≡ false
+    alone Incr prev good there = refl
+    alone Full prev good there = refl
+    alone Diff None good there = absurd (cc (there refl))
+    alone Diff (Some id) good there = id_there id good

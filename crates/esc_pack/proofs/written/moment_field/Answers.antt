@@ -1,0 +1,15 @@
+use Rattle.std.proofs.Common.{◌≡◌, Option, Some, String, Global, sym, ap, ◌∙◌, option_map, w64}
+use Rattle.std.specs.Prelude.{ℤ, string_bytes}
+use Rattle.std.proofs.lemmas.Int.{to_z-of_z}
+use Rattle.std.proofs.lemmas.Str.{is_utf8-from_IsUtf8, IsUtf8-string_bytes}
+use Rattle.esc_envelope.specs.Watermark.{watermark_text_of, watermark_of}
+use Rattle.esc_manifest.specs.Fields.{moment_of}
+use Rattle.esc_pack.proofs.written.moment_field.Goals as goal
+
+-- a text that was printed is read
+printed_is_read : (o : Option (String Global)) (text : String Global) (w : ℤ) → o ≡ Some text → option_map string_bytes o ≡ watermark_text_of w
+    → (watermark_text_of w ≡ Some (string_bytes text) → watermark_of (string_bytes text) ≡ Some w) → moment_of (string_bytes text) ≡ Some w
+printed_is_read o text w is told law = rw (is_utf8-from_IsUtf8 (string_bytes text) (IsUtf8-string_bytes text)) (law (sym told ∙ ap (option_map string_bytes) is))
+
+pub returns-clause-read : goal.returns-clause-read
+returns-clause-read c = printed_is_read _ c.in-Some.text c.args.watermark c.in-Some.is (c.in_ok-text.ensures ∙ ap watermark_text_of (to_z-of_z w64 c.args.watermark c.ranges.watermark)) (c.printed_watermarks_are_read.ensures.read c.args.watermark (string_bytes c.in-Some.text))

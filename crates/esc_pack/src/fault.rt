@@ -1,0 +1,57 @@
+//! Why nothing is made.
+
+ghost use Rattle.std.specs.Prelude.{◌≡◌};
+ghost use Rattle.esc_pack.specs.declared.fault.ReleaseFault.TheVariants.{NoMemory as no_memory};
+
+use esc_bundle::NoMemory;
+use std::alloc::{AllocError, AllocFailed};
+use std::error::Error;
+use std::fmt;
+
+/// Why bundles have no release manifest.
+#[derive(Clone, Copy, Debug, PartialEq, Eq)]
+pub enum ReleaseFault {
+    /// The bundle at this place among those given, from 0, has the refusal with this number, from U1 to U11.
+    Unread { bundle: usize, code: u8 },
+    /// Their rows, in the order of places, have the refusal with this number, from M1 to M13, at this row: rows count
+    /// from 1, and row 0 is the whole.
+    Unlisted { code: u8, row: u32 },
+    /// Memory was refused.
+    NoMemory,
+}
+
+impl fmt::Display for ReleaseFault {
+    fn fmt<W: fmt::Write>(&self, f: &mut fmt::Formatter<W>) -> fmt::Result {
+        match *self {
+            ReleaseFault::Unread { bundle, code } => write!(f, "U{code} bundle {bundle}"),
+            ReleaseFault::Unlisted { code, row } => write!(f, "M{code} row {row}"),
+            ReleaseFault::NoMemory => f.write_str("out of memory"),
+        }
+    }
+}
+
+impl Error for ReleaseFault {}
+
+impl From<NoMemory> for ReleaseFault {
+    ghost from_gives = { λ _ e. e ≡ no_memory };
+
+    fn from(_error: NoMemory) -> ReleaseFault {
+        ReleaseFault::NoMemory
+    }
+}
+
+impl From<AllocError> for ReleaseFault {
+    ghost from_gives = { λ _ e. e ≡ no_memory };
+
+    fn from(_error: AllocError) -> ReleaseFault {
+        ReleaseFault::NoMemory
+    }
+}
+
+impl<T: Drop> From<AllocFailed<T>> for ReleaseFault {
+    ghost from_gives = { λ _ e. e ≡ no_memory };
+
+    fn from(_error: AllocFailed<T>) -> ReleaseFault {
+        ReleaseFault::NoMemory
+    }
+}

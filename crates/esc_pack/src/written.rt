@@ -1,0 +1,126 @@
+//! A release manifest as a text.
+
+ghost use Rattle.std.specs.Prelude.{◌≡◌, ◌++◌, ◌∷◌, [], All, Some, IfOk, OnOk, string_bytes, unwrap_or};
+ghost use Rattle.hex.specs.Hex.{encode_lower};
+ghost use Rattle.esc_envelope.specs.Watermark.{IsInYears, watermark_text_of};
+ghost use Rattle.esc_csv.specs.Lines.{line_text};
+ghost use Rattle.esc_manifest.specs.Accepted.{IsAccepted};
+ghost use Rattle.esc_manifest.specs.Fields.{moment_of, digest_of};
+ghost use Rattle.esc_pack.specs.Written.{heading, resend_field, row_line, rows_text, manifest_text, IsLegible};
+
+use esc_bundle::NoMemory;
+use esc_csv::Lines;
+use esc_envelope::{printed_watermarks_are_read, watermark_text};
+use esc_manifest::{MRow, Manifest};
+use std::alloc::Global;
+
+// A moment as text.
+fn moment_field(alloc: Global, watermark: i64) -> Result<String, NoMemory>
+    requires { IsInYears watermark }
+    ensures text { IfOk result (λ text. watermark_text_of watermark ≡ Some (string_bytes text)) }
+    ensures read { IfOk result (λ text. moment_of (string_bytes text) ≡ Some watermark) }
+{
+    printed_watermarks_are_read();
+    match watermark_text(alloc, watermark)? {
+        Some(text) => Ok(text),
+        None => unreachable!(),
+    }
+}
+
+// A resend as text: nothing for 0.
+fn resend_field(alloc: Global, resend: u32) -> Result<String, NoMemory>
+    ensures { IfOk result (λ text. string_bytes text ≡ resend_field resend) }
+{
+    if resend == 0 {
+        return Ok(String::new(alloc));
+    }
+    Ok(format!(in alloc; "{resend}")?)
+}
+
+// A digest as 64 hexadecimal digits.
+fn digest_field(alloc: Global, digest: &[u8; 32]) -> Result<String, NoMemory>
+    ensures text { IfOk result (λ text. string_bytes text ≡ encode_lower digest.now) }
+    ensures read { OnOk result (digest_of (encode_lower digest.now) ≡ Some digest.now) }
+{
+    Ok(hex::encode(alloc, digest.as_slice())?)
+}
+
+fn prev_field(row: &MRow) -> &[u8]
+    ensures { result.now ≡ unwrap_or row.now.header.prev [] }
+{
+    match &row.header.prev {
+        Some(prev) => prev.as_bytes(),
+        None => &[],
+    }
+}
+
+fn write_heading(lines: &mut Lines) -> Result<(), NoMemory>
+    ensures { OnOk result (lines.new ≡ lines.old ++ line_text heading) }
+{
+    write_fields(
+        lines,
+        b"id",
+        b"type",
+        b"watermark",
+        b"prevId",
+        b"resend",
+        b"sha256",
+    )
+}
+
+fn write_fields<'x>(
+    lines: &mut Lines,
+    id: &'x [u8],
+    kind: &'x [u8],
+    watermark: &'x [u8],
+    prev: &'x [u8],
+    resend: &'x [u8],
+    digest: &'x [u8],
+) -> Result<(), NoMemory>
+    ensures { OnOk result (lines.new ≡ lines.old ++ line_text (id.now ∷ kind.now
+        ∷ watermark.now ∷ prev.now ∷ resend.now ∷ digest.now ∷ [])) }
+{
+    lines.write(&[id, kind, watermark, prev, resend, digest])
+}
+
+fn write_row(alloc: Global, lines: &mut Lines, row: &MRow) -> Result<(), NoMemory>
+    requires { IsInYears row.now.header.place.watermark }
+    ensures written { OnOk result (lines.new ≡ lines.old ++ line_text (row_line row.now)) }
+    ensures legible { OnOk result (IsLegible row.now) }
+{
+    let watermark = moment_field(alloc, row.header.place.watermark)?;
+    let resend = resend_field(alloc, row.header.resend)?;
+    let digest = digest_field(alloc, &row.digest)?;
+    write_fields(
+        lines,
+        row.header.id.as_bytes(),
+        row.header.place.kind.name().as_bytes(),
+        watermark.as_bytes(),
+        prev_field(row),
+        resend.as_bytes(),
+        digest.as_bytes(),
+    )
+}
+
+fn write_rows(alloc: Global, lines: &mut Lines, rows: &[MRow]) -> Result<(), NoMemory>
+    requires { IsAccepted rows.now }
+    ensures written { OnOk result (lines.new ≡ lines.old ++ rows_text rows.now) }
+    ensures legible { OnOk result (All IsLegible rows.now) }
+{
+    for row in rows {
+        write_row(alloc, lines, row)?;
+    }
+    Ok(())
+}
+
+/// The text of a manifest: its heading, and a line for each row.
+pub(crate) fn manifest_text(alloc: Global, manifest: &Manifest) -> Result<Vec<u8>, NoMemory>
+    ensures text { IfOk result (λ text. text.items ≡ manifest_text manifest.now) }
+    ensures legible { OnOk result (All IsLegible manifest.now) }
+    ensures accepted { OnOk result (IsAccepted manifest.now) }
+{
+    let mut lines = Lines::new(alloc);
+    write_heading(&mut lines)?;
+    write_rows(alloc, &mut lines, manifest.rows())?;
+    lines.into_text()
+}
