@@ -27,7 +27,8 @@ use Rattle.esc_check.specs.LinkValue.{LinkValue, link_to}
 use Rattle.esc_check.specs.Links.{LinksBy, IsLinkOf}
 use Rattle.esc_check.specs.Statuses.{status_words, IsStatusOf}
 use Rattle.esc_check.specs.Tables.{Entry, tables_of}
-use Rattle.esc_check.proofs.Keys.{keys_alike, same_key, count_has, count_is}
+use Rattle.esc_tables.specs.KeyLaws.{keys_alike, one_key}
+use Rattle.esc_check.proofs.Keys.{count_has, count_is}
 use Rattle.esc_check.proofs.Members.{nothing_in, here, only, from_pieces, in_pieces, from_chosen, in_chosen, from_any, any_from}
 
 false_true : false ≡ true → ⊥
@@ -356,7 +357,7 @@ module _ (es : List Entry) (w : ℤ) (counts : List (Kind × ℕ)) (apart : IsDi
       pick (inr b) = inr (inr (k, o, at, own_found w k o f b))
 
   found_in : (k : KeyName) (o : ObjectValue) (f : FindingValue) → tables_of es k ≡ Some o → Contains (pieces (k, o)) f → Contains (flat_map pieces es ++ flat_map declared counts) f
-  found_in k o f at h = Contains-append_left (flat_map pieces es) (flat_map declared counts) f (in_pieces pieces es (k, o) f (Contains-from_lookup same_key k o es at) h)
+  found_in k o f at h = Contains-append_left (flat_map pieces es) (flat_map declared counts) f (in_pieces pieces es (k, o) f (Contains-from_lookup one_key k o es at) h)
 
   pub to_findings : (f : FindingValue) → Contains (flat_map pieces es ++ flat_map declared counts) f → IsFinding (tables_of es) w counts f
   to_findings f h = pick (Contains-append_cases (flat_map pieces es) (flat_map declared counts) f h)

@@ -2,46 +2,26 @@
 use Rattle.std.proofs.Common.{◌≡◌, ℕ, Bool, true, false, cond, List, [], ◌∷◌, length, filter, sym, ap, subst, ◌∙◌}
 use Rattle.std.specs.Prelude.{◌↔◌, IsSome}
 use Rattle.std.specs.Bool.{one_answer}
-use Rattle.std.specs.Ordering.{nat_cmp}
-use Rattle.std.specs.Cmp.{IsTotalOrder, IsEquivalence, eq_by_cmp_equiv, nat_cmp_total}
-use Rattle.std.specs.Cmp.Lexicographic.{slice_cmp}
 use Rattle.std.proofs.lemmas.Bool.{eqb-true, eq-eqb}
-use Rattle.std.proofs.lemmas.Cmp.{then_total, on_total, nat_list_cmp_total}
 use Rattle.std.proofs.lemmas.List.{map-id}
 use Rattle.std.proofs.lemmas.List.Sums.{length-filter}
-use Rattle.std.proofs.lemmas.Map.Lookups.{CmpEqualImpliesEq, exact_unsigned, exact_bytes, exact_pairs}
 use Rattle.std.proofs.lemmas.Map.Made.{is_member-Decides, length-from_same_keys}
-use Rattle.std.proofs.lemmas.Map.Views.{tells_apart, IsSome-lookup_from_Contains, Contains-keys_from_lookup}
+use Rattle.std.proofs.lemmas.Map.Views.{IsSome-lookup_from_Contains, Contains-keys_from_lookup}
 use Rattle.std.specs.List.{Contains, IsDistinct, AllByRecursion}
 use Rattle.std.specs.Map.{keys_of}
 use Rattle.esc_envelope.specs.declared.kind.Kind.{Kind}
 use Rattle.esc_envelope.specs.Kinds.{kind_rank, is_kind}
-use Rattle.esc_tables.specs.KeyName.{KeyName, key_cmp, key_eq}
+use Rattle.esc_tables.specs.KeyLaws.{one_kind, keys_alike, one_key}
+use Rattle.esc_tables.specs.KeyName.{KeyName, key_eq}
 use Rattle.esc_check.specs.Gathered.{count_of}
 use Rattle.esc_check.specs.Tables.{Entry, tables_of, AreKeysOf, HasCount}
-use Rattle.esc_check.proofs.Ties.{same_rank}
 use Rattle.esc_check.proofs.Members.{from_chosen, in_chosen}
 
-pub keys_total : IsTotalOrder key_cmp
-keys_total = then_total (on_total (λ (k : KeyName). kind_rank k.kind) nat_cmp_total) (on_total (λ (k : KeyName). k.text) nat_list_cmp_total)
-
-pub keys_alike : IsEquivalence key_eq
-keys_alike = eq_by_cmp_equiv keys_total
-
-keys_exact : CmpEqualImpliesEq key_cmp
-keys_exact a b h =
-    let parts = exact_pairs nat_cmp (slice_cmp nat_cmp) exact_unsigned exact_bytes (kind_rank a.kind, a.text) (kind_rank b.kind, b.text) h in
-    let kinds : a.kind ≡ b.kind = same_rank a.kind b.kind (ap (λ (p : ℕ × List ℕ). p.0) parts) in
-    λ i. record { kind = kinds i; text = (parts i).1 }
-
-pub same_key : (a b : KeyName) → key_eq a b ≡ true → a ≡ b
-same_key = tells_apart keys_exact
-
 key_decides : (a b : KeyName) → (key_eq a b ≡ true → a ≡ b) × (a ≡ b → key_eq a b ≡ true)
-key_decides a b = (same_key a b, λ e. subst (λ (q : KeyName). key_eq a q ≡ true) e (keys_alike.refl a))
+key_decides a b = (one_key a b, λ e. subst (λ (q : KeyName). key_eq a q ≡ true) e (keys_alike.refl a))
 
 same_kind : (k l : Kind) → is_kind k l ≡ true → k ≡ l
-same_kind k l h = same_rank k l (eqb-true (kind_rank k) (kind_rank l) h)
+same_kind k l h = one_kind k l (eqb-true (kind_rank k) (kind_rank l) h)
 
 kind_itself : (k l : Kind) → k ≡ l → is_kind k l ≡ true
 kind_itself k l e = eq-eqb (kind_rank k) (kind_rank l) (ap kind_rank e)
@@ -78,7 +58,7 @@ from_kind es kind q h =
 
 in_kind : (es : List Entry) (kind : Kind) (q : KeyName) → (q.kind ≡ kind) × IsSome (tables_of es q) → Contains (of_kind kind es) q
 in_kind es kind q (same, there) =
-    let has = in_chosen (λ (k : KeyName). is_kind k.kind kind) (λ (k : KeyName). k) (keys_of es) q (Contains-keys_from_lookup same_key q es there) (kind_itself q.kind kind same) in
+    let has = in_chosen (λ (k : KeyName). is_kind k.kind kind) (λ (k : KeyName). k) (keys_of es) q (Contains-keys_from_lookup one_key q es there) (kind_itself q.kind kind same) in
     subst (λ (l : List KeyName). Contains l q) (map-id (of_kind kind es)) has
 
 are_keys : (es : List Entry) (kind : Kind) → IsDistinct key_eq (keys_of es) → AreKeysOf (tables_of es) kind (of_kind kind es)

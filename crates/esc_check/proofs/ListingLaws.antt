@@ -29,7 +29,7 @@ use Rattle.esc_check.specs.LinkValue.{LinkValue}
 use Rattle.esc_check.specs.Links.{IsLinkOf}
 use Rattle.esc_check.specs.Tables.{Entry, tables_of}
 use Rattle.esc_check.proofs.Keys.{count_is}
-use Rattle.esc_check.proofs.Ties.{same_rank}
+use Rattle.esc_tables.specs.KeyLaws.{one_kind}
 use Rattle.esc_check.proofs.Members.{here, there}
 
 -- orders
@@ -64,7 +64,7 @@ in_listing f g tell less =
     below_by_five (nat_cmp f.code g.code) (nat_cmp (kind_rank f.kind) (kind_rank g.kind)) (slice_cmp nat_cmp f.key g.key) (slice_cmp nat_cmp f.field g.field)
     (slice_cmp nat_cmp f.value g.value) (slice_cmp nat_cmp f.other g.other) less (λ codes_tie kinds_tie keys_tie fields_tie below.
     not_below f.other g.other
-    (tell (exact_unsigned f.code g.code codes_tie) (same_rank f.kind g.kind (exact_unsigned (kind_rank f.kind) (kind_rank g.kind) kinds_tie)) (exact_bytes f.key g.key keys_tie) (exact_bytes f.field g.field fields_tie))
+    (tell (exact_unsigned f.code g.code codes_tie) (one_kind f.kind g.kind (exact_unsigned (kind_rank f.kind) (kind_rank g.kind) kinds_tie)) (exact_bytes f.key g.key keys_tie) (exact_bytes f.field g.field fields_tie))
     below)
 
 all_listed : (f : FindingValue) (gs : List FindingValue) → ((g : FindingValue) → Contains gs g → finding_cmp f g ≡ Less → listing_cmp f g ≡ Less)

@@ -24,7 +24,7 @@ use Rattle.esc_check.specs.Gathered.{links_of, is_present, link_findings, count_
 use Rattle.esc_check.specs.LinkValue.{LinkValue}
 use Rattle.esc_check.specs.Tables.{Entry, tables_of}
 use Rattle.esc_check.proofs.FindingLaws.{to_findings, from_findings}
-use Rattle.esc_check.proofs.Keys.{keys_total}
+use Rattle.esc_tables.specs.KeyLaws.{keys_total}
 use Rattle.esc_check.proofs.Members.{from_pieces, in_pieces, from_chosen, in_chosen}
 use Rattle.esc_check.proofs.Writing.{front_added}
 

@@ -1,5 +1,5 @@
 -- No field of a text's records is longer than the text.
-use Rattle.std.proofs.Common.{◌≡◌, ℕ, zero, suc, ◌+◌, ◌≤◌, Bool, true, false, cond, List, [], ◌∷◌, ◌++◌, length, Option, Some, None, refl, ap, subst, arith, length-append}
+use Rattle.std.proofs.Common.{◌≡◌, ℕ, zero, suc, ◌+◌, ◌≤◌, Bool, true, false, cond, List, [], ◌∷◌, ◌++◌, length, Option, Some, None, refl, subst, arith, length-append}
 use Rattle.std.specs.Prelude.{All}
 use Rattle.std.specs.List.{AllByRecursion}
 use Rattle.std.proofs.lemmas.List.Elements.{All-from_recursion, All-nil, All-cons}
@@ -58,8 +58,8 @@ next_short cfg n s fields field (c ∷ rest) p short fits e =
     let fields_then = after n action fields field short (omega (arith, fits)) in
     let room : length (field_after action c field) + length rest ≤ n = omega (arith, fits, one_byte action c field) in
     let l = ends_or_goes_on n rest (is_end action) (fields_after action fields field, then_state, rest) (next_record cfg then_state (fields_after action fields field) (field_after action c field) rest) p
-        (fields_then, omega arith)
-        (λ r f. next_short cfg n then_state (fields_after action fields field) (field_after action c field) rest r fields_then room f) e in
+    (fields_then, omega arith)
+    (λ r f. next_short cfg n then_state (fields_after action fields field) (field_after action c field) rest r fields_then room f) e in
     (l.0, omega (arith, l.1))
 
 -- ---- all records

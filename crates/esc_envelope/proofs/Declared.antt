@@ -1,6 +1,6 @@
 -- What is known of an envelope that was read: its tables have their forms, and its refusals are 5 to 7.
-use Rattle.std.proofs.Common.{◌≡◌, ◌∙◌, ℕ, suc, ◌≤◌, ◌<◌, Bool, true, false, cond, List, [], ◌∷◌, ◌++◌, length, Option, Some, None, refl, sym, ap, subst, arith}
-use Rattle.std.specs.Prelude.{All, codes, option_and_then, ◌&&◌, nat_lt, nat_le, Result, Ok, Err}
+use Rattle.std.proofs.Common.{◌≡◌, ◌∙◌, ℕ, suc, ◌≤◌, ◌<◌, Bool, true, false, cond, List, [], ◌∷◌, length, Option, Some, None, refl, sym, ap, subst, arith}
+use Rattle.std.specs.Prelude.{All, codes, option_and_then, ◌&&◌, nat_lt, nat_le}
 use Rattle.std.specs.List.{list_all}
 use Rattle.std.specs.Str.{bytes_eq}
 use Rattle.std.proofs.lemmas.Bool.Decides.{nat_tests}
@@ -8,9 +8,9 @@ use Rattle.std.proofs.lemmas.List.Elements.{All-nil, All-cons}
 use Rattle.std.proofs.lemmas.List.Quantifiers.{position-Some}
 use Rattle.serde_json.specs.Data.{Data}
 use Rattle.serde_json.specs.Find.{get, as_str}
-use Rattle.esc_envelope.specs.EnvelopeValue.{TableValue, EnvelopeValue}
+use Rattle.esc_envelope.specs.EnvelopeValue.{TableValue}
 use Rattle.esc_envelope.specs.Id.{is_id}
-use Rattle.esc_envelope.specs.Members.{text_at, array_in, array_of, if_id, header_of, counts_of}
+use Rattle.esc_envelope.specs.Members.{text_at, array_in, if_id}
 use Rattle.esc_envelope.specs.Steps.{◌>>=◌}
 use Rattle.esc_envelope.specs.Tables.{all_of, are_distinct, is_name, if_name, name_of, kind_of, parent_of, field_of, if_distinct, fields_in, fields_of, place_of, key_of, IsTable, table_of, have_distinct_names, have_one_parent, AreContents, AreDeletes, if_contents, if_deletes, contents_in, deletes_in}
 

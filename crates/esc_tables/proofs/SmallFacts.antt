@@ -1,5 +1,5 @@
 -- The objects of a deposit are small: their rows are rows of its tables.
-use Rattle.std.proofs.Common.{◌≡◌, ◌∙◌, ℕ, suc, ◌+◌, ◌≤◌, Bool, true, false, cond, List, [], ◌∷◌, ◌++◌, length, map, filter, refl, sym, ap, subst, arith, inl, inr}
+use Rattle.std.proofs.Common.{◌≡◌, ℕ, ◌+◌, ◌≤◌, Bool, true, List, [], ◌∷◌, ◌++◌, length, map, filter, sym, subst, arith, inl, inr}
 use Rattle.std.specs.Prelude.{Ok, All, not, ◌&&◌, nat_lt, nat_le, ◌↔◌}
 use Rattle.std.specs.List.{AllByRecursion, list_all, fold, zip}
 use Rattle.std.specs.Str.{bytes_eq}
@@ -8,7 +8,7 @@ use Rattle.std.specs.declared.cmp.Ordering.{Ordering}
 use Rattle.std.specs.declared.cmp.Ordering.TheVariants.{Less, Equal, Greater}
 use Rattle.std.proofs.lemmas.Bool.{cases_Bool}
 use Rattle.std.proofs.lemmas.Bool.Decides.{nat_tests}
-use Rattle.std.proofs.lemmas.List.{length-append, length-map}
+use Rattle.std.proofs.lemmas.List.{length-map}
 use Rattle.std.proofs.lemmas.List.Elements.{All-from_recursion, recursion_from_All, All-tail, All-filter}
 use Rattle.esc_bundle.specs.Bundle.{Named, limit, IsBundle}
 use Rattle.esc_bundle.specs.Frame.{frame}
@@ -22,9 +22,9 @@ use Rattle.esc_tables.specs.DepositValue.{DepositValue}
 use Rattle.esc_tables.specs.KeyName.{KeyName, key_cmp, key_eq}
 use Rattle.esc_tables.specs.ObjectValue.{RowValue, ObjectValue}
 use Rattle.esc_tables.specs.Objects.{at_key, with_children, in_order, objects_of}
-use Rattle.esc_tables.specs.Reading.{by_name, placed, is_before, deposit_of, deposit_in, sections_deposit, reading, most_rows, parent_rows, child_rows}
+use Rattle.esc_tables.specs.Reading.{by_name, deposit_of, deposit_in, sections_deposit, reading, most_rows, parent_rows, child_rows}
 use Rattle.esc_tables.specs.SmallObject.{IsSmallRow, IsSmallObject}
-use Rattle.esc_tables.specs.TableRow.{TableRow, in_table, bytes_named, table_rows, rows_in, row_of, key_of, keyed}
+use Rattle.esc_tables.specs.TableRow.{TableRow, in_table, bytes_named, table_rows, rows_in, row_of, keyed}
 use Rattle.esc_tables.proofs.ExactFacts.{Parts, parts_of, steps_of, right_rows}
 use Rattle.esc_tables.proofs.FieldFacts.{both}
 use Rattle.esc_tables.proofs.ObjectFacts.{putting}

@@ -1,5 +1,5 @@
 -- How large the objects of a deposit can be.
-use Rattle.std.specs.Prelude.{◌≤◌, List, length, All}
+use Rattle.std.specs.Prelude.{◌≤◌, length, All}
 use Rattle.esc_bundle.specs.Bundle.{limit}
 use Rattle.esc_tables.specs.ObjectValue.{RowValue, ObjectValue}
 use Rattle.esc_tables.specs.Reading.{most_rows}

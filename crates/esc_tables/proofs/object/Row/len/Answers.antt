@@ -1,4 +1,4 @@
-use Rattle.std.proofs.Common.{◌≡◌, sym, ap, ◌∙◌, length}
+use Rattle.std.proofs.Common.{sym, ap, ◌∙◌, length}
 use Rattle.csv.specs.Records.{fields_of}
 use Rattle.esc_tables.specs.ObjectValue.{RowValue}
 use Rattle.esc_tables.proofs.FieldFacts.{all_cells}
