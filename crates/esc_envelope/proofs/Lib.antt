@@ -7,6 +7,7 @@ pub mod Gather
 pub mod JsonLists
 pub mod JsonTexts
 pub mod KindOrder
+pub mod LeastFault
 pub mod MomentReads
 pub mod Printed
 pub mod RealParts

@@ -1,4 +1,5 @@
 pub mod Envelope
+pub mod EnvelopeFaults
 pub mod EnvelopeValue
 pub mod HeaderValue
 pub mod Id

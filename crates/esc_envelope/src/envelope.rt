@@ -1,8 +1,9 @@
 //! The envelope of a deposit.
 
-ghost use Rattle.std.specs.Prelude.{◌≡◌, ℕ, Ok, Err, Some, None, IfOk, IfErr};
+ghost use Rattle.std.specs.Prelude.{◌≡◌, ◌⊎◌, ◌↔◌, ◌≤◌, ℕ, List, Ok, Err, Some, None, IfOk, IfErr, IsErrAnd};
 ghost use Rattle.serde_json.specs.View.{view};
 ghost use Rattle.esc_envelope.specs.Envelope.{json_of, envelope_in, envelope_of};
+ghost use Rattle.esc_envelope.specs.EnvelopeFaults.{Stands, IsLeast};
 
 use crate::counts::counts_of;
 use crate::header::Header;
@@ -87,13 +88,32 @@ fn envelope_in(alloc: Global, json: &Value) -> Result<Envelope, Fault>
     })
 }
 
-/// The envelope that a JSON text is (RFC 8259, as `serde_json` reads it), or the least of U5, U6 and U7 that stands:
-/// no JSON; a member outside the tables is missing or of another form; a table is not declared rightly.
+// The envelope that a JSON text is, or the first refusal that stands.
 #[tactic(auto, unfolding(crate::specs::Envelope::envelope_of))]
-pub fn read_envelope(alloc: Global, json: &[u8]) -> Result<Envelope, Fault>
+fn envelope_from(alloc: Global, json: &[u8]) -> Result<Envelope, Fault>
     ensures envelope { IfOk result (λ e. envelope_of json.now ≡ Ok e) }
     ensures refused { IfErr result (λ e. (n : ℕ) → e ≡ Fault.Refused n → envelope_of json.now ≡ Err n) }
 {
     let json = parsed(alloc, json)?;
     envelope_in(alloc, &json)
 }
+
+/// The envelope that a JSON text is (RFC 8259, as `serde_json` reads it), or the least of U5, U6 and U7 that stands:
+/// no JSON; a member outside the tables is missing or of another form; a table is not declared rightly.
+pub fn read_envelope(alloc: Global, json: &[u8]) -> Result<Envelope, Fault>
+    ensures envelope { IfOk result (λ e. envelope_of json.now ≡ Ok e) }
+    ensures refused { IfErr result (λ e. (n : ℕ) → e ≡ Fault.Refused n → envelope_of json.now ≡ Err n) }
+    ensures least { IfErr result (λ e. (n : ℕ) → e ≡ Fault.Refused n → IsLeast json.now n) }
+    ensures fault_told { (n : ℕ) → IsLeast json.now n →
+        IsErrAnd result (λ e. (e ≡ Fault.Refused n) ⊎ (e ≡ Fault.NoMemory)) }
+    ensures numbers { IfErr result (λ e. (n : ℕ) → e ≡ Fault.Refused n → (5 ≤ n) × (n ≤ 7)) }
+{
+    envelope_from(alloc, json)
+}
+
+/// A text has the refusal that `envelope_of` gives exactly if it is the least of U5 to U7 that stands: a law of the
+/// definitions.
+pub fn refusals_are_least()
+    ensures least { (text : List ℕ) (n : ℕ) → (envelope_of text ≡ Err n) ↔ IsLeast text n }
+    ensures numbers { (text : List ℕ) (n : ℕ) → Stands text n → (5 ≤ n) × (n ≤ 7) }
+{}

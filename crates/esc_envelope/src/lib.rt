@@ -16,7 +16,8 @@
 //!
 //! Its contract says exactly that. `specs/Envelope.antt` has the function `envelope_of` from bytes to an envelope or
 //! a number of refusal, put together from one small definition for each member (`specs/Members.antt`,
-//! `specs/Tables.antt`). An `Ok` is the envelope that `envelope_of` gives, and a refusal is its number; only want of
+//! `specs/Tables.antt`); `specs/EnvelopeFaults.antt` says of each number what stands against a text, and that number
+//! is the least that does (`IsLeast`). An `Ok` is the envelope that `envelope_of` gives, and a refusal is its number; only want of
 //! memory may be answered in place of either. Contracts see an `Envelope` as an `EnvelopeValue`, a `Header` as a
 //! `HeaderValue` and a `Table` as a `TableValue`, records of texts as bytes, numbers and lists.
 //!
@@ -46,7 +47,7 @@ mod table;
 mod tables;
 mod texts;
 
-pub use envelope::{Envelope, read_envelope};
+pub use envelope::{Envelope, read_envelope, refusals_are_least};
 pub use header::Header;
 pub use id::is_id;
 pub use kind::Kind;

@@ -1,6 +1,6 @@
 //! Watermarks: moments in UTC, to the nanosecond.
 
-ghost use Rattle.std.specs.Prelude.{◌≡◌, ◌<◌, ◌↔◌, ℕ, ℤ, List, Some, IsSome, IfOk, IfSome, option_map, string_bytes, pos, ◌≤ℤ◌};
+ghost use Rattle.std.specs.Prelude.{◌≡◌, ◌<◌, ◌↔◌, ℕ, ℤ, List, Some, None, Ok, IsSome, IfOk, IfSome, option_map, string_bytes, pos, ◌≤ℤ◌};
 ghost use Rattle.jiff.specs.Words.{civil_nanos, IsBetween};
 ghost use Rattle.esc_envelope.specs.Moment.{IsWatermark};
 ghost use Rattle.esc_envelope.specs.Watermark.{IsInYears, value_if, watermark_of, watermark_text_of};
@@ -80,9 +80,10 @@ fn civil_at(watermark: i64) -> DateTime
 }
 
 /// The text of a moment of the years 1970 to 2261, else `None`. A fraction is written only if it isn't zero, without
-/// trailing zeros.
+/// trailing zeros. Of another moment it takes no memory.
 pub fn watermark_text(alloc: Global, watermark: i64) -> Result<Option<String>, NoMemory>
-    ensures { IfOk result (λ o. option_map string_bytes o ≡ watermark_text_of watermark) }
+    ensures text { IfOk result (λ o. option_map string_bytes o ≡ watermark_text_of watermark) }
+    ensures outside { (IsInYears watermark → ⊥) → result ≡ Ok None }
 {
     if watermark < 0 || watermark >= END {
         return Ok(None);

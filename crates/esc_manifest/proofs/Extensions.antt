@@ -15,3 +15,9 @@ abbrev pub told : {X : Type 0} → Result X MFault → Result (List MRow) (ℕ �
 told (Ok x) = Err (0, 0)
 told (Err (Refused code row)) = Err (code, row)
 told (Err NoMemory) = Err (0, 0)
+
+-- the row of a refusal
+abbrev pub told_row : {X : Type 0} → Result X MFault → ℕ
+told_row (Ok x) = 0
+told_row (Err (Refused code row)) = row
+told_row (Err NoMemory) = 0

@@ -26,4 +26,5 @@ is_no_earlier (Some place) moment = not (int_lt place.watermark moment)
 -- a Differential whose prevId has a place in the map that isn't earlier
 abbrev pub names_later : BTreeMap (Bor (List ℕ)) Place → MRow → Bool
 names_later places row =
-    is_diff row.header.place.kind && is_some_id (λ id. is_no_earlier (place_in places id) row.header.place.watermark) row.header.prev
+    is_diff row.header.place.kind
+    && is_some_id (λ id. is_no_earlier (place_in places id) row.header.place.watermark) row.header.prev

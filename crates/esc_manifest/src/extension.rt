@@ -3,6 +3,7 @@
 ghost use Rattle.std.specs.Prelude.{◌≡◌, ◌≤◌, ◌<◌, ◌&&◌, ℕ, length, not, position, IfOk, IfSome, Ok, Err, option_map, string_bytes};
 ghost use Rattle.std.specs.List.{list_any};
 ghost use Rattle.esc_manifest.specs.declared.fault.MFault.TheVariants as MFault;
+ghost use Rattle.esc_manifest.specs.LeastFault.{IsLeastOfUnion};
 ghost use Rattle.esc_manifest.specs.RowFaults.{follows_later};
 ghost use Rattle.esc_manifest.specs.Extension.{same_prev, same_row, is_listed, extended, is_blamed, blamed, extension};
 
@@ -99,7 +100,8 @@ fn first_blamed(code: u8, rows: &[MRow], more: &[MRow]) -> Option<usize>
 // The row of `more` that the fault of a number is told at, from 1; 0 is the whole.
 fn blamed(code: u8, rows: &[MRow], more: &[MRow]) -> u32
     requires few { length more.now ≤ 4096 }
-    ensures { result ≡ blamed code rows.now more.now }
+    ensures blamed { result ≡ blamed code rows.now more.now }
+    ensures within { result ≤ 4096 }
 {
     match first_blamed(code, rows, more) {
         Some(row) => row as u32 + 1,
@@ -108,15 +110,14 @@ fn blamed(code: u8, rows: &[MRow], more: &[MRow]) -> u32
 }
 
 impl Manifest {
-    /// This manifest, and behind its rows those of another one that aren't equal to one of them in all six values, in their
-    /// order. Refuses with the least of M1 (more than 4,096 rows, row 0) and M10 to M13 that stands in the union. The row
-    /// is the least of `more`, counted from 1 as it stands there, that isn't listed yet and repeats or contradicts another;
-    /// for M12 the least that is a faulty Differential or whose id a faulty Differential of this manifest names.
+    // The union of two manifests, or its fault.
     #[tactic(auto, unfolding(crate::specs::Extension::extension))]
-    pub fn extend(&self, alloc: Global, more: &Manifest) -> Result<Manifest, MFault>
+    fn union_with(&self, alloc: Global, more: &Manifest) -> Result<Manifest, MFault>
         ensures accepted { IfOk result (λ m. extension self.now more.now ≡ Ok m) }
         ensures union { IfOk result (λ m. m ≡ extended self.now more.now) }
-        ensures refused { (code row : ℕ) → result ≡ Err (MFault.Refused code row) → extension self.now more.now ≡ Err (code, row) }
+        ensures within { (code row : ℕ) → result ≡ Err (MFault.Refused code row) → row ≤ 4096 }
+        ensures refused { (code row : ℕ) → result ≡ Err (MFault.Refused code row) →
+            extension self.now more.now ≡ Err (code, row) }
     {
         let rows = self.rows();
         let added = more.rows();
@@ -128,5 +129,22 @@ impl Manifest {
                 Err(MFault::Refused { code, row })
             }
         }
+    }
+
+    /// This manifest, and behind its rows those of another one that aren't equal to one of them in all six values, in their
+    /// order. Refuses with the least of M1 (more than 4,096 rows, row 0) and M10 to M13 that stands in the union. The row
+    /// is the least of `more`, counted from 1 as it stands there, that isn't listed yet and repeats or contradicts another;
+    /// for M12 the least that is a faulty Differential or whose id a faulty Differential of this manifest names.
+    pub fn extend(&self, alloc: Global, more: &Manifest) -> Result<Manifest, MFault>
+        ensures accepted { IfOk result (λ m. extension self.now more.now ≡ Ok m) }
+        ensures union { IfOk result (λ m. m ≡ extended self.now more.now) }
+        ensures refused { (code row : ℕ) → result ≡ Err (MFault.Refused code row) →
+            extension self.now more.now ≡ Err (code, row) }
+        ensures least { (code row : ℕ) → result ≡ Err (MFault.Refused code row) →
+            IsLeastOfUnion self.now more.now code row }
+        ensures numbers { (code row : ℕ) → result ≡ Err (MFault.Refused code row) →
+            (1 ≤ code) × (code ≤ 13) × (row ≤ 4096) }
+    {
+        self.union_with(alloc, more)
     }
 }

@@ -27,12 +27,19 @@
 //!
 //! # What the contracts mean
 //!
-//! `specs/Manifest.antt` and `specs/RowFaults.antt` say for each number which rows have that fault, over the whole list
-//! of records (as `esc_csv` gives them) or of typed rows; `manifest_of` is the rows of a text or its least fault,
-//! and `rows_fault` the least fault of rows. `read_manifest` and `from_rows` answer exactly these, but for want of
-//! memory. What the rows of an accepted manifest are is the one fact `IsAccepted` of `specs/Accepted.antt`, which each
+//! `specs/Manifest.antt` and `specs/RowFaults.antt` say for each number which records and rows have that fault, and
+//! `specs/LeastFault.antt` which fault is the least: no other that stands has a lesser number, nor the same number at a
+//! lesser row (`IsLeastInText`, `IsLeast`). `read_manifest` and `from_rows` refuse with exactly that one, but for want of
+//! memory in the former. `manifest_of` and `rows_fault` are the same as functions; by a law they give the least fault.
+//! What the rows of an accepted manifest are is the one fact `IsAccepted` of `specs/Accepted.antt`, which each
 //! `Manifest` carries and `Manifest::rows` gives on; by a law it holds of exactly the rows without a fault.
-//! `specs/Extension.antt` has the union of two manifests, or its fault: `Manifest::extend` answers exactly that.
+//! `specs/Extension.antt` has the union of two manifests, or its fault: `Manifest::extend` answers exactly that, and
+//! `IsLeastOfUnion` is its fault by what stands.
+//!
+//! # Time
+//!
+//! Rows are tested by sets and a map of their keys, so that an accepted manifest takes time n log n; each row is compared
+//! with each only where there is a fault, or no memory for the keys.
 #![tactic(auto)]
 
 mod apart;
@@ -47,7 +54,7 @@ mod row;
 mod rows;
 
 pub use fault::MFault;
-pub use laws::{accepted_texts_are_read_whole, rows_without_fault_are_accepted};
+pub use laws::{accepted_texts_are_read_whole, faults_are_least, rows_without_fault_are_accepted};
 pub use manifest::Manifest;
 pub use reading::read_manifest;
 pub use row::MRow;

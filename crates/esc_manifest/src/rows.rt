@@ -4,6 +4,7 @@ ghost use Rattle.std.specs.Prelude.{◌≡◌, ◌<◌, ◌≤◌, ℕ, length, 
 ghost use Rattle.std.specs.List.{list_any};
 ghost use Rattle.esc_envelope.specs.Id.{is_id};
 ghost use Rattle.esc_manifest.specs.declared.fault.MFault.TheVariants as MFault;
+ghost use Rattle.esc_manifest.specs.LeastFault.{IsLeast};
 ghost use Rattle.esc_manifest.specs.RowFaults.{has_bad_id, has_bad_watermark, lacks_prev, has_bad_resend, same_place, same_revision, moved_id, follows_later, same_digest, first_against_earlier, first_against_any, rows_fault};
 
 use crate::apart::{
@@ -232,14 +233,30 @@ pub(crate) fn rows_fault(alloc: Global, rows: &[MRow]) -> Option<(u8, u32)>
     None
 }
 
-/// The manifest of these rows. Refuses with the least of M1 (more than 4,096 rows), M4, M6 to M8 and M10 to M13 that
-/// stands in them; a `prev` of an empty text is M4. Memory makes it quick; where that is refused it answers the same.
-pub fn from_rows(alloc: Global, rows: Vec<MRow>) -> Result<Manifest, MFault>
+/// The manifest of these rows, or their fault.
+pub(crate) fn tested(alloc: Global, rows: Vec<MRow>) -> Result<Manifest, MFault>
     ensures accepted { rows_fault rows.items ≡ None → result ≡ Ok rows.items }
-    ensures refused { (code row : ℕ) → rows_fault rows.items ≡ Some (code, row) → result ≡ Err (MFault.Refused code row) }
+    ensures refused { (code row : ℕ) → rows_fault rows.items ≡ Some (code, row) →
+        result ≡ Err (MFault.Refused code row) }
 {
     match rows_fault(alloc, rows.as_slice()) {
         Some((code, row)) => Err(MFault::Refused { code, row }),
         None => Ok(Manifest::of_accepted(rows)),
     }
+}
+
+/// The manifest of these rows. Refuses with the least of M1 (more than 4,096 rows), M4, M6 to M8 and M10 to M13 that
+/// stands in them; a `prev` of an empty text is M4. Memory makes it quick; where that is refused it answers the same.
+pub fn from_rows(alloc: Global, rows: Vec<MRow>) -> Result<Manifest, MFault>
+    ensures accepted { rows_fault rows.items ≡ None → result ≡ Ok rows.items }
+    ensures refused { (code row : ℕ) → rows_fault rows.items ≡ Some (code, row) →
+        result ≡ Err (MFault.Refused code row) }
+    ensures told { (code row : ℕ) → IsLeast rows.items code row →
+        result ≡ Err (MFault.Refused code row) }
+    ensures least { (code row : ℕ) → result ≡ Err (MFault.Refused code row) →
+        IsLeast rows.items code row }
+    ensures numbers { (code row : ℕ) → result ≡ Err (MFault.Refused code row) →
+        (1 ≤ code) × (code ≤ 13) × (row ≤ 4096) }
+{
+    tested(alloc, rows)
 }

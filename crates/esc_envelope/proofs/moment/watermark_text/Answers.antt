@@ -1,4 +1,4 @@
-use Rattle.std.proofs.Common.{◌∙◌, sym, ap, List, ℕ, arith, FitsSigned, w64}
+use Rattle.std.proofs.Common.{◌∙◌, refl, sym, ap, List, ℕ, arith, FitsSigned, w64}
 use Rattle.std.proofs.lemmas.Int.{to_z-of_z, ints}
 use Rattle.esc_envelope.specs.Watermark.{IsInYears}
 use Rattle.esc_envelope.proofs.MomentReads.{some_of}
@@ -9,10 +9,11 @@ use Rattle.esc_envelope.proofs.moment.watermark_text.Goals.{then-watermark-lt0-v
 pub returns-then-watermark-lt0 : goal.returns-then-watermark-lt0
 returns-then-watermark-lt0 c =
     let fits : FitsSigned w64 c.args.watermark = c.ranges.watermark in
-    not_shown c.args.watermark (λ years. elim c.then-watermark-lt0.branch [
+    let none = not_shown c.args.watermark (λ years. elim c.then-watermark-lt0.branch [
       | then-watermark-lt0-via-then-watermark-lt0 w ↦ let low = simp to_z-of_z at w.if-watermark-lt0.true in omega (arith, ints, low)
       | then-watermark-lt0-via-else-watermark-lt0+then-watermark-ge-END w ↦ let high = simp to_z-of_z at w.if-watermark-ge-END.true in omega (arith, ints, high)
-    ])
+    ]) in
+    record { text = none; outside = λ never. refl }
 
 pub returns : goal.returns
 returns c =
@@ -21,4 +22,7 @@ returns c =
     let high = simp to_z-of_z at c.if-watermark-ge-END.false in
     let value = simp to_z-of_z at c.civil_at-civil.ensures in
     let years : IsInYears c.args.watermark = (omega (arith, ints, low), omega (arith, ints, high)) in
-    ap (λ (l : List ℕ). some_of l) c.in_ok-text.ensures.ok ∙ sym (shown c.civil_at-civil.result c.args.watermark value years)
+    record {
+      text = ap (λ (l : List ℕ). some_of l) c.in_ok-text.ensures.ok ∙ sym (shown c.civil_at-civil.result c.args.watermark value years);
+      outside = λ never. absurd (never years);
+    }

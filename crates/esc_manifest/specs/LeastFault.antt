@@ -1,0 +1,89 @@
+-- The least fault of rows, of a text and of an extension: which faults stand, and at which rows (this
+-- project's profile).
+use Rattle.std.specs.Prelude.{◌≡◌, ◌⊎◌, ◌<◌, ◌≤◌, ◌+◌, ℕ, suc, List, [], length, take, drop, map, Bool, true, false, ◌==◌, Some, slice_index_or, if◌then◌else◌}
+use Rattle.std.specs.List.{list_any}
+use Rattle.esc_manifest.specs.declared.row.MRow.{MRow}
+use Rattle.esc_csv.specs.Records.{records_of}
+use Rattle.esc_manifest.specs.Extension.{extended, blamed}
+use Rattle.esc_manifest.specs.Fields.{row_of}
+use Rattle.esc_manifest.specs.Manifest.{most_bytes, has_other_length, lacks_heading, lacks_id, lacks_type, lacks_watermark, is_diff_alone, lacks_resend, lacks_digest}
+use Rattle.esc_manifest.specs.RowFaults.{most_rows, has_bad_id, has_bad_watermark, lacks_prev, has_bad_resend, same_revision, moved_id, follows_later, same_digest}
+use Rattle.esc_manifest.specs.Rows.{row_at}
+
+-- of faults, each a number with a row: this one stands, and no lesser number, nor the same number at a
+-- lesser row
+abbrev pub IsLeastOf : (ℕ → ℕ → Type 0) → ℕ → ℕ → Type 0
+IsLeastOf stands code row =
+    stands code row × ((k s : ℕ) → stands k s → (code < k) ⊎ ((code ≡ k) × (row ≤ s)))
+
+-- row r of m, counted from 0, has the fault of this number: by itself, against an earlier row, or, for
+-- M12, against any
+abbrev pub has_fault : List MRow → ℕ → ℕ → Bool
+has_fault m code r =
+    if code == 4 then has_bad_id (row_at m r)
+    else if code == 6 then has_bad_watermark (row_at m r)
+    else if code == 7 then lacks_prev (row_at m r)
+    else if code == 8 then has_bad_resend (row_at m r)
+    else if code == 10 then list_any (λ q. same_revision q (row_at m r)) (take r m)
+    else if code == 11 then list_any (λ q. moved_id q (row_at m r)) (take r m)
+    else if code == 12 then list_any (λ q. follows_later q (row_at m r)) m
+    else if code == 13 then list_any (λ q. same_digest q (row_at m r)) (take r m)
+    else false
+
+-- a fault of rows stands: M1 of the whole, at row 0, or another one at a row, counted from 1
+abbrev pub Stands : List MRow → ℕ → ℕ → Type 0
+Stands m code row =
+    ((code ≡ 1) × (row ≡ 0) × (most_rows < length m))
+    ⊎ ((r : ℕ) × (r < length m) × (row ≡ suc r) × (has_fault m code r ≡ true))
+
+-- the least fault of rows
+abbrev pub IsLeast : List MRow → ℕ → ℕ → Type 0
+IsLeast m = IsLeastOf (Stands m)
+
+-- the records of a text that stand below the heading
+abbrev pub records_below : List ℕ → List (List (List ℕ))
+records_below text = drop 1 (records_of text)
+
+-- the record with an index
+abbrev pub record_at : List (List (List ℕ)) → ℕ → List (List ℕ)
+record_at rs r = slice_index_or rs r []
+
+-- a record below the heading has the fault of this number
+abbrev pub is_faulty : List (List ℕ) → ℕ → Bool
+is_faulty fields code =
+    if code == 4 then lacks_id fields
+    else if code == 5 then lacks_type fields
+    else if code == 6 then lacks_watermark fields
+    else if code == 7 then is_diff_alone fields
+    else if code == 8 then lacks_resend fields
+    else if code == 9 then lacks_digest fields
+    else false
+
+-- a fault stands in the whole of a text: M1; in its heading: M3; or in any record: M2, where the heading
+-- is row 0
+abbrev pub StandsAbove : List ℕ → ℕ → ℕ → Type 0
+StandsAbove text code row =
+    ((code ≡ 1) × (row ≡ 0)
+    × ((most_bytes < length text) ⊎ (most_rows + 1 < length (records_of text))))
+    ⊎ ((code ≡ 2) × (row < length (records_of text))
+    × (has_other_length (record_at (records_of text) row) ≡ true))
+    ⊎ ((code ≡ 3) × (row ≡ 0) × (lacks_heading (records_of text) ≡ true))
+
+-- a fault of a text's bytes or records stands: so, or at a record below the heading, counted from 1
+abbrev pub StandsInText : List ℕ → ℕ → ℕ → Type 0
+StandsInText text code row =
+    StandsAbove text code row
+    ⊎ ((r : ℕ) × (r < length (records_below text)) × (row ≡ suc r)
+    × (is_faulty (record_at (records_below text) r) code ≡ true))
+
+-- the least fault of a text: of its bytes and records; or, where none of those stands, so that each
+-- record below the heading writes a row, of these rows
+abbrev pub IsLeastInText : List ℕ → ℕ → ℕ → Type 0
+IsLeastInText text code row =
+    IsLeastOf (StandsInText text) code row
+    ⊎ (((k s : ℕ) → StandsInText text k s → ⊥)
+    × (m : List MRow) × (map row_of (records_below text) ≡ map Some m) × IsLeast m code row)
+
+-- the least fault of the union of m and more, told at the row of `more` that is blamed
+abbrev pub IsLeastOfUnion : List MRow → List MRow → ℕ → ℕ → Type 0
+IsLeastOfUnion m more code row = (s : ℕ) × IsLeast (extended m more) code s × (row ≡ blamed code m more)
