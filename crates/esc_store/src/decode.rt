@@ -1,12 +1,13 @@
 //! From the rows of the tables to replies and steps.
 
-ghost use Rattle.std.specs.Prelude.{◌≡◌, ℕ, List, Option, Bool, Some, map, option_map, string_bytes, IfOk, IfSome, IsSorted};
+ghost use Rattle.std.specs.Prelude.{◌≡◌, ℕ, List, Option, Bool, Some, map, option_map, string_bytes, IfOk, IfErr, IfSome, IsSorted};
 ghost use Rattle.std.specs.Ordering.{nat_cmp};
 ghost use Rattle.esc_manifest.specs.Rows.{id_at, resend_at};
 ghost use Rattle.esc_rows.specs.Changes.{receipt_of};
 ghost use Rattle.esc_rows.specs.Entries.{receipt_row, step_row};
 ghost use Rattle.esc_store.specs.declared.reply.Verdict.{Verdict as verdict};
 ghost use Rattle.esc_store.specs.Decoded.{AreOnce};
+ghost use Rattle.esc_store.specs.Faults.{IsS1OrS2};
 ghost use Rattle.esc_store.specs.Kept.{step_at};
 ghost use Rattle.esc_store.specs.ReplyValue.{ReceiptValue, reply_kept, reply_alike, replies_from};
 ghost use Rattle.esc_store.specs.TypedRows.{verdict_number, fault_number, bit, receipt_row as row_of, receipts_from, steps_from};
@@ -21,7 +22,8 @@ use std::alloc::Global;
 
 // The verdict that two numbers stand for.
 fn verdict_of(number: u32, fault: Option<u32>) -> Result<Verdict, SFault>
-    ensures { IfOk result (λ v. (w : verdict) → number ≡ verdict_number w → fault ≡ fault_number w → v ≡ w) }
+    ensures verdict { IfOk result (λ v. (w : verdict) → number ≡ verdict_number w → fault ≡ fault_number w → v ≡ w) }
+    ensures cause { IfErr result IsS1OrS2 }
 {
     match (number, fault) {
         (1, None) => Ok(Verdict::A1),
@@ -37,7 +39,8 @@ fn verdict_of(number: u32, fault: Option<u32>) -> Result<Verdict, SFault>
 
 // What a bit stands for.
 fn again_of(again: Option<u32>) -> Result<Option<bool>, SFault>
-    ensures { IfOk result (λ a. (b : Option Bool) → again ≡ option_map bit b → a ≡ b) }
+    ensures again { IfOk result (λ a. (b : Option Bool) → again ≡ option_map bit b → a ≡ b) }
+    ensures cause { IfErr result IsS1OrS2 }
 {
     match again {
         Some(1) => Ok(Some(true)),
@@ -63,7 +66,8 @@ fn listed_of(
     manifest: &Manifest,
     row: Option<u32>,
 ) -> Result<(Option<String>, Option<u32>), SFault>
-    ensures { IfOk result (λ p. (option_map string_bytes p.0 ≡ option_map (id_at manifest.now) row) × (p.1 ≡ option_map (resend_at manifest.now) row)) }
+    ensures listed { IfOk result (λ p. (option_map string_bytes p.0 ≡ option_map (id_at manifest.now) row) × (p.1 ≡ option_map (resend_at manifest.now) row)) }
+    ensures cause { IfErr result IsS1OrS2 }
 {
     let Some(row) = row else {
         return Ok((None, None));
@@ -84,7 +88,8 @@ pub(crate) fn reply_of(
     manifest: &Manifest,
     stored: &StoredReceipt,
 ) -> Result<Reply, SFault>
-    ensures { IfOk result (λ reply. (n : ℕ) (r : ReceiptValue) → receipt_row stored.now ≡ row_of n r → reply ≡ reply_kept manifest.now n r) }
+    ensures reply { IfOk result (λ reply. (n : ℕ) (r : ReceiptValue) → receipt_row stored.now ≡ row_of n r → reply ≡ reply_kept manifest.now n r) }
+    ensures cause { IfErr result IsS1OrS2 }
 {
     let number = String::from_str(alloc, stored.number.as_str())?;
     let verdict = verdict_of(stored.verdict, stored.fault)?;
@@ -107,7 +112,8 @@ pub(crate) fn reply_found(
     manifest: &Manifest,
     found: Option<StoredReceipt>,
 ) -> Result<Option<Reply>, SFault>
-    ensures { IfOk result (λ reply. (rs : List ReceiptValue) (number digest : List ℕ) → option_map receipt_row found ≡ receipt_of number digest (receipts_from 1 rs) → reply ≡ reply_alike manifest.now 1 number digest rs) }
+    ensures reply { IfOk result (λ reply. (rs : List ReceiptValue) (number digest : List ℕ) → option_map receipt_row found ≡ receipt_of number digest (receipts_from 1 rs) → reply ≡ reply_alike manifest.now 1 number digest rs) }
+    ensures cause { IfErr result IsS1OrS2 }
 {
     match found {
         Some(stored) => Ok(Some(reply_of(alloc, manifest, &stored)?)),
@@ -121,7 +127,8 @@ pub(crate) fn replies_of(
     manifest: &Manifest,
     stored: &[StoredReceipt],
 ) -> Result<Vec<Reply>, SFault>
-    ensures { IfOk result (λ replies. (rs : List ReceiptValue) → map receipt_row stored.now ≡ receipts_from 1 rs → replies.items ≡ replies_from manifest.now 1 rs) }
+    ensures replies { IfOk result (λ replies. (rs : List ReceiptValue) → map receipt_row stored.now ≡ receipts_from 1 rs → replies.items ≡ replies_from manifest.now 1 rs) }
+    ensures cause { IfErr result IsS1OrS2 }
 {
     let mut replies = Vec::new(alloc);
     for at in 0..stored.len() {
@@ -133,7 +140,8 @@ pub(crate) fn replies_of(
 
 // The step that a row of the table of steps is of.
 fn step_of(manifest: &Manifest, stored: ChainStep) -> Result<Step, SFault>
-    ensures { IfOk result (λ step. step ≡ step_at manifest.now stored.row) }
+    ensures step { IfOk result (λ step. step ≡ step_at manifest.now stored.row) }
+    ensures cause { IfErr result IsS1OrS2 }
 {
     let rows = manifest.rows();
     let row = stored.row as usize;
@@ -154,7 +162,8 @@ pub(crate) fn steps_of(
     manifest: &Manifest,
     stored: &[ChainStep],
 ) -> Result<Vec<Step>, SFault>
-    ensures { IfOk result (λ steps. (rows : List ℕ) → map step_row stored.now ≡ steps_from 1 rows → steps.items ≡ map (step_at manifest.now) rows) }
+    ensures steps { IfOk result (λ steps. (rows : List ℕ) → map step_row stored.now ≡ steps_from 1 rows → steps.items ≡ map (step_at manifest.now) rows) }
+    ensures cause { IfErr result IsS1OrS2 }
 {
     let mut steps = Vec::new(alloc);
     for at in 0..stored.len() {
@@ -166,7 +175,8 @@ pub(crate) fn steps_of(
 
 // Numbers of 32 bits as row indices.
 fn indices_of(alloc: Global, numbers: &[u32]) -> Result<Vec<usize>, SFault>
-    ensures { IfOk result (λ rows. rows.items ≡ numbers.now) }
+    ensures rows { IfOk result (λ rows. rows.items ≡ numbers.now) }
+    ensures cause { IfErr result IsS1OrS2 }
 {
     let mut rows = Vec::with_capacity(alloc, numbers.len())?;
     for number in numbers {
@@ -177,7 +187,8 @@ fn indices_of(alloc: Global, numbers: &[u32]) -> Result<Vec<usize>, SFault>
 
 // Numbers of 32 bits that don't fall as row indices, each once.
 pub(crate) fn distinct_indices_of(alloc: Global, numbers: &[u32]) -> Result<Vec<usize>, SFault>
-    ensures { IsSorted nat_cmp numbers.now → IfOk result (λ rows. AreOnce numbers.now rows.items) }
+    ensures once { IsSorted nat_cmp numbers.now → IfOk result (λ rows. AreOnce numbers.now rows.items) }
+    ensures cause { IfErr result IsS1OrS2 }
 {
     let mut rows = indices_of(alloc, numbers)?;
     rows.dedup();

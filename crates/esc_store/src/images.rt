@@ -1,6 +1,6 @@
 //! Records of objects and of before-images, by their keys.
 
-ghost use Rattle.std.specs.Prelude.{◌≡◌, Some, None, map, option_map, IfOk, OnOk, IfSome, IsSome};
+ghost use Rattle.std.specs.Prelude.{◌≡◌, Some, None, map, option_map, IfOk, IfErr, OnOk, IfSome, IsSome};
 ghost use Rattle.std.specs.Option.{option_and_then, option_copied};
 ghost use Rattle.sqlite.specs.Held.{state};
 ghost use Rattle.sqlite.specs.State.{HasCleanDisk};
@@ -9,6 +9,7 @@ ghost use Rattle.esc_tables.specs.ObjectValue.{ObjectValue};
 ghost use Rattle.esc_record.specs.Record.{record_of};
 ghost use Rattle.esc_apply.specs.Registry.{State, empty, written, noted, taken};
 ghost use Rattle.esc_rows.specs.Entries.{image_of};
+ghost use Rattle.esc_store.specs.Faults.{IsS1OrS2};
 ghost use Rattle.esc_store.specs.Decoded.{AreNotes};
 ghost use Rattle.esc_store.specs.Standing.{HoldsNow, Follows};
 
@@ -37,7 +38,8 @@ pub(crate) fn kind_number(kind: Kind) -> u32
 
 // The record of an object. `S1` where it has none; `S2`.
 pub(crate) fn record_bytes(alloc: Global, o: &Object) -> Result<Vec<u8>, SFault>
-    ensures { IfOk result (λ bytes. record_of o.now ≡ Some bytes.items) }
+    ensures record { IfOk result (λ bytes. record_of o.now ≡ Some bytes.items) }
+    ensures cause { IfErr result IsS1OrS2 }
 {
     match to_record(alloc, o)? {
         Some(record) => Ok(record),
@@ -47,7 +49,8 @@ pub(crate) fn record_bytes(alloc: Global, o: &Object) -> Result<Vec<u8>, SFault>
 
 // The object of a record. `S1` where the bytes are no record; `S2`.
 pub(crate) fn record_object(alloc: Global, bytes: &[u8]) -> Result<Object, SFault>
-    ensures { IfOk result (λ object. record_of object ≡ Some bytes.now) }
+    ensures object { IfOk result (λ object. record_of object ≡ Some bytes.now) }
+    ensures cause { IfErr result IsS1OrS2 }
 {
     match read_record(alloc, bytes)? {
         Some(object) => Ok(object),
@@ -57,7 +60,8 @@ pub(crate) fn record_object(alloc: Global, bytes: &[u8]) -> Result<Object, SFaul
 
 // The object that a record is of, if there is one. `S1` where the bytes are no record; `S2`.
 pub(crate) fn object_in(alloc: Global, found: Option<Vec<u8>>) -> Result<Option<Object>, SFault>
-    ensures { IfOk result (λ object. (o : _) → option_map (λ b. b.items) found ≡ option_and_then record_of o → IfSome o (λ x. IsSome (record_of x)) → object ≡ o) }
+    ensures object { IfOk result (λ object. (o : _) → option_map (λ b. b.items) found ≡ option_and_then record_of o → IfSome o (λ x. IsSome (record_of x)) → object ≡ o) }
+    ensures cause { IfErr result IsS1OrS2 }
 {
     match found {
         Some(record) => Ok(Some(record_object(alloc, record.as_slice())?)),

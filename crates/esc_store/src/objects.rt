@@ -1,6 +1,6 @@
 //! From the rows of the tables to objects and before-images by their keys.
 
-ghost use Rattle.std.specs.Prelude.{◌≡◌, [], ◌∷◌, ◌++◌, Some, None, if◌then◌else◌, map, option_map, IfOk, OnOk};
+ghost use Rattle.std.specs.Prelude.{◌≡◌, [], ◌∷◌, ◌++◌, Some, None, if◌then◌else◌, map, option_map, IfOk, IfErr, OnOk};
 ghost use Rattle.std.specs.List.{IsDistinct};
 ghost use Rattle.std.specs.List.Sorted.{IsStrictlySortedBy};
 ghost use Rattle.std.specs.Map.{lookup, keys_of};
@@ -9,6 +9,7 @@ ghost use Rattle.esc_envelope.specs.Kinds.{kind_rank};
 ghost use Rattle.esc_tables.specs.KeyName.{KeyName, key_cmp, key_eq};
 ghost use Rattle.esc_record.specs.Record.{record_of};
 ghost use Rattle.esc_rows.specs.Entries.{object_of, image_of};
+ghost use Rattle.esc_store.specs.Faults.{IsS1OrS2};
 ghost use Rattle.esc_store.specs.Decoded.{AreObjectsOf, AreImagesOf};
 ghost use Rattle.esc_store.specs.Pages.{entry_row, stored_row};
 
@@ -23,7 +24,8 @@ use std::collections::BTreeMap;
 
 // The kind that a number in the tables is for. `S1` where it is for none.
 fn kind_of(number: u32) -> Result<Kind, SFault>
-    ensures { IfOk result (λ kind. number ≡ kind_rank kind) }
+    ensures kind { IfOk result (λ kind. number ≡ kind_rank kind) }
+    ensures cause { IfErr result IsS1OrS2 }
 {
     match number {
         0 => Ok(Kind::Registrar),
@@ -40,6 +42,7 @@ fn kind_of(number: u32) -> Result<Kind, SFault>
 fn key_of(alloc: Global, kind: u32, text: &[u8]) -> Result<Key, SFault>
     ensures kind { IfOk result (λ key. kind ≡ kind_rank key.kind) }
     ensures text { IfOk result (λ key. text.now ≡ key.text) }
+    ensures cause { IfErr result IsS1OrS2 }
 {
     let kind = kind_of(kind)?;
     match str::from_utf8(text) {
@@ -56,6 +59,7 @@ fn add_new<X: Drop>(all: &mut BTreeMap<Key, X>, key: Key, value: X) -> Result<()
     ensures absent { OnOk result (lookup (key_eq key) all.old.entries ≡ None) }
     ensures added { OnOk result ((q : KeyName) → lookup (key_eq q) all.new.entries ≡ (if key_eq key q then Some value else lookup (key_eq q) all.old.entries)) }
     ensures ordered { IsOrdered key_cmp all.new }
+    ensures cause { IfErr result IsS1OrS2 }
 {
     match all.insert(key, value) {
         Ok(None) => Ok(()),
@@ -72,6 +76,7 @@ fn add_object(
 ) -> Result<(), SFault>
     ensures added { OnOk result ((rows : _) → AreObjectsOf rows objects.old.entries → AreObjectsOf (rows ++ object_of stored.now ∷ []) objects.new.entries) }
     ensures ordered { OnOk result (IsOrdered key_cmp objects.new) }
+    ensures cause { IfErr result IsS1OrS2 }
 {
     let key = key_of(alloc, stored.kind, stored.key.as_slice())?;
     let object = record_object(alloc, stored.record.as_slice())?;
@@ -85,6 +90,7 @@ pub(crate) fn objects_of(
 ) -> Result<BTreeMap<Key, Object>, SFault>
     ensures once { IfOk result (λ objects. IsDistinct key_eq (keys_of objects.entries)) }
     ensures each { IfOk result (λ objects. AreObjectsOf (map object_of stored.now) objects.entries) }
+    ensures cause { IfErr result IsS1OrS2 }
 {
     let mut objects = BTreeMap::new(alloc);
     for at in 0..stored.len() {
@@ -95,7 +101,8 @@ pub(crate) fn objects_of(
 
 // The key and the object of a row.
 fn entry_of(alloc: Global, stored: &StoredObject) -> Result<(Key, Object), SFault>
-    ensures { IfOk result (λ entry. entry_row entry ≡ stored_row (object_of stored.now)) }
+    ensures entry { IfOk result (λ entry. entry_row entry ≡ stored_row (object_of stored.now)) }
+    ensures cause { IfErr result IsS1OrS2 }
 {
     let key = key_of(alloc, stored.kind, stored.key.as_slice())?;
     let object = record_object(alloc, stored.record.as_slice())?;
@@ -107,7 +114,8 @@ pub(crate) fn entries_of(
     alloc: Global,
     stored: &[StoredObject],
 ) -> Result<Vec<(Key, Object)>, SFault>
-    ensures { IfOk result (λ entries. map entry_row entries.items ≡ map (λ it. stored_row (object_of it)) stored.now) }
+    ensures entries { IfOk result (λ entries. map entry_row entries.items ≡ map (λ it. stored_row (object_of it)) stored.now) }
+    ensures cause { IfErr result IsS1OrS2 }
 {
     let mut entries = Vec::new(alloc);
     for at in 0..stored.len() {
@@ -119,7 +127,8 @@ pub(crate) fn entries_of(
 
 // What stood at a key before a step: the object of the row's record, or none.
 fn before_of(alloc: Global, stored: &StoredImage) -> Result<Option<Object>, SFault>
-    ensures { IfOk result (λ before. option_map record_of before ≡ option_map (λ bytes. Some bytes) (image_of stored.now).bytes) }
+    ensures before { IfOk result (λ before. option_map record_of before ≡ option_map (λ bytes. Some bytes) (image_of stored.now).bytes) }
+    ensures cause { IfErr result IsS1OrS2 }
 {
     match &stored.record {
         Some(bytes) => Ok(Some(record_object(alloc, bytes.as_slice())?)),
@@ -135,6 +144,7 @@ fn add_image(
 ) -> Result<(), SFault>
     ensures added { OnOk result ((rows : _) → AreImagesOf rows images.old.entries → AreImagesOf (rows ++ image_of stored.now ∷ []) images.new.entries) }
     ensures ordered { OnOk result (IsOrdered key_cmp images.new) }
+    ensures cause { IfErr result IsS1OrS2 }
 {
     let key = key_of(alloc, stored.kind, stored.key.as_slice())?;
     let before = before_of(alloc, stored)?;
@@ -148,6 +158,7 @@ fn images_by_key(
 ) -> Result<BTreeMap<Key, Option<Object>>, SFault>
     ensures ordered { IfOk result (λ images. IsOrdered key_cmp images) }
     ensures each { IfOk result (λ images. AreImagesOf (map image_of stored.now) images.entries) }
+    ensures cause { IfErr result IsS1OrS2 }
 {
     let mut images = BTreeMap::new(alloc);
     for at in 0..stored.len() {
@@ -163,6 +174,7 @@ pub(crate) fn images_of(
 ) -> Result<Vec<(Key, Option<Object>)>, SFault>
     ensures ordered { IfOk result (λ images. IsStrictlySortedBy key_cmp (keys_of images.items)) }
     ensures each { IfOk result (λ images. AreImagesOf (map image_of stored.now) images.items) }
+    ensures cause { IfErr result IsS1OrS2 }
 {
     let images = images_by_key(alloc, stored)?;
     Ok(images.into_iter().collect(alloc)?)

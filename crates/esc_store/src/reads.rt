@@ -1,7 +1,8 @@
 //! What a store answers of itself.
 
-ghost use Rattle.std.specs.Prelude.{◌≡◌, ℕ, map, length, IfOk, option_map};
+ghost use Rattle.std.specs.Prelude.{◌≡◌, ℕ, map, length, IfOk, IfErr, option_map};
 ghost use Rattle.esc_apply.specs.Registry.{IsEntriesOf};
+ghost use Rattle.esc_store.specs.Faults.{IsS1OrS2};
 ghost use Rattle.esc_store.specs.Kept.{Kept, kept_replies, kept_reply, kept_chain, AreHeldBy, AreCounts};
 ghost use Rattle.esc_store.specs.Pages.{IsPage};
 ghost use Rattle.esc_store.specs.Standing.{Stands, IsHonest, IsAsBefore};
@@ -32,6 +33,7 @@ impl<S: Alter> Store<S> {
     ) -> Result<Option<Reply>, SFault>
         ensures same { IsAsBefore S.Store self.old self.new }
         ensures found { IsHonest S.Store self.new → (k : Kept) → Stands S.Store self.old k → IfOk result (λ reply. reply ≡ kept_reply k number.now digest.now) }
+        ensures cause { IfErr result IsS1OrS2 }
     {
         let found = self.see_receipt(number.text(), digest)?;
         reply_found(alloc, &self.manifest, found)
@@ -41,6 +43,7 @@ impl<S: Alter> Store<S> {
     pub fn receipts(&mut self, alloc: Global) -> Result<Vec<Reply>, SFault>
         ensures same { IsAsBefore S.Store self.old self.new }
         ensures all { IsHonest S.Store self.new → (k : Kept) → Stands S.Store self.old k → IfOk result (λ replies. replies.items ≡ kept_replies k) }
+        ensures cause { IfErr result IsS1OrS2 }
     {
         let stored = self.see_receipts(alloc)?;
         replies_of(alloc, &self.manifest, stored.as_slice())
@@ -50,6 +53,7 @@ impl<S: Alter> Store<S> {
     pub fn receipt_count(&mut self) -> Result<u64, SFault>
         ensures same { IsAsBefore S.Store self.old self.new }
         ensures count { IsHonest S.Store self.new → (k : Kept) → Stands S.Store self.old k → IfOk result (λ count. count ≡ length k.receipts) }
+        ensures cause { IfErr result IsS1OrS2 }
     {
         let last = self.see_last()?;
         Ok(u64::from(last))
@@ -59,6 +63,7 @@ impl<S: Alter> Store<S> {
     pub fn body_of(&mut self, _alloc: Global, row: usize) -> Result<Option<Vec<u8>>, SFault>
         ensures same { IsAsBefore S.Store self.old self.new }
         ensures found { IsHonest S.Store self.new → (k : Kept) → Stands S.Store self.old k → IfOk result (λ body. option_map (λ b. b.items) body ≡ k.bodies row) }
+        ensures cause { IfErr result IsS1OrS2 }
     {
         let row = small(row)?;
         self.see_body(row)
@@ -68,6 +73,7 @@ impl<S: Alter> Store<S> {
     pub fn held_by_receipts(&mut self, alloc: Global) -> Result<Vec<usize>, SFault>
         ensures same { IsAsBefore S.Store self.old self.new }
         ensures rows { IsHonest S.Store self.new → (k : Kept) → Stands S.Store self.old k → IfOk result (λ rows. AreHeldBy k.receipts rows.items) }
+        ensures cause { IfErr result IsS1OrS2 }
     {
         let rows = self.see_rows(alloc, verdict_number(Verdict::A1))?;
         distinct_indices_of(alloc, rows.as_slice())
@@ -77,6 +83,7 @@ impl<S: Alter> Store<S> {
     pub fn chain(&mut self, alloc: Global) -> Result<Vec<Step>, SFault>
         ensures same { IsAsBefore S.Store self.old self.new }
         ensures steps { IsHonest S.Store self.new → (k : Kept) → Stands S.Store self.old k → IfOk result (λ steps. steps.items ≡ kept_chain k) }
+        ensures cause { IfErr result IsS1OrS2 }
     {
         let stored = self.see_steps(alloc)?;
         steps_of(alloc, &self.manifest, stored.as_slice())
@@ -86,6 +93,7 @@ impl<S: Alter> Store<S> {
     pub fn tables(&mut self, alloc: Global) -> Result<BTreeMap<Key, Object>, SFault>
         ensures same { IsAsBefore S.Store self.old self.new }
         ensures objects { IsHonest S.Store self.new → (k : Kept) → Stands S.Store self.old k → IfOk result (λ tables. IsEntriesOf k.registry.content tables.entries) }
+        ensures cause { IfErr result IsS1OrS2 }
     {
         let stored = self.see_objects(alloc)?;
         objects_of(alloc, stored.as_slice())
@@ -101,6 +109,7 @@ impl<S: Alter> Store<S> {
     ) -> Result<Vec<(Key, Object)>, SFault>
         ensures same { IsAsBefore S.Store self.old self.new }
         ensures page { IsHonest S.Store self.new → (k : Kept) → Stands S.Store self.old k → IfOk result (λ page. IsPage k.registry.content kind from.now page.items) }
+        ensures cause { IfErr result IsS1OrS2 }
     {
         let stored = self.see_page(alloc, kind_number(kind), from)?;
         entries_of(alloc, stored.as_slice())
@@ -110,6 +119,7 @@ impl<S: Alter> Store<S> {
     pub fn counts_by_kind(&mut self, alloc: Global) -> Result<BTreeMap<Kind, u64>, SFault>
         ensures same { IsAsBefore S.Store self.old self.new }
         ensures counts { IsHonest S.Store self.new → (k : Kept) → Stands S.Store self.old k → IfOk result (λ counts. AreCounts k.registry.content counts.entries) }
+        ensures cause { IfErr result IsS1OrS2 }
     {
         let kinds = self.see_kinds(alloc)?;
         counts_of(alloc, kinds.as_slice())

@@ -5,6 +5,7 @@ ghost use Rattle.sqlite.specs.Held.{state};
 ghost use Rattle.esc_rows.specs.Content.{object_at};
 ghost use Rattle.esc_rows.specs.Changes.{PutsObject, RemovesObject, Becomes, Tells, without_objects, without_undo, steps_before, PutsImage, RemovesImages, ListsImages, AddsReceipt, HoldsBody, AddsStep, ListsObjects, ListsFrom, ListsKinds, ListsRows, last_number, receipt_of, body_of};
 ghost use Rattle.esc_rows.specs.Entries.{receipt_row, held_row, step_row, image_of, object_of, listed_row};
+ghost use Rattle.esc_store.specs.Faults.{IsS1OrS2};
 ghost use Rattle.esc_store.specs.Standing.{IsStep, IsLook, IsSure};
 
 use crate::fault::SFault;
@@ -29,7 +30,7 @@ impl<S: Alter> Store<S> {
         ensures manifest { self.new.manifest ≡ self.old.manifest }
         ensures writes { self.new.writes ≡ self.old.writes }
         ensures step { IsStep (state S.Store self.old.conn) (state S.Store self.new.conn) (PutsObject kind key.now bytes.now) result }
-        ensures cause { IfErr result (λ fault. fault ≡ SFault.S4 → ⊥) }
+        ensures cause { IfErr result IsS1OrS2 }
     {
         match self.goes_on() {
             Ok(()) => {}
@@ -44,7 +45,7 @@ impl<S: Alter> Store<S> {
         ensures manifest { self.new.manifest ≡ self.old.manifest }
         ensures writes { self.new.writes ≡ self.old.writes }
         ensures step { IsStep (state S.Store self.old.conn) (state S.Store self.new.conn) (RemovesObject kind key.now) result }
-        ensures cause { IfErr result (λ fault. fault ≡ SFault.S4 → ⊥) }
+        ensures cause { IfErr result IsS1OrS2 }
     {
         match self.goes_on() {
             Ok(()) => {}
@@ -59,7 +60,7 @@ impl<S: Alter> Store<S> {
         ensures manifest { self.new.manifest ≡ self.old.manifest }
         ensures writes { self.new.writes ≡ self.old.writes }
         ensures step { IsStep (state S.Store self.old.conn) (state S.Store self.new.conn) (Becomes without_objects) result }
-        ensures cause { IfErr result (λ fault. fault ≡ SFault.S4 → ⊥) }
+        ensures cause { IfErr result IsS1OrS2 }
     {
         match self.goes_on() {
             Ok(()) => {}
@@ -80,7 +81,7 @@ impl<S: Alter> Store<S> {
         ensures manifest { self.new.manifest ≡ self.old.manifest }
         ensures writes { self.new.writes ≡ self.old.writes }
         ensures step { IsStep (state S.Store self.old.conn) (state S.Store self.new.conn) (PutsImage step kind key.now (option_map (λ b. b.now) before.entry)) result }
-        ensures cause { IfErr result (λ fault. fault ≡ SFault.S4 → ⊥) }
+        ensures cause { IfErr result IsS1OrS2 }
     {
         match self.goes_on() {
             Ok(()) => {}
@@ -95,7 +96,7 @@ impl<S: Alter> Store<S> {
         ensures manifest { self.new.manifest ≡ self.old.manifest }
         ensures writes { self.new.writes ≡ self.old.writes }
         ensures step { IsStep (state S.Store self.old.conn) (state S.Store self.new.conn) (RemovesImages step) result }
-        ensures cause { IfErr result (λ fault. fault ≡ SFault.S4 → ⊥) }
+        ensures cause { IfErr result IsS1OrS2 }
     {
         match self.goes_on() {
             Ok(()) => {}
@@ -110,7 +111,7 @@ impl<S: Alter> Store<S> {
         ensures manifest { self.new.manifest ≡ self.old.manifest }
         ensures writes { self.new.writes ≡ self.old.writes }
         ensures step { IsStep (state S.Store self.old.conn) (state S.Store self.new.conn) (Becomes without_undo) result }
-        ensures cause { IfErr result (λ fault. fault ≡ SFault.S4 → ⊥) }
+        ensures cause { IfErr result IsS1OrS2 }
     {
         match self.goes_on() {
             Ok(()) => {}
@@ -125,7 +126,7 @@ impl<S: Alter> Store<S> {
         ensures manifest { self.new.manifest ≡ self.old.manifest }
         ensures writes { self.new.writes ≡ self.old.writes }
         ensures step { IsStep (state S.Store self.old.conn) (state S.Store self.new.conn) (AddsReceipt (receipt_row receipt.now)) result }
-        ensures cause { IfErr result (λ fault. fault ≡ SFault.S4 → ⊥) }
+        ensures cause { IfErr result IsS1OrS2 }
     {
         match self.goes_on() {
             Ok(()) => {}
@@ -140,7 +141,7 @@ impl<S: Alter> Store<S> {
         ensures manifest { self.new.manifest ≡ self.old.manifest }
         ensures writes { self.new.writes ≡ self.old.writes }
         ensures step { IsStep (state S.Store self.old.conn) (state S.Store self.new.conn) (HoldsBody (held_row row body.now)) result }
-        ensures cause { IfErr result (λ fault. fault ≡ SFault.S4 → ⊥) }
+        ensures cause { IfErr result IsS1OrS2 }
     {
         match self.goes_on() {
             Ok(()) => {}
@@ -155,7 +156,7 @@ impl<S: Alter> Store<S> {
         ensures manifest { self.new.manifest ≡ self.old.manifest }
         ensures writes { self.new.writes ≡ self.old.writes }
         ensures step { IsStep (state S.Store self.old.conn) (state S.Store self.new.conn) (Becomes (steps_before pos)) result }
-        ensures cause { IfErr result (λ fault. fault ≡ SFault.S4 → ⊥) }
+        ensures cause { IfErr result IsS1OrS2 }
     {
         match self.goes_on() {
             Ok(()) => {}
@@ -170,7 +171,7 @@ impl<S: Alter> Store<S> {
         ensures manifest { self.new.manifest ≡ self.old.manifest }
         ensures writes { self.new.writes ≡ self.old.writes }
         ensures step { IsStep (state S.Store self.old.conn) (state S.Store self.new.conn) (AddsStep (step_row step)) result }
-        ensures cause { IfErr result (λ fault. fault ≡ SFault.S4 → ⊥) }
+        ensures cause { IfErr result IsS1OrS2 }
     {
         match self.goes_on() {
             Ok(()) => {}
@@ -187,7 +188,7 @@ impl<S: Alter> Store<S> {
         ensures on { OnOk result (self.old.conn.in_transaction ≡ true) }
         ensures off { self.old.conn.in_transaction ≡ false → self.new ≡ self.old }
         ensures look { IsLook (state S.Store self.old.conn) (state S.Store self.new.conn) (Tells (λ c found. option_map (λ b. b.items) found ≡ object_at kind key.now c.objects)) result }
-        ensures cause { IfErr result (λ fault. fault ≡ SFault.S4 → ⊥) }
+        ensures cause { IfErr result IsS1OrS2 }
     {
         match self.goes_on() {
             Ok(()) => {}
@@ -208,7 +209,7 @@ impl<S: Alter> Store<S> {
         ensures on { OnOk result (self.old.conn.in_transaction ≡ true) }
         ensures off { self.old.conn.in_transaction ≡ false → self.new ≡ self.old }
         ensures look { IsLook (state S.Store self.old.conn) (state S.Store self.new.conn) (Tells (λ c found. ListsImages step c (map image_of found.items))) result }
-        ensures cause { IfErr result (λ fault. fault ≡ SFault.S4 → ⊥) }
+        ensures cause { IfErr result IsS1OrS2 }
     {
         match self.goes_on() {
             Ok(()) => {}
@@ -223,7 +224,7 @@ impl<S: Alter> Store<S> {
         ensures manifest { self.new.manifest ≡ self.old.manifest }
         ensures writes { self.new.writes ≡ self.old.writes }
         ensures sure { IsSure (state S.Store self.old.conn) (state S.Store self.new.conn) (Tells (λ c found. map receipt_row found.items ≡ c.receipts)) result }
-        ensures cause { IfErr result (λ fault. fault ≡ SFault.S4 → ⊥) }
+        ensures cause { IfErr result IsS1OrS2 }
     {
         match self.sound() {
             Ok(()) => {}
@@ -242,7 +243,7 @@ impl<S: Alter> Store<S> {
         ensures manifest { self.new.manifest ≡ self.old.manifest }
         ensures writes { self.new.writes ≡ self.old.writes }
         ensures sure { IsSure (state S.Store self.old.conn) (state S.Store self.new.conn) (Tells (λ c found. option_map receipt_row found ≡ receipt_of number.now digest.now c.receipts)) result }
-        ensures cause { IfErr result (λ fault. fault ≡ SFault.S4 → ⊥) }
+        ensures cause { IfErr result IsS1OrS2 }
     {
         match self.sound() {
             Ok(()) => {}
@@ -257,7 +258,7 @@ impl<S: Alter> Store<S> {
         ensures manifest { self.new.manifest ≡ self.old.manifest }
         ensures writes { self.new.writes ≡ self.old.writes }
         ensures sure { IsSure (state S.Store self.old.conn) (state S.Store self.new.conn) (Tells (λ c found. ListsRows verdict c found.items)) result }
-        ensures cause { IfErr result (λ fault. fault ≡ SFault.S4 → ⊥) }
+        ensures cause { IfErr result IsS1OrS2 }
     {
         match self.sound() {
             Ok(()) => {}
@@ -272,7 +273,7 @@ impl<S: Alter> Store<S> {
         ensures manifest { self.new.manifest ≡ self.old.manifest }
         ensures writes { self.new.writes ≡ self.old.writes }
         ensures sure { IsSure (state S.Store self.old.conn) (state S.Store self.new.conn) (Tells (λ c found. option_map (λ b. b.items) found ≡ body_of row c.held)) result }
-        ensures cause { IfErr result (λ fault. fault ≡ SFault.S4 → ⊥) }
+        ensures cause { IfErr result IsS1OrS2 }
     {
         match self.sound() {
             Ok(()) => {}
@@ -287,7 +288,7 @@ impl<S: Alter> Store<S> {
         ensures manifest { self.new.manifest ≡ self.old.manifest }
         ensures writes { self.new.writes ≡ self.old.writes }
         ensures sure { IsSure (state S.Store self.old.conn) (state S.Store self.new.conn) (Tells (λ c found. map step_row found.items ≡ c.steps)) result }
-        ensures cause { IfErr result (λ fault. fault ≡ SFault.S4 → ⊥) }
+        ensures cause { IfErr result IsS1OrS2 }
     {
         match self.sound() {
             Ok(()) => {}
@@ -302,7 +303,7 @@ impl<S: Alter> Store<S> {
         ensures manifest { self.new.manifest ≡ self.old.manifest }
         ensures writes { self.new.writes ≡ self.old.writes }
         ensures sure { IsSure (state S.Store self.old.conn) (state S.Store self.new.conn) (Tells (λ c found. ListsObjects c (map object_of found.items))) result }
-        ensures cause { IfErr result (λ fault. fault ≡ SFault.S4 → ⊥) }
+        ensures cause { IfErr result IsS1OrS2 }
     {
         match self.sound() {
             Ok(()) => {}
@@ -322,7 +323,7 @@ impl<S: Alter> Store<S> {
         ensures manifest { self.new.manifest ≡ self.old.manifest }
         ensures writes { self.new.writes ≡ self.old.writes }
         ensures sure { IsSure (state S.Store self.old.conn) (state S.Store self.new.conn) (Tells (λ c found. ListsFrom kind from.now c (map object_of found.items))) result }
-        ensures cause { IfErr result (λ fault. fault ≡ SFault.S4 → ⊥) }
+        ensures cause { IfErr result IsS1OrS2 }
     {
         match self.sound() {
             Ok(()) => {}
@@ -337,7 +338,7 @@ impl<S: Alter> Store<S> {
         ensures manifest { self.new.manifest ≡ self.old.manifest }
         ensures writes { self.new.writes ≡ self.old.writes }
         ensures sure { IsSure (state S.Store self.old.conn) (state S.Store self.new.conn) (Tells (λ c found. ListsKinds c found.items)) result }
-        ensures cause { IfErr result (λ fault. fault ≡ SFault.S4 → ⊥) }
+        ensures cause { IfErr result IsS1OrS2 }
     {
         match self.sound() {
             Ok(()) => {}
@@ -352,7 +353,7 @@ impl<S: Alter> Store<S> {
         ensures manifest { self.new.manifest ≡ self.old.manifest }
         ensures writes { self.new.writes ≡ self.old.writes }
         ensures sure { IsSure (state S.Store self.old.conn) (state S.Store self.new.conn) (Tells (λ c found. map listed_row found.items ≡ c.listed)) result }
-        ensures cause { IfErr result (λ fault. fault ≡ SFault.S4 → ⊥) }
+        ensures cause { IfErr result IsS1OrS2 }
     {
         match self.sound() {
             Ok(()) => {}
@@ -367,7 +368,7 @@ impl<S: Alter> Store<S> {
         ensures manifest { self.new.manifest ≡ self.old.manifest }
         ensures writes { self.new.writes ≡ self.old.writes }
         ensures sure { IsSure (state S.Store self.old.conn) (state S.Store self.new.conn) (Tells (λ c found. found ≡ last_number c.receipts)) result }
-        ensures cause { IfErr result (λ fault. fault ≡ SFault.S4 → ⊥) }
+        ensures cause { IfErr result IsS1OrS2 }
     {
         match self.sound() {
             Ok(()) => {}

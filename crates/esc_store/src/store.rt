@@ -1,9 +1,10 @@
 //! The store.
 
-ghost use Rattle.std.specs.Prelude.{◌≡◌, ◌⊎◌, true, false, Ok, IsErr, IsTrue, IfOk, IfErr, OnOk, OnErr, MatchResult};
+ghost use Rattle.std.specs.Prelude.{◌≡◌, true, false, Ok, IsErr, IsTrue, IfOk, IfErr, OnOk, OnErr, MatchResult};
 ghost use Rattle.std.specs.Borrow.{sem, RestsIfErr};
 ghost use Rattle.sqlite.specs.Held.{state};
 ghost use Rattle.esc_rows.specs.Schema.{store_schema};
+ghost use Rattle.esc_store.specs.Faults.{IsS1OrS2};
 ghost use Rattle.esc_store.specs.Kept.{Kept, fresh, with_registry};
 ghost use Rattle.esc_apply.specs.Registry.{State};
 ghost use Rattle.esc_store.specs.Tables.{IsBlank, IsStore, IsOfVersion};
@@ -130,6 +131,7 @@ impl<S: Alter> Store<S> {
         ensures rest { IfOk result (λ change. (k : Kept) → Stands S.Store self.old k → Rest S.Store change k k) }
         ensures holds { IfOk result (λ change. (k : Kept) → Stands S.Store self.old k → HoldsNow S.Store change k.registry) }
         ensures survives { IfOk result (λ change. LeavesNoMore S.Store self.old.conn change.store.now.conn) }
+        ensures cause { IfErr result IsS1OrS2 }
     {
         self.begin_here()?;
         Ok(Change {
@@ -147,6 +149,7 @@ impl<S: Alter> Store<S> {
         ensures began { OnOk result ((k : Kept) → Stands S.Store self.old k → BeganIn S.Store self.new k) }
         ensures rest { OnOk result ((k : Kept) → Stands S.Store self.old k → RestIn S.Store self.new k k) }
         ensures holds { OnOk result ((k : Kept) → Stands S.Store self.old k → HoldsIn S.Store self.new k.registry) }
+        ensures cause { IfErr result IsS1OrS2 }
     {
         let begun = begin_in(&mut self.conn);
         self.settle(begun)
@@ -161,7 +164,7 @@ impl<S: Alter> Store<S> {
         ensures kept { OnErr result ((before : Kept) → BeganIn S.Store self.old before → Stands S.Store self.new before) }
         ensures crash { (before k : Kept) (s : State) → RestIn S.Store self.old before (with_registry k s) → HoldsIn S.Store self.old k.registry → LeavesOr S.Store self.old.conn self.new.conn k }
         ensures left { OnOk result ((before k : Kept) (s : State) → RestIn S.Store self.old before (with_registry k s) → HoldsIn S.Store self.old k.registry → LeavesOnly S.Store self.new k) }
-        ensures cause { IfErr result (λ fault. (fault ≡ SFault.S1) ⊎ (fault ≡ SFault.S2)) }
+        ensures cause { IfErr result IsS1OrS2 }
     {
         let committed = commit_in(&mut self.conn);
         self.settle(committed)
@@ -183,7 +186,7 @@ impl<S: Alter> Store<S> {
         ensures survives { LeavesNoMore S.Store self.old.conn self.new.conn }
         ensures ok { IfOk result (λ x. (outcome ≡ Ok x) × (self.new ≡ self.old)) }
         ensures err { OnErr result (IsErr outcome × IsGivenUp (state S.Store self.old.conn) (state S.Store self.new.conn)) }
-        ensures cause { IfErr result (λ fault. (fault ≡ SFault.S1) ⊎ (fault ≡ SFault.S2)) }
+        ensures cause { IfErr result IsS1OrS2 }
     {
         match outcome {
             Ok(x) => Ok(x),

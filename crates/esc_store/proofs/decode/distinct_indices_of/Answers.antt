@@ -5,8 +5,8 @@ use Rattle.esc_store.specs.Decoded.{AreOnce}
 use Rattle.esc_store.proofs.ReceiptRows.{are_once}
 use Rattle.esc_store.proofs.decode.distinct_indices_of.Goals as goal
 
-pub returns : goal.returns
-returns c up =
+pub returns-clause-once : goal.returns-clause-once
+returns-clause-once c up =
     let numbers = c.args.numbers.now in
     let found = c.in_ok-rows.rows.items in
-    subst (AreOnce numbers) (sym (dedup_is eqb found c.dedup.new.self.items c.dedup.ensures.filtered ∙ ap (dedup eqb) c.in_ok-rows.ensures)) (are_once numbers up)
+    subst (AreOnce numbers) (sym (dedup_is eqb found c.dedup.new.self.items c.dedup.ensures.filtered ∙ ap (dedup eqb) c.in_ok-rows.ensures.rows)) (are_once numbers up)

@@ -6,6 +6,6 @@ use Rattle.esc_store.proofs.Reading.{if_goes, stands_listed}
 use Rattle.esc_store.proofs.store.Store.chain.Goals as goal
 
 pub returns-clause-steps : goal.returns-clause-steps
-returns-clause-steps g c = λ honest k stands. if_goes c.steps_of.result _ _ c.steps_of.ensures (λ steps is.
+returns-clause-steps g c = λ honest k stands. if_goes c.steps_of.result _ _ c.steps_of.ensures.steps (λ steps is.
     let told = c.in_ok-stored.ensures.told honest k stands in
     is k.steps (ap (map step_row) c.as_slice.ensures.value ∙ (told.says ∙ told.books.steps)) ∙ ap (λ m. map (step_at m) k.steps) (c.see_steps.ensures.same.manifest ∙ stands_listed g.S.Store c.args.self.now k stands))

@@ -12,5 +12,5 @@ returns-clause-rows g c = λ honest k stands.
     let told = c.in_ok-rows.ensures.told honest k stands in
     let found = c.in_ok-rows.rows.items in
     let lists = subst (λ v. ListsRows v told.content found) c.verdict_number.ensures told.says in
-    if_goes c.distinct_indices_of.result _ _ (c.distinct_indices_of.ensures (subst (IsSorted nat_cmp) (sym c.as_slice.ensures.value) lists.sorted))
+    if_goes c.distinct_indices_of.result _ _ (c.distinct_indices_of.ensures.once (subst (IsSorted nat_cmp) (sym c.as_slice.ensures.value) lists.sorted))
     (λ rows once. are_held_by k told.content found rows.items told.books lists (subst (λ ns. AreOnce ns rows.items) c.as_slice.ensures.value once))
