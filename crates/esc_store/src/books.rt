@@ -1,111 +1,23 @@
-//! The receipts, bodies and steps of a change.
+//! The next receipt, and the chain, of a change: several statements each.
 
-ghost use Rattle.std.specs.Prelude.{◌≡◌, ◌≤◌, ℕ, List, map, take, length, option_map, IfOk, IfErr};
+ghost use Rattle.std.specs.Prelude.{◌≡◌, ◌≤◌, ℕ, List, map, take, length, IfOk, IfErr};
 ghost use Rattle.sqlite.specs.Held.{state};
-ghost use Rattle.esc_rows.specs.Entries.{receipt_row, step_row};
+ghost use Rattle.esc_rows.specs.Entries.{step_row};
 ghost use Rattle.esc_rows.specs.Changes.{Tells};
 ghost use Rattle.esc_store.specs.Faults.{IsS1OrS2, IsS1OrS2OrS4};
-ghost use Rattle.esc_store.specs.TypedRows.{verdict_number, fault_number, bit, receipt_row as row_of, steps_from};
+ghost use Rattle.esc_store.specs.TypedRows.{steps_from};
 ghost use Rattle.esc_store.specs.Steps.{AddsNext, IsFull, next_number, SetsFront, SetsSteps};
 ghost use Rattle.esc_store.specs.Standing.{IsStep, IsHonest};
 
+use crate::codec::receipt::stored_receipt;
 use crate::fault::SFault;
-use crate::reply::{Receipt, Verdict};
+use crate::reply::Receipt;
 use crate::store::Store;
-use esc_apply::Step;
-use esc_rows::receipt::Receipt as StoredReceipt;
 use esc_rows::step::ChainStep;
 use sqlite::Alter;
-use std::alloc::Global;
-
-// A number as the tables keep it. `S1` where it is past 32 bits.
-pub(crate) fn small(number: usize) -> Result<u32, SFault>
-    ensures number { IfOk result (λ n. n ≡ number) }
-    ensures cause { IfErr result (λ fault. fault ≡ SFault.S1) }
-{
-    match u32::try_from(number) {
-        Ok(number) => Ok(number),
-        Err(_) => Err(SFault::S1),
-    }
-}
-
-fn small_row(row: Option<usize>) -> Result<Option<u32>, SFault>
-    ensures row { IfOk result (λ n. n ≡ row) }
-    ensures cause { IfErr result (λ fault. fault ≡ SFault.S1) }
-{
-    match row {
-        Some(row) => Ok(Some(small(row)?)),
-        None => Ok(None),
-    }
-}
-
-fn small_count(count: Option<u64>) -> Result<Option<u32>, SFault>
-    ensures count { IfOk result (λ n. n ≡ count) }
-    ensures cause { IfErr result (λ fault. fault ≡ SFault.S1) }
-{
-    match count {
-        Some(count) => match u32::try_from(count) {
-            Ok(count) => Ok(Some(count)),
-            Err(_) => Err(SFault::S1),
-        },
-        None => Ok(None),
-    }
-}
-
-// The number of a verdict in the tables.
-pub(crate) fn verdict_number(verdict: Verdict) -> u32
-    ensures { result ≡ verdict_number verdict }
-{
-    match verdict {
-        Verdict::A1 => 1,
-        Verdict::A2 => 2,
-        Verdict::A3(_) => 3,
-        Verdict::A4 => 4,
-    }
-}
-
-fn fault_number(verdict: Verdict) -> Option<u32>
-    ensures { result ≡ fault_number verdict }
-{
-    match verdict {
-        Verdict::A3(fault) => Some(u32::from(fault)),
-        _ => None,
-    }
-}
-
-fn bit(again: Option<bool>) -> Option<u32>
-    ensures { result ≡ option_map bit again }
-{
-    match again {
-        Some(true) => Some(1),
-        Some(false) => Some(0),
-        None => None,
-    }
-}
-
-// A receipt as its table keeps it.
-pub(crate) fn stored_receipt(
-    alloc: Global,
-    number: u32,
-    receipt: &Receipt<'_>,
-) -> Result<StoredReceipt, SFault>
-    ensures row { IfOk result (λ r. receipt_row r ≡ row_of number receipt.now) }
-    ensures cause { IfErr result IsS1OrS2 }
-{
-    Ok(StoredReceipt {
-        receipt: number,
-        number: String::from_str(alloc, receipt.number)?,
-        digest: Vec::from_slice(alloc, &receipt.digest)?,
-        verdict: verdict_number(receipt.verdict),
-        fault: fault_number(receipt.verdict),
-        row: small_row(receipt.row)?,
-        again: bit(receipt.again),
-        orphans: small_count(receipt.orphans)?,
-    })
-}
 
 /// The most receipts of a store.
-const MOST_RECEIPTS: u32 = 1_000_000_000;
+pub const MOST_RECEIPTS: u32 = 1_000_000_000;
 
 impl<S: Alter> Store<S> {
     // Adds a receipt after the others, and returns its number.
@@ -196,18 +108,4 @@ fn common_front(kept: &[ChainStep], steps: &[ChainStep]) -> usize
         }
     }
     kept.len()
-}
-
-// The steps of a chain as their table keeps them, numbered from 1.
-pub(crate) fn stored_steps(alloc: Global, steps: &[Step]) -> Result<Vec<ChainStep>, SFault>
-    ensures rows { IfOk result (λ stored. map step_row stored.items ≡ steps_from 1 (map (λ step. step.row) steps.now)) }
-    ensures cause { IfErr result IsS1OrS2 }
-{
-    let mut stored = Vec::new(alloc);
-    for at in 0..steps.len() {
-        let pos = small(at + 1)?;
-        let row = small(steps[at].row)?;
-        stored.push(ChainStep { pos, row })?;
-    }
-    Ok(stored)
 }

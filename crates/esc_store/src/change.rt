@@ -10,7 +10,8 @@ ghost use Rattle.esc_store.specs.TypedRows.{steps_from};
 ghost use Rattle.esc_store.specs.Kept.{Kept, with_receipt, with_body, with_steps, with_registry};
 ghost use Rattle.esc_store.specs.Standing.{Stands, Began, Rest, HoldsNow, GoesOn, LeavesOnly, LeavesOr, LeavesNoMore, IsHonest};
 
-use crate::books::{small, stored_steps};
+use crate::codec::small;
+use crate::codec::step::stored_steps;
 use crate::fault::SFault;
 use crate::reply::Receipt;
 use crate::store::Store;

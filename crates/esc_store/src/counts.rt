@@ -4,8 +4,8 @@ ghost use Rattle.std.specs.Prelude.{◌≡◌, IfOk, IfErr};
 ghost use Rattle.esc_store.specs.Faults.{IsS1OrS2};
 ghost use Rattle.esc_store.specs.Decoded.{times, tallies};
 
+use crate::codec::object::kind_number;
 use crate::fault::SFault;
-use crate::images::kind_number;
 use esc_envelope::Kind;
 use std::alloc::Global;
 use std::collections::BTreeMap;
