@@ -17,6 +17,7 @@ use Rattle.esc_manifest.specs.Extension.{extended}
 use Rattle.esc_store.specs.declared.fault.SFault.{SFault}
 use Rattle.esc_store.specs.declared.fault.SFault.TheVariants.{S1, S2, S3, S4}
 use Rattle.esc_store.specs.declared.change.Change.{Change}
+use Rattle.esc_store.specs.Faults.{IsS1OrS2}
 use Rattle.esc_store.specs.Kept.{Kept}
 use Rattle.esc_store.specs.declared.store.Store.{Store}
 use Rattle.esc_store.specs.Standing.{IsHonest, HoldsNow, HoldsIn, LeavesOr, LeavesOnly}
@@ -130,6 +131,10 @@ module _ {S : Type 0} (g : Ghosts S) where
   unfolding AddsStoreFor
   adds_none old new result e s = none_is_fine _ _ _ s
 
+  -- nothing was called
+  pub adds_at_rest : {X : Type 0} (conn : Held S) (result : Result X SFault) (e : List EventValue) → AddsStoreFor g conn conn result e
+  adds_at_rest conn result e = adds_none conn conn result e (record { clean = omega arith; shield = λ h. h; counts = omega arith; limit = refl; closes = λ _ up. inl up; crash = λ _ db may. inl may })
+
   pub adds_no_store : {X : Type 0} (old new : Held S) (result : Result X SFault) (k : Kept) → Survives (state g old) (state g new) (λ _. ⊥) → AddsStore g old new result k
   unfolding AddsStore
   adds_no_store old new result k s = none_is_fine _ _ _ s
@@ -158,13 +163,14 @@ module _ {S : Type 0} (g : Ghosts S) where
   adds_for old new result k e stands s = survives_weaker _ _ _ _ (λ clean trees h. (h.0, record { kept = k; store = h.1; stands_for = stands })) s
 
   -- ---- the commit
-  pub committed_adds : {X : Type 0} (old new : Held S) (result : Result X SFault) (k : Kept) → IfErr result (λ f. f ≡ S4 → ⊥) → LeavesOr g old new k → AddsStore g old new result k
+  pub committed_adds : {X : Type 0} (old new : Held S) (result : Result X SFault) (k : Kept) → IfErr result IsS1OrS2 → LeavesOr g old new k → AddsStore g old new result k
   unfolding AddsStore LeavesOr
   committed_adds old new result k cause s = survives_weaker _ _ (λ trees. IsStore trees k) _ (λ clean trees h. (not_full result cause, h)) s
     where
-      not_full : {X : Type 0} (r : Result X SFault) → IfErr r (λ f. f ≡ S4 → ⊥) → IsNotFull r
+      not_full : {X : Type 0} (r : Result X SFault) → IfErr r IsS1OrS2 → IsNotFull r
       not_full (Ok x) h = tt
-      not_full (Err f) h = h
+      not_full (Err f) (inl is) = λ full. let never : ⊥ = cc in never
+      not_full (Err f) (inr is) = λ full. let never : ⊥ = cc in never
 
   pub holds_when : (change : Change S) (tables : Tables) → (IsHonest g change.store.now → HoldsNow g change tables) → HoldsNow g change tables
   unfolding HoldsIn

@@ -60,23 +60,23 @@ or_true true = refl
 or_true false = refl
 
 -- ---- the receipt
-pub new_receipt : (e : List EventValue) (a : ArrivalValue) (k : Kept) (found : Finding) (rows : List ℕ) (number : ℕ) (receipt : ReceiptValue) → IsNew e a k found rows number receipt
+pub new_receipt : (e : List EventValue) (a : ArrivalValue) (k : Kept) (found : Finding) (rows : List ℕ) (receipt : ReceiptValue) → IsNew e a k found rows receipt
     → receipt ≡ receipt_for sha256 reading (distinct sha256 reading (comings e)) (coming (union e) a)
-new_receipt e a k found rows number receipt is =
+new_receipt e a k found rows receipt is =
     is.receipt_is
     ∙ ap (λ (f : Finding). receipt_by a.number (sha256 a.body) f (is_among rows (held_row f))) is.found_is
     ∙ ap (receipt_by a.number (sha256 a.body) (finding sha256 reading (union e) a.body)) (again_is sha256 reading e k is.stood rows is.held (held_row (finding sha256 reading (union e) a.body)))
 
 -- nothing new is held: the receipt alone is new
-pub stands_noted : (e : List EventValue) (a : ArrivalValue) (k : Kept) (found : Finding) (rows : List ℕ) (number : ℕ) (receipt : ReceiptValue) → IsNew e a k found rows number receipt
+pub stands_noted : (e : List EventValue) (a : ArrivalValue) (k : Kept) (found : Finding) (rows : List ℕ) (receipt : ReceiptValue) → IsNew e a k found rows receipt
     → ((q : ℕ) → held_row found ≡ Some q → is_among rows (Some q) ≡ true) → StandsFor sha256 reading (e ++ arrived a ∷ []) (with_receipt k receipt)
-stands_noted e a k found rows number receipt is old =
-    subst (λ (r : ReceiptValue). StandsFor sha256 reading (e ++ arrived a ∷ []) (with_receipt k r)) (sym (new_receipt e a k found rows number receipt is))
+stands_noted e a k found rows receipt is old =
+    subst (λ (r : ReceiptValue). StandsFor sha256 reading (e ++ arrived a ∷ []) (with_receipt k r)) (sym (new_receipt e a k found rows receipt is))
     (noted sha256 reading e k a is.stood is.none (λ q here. sym (among_held sha256 reading e k is.stood rows is.held q) ∙ old q (ap held_row is.found_is ∙ here)))
 
 -- ---- a deposit is held
-module _ (law : LatestChainsAreHeldRows) (e : List EventValue) (accepted : IsAccepted (union e)) (a : ArrivalValue) (k : Kept) (rows : List ℕ) (number : ℕ) (receipt : ReceiptValue)
-    (row : ℕ) (d : DepositValue) (is : IsNew e a k (Holding row d) rows number receipt) (new : is_among rows (Some row) ≡ false)
+module _ (law : LatestChainsAreHeldRows) (e : List EventValue) (accepted : IsAccepted (union e)) (a : ArrivalValue) (k : Kept) (rows : List ℕ) (receipt : ReceiptValue)
+    (row : ℕ) (d : DepositValue) (is : IsNew e a k (Holding row d) rows receipt) (new : is_among rows (Some row) ≡ false)
     (plan : Plan) (planned : IsPlanned reading k rows row a.body plan) where
   at_row : set.contains (held_rows sha256 reading e) row ≡ false
   at_row = sym (among_held sha256 reading e k is.stood rows is.held row) ∙ new
@@ -137,7 +137,7 @@ module _ (law : LatestChainsAreHeldRows) (e : List EventValue) (accepted : IsAcc
   pub stands_held : StandsFor sha256 reading (e ++ arrived a ∷ []) (with_registry (with_steps (with_body (with_receipt k receipt) row a.body) (rows_in plan.new.items)) (chain_state (take (common_front plan.old.items plan.new.items) (deposits_of reading k.bodies k.steps) ++ plan.deposits.items)))
   stands_held =
       subst (λ (ds : List DepositValue). StandsFor sha256 reading (e ++ arrived a ∷ []) (with_registry (with_steps (with_body (with_receipt k receipt) row a.body) (rows_in plan.new.items)) (chain_state ds))) (sym deposits_are)
-      (subst (λ (r : ReceiptValue). StandsFor sha256 reading (e ++ arrived a ∷ []) (with_registry (with_steps (with_body (with_receipt k r) row a.body) (rows_in plan.new.items)) (chain_state (deposits_of reading (body_put k.bodies row a.body) (rows_in plan.new.items))))) (sym (new_receipt e a k (Holding row d) rows number receipt is))
+      (subst (λ (r : ReceiptValue). StandsFor sha256 reading (e ++ arrived a ∷ []) (with_registry (with_steps (with_body (with_receipt k r) row a.body) (rows_in plan.new.items)) (chain_state (deposits_of reading (body_put k.bodies row a.body) (rows_in plan.new.items))))) (sym (new_receipt e a k (Holding row d) rows receipt is))
       (taken_in sha256 reading e k a is.stood is.none row (ap held_row (sym is.found_is)) at_row (rows_in plan.new.items) latest))
 
   pub no_body_yet : k.bodies row ≡ None

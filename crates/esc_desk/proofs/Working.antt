@@ -128,20 +128,20 @@ module _ (few : MentionsFew) where
 
 -- ---- a move is the work of a deposit that is held
 
-module _ (law : LatestChainsAreHeldRows) (few : MentionsFew) (e : List EventValue) (accepted : IsAccepted (union e)) (a : ArrivalValue) (k : Kept) (rows : List ℕ) (number : ℕ) (receipt : ReceiptValue)
-    (row : ℕ) (d : DepositValue) (is : IsNew e a k (Holding row d) rows number receipt) (new : is_among rows (Some row) ≡ false)
+module _ (law : LatestChainsAreHeldRows) (few : MentionsFew) (e : List EventValue) (accepted : IsAccepted (union e)) (a : ArrivalValue) (k : Kept) (rows : List ℕ) (receipt : ReceiptValue)
+    (row : ℕ) (d : DepositValue) (is : IsNew e a k (Holding row d) rows receipt) (new : is_among rows (Some row) ≡ false)
     (plan : Plan) (planned : IsPlanned reading k rows row a.body plan) (few_old : length plan.old.items ≤ 4096) (few_new : length plan.new.items ≤ 4096) where
   abbrev after : List ℕ
   after = rows_in plan.new.items
 
   old_are : plan.old.items ≡ map (step_at (union e)) k.steps
-  old_are = old_steps law e accepted a k rows number receipt row d is new plan planned
+  old_are = old_steps law e accepted a k rows receipt row d is new plan planned
 
   new_are : plan.new.items ≡ map (step_at (union e)) (rows_in plan.new.items)
-  new_are = new_steps law e accepted a k rows number receipt row d is new plan planned
+  new_are = new_steps law e accepted a k rows receipt row d is new plan planned
 
   deposits_are : plan.deposits.items ≡ deposits_of reading (body_put k.bodies row a.body) (drop (common_front plan.old.items plan.new.items) (rows_in plan.new.items))
-  deposits_are = new_deposits law e accepted a k rows number receipt row d is new plan planned
+  deposits_are = new_deposits law e accepted a k rows receipt row d is new plan planned
 
   pub few_moved : sum_by mention_count (deposits_of reading k.bodies k.steps ++ plan.deposits.items) < 2 ^ 64
   few_moved =
@@ -159,7 +159,7 @@ module _ (law : LatestChainsAreHeldRows) (few : MentionsFew) (e : List EventValu
 
   move_cost : cost (deposits_of reading k.bodies k.steps) plan.old.items plan.new.items plan.deposits.items ≡ chain_cost e (e ++ arrived a ∷ []) k.steps after
   move_cost =
-      let stands = stands_held law e accepted a k rows number receipt row d is new plan planned in
+      let stands = stands_held law e accepted a k rows receipt row d is new plan planned in
       let with_it = held_body sha256 reading (e ++ arrived a ∷ []) in
       let past : plan.deposits.items ≡ deposits_of reading with_it (drop (common_front (map (step_at (union e)) k.steps) (map (step_at (union e)) after)) after) =
       deposits_are ∙ same_deposits (body_put k.bodies row a.body) with_it stands.bodies (drop (common_front plan.old.items plan.new.items) after)
@@ -173,14 +173,14 @@ module _ (law : LatestChainsAreHeldRows) (few : MentionsFew) (e : List EventValu
     before = k.steps;
     after = after;
     latest_before = is.stood.chain;
-    latest_after = (stands_held law e accepted a k rows number receipt row d is new plan planned).chain;
+    latest_after = (stands_held law e accepted a k rows receipt row d is new plan planned).chain;
     is_cost = is_cost ∙ move_cost;
   }
 
 -- ---- an arrival that adds no row holds nothing new
 
-pub holds_nothing_new : (e : List EventValue) (a : ArrivalValue) (k : Kept) (found : Finding) (rows : List ℕ) (number : ℕ) (receipt : ReceiptValue) → IsNew e a k found rows number receipt → AddsNoRow e (arrived a) → is_old rows (held_row found) ≡ true
-holds_nothing_new e a k found rows number receipt is same = by_row (held_row found) refl
+pub holds_nothing_new : (e : List EventValue) (a : ArrivalValue) (k : Kept) (found : Finding) (rows : List ℕ) (receipt : ReceiptValue) → IsNew e a k found rows receipt → AddsNoRow e (arrived a) → is_old rows (held_row found) ≡ true
+holds_nothing_new e a k found rows receipt is same = by_row (held_row found) refl
   where
     there : (r : ℕ) → held_row found ≡ Some r → set.contains (held_rows sha256 reading (e ++ arrived a ∷ [])) r ≡ true
     there r here =

@@ -22,58 +22,57 @@ use esc_store::{Change, Receipt, SFault, Store};
 use sqlite::Alter;
 use std::alloc::Global;
 
-// Keeps a receipt alone.
+// Keeps a receipt alone, and returns its number.
 #[tactic(auto, using(crate::proofs::StoreFacts::clean_before))]
 pub(crate) fn note_receipt<S: Alter>(
     store: &mut Store<S>,
-    number: u64,
     receipt: &Receipt<'_>,
-) -> Result<(), SFault>
+) -> Result<u64, SFault>
     ensures manifest { store.new.manifest ≡ store.old.manifest }
     ensures honest { IsHonest S.Store store.new → IsHonest S.Store store.old }
     ensures counted { OnOk result (store.new.writes ≡ saturated store.old.writes) }
     ensures uncounted { OnErr result (store.new.writes ≡ store.old.writes) }
     ensures recorded { OnOk result (IsHonest S.Store store.new → (k : Kept)
-        → length k.receipts + 1 ≡ number → Stands S.Store store.old k
-        → Stands S.Store store.new (with_receipt k receipt.now)) }
-    ensures left { OnOk result ((k : Kept) → length k.receipts + 1 ≡ number
+        → Stands S.Store store.old k → Stands S.Store store.new (with_receipt k receipt.now)) }
+    ensures numbered { IfOk result (λ n. IsHonest S.Store store.new → (k : Kept)
+        → Stands S.Store store.old k → n ≡ length k.receipts + 1) }
+    ensures room { IfOk result (λ n. n ≤ 1_000_000_000) }
+    ensures left { OnOk result ((k : Kept)
         → Stands S.Store store.old k → LeavesOnly S.Store store.new (with_receipt k receipt.now)) }
-    ensures crash { (k : Kept) → length k.receipts + 1 ≡ number → Stands S.Store store.old k
+    ensures crash { (k : Kept) → Stands S.Store store.old k
         → AddsStore S.Store store.old.conn store.new.conn result (with_receipt k receipt.now) }
     ensures kept { OnErr result ((k : Kept) → Stands S.Store store.old k
         → Stands S.Store store.new k) }
 {
     let mut change = store.begin()?;
-    note_in(&mut change, number, receipt)?;
-    commit_filled(change)
+    let number = note_in(&mut change, receipt)?;
+    commit_filled(change)?;
+    Ok(number)
 }
 
-fn note_in<S: Alter>(
-    change: &mut Change<'_, S>,
-    number: u64,
-    receipt: &Receipt<'_>,
-) -> Result<(), SFault>
+fn note_in<S: Alter>(change: &mut Change<'_, S>, receipt: &Receipt<'_>) -> Result<u64, SFault>
     ensures goes_on { GoesOn S.Store change.old change.new }
     ensures count { change.new.count ≡ change.old.count }
-    ensures filled { OnOk result ((k : Kept) → length k.receipts + 1 ≡ number
+    ensures filled { OnOk result ((k : Kept)
         → Rest S.Store change.old k k → HoldsNow S.Store change.old k.registry
         → IsFilled S.Store change.new k (with_receipt k receipt.now)) }
+    ensures numbered { IfOk result (λ n. IsHonest S.Store change.new.store.now → (before k : Kept)
+        → Rest S.Store change.old before k → n ≡ length k.receipts + 1) }
+    ensures room { IfOk result (λ n. n ≤ 1_000_000_000) }
 {
-    change.record_receipt(number, receipt)?;
-    Ok(())
+    change.record_receipt(receipt)
 }
 
-// Keeps a receipt and a body, and moves the chain.
+// Keeps a receipt and a body, and moves the chain. The result is the receipt's number and the work.
 #[tactic(auto, using(crate::proofs::StoreFacts::clean_before))]
 pub(crate) fn hold_deposit<S: Alter>(
     store: &mut Store<S>,
     alloc: Global,
-    number: u64,
     receipt: &Receipt<'_>,
     row: usize,
     body: &[u8],
     plan: &Plan,
-) -> Result<Work, SFault>
+) -> Result<(u64, Work), SFault>
     requires few_old { length plan.now.old.items ≤ 4096 }
     requires few_new { length plan.now.new.items ≤ 4096 }
     requires deposits { length plan.now.deposits.items
@@ -81,34 +80,37 @@ pub(crate) fn hold_deposit<S: Alter>(
     ensures manifest { store.new.manifest ≡ store.old.manifest }
     ensures honest { IsHonest S.Store store.new → IsHonest S.Store store.old }
     ensures held { OnOk result (IsHonest S.Store store.new → (k : Kept) (c : List DepositValue)
-        → length k.receipts + 1 ≡ number → k.bodies row ≡ None
+        → k.bodies row ≡ None
         → length c ≡ length plan.now.old.items
         → Stands S.Store store.old (with_registry k (chain_state c))
         → Stands S.Store store.new (kept_by plan.now receipt.now row body.now k c)) }
-    ensures left { OnOk result ((k : Kept) (c : List DepositValue) → length k.receipts + 1 ≡ number
+    ensures left { OnOk result ((k : Kept) (c : List DepositValue)
         → k.bodies row ≡ None → length c ≡ length plan.now.old.items
         → Stands S.Store store.old (with_registry k (chain_state c))
         → LeavesOnly S.Store store.new (kept_by plan.now receipt.now row body.now k c)) }
-    ensures crash { (k : Kept) (c : List DepositValue) → length k.receipts + 1 ≡ number
+    ensures crash { (k : Kept) (c : List DepositValue)
         → k.bodies row ≡ None → length c ≡ length plan.now.old.items
         → Stands S.Store store.old (with_registry k (chain_state c))
         → AddsStore S.Store store.old.conn store.new.conn result
         (kept_by plan.now receipt.now row body.now k c) }
-    ensures worked { IfOk result (λ work. IsHonest S.Store store.new
+    ensures numbered { IfOk result (λ p. IsHonest S.Store store.new → (k : Kept)
+        → Stands S.Store store.old k → p.0 ≡ length k.receipts + 1) }
+    ensures room { IfOk result (λ p. p.0 ≤ 1_000_000_000) }
+    ensures worked { IfOk result (λ p. IsHonest S.Store store.new
         → (k : Kept) (c : List DepositValue) → length c ≡ length plan.now.old.items
         → Stands S.Store store.old (with_registry k (chain_state c))
         → sum_by mention_count (c ++ plan.now.deposits.items) < 2 ^ 64
-        → work ≡ cost c plan.now.old.items plan.now.new.items plan.now.deposits.items) }
-    ensures counted { IfOk result (λ work. store.new.writes
-        ≡ saturated (store.old.writes + work.writes)) }
+        → p.1 ≡ cost c plan.now.old.items plan.now.new.items plan.now.deposits.items) }
+    ensures counted { IfOk result (λ p. store.new.writes
+        ≡ saturated (store.old.writes + p.1.writes)) }
     ensures uncounted { OnErr result (store.new.writes ≡ store.old.writes) }
     ensures kept { OnErr result ((k : Kept) → Stands S.Store store.old k
         → Stands S.Store store.new k) }
 {
     let mut change = store.begin()?;
-    let work = fill_change(&mut change, alloc, number, receipt, row, body, plan)?;
+    let filled = fill_change(&mut change, alloc, receipt, row, body, plan)?;
     commit_filled(change)?;
-    Ok(work)
+    Ok(filled)
 }
 
 // Makes all of a change but its commit.
@@ -116,38 +118,40 @@ pub(crate) fn hold_deposit<S: Alter>(
 fn fill_change<S: Alter>(
     change: &mut Change<'_, S>,
     alloc: Global,
-    number: u64,
     receipt: &Receipt<'_>,
     row: usize,
     body: &[u8],
     plan: &Plan,
-) -> Result<Work, SFault>
+) -> Result<(u64, Work), SFault>
     requires few_old { length plan.now.old.items ≤ 4096 }
     requires few_new { length plan.now.new.items ≤ 4096 }
     requires deposits { length plan.now.deposits.items
         ≡ length plan.now.new.items - common_front plan.now.old.items plan.now.new.items }
     ensures goes_on { GoesOn S.Store change.old change.new }
     ensures filled { OnOk result ((k : Kept) (c : List DepositValue)
-        → length k.receipts + 1 ≡ number → k.bodies row ≡ None
+        → k.bodies row ≡ None
         → length c ≡ length plan.now.old.items
         → Began S.Store change.old (with_registry k (chain_state c))
         → Rest S.Store change.old (with_registry k (chain_state c))
         (with_registry k (chain_state c)) → HoldsNow S.Store change.old (chain_state c)
         → IsFilled S.Store change.new (with_registry k (chain_state c))
         (kept_by plan.now receipt.now row body.now k c)) }
-    ensures worked { IfOk result (λ work. IsHonest S.Store change.new.store.now
+    ensures numbered { IfOk result (λ p. IsHonest S.Store change.new.store.now → (before k : Kept)
+        → Rest S.Store change.old before k → p.0 ≡ length k.receipts + 1) }
+    ensures room { IfOk result (λ p. p.0 ≤ 1_000_000_000) }
+    ensures worked { IfOk result (λ p. IsHonest S.Store change.new.store.now
         → (c : List DepositValue) → length c ≡ length plan.now.old.items
         → HoldsNow S.Store change.old (chain_state c)
         → sum_by mention_count (c ++ plan.now.deposits.items) < 2 ^ 64
-        → work ≡ cost c plan.now.old.items plan.now.new.items plan.now.deposits.items) }
-    ensures counted { IfOk result (λ work. saturated change.new.count
-        ≡ saturated (saturated change.old.count + work.writes)) }
+        → p.1 ≡ cost c plan.now.old.items plan.now.new.items plan.now.deposits.items) }
+    ensures counted { IfOk result (λ p. saturated change.new.count
+        ≡ saturated (saturated change.old.count + p.1.writes)) }
 {
-    change.record_receipt(number, receipt)?;
+    let number = change.record_receipt(receipt)?;
     change.hold(row, body)?;
     let work = move_chain(change, alloc, &plan.old, &plan.new, &plan.deposits)?;
     change.set_chain(&plan.new)?;
-    Ok(work)
+    Ok((number, work))
 }
 
 // Makes a change whole.

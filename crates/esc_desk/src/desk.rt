@@ -33,9 +33,6 @@ use sha2::{Digest, Sha256};
 use sqlite::Alter;
 use std::alloc::Global;
 
-/// The most receipts of a store.
-const MOST_RECEIPTS: u64 = 1_000_000_000;
-
 /// A desk over a store. It remembers the rows of which a body is held, so that an arrival needn't ask for them.
 #[derive(Drop)]
 pub struct Desk<S: Alter> {
@@ -203,68 +200,54 @@ fn take_in<S: Alter>(
         (e ++ arrived (an_arrival number.now body.now) ∷ []) }
     ensures honest { IsHonest S.Store store.new → IsHonest S.Store store.old }
 {
-    let next = next_receipt(store)?;
     let found = find(alloc, store.manifest(), &digest, body)?;
     let again = is_among(held, held_row(&found));
     let receipt = receipt_by(number, digest, &found, again);
-    let reply = reply_of(alloc, store.manifest().rows(), next, &receipt)?;
-    let work = keep(store, alloc, next, &receipt, held, found, body)?;
-    Ok((reply, work))
-}
-
-// The number of the next receipt.
-fn next_receipt<S: Alter>(store: &mut Store<S>) -> Result<u64, SFault>
-    ensures same { IsAsBefore S.Store store.old store.new }
-    ensures next { IsHonest S.Store store.new → (k : Kept) → Stands S.Store store.old k
-        → IfOk result (λ n. length k.receipts + 1 ≡ n) }
-    ensures room { IfOk result (λ n. n ≤ 1_000_000_000) }
-{
-    let count = store.receipt_count()?;
-    if count >= MOST_RECEIPTS {
-        return Err(SFault::S4);
-    }
-    Ok(count + 1)
+    let mut reply = reply_of(alloc, store.manifest().rows(), &receipt)?;
+    let kept = keep(store, alloc, &receipt, held, found, body)?;
+    reply.receipt = kept.0;
+    Ok((reply, kept.1))
 }
 
 // Keeps the receipt of a new arrival, and the deposit that was found if its row was not held; that is one of the held
-// rows then. What these are after an `Err` says nothing.
+// rows then. What these are after an `Err` says nothing. The result is the receipt's number and the work.
 fn keep<S: Alter>(
     store: &mut Store<S>,
     alloc: Global,
-    number: u64,
     receipt: &Receipt<'_>,
     held: &mut Vec<usize>,
     found: Finding,
     body: &[u8],
-) -> Result<Work, SFault>
+) -> Result<(u64, Work), SFault>
     requires { IfSome (held_row found) (λ r. r < length store.old.manifest) }
     ensures lost { OnErr result ((k : Kept) → Stands S.Store store.old k
         → Stands S.Store store.new k) }
-    ensures kept { IfOk result (λ work. IsHonest S.Store store.new
+    ensures kept { IfOk result (λ p. IsHonest S.Store store.new
         → (e : List EventValue) (n : List ℕ) (k : Kept) → Stands S.Store store.old k
-        → IsNew e (an_arrival n body.now) k found held.old.items number receipt.now
-        → IsKept S.Store store.new e (an_arrival n body.now) held.new.items work) }
+        → IsNew e (an_arrival n body.now) k found held.old.items receipt.now
+        → IsKept S.Store store.new e (an_arrival n body.now) held.new.items p.1) }
+    ensures numbered { IfOk result (λ p. IsHonest S.Store store.new → (k : Kept)
+        → Stands S.Store store.old k → p.0 ≡ length k.receipts + 1) }
+    ensures room { IfOk result (λ p. p.0 ≤ 1_000_000_000) }
     ensures crash { IsHonest S.Store store.new
         → (e : List EventValue) (n : List ℕ) (k : Kept)
         → Stands S.Store store.old k
-        → IsNew e (an_arrival n body.now) k found held.old.items
-        number receipt.now
+        → IsNew e (an_arrival n body.now) k found held.old.items receipt.now
         → AddsStoreFor S.Store store.old.conn store.new.conn result
         (e ++ arrived (an_arrival n body.now) ∷ []) }
-    ensures idle { IfOk result (λ work. is_old held.old.items (held_row found) ≡ true
-        → work ≡ no_work) }
-    ensures counted { IfOk result (λ work. store.new.writes
-        ≡ saturated (store.old.writes + work.writes)) }
+    ensures idle { IfOk result (λ p. is_old held.old.items (held_row found) ≡ true
+        → p.1 ≡ no_work) }
+    ensures counted { IfOk result (λ p. store.new.writes
+        ≡ saturated (store.old.writes + p.1.writes)) }
     ensures uncounted { OnErr result (store.new.writes ≡ store.old.writes) }
     ensures honest { IsHonest S.Store store.new → IsHonest S.Store store.old }
 {
     if is_old(held, held_row(&found)) {
-        note_receipt(store, number, receipt)?;
-        return Ok(NO_WORK);
+        return Ok((note_receipt(store, receipt)?, NO_WORK));
     }
     match found {
         Finding::Holding(row, deposit) => {
-            keep_deposit(store, alloc, number, receipt, held, row, deposit, body)
+            keep_deposit(store, alloc, receipt, held, row, deposit, body)
         }
         Finding::Unlisted | Finding::Unreadable(..) | Finding::Differing(_) => unreachable!(),
     }
@@ -276,30 +259,31 @@ fn keep<S: Alter>(
 fn keep_deposit<S: Alter>(
     store: &mut Store<S>,
     alloc: Global,
-    number: u64,
     receipt: &Receipt<'_>,
     held: &mut Vec<usize>,
     row: usize,
     deposit: Deposit,
     body: &[u8],
-) -> Result<Work, SFault>
+) -> Result<(u64, Work), SFault>
     requires { row < length store.old.manifest }
     ensures lost { OnErr result ((k : Kept) → Stands S.Store store.old k
         → Stands S.Store store.new k) }
     ensures crash { IsHonest S.Store store.new
         → (e : List EventValue) (n : List ℕ) (k : Kept)
         → Stands S.Store store.old k → is_among held.old.items (Some row) ≡ false
-        → IsNew e (an_arrival n body.now) k (Holding row deposit) held.old.items
-        number receipt.now
+        → IsNew e (an_arrival n body.now) k (Holding row deposit) held.old.items receipt.now
         → AddsStoreFor S.Store store.old.conn store.new.conn result
         (e ++ arrived (an_arrival n body.now) ∷ []) }
-    ensures kept { IfOk result (λ work. IsHonest S.Store store.new
+    ensures kept { IfOk result (λ p. IsHonest S.Store store.new
         → (e : List EventValue) (n : List ℕ) (k : Kept) → Stands S.Store store.old k
         → is_among held.old.items (Some row) ≡ false
-        → IsNew e (an_arrival n body.now) k (Holding row deposit) held.old.items number
-        receipt.now → IsKept S.Store store.new e (an_arrival n body.now) held.new.items work) }
-    ensures counted { IfOk result (λ work. store.new.writes
-        ≡ saturated (store.old.writes + work.writes)) }
+        → IsNew e (an_arrival n body.now) k (Holding row deposit) held.old.items receipt.now
+        → IsKept S.Store store.new e (an_arrival n body.now) held.new.items p.1) }
+    ensures numbered { IfOk result (λ p. IsHonest S.Store store.new → (k : Kept)
+        → Stands S.Store store.old k → p.0 ≡ length k.receipts + 1) }
+    ensures room { IfOk result (λ p. p.0 ≤ 1_000_000_000) }
+    ensures counted { IfOk result (λ p. store.new.writes
+        ≡ saturated (store.old.writes + p.1.writes)) }
     ensures uncounted { OnErr result (store.new.writes ≡ store.old.writes) }
     ensures honest { IsHonest S.Store store.new → IsHonest S.Store store.old }
 {
@@ -307,5 +291,5 @@ fn keep_deposit<S: Alter>(
     read_deposits_mention_few();
     let plan = plan_move(store, alloc, held, row, deposit)?;
     insert_row(held, row)?;
-    hold_deposit(store, alloc, number, receipt, row, body, &plan)
+    hold_deposit(store, alloc, receipt, row, body, &plan)
 }

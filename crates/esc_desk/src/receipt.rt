@@ -41,15 +41,14 @@ pub(crate) fn receipt_by<'a>(
     }
 }
 
-/// The reply of a receipt with this number.
+/// The reply of a receipt. Its number is 0 until the store has given one.
 pub(crate) fn reply_of(
     alloc: Global,
     rows: &[MRow],
-    number: u64,
     receipt: &Receipt<'_>,
 ) -> Result<Reply, NoMemory>
     requires { IfSome receipt.now.row (λ r. r < length rows.now) }
-    ensures { IfOk result (λ r. r ≡ reply_kept rows.now number receipt.now) }
+    ensures { IfOk result (λ r. r ≡ reply_kept rows.now 0 receipt.now) }
 {
     let (id, resend) = match receipt.row {
         Some(row) => {
@@ -60,7 +59,7 @@ pub(crate) fn reply_of(
         None => (None, None),
     };
     Ok(Reply {
-        receipt: number,
+        receipt: 0,
         number: String::from_str(alloc, receipt.number)?,
         verdict: receipt.verdict,
         id,

@@ -1,10 +1,10 @@
 -- Databases that are found to be a store, or none.
-use Rattle.std.proofs.Common.{◌≡◌, ◌≤◌, Bool, false, List, [], ◌∷◌, length, slice_get, Option, Some, None, option_map, sym, ap, subst, ◌∙◌, arith}
+use Rattle.std.proofs.Common.{◌≡◌, ◌≤◌, Bool, true, false, not, List, [], ◌∷◌, length, slice_get, Option, Some, None, option_map, refl, sym, ap, subst, ◌∙◌, arith}
 use Rattle.std.specs.Prelude.{IsTrue, ℤ, pos}
 use Rattle.sqlite_value.specs.declared.value.Value.TheVariants.{Int}
 use Rattle.sqlite_value.specs.Order.{Row, column}
 use Rattle.sqlite.specs.Effect.{Database}
-use Rattle.sqlite.specs.State.{State, HasCleanDisk, Survives, IsUnchanged}
+use Rattle.sqlite.specs.State.{State, HasCleanDisk, Survives, KeepsCommit, IsUnchanged}
 use Rattle.esc_manifest.specs.declared.row.MRow.{MRow}
 use Rattle.esc_rows.specs.Schema.{store_schema, info_tree}
 use Rattle.esc_rows.specs.Rows.{info_row}
@@ -13,7 +13,7 @@ use Rattle.esc_rows.specs.Content.{IsStore as HasTables}
 use Rattle.esc_rows.specs.Creation.{TellsVersion}
 use Rattle.esc_store.specs.Kept.{Kept}
 use Rattle.esc_store.specs.Tables.{IsStore, IsStoreDatabase, IsOfVersion}
-use Rattle.esc_store.specs.Opening.{IsSettled}
+use Rattle.esc_store.specs.Opening.{IsSettled, IsAsItWas}
 use Rattle.esc_store.specs.Standing.{IsStanding, RestsAt}
 use Rattle.esc_store.proofs.Ends.{was_clean}
 
@@ -38,6 +38,21 @@ version_told s version k same schema tells stored =
 
 pub is_of_version : (db : Database) (version : Option ℤ) → db.schema ≡ store_schema → TellsVersion db version → version ≡ Some (pos 1) → IsOfVersion db
 is_of_version db version schema tells is = record { schema = schema; version = λ one. sym (tells schema one) ∙ ap (option_map Int) is }
+
+pub is_off : (b on : Bool) → b ≡ not on → IsTrue b → on ≡ false
+is_off b false e t = refl
+is_off b true e t = let off : b ≡ false = e in let none : ⊥ = cc in absurd none
+
+-- nothing was committed, and no transaction was on and none is
+pub as_it_was : (old new : State) → IsSettled old → (HasCleanDisk new → KeepsCommit old new) → (HasCleanDisk new → new.in_transaction ≡ false) → (HasCleanDisk new → IsTrue new.is_open → new.now ≡ new.committed) → IsAsItWas old new
+as_it_was old new settled kept ended same = record {
+  in_transaction = λ clean. ended clean ∙ sym settled.0;
+  committed = λ clean up. (kept clean).committed up;
+  now = λ clean up. same clean up ∙ ((kept clean).committed up ∙ sym (settled.1 ((kept clean).was_open up)));
+}
+
+pub unmoved : (s : State) → IsAsItWas s s
+unmoved s = record { in_transaction = λ clean. refl; committed = λ clean up. refl; now = λ clean up. refl }
 
 -- reads one after another
 pub unchanged_then : (a b c : State) → IsUnchanged a b → IsUnchanged b c → IsUnchanged a c

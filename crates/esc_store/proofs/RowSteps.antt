@@ -28,10 +28,14 @@ use Rattle.esc_store.specs.Kept.{Kept, with_receipt, with_body, with_steps, body
 use Rattle.esc_store.specs.ReplyValue.{ReceiptValue}
 use Rattle.esc_store.specs.TypedRows.{IsBooks, IsRegistry, receipt_row, receipts_from, steps_from}
 use Rattle.esc_store.specs.Tables.{HoldsTables}
-use Rattle.esc_store.specs.Steps.{with_receipt_row, AddsNext, with_step_rows, SetsSteps, SetsFront}
-use Rattle.esc_store.specs.Standing.{IsStep, IsSure}
+use Rattle.esc_store.specs.Steps.{next_number, with_next_receipt, AddsNext, with_step_rows, SetsSteps, SetsFront}
+use Rattle.esc_store.specs.Standing.{IsStep, IsSure, RestIn}
 use Rattle.esc_store.proofs.Ends.{at_ok, at_said, was_clean, keeps_then}
 use Rattle.esc_store.proofs.Parts.{Turns, becomes}
+use Rattle.esc_store.proofs.Reading.{counted}
+use Rattle.sqlite_trees.specs.declared.store.Store.{Ghosts}
+use Rattle.sqlite.specs.Held.{state}
+use Rattle.esc_store.specs.declared.store.Store.{Store}
 
 -- ---- receipts
 
@@ -51,23 +55,26 @@ below_next (r ∷ (s ∷ rs)) n keyed is =
     let second : s.receipt < n = others.0 in
     (omega arith, others)
 
-pub step_next : {Y D E : Type 0} (old mid new : State) (r : Result ℕ D) (last : ℕ) (row : ReceiptRow) (done : Result Y E) → old.in_transaction ≡ true → IsSure old mid (Tells (λ c (found : ℕ). found ≡ last_number c.receipts)) r → r ≡ Ok last → last + 1 ≡ row.receipt
-    → IsStep mid new (AddsReceipt row) done → IsStep old new (AddsNext row) done
-step_next {Y} {D} {E} old mid new r last row done on sure is next step = record {
+-- after the last receipt's number was read, the next receipt is added
+pub step_next : {Y Z D E : Type 0} (old mid new : State) (r : Result ℕ D) (last : ℕ) (v : ReceiptValue) (row : ReceiptRow) (y : Y) (z : Z) → old.in_transaction ≡ true → IsSure old mid (Tells (λ c (found : ℕ). found ≡ last_number c.receipts)) r → r ≡ Ok last
+    → row ≡ receipt_row (last + 1) v → IsStep {X = Y} {E = E} mid new (AddsReceipt row) (Ok y) → IsStep {X = Z} {E = E} old new (AddsNext v) (Ok z)
+step_next old mid new r last v row y z on sure is row_is step = record {
   survives = survives_then old mid new (λ trees. ⊥) (λ trees. ⊥) (λ trees. ⊥) (λ _ db none. none) (λ _ db none. none) sure.survives step.survives;
   kept = λ clean. keeps_then old mid new (sure.kept (was_clean mid new (λ trees. ⊥) step.survives clean)) (step.kept clean);
-  made = λ clean. made_of done clean (step.made clean);
-  failed = step.failed;
+  made = λ clean. let m = step.made clean in (on, adds clean m.1, m.2, m.3);
+  failed = λ clean. tt;
 } where
-  adds : HasCleanDisk new → AddsReceipt row mid.now new.now → AddsNext row old.now new.now
+  adds : HasCleanDisk new → AddsReceipt row mid.now new.now → AddsNext v old.now new.now
   adds clean added c h =
       let s = at_said r last _ is (sure.said (was_clean mid new (λ trees. ⊥) step.survives clean)) in
       let there : HoldsContent mid.now c = subst (λ db. HoldsContent db c) (sym s.1.0.now_is) h in
-      added c there (below_next c.receipts row.receipt (h.store.ordered Receipts) (ap (λ n. n + 1) (sym (s.0 c h)) ∙ next))
+      let next : row ≡ receipt_row (next_number c) v = row_is ∙ ap (λ n. receipt_row (n + 1) v) (s.0 c h) in
+      subst (λ (x : ReceiptRow). HoldsContent new.now (record c { receipts = c.receipts ++ x ∷ [] })) next
+      (added c there (subst (λ (x : ReceiptRow). AllByRecursion (λ (y : ReceiptRow). y.receipt < x.receipt) c.receipts) (sym next) (below_next c.receipts (next_number c) (h.store.ordered Receipts) refl)))
 
-  made_of : (d : Result Y E) → HasCleanDisk new → OnOk d ((mid.in_transaction ≡ true) × AddsReceipt row mid.now new.now × (new.in_transaction ≡ true) × IsTrue new.is_open) → OnOk d ((old.in_transaction ≡ true) × AddsNext row old.now new.now × (new.in_transaction ≡ true) × IsTrue new.is_open)
-  made_of (Ok x) clean m = (on, adds clean m.1, m.2, m.3)
-  made_of (Err e) clean m = tt
+-- the number that was read, of the tables before
+pub last_told : {D : Type 0} (old mid : State) (r : Result ℕ D) (last : ℕ) → IsSure old mid (Tells (λ c (found : ℕ). found ≡ last_number c.receipts)) r → r ≡ Ok last → HasCleanDisk mid → (c : Content) → HoldsContent old.now c → last ≡ last_number c.receipts
+last_told old mid r last sure is clean c h = (at_said r last _ is (sure.said clean)).0 c h
 
 -- what a change of the content turns into
 pub record Becoming (change : Content → Content) (c c' : Content) : Type 0 where
@@ -80,16 +87,22 @@ receipts_push : (n : ℕ) (rs : List ReceiptValue) (r : ReceiptValue) (m : ℕ) 
 receipts_push n [] r m is = let e : n ≡ m = omega (arith, is) in rw e refl
 receipts_push n (x ∷ rs) r m is = ap (λ l. receipt_row n x ∷ l) (receipts_push (suc n) rs r m (omega (arith, is)))
 
-pub books_receipt : (k : Kept) (r : ReceiptValue) (n : ℕ) (row : ReceiptRow) (c c' : Content) → row ≡ receipt_row n r → length k.receipts + 1 ≡ n → Becoming (with_receipt_row row) c c' → IsBooks c k → IsBooks c' (with_receipt k r)
-books_receipt k r n row c c' row_is next turn books = subst (λ x. IsBooks x (with_receipt k r)) (sym turn.is) (record {
+pub books_receipt : (k : Kept) (r : ReceiptValue) (c c' : Content) → Becoming (with_next_receipt r) c c' → IsBooks c k → IsBooks c' (with_receipt k r)
+books_receipt k r c c' turn books = subst (λ x. IsBooks x (with_receipt k r)) (sym turn.is) (record {
   listed = books.listed;
-  receipts = ap (λ l. l ++ (row ∷ [])) books.receipts ∙ (ap (λ x. receipts_from 1 k.receipts ++ (x ∷ [])) row_is ∙ sym (receipts_push 1 k.receipts r n next));
+  receipts = ap (λ (rs : List ReceiptRow). rs ++ receipt_row (last_number rs + 1) r ∷ []) books.receipts ∙ sym (receipts_push 1 k.receipts r _ (ap (λ n. n + 1) (sym (counted k.receipts))));
   held = books.held;
   steps = books.steps;
 })
 
-pub registry_receipt : (s : Tables) (row : ReceiptRow) (c c' : Content) → Becoming (with_receipt_row row) c c' → IsRegistry c s → IsRegistry c' s
-registry_receipt s row c c' turn it = subst (λ x. IsRegistry x s) (sym turn.is) (record { objects = it.objects; images = it.images; recorded = it.recorded; noted = it.noted })
+pub registry_receipt : (s : Tables) (r : ReceiptValue) (c c' : Content) → Becoming (with_next_receipt r) c c' → IsRegistry c s → IsRegistry c' s
+registry_receipt s r c c' turn it = subst (λ x. IsRegistry x s) (sym turn.is) (record { objects = it.objects; images = it.images; recorded = it.recorded; noted = it.noted })
+
+-- the receipts of what a change has made
+pub receipts_made : {S : Type 0} (g : Ghosts S) (store : Store S) (before k : Kept) → HasCleanDisk (state g store.conn) → (state g store.conn).in_transaction ≡ true → RestIn g store before k
+    → HoldsContent (state g store.conn).now (content_in (state g store.conn).now.trees) × (last_number (content_in (state g store.conn).now.trees).receipts ≡ length k.receipts)
+unfolding RestIn
+receipts_made g store before k clean on made = ((made.begun.on clean on).2, ap last_number (made.books clean on).receipts ∙ counted k.receipts)
 
 -- ---- bodies
 

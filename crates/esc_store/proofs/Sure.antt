@@ -17,7 +17,7 @@ use Rattle.esc_store.specs.declared.store.Store.{Store}
 use Rattle.esc_store.specs.Kept.{Kept}
 use Rattle.esc_store.specs.TypedRows.{IsBooks, IsRegistry}
 use Rattle.esc_store.specs.Tables.{IsStoreDatabase}
-use Rattle.esc_store.specs.Standing.{IsAtRest, IsStanding, IsGivenUp, IsSure, IsLook, IsAsBefore, IsTold, Stands, IsHonest}
+use Rattle.esc_store.specs.Standing.{IsAtRest, IsStanding, IsGivenUp, IsSure, IsCheckedRead, IsLook, IsAsBefore, IsTold, Stands, IsHonest}
 use Rattle.esc_store.proofs.Ends.{at_said, was_clean, keeps_then}
 use Rattle.esc_store.proofs.Parts.{look_is}
 
@@ -55,26 +55,39 @@ module _ {X E : Type 0} (old new : State) (P : Content → X → Type 0) (r : Re
       let kept = subst (λ db. IsStoreDatabase db k) (sym was.same) was.kept in
       record { content = content_in old.now.trees; ordered = kept.kept.tables.ordered; books = kept.kept.books; registry = kept.kept.registry; says = s.0 (content_in old.now.trees) (record { schema_is = kept.schema; store = kept.kept.tables }) }
 
-module _ {S : Type 0} (g : Ghosts S) (old new : Store S) {X E : Type 0} (P : Content → X → Type 0) (r : Result X E) (manifest : new.manifest ≡ old.manifest) (writes : new.writes ≡ old.writes)
-    (sure : IsSure (state g old.conn) (state g new.conn) (Tells P) r) where
-  pub as_before : IsAsBefore g old new
-  unfolding Stands
-  as_before = record { manifest = manifest; writes = writes; survives = sure.survives; stands = λ k stands. subst (λ m. IsStanding (state g new.conn) m k) (sym manifest) (stands_sure (state g old.conn) (state g new.conn) P r sure old.manifest k stands) }
+-- the same of a store
+pub read_refused : {S : Type 0} (g : Ghosts S) {X E : Type 0} (old new : Store S) (P : Content → X → Type 0) (e : E) → new.manifest ≡ old.manifest → new.writes ≡ old.writes → IsGivenUp (state g old.conn) (state g new.conn) → IsCheckedRead g old new P (Err e)
+read_refused g old new P e manifest writes up = record { manifest = manifest; writes = writes; sure = sure_off (state g old.conn) (state g new.conn) (Tells P) e up }
 
-  pub told_by : (k : Kept) (x : X) → r ≡ Ok x → IsHonest g new → Stands g old k → IsTold k (λ c. P c x)
-  unfolding Stands
-  told_by k x is clean stands = told (state g old.conn) (state g new.conn) P r sure old.manifest k x is clean stands
+pub read_settled : {S : Type 0} (g : Ghosts S) (start old mid new : Store S) {X D E : Type 0} (outcome : Result X D) (result : Result X E) → new.manifest ≡ old.manifest → new.writes ≡ old.writes → Survives (state g mid.conn) (state g new.conn) (λ trees. ⊥)
+    → IfOk result (λ x. (outcome ≡ Ok x) × (new ≡ mid)) → OnErr result (IsErr outcome × IsGivenUp (state g mid.conn) (state g new.conn)) → (P : Content → X → Type 0) → old ≡ start → (state g start.conn).now.schema ≡ store_schema
+    → IsRead (state g old.conn) (state g mid.conn) (Tells P) outcome → IsCheckedRead g start new P result
+read_settled {S} g start old mid new outcome result manifest writes survives ok err P same schema read = record {
+  manifest = manifest ∙ ap (λ (s : Store S). s.manifest) same;
+  writes = writes ∙ ap (λ (s : Store S). s.writes) same;
+  sure = sure_is g start old mid new outcome result survives ok err (Tells P) same schema read;
+}
 
-pub told_all : {S : Type 0} (g : Ghosts S) (old new : Store S) {X E : Type 0} (P : Content → X → Type 0) (r : Result X E) → new.manifest ≡ old.manifest → new.writes ≡ old.writes → IsSure (state g old.conn) (state g new.conn) (Tells P) r
-    → IfOk r (λ x. IsHonest g new → (k : Kept) → Stands g old k → IsTold k (λ c. P c x))
-told_all {S} g old new {X} {E} P r manifest writes sure = go r refl where
-  go : (y : Result X E) → r ≡ y → IfOk y (λ x. IsHonest g new → (k : Kept) → Stands g old k → IsTold k (λ c. P c x))
-  go (Ok x) is = λ honest k stands. told_by g old new P r manifest writes sure k x is honest stands
-  go (Err e) is = tt
+module _ {S X E : Type 0} {g : Ghosts S} {old new : Store S} {P : Content → X → Type 0} where
+  pub as_before : {r : Result X E} → IsCheckedRead g old new P r → IsAsBefore g old new
+  unfolding Stands
+  as_before {r} it = record {
+    manifest = it.manifest;
+    writes = it.writes;
+    survives = it.sure.survives;
+    stands = λ k stands. subst (λ m. IsStanding (state g new.conn) m k) (sym it.manifest) (stands_sure (state g old.conn) (state g new.conn) P r it.sure old.manifest k stands);
+  }
+
+  pub told_of : {x : X} → IsCheckedRead {E = E} g old new P (Ok x) → IsHonest g new → (k : Kept) → Stands g old k → IsTold k (λ c. P c x)
+  unfolding Stands
+  told_of {x} it honest k stands = told (state g old.conn) (state g new.conn) P (Ok x) it.sure old.manifest k x refl honest stands
+
+pub told_at : {S X E : Type 0} {g : Ghosts S} {old new : Store S} {P : Content → X → Type 0} (r : Result X E) (x : X) → r ≡ Ok x → IsCheckedRead g old new P r → IsHonest g new → (k : Kept) → Stands g old k → IsTold k (λ c. P c x)
+told_at {S} {X} {E} {g} {old} {new} {P} r x is it = told_of {E = E} (subst (IsCheckedRead g old new P) is it)
 
 -- the objects of a store's tables have keys of their own
-pub sure_keyed : {X E : Type 0} (old new : State) (P : Content → X → Type 0) (r : Result X E) → IsSure old new (Tells P) r → IsSure old new (Tells (λ c x. P c x × HaveOwnKeys c.objects)) r
-sure_keyed {X} {E} old new P r sure = record { survives = sure.survives; kept = sure.kept; said = λ clean. said_keyed r (sure.said clean); failed = sure.failed } where
-  said_keyed : (y : Result X E) → IfOk y (λ x. Tells P old.now x × IsUnchanged old new) → IfOk y (λ x. Tells (λ c x. P c x × HaveOwnKeys c.objects) old.now x × IsUnchanged old new)
-  said_keyed (Ok x) said = (λ c holds. (said.0 c holds, content_apart old.now c holds), said.1)
+pub read_keyed : {S X E : Type 0} {g : Ghosts S} {old new : Store S} {P : Content → X → Type 0} {r : Result X E} → IsCheckedRead g old new P r → IsCheckedRead g old new (λ c x. P c x × HaveOwnKeys c.objects) r
+read_keyed {S} {X} {E} {g} {old} {new} {P} {r} it = record { manifest = it.manifest; writes = it.writes; sure = record { survives = it.sure.survives; kept = it.sure.kept; said = λ clean. said_keyed r (it.sure.said clean); failed = it.sure.failed } } where
+  said_keyed : (y : Result X E) → IfOk y (λ x. Tells P (state g old.conn).now x × IsUnchanged (state g old.conn) (state g new.conn)) → IfOk y (λ x. Tells (λ c x. P c x × HaveOwnKeys c.objects) (state g old.conn).now x × IsUnchanged (state g old.conn) (state g new.conn))
+  said_keyed (Ok x) said = (λ c holds. (said.0 c holds, content_apart (state g old.conn).now c holds), said.1)
   said_keyed (Err e) said = tt

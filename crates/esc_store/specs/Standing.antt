@@ -9,6 +9,7 @@ use Rattle.esc_manifest.specs.declared.row.MRow.{MRow}
 use Rattle.esc_apply.specs.Registry.{State as Tables}
 use Rattle.esc_rows.specs.Schema.{store_schema}
 use Rattle.esc_rows.specs.Content.{Content, IsInOrder, content_in}
+use Rattle.esc_rows.specs.Changes.{Tells}
 use Rattle.esc_store.specs.declared.store.Store.{Store}
 use Rattle.esc_store.specs.declared.change.Change.{Change}
 use Rattle.esc_store.specs.Kept.{Kept}
@@ -155,6 +156,12 @@ pub record IsSure {X E : Type 0} (old new : State) (Says : Database → X → Ty
   pub kept : HasCleanDisk new → KeepsCommit old new
   pub said : HasCleanDisk new → IfOk result (λ x. Says old.now x × IsUnchanged old new)
   pub failed : HasCleanDisk new → OnErr result ((new.in_transaction ≡ false) × (IsTrue new.is_open → new.now ≡ new.committed))
+
+-- the same of a store, whose manifest and count of writes are as they were
+pub record IsCheckedRead {S X E : Type 0} (g : Ghosts S) (old new : Store S) (Says : Content → X → Type 0) (result : Result X E) : Type 0 where
+  pub manifest : new.manifest ≡ old.manifest
+  pub writes : new.writes ≡ old.writes
+  pub sure : IsSure (state g old.conn) (state g new.conn) (Tells Says) result
 
 -- rows that hold what a store keeps, of which this is said
 pub record IsTold (k : Kept) (Says : Content → Type 0) : Type 0 where

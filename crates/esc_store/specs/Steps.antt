@@ -1,17 +1,26 @@
 -- What a store's parts do to its rows.
-use Rattle.std.specs.Prelude.{◌≡◌, ℕ, List, [], ◌∷◌, ◌++◌, map, take, Result, IfOk}
+use Rattle.std.specs.Prelude.{◌≡◌, ◌≤◌, ◌+◌, ℕ, true, List, [], ◌∷◌, ◌++◌, take, Result, IfOk}
 use Rattle.sqlite.specs.Effect.{Database}
-use Rattle.esc_rows.specs.Rows.{ReceiptRow}
-use Rattle.esc_rows.specs.Content.{Content}
-use Rattle.esc_rows.specs.Changes.{Becomes}
-use Rattle.esc_store.specs.TypedRows.{steps_from}
+use Rattle.sqlite.specs.State.{State}
+use Rattle.esc_rows.specs.Content.{Content, HoldsContent}
+use Rattle.esc_rows.specs.Changes.{Becomes, last_number}
+use Rattle.esc_store.specs.ReplyValue.{ReceiptValue}
+use Rattle.esc_store.specs.TypedRows.{receipt_row, steps_from}
 
--- a receipt stands behind the others
-abbrev pub with_receipt_row : ReceiptRow → Content → Content
-with_receipt_row r c = record c { receipts = c.receipts ++ r ∷ [] }
+-- the number of the next receipt, from 1
+abbrev pub next_number : Content → ℕ
+next_number c = last_number c.receipts + 1
 
-abbrev pub AddsNext : ReceiptRow → Database → Database → Type 0
-AddsNext r = Becomes (with_receipt_row r)
+-- a receipt after the others, under the next number
+abbrev pub with_next_receipt : ReceiptValue → Content → Content
+with_next_receipt r c = record c { receipts = c.receipts ++ receipt_row (next_number c) r ∷ [] }
+
+abbrev pub AddsNext : ReceiptValue → Database → Database → Type 0
+AddsNext r = Becomes (with_next_receipt r)
+
+-- a transaction is on, and the store has 1,000,000,000 receipts
+abbrev pub IsFull : State → Type 0
+IsFull s = (s.in_transaction ≡ true) × ((c : Content) → HoldsContent s.now c → 1_000_000_000 ≤ last_number c.receipts)
 
 -- these rows are the steps
 abbrev pub with_step_rows : List ℕ → Content → Content

@@ -1,21 +1,21 @@
 //! A change of the store.
 
-ghost use Rattle.std.specs.Prelude.{◌≡◌, ◌≤◌, ◌<◌, ◌+◌, ◌-◌, ◌^◌, ◌↔◌, ℕ, None, min, map, length, IsTrue, OnOk, OnErr, IfErr};
+ghost use Rattle.std.specs.Prelude.{◌≡◌, ◌≤◌, ◌<◌, ◌+◌, ◌-◌, ◌^◌, ◌↔◌, ℕ, None, min, map, length, OnOk, OnErr, IfOk, IfErr};
 ghost use Rattle.sqlite.specs.Held.{state};
 ghost use Rattle.sqlite.specs.State.{HasCleanDisk};
 ghost use Rattle.esc_apply.specs.Registry.{State};
-ghost use Rattle.esc_rows.specs.Entries.{receipt_row as stored_row, step_row};
-ghost use Rattle.esc_store.specs.ReplyValue.{ReceiptValue};
-ghost use Rattle.esc_store.specs.TypedRows.{receipt_row, steps_from};
+ghost use Rattle.esc_rows.specs.Entries.{step_row};
+ghost use Rattle.esc_store.specs.Faults.{IsS1OrS2, IsS1OrS2OrS4};
+ghost use Rattle.esc_store.specs.TypedRows.{steps_from};
 ghost use Rattle.esc_store.specs.Kept.{Kept, with_receipt, with_body, with_steps, with_registry};
-ghost use Rattle.esc_store.specs.Standing.{Stands, Began, Rest, HoldsNow, GoesOn, LeavesOnly, LeavesOr, LeavesNoMore};
+ghost use Rattle.esc_store.specs.Standing.{Stands, Began, Rest, HoldsNow, GoesOn, LeavesOnly, LeavesOr, LeavesNoMore, IsHonest};
 
-use crate::books::{small, stored_receipt, stored_steps};
+use crate::codec::small;
+use crate::codec::step::stored_steps;
 use crate::fault::SFault;
 use crate::reply::Receipt;
 use crate::store::Store;
 use esc_apply::Step;
-use esc_rows::receipt::Receipt as StoredReceipt;
 use esc_rows::step::ChainStep;
 use sqlite::Alter;
 
@@ -26,32 +26,19 @@ pub struct Change<'a, S: Alter> {
 }
 
 impl<'a, S: Alter> Change<'a, S> {
-    /// Keeps the receipt with this number, the next one. `S4` if it is past 1,000,000,000; `S1`, also where the number
-    /// isn't the next one; `S2`.
-    pub fn record_receipt(&mut self, number: u64, receipt: &Receipt<'_>) -> Result<(), SFault>
+    /// Adds the receipt of an arrival after the others, and returns its number, from 1. `S4` where the store has
+    /// 1,000,000,000 receipts, and only there; `S1`, `S2`.
+    pub fn record_receipt(&mut self, receipt: &Receipt<'_>) -> Result<u64, SFault>
         ensures goes_on { GoesOn S.Store self.old self.new }
         ensures count { self.new.count ≡ self.old.count }
-        ensures recorded { OnOk result ((before k : Kept) → length k.receipts + 1 ≡ number → Rest S.Store self.old before k → Rest S.Store self.new before (with_receipt k receipt.now)) }
+        ensures recorded { OnOk result ((before k : Kept) → Rest S.Store self.old before k → Rest S.Store self.new before (with_receipt k receipt.now)) }
+        ensures number { IfOk result (λ n. IsHonest S.Store self.new.store.now → (before k : Kept) → Rest S.Store self.old before k → n ≡ length k.receipts + 1) }
         ensures holds { OnOk result ((s : State) → HoldsNow S.Store self.old s → HoldsNow S.Store self.new s) }
-        ensures room { OnOk result (number ≤ 1_000_000_000) }
-        ensures full { IfErr result (λ e. e ≡ SFault.S4 → 1_000_000_000 < number) }
+        ensures room { IfOk result (λ n. n ≤ 1_000_000_000) }
+        ensures full { IfErr result (λ e. e ≡ SFault.S4 → IsHonest S.Store self.new.store.now → (before k : Kept) → Rest S.Store self.old before k → 1_000_000_000 ≤ length k.receipts) }
+        ensures cause { IfErr result IsS1OrS2OrS4 }
     {
-        if number > 1_000_000_000 {
-            return Err(SFault::S4);
-        }
-        let stored = stored_receipt(self.store.alloc, number as u32, receipt)?;
-        self.add_receipt(&stored)
-    }
-
-    // Adds a receipt in its table.
-    fn add_receipt(&mut self, stored: &StoredReceipt) -> Result<(), SFault>
-        ensures goes_on { GoesOn S.Store self.old self.new }
-        ensures count { self.new.count ≡ self.old.count }
-        ensures recorded { OnOk result ((before k : Kept) (r : ReceiptValue) (n : ℕ) → stored_row stored.now ≡ receipt_row n r → length k.receipts + 1 ≡ n → Rest S.Store self.old before k → Rest S.Store self.new before (with_receipt k r)) }
-        ensures holds { OnOk result ((s : State) → HoldsNow S.Store self.old s → HoldsNow S.Store self.new s) }
-        ensures cause { IfErr result (λ e. e ≡ SFault.S4 → ⊥) }
-    {
-        self.store.add_next_here(stored)
+        self.store.add_next_here(receipt)
     }
 
     /// Holds the body of a listed row, of which no body is held. `S1`, `S2`.
@@ -60,7 +47,7 @@ impl<'a, S: Alter> Change<'a, S> {
         ensures count { self.new.count ≡ self.old.count }
         ensures held { OnOk result ((before k : Kept) → k.bodies row ≡ None → Rest S.Store self.old before k → Rest S.Store self.new before (with_body k row body.now)) }
         ensures holds { OnOk result ((s : State) → HoldsNow S.Store self.old s → HoldsNow S.Store self.new s) }
-        ensures cause { IfErr result (λ e. e ≡ SFault.S4 → ⊥) }
+        ensures cause { IfErr result IsS1OrS2 }
     {
         let row = small(row)?;
         self.hold_row(row, body)
@@ -72,7 +59,7 @@ impl<'a, S: Alter> Change<'a, S> {
         ensures count { self.new.count ≡ self.old.count }
         ensures held { OnOk result ((before k : Kept) → Rest S.Store self.old before k → Rest S.Store self.new before (with_body k row body.now)) }
         ensures holds { OnOk result ((s : State) → HoldsNow S.Store self.old s → HoldsNow S.Store self.new s) }
-        ensures cause { IfErr result (λ e. e ≡ SFault.S4 → ⊥) }
+        ensures cause { IfErr result IsS1OrS2 }
     {
         self.store.hold_here(row, body)
     }
@@ -83,7 +70,7 @@ impl<'a, S: Alter> Change<'a, S> {
         ensures count { self.new.count ≡ self.old.count }
         ensures set { OnOk result ((before k : Kept) → Rest S.Store self.old before k → Rest S.Store self.new before (with_steps k (map (λ step. step.row) steps.now))) }
         ensures holds { OnOk result ((s : State) → HoldsNow S.Store self.old s → HoldsNow S.Store self.new s) }
-        ensures cause { IfErr result (λ e. e ≡ SFault.S4 → ⊥) }
+        ensures cause { IfErr result IsS1OrS2 }
     {
         let stored = stored_steps(self.store.alloc, steps)?;
         self.set_rows(stored.as_slice(), steps)
@@ -96,7 +83,7 @@ impl<'a, S: Alter> Change<'a, S> {
         ensures count { self.new.count ≡ self.old.count }
         ensures set { OnOk result ((before k : Kept) → Rest S.Store self.old before k → Rest S.Store self.new before (with_steps k (map (λ step. step.row) steps.now))) }
         ensures holds { OnOk result ((s : State) → HoldsNow S.Store self.old s → HoldsNow S.Store self.new s) }
-        ensures cause { IfErr result (λ e. e ≡ SFault.S4 → ⊥) }
+        ensures cause { IfErr result IsS1OrS2 }
     {
         let _ = steps;
         self.store.set_steps_here(stored)
@@ -112,7 +99,7 @@ impl<'a, S: Alter> Change<'a, S> {
         ensures kept { OnErr result ((before : Kept) → Began S.Store self.entry before → Stands S.Store self.exit.0.now before) }
         ensures crash { (before k : Kept) (s : State) → Rest S.Store self.entry before (with_registry k s) → HoldsNow S.Store self.entry k.registry → LeavesOr S.Store self.entry.store.now.conn self.exit.0.now.conn k }
         ensures left { OnOk result ((before k : Kept) (s : State) → Rest S.Store self.entry before (with_registry k s) → HoldsNow S.Store self.entry k.registry → LeavesOnly S.Store self.exit.0.now k) }
-        ensures cause { IfErr result (λ e. e ≡ SFault.S4 → ⊥) }
+        ensures cause { IfErr result IsS1OrS2 }
     {
         let Change { store, count } = self;
         store.commit_here()?;

@@ -1,10 +1,11 @@
 //! How many objects there are of each kind.
 
-ghost use Rattle.std.specs.Prelude.{◌≡◌, IfOk};
+ghost use Rattle.std.specs.Prelude.{◌≡◌, IfOk, IfErr};
+ghost use Rattle.esc_store.specs.Faults.{IsS1OrS2};
 ghost use Rattle.esc_store.specs.Decoded.{times, tallies};
 
+use crate::codec::object::kind_number;
 use crate::fault::SFault;
-use crate::images::kind_number;
 use esc_envelope::Kind;
 use std::alloc::Global;
 use std::collections::BTreeMap;
@@ -19,7 +20,8 @@ fn count_of(kinds: &[u32], kind: Kind) -> u64
 
 // The kinds in their order, each with how often its number stands among these.
 pub(crate) fn counts_of(alloc: Global, kinds: &[u32]) -> Result<BTreeMap<Kind, u64>, SFault>
-    ensures { IfOk result (λ counts. counts.entries ≡ tallies kinds.now) }
+    ensures counts { IfOk result (λ counts. counts.entries ≡ tallies kinds.now) }
+    ensures cause { IfErr result IsS1OrS2 }
 {
     let mut counts = BTreeMap::new(alloc);
     for kind in Kind::ALL {

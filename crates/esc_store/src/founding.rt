@@ -6,7 +6,9 @@ ghost use Rattle.sqlite.specs.Held.{state};
 ghost use Rattle.sqlite.specs.State.{HasCleanDisk, KeepsCommit, Survives};
 ghost use Rattle.esc_rows.specs.Schema.{no_schema};
 ghost use Rattle.esc_rows.specs.Entries.{listed_row as stored_row};
+ghost use Rattle.esc_store.specs.Faults.{IsS1ToS3};
 ghost use Rattle.esc_store.specs.Kept.{fresh};
+ghost use Rattle.esc_store.specs.Opening.{IsAsItWas};
 ghost use Rattle.esc_store.specs.TypedRows.{listed_from};
 ghost use Rattle.esc_store.specs.Tables.{IsStore, IsStoreDatabase};
 ghost use Rattle.esc_store.specs.Standing.{RestsAt, IsGivenUp};
@@ -58,6 +60,8 @@ pub(crate) fn found_here<S: Alter>(conn: &mut Connection<S>, rows: &[Listed]) ->
     ensures left { OnOk result ((m : _) → map stored_row rows.now ≡ listed_from 0 m → HasCleanDisk (state S.Store conn.new) → (trees : Trees) → (state S.Store conn.new).may_leave trees → IsStore trees (fresh m)) }
     ensures blank { OnOk result ((state S.Store conn.old).now.schema ≡ no_schema) }
     ensures refused { IfErr result (λ fault. fault ≡ SFault.S3 → (state S.Store conn.old).now.schema ≡ no_schema → ⊥) }
+    ensures unchanged { OnErr result (IsAsItWas (state S.Store conn.old) (state S.Store conn.new)) }
+    ensures cause { IfErr result IsS1ToS3 }
 {
     if !is_unused(conn) {
         return Err(SFault::S3);

@@ -1,25 +1,73 @@
 //! The desk's database: what a store keeps, and changes of it that are made whole or not at all.
+//!
+//! # What it is for
+//!
+//! A store keeps a manifest's rows, a receipt for each distinct arrival, the bodies of held rows,
+//! the chain, its tables and the before-images of its steps. It keeps them in the seven tables of
+//! `esc_rows`. The desk above decides what is kept; no SQL and no row of a table is seen there.
+//!
+//! # What goes in and out
+//!
+//! In: a connection over a disk of any kind (`S: Alter`), a manifest, and the parts of a change.
+//! Out: replies, bodies, steps and objects as the desk's values, or an `SFault`: `S1` the database
+//! failed, `S2` out of memory, `S3` no store of this version, `S4` no room for a receipt.
+//!
+//! | Module | What it has |
+//! |---|---|
+//! | `store`, `founding`, `opening` | a store, how it is made, and how one is found |
+//! | `reads` | what a store answers of itself |
+//! | `change`, `books`, `registry`, `records` | a change: its receipt, body and chain, and its objects |
+//! | `statements` | a write, a read in a change, and a checked read: one call of `esc_rows` each |
+//! | `codec` | what the tables keep, as their rows and bytes, and back |
+//!
+//! # An example
+//!
+//! An arrival is recorded. Where any of the calls fails, the change is dropped, and the store keeps
+//! what it kept.
+//!
+//! ```text
+//! fn record<S: Alter>(store: &mut Store<S>, receipt: &Receipt<'_>) -> Result<u64, SFault> {
+//!     let mut change = store.begin()?;
+//!     let number = change.record_receipt(receipt)?;
+//!     change.commit()?;
+//!     Ok(number)
+//! }
+//! ```
+//!
+//! # What a contract means
+//!
+//! - A `Kept` (`specs/Kept.antt`) is what a store keeps. `Stands g store k` says that the store
+//!   keeps exactly k: its database is committed, no transaction is on, and its tables hold the rows
+//!   of k and nothing else. It speaks of stores whose disk gave back what was written (`IsHonest`)
+//!   while their connection is open.
+//! - A read leaves the store as it was (`IsAsBefore`), whatever it returns, and what it returns is
+//!   a function of each k that the store stood for.
+//! - A change that was begun on a store of k has `Began`: nothing is committed. `Rest` says what it
+//!   has made of rows, receipts, bodies and chain, and `HoldsNow` what of tables and before-images.
+//!   `commit` turns both into `Stands`; at `Err`, and where a change is dropped, the store stands
+//!   for what it stood for.
+//! - What a crash leaves is in `LeavesOnly`, `LeavesOr` and `LeavesNoMore`.
+//! - Each clause `cause` says which faults a call returns: `S3` comes of `create` and `open` alone,
+//!   and `S4` of `record_receipt` alone, where the store has 1,000,000,000 receipts.
 #![tactic(auto, using(sqlite::proofs::StateLemmas::survives_weaker, sqlite::proofs::StateLemmas::survives_then))]
 
 mod books;
 mod change;
+mod codec;
 mod counts;
-mod decode;
 mod fault;
 mod form;
 mod founding;
-mod images;
-mod listing;
 mod numbers;
-mod objects;
 mod opening;
 mod reads;
+mod records;
 mod registry;
 mod reply;
-mod seen;
 mod statements;
 mod store;
 
+pub use books::MOST_RECEIPTS;
 pub use change::Change;
 pub use fault::SFault;
 pub use form::number;

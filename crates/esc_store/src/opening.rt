@@ -1,14 +1,16 @@
 //! The store that a connection's database is.
 
-ghost use Rattle.std.specs.Prelude.{◌≡◌, IsTrue, IfOk, IfErr, OnOk};
+ghost use Rattle.std.specs.Prelude.{◌≡◌, IsTrue, IfOk, IfErr, OnOk, OnErr};
 ghost use Rattle.sqlite.specs.Held.{state};
-ghost use Rattle.sqlite.specs.State.{HasCleanDisk, Survives, IsUnchanged};
+ghost use Rattle.sqlite.specs.State.{HasCleanDisk, Survives, KeepsCommit, IsUnchanged};
+ghost use Rattle.esc_store.specs.Faults.{IsS1ToS3};
 ghost use Rattle.esc_store.specs.Kept.{Kept};
-ghost use Rattle.esc_store.specs.Opening.{IsSettled};
+ghost use Rattle.esc_store.specs.Opening.{IsSettled, IsAsItWas};
 ghost use Rattle.esc_store.specs.Tables.{IsStore, IsStoreDatabase, IsOfVersion};
 
+use crate::codec::manifest::kept_manifest;
 use crate::fault::SFault;
-use crate::listing::kept_manifest;
+use crate::founding::give_up_in;
 use esc_manifest::Manifest;
 use esc_rows::info::find_version;
 use esc_rows::listed::all_listed;
@@ -16,17 +18,14 @@ use esc_rows::open::has_tables;
 use sqlite::{Alter, Connection};
 use std::alloc::Global;
 
-// Tests that the database has the tables of this version, and that no transaction is on. `S3` where it is no store of
-// this version.
+// Tests that the database has the tables of this version. `S3` where it has not.
 fn test_version<S: Alter>(conn: &mut Connection<S>) -> Result<(), SFault>
     ensures survives { Survives (state S.Store conn.old) (state S.Store conn.new) (λ _. ⊥) }
+    ensures kept { HasCleanDisk (state S.Store conn.new) → KeepsCommit (state S.Store conn.old) (state S.Store conn.new) }
     ensures version { OnOk result (HasCleanDisk (state S.Store conn.new) → IsUnchanged (state S.Store conn.old) (state S.Store conn.new) × IsOfVersion (state S.Store conn.old).now) }
-    ensures settled { OnOk result (IsSettled (state S.Store conn.old)) }
-    ensures never { IfErr result (λ fault. fault ≡ SFault.S3 → HasCleanDisk (state S.Store conn.new) → IsTrue (state S.Store conn.new).is_open → (k : Kept) → IsStore (state S.Store conn.old).committed.trees k → ⊥) }
+    ensures never { IfErr result (λ fault. fault ≡ SFault.S3 → HasCleanDisk (state S.Store conn.new) → IsTrue (state S.Store conn.new).is_open → IsSettled (state S.Store conn.old) → (k : Kept) → IsStore (state S.Store conn.old).committed.trees k → ⊥) }
+    ensures cause { IfErr result IsS1ToS3 }
 {
-    if !conn.is_autocommit() {
-        return Err(SFault::S1);
-    }
     if !has_tables(conn) {
         return Err(SFault::S3);
     }
@@ -37,6 +36,21 @@ fn test_version<S: Alter>(conn: &mut Connection<S>) -> Result<(), SFault>
 }
 
 // The manifest of the store that the database is.
+fn read_manifest<S: Alter>(alloc: Global, conn: &mut Connection<S>) -> Result<Manifest, SFault>
+    ensures survives { Survives (state S.Store conn.old) (state S.Store conn.new) (λ _. ⊥) }
+    ensures kept { HasCleanDisk (state S.Store conn.new) → KeepsCommit (state S.Store conn.old) (state S.Store conn.new) }
+    ensures version { OnOk result (HasCleanDisk (state S.Store conn.new) → IsUnchanged (state S.Store conn.old) (state S.Store conn.new) × IsOfVersion (state S.Store conn.old).now) }
+    ensures manifest { IfOk result (λ manifest. HasCleanDisk (state S.Store conn.new) → (k : Kept) → IsStoreDatabase (state S.Store conn.old).now k → manifest ≡ k.listed) }
+    ensures never { IfErr result (λ fault. fault ≡ SFault.S3 → HasCleanDisk (state S.Store conn.new) → IsTrue (state S.Store conn.new).is_open → IsSettled (state S.Store conn.old) → (k : Kept) → IsStore (state S.Store conn.old).committed.trees k → ⊥) }
+    ensures cause { IfErr result IsS1ToS3 }
+{
+    test_version(conn)?;
+    let stored = all_listed(alloc, conn)?;
+    kept_manifest(alloc, stored.as_slice())
+}
+
+// The same, on a connection without a transaction: where it fails the connection is as it was. `S1` also in a transaction,
+// which goes on.
 pub(crate) fn find_manifest<S: Alter>(
     alloc: Global,
     conn: &mut Connection<S>,
@@ -46,8 +60,17 @@ pub(crate) fn find_manifest<S: Alter>(
     ensures settled { OnOk result (IsSettled (state S.Store conn.old)) }
     ensures manifest { IfOk result (λ manifest. HasCleanDisk (state S.Store conn.new) → (k : Kept) → IsStoreDatabase (state S.Store conn.old).now k → manifest ≡ k.listed) }
     ensures never { IfErr result (λ fault. fault ≡ SFault.S3 → HasCleanDisk (state S.Store conn.new) → IsTrue (state S.Store conn.new).is_open → (k : Kept) → IsStore (state S.Store conn.old).committed.trees k → ⊥) }
+    ensures unchanged { OnErr result (IsAsItWas (state S.Store conn.old) (state S.Store conn.new)) }
+    ensures cause { IfErr result IsS1ToS3 }
 {
-    test_version(conn)?;
-    let stored = all_listed(alloc, conn)?;
-    kept_manifest(alloc, stored.as_slice())
+    if !conn.is_autocommit() {
+        return Err(SFault::S1);
+    }
+    match read_manifest(alloc, conn) {
+        Ok(manifest) => Ok(manifest),
+        Err(fault) => {
+            give_up_in(conn);
+            Err(fault)
+        }
+    }
 }

@@ -1,18 +1,19 @@
 //! What a store answers of itself.
 
-ghost use Rattle.std.specs.Prelude.{◌≡◌, ℕ, map, length, IfOk, option_map};
+ghost use Rattle.std.specs.Prelude.{◌≡◌, ℕ, map, length, IfOk, IfErr, option_map};
 ghost use Rattle.esc_apply.specs.Registry.{IsEntriesOf};
+ghost use Rattle.esc_store.specs.Faults.{IsS1OrS2};
 ghost use Rattle.esc_store.specs.Kept.{Kept, kept_replies, kept_reply, kept_chain, AreHeldBy, AreCounts};
 ghost use Rattle.esc_store.specs.Pages.{IsPage};
 ghost use Rattle.esc_store.specs.Standing.{Stands, IsHonest, IsAsBefore};
 
-use crate::books::{small, verdict_number};
+use crate::codec::object::{entries_of, kind_number, objects_of};
+use crate::codec::receipt::{distinct_indices_of, replies_of, reply_found, verdict_number};
+use crate::codec::small;
+use crate::codec::step::steps_of;
 use crate::counts::counts_of;
-use crate::decode::{distinct_indices_of, replies_of, reply_found, steps_of};
 use crate::fault::SFault;
-use crate::images::kind_number;
 use crate::numbers::Number;
-use crate::objects::{entries_of, objects_of};
 use crate::reply::{Reply, Verdict};
 use crate::store::Store;
 use esc_apply::Step;
@@ -24,6 +25,7 @@ use std::collections::BTreeMap;
 
 impl<S: Alter> Store<S> {
     /// The reply that was kept for an arrival with this number and a body of this SHA-256. `S1`, `S2`.
+    #[tactic(auto, using(crate::proofs::Sure::as_before))]
     pub fn receipt_of(
         &mut self,
         alloc: Global,
@@ -32,67 +34,81 @@ impl<S: Alter> Store<S> {
     ) -> Result<Option<Reply>, SFault>
         ensures same { IsAsBefore S.Store self.old self.new }
         ensures found { IsHonest S.Store self.new → (k : Kept) → Stands S.Store self.old k → IfOk result (λ reply. reply ≡ kept_reply k number.now digest.now) }
+        ensures cause { IfErr result IsS1OrS2 }
     {
-        let found = self.see_receipt(number.text(), digest)?;
+        let found = self.receipt_here(number.text(), digest)?;
         reply_found(alloc, &self.manifest, found)
     }
 
     /// All replies that were kept, in order. `S1`, `S2`.
+    #[tactic(auto, using(crate::proofs::Sure::as_before))]
     pub fn receipts(&mut self, alloc: Global) -> Result<Vec<Reply>, SFault>
         ensures same { IsAsBefore S.Store self.old self.new }
         ensures all { IsHonest S.Store self.new → (k : Kept) → Stands S.Store self.old k → IfOk result (λ replies. replies.items ≡ kept_replies k) }
+        ensures cause { IfErr result IsS1OrS2 }
     {
-        let stored = self.see_receipts(alloc)?;
+        let stored = self.receipts_here(alloc)?;
         replies_of(alloc, &self.manifest, stored.as_slice())
     }
 
     /// How many receipts there are. `S1`, `S2`.
+    #[tactic(auto, using(crate::proofs::Sure::as_before))]
     pub fn receipt_count(&mut self) -> Result<u64, SFault>
         ensures same { IsAsBefore S.Store self.old self.new }
         ensures count { IsHonest S.Store self.new → (k : Kept) → Stands S.Store self.old k → IfOk result (λ count. count ≡ length k.receipts) }
+        ensures cause { IfErr result IsS1OrS2 }
     {
-        let last = self.see_last()?;
+        let last = self.last_here()?;
         Ok(u64::from(last))
     }
 
     /// The body that is held of a row, from 0, if one is. `S1`, `S2`.
+    #[tactic(auto, using(crate::proofs::Sure::as_before))]
     pub fn body_of(&mut self, _alloc: Global, row: usize) -> Result<Option<Vec<u8>>, SFault>
         ensures same { IsAsBefore S.Store self.old self.new }
         ensures found { IsHonest S.Store self.new → (k : Kept) → Stands S.Store self.old k → IfOk result (λ body. option_map (λ b. b.items) body ≡ k.bodies row) }
+        ensures cause { IfErr result IsS1OrS2 }
     {
         let row = small(row)?;
-        self.see_body(row)
+        self.body_here(row)
     }
 
     /// The rows, from 0, of which a receipt says that their deposit is held (`A1`), rising. No body is read. `S1`, `S2`.
+    #[tactic(auto, using(crate::proofs::Sure::as_before))]
     pub fn held_by_receipts(&mut self, alloc: Global) -> Result<Vec<usize>, SFault>
         ensures same { IsAsBefore S.Store self.old self.new }
         ensures rows { IsHonest S.Store self.new → (k : Kept) → Stands S.Store self.old k → IfOk result (λ rows. AreHeldBy k.receipts rows.items) }
+        ensures cause { IfErr result IsS1OrS2 }
     {
-        let rows = self.see_rows(alloc, verdict_number(Verdict::A1))?;
+        let rows = self.rows_here(alloc, verdict_number(Verdict::A1))?;
         distinct_indices_of(alloc, rows.as_slice())
     }
 
     /// The steps of the chain, in order. `S1`, `S2`.
+    #[tactic(auto, using(crate::proofs::Sure::as_before))]
     pub fn chain(&mut self, alloc: Global) -> Result<Vec<Step>, SFault>
         ensures same { IsAsBefore S.Store self.old self.new }
         ensures steps { IsHonest S.Store self.new → (k : Kept) → Stands S.Store self.old k → IfOk result (λ steps. steps.items ≡ kept_chain k) }
+        ensures cause { IfErr result IsS1OrS2 }
     {
-        let stored = self.see_steps(alloc)?;
+        let stored = self.steps_here(alloc)?;
         steps_of(alloc, &self.manifest, stored.as_slice())
     }
 
     /// The objects of the chain's tables. `S1`, `S2`.
+    #[tactic(auto, using(crate::proofs::Sure::as_before))]
     pub fn tables(&mut self, alloc: Global) -> Result<BTreeMap<Key, Object>, SFault>
         ensures same { IsAsBefore S.Store self.old self.new }
         ensures objects { IsHonest S.Store self.new → (k : Kept) → Stands S.Store self.old k → IfOk result (λ tables. IsEntriesOf k.registry.content tables.entries) }
+        ensures cause { IfErr result IsS1OrS2 }
     {
-        let stored = self.see_objects(alloc)?;
+        let stored = self.objects_here(alloc)?;
         objects_of(alloc, stored.as_slice())
     }
 
     /// The first objects of a kind whose keys are not below these bytes, by key: a page of them, none only where there is
     /// none. `S1`, `S2`.
+    #[tactic(auto, using(crate::proofs::Sure::as_before))]
     pub fn objects_from(
         &mut self,
         alloc: Global,
@@ -101,17 +117,20 @@ impl<S: Alter> Store<S> {
     ) -> Result<Vec<(Key, Object)>, SFault>
         ensures same { IsAsBefore S.Store self.old self.new }
         ensures page { IsHonest S.Store self.new → (k : Kept) → Stands S.Store self.old k → IfOk result (λ page. IsPage k.registry.content kind from.now page.items) }
+        ensures cause { IfErr result IsS1OrS2 }
     {
-        let stored = self.see_page(alloc, kind_number(kind), from)?;
+        let stored = self.page_here(alloc, kind_number(kind), from)?;
         entries_of(alloc, stored.as_slice())
     }
 
     /// How many objects the tables have of each of the six kinds. `S1`, `S2`.
+    #[tactic(auto, using(crate::proofs::Sure::as_before))]
     pub fn counts_by_kind(&mut self, alloc: Global) -> Result<BTreeMap<Kind, u64>, SFault>
         ensures same { IsAsBefore S.Store self.old self.new }
         ensures counts { IsHonest S.Store self.new → (k : Kept) → Stands S.Store self.old k → IfOk result (λ counts. AreCounts k.registry.content counts.entries) }
+        ensures cause { IfErr result IsS1OrS2 }
     {
-        let kinds = self.see_kinds(alloc)?;
+        let kinds = self.kinds_here(alloc)?;
         counts_of(alloc, kinds.as_slice())
     }
 }

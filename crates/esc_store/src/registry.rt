@@ -3,9 +3,8 @@
 ghost use Rattle.std.specs.Prelude.{◌≡◌};
 
 use crate::change::Change;
+use crate::codec::object::{images_of, object_in, record_bytes};
 use crate::fault::SFault;
-use crate::images::{object_in, record_bytes};
-use crate::objects::images_of;
 use esc_apply::Registry;
 use esc_tables::{Key, Object};
 use sqlite::Alter;

@@ -4,13 +4,13 @@ ghost use Rattle.std.specs.Prelude.{◌≡◌, true, false, map, option_map, OnO
 ghost use Rattle.sqlite.specs.Held.{state};
 ghost use Rattle.esc_rows.specs.Content.{object_at};
 ghost use Rattle.esc_rows.specs.Changes.{PutsObject, RemovesObject, Becomes, Tells, without_objects, without_undo, steps_before, PutsImage, RemovesImages, ListsImages, AddsReceipt, HoldsBody, AddsStep, ListsObjects, ListsFrom, ListsKinds, ListsRows, last_number, receipt_of, body_of};
-ghost use Rattle.esc_rows.specs.Entries.{receipt_row, held_row, step_row, image_of, object_of, listed_row};
-ghost use Rattle.esc_store.specs.Standing.{IsStep, IsLook, IsSure};
+ghost use Rattle.esc_rows.specs.Entries.{receipt_row, held_row, step_row, image_of, object_of};
+ghost use Rattle.esc_store.specs.Faults.{IsS1OrS2};
+ghost use Rattle.esc_store.specs.Standing.{IsStep, IsLook, IsCheckedRead};
 
 use crate::fault::SFault;
 use crate::store::Store;
 use esc_rows::held::{find_body, insert_held};
-use esc_rows::listed::{Listed, all_listed};
 use esc_rows::object::{
     StoredObject, all_objects, clear_objects, delete_object, find_object, object_kinds, put_object,
 };
@@ -29,7 +29,7 @@ impl<S: Alter> Store<S> {
         ensures manifest { self.new.manifest ≡ self.old.manifest }
         ensures writes { self.new.writes ≡ self.old.writes }
         ensures step { IsStep (state S.Store self.old.conn) (state S.Store self.new.conn) (PutsObject kind key.now bytes.now) result }
-        ensures cause { IfErr result (λ fault. fault ≡ SFault.S4 → ⊥) }
+        ensures cause { IfErr result IsS1OrS2 }
     {
         match self.goes_on() {
             Ok(()) => {}
@@ -44,7 +44,7 @@ impl<S: Alter> Store<S> {
         ensures manifest { self.new.manifest ≡ self.old.manifest }
         ensures writes { self.new.writes ≡ self.old.writes }
         ensures step { IsStep (state S.Store self.old.conn) (state S.Store self.new.conn) (RemovesObject kind key.now) result }
-        ensures cause { IfErr result (λ fault. fault ≡ SFault.S4 → ⊥) }
+        ensures cause { IfErr result IsS1OrS2 }
     {
         match self.goes_on() {
             Ok(()) => {}
@@ -59,7 +59,7 @@ impl<S: Alter> Store<S> {
         ensures manifest { self.new.manifest ≡ self.old.manifest }
         ensures writes { self.new.writes ≡ self.old.writes }
         ensures step { IsStep (state S.Store self.old.conn) (state S.Store self.new.conn) (Becomes without_objects) result }
-        ensures cause { IfErr result (λ fault. fault ≡ SFault.S4 → ⊥) }
+        ensures cause { IfErr result IsS1OrS2 }
     {
         match self.goes_on() {
             Ok(()) => {}
@@ -80,7 +80,7 @@ impl<S: Alter> Store<S> {
         ensures manifest { self.new.manifest ≡ self.old.manifest }
         ensures writes { self.new.writes ≡ self.old.writes }
         ensures step { IsStep (state S.Store self.old.conn) (state S.Store self.new.conn) (PutsImage step kind key.now (option_map (λ b. b.now) before.entry)) result }
-        ensures cause { IfErr result (λ fault. fault ≡ SFault.S4 → ⊥) }
+        ensures cause { IfErr result IsS1OrS2 }
     {
         match self.goes_on() {
             Ok(()) => {}
@@ -95,7 +95,7 @@ impl<S: Alter> Store<S> {
         ensures manifest { self.new.manifest ≡ self.old.manifest }
         ensures writes { self.new.writes ≡ self.old.writes }
         ensures step { IsStep (state S.Store self.old.conn) (state S.Store self.new.conn) (RemovesImages step) result }
-        ensures cause { IfErr result (λ fault. fault ≡ SFault.S4 → ⊥) }
+        ensures cause { IfErr result IsS1OrS2 }
     {
         match self.goes_on() {
             Ok(()) => {}
@@ -110,7 +110,7 @@ impl<S: Alter> Store<S> {
         ensures manifest { self.new.manifest ≡ self.old.manifest }
         ensures writes { self.new.writes ≡ self.old.writes }
         ensures step { IsStep (state S.Store self.old.conn) (state S.Store self.new.conn) (Becomes without_undo) result }
-        ensures cause { IfErr result (λ fault. fault ≡ SFault.S4 → ⊥) }
+        ensures cause { IfErr result IsS1OrS2 }
     {
         match self.goes_on() {
             Ok(()) => {}
@@ -125,7 +125,7 @@ impl<S: Alter> Store<S> {
         ensures manifest { self.new.manifest ≡ self.old.manifest }
         ensures writes { self.new.writes ≡ self.old.writes }
         ensures step { IsStep (state S.Store self.old.conn) (state S.Store self.new.conn) (AddsReceipt (receipt_row receipt.now)) result }
-        ensures cause { IfErr result (λ fault. fault ≡ SFault.S4 → ⊥) }
+        ensures cause { IfErr result IsS1OrS2 }
     {
         match self.goes_on() {
             Ok(()) => {}
@@ -140,7 +140,7 @@ impl<S: Alter> Store<S> {
         ensures manifest { self.new.manifest ≡ self.old.manifest }
         ensures writes { self.new.writes ≡ self.old.writes }
         ensures step { IsStep (state S.Store self.old.conn) (state S.Store self.new.conn) (HoldsBody (held_row row body.now)) result }
-        ensures cause { IfErr result (λ fault. fault ≡ SFault.S4 → ⊥) }
+        ensures cause { IfErr result IsS1OrS2 }
     {
         match self.goes_on() {
             Ok(()) => {}
@@ -155,7 +155,7 @@ impl<S: Alter> Store<S> {
         ensures manifest { self.new.manifest ≡ self.old.manifest }
         ensures writes { self.new.writes ≡ self.old.writes }
         ensures step { IsStep (state S.Store self.old.conn) (state S.Store self.new.conn) (Becomes (steps_before pos)) result }
-        ensures cause { IfErr result (λ fault. fault ≡ SFault.S4 → ⊥) }
+        ensures cause { IfErr result IsS1OrS2 }
     {
         match self.goes_on() {
             Ok(()) => {}
@@ -170,7 +170,7 @@ impl<S: Alter> Store<S> {
         ensures manifest { self.new.manifest ≡ self.old.manifest }
         ensures writes { self.new.writes ≡ self.old.writes }
         ensures step { IsStep (state S.Store self.old.conn) (state S.Store self.new.conn) (AddsStep (step_row step)) result }
-        ensures cause { IfErr result (λ fault. fault ≡ SFault.S4 → ⊥) }
+        ensures cause { IfErr result IsS1OrS2 }
     {
         match self.goes_on() {
             Ok(()) => {}
@@ -187,7 +187,7 @@ impl<S: Alter> Store<S> {
         ensures on { OnOk result (self.old.conn.in_transaction ≡ true) }
         ensures off { self.old.conn.in_transaction ≡ false → self.new ≡ self.old }
         ensures look { IsLook (state S.Store self.old.conn) (state S.Store self.new.conn) (Tells (λ c found. option_map (λ b. b.items) found ≡ object_at kind key.now c.objects)) result }
-        ensures cause { IfErr result (λ fault. fault ≡ SFault.S4 → ⊥) }
+        ensures cause { IfErr result IsS1OrS2 }
     {
         match self.goes_on() {
             Ok(()) => {}
@@ -208,7 +208,7 @@ impl<S: Alter> Store<S> {
         ensures on { OnOk result (self.old.conn.in_transaction ≡ true) }
         ensures off { self.old.conn.in_transaction ≡ false → self.new ≡ self.old }
         ensures look { IsLook (state S.Store self.old.conn) (state S.Store self.new.conn) (Tells (λ c found. ListsImages step c (map image_of found.items))) result }
-        ensures cause { IfErr result (λ fault. fault ≡ SFault.S4 → ⊥) }
+        ensures cause { IfErr result IsS1OrS2 }
     {
         match self.goes_on() {
             Ok(()) => {}
@@ -220,10 +220,8 @@ impl<S: Alter> Store<S> {
 
     // All receipts.
     pub(crate) fn receipts_here(&mut self, alloc: Global) -> Result<Vec<Receipt>, SFault>
-        ensures manifest { self.new.manifest ≡ self.old.manifest }
-        ensures writes { self.new.writes ≡ self.old.writes }
-        ensures sure { IsSure (state S.Store self.old.conn) (state S.Store self.new.conn) (Tells (λ c found. map receipt_row found.items ≡ c.receipts)) result }
-        ensures cause { IfErr result (λ fault. fault ≡ SFault.S4 → ⊥) }
+        ensures read { IsCheckedRead S.Store self.old self.new (λ c found. map receipt_row found.items ≡ c.receipts) result }
+        ensures cause { IfErr result IsS1OrS2 }
     {
         match self.sound() {
             Ok(()) => {}
@@ -239,10 +237,8 @@ impl<S: Alter> Store<S> {
         number: &str,
         digest: &[u8],
     ) -> Result<Option<Receipt>, SFault>
-        ensures manifest { self.new.manifest ≡ self.old.manifest }
-        ensures writes { self.new.writes ≡ self.old.writes }
-        ensures sure { IsSure (state S.Store self.old.conn) (state S.Store self.new.conn) (Tells (λ c found. option_map receipt_row found ≡ receipt_of number.now digest.now c.receipts)) result }
-        ensures cause { IfErr result (λ fault. fault ≡ SFault.S4 → ⊥) }
+        ensures read { IsCheckedRead S.Store self.old self.new (λ c found. option_map receipt_row found ≡ receipt_of number.now digest.now c.receipts) result }
+        ensures cause { IfErr result IsS1OrS2 }
     {
         match self.sound() {
             Ok(()) => {}
@@ -254,10 +250,8 @@ impl<S: Alter> Store<S> {
 
     // The rows that the receipts of a verdict name.
     pub(crate) fn rows_here(&mut self, alloc: Global, verdict: u32) -> Result<Vec<u32>, SFault>
-        ensures manifest { self.new.manifest ≡ self.old.manifest }
-        ensures writes { self.new.writes ≡ self.old.writes }
-        ensures sure { IsSure (state S.Store self.old.conn) (state S.Store self.new.conn) (Tells (λ c found. ListsRows verdict c found.items)) result }
-        ensures cause { IfErr result (λ fault. fault ≡ SFault.S4 → ⊥) }
+        ensures read { IsCheckedRead S.Store self.old self.new (λ c found. ListsRows verdict c found.items) result }
+        ensures cause { IfErr result IsS1OrS2 }
     {
         match self.sound() {
             Ok(()) => {}
@@ -269,10 +263,8 @@ impl<S: Alter> Store<S> {
 
     // The body of a row.
     pub(crate) fn body_here(&mut self, row: u32) -> Result<Option<Vec<u8>>, SFault>
-        ensures manifest { self.new.manifest ≡ self.old.manifest }
-        ensures writes { self.new.writes ≡ self.old.writes }
-        ensures sure { IsSure (state S.Store self.old.conn) (state S.Store self.new.conn) (Tells (λ c found. option_map (λ b. b.items) found ≡ body_of row c.held)) result }
-        ensures cause { IfErr result (λ fault. fault ≡ SFault.S4 → ⊥) }
+        ensures read { IsCheckedRead S.Store self.old self.new (λ c found. option_map (λ b. b.items) found ≡ body_of row c.held) result }
+        ensures cause { IfErr result IsS1OrS2 }
     {
         match self.sound() {
             Ok(()) => {}
@@ -284,10 +276,8 @@ impl<S: Alter> Store<S> {
 
     // The steps of the chain.
     pub(crate) fn steps_here(&mut self, alloc: Global) -> Result<Vec<ChainStep>, SFault>
-        ensures manifest { self.new.manifest ≡ self.old.manifest }
-        ensures writes { self.new.writes ≡ self.old.writes }
-        ensures sure { IsSure (state S.Store self.old.conn) (state S.Store self.new.conn) (Tells (λ c found. map step_row found.items ≡ c.steps)) result }
-        ensures cause { IfErr result (λ fault. fault ≡ SFault.S4 → ⊥) }
+        ensures read { IsCheckedRead S.Store self.old self.new (λ c found. map step_row found.items ≡ c.steps) result }
+        ensures cause { IfErr result IsS1OrS2 }
     {
         match self.sound() {
             Ok(()) => {}
@@ -299,10 +289,8 @@ impl<S: Alter> Store<S> {
 
     // All records.
     pub(crate) fn objects_here(&mut self, alloc: Global) -> Result<Vec<StoredObject>, SFault>
-        ensures manifest { self.new.manifest ≡ self.old.manifest }
-        ensures writes { self.new.writes ≡ self.old.writes }
-        ensures sure { IsSure (state S.Store self.old.conn) (state S.Store self.new.conn) (Tells (λ c found. ListsObjects c (map object_of found.items))) result }
-        ensures cause { IfErr result (λ fault. fault ≡ SFault.S4 → ⊥) }
+        ensures read { IsCheckedRead S.Store self.old self.new (λ c found. ListsObjects c (map object_of found.items)) result }
+        ensures cause { IfErr result IsS1OrS2 }
     {
         match self.sound() {
             Ok(()) => {}
@@ -319,10 +307,8 @@ impl<S: Alter> Store<S> {
         kind: u32,
         from: &[u8],
     ) -> Result<Vec<StoredObject>, SFault>
-        ensures manifest { self.new.manifest ≡ self.old.manifest }
-        ensures writes { self.new.writes ≡ self.old.writes }
-        ensures sure { IsSure (state S.Store self.old.conn) (state S.Store self.new.conn) (Tells (λ c found. ListsFrom kind from.now c (map object_of found.items))) result }
-        ensures cause { IfErr result (λ fault. fault ≡ SFault.S4 → ⊥) }
+        ensures read { IsCheckedRead S.Store self.old self.new (λ c found. ListsFrom kind from.now c (map object_of found.items)) result }
+        ensures cause { IfErr result IsS1OrS2 }
     {
         match self.sound() {
             Ok(()) => {}
@@ -334,10 +320,8 @@ impl<S: Alter> Store<S> {
 
     // The kind of each record.
     pub(crate) fn kinds_here(&mut self, alloc: Global) -> Result<Vec<u32>, SFault>
-        ensures manifest { self.new.manifest ≡ self.old.manifest }
-        ensures writes { self.new.writes ≡ self.old.writes }
-        ensures sure { IsSure (state S.Store self.old.conn) (state S.Store self.new.conn) (Tells (λ c found. ListsKinds c found.items)) result }
-        ensures cause { IfErr result (λ fault. fault ≡ SFault.S4 → ⊥) }
+        ensures read { IsCheckedRead S.Store self.old self.new (λ c found. ListsKinds c found.items) result }
+        ensures cause { IfErr result IsS1OrS2 }
     {
         match self.sound() {
             Ok(()) => {}
@@ -347,27 +331,10 @@ impl<S: Alter> Store<S> {
         self.settle(done)
     }
 
-    // The rows of the manifest.
-    pub(crate) fn listed_here(&mut self, alloc: Global) -> Result<Vec<Listed>, SFault>
-        ensures manifest { self.new.manifest ≡ self.old.manifest }
-        ensures writes { self.new.writes ≡ self.old.writes }
-        ensures sure { IsSure (state S.Store self.old.conn) (state S.Store self.new.conn) (Tells (λ c found. map listed_row found.items ≡ c.listed)) result }
-        ensures cause { IfErr result (λ fault. fault ≡ SFault.S4 → ⊥) }
-    {
-        match self.sound() {
-            Ok(()) => {}
-            Err(fault) => return Err(fault),
-        }
-        let done = all_listed(alloc, &mut self.conn);
-        self.settle(done)
-    }
-
     // The number of the last receipt, or 0.
     pub(crate) fn last_here(&mut self) -> Result<u32, SFault>
-        ensures manifest { self.new.manifest ≡ self.old.manifest }
-        ensures writes { self.new.writes ≡ self.old.writes }
-        ensures sure { IsSure (state S.Store self.old.conn) (state S.Store self.new.conn) (Tells (λ c found. found ≡ last_number c.receipts)) result }
-        ensures cause { IfErr result (λ fault. fault ≡ SFault.S4 → ⊥) }
+        ensures read { IsCheckedRead S.Store self.old self.new (λ c found. found ≡ last_number c.receipts) result }
+        ensures cause { IfErr result IsS1OrS2 }
     {
         match self.sound() {
             Ok(()) => {}

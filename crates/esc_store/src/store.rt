@@ -1,9 +1,11 @@
 //! The store.
 
-ghost use Rattle.std.specs.Prelude.{◌≡◌, ◌⊎◌, true, false, Ok, IsErr, IsTrue, IfOk, IfErr, OnOk, OnErr, MatchResult};
+ghost use Rattle.std.specs.Prelude.{◌≡◌, true, false, Ok, IsErr, IsTrue, IfOk, IfErr, OnOk, OnErr, MatchResult};
 ghost use Rattle.std.specs.Borrow.{sem, RestsIfErr};
 ghost use Rattle.sqlite.specs.Held.{state};
 ghost use Rattle.esc_rows.specs.Schema.{store_schema};
+ghost use Rattle.esc_store.specs.Faults.{IsS1OrS2, IsS1ToS3};
+ghost use Rattle.esc_store.specs.Opening.{IsAsItWas};
 ghost use Rattle.esc_store.specs.Kept.{Kept, fresh, with_registry};
 ghost use Rattle.esc_apply.specs.Registry.{State};
 ghost use Rattle.esc_store.specs.Tables.{IsBlank, IsStore, IsOfVersion};
@@ -11,9 +13,9 @@ ghost use Rattle.esc_store.specs.Standing.{Stands, Began, Rest, HoldsNow, BeganI
 ghost use Rattle.sqlite.specs.State.{HasCleanDisk};
 
 use crate::change::Change;
+use crate::codec::manifest::both_forms;
 use crate::fault::SFault;
 use crate::founding::{found_here, give_up_in};
-use crate::listing::both_forms;
 use crate::opening::find_manifest;
 use esc_manifest::Manifest;
 use esc_rows::shape::is_store_schema;
@@ -35,7 +37,7 @@ impl<S: Alter> Store<S> {
     ghost use Rattle.esc_store.specs.contracts.store.Store.{the_row};
 
     /// A new store of a manifest, over a database without any table, index or view, in one change. At `Err` the
-    /// connection is given back, and its database is as before: `S3` where it has a table, an index or a view; `S1`,
+    /// connection is given back as it was: `S3` where it has a table, an index or a view; `S1`,
     /// also in a transaction; `S2`.
     pub fn create(
         alloc: Global,
@@ -48,6 +50,8 @@ impl<S: Alter> Store<S> {
         ensures blank { OnOk result (IsBlank (state S.Store connection).now) }
         ensures refused { IfErr result (λ e. HasCleanDisk (state S.Store e.1) → IsTrue (state S.Store e.1).is_open → (e.0 ≡ SFault.S3) → IsBlank (state S.Store connection).now → ⊥) }
         ensures neither { IfErr result (λ e. HasCleanDisk (state S.Store e.1) → IsTrue (state S.Store e.1).is_open → (state S.Store e.1).committed ≡ (state S.Store connection).committed) }
+        ensures unchanged { IfErr result (λ e. IsAsItWas (state S.Store connection) (state S.Store e.1)) }
+        ensures cause { IfErr result (λ e. IsS1ToS3 e.0) }
         ensures crash { MatchResult result (λ store. LeavesOr S.Store connection store.conn (fresh manifest.now)) (λ e. LeavesOr S.Store connection e.1 (fresh manifest.now)) }
     {
         let (own, rows) = match both_forms(alloc, manifest) {
@@ -67,7 +71,7 @@ impl<S: Alter> Store<S> {
     }
 
     /// The store that a database is, also where the database is what a crash left of one. At `Err` the connection is
-    /// given back: `S3` where it is no store of this version; `S1`, also in a transaction, or where the rows of its
+    /// given back as it was: `S3` where it is no store of this version; `S1`, also in a transaction, or where the rows of its
     /// manifest make none; `S2`.
     pub fn open(
         alloc: Global,
@@ -81,6 +85,8 @@ impl<S: Alter> Store<S> {
         ensures writes { IfOk result (λ store. store.writes ≡ 0) }
         ensures version { IfOk result (λ store. IsHonest S.Store store → IsOfVersion (state S.Store connection).now) }
         ensures never { IfErr result (λ e. e.0 ≡ SFault.S3 → HasCleanDisk (state S.Store e.1) → IsTrue (state S.Store e.1).is_open → (k : Kept) → IsStore (state S.Store connection).committed.trees k → ⊥) }
+        ensures unchanged { IfErr result (λ e. IsAsItWas (state S.Store connection) (state S.Store e.1)) }
+        ensures cause { IfErr result (λ e. IsS1ToS3 e.0) }
         ensures survives { MatchResult result (λ store. LeavesNoMore S.Store connection store.conn) (λ e. LeavesNoMore S.Store connection e.1) }
     {
         let mut connection = connection;
@@ -130,6 +136,7 @@ impl<S: Alter> Store<S> {
         ensures rest { IfOk result (λ change. (k : Kept) → Stands S.Store self.old k → Rest S.Store change k k) }
         ensures holds { IfOk result (λ change. (k : Kept) → Stands S.Store self.old k → HoldsNow S.Store change k.registry) }
         ensures survives { IfOk result (λ change. LeavesNoMore S.Store self.old.conn change.store.now.conn) }
+        ensures cause { IfErr result IsS1OrS2 }
     {
         self.begin_here()?;
         Ok(Change {
@@ -147,6 +154,7 @@ impl<S: Alter> Store<S> {
         ensures began { OnOk result ((k : Kept) → Stands S.Store self.old k → BeganIn S.Store self.new k) }
         ensures rest { OnOk result ((k : Kept) → Stands S.Store self.old k → RestIn S.Store self.new k k) }
         ensures holds { OnOk result ((k : Kept) → Stands S.Store self.old k → HoldsIn S.Store self.new k.registry) }
+        ensures cause { IfErr result IsS1OrS2 }
     {
         let begun = begin_in(&mut self.conn);
         self.settle(begun)
@@ -161,7 +169,7 @@ impl<S: Alter> Store<S> {
         ensures kept { OnErr result ((before : Kept) → BeganIn S.Store self.old before → Stands S.Store self.new before) }
         ensures crash { (before k : Kept) (s : State) → RestIn S.Store self.old before (with_registry k s) → HoldsIn S.Store self.old k.registry → LeavesOr S.Store self.old.conn self.new.conn k }
         ensures left { OnOk result ((before k : Kept) (s : State) → RestIn S.Store self.old before (with_registry k s) → HoldsIn S.Store self.old k.registry → LeavesOnly S.Store self.new k) }
-        ensures cause { IfErr result (λ fault. (fault ≡ SFault.S1) ⊎ (fault ≡ SFault.S2)) }
+        ensures cause { IfErr result IsS1OrS2 }
     {
         let committed = commit_in(&mut self.conn);
         self.settle(committed)
@@ -183,7 +191,7 @@ impl<S: Alter> Store<S> {
         ensures survives { LeavesNoMore S.Store self.old.conn self.new.conn }
         ensures ok { IfOk result (λ x. (outcome ≡ Ok x) × (self.new ≡ self.old)) }
         ensures err { OnErr result (IsErr outcome × IsGivenUp (state S.Store self.old.conn) (state S.Store self.new.conn)) }
-        ensures cause { IfErr result (λ fault. (fault ≡ SFault.S1) ⊎ (fault ≡ SFault.S2)) }
+        ensures cause { IfErr result IsS1OrS2 }
     {
         match outcome {
             Ok(x) => Ok(x),

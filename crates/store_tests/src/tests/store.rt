@@ -75,17 +75,14 @@ fn object(alloc: Global) -> Result<Object, Fail> {
 }
 
 fn keep_books<S: Alter>(change: &mut Change<'_, S>) -> Result<(), SFault> {
-    change.record_receipt(
-        1,
-        &Receipt {
-            number: "one",
-            digest: [1; 32],
-            verdict: Verdict::A1,
-            row: Some(0),
-            again: Some(false),
-            orphans: Some(0),
-        },
-    )?;
+    change.record_receipt(&Receipt {
+        number: "one",
+        digest: [1; 32],
+        verdict: Verdict::A1,
+        row: Some(0),
+        again: Some(false),
+        orphans: Some(0),
+    })?;
     change.hold(0, b"body")
 }
 

@@ -5,23 +5,23 @@ use Rattle.esc_desk.proofs.CrashLemmas.{none_then, adds_no_store, adds_store_the
 use Rattle.esc_desk.proofs.changes.hold_deposit.Goals as goal
 
 pub returns-in_err-change-clause-crash : goal.returns-in_err-change-clause-crash
-returns-in_err-change-clause-crash g c = λ k held number none size stood. adds_no_store g.S.Store _ _ _ _ (search rules)
+returns-in_err-change-clause-crash g c = λ k held none size stood. adds_no_store g.S.Store _ _ _ _ (search rules)
 
-pub returns-in_err-work-clause-crash : goal.returns-in_err-work-clause-crash
-returns-in_err-work-clause-crash g c = λ k held number none size stood.
-    let made = none_then _ _ _ _ c.in_ok-change.ensures.survives (none_then _ _ _ _ c.in_err-work.ensures.goes_on.survives c.drop-change.ensures.survives) in
+pub returns-in_err-filled-clause-crash : goal.returns-in_err-filled-clause-crash
+returns-in_err-filled-clause-crash g c = λ k held none size stood.
+    let made = none_then _ _ _ _ c.in_ok-change.ensures.survives (none_then _ _ _ _ c.in_err-filled.ensures.goes_on.survives c.drop-change.ensures.survives) in
     adds_no_store g.S.Store _ _ _ _ (search (rules, made))
 
 pub returns-in_err-commit_filled-clause-crash : goal.returns-in_err-commit_filled-clause-crash
-returns-in_err-commit_filled-clause-crash g c = λ k held number none size stood.
+returns-in_err-commit_filled-clause-crash g c = λ k held none size stood.
     let start = with_registry k (chain_state held) in
-    let made = adds_store_then g.S.Store c.args.store.now.conn _ _ c.from_residual-in_err-commit_filled.result _ (none_then _ _ _ _ c.in_ok-change.ensures.survives c.in_ok-work.ensures.goes_on.survives)
-    (adds_store_as g.S.Store _ _ _ c.from_residual-in_err-commit_filled.result _ (λ h. not_full_by _ c.in_err-commit_filled.field-0.0 (search rules) h) (c.in_err-commit_filled.ensures.crash start _ (c.in_ok-work.ensures.filled k held number none size (c.in_ok-change.ensures.began start stood) (c.in_ok-change.ensures.rest start stood) (c.in_ok-change.ensures.holds start stood)))) in
+    let made = adds_store_then g.S.Store c.args.store.now.conn _ _ c.from_residual-in_err-commit_filled.result _ (none_then _ _ _ _ c.in_ok-change.ensures.survives c.in_ok-filled.ensures.goes_on.survives)
+    (adds_store_as g.S.Store _ _ _ c.from_residual-in_err-commit_filled.result _ (λ h. not_full_by _ c.in_err-commit_filled.field-0.0 (search rules) h) (c.in_err-commit_filled.ensures.crash start _ (c.in_ok-filled.ensures.filled k held none size (c.in_ok-change.ensures.began start stood) (c.in_ok-change.ensures.rest start stood) (c.in_ok-change.ensures.holds start stood)))) in
     search (rules, made)
 
 pub returns-clause-crash : goal.returns-clause-crash
-returns-clause-crash g c = λ k held number none size stood.
+returns-clause-crash g c = λ k held none size stood.
     let start = with_registry k (chain_state held) in
-    let made = adds_store_then g.S.Store c.args.store.now.conn _ _ (Ok c.in_ok-work.work) _ (none_then _ _ _ _ c.in_ok-change.ensures.survives c.in_ok-work.ensures.goes_on.survives)
-    (adds_store_as g.S.Store _ _ _ (Ok c.in_ok-work.work) _ (λ h. tt) (c.in_ok-commit_filled.ensures.crash start _ (c.in_ok-work.ensures.filled k held number none size (c.in_ok-change.ensures.began start stood) (c.in_ok-change.ensures.rest start stood) (c.in_ok-change.ensures.holds start stood)))) in
+    let made = adds_store_then g.S.Store c.args.store.now.conn _ _ (Ok c.in_ok-filled.filled) _ (none_then _ _ _ _ c.in_ok-change.ensures.survives c.in_ok-filled.ensures.goes_on.survives)
+    (adds_store_as g.S.Store _ _ _ (Ok c.in_ok-filled.filled) _ (λ h. tt) (c.in_ok-commit_filled.ensures.crash start _ (c.in_ok-filled.ensures.filled k held none size (c.in_ok-change.ensures.began start stood) (c.in_ok-change.ensures.rest start stood) (c.in_ok-change.ensures.holds start stood)))) in
     search (rules, made)

@@ -19,11 +19,10 @@ use Rattle.esc_desk.proofs.desk.keep_deposit.Goals as goal
 
 pub returns-clause-kept : goal.returns-clause-kept
 returns-clause-kept g c = IfOk-weaker c.hold_deposit.result _ _
-    (λ work made. λ clean e n k stood new is.
+    (λ p made. λ clean e n k stood new is.
     let a : ArrivalValue = record { number = n; body = c.args.body.now } in
     let plan = c.in_ok-plan.plan in
     let rows = c.args.held.now.items in
-    let number = c.args.number in
     let receipt = c.args.receipt.now in
     let row = c.args.row in
     let deposit = c.args.deposit in
@@ -35,18 +34,18 @@ returns-clause-kept g c = IfOk-weaker c.hold_deposit.result _ _
     let planned = subst (λ (x : List ℕ). IsPlanned reading k x row a.body plan) c.deref.ensures.value (c.in_ok-plan.ensures.planned honest k stood a.body (reads_of sha256 reading (union e) a.body row deposit (sym is.found_is))) in
     let accepted = subst IsAccepted is.stood.listed planned.accepted in
     let before = subst (λ (x : Kept). Stands g.S.Store c.plan_move.new.store x) (ap (with_registry k) is.stood.registry) (c.in_ok-plan.ensures.same.stands k stood) in
-    let stands = stands_held law e accepted a k rows number receipt row deposit is new plan planned in
-    let count = old_count law e accepted a k rows number receipt row deposit is new plan planned in
+    let stands = stands_held law e accepted a k rows receipt row deposit is new plan planned in
+    let count = old_count law e accepted a k rows receipt row deposit is new plan planned in
     record {
       serves = record {
         kept = _;
-        stands = made.1.0 clean k (deposits_of reading k.bodies k.steps) is.next (no_body_yet law e accepted a k rows number receipt row deposit is new plan planned) count before;
+        stands = made.1.0 clean k (deposits_of reading k.bodies k.steps) (no_body_yet law e accepted a k rows receipt row deposit is new plan planned) count before;
         stands_for = stands;
       };
       held = same_held (e ++ arrived a ∷ []) _ stands c.insert_row.new.rows.items (c.in_ok-insert_row.ensures k.bodies a.body is.held);
-      works = moved law few e accepted a k rows number receipt row deposit is new plan planned few_old few_new work
-          (made.1.1 clean k (deposits_of reading k.bodies k.steps) count before (few_moved law few e accepted a k rows number receipt row deposit is new plan planned few_old few_new));
-      left = leaves_for g.S.Store _ _ (e ++ arrived a ∷ []) stands (made.0 k (deposits_of reading k.bodies k.steps) is.next (no_body_yet law e accepted a k rows number receipt row deposit is new plan planned) count before);
+      works = moved law few e accepted a k rows receipt row deposit is new plan planned few_old few_new p.1
+          (made.1.1 clean k (deposits_of reading k.bodies k.steps) count before (few_moved law few e accepted a k rows receipt row deposit is new plan planned few_old few_new));
+      left = leaves_for g.S.Store _ _ (e ++ arrived a ∷ []) stands (made.0 k (deposits_of reading k.bodies k.steps) (no_body_yet law e accepted a k rows receipt row deposit is new plan planned) count before);
     })
     (both_ok c.hold_deposit.result _ _ c.hold_deposit.ensures.left (both_ok c.hold_deposit.result _ _ c.hold_deposit.ensures.held c.hold_deposit.ensures.worked))
 
@@ -61,7 +60,6 @@ returns-clause-crash g c = λ clean e n k stood new is.
     let a : ArrivalValue = record { number = n; body = c.args.body.now } in
     let plan = c.in_ok-plan.plan in
     let rows = c.args.held.now.items in
-    let number = c.args.number in
     let receipt = c.args.receipt.now in
     let row = c.args.row in
     let deposit = c.args.deposit in
@@ -70,7 +68,7 @@ returns-clause-crash g c = λ clean e n k stood new is.
     let planned = subst (λ (x : List ℕ). IsPlanned reading k x row a.body plan) c.deref.ensures.value (c.in_ok-plan.ensures.planned honest k stood a.body (reads_of sha256 reading (union e) a.body row deposit (sym is.found_is))) in
     let accepted = subst IsAccepted is.stood.listed planned.accepted in
     let before = subst (λ (x : Kept). Stands g.S.Store c.plan_move.new.store x) (ap (with_registry k) is.stood.registry) (c.in_ok-plan.ensures.same.stands k stood) in
-    let stands = stands_held law e accepted a k rows number receipt row deposit is new plan planned in
-    let count = old_count law e accepted a k rows number receipt row deposit is new plan planned in
+    let stands = stands_held law e accepted a k rows receipt row deposit is new plan planned in
+    let count = old_count law e accepted a k rows receipt row deposit is new plan planned in
     adds_then g.S.Store _ _ _ _ _ c.in_ok-plan.ensures.same.survives (adds_for g.S.Store _ _ _ _ _ stands
-    (c.hold_deposit.ensures.crash k (deposits_of reading k.bodies k.steps) is.next (no_body_yet law e accepted a k rows number receipt row deposit is new plan planned) count before))
+    (c.hold_deposit.ensures.crash k (deposits_of reading k.bodies k.steps) (no_body_yet law e accepted a k rows receipt row deposit is new plan planned) count before))

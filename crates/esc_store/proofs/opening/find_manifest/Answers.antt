@@ -1,17 +1,18 @@
-use Rattle.std.proofs.Common.{◌∙◌, ap, sym, subst, map}
 use Rattle.sqlite.specs.Held.{state}
-use Rattle.sqlite.specs.Effect.{Database}
-use Rattle.esc_rows.specs.Entries.{listed_row}
-use Rattle.esc_rows.specs.Content.{content_in, HoldsContent}
-use Rattle.esc_store.proofs.Ends.{at_said, was_clean}
-use Rattle.esc_store.proofs.Reading.{if_goes}
+use Rattle.esc_store.proofs.Ends.{was_clean, keeps_then}
+use Rattle.esc_store.proofs.OpeningLemmas.{is_off, as_it_was}
 use Rattle.esc_store.proofs.opening.find_manifest.Goals as goal
 
-pub returns-clause-manifest : goal.returns-clause-manifest
-returns-clause-manifest g c = if_goes c.kept_manifest.result _ _ c.kept_manifest.ensures.manifest (λ manifest is clean k stored.
-    let mid = state g.S.Store c.test_version.new.conn in
-    let same = (c.in_ok-test_version.ensures.version (was_clean mid (state g.S.Store c.all_listed.new.conn) (λ _. ⊥) c.all_listed.ensures.read.survives clean)).0.0.now_is in
-    let content = content_in (state g.S.Store c.args.conn.now).now.trees in
-    let said = at_said c.all_listed.result c.in_ok-stored.stored _ c.in_ok-stored.was (c.all_listed.ensures.read.said clean (ap (λ (db : Database). db.schema) same ∙ stored.schema)) in
-    is k.listed (ap (map listed_row) c.as_slice.ensures.value
-    ∙ (said.0 content (subst (λ (db : Database). HoldsContent db content) (sym same) (record { schema_is = stored.schema; store = stored.kept.tables })) ∙ stored.kept.books.listed)))
+pub returns-in-Err-clause-never : goal.returns-in-Err-clause-never
+returns-in-Err-clause-never g c = λ is clean up.
+    let ended = c.give_up_in.ensures in
+    let mid = state g.S.Store c.read_manifest.new.conn in
+    c.in-Err.ensures.never is (was_clean mid (state g.S.Store c.give_up_in.new.conn) (λ _. ⊥) ended.survives clean) ((ended.kept clean).was_open up) (is_off c.is_autocommit.result _ c.is_autocommit.ensures.value c.if-not-is_autocommit.false, c.is_autocommit.ensures.settled c.if-not-is_autocommit.false)
+
+pub returns-in-Err-clause-unchanged : goal.returns-in-Err-clause-unchanged
+returns-in-Err-clause-unchanged g c =
+    let ended = c.give_up_in.ensures in
+    let old = state g.S.Store c.args.conn.now in
+    let mid = state g.S.Store c.read_manifest.new.conn in
+    let new = state g.S.Store c.give_up_in.new.conn in
+    as_it_was old new (is_off c.is_autocommit.result _ c.is_autocommit.ensures.value c.if-not-is_autocommit.false, c.is_autocommit.ensures.settled c.if-not-is_autocommit.false) (λ clean. keeps_then old mid new (c.read_manifest.ensures.kept (was_clean mid new (λ _. ⊥) ended.survives clean)) (ended.kept clean)) ended.ended ended.settled

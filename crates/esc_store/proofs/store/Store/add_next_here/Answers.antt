@@ -1,9 +1,15 @@
-use Rattle.std.proofs.Common.{◌≡◌, ◌+◌, arith}
+use Rattle.std.proofs.Common.{◌≡◌, ◌∙◌, ◌+◌, ap, arith}
 use Rattle.sqlite.specs.Held.{state}
-use Rattle.esc_store.proofs.RowSteps.{step_next}
+use Rattle.esc_store.proofs.Ends.{was_clean}
+use Rattle.esc_store.proofs.RowSteps.{step_next, last_told}
 use Rattle.esc_store.proofs.store.Store.add_next_here.Goals as goal
 
-pub returns-clause-step : goal.returns-clause-step
-returns-clause-step g c =
-    let next : c.in-Ok-last_here.last + 1 ≡ c.args.receipt.now.receipt = omega arith in
-    step_next (state g.S.Store c.args.self.now.conn) (state g.S.Store c.last_here.new.self.conn) (state g.S.Store c.add_receipt_here.new.self.conn) c.last_here.result c.in-Ok-last_here.last _ c.add_receipt_here.result c.in-Ok.ensures.on c.last_here.ensures.sure c.in-Ok-last_here.is next c.add_receipt_here.ensures.step
+pub returns-in-Ok-add_receipt_here-clause-step : goal.returns-in-Ok-add_receipt_here-clause-step
+returns-in-Ok-add_receipt_here-clause-step g c =
+    step_next (state g.S.Store c.args.self.now.conn) (state g.S.Store c.last_here.new.self.conn) (state g.S.Store c.add_receipt_here.new.self.conn) c.last_here.result c.in-Ok-last_here.last c.args.receipt.now _ _ _ c.in-Ok.ensures.on
+    c.last_here.ensures.read.sure c.in-Ok-last_here.is c.in-Ok-stored_receipt.ensures.row c.in-Ok-add_receipt_here.ensures.step
+
+pub returns-in-Ok-add_receipt_here-clause-number : goal.returns-in-Ok-add_receipt_here-clause-number
+returns-in-Ok-add_receipt_here-clause-number g c = λ clean b holds.
+    let told = last_told (state g.S.Store c.args.self.now.conn) (state g.S.Store c.last_here.new.self.conn) c.last_here.result c.in-Ok-last_here.last c.last_here.ensures.read.sure c.in-Ok-last_here.is (was_clean _ _ (λ _. ⊥) c.add_receipt_here.ensures.step.survives clean) b holds in
+    ap (λ n. n + 1) (c.from.ensures ∙ told)

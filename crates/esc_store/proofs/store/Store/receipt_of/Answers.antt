@@ -1,8 +1,9 @@
 use Rattle.std.proofs.Common.{◌≡◌}
 use Rattle.esc_store.specs.Kept.{kept_reply}
 use Rattle.esc_store.proofs.Reading.{if_goes, found_reply}
+use Rattle.esc_store.proofs.Sure.{told_of}
 use Rattle.esc_store.proofs.store.Store.receipt_of.Goals as goal
 
 pub returns-clause-found : goal.returns-clause-found
-returns-clause-found g c = λ honest k stands. if_goes c.reply_found.result _ _ c.reply_found.ensures (λ reply is.
-    found_reply g.S.Store c.args.self.now c.see_receipt.new.self k c.args.number.now c.args.digest.now c.in_ok-found.found reply c.see_receipt.ensures.same.manifest stands (rw c.text.ensures.text at (c.in_ok-found.ensures.told honest k stands)) is)
+returns-clause-found g c = λ honest k stands. if_goes c.reply_found.result _ _ c.reply_found.ensures.reply (λ reply is.
+    found_reply g.S.Store c.args.self.now c.receipt_here.new.self k c.args.number.now c.args.digest.now c.in_ok-found.found reply c.receipt_here.ensures.read.manifest stands (rw c.text.ensures.text at (told_of c.in_ok-found.ensures.read honest k stands)) is)

@@ -1,0 +1,6 @@
+use Rattle.std.proofs.lemmas.Map.Keys.{IsDistinct-from_sorted}
+use Rattle.esc_tables.specs.KeyName.{key_cmp}
+use Rattle.esc_store.proofs.codec.object.objects_of.Goals as goal
+
+pub returns-clause-once : goal.returns-clause-once
+returns-clause-once c = IsDistinct-from_sorted key_cmp _ c.loop-at.invariant.0

@@ -1,9 +1,0 @@
-use Rattle.std.proofs.Common.{◌≡◌, List, ℕ, map, take}
-use Rattle.esc_rows.specs.Entries.{receipt_row, step_row}
-use Rattle.esc_store.specs.Kept.{step_at}
-use Rattle.esc_store.specs.ReplyValue.{ReceiptValue, replies_from}
-use Rattle.esc_store.specs.TypedRows.{receipts_from, steps_from}
-use Rattle.esc_store.proofs.decode.steps_of.Given as goal
-
-abbrev pub invariant-loop-at : goal.invariant-loop-at
-invariant-loop-at l = (rows : List ℕ) → map step_row l.stored ≡ steps_from 1 rows → l.steps.items ≡ map (step_at l.manifest) (take l.at rows)

@@ -1,7 +1,0 @@
-use Rattle.std.proofs.Common.{ap, ◌∙◌, Some}
-use Rattle.esc_store.proofs.Registries.{one_object}
-use Rattle.esc_store.proofs.images.object_in.Goals as goal
-
-pub returns-in_ok-record_object-in-Some : goal.returns-in_ok-record_object-in-Some
-returns-in_ok-record_object-in-Some c = λ o is has.
-    one_object c.in_ok-record_object-in-Some.field-0 c.in-Some.record.items o (c.in_ok-record_object-in-Some.ensures ∙ ap Some c.as_slice.ensures.value) (rw c.in-Some.is at is)

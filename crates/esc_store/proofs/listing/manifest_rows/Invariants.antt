@@ -1,8 +1,0 @@
-use Rattle.std.proofs.Common.{◌≡◌, List, map, take}
-use Rattle.esc_manifest.specs.declared.row.MRow.{MRow}
-use Rattle.esc_rows.specs.Entries.{listed_row as stored_row}
-use Rattle.esc_store.specs.TypedRows.{listed_from}
-use Rattle.esc_store.proofs.listing.manifest_rows.Given as goal
-
-abbrev pub invariant-loop-at : goal.invariant-loop-at
-invariant-loop-at l = (rs : List MRow) → map stored_row l.stored ≡ listed_from 0 rs → l.rows.items ≡ take l.at rs

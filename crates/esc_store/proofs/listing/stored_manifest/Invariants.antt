@@ -1,7 +1,0 @@
-use Rattle.std.proofs.Common.{◌≡◌, map, take}
-use Rattle.esc_rows.specs.Entries.{listed_row as stored_row}
-use Rattle.esc_store.specs.TypedRows.{listed_from}
-use Rattle.esc_store.proofs.listing.stored_manifest.Given as goal
-
-abbrev pub invariant-loop-at : goal.invariant-loop-at
-invariant-loop-at l = map stored_row l.stored.items ≡ listed_from 0 (take l.at l.rows)

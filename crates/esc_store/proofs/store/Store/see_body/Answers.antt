@@ -1,8 +1,0 @@
-use Rattle.esc_store.proofs.Sure.{as_before, told_all}
-use Rattle.esc_store.proofs.store.Store.see_body.Goals as goal
-
-pub returns-clause-same : goal.returns-clause-same
-returns-clause-same g c = as_before g.S.Store c.args.self.now c.body_here.new.self _ c.body_here.result c.body_here.ensures.manifest c.body_here.ensures.writes c.body_here.ensures.sure
-
-pub returns-clause-told : goal.returns-clause-told
-returns-clause-told g c = told_all g.S.Store c.args.self.now c.body_here.new.self _ c.body_here.result c.body_here.ensures.manifest c.body_here.ensures.writes c.body_here.ensures.sure

@@ -1,8 +1,0 @@
-use Rattle.esc_store.proofs.Sure.{as_before, told_all}
-use Rattle.esc_store.proofs.store.Store.see_objects.Goals as goal
-
-pub returns-clause-same : goal.returns-clause-same
-returns-clause-same g c = as_before g.S.Store c.args.self.now c.objects_here.new.self _ c.objects_here.result c.objects_here.ensures.manifest c.objects_here.ensures.writes c.objects_here.ensures.sure
-
-pub returns-clause-told : goal.returns-clause-told
-returns-clause-told g c = told_all g.S.Store c.args.self.now c.objects_here.new.self _ c.objects_here.result c.objects_here.ensures.manifest c.objects_here.ensures.writes c.objects_here.ensures.sure

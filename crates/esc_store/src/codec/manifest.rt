@@ -1,0 +1,184 @@
+//! A manifest in its table, and back.
+
+ghost use Rattle.std.specs.Prelude.{◌≡◌, ◌⊎◌, ℕ, List, map, option_map, string_bytes, IfOk, IfErr};
+ghost use Rattle.esc_envelope.specs.declared.place.DepositType.{DepositType as deposit_type};
+ghost use Rattle.esc_envelope.specs.Place.{rank};
+ghost use Rattle.esc_manifest.specs.declared.row.MRow.{MRow as manifest_row};
+ghost use Rattle.esc_rows.specs.Entries.{listed_row as stored_row};
+ghost use Rattle.esc_store.specs.TypedRows.{listed_row, listed_from};
+
+use crate::codec::small;
+use crate::fault::SFault;
+use esc_envelope::{DepositType, Header, Place};
+use esc_manifest::{MRow, Manifest, from_rows};
+use esc_rows::listed::Listed;
+use std::alloc::Global;
+
+// The number of a type in the tables.
+fn type_number(kind: DepositType) -> u32
+    ensures { result ≡ rank kind }
+{
+    match kind {
+        DepositType::Diff => 0,
+        DepositType::Incr => 1,
+        DepositType::Full => 2,
+    }
+}
+
+// The type that a number is for.
+fn type_of(number: u32) -> Result<DepositType, SFault>
+    ensures kind { IfOk result (λ k. (t : deposit_type) → number ≡ rank t → k ≡ t) }
+    ensures cause { IfErr result (λ fault. fault ≡ SFault.S1) }
+{
+    match number {
+        0 => Ok(DepositType::Diff),
+        1 => Ok(DepositType::Incr),
+        2 => Ok(DepositType::Full),
+        _ => Err(SFault::S1),
+    }
+}
+
+// A text that there may be.
+fn copy_of(alloc: Global, text: &Option<String>) -> Result<Option<String>, SFault>
+    ensures text { IfOk result (λ t. option_map string_bytes t ≡ option_map string_bytes text.now) }
+    ensures cause { IfErr result (λ fault. fault ≡ SFault.S2) }
+{
+    match text {
+        Some(text) => Ok(Some(String::from_str(alloc, text.as_str())?)),
+        None => Ok(None),
+    }
+}
+
+// A row of a manifest as its table keeps it.
+fn stored_listed(alloc: Global, number: usize, row: &MRow) -> Result<Listed, SFault>
+    ensures row { IfOk result (λ l. stored_row l ≡ listed_row number row.now) }
+    ensures cause { IfErr result (λ fault. (fault ≡ SFault.S1) ⊎ (fault ≡ SFault.S2)) }
+{
+    let header = &row.header;
+    Ok(Listed {
+        row: small(number)?,
+        id: String::from_str(alloc, header.id.as_str())?,
+        kind: type_number(header.place.kind),
+        watermark: header.place.watermark,
+        prev: copy_of(alloc, &header.prev)?,
+        resend: header.resend,
+        digest: Vec::from_slice(alloc, &row.digest)?,
+    })
+}
+
+// The rows of a manifest as their table keeps them.
+fn stored_manifest(alloc: Global, rows: &[MRow]) -> Result<Vec<Listed>, SFault>
+    ensures rows { IfOk result (λ stored. map stored_row stored.items ≡ listed_from 0 rows.now) }
+    ensures cause { IfErr result (λ fault. (fault ≡ SFault.S1) ⊎ (fault ≡ SFault.S2)) }
+{
+    let mut stored = Vec::new(alloc);
+    for at in 0..rows.len() {
+        let row = stored_listed(alloc, at, &rows[at])?;
+        stored.push(row)?;
+    }
+    Ok(stored)
+}
+
+// Rows equal to these.
+fn copied_rows(alloc: Global, rows: &[MRow]) -> Result<Vec<MRow>, SFault>
+    ensures rows { IfOk result (λ copies. copies.items ≡ rows.now) }
+    ensures cause { IfErr result (λ fault. fault ≡ SFault.S2) }
+{
+    let mut copies = Vec::new(alloc);
+    for row in rows {
+        copies.push(row.copy(alloc)?)?;
+    }
+    Ok(copies)
+}
+
+// The manifest of rows that make one.
+fn accepted(alloc: Global, rows: Vec<MRow>) -> Result<Manifest, SFault>
+    ensures rows { IfOk result (λ manifest. manifest ≡ rows.items) }
+    ensures cause { IfErr result (λ fault. fault ≡ SFault.S1) }
+{
+    match from_rows(alloc, rows) {
+        Ok(manifest) => Ok(manifest),
+        Err(_) => Err(SFault::S1),
+    }
+}
+
+// An equal manifest.
+fn copied_manifest(alloc: Global, manifest: &Manifest) -> Result<Manifest, SFault>
+    ensures same { IfOk result (λ copy. copy ≡ manifest.now) }
+    ensures cause { IfErr result (λ fault. (fault ≡ SFault.S1) ⊎ (fault ≡ SFault.S2)) }
+{
+    let rows = copied_rows(alloc, manifest.rows())?;
+    accepted(alloc, rows)
+}
+
+// The digest that bytes are.
+fn digest_of(bytes: &[u8]) -> Result<[u8; 32], SFault>
+    ensures digest { IfOk result (λ digest. digest ≡ bytes.now) }
+    ensures cause { IfErr result (λ fault. fault ≡ SFault.S1) }
+{
+    if bytes.len() != 32 {
+        return Err(SFault::S1);
+    }
+    match bytes.split_first_chunk::<32>() {
+        Some((digest, _)) => Ok(*digest),
+        None => Err(SFault::S1),
+    }
+}
+
+// The row of a manifest that a row of the table is of.
+fn manifest_row(alloc: Global, stored: &Listed) -> Result<MRow, SFault>
+    ensures row { IfOk result (λ row. (n : ℕ) (r : manifest_row) → stored_row stored.now ≡ listed_row n r → row ≡ r) }
+    ensures cause { IfErr result (λ fault. (fault ≡ SFault.S1) ⊎ (fault ≡ SFault.S2)) }
+{
+    let kind = type_of(stored.kind)?;
+    let digest = digest_of(stored.digest.as_slice())?;
+    let id = String::from_str(alloc, stored.id.as_str())?;
+    let prev = copy_of(alloc, &stored.prev)?;
+    Ok(MRow {
+        header: Header {
+            id,
+            place: Place {
+                watermark: stored.watermark,
+                kind,
+            },
+            prev,
+            resend: stored.resend,
+        },
+        digest,
+    })
+}
+
+fn manifest_rows(alloc: Global, stored: &[Listed]) -> Result<Vec<MRow>, SFault>
+    ensures rows { IfOk result (λ rows. (rs : List manifest_row) → map stored_row stored.now ≡ listed_from 0 rs → rows.items ≡ rs) }
+    ensures cause { IfErr result (λ fault. (fault ≡ SFault.S1) ⊎ (fault ≡ SFault.S2)) }
+{
+    let mut rows = Vec::new(alloc);
+    for at in 0..stored.len() {
+        let row = manifest_row(alloc, &stored[at])?;
+        rows.push(row)?;
+    }
+    Ok(rows)
+}
+
+// The manifest that the table keeps.
+pub(crate) fn kept_manifest(alloc: Global, stored: &[Listed]) -> Result<Manifest, SFault>
+    ensures manifest { IfOk result (λ manifest. (rs : List manifest_row) → map stored_row stored.now ≡ listed_from 0 rs → manifest ≡ rs) }
+    ensures cause { IfErr result (λ fault. (fault ≡ SFault.S1) ⊎ (fault ≡ SFault.S2)) }
+{
+    let rows = manifest_rows(alloc, stored)?;
+    accepted(alloc, rows)
+}
+
+// A manifest for the store to keep, and its rows for the table.
+pub(crate) fn both_forms(
+    alloc: Global,
+    manifest: &Manifest,
+) -> Result<(Manifest, Vec<Listed>), SFault>
+    ensures own { IfOk result (λ forms. forms.0 ≡ manifest.now) }
+    ensures rows { IfOk result (λ forms. map stored_row forms.1.items ≡ listed_from 0 manifest.now) }
+    ensures cause { IfErr result (λ fault. (fault ≡ SFault.S1) ⊎ (fault ≡ SFault.S2)) }
+{
+    let own = copied_manifest(alloc, manifest)?;
+    let rows = stored_manifest(alloc, manifest.rows())?;
+    Ok((own, rows))
+}

@@ -1,0 +1,229 @@
+//! Keys, objects and before-images as the tables keep them, and back.
+
+ghost use Rattle.std.specs.Prelude.{◌≡◌, Some, None, map, option_map, IfOk, IfErr, OnOk, IfSome, IsSome, [], ◌∷◌, ◌++◌, if◌then◌else◌};
+ghost use Rattle.std.specs.Option.{option_and_then};
+ghost use Rattle.esc_envelope.specs.Kinds.{kind_rank};
+ghost use Rattle.esc_record.specs.Record.{record_of};
+ghost use Rattle.esc_rows.specs.Entries.{image_of, object_of};
+ghost use Rattle.esc_store.specs.Faults.{IsS1OrS2};
+ghost use Rattle.esc_store.specs.Decoded.{AreObjectsOf, AreImagesOf};
+ghost use Rattle.std.specs.List.{IsDistinct};
+ghost use Rattle.std.specs.List.Sorted.{IsStrictlySortedBy};
+ghost use Rattle.std.specs.Map.{lookup, keys_of};
+ghost use Rattle.std.specs.BTreeMap.{IsOrdered};
+ghost use Rattle.esc_tables.specs.KeyName.{KeyName, key_cmp, key_eq};
+ghost use Rattle.esc_store.specs.Pages.{entry_row, stored_row};
+
+use crate::fault::SFault;
+use esc_envelope::Kind;
+use esc_record::{read_record, to_record};
+use esc_rows::object::StoredObject;
+use esc_rows::undo::StoredImage;
+use esc_tables::{Key, Object};
+use std::alloc::Global;
+use std::collections::BTreeMap;
+
+// The number of a kind in the tables.
+pub(crate) fn kind_number(kind: Kind) -> u32
+    ensures { result ≡ kind_rank kind }
+{
+    match kind {
+        Kind::Registrar => 0,
+        Kind::Contact => 1,
+        Kind::Host => 2,
+        Kind::Domain => 3,
+        Kind::Idn => 4,
+        Kind::Nndn => 5,
+    }
+}
+
+// The kind that a number in the tables is for. `S1` where it is for none.
+fn kind_of(number: u32) -> Result<Kind, SFault>
+    ensures kind { IfOk result (λ kind. number ≡ kind_rank kind) }
+    ensures cause { IfErr result IsS1OrS2 }
+{
+    match number {
+        0 => Ok(Kind::Registrar),
+        1 => Ok(Kind::Contact),
+        2 => Ok(Kind::Host),
+        3 => Ok(Kind::Domain),
+        4 => Ok(Kind::Idn),
+        5 => Ok(Kind::Nndn),
+        _ => Err(SFault::S1),
+    }
+}
+
+// The key of a kind's number and a text's bytes. `S1` where they are of none; `S2`.
+fn key_of(alloc: Global, kind: u32, text: &[u8]) -> Result<Key, SFault>
+    ensures kind { IfOk result (λ key. kind ≡ kind_rank key.kind) }
+    ensures text { IfOk result (λ key. text.now ≡ key.text) }
+    ensures cause { IfErr result IsS1OrS2 }
+{
+    let kind = kind_of(kind)?;
+    match str::from_utf8(text) {
+        Ok(text) => Ok(Key {
+            kind,
+            text: String::from_str(alloc, text)?,
+        }),
+        Err(_) => Err(SFault::S1),
+    }
+}
+
+// The record of an object. `S1` where it has none; `S2`.
+pub(crate) fn record_bytes(alloc: Global, o: &Object) -> Result<Vec<u8>, SFault>
+    ensures record { IfOk result (λ bytes. record_of o.now ≡ Some bytes.items) }
+    ensures cause { IfErr result IsS1OrS2 }
+{
+    match to_record(alloc, o)? {
+        Some(record) => Ok(record),
+        None => Err(SFault::S1),
+    }
+}
+
+// The object of a record. `S1` where the bytes are no record; `S2`.
+pub(crate) fn record_object(alloc: Global, bytes: &[u8]) -> Result<Object, SFault>
+    ensures object { IfOk result (λ object. record_of object ≡ Some bytes.now) }
+    ensures cause { IfErr result IsS1OrS2 }
+{
+    match read_record(alloc, bytes)? {
+        Some(object) => Ok(object),
+        None => Err(SFault::S1),
+    }
+}
+
+// The object that a record is of, if there is one. `S1` where the bytes are no record; `S2`.
+pub(crate) fn object_in(alloc: Global, found: Option<Vec<u8>>) -> Result<Option<Object>, SFault>
+    ensures object { IfOk result (λ object. (o : _) → option_map (λ b. b.items) found ≡ option_and_then record_of o → IfSome o (λ x. IsSome (record_of x)) → object ≡ o) }
+    ensures cause { IfErr result IsS1OrS2 }
+{
+    match found {
+        Some(record) => Ok(Some(record_object(alloc, record.as_slice())?)),
+        None => Ok(None),
+    }
+}
+
+// Adds what stands at a key. `S1` where something stands there, since a key has one row at most; `S2`.
+fn add_new<X: Drop>(all: &mut BTreeMap<Key, X>, key: Key, value: X) -> Result<(), SFault>
+    ensures absent { OnOk result (lookup (key_eq key) all.old.entries ≡ None) }
+    ensures added { OnOk result ((q : KeyName) → lookup (key_eq q) all.new.entries ≡ (if key_eq key q then Some value else lookup (key_eq q) all.old.entries)) }
+    ensures ordered { IsOrdered key_cmp all.new }
+    ensures cause { IfErr result IsS1OrS2 }
+{
+    match all.insert(key, value) {
+        Ok(None) => Ok(()),
+        Ok(Some(_)) => Err(SFault::S1),
+        Err(_) => Err(SFault::S2),
+    }
+}
+
+// Adds the object of a row.
+fn add_object(
+    alloc: Global,
+    objects: &mut BTreeMap<Key, Object>,
+    stored: &StoredObject,
+) -> Result<(), SFault>
+    ensures added { OnOk result ((rows : _) → AreObjectsOf rows objects.old.entries → AreObjectsOf (rows ++ object_of stored.now ∷ []) objects.new.entries) }
+    ensures ordered { OnOk result (IsOrdered key_cmp objects.new) }
+    ensures cause { IfErr result IsS1OrS2 }
+{
+    let key = key_of(alloc, stored.kind, stored.key.as_slice())?;
+    let object = record_object(alloc, stored.record.as_slice())?;
+    add_new(objects, key, object)
+}
+
+// The objects of all rows of the table of objects. `S1` where they are of none; `S2`.
+pub(crate) fn objects_of(
+    alloc: Global,
+    stored: &[StoredObject],
+) -> Result<BTreeMap<Key, Object>, SFault>
+    ensures once { IfOk result (λ objects. IsDistinct key_eq (keys_of objects.entries)) }
+    ensures each { IfOk result (λ objects. AreObjectsOf (map object_of stored.now) objects.entries) }
+    ensures cause { IfErr result IsS1OrS2 }
+{
+    let mut objects = BTreeMap::new(alloc);
+    for at in 0..stored.len() {
+        add_object(alloc, &mut objects, &stored[at])?;
+    }
+    Ok(objects)
+}
+
+// The key and the object of a row.
+fn entry_of(alloc: Global, stored: &StoredObject) -> Result<(Key, Object), SFault>
+    ensures entry { IfOk result (λ entry. entry_row entry ≡ stored_row (object_of stored.now)) }
+    ensures cause { IfErr result IsS1OrS2 }
+{
+    let key = key_of(alloc, stored.kind, stored.key.as_slice())?;
+    let object = record_object(alloc, stored.record.as_slice())?;
+    Ok((key, object))
+}
+
+// The keys and objects of rows, in their order. `S1` where they are of none; `S2`.
+pub(crate) fn entries_of(
+    alloc: Global,
+    stored: &[StoredObject],
+) -> Result<Vec<(Key, Object)>, SFault>
+    ensures entries { IfOk result (λ entries. map entry_row entries.items ≡ map (λ it. stored_row (object_of it)) stored.now) }
+    ensures cause { IfErr result IsS1OrS2 }
+{
+    let mut entries = Vec::new(alloc);
+    for at in 0..stored.len() {
+        let entry = entry_of(alloc, &stored[at])?;
+        entries.push(entry)?;
+    }
+    Ok(entries)
+}
+
+// What stood at a key before a step: the object of the row's record, or none.
+fn before_of(alloc: Global, stored: &StoredImage) -> Result<Option<Object>, SFault>
+    ensures before { IfOk result (λ before. option_map record_of before ≡ option_map (λ bytes. Some bytes) (image_of stored.now).bytes) }
+    ensures cause { IfErr result IsS1OrS2 }
+{
+    match &stored.record {
+        Some(bytes) => Ok(Some(record_object(alloc, bytes.as_slice())?)),
+        None => Ok(None),
+    }
+}
+
+// Adds the before-image of a row.
+fn add_image(
+    alloc: Global,
+    images: &mut BTreeMap<Key, Option<Object>>,
+    stored: &StoredImage,
+) -> Result<(), SFault>
+    ensures added { OnOk result ((rows : _) → AreImagesOf rows images.old.entries → AreImagesOf (rows ++ image_of stored.now ∷ []) images.new.entries) }
+    ensures ordered { OnOk result (IsOrdered key_cmp images.new) }
+    ensures cause { IfErr result IsS1OrS2 }
+{
+    let key = key_of(alloc, stored.kind, stored.key.as_slice())?;
+    let before = before_of(alloc, stored)?;
+    add_new(images, key, before)
+}
+
+// The before-images of these rows, by their keys.
+fn images_by_key(
+    alloc: Global,
+    stored: &[StoredImage],
+) -> Result<BTreeMap<Key, Option<Object>>, SFault>
+    ensures ordered { IfOk result (λ images. IsOrdered key_cmp images) }
+    ensures each { IfOk result (λ images. AreImagesOf (map image_of stored.now) images.entries) }
+    ensures cause { IfErr result IsS1OrS2 }
+{
+    let mut images = BTreeMap::new(alloc);
+    for at in 0..stored.len() {
+        add_image(alloc, &mut images, &stored[at])?;
+    }
+    Ok(images)
+}
+
+// The before-images of these rows, in the order of keys. `S1` where they are of none; `S2`.
+pub(crate) fn images_of(
+    alloc: Global,
+    stored: &[StoredImage],
+) -> Result<Vec<(Key, Option<Object>)>, SFault>
+    ensures ordered { IfOk result (λ images. IsStrictlySortedBy key_cmp (keys_of images.items)) }
+    ensures each { IfOk result (λ images. AreImagesOf (map image_of stored.now) images.items) }
+    ensures cause { IfErr result IsS1OrS2 }
+{
+    let images = images_by_key(alloc, stored)?;
+    Ok(images.into_iter().collect(alloc)?)
+}

@@ -1,0 +1,63 @@
+//! The steps of a chain as the tables keep them, and back.
+
+ghost use Rattle.std.specs.Prelude.{◌≡◌, ℕ, List, map, IfOk, IfErr};
+ghost use Rattle.esc_rows.specs.Entries.{step_row};
+ghost use Rattle.esc_store.specs.Faults.{IsS1OrS2};
+ghost use Rattle.esc_store.specs.TypedRows.{steps_from};
+ghost use Rattle.esc_store.specs.Kept.{step_at};
+
+use crate::codec::small;
+use crate::fault::SFault;
+use esc_apply::Step;
+use esc_manifest::Manifest;
+use esc_rows::step::ChainStep;
+use std::alloc::Global;
+
+// The steps of a chain as their table keeps them, numbered from 1.
+pub(crate) fn stored_steps(alloc: Global, steps: &[Step]) -> Result<Vec<ChainStep>, SFault>
+    ensures rows { IfOk result (λ stored. map step_row stored.items ≡ steps_from 1 (map (λ step. step.row) steps.now)) }
+    ensures cause { IfErr result IsS1OrS2 }
+{
+    let mut stored = Vec::new(alloc);
+    for at in 0..steps.len() {
+        let pos = small(at + 1)?;
+        let row = small(steps[at].row)?;
+        stored.push(ChainStep { pos, row })?;
+    }
+    Ok(stored)
+}
+
+// The step that a row of the table of steps is of.
+fn step_of(manifest: &Manifest, stored: ChainStep) -> Result<Step, SFault>
+    ensures step { IfOk result (λ step. step ≡ step_at manifest.now stored.row) }
+    ensures cause { IfErr result IsS1OrS2 }
+{
+    let rows = manifest.rows();
+    let row = stored.row as usize;
+    if row >= rows.len() {
+        return Err(SFault::S1);
+    }
+    let listed = &rows[row].header;
+    Ok(Step {
+        row,
+        place: listed.place,
+        resend: listed.resend,
+    })
+}
+
+// The steps of all rows of the table of steps.
+pub(crate) fn steps_of(
+    alloc: Global,
+    manifest: &Manifest,
+    stored: &[ChainStep],
+) -> Result<Vec<Step>, SFault>
+    ensures steps { IfOk result (λ steps. (rows : List ℕ) → map step_row stored.now ≡ steps_from 1 rows → steps.items ≡ map (step_at manifest.now) rows) }
+    ensures cause { IfErr result IsS1OrS2 }
+{
+    let mut steps = Vec::new(alloc);
+    for at in 0..stored.len() {
+        let step = step_of(manifest, stored[at])?;
+        steps.push(step)?;
+    }
+    Ok(steps)
+}

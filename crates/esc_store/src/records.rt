@@ -1,0 +1,106 @@
+//! The records of objects and before-images in a change, by their keys.
+
+ghost use Rattle.std.specs.Prelude.{◌≡◌, Some, None, map, option_map, IfOk, OnOk, IfSome, IsSome};
+ghost use Rattle.std.specs.Option.{option_and_then};
+ghost use Rattle.sqlite.specs.Held.{state};
+ghost use Rattle.sqlite.specs.State.{HasCleanDisk};
+ghost use Rattle.esc_tables.specs.ObjectValue.{ObjectValue};
+ghost use Rattle.esc_record.specs.Record.{record_of};
+ghost use Rattle.esc_apply.specs.Registry.{State, empty, written, noted, taken};
+ghost use Rattle.esc_rows.specs.Entries.{image_of};
+ghost use Rattle.esc_store.specs.Decoded.{AreNotes};
+ghost use Rattle.esc_store.specs.Standing.{HoldsNow, Follows};
+
+use crate::change::Change;
+use crate::codec::object::kind_number;
+use crate::fault::SFault;
+use esc_rows::undo::StoredImage;
+use esc_tables::Key;
+use sqlite::Alter;
+use std::alloc::Global;
+
+impl<'a, S: Alter> Change<'a, S> {
+    // The record at a key, if there is one.
+    pub(crate) fn find_record(&mut self, k: &Key) -> Result<Option<Vec<u8>>, SFault>
+        ensures count { self.new.count ≡ self.old.count }
+        ensures follows { Follows S.Store self.old self.new }
+        ensures found { IfOk result (λ found. HasCleanDisk (state S.Store self.new.store.now.conn) → (s : State) → HoldsNow S.Store self.old s → (option_map (λ b. b.items) found ≡ option_and_then record_of (s.content k.now)) × IfSome (s.content k.now) (λ x. IsSome (record_of x)) × HoldsNow S.Store self.new s) }
+    {
+        self.store.find_here(kind_number(k.kind), k.text.as_bytes())
+    }
+
+    // Writes a record at a key.
+    pub(crate) fn put_record(&mut self, k: &Key, bytes: &[u8]) -> Result<(), SFault>
+        ensures count { self.new.count ≡ self.old.count }
+        ensures follows { Follows S.Store self.old self.new }
+        ensures written { OnOk result ((s : State) (o : ObjectValue) → record_of o ≡ Some bytes.now → HoldsNow S.Store self.old s → HoldsNow S.Store self.new (written s k.now (Some o))) }
+    {
+        self.store
+            .put_here(kind_number(k.kind), k.text.as_bytes(), bytes)
+    }
+
+    // Takes the record at a key away.
+    pub(crate) fn remove_record(&mut self, k: &Key) -> Result<(), SFault>
+        ensures count { self.new.count ≡ self.old.count }
+        ensures follows { Follows S.Store self.old self.new }
+        ensures written { OnOk result ((s : State) → HoldsNow S.Store self.old s → HoldsNow S.Store self.new (written s k.now None)) }
+    {
+        self.store
+            .remove_here(kind_number(k.kind), k.text.as_bytes())
+    }
+
+    // Notes the record that stood at a key before a step, or that none did.
+    pub(crate) fn note_record(
+        &mut self,
+        step: u32,
+        k: &Key,
+        before: Option<&[u8]>,
+    ) -> Result<(), SFault>
+        ensures count { self.new.count ≡ self.old.count }
+        ensures follows { Follows S.Store self.old self.new }
+        ensures noted { OnOk result ((s : State) (o : _) → option_and_then record_of o ≡ option_map (λ b. b.now) before.entry → IfSome o (λ x. IsSome (record_of x)) → HoldsNow S.Store self.old s → HoldsNow S.Store self.new (noted s step k.now o)) }
+    {
+        self.store
+            .note_here(step, kind_number(k.kind), k.text.as_bytes(), before)
+    }
+
+    // What was noted of a step.
+    pub(crate) fn find_notes(
+        &mut self,
+        alloc: Global,
+        step: u32,
+    ) -> Result<Vec<StoredImage>, SFault>
+        ensures count { self.new.count ≡ self.old.count }
+        ensures follows { Follows S.Store self.old self.new }
+        ensures found { IfOk result (λ found. HasCleanDisk (state S.Store self.new.store.now.conn) → (s : State) → HoldsNow S.Store self.old s → AreNotes step s (map image_of found.items) × HoldsNow S.Store self.new s) }
+    {
+        self.store.notes_here(alloc, step)
+    }
+
+    // Forgets what was noted of a step.
+    pub(crate) fn forget_records(&mut self, step: u32) -> Result<(), SFault>
+        ensures count { self.new.count ≡ self.old.count }
+        ensures follows { Follows S.Store self.old self.new }
+        ensures taken { OnOk result ((s : State) → HoldsNow S.Store self.old s → HoldsNow S.Store self.new (taken s step)) }
+    {
+        self.store.forget_here(step)
+    }
+
+    // Takes all records away.
+    pub(crate) fn clear_records(&mut self) -> Result<(), SFault>
+        ensures count { self.new.count ≡ self.old.count }
+        ensures follows { Follows S.Store self.old self.new }
+        ensures cleared { OnOk result ((s : State) → HoldsNow S.Store self.old s → HoldsNow S.Store self.new (record { content = empty.content; undo = s.undo })) }
+    {
+        self.store.clear_objects_here()
+    }
+
+    // Forgets what was noted of all steps.
+    pub(crate) fn clear_notes(&mut self) -> Result<(), SFault>
+        ensures count { self.new.count ≡ self.old.count }
+        ensures follows { Follows S.Store self.old self.new }
+        ensures cleared { OnOk result ((s : State) → HoldsNow S.Store self.old (record { content = empty.content; undo = s.undo }) → HoldsNow S.Store self.new empty) }
+    {
+        self.store.clear_undo_here()
+    }
+}
