@@ -145,7 +145,7 @@ fn fill_change<S: Alter>(
 {
     change.record_receipt(number, receipt)?;
     change.hold(row, body)?;
-    let work = move_chain(change, alloc, &plan.old, &plan.new, &plan.deposits)?;
+    let work = move_chain(alloc, change, &plan.old, &plan.new, &plan.deposits)?;
     change.set_chain(&plan.new)?;
     Ok(work)
 }

@@ -32,7 +32,7 @@ fn move_along<R: Registry>(
     assert!(rt; old.len() <= 4096 && new.len() <= 4096);
     let front = common_front(old, new);
     assert_eq!(rt; Some(deposits.len()), new.len().checked_sub(front));
-    move_chain(r, alloc, old, new, deposits)
+    move_chain(alloc, r, old, new, deposits)
 }
 
 fn go<R: Registry>(
@@ -189,7 +189,7 @@ fn moves(rt: HostRuntime) {
 fn push_applied(text: &mut String, alloc: Global, r: &mut MemRegistry) -> Result<(), NoMemory> {
     for (step, body) in [(1, &F1), (2, &D2), (3, &D3)] {
         let deposit = deposit(alloc, body)?;
-        let writes = apply_step(r, alloc, step, &deposit)?;
+        let writes = apply_step(alloc, r, step, &deposit)?;
         writeln!(text, "{step} on, {writes}")?;
     }
     Ok(())
@@ -217,7 +217,7 @@ fn push_undone(
     r: &mut MemRegistry,
     step: u32,
 ) -> Result<(), NoMemory> {
-    let undone = undo_step(r, alloc, step)?;
+    let undone = undo_step(alloc, r, step)?;
     let writes = r.writes();
     write!(text, "{step} back, {undone} of {writes}:")?;
     push_domains(text, alloc, r)
