@@ -1,6 +1,6 @@
 //! Steps are taken back.
 
-ghost use Rattle.std.specs.Prelude.{◌≡◌, ◌+◌, ◌≤◌, List, length, take, drop, sum_by, IfOk};
+ghost use Rattle.std.specs.Prelude.{◌≡◌, ◌+◌, ◌≤◌, ◌++◌, ◌∷◌, [], List, length, take, drop, sum_by, IfOk};
 ghost use Rattle.esc_tables.specs.DepositValue.{DepositValue};
 ghost use Rattle.esc_apply.specs.Tables.{mention_count};
 ghost use Rattle.esc_apply.specs.Registry.{State, restored, saturated, HasSize};
@@ -9,12 +9,17 @@ ghost use Rattle.esc_apply.specs.Images.{chain_state};
 use crate::registry::Registry;
 use std::alloc::Global;
 
-/// Puts back what stood before step `pos` at each key of which it was noted. Answers the number of writes: one for
-/// each of these before-images.
-pub fn undo_step<R: Registry>(r: &mut R, alloc: Global, pos: u32) -> Result<u64, R::Error>
+/// Puts back what stood before step `pos` at each key of which it was noted: a registry that holds the tables and
+/// before-images of a chain with this step as its last holds afterwards those of the chain without it. Returns the number
+/// of writes: one for each of these before-images, which are the keys that the step's deposit mentions.
+pub fn undo_step<R: Registry>(alloc: Global, r: &mut R, pos: u32) -> Result<u64, R::Error>
     ensures follows { R.follows r.old r.new }
     ensures counted { IfOk result (λ n. R.count r.new ≡ saturated (R.count r.old + n)) }
-    ensures restored { IfOk result (λ n. R.is_honest r.new → (s : State) → R.holds r.old s → HasSize (s.undo pos) n × R.holds r.new (restored s pos)) }
+    ensures undone { IfOk result (λ n. R.is_honest r.new → (c : List DepositValue)
+        (d : DepositValue) → length c + 1 ≡ pos → R.holds r.old (chain_state (c ++ d ∷ []))
+        → R.holds r.new (chain_state c) × (n ≡ mention_count d)) }
+    ensures restored { IfOk result (λ n. R.is_honest r.new → (s : State) → R.holds r.old s
+        → HasSize (s.undo pos) n × R.holds r.new (restored s pos)) }
 {
     let befores = r.take_undo(alloc, pos)?;
     for entry in &befores {
@@ -43,7 +48,7 @@ pub(crate) fn undo_to<R: Registry>(
     let mut writes: u64 = 0;
     let mut left = steps;
     while left > front {
-        writes = writes.saturating_add(undo_step(r, alloc, left)?);
+        writes = writes.saturating_add(undo_step(alloc, r, left)?);
         left -= 1;
     }
     Ok(writes)

@@ -1,6 +1,6 @@
 //! Deposits are applied.
 
-ghost use Rattle.std.specs.Prelude.{◌≡◌, ◌+◌, ◌<◌, ◌^◌, ◌&&◌, ◌++◌, not, is_some, Some, None, List, length, map, sum_by, IfOk, OnOk};
+ghost use Rattle.std.specs.Prelude.{◌≡◌, ◌+◌, ◌<◌, ◌^◌, ◌&&◌, ◌++◌, ◌∷◌, [], not, is_some, Some, None, List, length, map, sum_by, IfOk, OnOk};
 ghost use Rattle.std.specs.List.{list_any};
 ghost use Rattle.std.specs.Map.{lookup};
 ghost use Rattle.std.specs.Option.{option_copied};
@@ -19,18 +19,24 @@ use esc_tables::{Deposit, Key, Object};
 use std::alloc::Global;
 use std::collections::{BTreeMap, BTreeSet};
 
-/// Applies a deposit as step `pos`, and notes what stood at each key that it mentions. Answers the number of writes:
-/// one for each key that it mentions.
+/// Applies a deposit as step `pos`, and notes what stood at each key that it mentions: a registry that holds the tables
+/// and before-images of the steps before holds afterwards those of these steps and this one. Returns the number of
+/// writes: one for each key that the deposit mentions.
 pub fn apply_step<R: Registry>(
-    r: &mut R,
     alloc: Global,
+    r: &mut R,
     pos: u32,
     d: &Deposit,
 ) -> Result<u64, R::Error>
     ensures follows { R.follows r.old r.new }
     ensures number { IfOk result (λ n. n ≡ mention_count d.now) }
-    ensures counted { OnOk result (R.count r.new ≡ saturated (R.count r.old + mention_count d.now)) }
-    ensures stepped { OnOk result (R.is_honest r.new → (s : State) → R.holds r.old s → s.undo pos ≡ nothing → R.holds r.new (stepped s pos d.now)) }
+    ensures counted { OnOk result (R.count r.new
+        ≡ saturated (R.count r.old + mention_count d.now)) }
+    ensures applied { OnOk result (R.is_honest r.new → (c : List DepositValue)
+        → length c + 1 ≡ pos → R.holds r.old (chain_state c)
+        → R.holds r.new (chain_state (c ++ d.now ∷ []))) }
+    ensures stepped { OnOk result (R.is_honest r.new → (s : State) → R.holds r.old s
+        → s.undo pos ≡ nothing → R.holds r.new (stepped s pos d.now)) }
 {
     let deletes = plain_deletes(alloc, deletes_of(d), &d.contents)?;
     put_contents(r, alloc, pos, &d.contents)?;
@@ -56,7 +62,7 @@ pub(crate) fn apply_all<R: Registry>(
     let mut writes: u64 = 0;
     for d in deposits {
         pos += 1;
-        writes = writes.saturating_add(apply_step(r, alloc, pos, d)?);
+        writes = writes.saturating_add(apply_step(alloc, r, pos, d)?);
     }
     Ok(writes)
 }

@@ -35,8 +35,8 @@ pub struct Work {
 /// of them, as many as are common, followed by `deposits`. The work is what the move costs, and the registry's count
 /// has grown by its writes.
 pub fn move_chain<R: Registry>(
-    r: &mut R,
     alloc: Global,
+    r: &mut R,
     old: &[Step],
     new: &[Step],
     deposits: &[Deposit],

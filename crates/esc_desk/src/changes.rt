@@ -149,7 +149,7 @@ fn fill_change<S: Alter>(
 {
     let number = change.record_receipt(receipt)?;
     change.hold(row, body)?;
-    let work = move_chain(change, alloc, &plan.old, &plan.new, &plan.deposits)?;
+    let work = move_chain(alloc, change, &plan.old, &plan.new, &plan.deposits)?;
     change.set_chain(&plan.new)?;
     Ok((number, work))
 }

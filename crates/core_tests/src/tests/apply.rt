@@ -29,7 +29,7 @@ fn move_along<R: Registry>(
     assert!(rt; old.len() <= 4096 && new.len() <= 4096);
     let front = common_front(old, new);
     assert_eq!(rt; Some(deposits.len()), new.len().checked_sub(front));
-    move_chain(r, alloc, old, new, deposits)
+    move_chain(alloc, r, old, new, deposits)
 }
 
 fn go<R: Registry>(
@@ -196,7 +196,7 @@ fn push_step(
         return Ok(());
     };
     let deposit = deposit(alloc, &body)?;
-    let writes = apply_step(r, alloc, step, &deposit)?;
+    let writes = apply_step(alloc, r, step, &deposit)?;
     writeln!(text, "{step} on, {writes}")?;
     Ok(())
 }
@@ -230,7 +230,7 @@ fn push_undone(
     r: &mut MemRegistry,
     step: u32,
 ) -> Result<(), NoMemory> {
-    let undone = undo_step(r, alloc, step)?;
+    let undone = undo_step(alloc, r, step)?;
     let writes = r.writes();
     write!(text, "{step} back, {undone} of {writes}:")?;
     push_domains(text, alloc, r)

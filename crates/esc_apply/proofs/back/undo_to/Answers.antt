@@ -1,6 +1,5 @@
-use Rattle.std.proofs.Common.{◌≡◌, ◌+◌, ◌-◌, ◌<◌, ℕ, suc, length, take, arith}
+use Rattle.std.proofs.Common.{◌≡◌, ◌+◌, ◌-◌, ◌<◌, ℕ, suc, length, arith}
 use Rattle.esc_apply.specs.Registry.{saturated}
-use Rattle.esc_apply.specs.Images.{chain_state}
 use Rattle.esc_apply.proofs.Chains.{one_less}
 use Rattle.esc_apply.proofs.back.undo_to.Goals as goal
 
@@ -20,9 +19,8 @@ loop-left-preserved g c =
       counted = counted_on (registry.count c.args.r.now) (registry.count c.loop-left.r) (registry.count c.undo_step.new.r) c.in_ok-undo_step.field-0 c.loop-left.writes c.saturating_add-writes.result before.counted made.counted c.saturating_add-writes.ensures;
       chain = λ honest k len held.
           let now = before.chain (g.met.R.Registry.was_honest _ _ made.follows honest) k len held in
-          let undone = made.restored honest (chain_state (take left k)) now.0 in
           let is : left ≡ suc (left - 1) = omega arith in
           let below : left - 1 < length k = omega (arith, len, before.within) in
-          let less = one_less (registry.holds c.undo_step.new.r) k left (left - 1) c.loop-left.writes c.in_ok-undo_step.field-0 is below now.1 undone.0 undone.1 in
+          let less = one_less (registry.holds c.loop-left.r) (registry.holds c.undo_step.new.r) k left (left - 1) c.loop-left.writes c.in_ok-undo_step.field-0 is below now.1 now.0 (made.undone honest) in
           (less.0, let sum = less.1 in let made = c.saturating_add-writes.ensures in cc);
     }

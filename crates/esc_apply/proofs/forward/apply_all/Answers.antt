@@ -2,8 +2,7 @@ use Rattle.std.proofs.Common.{◌≡◌, ◌+◌, ◌++◌, [], ◌∷◌, take,
 use Rattle.std.proofs.lemmas.List.{take_more}
 use Rattle.esc_tables.specs.DepositValue.{DepositValue}
 use Rattle.esc_apply.specs.Registry.{saturated}
-use Rattle.esc_apply.specs.Images.{chain_state}
-use Rattle.esc_apply.proofs.Chains.{fresh-chain, next_step, one_more, one_more_sum}
+use Rattle.esc_apply.proofs.Chains.{next_step, one_more, one_more_sum}
 use Rattle.esc_apply.proofs.forward.apply_all.Goals as goal
 
 pub loop-d-preserved : goal.loop-d-preserved
@@ -23,6 +22,5 @@ loop-d-preserved g c =
       chain = λ honest k len held.
           let now = before.chain (g.met.R.Registry.was_honest _ _ made.follows honest) k len held in
           let at = next_step k ds c.args.steps i c.loop-d.pos len (omega arith) before.at in
-          one_more (registry.holds c.apply_step.new.r) k ds i (c.loop-d.pos + 1) d
-          (made.stepped honest (chain_state (k ++ take i ds)) now (fresh-chain (k ++ take i ds) (c.loop-d.pos + 1) at)) at more;
+          one_more (registry.holds c.apply_step.new.r) k ds i d (made.applied honest (k ++ take i ds) at now) more;
     }
