@@ -1,6 +1,6 @@
 -- A disk of which one call fails, by the words of `sqlite_disk`, and where it fails.
-use Rattle.std.specs.Prelude.{◌≡◌, ◌≢◌, ℕ, Bool, ◌+◌, ◌-◌, ◌==◌, ◌&&◌, not, List, Option, None, Some}
-use Rattle.std.specs.Prelude.{if◌then◌else◌, Result, IsErr}
+use Rattle.std.specs.Prelude.{◌≡◌, ◌≢◌, ℕ, Bool, ◌+◌, ◌-◌, ◌==◌, ◌&&◌, not, List}
+use Rattle.std.specs.Prelude.{if◌then◌else◌, Option, None, Some, Result, IsErr}
 use Rattle.std.specs.declared.io.Error.{Error}
 use Rattle.sqlite_disk.specs.declared.Disk.{Ghosts}
 use Rattle.sqlite_disk.specs.declared.tally.Tally.{Tally}
@@ -55,8 +55,8 @@ module _ {D : Type 0} (g : Ghosts D) where
   faults f = g.faults f.inner + f.turn.refused
 
   -- the call that is to fail fails, and the disk below is as it was; any other call is that disk's,
-  -- where an error is a fault of its own (if `IsFault`); and the call that is to fail has come, or is
-  -- one call nearer
+  -- where an error is a fault of its own (if `IsFault`); and the call that is to fail has come, or
+  -- is one call nearer
   abbrev pub FailsWhereTold : {T : Type 0} → Type 0 → Result T Error
       → FlakyDisk D → FlakyDisk D → Type 0
   FailsWhereTold IsFault result old new =

@@ -1,7 +1,7 @@
 //! A disk of which one call fails.
 
-ghost use Rattle.std.specs.Prelude.{◌≡◌, ◌⊎◌, ◌+◌, ◌^◌, ◌<◌, ◌≤◌, ◌&&◌, ◌↔◌, ⊤, ℕ, not, true, false};
-ghost use Rattle.std.specs.Prelude.{List, length, take, drop, None, Some, is_none, is_ok, IsErr};
+ghost use Rattle.std.specs.Prelude.{◌≡◌, ◌⊎◌, ◌+◌, ◌^◌, ◌<◌, ◌≤◌, ◌&&◌, ◌↔◌, ⊤, ℕ, not};
+ghost use Rattle.std.specs.Prelude.{true, false, List, length, take, drop, None, Some, is_none, is_ok, IsErr};
 ghost use Rattle.std.specs.Prelude.{IsTrue, IfOk, OnOk};
 ghost use Rattle.sqlite_disk.specs.Disk.{Holds, Torn, Mixed, Cut, Follows, Only};
 ghost use Rattle.sqlite_disk.specs.Disk.{CountsFault, CountsFaultIf};

@@ -38,7 +38,8 @@ impl Read for FailingReader<'_> {
 
     fn read(&mut self, buf: &mut [u8]) -> io::Result<usize>
         ensures bound { ReadsAtMost result buf.new }
-        ensures bytes { ReadConsumes (Some (unread self.old)) (Some (unread self.new)) result buf.new }
+        ensures bytes { ReadConsumes (Some (unread self.old)) (Some (unread self.new))
+            result buf.new }
         ensures told { IsErr result ↔ (readable self.old ≡ 0) }
         ensures count { IfOk result (λ n. n ≡ passed (read_size self.old) (readable self.old)
             (length buf.old) (length (unread self.old))) }
@@ -100,7 +101,8 @@ impl Write for FailingWriter {
 
     fn write(&mut self, buf: &[u8]) -> io::Result<usize>
         ensures bound { WritesAtMost result buf.now }
-        ensures bytes { WriteAppends (Some (written self.old)) (Some (written self.new)) result buf.now }
+        ensures bytes { WriteAppends (Some (written self.old)) (Some (written self.new))
+            result buf.now }
         ensures told { writable self.old ≡ 0 → IsErr result }
         ensures otherwise { IfErr result (λ e. (writable self.old ≡ 0)
             ⊎ (error_kind e ≡ ErrorKind.OutOfMemory)) }
