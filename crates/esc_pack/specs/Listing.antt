@@ -18,11 +18,14 @@ pub record IsManifestOf (bodies : List (List ℕ)) (text : List ℕ) : Type 0 wh
 
 -- the body at this place has this refusal
 abbrev pub IsUnread : List (List ℕ) → ℕ → ℕ → Type 0
-IsUnread bodies bundle code = (bundle < length bodies) × (reading (slice_index_or bodies bundle []) ≡ Err code)
+IsUnread bodies bundle code =
+    (bundle < length bodies) × (reading (slice_index_or bodies bundle []) ≡ Err code)
 
 -- rows have this refusal: as rows, or since their text is too long for a manifest
 abbrev pub IsUnlisted : List MRow → ℕ → ℕ → Type 0
-IsUnlisted m code row = (rows_fault m ≡ Some (code, row)) ⊎ ((code ≡ 1) × (row ≡ 0) × (most_bytes < length (manifest_text m)))
+IsUnlisted m code row =
+    (rows_fault m ≡ Some (code, row))
+    ⊎ ((code ≡ 1) × (row ≡ 0) × (most_bytes < length (manifest_text m)))
 
 -- why there is no manifest of these bodies
 abbrev pub IsRefused : List (List ℕ) → ReleaseFault → Type 0

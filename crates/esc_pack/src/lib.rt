@@ -2,27 +2,29 @@
 //!
 //! # In and out
 //!
-//! `manifest_of_bundles` takes the bytes of bundles (`esc_bundle`) and gives the text of their release manifest
-//! (`esc_manifest`): the heading `id,type,watermark,prevId,resend,sha256`, and a line for each bundle, with what its
-//! deposit says of itself and the SHA-256 of its bytes. The lines are in the order of places, and at one place in that
-//! of resends, whatever the order of the bundles. An empty prevId is none, an empty resend is 0.
+//! `manifest_of_bundles` takes the bytes of bundles (`esc_bundle`) and gives the text of their
+//! release manifest (`esc_manifest`): the heading `id,type,watermark,prevId,resend,sha256`, and a
+//! line for each bundle, with what its deposit says of itself and the SHA-256 of its bytes. The
+//! lines are in the order of places, and at one place in that of resends, whatever the order of the
+//! bundles. An empty prevId is none, an empty resend is 0.
 //!
 //! ```text
 //! let text = manifest_of_bundles(alloc, &[first, second])?;
 //! // id,type,watermark,prevId,resend,sha256
-//! // F1,FULL,2024-03-01T00:00:00Z,,,16562601e50f76b8391773b7afc4ded6036443b972a1b5e12095bd3046d5ff2f
-//! // D2,DIFF,2024-03-02T00:00:00Z,F1,,fa22787c03f836243e0c214f4f840fd88ee4b916bff608b590372f652c9d5a5e
+//! // F1,FULL,2024-03-01T00:00:00Z,,,16562601e50f76b8..
+//! // D2,DIFF,2024-03-02T00:00:00Z,F1,,fa22787c03f83624..
 //! ```
 //!
-//! It refuses bundles of which one is no deposit (`Unread`, U1 to U11 at its place among them) and deposits that no
-//! manifest lists (`Unlisted`, M1 to M13 at a row), as two with one place and resend, or one id in two places.
+//! It refuses bundles of which one is no deposit (`Unread`, U1 to U11 at its place among them) and
+//! deposits that no manifest lists (`Unlisted`, M1 to M13 at a row), as two with one place and
+//! resend, or one id in two places.
 //!
 //! # What the contracts mean
 //!
-//! `specs/Release.antt` says what the rows of bundles are (`IsRelease`), `specs/Written.antt` what their text is, and
-//! `specs/Listing.antt` puts them together: a text that is given is the text of those rows, and `read_manifest` reads
-//! it as exactly those rows (`IsManifestOf`); a refusal is one that stands (`IsRefused`). So nothing is refused
-//! needlessly, but where memory is.
+//! `specs/Release.antt` says what the rows of bundles are (`IsRelease`), `specs/Written.antt` what
+//! their text is, and `specs/Listing.antt` puts them together: a text that is given is the text of
+//! those rows, and `read_manifest` reads it as exactly those rows (`IsManifestOf`); a refusal is one
+//! that stands (`IsRefused`), or that of memory, of which a contract says nothing.
 #![tactic(auto)]
 
 mod fault;

@@ -34,7 +34,8 @@ fn row_of_body(alloc: Global, body: &[u8]) -> Result<MRow, Fault>
 
 // The rows of bodies in their order.
 fn rows_of_bodies(alloc: Global, bodies: &[&[u8]]) -> Result<Vec<MRow>, ReleaseFault>
-    ensures rows { IfOk result (λ rows. map row_of_body (map (λ b. b.now) bodies.now) ≡ map Ok rows.items) }
+    ensures rows { IfOk result (λ rows.
+        map row_of_body (map (λ b. b.now) bodies.now) ≡ map Ok rows.items) }
     ensures refused { IfErr result (UnreadAlone (map (λ b. b.now) bodies.now)) }
 {
     let mut rows = Vec::new(alloc);
@@ -80,8 +81,9 @@ fn accepted(alloc: Global, rows: Vec<MRow>) -> Result<Manifest, ReleaseFault>
     }
 }
 
-/// The release manifest of these bundles: a row for each, with what its deposit says of itself and the SHA-256 of its
-/// bytes, in the order of places, and at one place by resend. `read_manifest` reads it as exactly these rows.
+/// The release manifest of these bundles: a row for each, with what its deposit says of itself and
+/// the SHA-256 of its bytes, in the order of places, and at one place by resend. `read_manifest`
+/// reads it as exactly these rows.
 ///
 /// # Errors
 ///

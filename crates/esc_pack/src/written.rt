@@ -1,12 +1,14 @@
 //! A release manifest as a text.
 
-ghost use Rattle.std.specs.Prelude.{◌≡◌, ◌++◌, ◌∷◌, [], All, Some, IfOk, OnOk, string_bytes, unwrap_or};
+ghost use Rattle.std.specs.Prelude.{◌≡◌, ◌++◌, ◌∷◌, [], All, Some, IfOk, OnOk};
+ghost use Rattle.std.specs.Prelude.{string_bytes, unwrap_or};
 ghost use Rattle.hex.specs.Hex.{encode_lower};
 ghost use Rattle.esc_envelope.specs.Watermark.{IsInYears, watermark_text_of};
 ghost use Rattle.esc_csv.specs.Lines.{line_text};
 ghost use Rattle.esc_manifest.specs.Accepted.{IsAccepted};
 ghost use Rattle.esc_manifest.specs.Fields.{moment_of, digest_of};
-ghost use Rattle.esc_pack.specs.Written.{heading, resend_field, row_line, rows_text, manifest_text, IsLegible};
+ghost use Rattle.esc_pack.specs.Written.{heading, resend_field, row_line, rows_text};
+ghost use Rattle.esc_pack.specs.Written.{manifest_text, IsLegible};
 
 use esc_bundle::NoMemory;
 use esc_csv::Lines;

@@ -1,0 +1,123 @@
+//! The words of the program, and what it does for them.
+
+use crate::files::read_bundles;
+use crate::stop::{DONE, Stop, USAGE, print, tell_stop};
+use clap::error::ErrorKind;
+use clap::{Arg, ArgMatches, Command, Error};
+use esc_pack::{ReleaseFault, manifest_of_bundles};
+use std::alloc::{AllocError, Global};
+use std::io::Write;
+
+const ABOUT: &str = "Makes the files of a release of registry escrow deposits";
+
+const DETAILS: &str = "\
+Example, with a folder of bundles named n1, n2 and so on:
+
+    pack manifest deposits/n1 deposits/n2 > manifest.csv
+    restore init --store desk.db --manifest manifest.csv
+
+Refusals go to standard error: E1 PATH (can't be read or written), E2 PATH (over 16,777,216 bytes),
+U1 to U11 with the path (the bundle is no deposit), M1, M7 and M10 to M13 with the row (no manifest
+lists these deposits; rows count from 1, in the order of places), S2 (no memory).
+Status: 0 done; 1 refused by E2, U or M; 2 other words; 3 stopped by E1 or S2.
+";
+
+const MANIFEST: &str = "Prints the release manifest of these bundles, in the order of places";
+
+fn manifest_command<'a>(alloc: Global) -> Result<Command<'a>, AllocError> {
+    let bundles = Arg::new(alloc, "bundle")
+        .value_name("BUNDLE")
+        .required(true)
+        .num_args(1..)
+        .help("The files of the bundles, in any order");
+    Command::new(alloc, "manifest").about(MANIFEST).arg(bundles)
+}
+
+fn command_line<'a>(alloc: Global) -> Result<Command<'a>, AllocError> {
+    Command::new(alloc, "pack")
+        .version("1")
+        .about(ABOUT)
+        .after_help(DETAILS)
+        .subcommand_required(true)
+        .arg_required_else_help(true)
+        .subcommand(manifest_command(alloc)?)
+}
+
+fn matches_of<'a>(alloc: Global, words: &'a [String]) -> Result<ArgMatches<'a>, Error> {
+    command_line(alloc)?.try_get_matches_from(words)
+}
+
+/// Runs the program on its words, of which the first is its name. Returns the status.
+pub fn run_words<O: Write, E: Write>(
+    rt: &HostRuntime,
+    words: &[String],
+    out: &mut O,
+    err: &mut E,
+) -> u8 {
+    let told = match matches_of(rt.alloc(), words) {
+        Ok(matches) => answer(rt, &matches),
+        Err(error) => return tell_error(rt, &error, out, err),
+    };
+    let printed = match told {
+        Ok(text) => print(rt, out, &text),
+        Err(stop) => Err(stop),
+    };
+    match printed {
+        Ok(()) => DONE,
+        Err(stop) => tell_stop(rt, err, &stop),
+    }
+}
+
+// What is printed for these words. `clap` has seen to it that there is a command with arguments.
+fn answer(rt: &HostRuntime, matches: &ArgMatches<'_>) -> Result<Vec<u8>, Stop> {
+    let Some((_, given)) = matches.subcommand() else {
+        return Ok(Vec::new(rt.alloc()));
+    };
+    match given.get_strs("bundle") {
+        Some(paths) => manifest(rt, paths),
+        None => Ok(Vec::new(rt.alloc())),
+    }
+}
+
+// `manifest BUNDLE..`: the release manifest of the bundles at these paths.
+fn manifest(rt: &HostRuntime, paths: &[&str]) -> Result<Vec<u8>, Stop> {
+    let files = read_bundles(rt, paths)?;
+    let mut bodies: Vec<&[u8]> = Vec::new(rt.alloc());
+    for file in &files {
+        bodies.push(file.as_slice())?;
+    }
+    match manifest_of_bundles(rt.alloc(), &bodies) {
+        Ok(text) => Ok(text),
+        Err(fault) => Err(stop_of(rt, paths, fault)),
+    }
+}
+
+// A fault, with the path of the bundle that has it.
+fn stop_of(rt: &HostRuntime, paths: &[&str], fault: ReleaseFault) -> Stop {
+    match fault {
+        ReleaseFault::Unread { bundle, code } => {
+            let path = paths.get(bundle).copied().unwrap_or("");
+            Stop::unread(rt, code, path)
+        }
+        ReleaseFault::Unlisted { code, row } => Stop::Unlisted { code, row },
+        ReleaseFault::NoMemory => Stop::NoMemory,
+    }
+}
+
+// Tells the help or the version that was asked for, or what is wrong with the words.
+fn tell_error<O: Write, E: Write>(rt: &HostRuntime, error: &Error, out: &mut O, err: &mut E) -> u8 {
+    if error.kind() == ErrorKind::OutOfMemory {
+        return tell_stop(rt, err, &Stop::NoMemory);
+    }
+    let Ok(text) = format!(in rt.alloc(); "{error}") else {
+        return tell_stop(rt, err, &Stop::NoMemory);
+    };
+    if error.use_stderr() {
+        let _ = err.write_all(text.as_bytes());
+        return USAGE;
+    }
+    match print(rt, out, text.as_bytes()) {
+        Ok(()) => DONE,
+        Err(stop) => tell_stop(rt, err, &stop),
+    }
+}

@@ -1,0 +1,48 @@
+//! `pack`: makes the files of a release.
+//!
+//! - `pack manifest BUNDLE..` prints the release manifest of these bundle files, in the order of
+//!   places ([`esc_pack::manifest_of_bundles`], whose contract says what it prints).
+//! - `pack --version`, `pack --help`.
+//!
+//! Refusals go to standard error, and no manifest is printed then: `E1 PATH` for a file that can't
+//! be read (`E1 -`: standard output can't be written), `E2 PATH` for one over 16,777,216 bytes,
+//! `U9 PATH` for a bundle that is no deposit, `M10 row 2` for deposits that no manifest lists, `S2`
+//! for want of memory. The status is 0 where all went well; 1 for E2, U and M; 2 for other words; 3
+//! for E1 and S2.
+//!
+//! By proof: that no call is unsafe and that each ends, whatever the words and files are.
+#![tactic(auto)]
+
+mod command_line;
+mod files;
+mod stop;
+
+use command_line::run_words;
+use std::env;
+use std::process::ExitCode;
+use stop::{Stop, tell_stop};
+
+fn main(rt: HostRuntime) -> ExitCode {
+    ExitCode::from(run(&rt))
+}
+
+// Runs the program on its words and its two streams.
+fn run(rt: &HostRuntime) -> u8 {
+    match given_words(rt) {
+        Ok(given) => run_words(rt, &given, &mut rt.stdout(), &mut rt.stderr()),
+        Err(stop) => tell_stop(rt, &mut rt.stderr(), &stop),
+    }
+}
+
+// The words, of which the first is the program's name.
+fn given_words(rt: &HostRuntime) -> Result<Vec<String>, Stop> {
+    let Ok(all) = env::args(rt) else {
+        return Err(Stop::NoMemory);
+    };
+    let mut given = Vec::new(rt.alloc());
+    given.push(String::from_str(rt.alloc(), "pack")?)?;
+    for word in all.skip(1) {
+        given.push(word)?;
+    }
+    Ok(given)
+}

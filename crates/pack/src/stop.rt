@@ -1,0 +1,110 @@
+//! What the program stops for, its statuses, and its two streams.
+
+use std::alloc::{AllocError, AllocFailed};
+use std::fmt;
+use std::io::{Error, ErrorKind, Write};
+
+/// All went well.
+pub const DONE: u8 = 0;
+
+/// A file that is refused.
+const REFUSED: u8 = 1;
+
+/// Other words than the program knows.
+pub const USAGE: u8 = 2;
+
+/// A file failed, or memory was refused.
+const STOPPED: u8 = 3;
+
+/// What the program stops for.
+#[derive(Debug, Drop)]
+pub enum Stop {
+    /// A file can't be read or written; standard output is `-`.
+    Unreadable(String),
+    /// A file has over 16,777,216 bytes.
+    TooLarge(String),
+    /// A bundle is no deposit, by the refusal of this number.
+    Unread { code: u8, path: String },
+    /// No manifest lists the deposits, by the refusal of this number at this row.
+    Unlisted { code: u8, row: u32 },
+    /// Memory was refused.
+    NoMemory,
+}
+
+impl Stop {
+    /// A file that can't be read or written.
+    pub fn unreadable(rt: &HostRuntime, path: &str, error: &Error) -> Stop {
+        if error.kind() == ErrorKind::OutOfMemory {
+            return Stop::NoMemory;
+        }
+        match String::from_str(rt.alloc(), path) {
+            Ok(path) => Stop::Unreadable(path),
+            Err(_) => Stop::NoMemory,
+        }
+    }
+
+    /// A file that is too large for a bundle.
+    pub fn too_large(rt: &HostRuntime, path: &str) -> Stop {
+        match String::from_str(rt.alloc(), path) {
+            Ok(path) => Stop::TooLarge(path),
+            Err(_) => Stop::NoMemory,
+        }
+    }
+
+    /// A bundle that is no deposit.
+    pub fn unread(rt: &HostRuntime, code: u8, path: &str) -> Stop {
+        match String::from_str(rt.alloc(), path) {
+            Ok(path) => Stop::Unread { code, path },
+            Err(_) => Stop::NoMemory,
+        }
+    }
+
+    /// The program's status.
+    pub fn status(&self) -> u8 {
+        match self {
+            Stop::TooLarge(_) | Stop::Unread { .. } | Stop::Unlisted { .. } => REFUSED,
+            Stop::Unreadable(_) | Stop::NoMemory => STOPPED,
+        }
+    }
+}
+
+impl fmt::Display for Stop {
+    fn fmt<W: fmt::Write>(&self, f: &mut fmt::Formatter<W>) -> fmt::Result {
+        match self {
+            Stop::Unreadable(path) => write!(f, "E1 {path}"),
+            Stop::TooLarge(path) => write!(f, "E2 {path}"),
+            Stop::Unread { code, path } => write!(f, "U{code} {path}"),
+            Stop::Unlisted { code, row } => write!(f, "M{code} row {row}"),
+            Stop::NoMemory => f.write_str("S2"),
+        }
+    }
+}
+
+impl From<AllocError> for Stop {
+    fn from(_refused: AllocError) -> Stop {
+        Stop::NoMemory
+    }
+}
+
+impl<T: Drop> From<AllocFailed<T>> for Stop {
+    fn from(_refused: AllocFailed<T>) -> Stop {
+        Stop::NoMemory
+    }
+}
+
+/// Prints on standard output, whose path is `-`.
+pub fn print<O: Write>(rt: &HostRuntime, out: &mut O, text: &[u8]) -> Result<(), Stop> {
+    match out.write_all(text) {
+        Ok(()) => Ok(()),
+        Err(error) => Err(Stop::unreadable(rt, "-", &error)),
+    }
+}
+
+/// Tells what the program stops for, and returns its status. Want of memory is told without any.
+pub fn tell_stop<E: Write>(rt: &HostRuntime, err: &mut E, stop: &Stop) -> u8 {
+    let _ = match format!(in rt.alloc(); "{stop}\n") {
+        Ok(line) => err.write_all(line.as_bytes()),
+        Err(_) => err.write_all(b"S2\n"),
+    };
+    stop.status()
+}
