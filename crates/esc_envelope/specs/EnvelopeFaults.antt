@@ -14,8 +14,10 @@ LacksMember json =
 -- the tables of what is, or those of what was deleted, are not declared rightly
 abbrev pub LacksTables : Data → Type 0
 LacksTables json =
-    ((values : List Data) × (array_of (codes "contents") json ≡ Some values) × (contents_in values ≡ None))
-    ⊎ ((values : List Data) × (array_of (codes "deletes") json ≡ Some values) × (deletes_in values ≡ None))
+    ((values : List Data) × (array_of (codes "contents") json ≡ Some values)
+    × (contents_in values ≡ None))
+    ⊎ ((values : List Data) × (array_of (codes "deletes") json ≡ Some values)
+    × (deletes_in values ≡ None))
 
 -- the refusal of this number stands
 abbrev pub Stands : List ℕ → ℕ → Type 0

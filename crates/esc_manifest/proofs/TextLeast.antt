@@ -1,14 +1,13 @@
 -- The fault that a text has is the least that stands.
-use Rattle.std.proofs.Common.{◌≡◌, ◌⊎◌, ℕ, suc, ◌+◌, ◌-◌, ◌<◌, ◌≤◌, Bool, true, false, List, [], ◌∷◌, length, drop, map, Option, Some, None, Result, Ok, Err, refl, sym, ap, subst, ◌∙◌, arith, inl, inr}
+use Rattle.std.proofs.Common.{◌≡◌, ◌⊎◌, ℕ, suc, ◌+◌, ◌-◌, ◌<◌, ◌≤◌, Bool, true, false, List, [], ◌∷◌, length, map, Option, Some, None, Err, refl, sym, ap, subst, ◌∙◌, arith, inl, inr}
 use Rattle.std.specs.Prelude.{◌==◌, nat_lt, position, if◌then◌else◌}
 use Rattle.std.proofs.lemmas.Bool.{cases_Bool, cases_lt}
 use Rattle.std.proofs.lemmas.Bool.Decides.{nat_tests}
 use Rattle.std.proofs.lemmas.List.{length-drop}
 use Rattle.esc_manifest.specs.declared.row.MRow.{MRow}
 use Rattle.esc_csv.specs.Records.{records_of}
-use Rattle.esc_manifest.specs.Fields.{row_of}
 use Rattle.esc_manifest.specs.LeastFault.{IsLeastOf, IsLeast, records_below, record_at, is_faulty, StandsAbove, StandsInText, IsLeastInText}
-use Rattle.esc_manifest.specs.Manifest.{most_bytes, has_other_length, lacks_heading, lacks_id, lacks_type, lacks_watermark, is_diff_alone, lacks_resend, lacks_digest, index_or, records_fault, typed_rows, fault_then, text_fault, unless, manifest_of}
+use Rattle.esc_manifest.specs.Manifest.{most_bytes, has_other_length, lacks_heading, lacks_id, lacks_type, lacks_watermark, is_diff_alone, lacks_resend, lacks_digest, records_fault, typed_rows, fault_then, text_fault, unless, manifest_of}
 use Rattle.esc_manifest.specs.RowFaults.{most_rows, fault_or, rows_fault}
 use Rattle.esc_manifest.proofs.LeastFrom.{first_of_list, LeastFrom, AtLeastRow, up, found, step, lower, fault_or_is, at_row, least_of, is_least, IsFirst}
 use Rattle.esc_manifest.proofs.RowLeast.{rows_least, least_rows}

@@ -1,5 +1,5 @@
--- The least fault of rows, of a text and of an extension: which faults stand, and at which rows (this
--- project's profile).
+-- The least fault of rows, of a text and of an extension: which faults stand, and at which rows
+-- (this project's profile).
 use Rattle.std.specs.Prelude.{◌≡◌, ◌⊎◌, ◌<◌, ◌≤◌, ◌+◌, ℕ, suc, List, [], length, take, drop, map, Bool, true, false, ◌==◌, Some, slice_index_or, if◌then◌else◌}
 use Rattle.std.specs.List.{list_any}
 use Rattle.esc_manifest.specs.declared.row.MRow.{MRow}
@@ -10,14 +10,14 @@ use Rattle.esc_manifest.specs.Manifest.{most_bytes, has_other_length, lacks_head
 use Rattle.esc_manifest.specs.RowFaults.{most_rows, has_bad_id, has_bad_watermark, lacks_prev, has_bad_resend, same_revision, moved_id, follows_later, same_digest}
 use Rattle.esc_manifest.specs.Rows.{row_at}
 
--- of faults, each a number with a row: this one stands, and no lesser number, nor the same number at a
--- lesser row
+-- of faults, each a number with a row: this one stands, and no lesser number, nor the same number
+-- at a lesser row
 abbrev pub IsLeastOf : (ℕ → ℕ → Type 0) → ℕ → ℕ → Type 0
 IsLeastOf stands code row =
     stands code row × ((k s : ℕ) → stands k s → (code < k) ⊎ ((code ≡ k) × (row ≤ s)))
 
--- row r of m, counted from 0, has the fault of this number: by itself, against an earlier row, or, for
--- M12, against any
+-- row r of m, counted from 0, has the fault of this number: by itself, against an earlier row, or,
+-- for M12, against any
 abbrev pub has_fault : List MRow → ℕ → ℕ → Bool
 has_fault m code r =
     if code == 4 then has_bad_id (row_at m r)
@@ -59,8 +59,8 @@ is_faulty fields code =
     else if code == 9 then lacks_digest fields
     else false
 
--- a fault stands in the whole of a text: M1; in its heading: M3; or in any record: M2, where the heading
--- is row 0
+-- a fault stands in the whole of a text: M1; in its heading: M3; or in any record: M2, where the
+-- heading is row 0
 abbrev pub StandsAbove : List ℕ → ℕ → ℕ → Type 0
 StandsAbove text code row =
     ((code ≡ 1) × (row ≡ 0)
@@ -86,4 +86,5 @@ IsLeastInText text code row =
 
 -- the least fault of the union of m and more, told at the row of `more` that is blamed
 abbrev pub IsLeastOfUnion : List MRow → List MRow → ℕ → ℕ → Type 0
-IsLeastOfUnion m more code row = (s : ℕ) × IsLeast (extended m more) code s × (row ≡ blamed code m more)
+IsLeastOfUnion m more code row =
+    (s : ℕ) × IsLeast (extended m more) code s × (row ≡ blamed code m more)
