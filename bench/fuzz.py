@@ -7,14 +7,15 @@ N bundles (2,000) are damaged by `mutations.py` and listed by their SHA-256, so 
 cut or broken off. `formats.py` reads the same bytes by the definitions, in plain Python: from it comes, to the byte, what
 the program has to print or respond, and its status; where the outcome is plain from how the input was made that is asked
 too. So each crash, each other status, each other text is wrong, and so is what does not end in time. After each folder and
-each server the C library's `integrity_check` has to say ok and the folder, taken again, has to get the same receipts. At
-last some bundles as large as a bundle may be are taken one by one, with their time and peak memory.
+each server the C library's `integrity_check` has to say ok and the folder, taken again, has to get the same receipts. Then
+a client of each kind holds its connection (`clients.py`), with a good one behind it, which has to get its response within a
+deadline. At last some bundles as large as a bundle may be are taken one by one, with their time and peak memory.
 
 It needs python3 alone, and the program, which `./sample` builds. Each wrong input stays in a folder, with how to run it
 again. The last line is `N inputs, wrong K`."""
 import argparse, collections, hashlib, json, os, random, re, resource, shutil, socket, sqlite3, struct, subprocess, sys
 import tempfile, time
-import formats, mutations, release, requests_made
+import clients, formats, mutations, release, requests_made
 
 HERE = os.path.dirname(os.path.abspath(__file__))
 arguments = argparse.ArgumentParser(description=__doc__, formatter_class=argparse.RawDescriptionHelpFormatter)
@@ -25,6 +26,7 @@ arguments.add_argument('--requests', type=int, default=2000)
 arguments.add_argument('--seed', type=int, default=1)
 arguments.add_argument('--memory', type=int, default=6, help='GB that a run may have')
 arguments.add_argument('--without-largest', action='store_true')
+arguments.add_argument('--without-clients', action='store_true', help='leave out those that hold their connection')
 arguments.add_argument('--keep', help='where wrong inputs are kept')
 given = arguments.parse_args()
 work = tempfile.mkdtemp(prefix='fuzz-')
@@ -56,6 +58,15 @@ def wrong(what, expected, got, **files):
         put(os.path.join(folder, name), content)
     put(os.path.join(folder, 'how'), f'{what}\nexpected {expected!r}\ngot {got!r}\n'.encode())
     print(f'WRONG {what}: {expected!r:.300}, got {got!r:.300}: {folder}', flush=True)
+
+
+def names_one_line(name):
+    """A name as a refusal tells it: in one line."""
+    escapes = {'\\': '\\\\', '\n': '\\n', '\r': '\\r', '\t': '\\t'}
+    is_control = lambda letter: letter < ' ' or '\x7f' <= letter <= '\x9f'
+    if not any(map(is_control, name)):
+        return name
+    return ''.join(escapes.get(it, f'\\u{{{ord(it):x}}}') if is_control(it) or it == '\\' else it for it in name)
 
 
 def put(path, content):
@@ -173,7 +184,8 @@ def folder_of(rng, rows):
     bodies += [mutations.flipped(rng, rows[0].body)]
     rng.shuffle(bodies)
     files = {name.encode(): body for name, body in zip(names(rng, len(bodies)), bodies)}
-    for name in rng.sample([b'a b', b'a' * 65, 'n\u00e9'.encode(), b'n\xff', b'a,b', b'n"', b'~', b'a:b', b'\x1b[2J', b'n\\'], 3):
+    for name in rng.sample([b'a b', b'a' * 65, 'n\u00e9'.encode(), b'n\xff', b'a,b', b'n"', b'~', b'a:b', b'\x1b[2J', b'n\\', b'a\nS1',
+                            b'a\\\r\x7f', 'a\u0085'.encode()], 3):
         files[name] = rows[0].body
     return files
 
@@ -185,7 +197,7 @@ def expected_take(files, receipts):
         if not formats.is_utf8(name):
             refusals.insert(0, b'N1 (a name that is no UTF-8)\n')
         elif not formats.is_id(name.decode()):
-            refusals.append(b'N1 ' + name + b'\n')
+            refusals.append(f'N1 {names_one_line(name.decode())}\n'.encode())
         else:
             reply = receipts.arrive(name.decode(), files[name])
             lines.append(receipt_line(reply))
@@ -396,6 +408,27 @@ def over_requests(batch, rng, rows, many):
     counts['inputs'] += len(rows) + many
 
 
+# Clients that hold their connection.
+
+def over_clients():
+    """A client of each kind on a desk of its own, and a good one behind it."""
+    number = 60_000
+    body = table_of(b''.join(b'%059d\n' % key for key in range(number)))
+    store, folder = os.path.join(work, 'held'), os.path.join(work, 'held-folder')
+    put(store + '.csv', (release.HEADING + release.line('L', 'FULL', '2024-04-01T00:00:00Z', '', '', body)).encode())
+    put(os.path.join(folder, 'n1'), body)
+    run('init', '--store', store, '--manifest', store + '.csv')
+    run('take', '--store', store, folder)
+    told = {f'/{what}': run('report', '--store', store, what)[1].decode() for what in ('status', 'gaps')}
+    told['/export/contact'] = run('export', '--store', store, 'contact')[1].decode()
+    for what, got, seconds, most, is_right in clients.over_each(given.restore, store, told, bounded):
+        line = f'{what:56} the next client after {seconds:5.1f} s of at most {most:5.1f}'
+        print(line, flush=True)
+        if not is_right:
+            wrong(f'client ({what})', f'the next one within {most} s', got)
+        counts['inputs'] += 1
+
+
 # The largest.
 
 def envelope_with(member):
@@ -493,6 +526,9 @@ def main():
         over_requests(batch, rng, mutated_release(rng, 25), min(250, given.requests - 250 * batch))
     arrivals = 25 * -(-given.requests // 250)
     said(f'{given.requests} requests and {arrivals} arrivals before them, the slowest {counts["slowest"]:.2f} s')
+    if not given.without_clients:
+        over_clients()
+        said('clients that hold their connection')
     if not given.without_largest:
         over_largest()
         said('the largest bundles')

@@ -7,8 +7,8 @@ read or written, one that is far too large, one that another process rewrites; a
 itself; standard output is closed, full or not read; the system allows no more bytes in a file, or no more open files. Looked
 for: each run ends within N seconds (10) with a status and a refusal of README.md, and a store that was there still has its
 receipts and tables and passes the C library's `integrity_check`. What doesn't end by itself (a pipe that nobody writes) is
-said as WAITS, and ended; what the system ends by a signal as SIGNAL. A run has at most 1 GB of memory: a manifest without an
-end is read until memory is refused.
+said as WAITS, and ended; what the system ends by a signal as SIGNAL. A run has at most 1 GB of memory, so that what is read
+without an end would show.
 
 It needs python3, and the program, which `./sample` builds; what asks for root (files that may not be read, device nodes) is
 left out without it. The last line is `N cases, M without end, K ended by a signal, wrong W`."""
@@ -87,7 +87,7 @@ def judge(what, got, *expected):
 
 
 def refused(path):
-    return 3, '', f'E1 {path}\n'
+    return 3, '', f'E1 {path or "(an empty path)"}\n'
 
 
 def stopped(fault):
@@ -199,20 +199,43 @@ def manifests():
     for what, path in not_files(at('manifests')).items():
         init(what, path, refused(path))
     init('a folder', at(), refused(at()))
-    init('no name', '', refused(''), (2, '', ''))
-    init('/dev/null', '/dev/null', (1, '', 'M3 row 0\n'))
+    init('no name', '', refused(''))
+    init('a name with a line end', at('a\nS1'), refused(at('a\\nS1')))
+    init('/dev/null', '/dev/null', refused('/dev/null'))
     init('/proc/self/mem', '/proc/self/mem', refused('/proc/self/mem'))
     init('/proc/version, whose length is told as 0', '/proc/version', (1, '', 'M2 row 0\n'))
     served = pipe(at('served.pipe'))
     written_late(served, text, 0.5)
-    init('a pipe that is written', served, LISTED)
-    init('a pipe that nobody opens', pipe(at('idle.pipe')))
+    init('a pipe that is written', served, refused(served))
+    init('a pipe that nobody opens', pipe(at('idle.pipe')), refused(at('idle.pipe')))
+    init('a link to that pipe', linked(at('pipe.csv'), at('idle.pipe')), refused(at('pipe.csv')))
     holder = os.open(pipe(at('held.pipe')), os.O_RDWR)
-    init('a pipe that is open and not written', at('held.pipe'))
+    init('a pipe that is open and not written', at('held.pipe'), refused(at('held.pipe')))
     os.close(holder)
-    init('5,000,000,000 bytes, with memory for 1 GB', sparse(at('huge.csv'), 5 * 10**9), (1, '', 'M1 row 0\n'), stopped('S2'))
-    init('/dev/zero, with memory for 1 GB', '/dev/zero', (1, '', 'M1 row 0\n'), stopped('S2'))
+    init('4,194,305 bytes', sparse(at('long.csv'), 4_194_305), (1, '', 'M1 row 0\n'))
+    init('5,000,000,000 bytes, with memory for 1 GB', sparse(at('huge.csv'), 5 * 10**9), (1, '', 'M1 row 0\n'))
+    init('/dev/zero, with memory for 1 GB', '/dev/zero', refused('/dev/zero'))
+    growing_manifest(text)
     rewritten_manifest(text)
+
+
+def growing_manifest(text):
+    """A manifest that grows while it is read, faster than that."""
+    path, going, seen = put(at('growing.csv'), text), True, set()
+    def grow():
+        with open(path, 'ab') as file:
+            while going and file.tell() < 10**9:
+                file.write(bytes(10**7))
+    writer = threading.Thread(target=grow)
+    writer.start()
+    for number in range(10):
+        seen.add(run('init', '--store', at(f'growing-{number}'), '--manifest', path))
+    going = False
+    writer.join()
+    os.remove(path)
+    last = (1, '', 'M1 row 0\n')
+    judge('manifest: growing while 10 times read', (0, '', '') if last in seen and seen <= {LISTED, last, (1, '', 'M2 row 8\n')}
+          else (1, repr(seen), ''), (0, '', ''))
 
 
 def rewritten_manifest(text):
@@ -249,18 +272,19 @@ NOTHING_TAKEN = 0, HEADING, ''
 
 def stores():
     s1, s3 = stopped('S1'), stopped('S3')
-    opened('a link to a file that is not there yet', linked(at('link.db'), at('linked.db')), [LISTED, s1], [NOTHING_TAKEN, s3])
-    opened('a folder', at(), [s1], [s1, s3])
+    opened('a link to a file that is not there yet', linked(at('link.db'), at('linked.db')), [refused(at('link.db'))], [s3])
+    opened('a folder', at(), [refused(at())], [refused(at())])
+    opened('a file in a folder that is not there', at('nowhere', 'a.db'), [refused(at('nowhere', 'a.db'))], [s3])
     for what, path in not_files(at('stores')).items():
         if what != 'a link to nothing':
-            expected = [LISTED] if what.endswith('not there') else [s1]
-            opened(what, path, expected, [NOTHING_TAKEN] if expected == [LISTED] else [s1, s3])
+            expected = [LISTED] if what.endswith('not there') else [refused(path)]
+            opened(what, path, expected, [NOTHING_TAKEN] if expected == [LISTED] else [refused(path)])
     opened('an empty file', put(at('empty.db'), b''), [LISTED], [NOTHING_TAKEN])
     opened('a text', put(at('text.db'), b'words\n' * 1000), [s1], [s1])
     opened('/dev/null', '/dev/null', [s1, s3], [s1, s3])
     opened('/dev/zero', '/dev/zero', [s1, s3], [s1, s3])
     opened('a pipe', pipe(at('pipe.db')), [s1, s3], [s1, s3])
-    opened('no name', '', [s1, s3], [s1, s3])
+    opened('no name', '', [refused('')], [s3])
     opened(':memory:', ':memory:', [s1], [s1, s3])
     log_beside()
     through_a_link()
@@ -333,7 +357,8 @@ def folders():
     for what, path in not_files(at('folders')).items():
         still(f'folder: {what}', *take(what, path, refused(path)))
     for what, path in (('a plain file', MANIFEST), ('a device', '/dev/null'), ('a pipe', pipe(at('pipe'))), ('no name', '')):
-        still(f'folder: {what}', *take(what, path, refused(path), *([(2, '', '')] if not path else [])))
+        still(f'folder: {what}', *take(what, path, refused(path)))
+    named()
     os.mkdir(at('nothing'))
     still('folder: nothing in it', *take('nothing in it', at('nothing'), NOTHING_TAKEN))
     mixed(deposits, whole)
@@ -357,6 +382,16 @@ def mixed(deposits, whole):
     if not os.geteuid():
         os.mknod(os.path.join(folder, 'device'), stat.S_IFCHR | 0o666, os.makedev(1, 5))
     still('folder: of all kinds', *take('links, a loop, a pipe, a socket, a folder and a device in it', folder, whole))
+
+
+def named():
+    """Names that are no numbers are told in one line each."""
+    folder = at('named')
+    os.mkdir(folder)
+    for name in (b'a\nS1', b'b\x1b[2J', b'c\\', b'd\\\t', b'e\xff'):
+        put(os.path.join(os.fsencode(folder), name), b'abc')
+    told = 'N1 (a name that is no UTF-8)\nN1 a\\nS1\nN1 b\\u{1b}[2J\nN1 c\\\nN1 d\\\\\\t\n'
+    still('folder: names of all kinds', *take('names with line ends and other bytes in it', folder, (1, HEADING, told)))
 
 
 def own_store():
@@ -411,7 +446,8 @@ def replaced(make):
 CHANGES = (
     ('goes', os.remove, lambda path: (3, '', f'E1 {path}\n')),
     ('becomes a folder', replaced(os.mkdir), lambda path: (3, '', f'E1 {path}\n')),
-    ('becomes a link', replaced(lambda path: linked(path, MANIFEST)), lambda path: (1, '9,z,A2,,,,,', '')),
+    ('becomes a link', replaced(lambda path: linked(path, MANIFEST)), lambda path: (3, '', f'E1 {path}\n')),
+    ('becomes a device', replaced(lambda path: linked(path, '/dev/zero')), lambda path: (3, '', f'E1 {path}\n')),
     ('becomes 17 MB', lambda path: sparse(path, 17 * 10**6), lambda path: (1, '', 'E2 z\n')),
     ('becomes a pipe', replaced(os.mkfifo), lambda path: (3, '', f'E1 {path}\n')),
 )
@@ -456,7 +492,8 @@ def forbidden():
           run('init', '--store', at('nobody.db'), '--manifest', at('closed', 'manifest.csv'), **nobody),
           refused(at('closed', 'manifest.csv')))
     judge('may not be written: the store\'s folder',
-          run('init', '--store', at('closed', 'new.db'), '--manifest', readable_manifest(), **nobody), stopped('S1'))
+          run('init', '--store', at('closed', 'new.db'), '--manifest', readable_manifest(), **nobody),
+          refused(at('closed', 'new.db')))
     for mode, what in ((0o600, 'may not be read: the store'), (0o644, 'may not be written: the store')):
         store = made('forbidden.db')
         before = told(store)
@@ -464,8 +501,7 @@ def forbidden():
             os.chmod(path, mode)
         for words in (('report', '--store', store, 'receipts'), ('take', '--store', store, at('closed')),
                       ('export', '--store', store, 'domain')):
-            judge(f'{what}, {words[0]}', run(*words, **nobody), stopped('S1'), refused(at('closed')),
-                  *((before[0], before[7]) if mode == 0o644 else ()))
+            judge(f'{what}, {words[0]}', run(*words, **nobody), refused(store))
         still(what, store, before)
     forbidden_files(nobody)
     os.chmod(work, 0o755)
@@ -556,16 +592,26 @@ def limits():
         resource.setrlimit(resource.RLIMIT_FSIZE, (60_000, 60_000))
     def few_files():
         resource.setrlimit(resource.RLIMIT_NOFILE, (4, 4))
-    for what, limit in (('files of at most 60,000 bytes', small_files), ('at most 4 open files', few_files)):
+    # (Python ignores the signal itself, and restores it for a child unless it is told not to)
+    for what, limit, restored in (('files of at most 60,000 bytes', small_files, True),
+                                  ('files of at most 60,000 bytes, the signal ignored', small_files, False),
+                                  ('at most 4 open files', few_files, True)):
         words = [given.restore, 'take', '--store', store, os.path.join(RELEASE, 'deposits')]
         child = subprocess.Popen(words, stdin=subprocess.DEVNULL, stdout=subprocess.PIPE, stderr=subprocess.PIPE,
-                                 preexec_fn=limit)
+                                 preexec_fn=limit, restore_signals=restored)
         status, out, err = finish(child)
         judge(f'limits: {what}', (status, '', err), (0, '', ''), (3, '', 'S1\n'), (-signal.SIGXFSZ, '', ''),
-              (3, '', f'E1 {os.path.join(RELEASE, "deposits")}\n'))
+              (3, '', f'E1 {os.path.join(RELEASE, "deposits")}\n'), (3, '', f'E1 {store}\n'))
         if not is_readable(store) or not run('report', '--store', store, 'receipts')[1].startswith(out):
             counts['wrong'] += 1
             print(f'WRONG limits: {what}: the store', flush=True)
+
+
+def words():
+    """A word that is no text."""
+    told = "error: invalid UTF-8 was detected in one or more arguments\n\nFor more information, try '--help'.\n"
+    for given_words in (('init', '--store', b'a\xff', '--manifest', MANIFEST), (b'\xff',), ('report', '--store', at('a'), b'\xc3')):
+        judge(f'words: {given_words[-1]!r:.40}, one that is no UTF-8', run(*given_words), (2, '', told))
 
 
 def main():
@@ -579,6 +625,7 @@ def main():
     else:
         forbidden()
     streams()
+    words()
     limits()
     ends = f'{counts["without end"]} without end, {counts["signals"]} ended by a signal'
     print(f'{counts["cases"]} cases, {ends}, wrong {counts["wrong"]}')

@@ -13,13 +13,14 @@
 //!
 //! Refusals go to standard error, one a line: `E1 PATH` for a file or folder that can't be read, listed or written, `E2 NAME`
 //! for a file over 16,777,216 bytes, `N1 NAME` for a name that is no number, `M12 row 2` for a manifest's fault, `S1` to `S4`
-//! of the store, `S3` also where there is no store FILE. Faults are found in this order: the words, the manifest, the store,
+//! of the store, `S3` also where there is no store FILE. A control character in a path or a name is escaped. Faults are found in this order: the words, the manifest, the store,
 //! the folder, then file by file. The status is 0 where all went well; 1 for a manifest's fault, or where `take` met N1, E2 or
 //! a verdict other than A1, and went on; 2 for other words; 3 for S1 to S4 and E1, where it stops.
 #![tactic(auto)]
 
-use esc_commands::{NO_MEMORY, Stop, run_words, tell_stop};
+use esc_commands::{NO_MEMORY, Stop, run_words, tell_no_text, tell_stop};
 use std::env;
+use std::io::ErrorKind;
 use std::net::{Net, TcpListener, TcpStream};
 use std::process::ExitCode;
 
@@ -33,19 +34,22 @@ where
     N: Net<Listener = TcpListener, Stream = TcpStream>,
 {
     match given_words(rt) {
-        Ok(given) => run_words(rt, net, &given, &mut rt.stdout(), &mut rt.stderr()),
+        Ok(Some(given)) => run_words(rt, net, &given, &mut rt.stdout(), &mut rt.stderr()),
+        Ok(None) => tell_no_text(&mut rt.stderr()),
         Err(stop) => tell_stop(rt, &mut rt.stderr(), &stop),
     }
 }
 
-// The words after the program's name.
-fn given_words(rt: &HostRuntime) -> Result<Vec<String>, Stop> {
-    let Ok(all) = env::args(rt) else {
-        return Err(NO_MEMORY);
+// The words after the program's name; none where one of them is no UTF-8.
+fn given_words(rt: &HostRuntime) -> Result<Option<Vec<String>>, Stop> {
+    let all = match env::args(rt) {
+        Ok(all) => all,
+        Err(error) if error.kind() == ErrorKind::OutOfMemory => return Err(NO_MEMORY),
+        Err(_) => return Ok(None),
     };
     let mut given = Vec::new(rt.alloc());
     for word in all.skip(1) {
         given.push(word)?;
     }
-    Ok(given)
+    Ok(Some(given))
 }

@@ -6,6 +6,7 @@ mod refusing;
 mod sockets;
 mod streams;
 mod taking;
+mod waiting;
 mod wording;
 mod worked;
 

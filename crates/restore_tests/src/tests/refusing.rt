@@ -1,9 +1,11 @@
 //! Manifests, stores and folders that are refused, and which of several refusals is told.
 
 use super::bodies::{F1, F5, FULLS};
-use super::{HEADING, Row, Scene, check, check_all, play_all, set_up};
+use super::{HEADING, Row, Scene, check, check_all, compare, play_all, set_up, words_of};
+use esc_commands::run_words;
 use sqlite::{Connection, Error};
 use std::fs;
+use std::os::unix::fs::symlink;
 use std::test::Fail;
 
 /// Manifests that are refused: none makes a store.
@@ -98,6 +100,13 @@ a b,DIFF,2024-03-04T00:00:00Z,F1,,ab3b8d41d2a3b790b6a3280a7c3cdf57c7c8626db31049
                 "",
                 "E1 manifests\n",
             ),
+            // A device is no file, and may have no end.
+            (
+                "init --store manifests/a.db --manifest /dev/zero",
+                3,
+                "",
+                "E1 /dev/zero\n",
+            ),
             ("report --store manifests/a.db status", 3, "", "S3\n"),
             (INIT, 0, "listed 0\n", ""),
             (
@@ -156,7 +165,7 @@ const STORES: Scene = Scene {
             "S3\n",
         ),
         ("take --store stores/text.db stores/nowhere", 3, "", "S1\n"),
-        ("take --store stores stores/nowhere", 3, "", "S1\n"),
+        ("take --store stores stores/nowhere", 3, "", "E1 stores\n"),
         ("take --store stores/empty.db stores/nowhere", 3, "", "S3\n"),
         (
             "take --store stores/others.db stores/nowhere",
@@ -195,10 +204,29 @@ const STORES: Scene = Scene {
             "init --store stores --manifest stores/listed.csv",
             3,
             "",
-            "S1\n",
+            "E1 stores\n",
         ),
         (
             "init --store stores/nowhere/a.db --manifest stores/listed.csv",
+            3,
+            "",
+            "E1 stores/nowhere/a.db\n",
+        ),
+        (
+            "init --store stores/text.db/a.db --manifest stores/listed.csv",
+            3,
+            "",
+            "E1 stores/text.db/a.db\n",
+        ),
+        // These name no file to SQLite.
+        (
+            "init --store :memory: --manifest stores/listed.csv",
+            3,
+            "",
+            "S1\n",
+        ),
+        (
+            "init --store file:stores/a.db --manifest stores/listed.csv",
             3,
             "",
             "S1\n",
@@ -285,4 +313,124 @@ fn stores_are_refused(rt: HostRuntime) -> Result<(), Fail> {
     change_file(&rt, "stores/seventh.db", "UPDATE info SET version = 7")?;
     check_all(&rt, &rt, STORES.rows)?;
     Ok(fs::remove_dir_all(&rt, STORES.folder)?)
+}
+
+#[test]
+fn an_empty_path_is_told(rt: HostRuntime) -> Result<(), Fail> {
+    let mut words = words_of(&rt, "init --store absent.db --manifest")?;
+    words.push(String::new(rt.alloc()))?;
+    let mut said: Vec<u8> = Vec::new(rt.alloc());
+    let mut told: Vec<u8> = Vec::new(rt.alloc());
+    let status = run_words(&rt, &rt, &words, &mut said, &mut told);
+    let row = (
+        "--manifest and an empty word",
+        3,
+        "",
+        "E1 (an empty path)\n",
+    );
+    compare(&rt, row, status, &said, &told)
+}
+
+/// Zeros are a heading of one field. A manifest that is too long is refused by its length, however long it is.
+const LENGTHS: Scene = Scene {
+    folder: "lengths",
+    folders: &[],
+    files: &[],
+    rows: &[
+        (
+            "init --store lengths/a.db --manifest lengths/long.csv",
+            1,
+            "",
+            "M1 row 0\n",
+        ),
+        (
+            "init --store lengths/a.db --manifest lengths/most.csv",
+            1,
+            "",
+            "M2 row 0\n",
+        ),
+        (
+            "init --store lengths/a.db --manifest lengths/vast.csv",
+            1,
+            "",
+            "M1 row 0\n",
+        ),
+        ("report --store lengths/a.db status", 3, "", "S3\n"),
+    ],
+};
+
+/// The most bytes of a manifest.
+const MOST: u64 = 4_194_304;
+
+// Makes a file of zeros that takes no room on the disk.
+fn make_zeros(rt: &HostRuntime, path: &str, length: u64) -> Result<(), Fail> {
+    Ok(fs::File::create(rt, path)?.set_len(length)?)
+}
+
+#[test]
+fn manifests_are_refused_by_their_length(rt: HostRuntime) -> Result<(), Fail> {
+    set_up(&rt, &LENGTHS)?;
+    make_zeros(&rt, "lengths/most.csv", MOST)?;
+    make_zeros(&rt, "lengths/long.csv", MOST + 1)?;
+    make_zeros(&rt, "lengths/vast.csv", 1 << 33)?;
+    check_all(&rt, &rt, LENGTHS.rows)?;
+    Ok(fs::remove_dir_all(&rt, LENGTHS.folder)?)
+}
+
+/// Links are followed, but for those in the folder that is taken. One that leads to nothing can't be read.
+const LINKS: Scene = Scene {
+    folder: "links",
+    folders: &["links/deposits"],
+    files: &[
+        ("links/deposits/n1", F1),
+        ("links/listed.csv", FULLS),
+        ("links/f5", F5),
+    ],
+    rows: &[
+        (
+            "init --store links/a.db --manifest links/manifest",
+            0,
+            "listed 2\n",
+            "",
+        ),
+        ("take --store links/store links/folder", 0, FIRST, ""),
+        ("report --store links/a.db receipts", 0, FIRST, ""),
+        (
+            "init --store links/b.db --manifest links/nothing",
+            3,
+            "",
+            "E1 links/nothing\n",
+        ),
+        (
+            "init --store links/nothing --manifest links/manifest",
+            3,
+            "",
+            "E1 links/nothing\n",
+        ),
+        (
+            "take --store links/a.db links/nothing",
+            3,
+            "",
+            "E1 links/nothing\n",
+        ),
+        ("report --store links/nothing receipts", 3, "", "S3\n"),
+    ],
+};
+
+const FIRST: &str = "receipt,number,verdict,fault,id,resend,copy,orphans\n1,n1,A1,,F1,0,new,0\n";
+
+#[test]
+fn links_are_followed(rt: HostRuntime) -> Result<(), Fail> {
+    set_up(&rt, &LINKS)?;
+    for (target, link) in [
+        ("listed.csv", "links/manifest"),
+        ("a.db", "links/store"),
+        ("deposits", "links/folder"),
+        ("absent", "links/nothing"),
+        ("../f5", "links/deposits/n5"),
+    ] {
+        symlink(&rt, target, link)?;
+    }
+    check_all(&rt, &rt, LINKS.rows)?;
+    Ok(fs::remove_dir_all(&rt, LINKS.folder)?)
 }

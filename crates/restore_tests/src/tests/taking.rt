@@ -155,6 +155,38 @@ fn files_that_are_no_arrivals(rt: HostRuntime) -> Result<(), Fail> {
     Ok(fs::remove_dir_all(&rt, MIXED.folder)?)
 }
 
+/// A name is told in one line, whatever is in it.
+const ESCAPED: Scene = Scene {
+    folder: "escaped",
+    folders: &["escaped/named"],
+    files: &[
+        ("escaped/listed.csv", FULLS),
+        ("escaped/named/a\nS1", F1),
+        ("escaped/named/b\\ c", F1),
+        ("escaped/named/c\\\u{1b}[2J", F1),
+        ("escaped/named/d\u{e9}", F1),
+    ],
+    rows: &[
+        (
+            "init --store escaped/a.db --manifest escaped/listed.csv",
+            0,
+            "listed 2\n",
+            "",
+        ),
+        (
+            "take --store escaped/a.db escaped/named",
+            1,
+            HEADING,
+            "N1 a\\nS1\nN1 b\\ c\nN1 c\\\\\\u{1b}[2J\nN1 d\u{e9}\n",
+        ),
+    ],
+};
+
+#[test]
+fn names_are_told_in_one_line(rt: HostRuntime) -> Result<(), Fail> {
+    play(&rt, &rt, &ESCAPED)
+}
+
 const VERDICTS: &str = "\
 receipt,number,verdict,fault,id,resend,copy,orphans
 1,n0,A3,U1,E0,0,,
