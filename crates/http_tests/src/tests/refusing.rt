@@ -140,17 +140,6 @@ fn desk_over<S: Alter + Drop>(alloc: Global, connection: Connection<S>) -> Optio
     Some(Desk::open(store))
 }
 
-fn desk<'a>(
-    alloc: Global,
-    refuses: &'a Cell<bool>,
-) -> Option<Desk<FileStore<Refusing<'a, Memory>>>> {
-    let files = Files {
-        log: file(alloc, refuses),
-        db: file(alloc, refuses),
-    };
-    desk_over(alloc, connection(alloc, files)?)
-}
-
 const UNAVAILABLE: &[u8] =
     b"HTTP/1.1 503 Service Unavailable\r\nContent-Type: text/plain\r\nContent-Length: 3\r\nConnection: close\r\n\r\nS1\n";
 
@@ -219,11 +208,38 @@ fn assert_routes<S: Alter>(
     }
 }
 
+// The same at a desk over a new store.
+fn assert_desk<S: Alter + Drop>(
+    rt: &impl Abort,
+    alloc: Global,
+    connection: Connection<S>,
+    refuses: &Cell<bool>,
+) {
+    match desk_over(alloc, connection) {
+        Some(mut desk) => assert_routes(rt, alloc, &mut desk, refuses),
+        None => panic!(rt; "no desk"),
+    }
+}
+
+// The same over files of any kind: what is said of one kind alone takes long to prove.
+fn assert_files<D: Disk + Drop>(
+    rt: &impl Abort,
+    alloc: Global,
+    files: Files<D>,
+    refuses: &Cell<bool>,
+) {
+    match connection(alloc, files) {
+        Some(connection) => assert_desk(rt, alloc, connection, refuses),
+        None => panic!(rt; "no database"),
+    }
+}
+
 #[test]
 fn each_route_while_the_disk_refuses(rt: HostRuntime) {
     let refuses = Cell::new(false);
-    match desk(rt.alloc(), &refuses) {
-        Some(mut desk) => assert_routes(&rt, rt.alloc(), &mut desk, &refuses),
-        None => panic!(rt; "no desk"),
-    }
+    let files = Files {
+        log: file(rt.alloc(), &refuses),
+        db: file(rt.alloc(), &refuses),
+    };
+    assert_files(&rt, rt.alloc(), files, &refuses);
 }
