@@ -1,8 +1,11 @@
 //! Requests over memory: whole, in pieces, and with a read, a write or a flush that fails.
 
+mod lying;
+mod refusing;
+
 use esc_desk::Desk;
 use esc_http::{Report, ServeFault, receipt_line, receipts_heading, report, serve_one};
-use esc_manifest::read_manifest;
+use esc_manifest::{Manifest, read_manifest};
 use esc_store::Store;
 use sqlite::{Alter, Connection, MemStore};
 use std::alloc::Global;
@@ -16,7 +19,7 @@ F1,FULL,2024-03-03T00:00:00Z,,,1d41f5eeb08831b6a8f6956b591cf4d4a358e3df4c4601a65
 
 /// An arrival of the sample bundle, which is listed.
 const PUT_SAMPLE: &[u8] =
-    b"PUT /arrivals/n1 HTTP/1.1\r\nHost: desk\r\ncontent-LENGTH: 00228\r\n\r\nescrow-bundle 1\nenvelope.json 174\n{\"id\":\"F1\",\"type\":\"FULL\",\"watermark\":\"2024-03-03T00:00:00Z\",\"contents\":[{\"name\":\"contact\",\"kind\":\"contact\",\"role\":\"parent\",\"key\":\"id\",\"fields\":[\"id\",\"clID\"],\"file\":\"c.csv\"}]}\nc.csv 6\nC1,R1\n\nend\n";
+    b"PUT /arrivals/n1 HTTP/1.1\r\nHost: desk\r\ncontent-LENGTH: 000228\r\n\r\nescrow-bundle 1\nenvelope.json 174\n{\"id\":\"F1\",\"type\":\"FULL\",\"watermark\":\"2024-03-03T00:00:00Z\",\"contents\":[{\"name\":\"contact\",\"kind\":\"contact\",\"role\":\"parent\",\"key\":\"id\",\"fields\":[\"id\",\"clID\"],\"file\":\"c.csv\"}]}\nc.csv 6\nC1,R1\n\nend\n";
 
 const HELD: &[u8] =
     b"HTTP/1.1 200 OK\r\nContent-Type: application/json\r\nContent-Length: 101\r\nConnection: close\r\n\r\n{\"copy\":\"new\",\"fault\":null,\"id\":\"F1\",\"number\":\"n1\",\"orphans\":0,\"receipt\":1,\"resend\":0,\"verdict\":\"A1\"}";
@@ -128,9 +131,14 @@ const STATUS_ASKED: Wire<'static> = Wire {
     ..OPEN
 };
 
+// A manifest that lists the sample.
+fn manifest(alloc: Global) -> Option<Manifest> {
+    read_manifest(alloc, LISTED).ok()
+}
+
 // A desk over a new store in memory that lists the sample.
 fn desk(alloc: Global) -> Option<Desk<MemStore>> {
-    let manifest = read_manifest(alloc, LISTED).ok()?;
+    let manifest = manifest(alloc)?;
     let conn = Connection::open_in_memory(alloc).ok()?;
     let store = Store::create(alloc, conn, &manifest).ok()?;
     Some(Desk::open(store))
@@ -350,7 +358,7 @@ fn a_write_that_fails(rt: HostRuntime) {
 }
 
 /// Requests, each with the line that the response begins with and the text that it ends with.
-static REFUSED: [(&[u8], &[u8], &[u8]); 14] = [
+static REFUSED: [(&[u8], &[u8], &[u8]); 18] = [
     (
         b"PUT /arrivals/a%20b HTTP/1.1\r\nContent-Length: 3\r\n\r\nabc",
         b"HTTP/1.1 400 Bad Request\r\nContent-Type: text/plain\r\nContent-Length: 3\r\nConnection: close\r\n\r\n",
@@ -367,12 +375,22 @@ static REFUSED: [(&[u8], &[u8], &[u8]); 14] = [
         b"\r\n\r\nbad request\n",
     ),
     (
+        b"PUT /arrivals/n1 HTTP/1.1\r\nContent-Length: 3\r\nX: 1\r\ncontent-length: 4\r\n\r\nabc",
+        b"HTTP/1.1 400 Bad Request\r\n",
+        b"\r\n\r\nbad request\n",
+    ),
+    (
         b"PUT /arrivals/n1 HTTP/1.1\r\nContent-Length: +3\r\n\r\nabc",
         b"HTTP/1.1 400 Bad Request\r\n",
         b"\r\n\r\nbad request\n",
     ),
     (
         b"PUT /arrivals/n1 HTTP/1.1\r\nContent-Length: 3\r\nTransfer-Encoding:\r\n\r\nabc",
+        b"HTTP/1.1 411 Length Required\r\n",
+        b"\r\n\r\nlength required\n",
+    ),
+    (
+        b"PUT /arrivals/n1 HTTP/1.1\r\nTransfer-Encoding: chunked\r\nContent-Length: 3\r\n\r\nabc",
         b"HTTP/1.1 411 Length Required\r\n",
         b"\r\n\r\nlength required\n",
     ),
@@ -386,8 +404,19 @@ static REFUSED: [(&[u8], &[u8], &[u8]); 14] = [
         b"HTTP/1.1 413 Content Too Large\r\n",
         b"\r\n\r\ntoo large\n",
     ),
+    // Lengths that would be 0 in 64 bits, 3 in 32 bits, and 3 in 64 bits.
     (
-        b"PUT /arrivals/n1 HTTP/1.1\r\nContent-Length: 99999999999999999999999\r\n\r\nabc",
+        b"PUT /arrivals/n1 HTTP/1.1\r\nContent-Length: 18446744073709551616\r\n\r\nabc",
+        b"HTTP/1.1 413 Content Too Large\r\n",
+        b"\r\n\r\ntoo large\n",
+    ),
+    (
+        b"PUT /arrivals/n1 HTTP/1.1\r\nContent-Length: 4294967299\r\n\r\nabc",
+        b"HTTP/1.1 413 Content Too Large\r\n",
+        b"\r\n\r\ntoo large\n",
+    ),
+    (
+        b"PUT /arrivals/n1 HTTP/1.1\r\nContent-Length: 18446744073709551619\r\n\r\nabc",
         b"HTTP/1.1 413 Content Too Large\r\n",
         b"\r\n\r\ntoo large\n",
     ),
@@ -466,40 +495,6 @@ fn reports_are_told(rt: HostRuntime) {
     for (input, back) in &REPORTS {
         let found = told(rt.alloc(), &[SAMPLE], &Wire { input, ..OPEN });
         assert_framed(&rt, found, b"HTTP/1.1 200 OK\r\n", back, 1);
-    }
-}
-
-// A request for the receipts, with a header line that makes its head so long.
-fn head_of(alloc: Global, size: usize) -> Option<Vec<u8>> {
-    let mut head = Vec::from_slice(alloc, b"GET /receipts HTTP/1.1\r\nX: ").ok()?;
-    let end = b"\r\n\r\n";
-    head.resize(size.max(40) - end.len(), b'x').ok()?;
-    head.extend_from_slice(end).ok()?;
-    Some(head)
-}
-
-fn told_of_head(alloc: Global, size: usize) -> Option<Outcome> {
-    let head = head_of(alloc, size)?;
-    told(
-        alloc,
-        &[],
-        &Wire {
-            input: &head,
-            ..OPEN
-        },
-    )
-}
-
-/// Lengths of heads, each with what the response begins with.
-static HEADS: [(usize, &[u8]); 2] = [
-    (8192, b"HTTP/1.1 200 OK\r\n"),
-    (8193, b"HTTP/1.1 400 Bad Request\r\n"),
-];
-
-#[test]
-fn a_head_has_a_limit(rt: HostRuntime) {
-    for (size, front) in &HEADS {
-        assert_framed(&rt, told_of_head(rt.alloc(), *size), front, b"", 0);
     }
 }
 
