@@ -23,7 +23,8 @@ pub record IsCommonFront (old new : List Step) (f : ℕ) : Type 0 where
 
 -- the same place and resend
 abbrev pub same_step : Step × Step → Bool
-same_step (a, b) = int_eq a.place.watermark b.place.watermark && (rank a.place.kind == rank b.place.kind) && (a.resend == b.resend)
+same_step (a, b) = int_eq a.place.watermark b.place.watermark
+    && (rank a.place.kind == rank b.place.kind) && (a.resend == b.resend)
 
 -- that length, computed: how many pairs of steps at one index are the same from the front on
 abbrev pub common_front : List Step → List Step → ℕ

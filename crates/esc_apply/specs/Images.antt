@@ -1,5 +1,16 @@
 -- A registry that holds a chain of deposits.
-use Rattle.std.specs.Prelude.{ℕ, zero, suc, if◌then◌else◌, List, take, slice_get, Option, Some, None}
+use Rattle.std.specs.Prelude.{
+  ℕ,
+  zero,
+  suc,
+  if◌then◌else◌,
+  List,
+  take,
+  slice_get,
+  Option,
+  Some,
+  None,
+}
 use Rattle.esc_tables.specs.DepositValue.{DepositValue}
 use Rattle.esc_apply.specs.Tables.{mentions, tables}
 use Rattle.esc_apply.specs.Registry.{State, Befores}
@@ -10,8 +21,8 @@ abbrev pub image_of : List DepositValue → Option DepositValue → Befores
 image_of before None q = None
 image_of before (Some d) q = if mentions q d then Some (tables before q) else None
 
--- the before-images of a list of deposits: for each step, from 1, what its deposit mentions, with what
--- the tables of the deposits before it have there
+-- the before-images of a list of deposits: for each step, from 1, what its deposit mentions, with
+-- what the tables of the deposits before it have there
 abbrev pub before_images : List DepositValue → ℕ → Befores
 before_images c zero q = None
 before_images c (suc i) q = image_of (take i c) (slice_get c i) q

@@ -14,9 +14,11 @@ Notes = BTreeMap KeyName (Option ObjectValue)
 
 -- what was noted for step j of a key, if anything was
 abbrev pub noted_at : List (ℕ × Notes) → ℕ → KeyName → Option (Option ObjectValue)
-noted_at notes j q = option_and_then (λ (n : Notes). lookup (key_eq q) n.entries) (lookup (eq_by_cmp nat_cmp j) notes)
+noted_at notes j q = option_and_then (λ (n : Notes). lookup (key_eq q) n.entries)
+    (lookup (eq_by_cmp nat_cmp j) notes)
 
 -- the entries of its maps are the objects and the notes of a state
-pub record Keeps (objects : List (KeyName × ObjectValue)) (notes : List (ℕ × Notes)) (s : State) : Type 0 where
+pub record Keeps (objects : List (KeyName × ObjectValue)) (notes : List (ℕ × Notes))
+    (s : State) : Type 0 where
   pub content : (q : KeyName) → s.content q ≡ lookup (key_eq q) objects
   pub undo : (j : ℕ) (q : KeyName) → s.undo j q ≡ noted_at notes j q

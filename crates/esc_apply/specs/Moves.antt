@@ -1,5 +1,19 @@
 -- What a move from one chain to another costs.
-use Rattle.std.specs.Prelude.{ℕ, ◌+◌, ◌-◌, ◌&&◌, ◌==◌, nat_lt, Bool, if◌then◌else◌, List, [], length, drop, sum_by}
+use Rattle.std.specs.Prelude.{
+  ℕ,
+  ◌+◌,
+  ◌-◌,
+  ◌&&◌,
+  ◌==◌,
+  nat_lt,
+  Bool,
+  if◌then◌else◌,
+  List,
+  [],
+  length,
+  drop,
+  sum_by,
+}
 use Rattle.esc_tables.specs.DepositValue.{DepositValue}
 use Rattle.esc_apply.specs.declared.front.Step.{Step}
 use Rattle.esc_apply.specs.declared.moves.Work.{Work}
@@ -14,7 +28,8 @@ is_cleared steps front = (front == 0) && nat_lt 0 steps
 abbrev pub undone_of : List DepositValue → ℕ → List DepositValue
 undone_of c front = if is_cleared (length c) front then [] else drop front c
 
--- the work of going from so many steps to the first `front` of them and so many others, by these writes
+-- the work of going from so many steps to the first `front` of them and so many others, by these
+-- writes
 abbrev pub work_of : ℕ → ℕ → ℕ → ℕ → Work
 work_of steps front applied writes = record {
   cleared = is_cleared steps front;
@@ -23,9 +38,11 @@ work_of steps front applied writes = record {
   writes = writes;
 }
 
--- the cost of going from the deposits c of the old steps to the new steps, of which these are the deposits past the common front:
--- one write for each key that a deposit mentions which is taken back or applied
+-- the cost of going from the deposits c of the old steps to the new steps, of which these are the
+-- deposits past the common front: one write for each key that a deposit mentions which is taken
+-- back or applied
 abbrev pub cost : List DepositValue → List Step → List Step → List DepositValue → Work
 cost c old new deposits =
     let front = common_front old new in
-    work_of (length old) front (length new - front) (sum_by mention_count (undone_of c front) + sum_by mention_count deposits)
+    work_of (length old) front (length new - front)
+    (sum_by mention_count (undone_of c front) + sum_by mention_count deposits)

@@ -1,5 +1,18 @@
 -- What a registry contains, and what its calls do to that.
-use Rattle.std.specs.Prelude.{◌≡◌, ℕ, ◌-◌, ◌^◌, min, ◌==◌, if◌then◌else◌, List, length, Option, Some, None}
+use Rattle.std.specs.Prelude.{
+  ◌≡◌,
+  ℕ,
+  ◌-◌,
+  ◌^◌,
+  min,
+  ◌==◌,
+  if◌then◌else◌,
+  List,
+  length,
+  Option,
+  Some,
+  None,
+}
 use Rattle.std.specs.List.{IsDistinct}
 use Rattle.std.specs.Map.{lookup, keys_of}
 use Rattle.std.specs.Option.{unwrap_or}
@@ -43,7 +56,10 @@ written s k w = record { content = with_key s.content k w; undo = s.undo }
 
 -- what stood at a key before step j
 abbrev pub noted : State → ℕ → KeyName → Option ObjectValue → State
-noted s j k w = record { content = s.content; undo = with_step s.undo j (with_key (s.undo j) k (Some w)) }
+noted s j k w = record {
+  content = s.content;
+  undo = with_step s.undo j (with_key (s.undo j) k (Some w));
+}
 
 -- without what was noted for step j
 abbrev pub taken : State → ℕ → State
@@ -53,7 +69,8 @@ taken s j = record { content = s.content; undo = with_step s.undo j nothing }
 abbrev pub changed : State → ℕ → KeyName → Option ObjectValue → State
 changed s j k w = written (noted s j k (s.content k)) k w
 
--- each key that a deposit mentions has what the deposit says, and what stood there is noted for step j
+-- each key that a deposit mentions has what the deposit says, and what stood there is noted for
+-- step j
 abbrev pub stepped : State → ℕ → DepositValue → State
 stepped s j d = record {
   content = λ q. if mentions q d then says q d else s.content q;
@@ -68,7 +85,8 @@ restored s j = record {
 }
 
 -- these entries, each key once, are what a function has
-pub record IsEntriesOf {X : Type 0} (f : KeyName → Option X) (es : List (KeyName × X)) : Type 0 where
+pub record IsEntriesOf {X : Type 0} (f : KeyName → Option X)
+    (es : List (KeyName × X)) : Type 0 where
   pub once : IsDistinct key_eq (keys_of es)
   pub each : (q : KeyName) → lookup (key_eq q) es ≡ f q
 

@@ -1,6 +1,19 @@
 //! Steps are taken back.
 
-ghost use Rattle.std.specs.Prelude.{◌≡◌, ◌+◌, ◌≤◌, ◌++◌, ◌∷◌, [], List, length, take, drop, sum_by, IfOk};
+ghost use Rattle.std.specs.Prelude.{
+  ◌≡◌,
+  ◌+◌,
+  ◌≤◌,
+  ◌++◌,
+  ◌∷◌,
+  [],
+  List,
+  length,
+  take,
+  drop,
+  sum_by,
+  IfOk,
+};
 ghost use Rattle.esc_tables.specs.DepositValue.{DepositValue};
 ghost use Rattle.esc_apply.specs.Tables.{mention_count};
 ghost use Rattle.esc_apply.specs.Registry.{State, restored, saturated, HasSize};
@@ -9,9 +22,10 @@ ghost use Rattle.esc_apply.specs.Images.{chain_state};
 use crate::registry::Registry;
 use std::alloc::Global;
 
-/// Puts back what stood before step `pos` at each key of which it was noted: a registry that holds the tables and
-/// before-images of a chain with this step as its last holds afterwards those of the chain without it. Returns the number
-/// of writes: one for each of these before-images, which are the keys that the step's deposit mentions.
+/// Puts back what stood before step `pos` at each key of which it was noted: a registry that holds
+/// the tables and before-images of a chain with this step as its last holds afterwards those of the
+/// chain without it. Returns the number of writes: one for each of these before-images, which are
+/// the keys that the step's deposit mentions.
 pub fn undo_step<R: Registry>(alloc: Global, r: &mut R, pos: u32) -> Result<u64, R::Error>
     ensures follows { R.follows r.old r.new }
     ensures counted { IfOk result (λ n. R.count r.new ≡ saturated (R.count r.old + n)) }
@@ -32,7 +46,8 @@ pub fn undo_step<R: Registry>(alloc: Global, r: &mut R, pos: u32) -> Result<u64,
     Ok(befores.len() as u64)
 }
 
-/// Takes the last steps of a chain back, down to a front. Answers the number of writes (at most 2^64 - 1).
+/// Takes the last steps of a chain back, down to a front. Answers the number of writes (at most
+/// 2^64 - 1).
 pub(crate) fn undo_to<R: Registry>(
     r: &mut R,
     alloc: Global,
@@ -42,8 +57,10 @@ pub(crate) fn undo_to<R: Registry>(
     requires { front ≤ steps }
     ensures follows { R.follows r.old r.new }
     ensures counted { IfOk result (λ n. R.count r.new ≡ saturated (R.count r.old + n)) }
-    ensures undone { IfOk result (λ n. R.is_honest r.new → (c : List DepositValue) → length c ≡ steps → R.holds r.old (chain_state c)
-        → R.holds r.new (chain_state (take front c)) × (n ≡ saturated (sum_by mention_count (drop front c)))) }
+    ensures undone { IfOk result (λ n. R.is_honest r.new → (c : List DepositValue)
+        → length c ≡ steps → R.holds r.old (chain_state c)
+        → R.holds r.new (chain_state (take front c))
+        × (n ≡ saturated (sum_by mention_count (drop front c)))) }
 {
     let mut writes: u64 = 0;
     let mut left = steps;

@@ -1,6 +1,25 @@
 //! Deposits are applied.
 
-ghost use Rattle.std.specs.Prelude.{◌≡◌, ◌+◌, ◌<◌, ◌^◌, ◌&&◌, ◌++◌, ◌∷◌, [], not, is_some, Some, None, List, length, map, sum_by, IfOk, OnOk};
+ghost use Rattle.std.specs.Prelude.{
+  ◌≡◌,
+  ◌+◌,
+  ◌<◌,
+  ◌^◌,
+  ◌&&◌,
+  ◌++◌,
+  ◌∷◌,
+  [],
+  not,
+  is_some,
+  Some,
+  None,
+  List,
+  length,
+  map,
+  sum_by,
+  IfOk,
+  OnOk,
+};
 ghost use Rattle.std.specs.List.{list_any};
 ghost use Rattle.std.specs.Map.{lookup};
 ghost use Rattle.std.specs.Option.{option_copied};
@@ -19,9 +38,9 @@ use esc_tables::{Deposit, Key, Object};
 use std::alloc::Global;
 use std::collections::{BTreeMap, BTreeSet};
 
-/// Applies a deposit as step `pos`, and notes what stood at each key that it mentions: a registry that holds the tables
-/// and before-images of the steps before holds afterwards those of these steps and this one. Returns the number of
-/// writes: one for each key that the deposit mentions.
+/// Applies a deposit as step `pos`, and notes what stood at each key that it mentions: a registry
+/// that holds the tables and before-images of the steps before holds afterwards those of these
+/// steps and this one. Returns the number of writes: one for each key that the deposit mentions.
 pub fn apply_step<R: Registry>(
     alloc: Global,
     r: &mut R,
@@ -44,7 +63,8 @@ pub fn apply_step<R: Registry>(
     Ok((d.contents.len() + deletes.len()) as u64)
 }
 
-/// Applies deposits behind a chain of so many steps. Answers the number of writes (at most 2^64 - 1).
+/// Applies deposits behind a chain of so many steps. Answers the number of writes (at most 2^64 -
+/// 1).
 pub(crate) fn apply_all<R: Registry>(
     r: &mut R,
     alloc: Global,
@@ -54,8 +74,10 @@ pub(crate) fn apply_all<R: Registry>(
     requires few { steps + length deposits.now < 2 ^ 32 }
     ensures follows { R.follows r.old r.new }
     ensures number { IfOk result (λ n. n ≡ saturated (sum_by mention_count deposits.now)) }
-    ensures counted { OnOk result (R.count r.new ≡ saturated (R.count r.old + sum_by mention_count deposits.now)) }
-    ensures applied { OnOk result (R.is_honest r.new → (c : List DepositValue) → length c ≡ steps → R.holds r.old (chain_state c)
+    ensures counted { OnOk result
+        (R.count r.new ≡ saturated (R.count r.old + sum_by mention_count deposits.now)) }
+    ensures applied { OnOk result (R.is_honest r.new → (c : List DepositValue) → length c ≡ steps
+        → R.holds r.old (chain_state c)
         → R.holds r.new (chain_state (c ++ deposits.now))) }
 {
     let mut pos = steps;
@@ -84,7 +106,8 @@ fn plain_deletes(
 ) -> Result<BTreeSet<Key>, NoMemory>
     ensures ordered { IfOk result (λ s. sorted.IsOrdered key_cmp s) }
     ensures each { IfOk result (λ s. (q : KeyName) → sorted.contains key_cmp s q
-        ≡ (list_any (key_eq q) deletes.now && not (is_some (lookup (key_eq q) contents.now.entries)))) }
+        ≡ (list_any (key_eq q) deletes.now
+        && not (is_some (lookup (key_eq q) contents.now.entries)))) }
 {
     let mut plain = BTreeSet::new(alloc);
     for key in deletes {
@@ -103,8 +126,10 @@ fn put_contents<R: Registry>(
     contents: &BTreeMap<Key, Object>,
 ) -> Result<(), R::Error>
     ensures follows { R.follows r.old r.new }
-    ensures counted { OnOk result (R.count r.new ≡ saturated (R.count r.old + length contents.now.entries)) }
-    ensures put { OnOk result (R.is_honest r.new → (s : State) → R.holds r.old s → AreNew s pos (map with_object contents.now.entries)
+    ensures counted { OnOk result
+        (R.count r.new ≡ saturated (R.count r.old + length contents.now.entries)) }
+    ensures put { OnOk result (R.is_honest r.new → (s : State) → R.holds r.old s
+        → AreNew s pos (map with_object contents.now.entries)
         → R.holds r.new (changed_by s pos (map with_object contents.now.entries))) }
 {
     for (key, object) in contents.iter() {
@@ -120,8 +145,10 @@ fn remove_deletes<R: Registry>(
     deletes: &BTreeSet<Key>,
 ) -> Result<(), R::Error>
     ensures follows { R.follows r.old r.new }
-    ensures counted { OnOk result (R.count r.new ≡ saturated (R.count r.old + length deletes.now.keys)) }
-    ensures removed { OnOk result (R.is_honest r.new → (s : State) → R.holds r.old s → AreNew s pos (map without deletes.now.keys)
+    ensures counted { OnOk result
+        (R.count r.new ≡ saturated (R.count r.old + length deletes.now.keys)) }
+    ensures removed { OnOk result (R.is_honest r.new → (s : State) → R.holds r.old s
+        → AreNew s pos (map without deletes.now.keys)
         → R.holds r.new (changed_by s pos (map without deletes.now.keys))) }
 {
     for key in deletes.iter() {
@@ -140,7 +167,8 @@ fn change<R: Registry>(
 ) -> Result<(), R::Error>
     ensures follows { R.follows r.old r.new }
     ensures counted { OnOk result (R.count r.new ≡ saturated (R.count r.old + 1)) }
-    ensures changed { OnOk result (R.is_honest r.new → (s : State) → R.holds r.old s → s.undo pos key.now ≡ None
+    ensures changed { OnOk result (R.is_honest r.new → (s : State) → R.holds r.old s
+        → s.undo pos key.now ≡ None
         → R.holds r.new (changed s pos key.now (option_copied after.entry))) }
 {
     note(r, alloc, pos, key)?;
@@ -154,7 +182,8 @@ fn change<R: Registry>(
 fn note<R: Registry>(r: &mut R, alloc: Global, pos: u32, key: &Key) -> Result<(), R::Error>
     ensures follows { R.follows r.old r.new }
     ensures counted { OnOk result (R.count r.new ≡ R.count r.old) }
-    ensures noted { OnOk result (R.is_honest r.new → (s : State) → R.holds r.old s → s.undo pos key.now ≡ None
+    ensures noted { OnOk result (R.is_honest r.new → (s : State) → R.holds r.old s
+        → s.undo pos key.now ≡ None
         → R.holds r.new (noted s pos key.now (s.content key.now))) }
 {
     let before = r.get(alloc, key)?;

@@ -9,16 +9,17 @@ ghost use Rattle.esc_apply.specs.Tables.{mention_count, tables};
 
 use esc_tables::read_deposits_are_small;
 
-/// A deposit that is read from a body mentions at most 100,000 keys. There is nothing to run: a caller calls it for
-/// what it ensures.
+/// A deposit that is read from a body mentions at most 100,000 keys. There is nothing to run: a
+/// caller calls it for what it ensures.
 pub fn read_deposits_mention_few()
     ensures { (body : List ℕ) (d : DepositValue) → reading body ≡ Ok d → mention_count d ≤ 100_000 }
 {
     read_deposits_are_small();
 }
 
-/// The tables of any list of deposits have a listing by key, since they have objects at finitely many keys. There is
-/// nothing to run: a caller calls it for what it ensures.
+/// The tables of any list of deposits have a listing by key, since they have objects at finitely
+/// many keys. There is nothing to run: a caller calls it for what it ensures.
 pub fn tables_are_listed()
-    ensures { (ds : List DepositValue) → (es : List Entry) × InOrder es × IsEntriesOf (tables ds) es }
+    ensures { (ds : List DepositValue) → (es : List Entry) × InOrder es
+        × IsEntriesOf (tables ds) es }
 {}

@@ -28,8 +28,10 @@ fn copied(alloc: Global, object: Option<&Object>) -> Result<Option<Object>, NoMe
 
 // Takes out what was noted for a step.
 fn taken(alloc: Global, notes: &mut BTreeMap<u32, Notes>, step: u32) -> Notes
-    ensures notes { (q : KeyName) → lookup (key_eq q) result.entries ≡ noted_at notes.old.entries step q }
-    ensures left { (j : ℕ) (q : KeyName) → noted_at notes.new.entries j q ≡ (if step == j then None else noted_at notes.old.entries j q) }
+    ensures notes { (q : KeyName) → lookup (key_eq q) result.entries
+        ≡ noted_at notes.old.entries step q }
+    ensures left { (j : ℕ) (q : KeyName) → noted_at notes.new.entries j q
+        ≡ (if step == j then None else noted_at notes.old.entries j q) }
 {
     match notes.remove(&step) {
         Some(notes) => notes,
@@ -45,7 +47,9 @@ fn note(
     key: Key,
     before: Option<Object>,
 ) -> Result<(), NoMemory>
-    ensures { OnOk result ((j : ℕ) (q : KeyName) → noted_at notes.new.entries j q ≡ (if step == j then (if key_eq key q then Some before else noted_at notes.old.entries step q) else noted_at notes.old.entries j q)) }
+    ensures { OnOk result ((j : ℕ) (q : KeyName) → noted_at notes.new.entries j q
+        ≡ (if step == j then (if key_eq key q then Some before else noted_at notes.old.entries step
+        q) else noted_at notes.old.entries j q)) }
 {
     let mut of_step = taken(alloc, notes, step);
     of_step.insert(key, before)?;

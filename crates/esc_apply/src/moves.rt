@@ -1,6 +1,20 @@
 //! A registry goes from one chain to another.
 
-ghost use Rattle.std.specs.Prelude.{◌≡◌, ◌+◌, ◌-◌, ◌<◌, ◌≤◌, ◌^◌, ◌++◌, List, length, take, sum_by, IfOk, OnOk};
+ghost use Rattle.std.specs.Prelude.{
+  ◌≡◌,
+  ◌+◌,
+  ◌-◌,
+  ◌<◌,
+  ◌≤◌,
+  ◌^◌,
+  ◌++◌,
+  List,
+  length,
+  take,
+  sum_by,
+  IfOk,
+  OnOk,
+};
 ghost use Rattle.esc_tables.specs.DepositValue.{DepositValue};
 ghost use Rattle.esc_apply.specs.Tables.{mention_count};
 ghost use Rattle.esc_apply.specs.Registry.{saturated};
@@ -28,12 +42,12 @@ pub struct Work {
     pub writes: u64,
 }
 
-/// Goes from the chain `old` to the chain `new`, each of at most 4,096 steps, where `deposits` are those of the new
-/// steps past the common front, in order.
+/// Goes from the chain `old` to the chain `new`, each of at most 4,096 steps, where `deposits` are
+/// those of the new steps past the common front, in order.
 ///
-/// A registry that holds the tables and before-images of deposits of the old steps holds afterwards those of the first
-/// of them, as many as are common, followed by `deposits`. The work is what the move costs, and the registry's count
-/// has grown by its writes.
+/// A registry that holds the tables and before-images of deposits of the old steps holds afterwards
+/// those of the first of them, as many as are common, followed by `deposits`. The work is what the
+/// move costs, and the registry's count has grown by its writes.
 pub fn move_chain<R: Registry>(
     alloc: Global,
     r: &mut R,
@@ -45,9 +59,15 @@ pub fn move_chain<R: Registry>(
     requires few_new { length new.now ≤ 4096 }
     requires deposits { length deposits.now ≡ length new.now - common_front old.now new.now }
     ensures follows { R.follows r.old r.new }
-    ensures counted { IfOk result (λ work. R.count r.new ≡ saturated (R.count r.old + work.writes)) }
-    ensures moved { OnOk result (R.is_honest r.new → (c : List DepositValue) → length c ≡ length old.now → R.holds r.old (chain_state c) → R.holds r.new (chain_state (take (common_front old.now new.now) c ++ deposits.now))) }
-    ensures cost { IfOk result (λ work. R.is_honest r.new → (c : List DepositValue) → length c ≡ length old.now → R.holds r.old (chain_state c) → sum_by mention_count (c ++ deposits.now) < 2 ^ 64 → work ≡ cost c old.now new.now deposits.now) }
+    ensures counted { IfOk result (λ work. R.count r.new
+        ≡ saturated (R.count r.old + work.writes)) }
+    ensures moved { OnOk result (R.is_honest r.new → (c : List DepositValue)
+        → length c ≡ length old.now → R.holds r.old (chain_state c)
+        → R.holds r.new (chain_state (take (common_front old.now new.now) c ++ deposits.now))) }
+    ensures cost { IfOk result (λ work. R.is_honest r.new → (c : List DepositValue)
+        → length c ≡ length old.now → R.holds r.old (chain_state c)
+        → sum_by mention_count (c ++ deposits.now) < 2 ^ 64
+        → work ≡ cost c old.now new.now deposits.now) }
 {
     let steps = old.len() as u32;
     let front = common_front(old, new) as u32;
@@ -62,8 +82,10 @@ fn go_back<R: Registry>(r: &mut R, alloc: Global, steps: u32, front: u32) -> Res
     requires { front ≤ steps }
     ensures follows { R.follows r.old r.new }
     ensures counted { IfOk result (λ n. R.count r.new ≡ saturated (R.count r.old + n)) }
-    ensures gone { IfOk result (λ n. R.is_honest r.new → (c : List DepositValue) → length c ≡ steps → R.holds r.old (chain_state c)
-        → R.holds r.new (chain_state (take front c)) × (n ≡ saturated (sum_by mention_count (undone_of c front)))) }
+    ensures gone { IfOk result (λ n. R.is_honest r.new → (c : List DepositValue) → length c ≡ steps
+        → R.holds r.old (chain_state c)
+        → R.holds r.new (chain_state (take front c))
+        × (n ≡ saturated (sum_by mention_count (undone_of c front)))) }
 {
     if is_cleared(steps, front) {
         r.clear()?;

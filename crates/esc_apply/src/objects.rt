@@ -5,7 +5,8 @@ ghost use Rattle.esc_apply.specs.Objects.{Entry, Gives, InOrder};
 
 use esc_tables::{Key, Object};
 
-/// Objects that are given one at a time, by key, each key once. A report over them needs no memory for all of them.
+/// Objects that are given one at a time, by key, each key once. A report over them needs no memory
+/// for all of them.
 pub trait Objects {
     type Error;
 
@@ -18,16 +19,19 @@ pub trait Objects {
     /// An error was answered, so nothing comes any more.
     ghost has_failed: { Self → Type 0 };
 
-    /// What it gave so far is what its source holds (for instance: the disk gave back what was written).
+    /// What it gave so far is what its source holds (for instance: the disk gave back what was
+    /// written).
     ghost is_honest: { Self → Type 0 };
 
     /// What stays true through calls, whatever they answer (for instance: nothing was committed).
     ghost follows: { Self → Self → Type 0 };
 
-    /// The next object: the first of those to come, or `None` where there is none. An error ends it.
+    /// The next object: the first of those to come, or `None` where there is none. An error ends
+    /// it.
     fn next(&mut self) -> Result<Option<(Key, Object)>, Self::Error>
         ensures follows { follows self.old self.new }
-        ensures given { IfOk result (λ o. is_honest self.new → (es : List Entry) → lists self.old es → Gives (lists self.new) es o) }
+        ensures given { IfOk result (λ o. is_honest self.new → (es : List Entry) → lists self.old es
+            → Gives (lists self.new) es o) }
         ensures fewer { IfOk result (λ o. IsSome o → bound self.new < bound self.old) }
         ensures failed { OnErr result (has_failed self.new) }
         ensures ended { OnOk result (has_failed self.old → ⊥) };

@@ -2,24 +2,34 @@
 
 ghost use Rattle.std.specs.Prelude.{◌≡◌, ℕ, ◌+◌, ◌<◌, ◌^◌, Option, Some, None, IfOk, OnOk};
 ghost use Rattle.std.specs.Option.{option_copied};
-ghost use Rattle.esc_apply.specs.Registry.{State, empty, written, noted, taken, saturated, IsEntriesOf};
+ghost use Rattle.esc_apply.specs.Registry.{
+  State,
+  empty,
+  written,
+  noted,
+  taken,
+  saturated,
+  IsEntriesOf,
+};
 
 use esc_bundle::NoMemory;
 use esc_tables::{Key, Object};
 use std::alloc::Global;
 
-/// Objects by their keys, and by step and key what stood at a key before the step. After an `Err` nothing is said of
-/// the content.
+/// Objects by their keys, and by step and key what stood at a key before the step. After an `Err`
+/// nothing is said of the content.
 pub trait Registry {
     type Error: From<NoMemory>;
 
     /// What the registry contains. A relation, since it may hold of no content or of several.
     ghost holds: { Self → State → Type 0 };
 
-    /// How many writes were made: it grows by one for each `put` or `remove`, and stays at 2^64 - 1 once there.
+    /// How many writes were made: it grows by one for each `put` or `remove`, and stays at 2^64 - 1
+    /// once there.
     ghost count: { Self → ℕ };
 
-    /// What it answered so far is what was written to it (for instance: the disk gave back what it was given).
+    /// What it answered so far is what was written to it (for instance: the disk gave back what it
+    /// was given).
     ghost is_honest: { Self → Type 0 };
 
     /// What stays true through calls, whatever they answer (for instance: nothing was committed).
@@ -29,27 +39,32 @@ pub trait Registry {
     fn get(&mut self, alloc: Global, k: &Key) -> Result<Option<Object>, Self::Error>
         ensures follows { follows self.old self.new }
         ensures counted { OnOk result (count self.new ≡ count self.old) }
-        ensures found { IfOk result (λ o. is_honest self.new → (s : State) → holds self.old s → (o ≡ s.content k.now) × holds self.new s) };
+        ensures found { IfOk result (λ o. is_honest self.new → (s : State) → holds self.old s
+            → (o ≡ s.content k.now) × holds self.new s) };
 
     /// Writes an object at a key.
     fn put(&mut self, alloc: Global, k: &Key, o: &Object) -> Result<(), Self::Error>
         ensures follows { follows self.old self.new }
         ensures counted { OnOk result (count self.new ≡ saturated (count self.old + 1)) }
-        ensures written { OnOk result (is_honest self.new → (s : State) → holds self.old s → holds self.new (written s k.now (Some o.now))) };
+        ensures written { OnOk result (is_honest self.new → (s : State) → holds self.old s
+            → holds self.new (written s k.now (Some o.now))) };
 
     /// Writes that no object is at a key.
     fn remove(&mut self, k: &Key) -> Result<(), Self::Error>
         ensures follows { follows self.old self.new }
         ensures counted { OnOk result (count self.new ≡ saturated (count self.old + 1)) }
-        ensures written { OnOk result (is_honest self.new → (s : State) → holds self.old s → holds self.new (written s k.now None)) };
+        ensures written { OnOk result (is_honest self.new → (s : State) → holds self.old s
+            → holds self.new (written s k.now None)) };
 
     /// Takes all objects and all before-images away, which is no write.
     fn clear(&mut self) -> Result<(), Self::Error>
         ensures follows { follows self.old self.new }
         ensures counted { OnOk result (count self.new ≡ count self.old) }
-        ensures cleared { OnOk result (is_honest self.new → (s : State) → holds self.old s → holds self.new empty) };
+        ensures cleared { OnOk result (is_honest self.new → (s : State) → holds self.old s
+            → holds self.new empty) };
 
-    /// Notes what stood at a key before a step, where nothing is noted of them yet. This is no write.
+    /// Notes what stood at a key before a step, where nothing is noted of them yet. This is no
+    /// write.
     fn put_undo(
         &mut self,
         alloc: Global,
@@ -59,7 +74,9 @@ pub trait Registry {
     ) -> Result<(), Self::Error>
         ensures follows { follows self.old self.new }
         ensures counted { OnOk result (count self.new ≡ count self.old) }
-        ensures noted { OnOk result (is_honest self.new → (s : State) → holds self.old s → s.undo step k.now ≡ None → holds self.new (noted s step k.now (option_copied before.entry))) };
+        ensures noted { OnOk result (is_honest self.new → (s : State) → holds self.old s
+            → s.undo step k.now ≡ None
+            → holds self.new (noted s step k.now (option_copied before.entry))) };
 
     /// Takes away what was noted for a step, and answers it: each key once. This is no write.
     fn take_undo(
@@ -69,7 +86,8 @@ pub trait Registry {
     ) -> Result<Vec<(Key, Option<Object>)>, Self::Error>
         ensures follows { follows self.old self.new }
         ensures counted { OnOk result (count self.new ≡ count self.old) }
-        ensures taken { IfOk result (λ v. is_honest self.new → (s : State) → holds self.old s → IsEntriesOf (s.undo step) v.items × holds self.new (taken s step)) };
+        ensures taken { IfOk result (λ v. is_honest self.new → (s : State) → holds self.old s
+            → IsEntriesOf (s.undo step) v.items × holds self.new (taken s step)) };
 
     /// How many writes were made.
     fn writes(&self) -> u64

@@ -1,5 +1,20 @@
 -- The sections of a text, or the number of its fault, as a function.
-use Rattle.std.specs.Prelude.{ℕ, zero, suc, List, [], ◌∷◌, ◌++◌, length, drop, nat_le, nat_eq, Result, Ok, Err}
+use Rattle.std.specs.Prelude.{
+  ℕ,
+  zero,
+  suc,
+  List,
+  [],
+  ◌∷◌,
+  ◌++◌,
+  length,
+  drop,
+  nat_le,
+  nat_eq,
+  Result,
+  Ok,
+  Err,
+}
 use Rattle.std.specs.List.{starts_with}
 use Rattle.std.specs.Option.{option_map_or}
 use Rattle.esc_bundle.specs.Bundle.{Named, limit, first_line}
@@ -9,9 +24,12 @@ use Rattle.esc_bundle.specs.Reading.{next_at}
 -- these sections and those that stand behind them, told within so many steps
 unfoldable pub frame_after : ℕ → List Named → List ℕ → Result (List Named) ℕ
 frame_after zero before rest = Err 4
-frame_after (suc steps) before rest = next_at before rest >>= λ next. option_map_or (λ found. frame_after steps (before ++ (found.0 ∷ [])) found.1) next (Ok before)
+frame_after (suc steps) before rest
+    = next_at before rest >>= λ next.
+    option_map_or (λ found. frame_after steps (before ++ (found.0 ∷ [])) found.1) next (Ok before)
 
--- the sections of a bundle, or the number of the fault of any other text: 64 steps for sections, and one for the end
+-- the sections of a bundle, or the number of the fault of any other text: 64 steps for sections,
+-- and one for the end
 unfoldable pub frame : List ℕ → Result (List Named) ℕ
 frame body = do
   fits ← check (nat_le (length body) limit) 4

@@ -1,9 +1,50 @@
 -- What a text is refused for, read from the front.
-use Rattle.std.specs.Prelude.{◌≡◌, ◌≢◌, ◌⊎◌, ◌<◌, ◌≤◌, ◌+◌, ℕ, List, [], ◌∷◌, ◌++◌, length, take, drop, ◌==◌, ◌&&◌, ◌||◌, not, nat_lt, nat_le, slice_index, nat_eq, if◌then◌else◌, Option, Some, None, option_map, Result, Ok, Err}
+use Rattle.std.specs.Prelude.{
+  ◌≡◌,
+  ◌≢◌,
+  ◌⊎◌,
+  ◌<◌,
+  ◌≤◌,
+  ◌+◌,
+  ℕ,
+  List,
+  [],
+  ◌∷◌,
+  ◌++◌,
+  length,
+  take,
+  drop,
+  ◌==◌,
+  ◌&&◌,
+  ◌||◌,
+  not,
+  nat_lt,
+  nat_le,
+  slice_index,
+  nat_eq,
+  if◌then◌else◌,
+  Option,
+  Some,
+  None,
+  option_map,
+  Result,
+  Ok,
+  Err,
+}
 use Rattle.std.specs.List.{list_any, starts_with}
 use Rattle.std.specs.Str.{bytes_eq}
 use Rattle.std.specs.Str.Parse.{digits_value}
-use Rattle.esc_bundle.specs.Bundle.{Named, limit, first_line, last_line, envelope_name, is_name, is_length, AreSections, beginning_text}
+use Rattle.esc_bundle.specs.Bundle.{
+  Named,
+  limit,
+  first_line,
+  last_line,
+  envelope_name,
+  is_name,
+  is_length,
+  AreSections,
+  beginning_text,
+}
 use Rattle.esc_bundle.specs.Steps.{◌>>=◌, check, or_fault}
 
 -- what stands before and after the first c, if there is one
@@ -44,7 +85,8 @@ end_at before rest = do
 
 -- what stands behind these sections: no more of them, or a section and what follows it
 unfoldable pub next_at : List Named → List ℕ → Result (Option (Named × List ℕ)) ℕ
-next_at before rest = if starts_with nat_eq rest last_line then end_at before rest else (section_at before rest >>= λ next. Ok (Some next))
+next_at before rest = if starts_with nat_eq rest last_line then end_at before rest else
+    (section_at before rest >>= λ next. Ok (Some next))
 
 -- the text begins with the first line and these sections, and there a fault stands
 pub record FaultBehind (body : List ℕ) (n : ℕ) : Type 0 where
@@ -54,7 +96,8 @@ pub record FaultBehind (body : List ℕ) (n : ℕ) : Type 0 where
   pub sections : AreSections before
   pub fault : next_at before rest ≡ Err n
 
--- a text is refused with n: by its length, by its first line, or by what follows the sections that it begins with
+-- a text is refused with n: by its length, by its first line, or by what follows the sections that
+-- it begins with
 abbrev pub IsFault : List ℕ → ℕ → Type 0
 IsFault body n = ((limit < length body) × (n ≡ 4))
     ⊎ ((length body ≤ limit) × ((rest : List ℕ) → body ≢ first_line ++ rest) × (n ≡ 1))

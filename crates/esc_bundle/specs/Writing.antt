@@ -1,5 +1,23 @@
--- The bundle of a list of sections, or the number of the fault for which there is none, as a function.
-use Rattle.std.specs.Prelude.{◌≡◌, ◌⊎◌, ◌<◌, ℕ, List, [], ◌∷◌, ◌++◌, length, nat_lt, nat_le, String, string_bytes, Result, Ok, Err}
+-- The bundle of a list of sections, or the number of the fault for which there is none, as a
+-- function.
+use Rattle.std.specs.Prelude.{
+  ◌≡◌,
+  ◌⊎◌,
+  ◌<◌,
+  ℕ,
+  List,
+  [],
+  ◌∷◌,
+  ◌++◌,
+  length,
+  nat_lt,
+  nat_le,
+  String,
+  string_bytes,
+  Result,
+  Ok,
+  Err,
+}
 use Rattle.std.specs.Global.{Vec}
 use Rattle.std.specs.declared.alloc.Global.{Global}
 use Rattle.esc_bundle.specs.Bundle.{Named, limit, bundle_text, AreSections}
@@ -13,7 +31,8 @@ named p = record { name = string_bytes p.0; bytes = p.1.items }
 -- these sections, and then the others, each of which may stand behind those before it
 unfoldable pub in_order : List Named → List Named → Result (List Named) ℕ
 in_order before [] = Ok before
-in_order before (s ∷ ss) = stands_at before s.name (length s.bytes) >>= λ stands. in_order (before ++ (s ∷ [])) ss
+in_order before (s ∷ ss) = stands_at before s.name (length s.bytes) >>= λ stands.
+    in_order (before ++ (s ∷ [])) ss
 
 -- the text, if a bundle may be so long
 unfoldable pub within_limit : List ℕ → Result (List ℕ) ℕ

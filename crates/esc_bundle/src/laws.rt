@@ -1,6 +1,7 @@
 //! What holds of all texts and all lists of sections, by the definitions alone.
 //!
-//! The functions here do nothing. Each has a law as its contract: a caller who needs the law calls it.
+//! The functions here do nothing. Each has a law as its contract: a caller who needs the law calls
+//! it.
 
 ghost use Rattle.std.specs.Prelude.{◌≡◌, ◌≤◌, ◌⊎◌, ◌↔◌, ◌++◌, ◌∷◌, List, [], ℕ, codes, Ok, Err};
 ghost use Rattle.esc_bundle.specs.Bundle.{Named, IsBundle};
@@ -33,8 +34,8 @@ pub fn frame_is_exact()
     ensures fault { (body : List ℕ) (n : ℕ) → (frame body ≡ Err n) ↔ IsFault body n }
 {}
 
-/// The function `bundle_of` of a list of sections gives its bundle, or the fault for which no bundle has
-/// these sections, from U1 to U4.
+/// The function `bundle_of` of a list of sections gives its bundle, or the fault for which no
+/// bundle has these sections, from U1 to U4.
 pub fn bundle_of_is_exact()
     ensures bundle { (ss : List Named) (body : List ℕ) →
         (bundle_of ss ≡ Ok body) ↔ IsBundle body ss }
@@ -54,11 +55,13 @@ pub fn worked_texts()
     ensures empty { frame [] ≡ Err 1 }
     ensures no_section { frame (codes "escrow-bundle 1\nend\n") ≡ Err 1 }
     ensures no_end { frame (codes "escrow-bundle 1\nenvelope.json 2\n{}\n") ≡ Err 1 }
-    ensures bytes_after_end { frame (codes "escrow-bundle 1\nenvelope.json 2\n{}\nend\n\n") ≡ Err 1 }
+    ensures bytes_after_end { frame (codes "escrow-bundle 1\nenvelope.json 2\n{}\nend\n\n")
+        ≡ Err 1 }
     ensures leading_zero { frame (codes "escrow-bundle 1\nenvelope.json 02\n{}\nend\n") ≡ Err 1 }
     ensures other_first { frame (codes "escrow-bundle 1\nc.csv 2\n{}\nend\n") ≡ Err 1 }
     ensures wrong_name { frame (codes "escrow-bundle 1\nEnvelope.json 2\n{}\nend\n") ≡ Err 2 }
-    ensures zero_before_name { frame (codes "escrow-bundle 1\nEnvelope.json 02\n{}\nend\n") ≡ Err 1 }
+    ensures zero_before_name { frame (codes "escrow-bundle 1\nEnvelope.json 02\n{}\nend\n")
+        ≡ Err 1 }
     ensures repeated { frame (codes "escrow-bundle 1\nenvelope.json 2\n{}\nenvelope.json 2\n{}\nend\n") ≡ Err 3 }
     ensures too_long { frame (codes "escrow-bundle 1\nenvelope.json 16777217\n") ≡ Err 4 }
     ensures limit_before_first { frame (codes "escrow-bundle 1\nc.csv 16777217\n") ≡ Err 4 }

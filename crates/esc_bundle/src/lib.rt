@@ -13,20 +13,20 @@
 //! end
 //! ```
 //!
-//! A line feed ends each line and follows the bytes of each section, whose length does not count it.
-//! A name is 1 to 32 of `a-z 0-9 . _ -`, and no name stands twice. A bundle has 1 to 64 sections,
-//! and neither it nor a section has more than 16,777,216 bytes.
+//! A line feed ends each line and follows the bytes of each section, whose length does not count
+//! it. A name is 1 to 32 of `a-z 0-9 . _ -`, and no name stands twice. A bundle has 1 to 64
+//! sections, and neither it nor a section has more than 16,777,216 bytes.
 //!
 //! `sections` takes the bytes of a bundle apart: names and contents come out as slices of them.
 //! `write_bundle` puts sections together. Neither knows what a section holds.
 //!
 //! # What is promised
 //!
-//! What a bundle is stands in `specs/Bundle.antt`, by texts (`IsBundle`). Which fault any other text
-//! has, from U1 to U4, stands in `specs/Reading.antt` (`IsFault`). `sections` answers exactly the
-//! sections of a bundle, and refuses exactly the other texts, each with its fault. `write_bundle`
-//! gives the one text of its sections, and refuses exactly the lists that no bundle has. Where memory
-//! is refused, either may answer `Fault::NoMemory` instead.
+//! What a bundle is stands in `specs/Bundle.antt`, by texts (`IsBundle`). Which fault any other
+//! text has, from U1 to U4, stands in `specs/Reading.antt` (`IsFault`). `sections` answers exactly
+//! the sections of a bundle, and refuses exactly the other texts, each with its fault.
+//! `write_bundle` gives the one text of its sections, and refuses exactly the lists that no bundle
+//! has. Where memory is refused, either may answer `Fault::NoMemory` instead.
 //!
 //! `specs/Frame.antt` and `specs/Writing.antt` have the same as functions, `frame` and `bundle_of`,
 //! in whose terms the crates above reason about bundles. The laws in `src/laws.rt` are of the

@@ -1,13 +1,57 @@
 //! From bytes to sections.
 
-ghost use Rattle.std.specs.Prelude.{◌≡◌, ◌≢◌, ◌<◌, ◌≤◌, ◌++◌, List, [], ℕ, length, option_map, IfOk, IfErr, MatchResult, IsErrAnd, Ok, Err, true, if◌then◌else◌, Some, None, ◌==◌, ◌||◌, ◌⊎◌, not};
+ghost use Rattle.std.specs.Prelude.{
+  ◌≡◌,
+  ◌≢◌,
+  ◌<◌,
+  ◌≤◌,
+  ◌++◌,
+  List,
+  [],
+  ℕ,
+  length,
+  option_map,
+  IfOk,
+  IfErr,
+  MatchResult,
+  IsErrAnd,
+  Ok,
+  Err,
+  true,
+  if◌then◌else◌,
+  Some,
+  None,
+  ◌==◌,
+  ◌||◌,
+  ◌⊎◌,
+  not,
+};
 ghost use Rattle.std.specs.List.{list_all, list_any, position};
 ghost use Rattle.std.specs.Char.{is_ascii_digit};
 ghost use Rattle.std.specs.Str.{bytes_eq};
 ghost use Rattle.std.specs.Str.Parse.{digits_value};
-ghost use Rattle.esc_bundle.specs.Bundle.{Named, view, views, limit, first_line, envelope_name, is_name_byte, is_name, is_length, IsBundle};
+ghost use Rattle.esc_bundle.specs.Bundle.{
+  Named,
+  view,
+  views,
+  limit,
+  first_line,
+  envelope_name,
+  is_name_byte,
+  is_name,
+  is_length,
+  IsBundle,
+};
 ghost use Rattle.esc_bundle.specs.Steps.{Gives, GivesOrNoMemory};
-ghost use Rattle.esc_bundle.specs.Reading.{IsFault, parted, stands_at, length_at, section_at, end_at, next_at};
+ghost use Rattle.esc_bundle.specs.Reading.{
+  IsFault,
+  parted,
+  stands_at,
+  length_at,
+  section_at,
+  end_at,
+  next_at,
+};
 ghost use Rattle.esc_bundle.specs.Frame.{frame_after, frame};
 
 use crate::fault::Fault;
@@ -243,9 +287,9 @@ fn gather(alloc: Global, text: &[u8]) -> Result<Vec<Section<'_>>, Fault>
 /// The sections of a bundle, in order. Their names and bytes are slices of `body`: nothing is
 /// copied, as the lifetime of the result says.
 ///
-/// A bundle is the line `escrow-bundle 1`, then one or more sections, then the line `end`. A section
-/// is its name, a space, its length in bytes, a line feed, the bytes and a line feed (this project's
-/// profile).
+/// A bundle is the line `escrow-bundle 1`, then one or more sections, then the line `end`. A
+/// section is its name, a space, its length in bytes, a line feed, the bytes and a line feed (this
+/// project's profile).
 ///
 /// # Errors
 ///
@@ -254,10 +298,11 @@ fn gather(alloc: Global, text: &[u8]) -> Result<Vec<Section<'_>>, Fault>
 /// - `Refused(1)`: it has another frame, or its first section is not `envelope.json`;
 /// - `Refused(2)`: a name is not 1 to 32 of `a-z 0-9 . _ -`;
 /// - `Refused(3)`: a name stood before;
-/// - `Refused(4)`: the body or a section has more than 16,777,216 bytes, or there is a 65th section.
+/// - `Refused(4)`: the body or a section has more than 16,777,216 bytes, or there is a 65th
+///   section.
 ///
-/// `NoMemory`, if there was none for the list of sections: of any body up to the limit that begins with
-/// the first line.
+/// `NoMemory`, if there was none for the list of sections: of any body up to the limit that begins
+/// with the first line.
 pub fn sections(alloc: Global, body: &[u8]) -> Result<Vec<Section<'_>>, Fault>
     ensures found { IfOk result (λ v. IsBundle body.now (views v.items)) }
     ensures refused { IfErr result (λ e. (n : ℕ) → e ≡ Fault.Refused n → IsFault body.now n) }

@@ -1,6 +1,23 @@
 //! From sections to bytes.
 
-ghost use Rattle.std.specs.Prelude.{◌≡◌, ◌++◌, ◌∷◌, [], ℕ, List, length, Ok, Err, OnOk, IfOk, IfErr, MatchResult, IsErrAnd, ◌⊎◌, map};
+ghost use Rattle.std.specs.Prelude.{
+  ◌≡◌,
+  ◌++◌,
+  ◌∷◌,
+  [],
+  ℕ,
+  List,
+  length,
+  Ok,
+  Err,
+  OnOk,
+  IfOk,
+  IfErr,
+  MatchResult,
+  IsErrAnd,
+  ◌⊎◌,
+  map,
+};
 ghost use Rattle.std.specs.Fmt.{decimal};
 ghost use Rattle.esc_bundle.specs.Bundle.{view, views, section_text, bundle_text, IsBundle};
 ghost use Rattle.esc_bundle.specs.Steps.{GivesOrNoMemory};
@@ -80,11 +97,12 @@ fn join(alloc: Global, sections: &[Section<'_>]) -> Result<Vec<u8>, Fault>
 /// - `Refused(1)`: there is none, or the first is not `envelope.json`;
 /// - `Refused(2)`: a name is not 1 to 32 of `a-z 0-9 . _ -`;
 /// - `Refused(3)`: a name stood before;
-/// - `Refused(4)`: a section or the whole has more than 16,777,216 bytes, or there is a 65th section.
+/// - `Refused(4)`: a section or the whole has more than 16,777,216 bytes, or there is a 65th
+///   section.
 ///
-/// The faults of the first section that has one count before those of later sections, and its own in
-/// the order 2, 3, 4, 1; the length of the whole comes last. `NoMemory`, for any list but an empty one,
-/// if there was none for the text.
+/// The faults of the first section that has one count before those of later sections, and its own
+/// in the order 2, 3, 4, 1; the length of the whole comes last. `NoMemory`, for any list but an
+/// empty one, if there was none for the text.
 pub fn write_bundle(alloc: Global, list: &[(String, Vec<u8>)]) -> Result<Vec<u8>, Fault>
     ensures written { IfOk result (λ v. IsBundle v.items (map named list.now)) }
     ensures refused { IfErr result (λ e. (n : ℕ) → e ≡ Fault.Refused n →

@@ -1,5 +1,25 @@
--- The used rows, and chains of them (this project's profile; the types are those of RFC 8909, section 2).
-use Rattle.std.specs.Prelude.{◌≡◌, ◌≢◌, ◌↔◌, ℕ, ◌<◌, ◌≤◌, ℤ, ◌≤ℤ◌, List, [], ◌∷◌, length, reverse, slice_index, Option, Some, None, IsTrue}
+-- The used rows, and chains of them (this project's profile; the types are those of RFC 8909,
+-- section 2).
+use Rattle.std.specs.Prelude.{
+  ◌≡◌,
+  ◌≢◌,
+  ◌↔◌,
+  ℕ,
+  ◌<◌,
+  ◌≤◌,
+  ℤ,
+  ◌≤ℤ◌,
+  List,
+  [],
+  ◌∷◌,
+  length,
+  reverse,
+  slice_index,
+  Option,
+  Some,
+  None,
+  IsTrue,
+}
 use Rattle.std.specs.FinSet as set
 use Rattle.std.specs.Ordering.{nat_cmp}
 use Rattle.esc_envelope.specs.declared.place.DepositType.TheVariants.{Full}
@@ -38,7 +58,8 @@ pub record IsUsed (m : List MRow) (h : Rows) (r : ℕ) : Type 0 where
   pub held : IsHeld h r
   pub greatest : (q : ℕ) → IsHeld h q → place_at m q ≡ place_at m r → resend_at m q ≤ resend_at m r
 
--- from row r back to a Full: r is a Full, or the next row is used, stands at the place of r's base, and goes on so
+-- from row r back to a Full: r is a Full, or the next row is used, stands at the place of r's base,
+-- and goes on so
 abbrev pub LeadsBack : List MRow → Rows → ℕ → List ℕ → Type 0
 LeadsBack m h r [] = kind_at m r ≡ Full
 LeadsBack m h r (s ∷ rest) = IsBase m r (At (place_at m s)) × IsUsed m h s × LeadsBack m h s rest
@@ -57,12 +78,15 @@ abbrev pub IsBy : Option ℤ → ℤ → Type 0
 IsBy None w = Unit {0}
 IsBy (Some t) w = w ≤ℤ t
 
--- from its end back, of the chains that end by the moment the one whose end is the greatest place; the empty list where there is none
+-- from its end back, of the chains that end by the moment the one whose end is the greatest place;
+-- the empty list where there is none
 abbrev pub IsLatestBackAt : List MRow → Rows → Option ℤ → List ℕ → Type 0
-IsLatestBackAt m h t [] = (q : ℕ) (other : List ℕ) → IsChainBack m h (q ∷ other) → IsBy t (watermark_at m q) → ⊥
+IsLatestBackAt m h t [] = (q : ℕ) (other : List ℕ) → IsChainBack m h (q ∷ other)
+    → IsBy t (watermark_at m q) → ⊥
 IsLatestBackAt m h t (r ∷ rest) =
     IsChainBack m h (r ∷ rest) × IsBy t (watermark_at m r)
-    × ((q : ℕ) (other : List ℕ) → IsChainBack m h (q ∷ other) → IsBy t (watermark_at m q) → IsUpTo (place_at m q) (place_at m r))
+    × ((q : ℕ) (other : List ℕ) → IsChainBack m h (q ∷ other) → IsBy t (watermark_at m q)
+    → IsUpTo (place_at m q) (place_at m r))
 
 -- the latest chain up to the moment, from its Full to its end
 abbrev pub IsLatestChainAt : List MRow → Rows → Option ℤ → List ℕ → Type 0

@@ -3,7 +3,15 @@
 ghost use Rattle.std.specs.Prelude.{◌↔◌, ◌<◌, length, IfOk, IsTrue};
 ghost use Rattle.esc_manifest.specs.Accepted.{IsAccepted};
 ghost use Rattle.esc_manifest.specs.Rows.{watermark_at};
-ghost use Rattle.esc_chain.specs.Chain.{InRange, AreHeldRows, AreUntil, IsBy, IsHeld, IsLatestChain, IsLatestChainAt};
+ghost use Rattle.esc_chain.specs.Chain.{
+  InRange,
+  AreHeldRows,
+  AreUntil,
+  IsBy,
+  IsHeld,
+  IsLatestChain,
+  IsLatestChainAt,
+};
 
 use crate::Held;
 use crate::bases::bases;
@@ -13,10 +21,12 @@ use esc_bundle::NoMemory;
 use esc_manifest::{MRow, Manifest};
 use std::alloc::Global;
 
-/// The latest chain, as row indices from its Full to its end: of all chains of held rows the one whose end is the
-/// greatest place, and the empty list where there is none (this project's profile).
+/// The latest chain, as row indices from its Full to its end: of all chains of held rows the one
+/// whose end is the greatest place, and the empty list where there is none (this project's
+/// profile).
 ///
-/// Takes time about as the number of rows, whatever chains there are. The one error is want of memory.
+/// Takes time about as the number of rows, whatever chains there are. The one error is want of
+/// memory.
 pub fn latest_chain(alloc: Global, m: &Manifest, h: &Held) -> Result<Vec<usize>, NoMemory>
     requires { InRange m.now h.now }
     ensures latest { IfOk result (λ c. IsLatestChain m.now h.now c.items) }
@@ -43,10 +53,12 @@ pub fn latest_chain(alloc: Global, m: &Manifest, h: &Held) -> Result<Vec<usize>,
     Ok(chain)
 }
 
-/// The latest chain up to a moment: of the chains of held rows whose end has a watermark not later than the moment the one
-/// whose end is the greatest place, and the empty list where there is none. Without a moment it is the latest of all chains.
+/// The latest chain up to a moment: of the chains of held rows whose end has a watermark not later
+/// than the moment the one whose end is the greatest place, and the empty list where there is none.
+/// Without a moment it is the latest of all chains.
 ///
-/// Takes time about as the number of rows, whatever chains there are. The one error is want of memory.
+/// Takes time about as the number of rows, whatever chains there are. The one error is want of
+/// memory.
 pub fn latest_chain_at(
     alloc: Global,
     m: &Manifest,
@@ -61,8 +73,8 @@ pub fn latest_chain_at(
     latest_chain(alloc, m, &until)
 }
 
-// The held rows with a watermark not later than a moment. Each base has an earlier watermark, so the chains of these rows
-// are the chains of the held rows that end by the moment.
+// The held rows with a watermark not later than a moment. Each base has an earlier watermark, so
+// the chains of these rows are the chains of the held rows that end by the moment.
 fn rows_until(alloc: Global, m: &Manifest, h: &Held, moment: Option<i64>) -> Result<Held, NoMemory>
     requires { InRange m.now h.now }
     ensures rows { IfOk result (AreUntil m.now h.now moment) }

@@ -6,7 +6,15 @@ ghost use Rattle.std.specs.Ordering.{nat_cmp};
 ghost use Rattle.esc_chain.specs.Chain.{InRange};
 ghost use Rattle.esc_chain.specs.Walk.{AreBases};
 ghost use Rattle.esc_chain.specs.Gap.{AreGapLines, AreGapLinesAt};
-ghost use Rattle.esc_chain.specs.Stops.{AreWays, IsRowIn, HasText, line_by, state_by, blocker_by, blocker_of};
+ghost use Rattle.esc_chain.specs.Stops.{
+  AreWays,
+  IsRowIn,
+  HasText,
+  line_by,
+  state_by,
+  blocker_by,
+  blocker_of,
+};
 
 use crate::bases::bases;
 use crate::gap::{Blocker, GapLine, Id, ListedPlace, State};
@@ -21,10 +29,12 @@ use esc_manifest::Manifest;
 use std::alloc::Global;
 use std::collections::{BTreeMap, BTreeSet};
 
-/// A line for each listed place, in the order of places: which revision of it counts, whether a chain ends there or the
-/// latest chain passes it, what stands in its way, and which revision of it is awaited (this project's profile).
+/// A line for each listed place, in the order of places: which revision of it counts, whether a
+/// chain ends there or the latest chain passes it, what stands in its way, and which revision of it
+/// is awaited (this project's profile).
 ///
-/// Takes time about as the number of rows, whatever ways there are. The one error is want of memory.
+/// Takes time about as the number of rows, whatever ways there are. The one error is want of
+/// memory.
 pub fn gaps(alloc: Global, m: &Manifest, h: &Held) -> Result<Vec<GapLine>, NoMemory>
     requires { InRange m.now h.now }
     ensures { IfOk result (λ lines. AreGapLines m.now h.now lines.items) }
@@ -32,10 +42,11 @@ pub fn gaps(alloc: Global, m: &Manifest, h: &Held) -> Result<Vec<GapLine>, NoMem
     gaps_at(alloc, m, h, None)
 }
 
-/// The lines as of a moment, if there is one: the latest chain is the one up to the moment, so that a place where a later chain
-/// ends is `Standing`. All else in them is as without a moment.
+/// The lines as of a moment, if there is one: the latest chain is the one up to the moment, so that
+/// a place where a later chain ends is `Standing`. All else in them is as without a moment.
 ///
-/// Takes time about as the number of rows, whatever ways there are. The one error is want of memory.
+/// Takes time about as the number of rows, whatever ways there are. The one error is want of
+/// memory.
 pub fn gaps_at(
     alloc: Global,
     m: &Manifest,
@@ -94,7 +105,8 @@ fn set_of(alloc: Global, rows: &[usize]) -> Result<BTreeSet<usize>, NoMemory>
     Ok(rows.iter().copied().collect(alloc)?)
 }
 
-// The line of a place with this used row, or with none, of whose rows that aren't held the greatest resend is given.
+// The line of a place with this used row, or with none, of whose rows that aren't held the greatest
+// resend is given.
 fn line_of(
     alloc: Global,
     m: &Manifest,

@@ -11,7 +11,8 @@ use Rattle.esc_csv.specs.Lines.{Line, text_of}
 
 -- the first line
 abbrev pub heading : Line
-heading = codes "kind" ∷ codes "key" ∷ codes "table" ∷ codes "row" ∷ codes "field" ∷ codes "value" ∷ []
+heading = codes "kind" ∷ codes "key" ∷ codes "table" ∷ codes "row" ∷ codes "field" ∷ codes "value"
+    ∷ []
 
 -- the line of a cell in row n of a table
 abbrev pub cell_line : KeyName → ℕ → List ℕ → (List ℕ × List ℕ) → Line
@@ -29,10 +30,12 @@ is_in table r = bytes_eq r.table table
 abbrev pub number_behind : List RowValue → RowValue → ℕ
 number_behind earlier r = count_by (is_in r.table) (earlier ++ r ∷ [])
 
--- the lines of child rows that stand behind these rows, each with its place among the rows of its table
+-- the lines of child rows that stand behind these rows, each with its place among the rows of its
+-- table
 unfoldable pub child_lines : KeyName → List RowValue → List RowValue → List Line
 child_lines k earlier [] = []
-child_lines k earlier (r ∷ rest) = row_lines k (number_behind earlier r) r ++ child_lines k (earlier ++ r ∷ []) rest
+child_lines k earlier (r ∷ rest) = row_lines k (number_behind earlier r) r
+    ++ child_lines k (earlier ++ r ∷ []) rest
 
 -- the lines of an object: its parent row has number 0
 abbrev pub object_lines : KeyName → ObjectValue → List Line

@@ -11,7 +11,8 @@ finding_total =
     (then_total (on_total (λ (f : FindingValue). kind_rank f.kind) nat_cmp_total)
     (then_total (on_total (λ (f : FindingValue). f.key) nat_list_cmp_total)
     (then_total (on_total (λ (f : FindingValue). f.field) nat_list_cmp_total)
-    (then_total (on_total (λ (f : FindingValue). f.value) nat_list_cmp_total) (on_total (λ (f : FindingValue). f.other) nat_list_cmp_total)))))
+    (then_total (on_total (λ (f : FindingValue). f.value) nat_list_cmp_total)
+    (on_total (λ (f : FindingValue). f.other) nat_list_cmp_total)))))
 
 -- findings that tie are alike
 pub finding_equiv : IsEquivalence finding_eq

@@ -20,7 +20,8 @@ abbrev pub listing_cmp : FindingValue → FindingValue → Ordering
 listing_cmp =
     then_cmp (on (λ f. f.code) nat_cmp)
     (then_cmp (on (λ f. kind_rank f.kind) nat_cmp)
-    (then_cmp (on (λ f. f.key) (slice_cmp nat_cmp)) (then_cmp (on (λ f. f.field) (slice_cmp nat_cmp)) (on (λ f. f.value) (slice_cmp nat_cmp)))))
+    (then_cmp (on (λ f. f.key) (slice_cmp nat_cmp))
+    (then_cmp (on (λ f. f.field) (slice_cmp nat_cmp)) (on (λ f. f.value) (slice_cmp nat_cmp)))))
 
 -- the same, and at last by what else is told, so that findings that tie are one
 abbrev pub finding_cmp : FindingValue → FindingValue → Ordering

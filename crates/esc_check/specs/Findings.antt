@@ -1,4 +1,5 @@
--- What is found in the tables of a registry: the rules V1 to V7 of this project's profile, as relations over a map.
+-- What is found in the tables of a registry: the rules V1 to V7 of this project's profile, as
+-- relations over a map.
 use Rattle.std.specs.Prelude.{◌≡◌, ◌≢◌, ◌⊎◌, ℕ, ℤ, ◌<ℤ◌, List, [], Some, None, codes}
 use Rattle.std.specs.List.{Contains}
 use Rattle.std.specs.Option.{unwrap_or}
@@ -18,7 +19,14 @@ use Rattle.esc_check.specs.Tables.{Tables, HasCount}
 
 -- V1, as it is told of a link
 abbrev pub missing_target : LinkValue → FindingValue
-missing_target l = record { code = 1; kind = l.from.kind; key = l.from.text; field = field_name l.field; value = l.to.text; other = kind_name l.to.kind }
+missing_target l = record {
+  code = 1;
+  kind = l.from.kind;
+  key = l.from.text;
+  field = field_name l.field;
+  value = l.to.text;
+  other = kind_name l.to.kind;
+}
 
 -- V1: a link leads to no object
 abbrev pub IsMissing : Tables → FindingValue → Type 0
@@ -26,27 +34,53 @@ IsMissing t f = (l : LinkValue) × IsLink t l × (t l.to ≡ None) × (f ≡ mis
 
 -- V2, as it is told of a kind with so many objects declared, and so many found
 abbrev pub miscounted : Kind → ℕ → ℕ → FindingValue
-miscounted kind declared found = record { code = 2; kind = kind; key = []; field = codes "count"; value = decimal declared; other = decimal found }
+miscounted kind declared found
+    = record {
+      code = 2;
+      kind = kind;
+      key = [];
+      field = codes "count";
+      value = decimal declared;
+      other = decimal found;
+    }
 
 -- V2: a kind has another number of objects than declared
 abbrev pub IsMiscounted : Tables → List (Kind × ℕ) → FindingValue → Type 0
-IsMiscounted t counts f = (kind : Kind) × (declared : ℕ) × (n : ℕ) × Contains counts (kind, declared) × HasCount t kind n × (n ≢ declared) × (f ≡ miscounted kind declared n)
+IsMiscounted t counts f = (kind : Kind) × (declared : ℕ) × (n : ℕ)
+    × Contains counts (kind, declared) × HasCount t kind n × (n ≢ declared)
+    × (f ≡ miscounted kind declared n)
 
 -- V3, as it is told of an object's status
 abbrev pub unknown_status : KeyName → List ℕ → FindingValue
-unknown_status k s = record { code = 3; kind = k.kind; key = k.text; field = codes "status"; value = s; other = [] }
+unknown_status k s = record {
+  code = 3;
+  kind = k.kind;
+  key = k.text;
+  field = codes "status";
+  value = s;
+  other = [];
+}
 
 -- V3: a status is none of its kind's
 abbrev pub IsUnknown : KeyName → ObjectValue → FindingValue → Type 0
-IsUnknown k o f = (s : List ℕ) × IsStatusOf k o s × (Contains (status_words k.kind) s → ⊥) × (f ≡ unknown_status k s)
+IsUnknown k o f = (s : List ℕ) × IsStatusOf k o s × (Contains (status_words k.kind) s → ⊥)
+    × (f ≡ unknown_status k s)
 
 -- V4, as it is told of a domain
 abbrev pub mixed_status : KeyName → FindingValue
-mixed_status k = record { code = 4; kind = k.kind; key = k.text; field = codes "status"; value = codes "ok"; other = [] }
+mixed_status k = record {
+  code = 4;
+  kind = k.kind;
+  key = k.text;
+  field = codes "status";
+  value = codes "ok";
+  other = [];
+}
 
 -- V4: a domain has `ok` and a status that is not `ok`
 abbrev pub IsMixed : KeyName → ObjectValue → FindingValue → Type 0
-IsMixed k o f = (k.kind ≡ Domain) × IsStatusOf k o (codes "ok") × ((s : List ℕ) × IsStatusOf k o s × (s ≢ codes "ok")) × (f ≡ mixed_status k)
+IsMixed k o f = (k.kind ≡ Domain) × IsStatusOf k o (codes "ok")
+    × ((s : List ℕ) × IsStatusOf k o s × (s ≢ codes "ok")) × (f ≡ mixed_status k)
 
 -- a watermark as it is printed; outside of the years of watermarks nothing is
 abbrev pub printed : ℤ → List ℕ
@@ -54,24 +88,48 @@ printed w = unwrap_or (watermark_text_of w) []
 
 -- V5, as it is told of an object's date of creation and the watermark
 abbrev pub late : KeyName → List ℕ → List ℕ → FindingValue
-late k text shown = record { code = 5; kind = k.kind; key = k.text; field = codes "crDate"; value = text; other = shown }
+late k text shown = record {
+  code = 5;
+  kind = k.kind;
+  key = k.text;
+  field = codes "crDate";
+  value = text;
+  other = shown;
+}
 
 -- V5: the date of creation is later than the watermark
 abbrev pub IsLate : ℤ → KeyName → ObjectValue → FindingValue → Type 0
-IsLate w k o f = (d : ℤ) × (watermark_of (created k o) ≡ Some d) × (w <ℤ d) × (f ≡ late k (created k o) (printed w))
+IsLate w k o f = (d : ℤ) × (watermark_of (created k o) ≡ Some d) × (w <ℤ d)
+    × (f ≡ late k (created k o) (printed w))
 
 -- V6, as it is told of a domain's dates of expiry and creation
 abbrev pub early : KeyName → List ℕ → List ℕ → FindingValue
-early k text created_text = record { code = 6; kind = k.kind; key = k.text; field = codes "exDate"; value = text; other = created_text }
+early k text created_text = record {
+  code = 6;
+  kind = k.kind;
+  key = k.text;
+  field = codes "exDate";
+  value = text;
+  other = created_text;
+}
 
 -- V6: the date of expiry is earlier than that of creation
 abbrev pub IsEarly : KeyName → ObjectValue → FindingValue → Type 0
 IsEarly k o f =
-    (e : ℤ) × (d : ℤ) × (watermark_of (expires k o) ≡ Some e) × (watermark_of (created k o) ≡ Some d) × (e <ℤ d) × (f ≡ early k (expires k o) (created k o))
+    (e : ℤ) × (d : ℤ) × (watermark_of (expires k o) ≡ Some e)
+    × (watermark_of (created k o) ≡ Some d) × (e <ℤ d)
+    × (f ≡ early k (expires k o) (created k o))
 
 -- V7, as it is told of a date in a field
 abbrev pub malformed : KeyName → List ℕ → List ℕ → FindingValue
-malformed k field text = record { code = 7; kind = k.kind; key = k.text; field = field; value = text; other = [] }
+malformed k field text = record {
+  code = 7;
+  kind = k.kind;
+  key = k.text;
+  field = field;
+  value = text;
+  other = [];
+}
 
 -- V7: a date has not the form of a watermark, or is none of its years
 abbrev pub IsMalformed : KeyName → List ℕ → List ℕ → FindingValue → Type 0
@@ -80,7 +138,9 @@ IsMalformed k field text f = (text ≢ []) × (watermark_of text ≡ None) × (f
 -- an object's dates break a rule
 abbrev pub IsOfDates : ℤ → KeyName → ObjectValue → FindingValue → Type 0
 IsOfDates w k o f =
-    (IsLate w k o f ⊎ IsEarly k o f) ⊎ (IsMalformed k (codes "crDate") (created k o) f ⊎ IsMalformed k (codes "exDate") (expires k o) f)
+    (IsLate w k o f ⊎ IsEarly k o f)
+    ⊎ (IsMalformed k (codes "crDate") (created k o) f
+    ⊎ IsMalformed k (codes "exDate") (expires k o) f)
 
 -- an object by itself breaks a rule
 abbrev pub IsOwn : ℤ → KeyName → ObjectValue → FindingValue → Type 0
@@ -89,4 +149,5 @@ IsOwn w k o f = (IsUnknown k o f ⊎ IsMixed k o f) ⊎ IsOfDates w k o f
 -- what is found in these tables, by a watermark and the numbers declared
 abbrev pub IsFinding : Tables → ℤ → List (Kind × ℕ) → FindingValue → Type 0
 IsFinding t w counts f =
-    IsMissing t f ⊎ (IsMiscounted t counts f ⊎ ((k : KeyName) × (o : ObjectValue) × (t k ≡ Some o) × IsOwn w k o f))
+    IsMissing t f ⊎ (IsMiscounted t counts f
+    ⊎ ((k : KeyName) × (o : ObjectValue) × (t k ≡ Some o) × IsOwn w k o f))

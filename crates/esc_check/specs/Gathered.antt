@@ -1,6 +1,30 @@
--- What a walk over the objects gathers, with repeats, as lists. These are what the crate's own functions give one another; what
--- `verify` answers is said by `Findings` alone.
-use Rattle.std.specs.Prelude.{◌≡◌, ℕ, ℤ, int_lt, ◌==◌, Bool, true, false, not, ◌&&◌, if◌then◌else◌, List, [], ◌∷◌, ◌++◌, map, filter, count_by, Option, Some, None, is_some, codes}
+-- What a walk over the objects gathers, with repeats, as lists. These are what the crate's own
+-- functions give one another; what `verify` answers is said by `Findings` alone.
+use Rattle.std.specs.Prelude.{
+  ◌≡◌,
+  ℕ,
+  ℤ,
+  int_lt,
+  ◌==◌,
+  Bool,
+  true,
+  false,
+  not,
+  ◌&&◌,
+  if◌then◌else◌,
+  List,
+  [],
+  ◌∷◌,
+  ◌++◌,
+  map,
+  filter,
+  count_by,
+  Option,
+  Some,
+  None,
+  is_some,
+  codes,
+}
 use Rattle.std.specs.List.{flat_map, list_any}
 use Rattle.std.specs.BTreeSet as sorted
 use Rattle.std.specs.Map.{lookup, keys_of}
@@ -13,9 +37,26 @@ use Rattle.esc_tables.specs.ObjectValue.{RowValue, ObjectValue}
 use Rattle.esc_check.specs.declared.field.LinkField.{LinkField}
 use Rattle.esc_check.specs.declared.walk.Gathering.{Gathering}
 use Rattle.esc_check.specs.Export.{is_in}
-use Rattle.esc_check.specs.Fields.{cell, field_name, parent_fields, is_domain, child_field, status_table, created, expires}
+use Rattle.esc_check.specs.Fields.{
+  cell,
+  field_name,
+  parent_fields,
+  is_domain,
+  child_field,
+  status_table,
+  created,
+  expires,
+}
 use Rattle.esc_check.specs.FindingValue.{FindingValue}
-use Rattle.esc_check.specs.Findings.{missing_target, miscounted, unknown_status, mixed_status, late, early, malformed}
+use Rattle.esc_check.specs.Findings.{
+  missing_target,
+  miscounted,
+  unknown_status,
+  mixed_status,
+  late,
+  early,
+  malformed,
+}
 use Rattle.esc_check.specs.LinkValue.{LinkValue, link_to}
 use Rattle.esc_check.specs.Statuses.{status_words}
 use Rattle.esc_check.specs.Tables.{Entry}
@@ -44,7 +85,8 @@ child_links k r = row_links k r (child_field k.kind r.table)
 
 -- the links of an object
 abbrev pub links_of : KeyName → ObjectValue → List LinkValue
-links_of k o = flat_map (field_links k o.parent) (parent_fields k.kind) ++ flat_map (child_links k) o.children
+links_of k o = flat_map (field_links k o.parent) (parent_fields k.kind)
+    ++ flat_map (child_links k) o.children
 
 -- whether these entries have a key
 abbrev pub is_present : List Entry → KeyName → Bool
@@ -60,11 +102,13 @@ count_of keys kind = count_by (λ q. is_kind q.kind kind) keys
 
 -- what is found of a declared number, where these keys are there
 abbrev pub count_findings : List KeyName → Kind × ℕ → List FindingValue
-count_findings keys d = if count_of keys d.0 == d.1 then [] else miscounted d.0 d.1 (count_of keys d.0) ∷ []
+count_findings keys d = if count_of keys d.0 == d.1 then [] else miscounted d.0 d.1
+    (count_of keys d.0) ∷ []
 
 -- the status of a row, if it is of the table
 abbrev pub row_status : List ℕ → RowValue → List (List ℕ)
-row_status table r = if is_in table r then (if is_empty (cell (codes "status") r) then [] else cell (codes "status") r ∷ []) else []
+row_status table r = if is_in table r then
+    (if is_empty (cell (codes "status") r) then [] else cell (codes "status") r ∷ []) else []
 
 -- the statuses in a table
 abbrev pub statuses_in : Option (List ℕ) → List RowValue → List (List ℕ)
@@ -93,7 +137,8 @@ is_mixed kind ss = is_domain kind && (list_any is_ok ss && list_any (λ s. not (
 
 -- what is found of an object's statuses
 abbrev pub status_findings : KeyName → List (List ℕ) → List FindingValue
-status_findings k ss = flat_map (one_unknown k) ss ++ (if is_mixed k.kind ss then mixed_status k ∷ [] else [])
+status_findings k ss = flat_map (one_unknown k) ss
+    ++ (if is_mixed k.kind ss then mixed_status k ∷ [] else [])
 
 -- whether a moment is known and after another
 abbrev pub is_after : Option ℤ → ℤ → Bool
@@ -116,7 +161,9 @@ late_findings w shown k text = if is_after (watermark_of text) w then late k tex
 
 -- what is found of a date of expiry beside that of creation
 abbrev pub early_findings : KeyName → List ℕ → List ℕ → List FindingValue
-early_findings k text created_text = if is_before (watermark_of text) (watermark_of created_text) then early k text created_text ∷ [] else []
+early_findings k text created_text
+    = if is_before (watermark_of text) (watermark_of created_text) then early k text created_text
+    ∷ [] else []
 
 -- what is found of a date by itself
 abbrev pub malformed_findings : KeyName → List ℕ → List ℕ → List FindingValue
@@ -128,25 +175,33 @@ moment_findings w shown k c e = late_findings w shown k c ++ early_findings k e 
 
 -- what is found of their forms
 abbrev pub form_findings : KeyName → List ℕ → List ℕ → List FindingValue
-form_findings k c e = malformed_findings k (codes "crDate") c ++ malformed_findings k (codes "exDate") e
+form_findings k c e = malformed_findings k (codes "crDate") c
+    ++ malformed_findings k (codes "exDate") e
 
 -- what is found of an object by itself
 abbrev pub own_findings : ℤ → List ℕ → KeyName → ObjectValue → List FindingValue
 own_findings w shown k o =
-    status_findings k (statuses_of k o) ++ (moment_findings w shown k (created k o) (expires k o) ++ form_findings k (created k o) (expires k o))
+    status_findings k (statuses_of k o)
+    ++ (moment_findings w shown k (created k o) (expires k o)
+    ++ form_findings k (created k o) (expires k o))
 
 -- what is found of an object, where these keys are there
 abbrev pub object_findings : (KeyName → Bool) → ℤ → List ℕ → Entry → List FindingValue
-object_findings present w shown e = link_findings present (links_of e.0 e.1) ++ own_findings w shown e.0 e.1
+object_findings present w shown e = link_findings present (links_of e.0 e.1)
+    ++ own_findings w shown e.0 e.1
 
 -- the links of these entries
 abbrev pub all_links : List Entry → List LinkValue
 all_links es = flat_map (λ e. links_of e.0 e.1) es
 
--- a walk that has still to come to the entries left will have gathered what the whole has: what is found of each object by itself,
--- the keys, and of the links those that wait; a link that was let go leads to a key that was met
+-- a walk that has still to come to the entries left will have gathered what the whole has: what is
+-- found of each object by itself, the keys, and of the links those that wait; a link that was let
+-- go leads to a key that was met
 pub record Leads (w : ℤ) (shown : List ℕ) (g : Gathering) (left whole : List Entry) : Type 0 where
-  pub found : g.found.items ++ flat_map (λ e. own_findings w shown e.0 e.1) left ≡ flat_map (λ e. own_findings w shown e.0 e.1) whole
+  pub found : g.found.items ++ flat_map (λ e. own_findings w shown e.0 e.1) left
+      ≡ flat_map (λ e. own_findings w shown e.0 e.1) whole
   pub met : g.met.keys ++ keys_of left ≡ keys_of whole
-  pub waiting : (present : KeyName → Bool) → ((q : KeyName) → sorted.contains key_cmp g.met q ≡ true → present q ≡ true)
-      → link_findings present g.waiting.items ++ link_findings present (all_links left) ≡ link_findings present (all_links whole)
+  pub waiting : (present : KeyName → Bool)
+      → ((q : KeyName) → sorted.contains key_cmp g.met q ≡ true → present q ≡ true)
+      → link_findings present g.waiting.items ++ link_findings present (all_links left)
+      ≡ link_findings present (all_links whole)

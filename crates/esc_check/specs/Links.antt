@@ -16,7 +16,8 @@ LinksBy k r g l = (cell (field_name g) r ≢ []) × (l ≡ link_to k g (cell (fi
 abbrev pub IsLinkOf : KeyName → ObjectValue → LinkValue → Type 0
 IsLinkOf k o l =
     ((g : LinkField) × Contains (parent_fields k.kind) g × LinksBy k o.parent g l)
-    ⊎ ((r : RowValue) × (g : LinkField) × Contains o.children r × (child_field k.kind r.table ≡ Some g) × LinksBy k r g l)
+    ⊎ ((r : RowValue) × (g : LinkField) × Contains o.children r
+    × (child_field k.kind r.table ≡ Some g) × LinksBy k r g l)
 
 -- an object of the tables has the link
 abbrev pub IsLink : Tables → LinkValue → Type 0

@@ -34,7 +34,8 @@ fn add_miscounted(
     declared: u64,
     count: u64,
 ) -> Result<(), NoMemory>
-    ensures { OnOk result (found.new.items ≡ found.old.items ++ miscounted kind declared count ∷ []) }
+    ensures { OnOk result (found.new.items ≡ found.old.items
+        ++ miscounted kind declared count ∷ []) }
 {
     found.push(Finding {
         code: 2,
@@ -54,7 +55,8 @@ fn check_count(
     kind: Kind,
     declared: u64,
 ) -> Result<(), NoMemory>
-    ensures { OnOk result (found.new.items ≡ found.old.items ++ count_findings (keys_of t.now.entries) (kind, declared)) }
+    ensures { OnOk result (found.new.items ≡ found.old.items
+        ++ count_findings (keys_of t.now.entries) (kind, declared)) }
 {
     let count = count_of(t, kind);
     if count == declared {
@@ -77,7 +79,8 @@ fn check_met_count(
     kind: Kind,
     declared: u64,
 ) -> Result<(), NoMemory>
-    ensures { OnOk result (found.new.items ≡ found.old.items ++ count_findings met.now.keys (kind, declared)) }
+    ensures { OnOk result (found.new.items ≡ found.old.items
+        ++ count_findings met.now.keys (kind, declared)) }
 {
     let count = count_among(met, kind);
     if count == declared {
@@ -93,7 +96,8 @@ pub fn check_met(
     met: &BTreeSet<Key>,
     counts: &BTreeMap<Kind, u64>,
 ) -> Result<(), NoMemory>
-    ensures { OnOk result (found.new.items ≡ found.old.items ++ flat_map (count_findings met.now.keys) counts.now.entries) }
+    ensures { OnOk result (found.new.items ≡ found.old.items
+        ++ flat_map (count_findings met.now.keys) counts.now.entries) }
 {
     for (kind, declared) in counts.iter() {
         check_met_count(alloc, found, met, *kind, *declared)?;
@@ -108,7 +112,8 @@ pub fn check_counts(
     t: &BTreeMap<Key, Object>,
     counts: &BTreeMap<Kind, u64>,
 ) -> Result<(), NoMemory>
-    ensures { OnOk result (found.new.items ≡ found.old.items ++ flat_map (count_findings (keys_of t.now.entries)) counts.now.entries) }
+    ensures { OnOk result (found.new.items ≡ found.old.items
+        ++ flat_map (count_findings (keys_of t.now.entries)) counts.now.entries) }
 {
     for (kind, declared) in counts.iter() {
         check_count(alloc, found, t, *kind, *declared)?;

@@ -3,7 +3,16 @@
 ghost use Rattle.std.specs.Prelude.{◌≡◌, ◌++◌, OnOk, IfOk, string_bytes};
 ghost use Rattle.esc_check.specs.Fields.{created, expires};
 ghost use Rattle.esc_check.specs.Findings.{printed};
-ghost use Rattle.esc_check.specs.Gathered.{is_after, is_before, is_malformed, late_findings, early_findings, malformed_findings, moment_findings, form_findings};
+ghost use Rattle.esc_check.specs.Gathered.{
+  is_after,
+  is_before,
+  is_malformed,
+  late_findings,
+  early_findings,
+  malformed_findings,
+  moment_findings,
+  form_findings,
+};
 
 use crate::field::{created, expires};
 use crate::finding::{Finding, add};
@@ -68,7 +77,8 @@ fn add_late(
     key: &Key,
     created: &str,
 ) -> Result<(), NoMemory>
-    ensures { OnOk result (found.new.items ≡ found.old.items ++ late_findings limit.now.moment (string_bytes limit.now.text) key.now created.now) }
+    ensures { OnOk result (found.new.items ≡ found.old.items
+        ++ late_findings limit.now.moment (string_bytes limit.now.text) key.now created.now) }
 {
     if is_after(moment_of(created), limit.moment) {
         return add(alloc, found, 5, key, "crDate", created, limit.text.as_str());
@@ -83,7 +93,8 @@ fn add_early(
     expires: &str,
     created: &str,
 ) -> Result<(), NoMemory>
-    ensures { OnOk result (found.new.items ≡ found.old.items ++ early_findings key.now expires.now created.now) }
+    ensures { OnOk result (found.new.items ≡ found.old.items
+        ++ early_findings key.now expires.now created.now) }
 {
     if is_before(moment_of(expires), moment_of(created)) {
         return add(alloc, found, 6, key, "exDate", expires, created);
@@ -98,7 +109,8 @@ fn add_malformed(
     field: &str,
     text: &str,
 ) -> Result<(), NoMemory>
-    ensures { OnOk result (found.new.items ≡ found.old.items ++ malformed_findings key.now field.now text.now) }
+    ensures { OnOk result (found.new.items ≡ found.old.items
+        ++ malformed_findings key.now field.now text.now) }
 {
     if is_malformed(text) {
         return add(alloc, found, 7, key, field, text, "");
@@ -114,7 +126,9 @@ pub fn check_moments(
     key: &Key,
     object: &Object,
 ) -> Result<(), NoMemory>
-    ensures { OnOk result (found.new.items ≡ found.old.items ++ moment_findings limit.now.moment (string_bytes limit.now.text) key.now (created key.now object.now) (expires key.now object.now)) }
+    ensures { OnOk result (found.new.items ≡ found.old.items
+        ++ moment_findings limit.now.moment (string_bytes limit.now.text) key.now
+        (created key.now object.now) (expires key.now object.now)) }
 {
     let creation = created(key, object);
     add_late(alloc, found, limit, key, creation)?;
@@ -128,7 +142,8 @@ pub fn check_forms(
     key: &Key,
     object: &Object,
 ) -> Result<(), NoMemory>
-    ensures { OnOk result (found.new.items ≡ found.old.items ++ form_findings key.now (created key.now object.now) (expires key.now object.now)) }
+    ensures { OnOk result (found.new.items ≡ found.old.items
+        ++ form_findings key.now (created key.now object.now) (expires key.now object.now)) }
 {
     add_malformed(alloc, found, key, "crDate", created(key, object))?;
     add_malformed(alloc, found, key, "exDate", expires(key, object))

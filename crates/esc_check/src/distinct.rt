@@ -19,8 +19,8 @@ pub fn settle(mut found: Vec<Finding>) -> Vec<Finding>
     found
 }
 
-/// Of findings in order, of those that stand next to each other and differ only in what is told besides, the first. Takes no
-/// memory.
+/// Of findings in order, of those that stand next to each other and differ only in what is told
+/// besides, the first. Takes no memory.
 pub fn listed(mut found: Vec<Finding>) -> Vec<Finding>
     requires { IsStrictlySortedBy finding_cmp found.items }
     ensures ordered { IsStrictlySortedBy listing_cmp result.items }

@@ -1,11 +1,34 @@
 //! The export of all objects of a kind.
 
-ghost use Rattle.std.specs.Prelude.{◌≡◌, ◌+◌, [], ◌<◌, ◌^◌, ◌∷◌, ◌++◌, List, map, length, count_by, IfOk, IfErr, OnOk, string_bytes};
+ghost use Rattle.std.specs.Prelude.{
+  ◌≡◌,
+  ◌+◌,
+  [],
+  ◌<◌,
+  ◌^◌,
+  ◌∷◌,
+  ◌++◌,
+  List,
+  map,
+  length,
+  count_by,
+  IfOk,
+  IfErr,
+  OnOk,
+  string_bytes,
+};
 ghost use Rattle.std.specs.Fmt.{decimal};
 ghost use Rattle.esc_apply.specs.Objects.{Entry};
 ghost use Rattle.esc_envelope.specs.Kinds.{kind_name, is_kind};
 ghost use Rattle.esc_csv.specs.Lines.{line_text, text_of};
-ghost use Rattle.esc_check.specs.Export.{heading, row_lines, is_in, child_lines, object_lines, export_text};
+ghost use Rattle.esc_check.specs.Export.{
+  heading,
+  row_lines,
+  is_in,
+  child_lines,
+  object_lines,
+  export_text,
+};
 ghost use Rattle.esc_check.specs.Streams.{IfSource};
 
 use crate::stream::StreamFault;
@@ -17,9 +40,9 @@ use esc_tables::{Key, Object, Row};
 use std::alloc::Global;
 use std::collections::BTreeMap;
 
-/// The export of a kind as CSV (this project's profile): by key in byte order; of an object the parent row first, with
-/// number 0, then its child rows, each with its place among the object's rows of that table, from 1; a line for each
-/// cell, in the declared order.
+/// The export of a kind as CSV (this project's profile): by key in byte order; of an object the
+/// parent row first, with number 0, then its child rows, each with its place among the object's
+/// rows of that table, from 1; a line for each cell, in the declared order.
 pub fn export_rows(
     alloc: Global,
     t: &BTreeMap<Key, Object>,
@@ -46,7 +69,8 @@ pub fn export_from<O: Objects>(
 ) -> Result<Vec<u8>, StreamFault<O::Error>>
     ensures follows { O.follows o.old o.new }
     ensures source { IfErr result (λ fault. IfSource fault (O.has_failed o.new)) }
-    ensures text { IfOk result (λ text. O.is_honest o.new → (es : List Entry) → O.lists o.old es → text.items ≡ export_text kind es) }
+    ensures text { IfOk result (λ text. O.is_honest o.new → (es : List Entry) → O.lists o.old es
+        → text.items ≡ export_text kind es) }
 {
     let mut lines = Lines::new(alloc);
     write_heading(&mut lines)?;
@@ -101,8 +125,8 @@ fn write_children(
     Ok(())
 }
 
-// The place of a row of a table behind these rows, of which `last` has `number`. Where rows stand by table, as those of
-// a deposit do, each table is counted once.
+// The place of a row of a table behind these rows, of which `last` has `number`. Where rows stand
+// by table, as those of a deposit do, each table is counted once.
 fn number_behind(earlier: &[Row], last: &str, number: usize, table: &str) -> usize
     requires known { number ≡ count_by (is_in last.now) earlier.now }
     requires room { length earlier.now + 1 < 2 ^ 64 }
@@ -152,7 +176,9 @@ fn write_cell(
     field: &str,
     value: &str,
 ) -> Result<(), NoMemory>
-    ensures { OnOk result (lines.new ≡ lines.old ++ line_text (kind_name key.now.kind ∷ key.now.text ∷ row.now.table ∷ number.now ∷ field.now ∷ value.now ∷ [])) }
+    ensures { OnOk result (lines.new
+        ≡ lines.old ++ line_text (kind_name key.now.kind ∷ key.now.text ∷ row.now.table ∷ number.now
+        ∷ field.now ∷ value.now ∷ [])) }
 {
     write_fields(
         lines,
@@ -174,7 +200,9 @@ fn write_fields<'x>(
     field: &'x [u8],
     value: &'x [u8],
 ) -> Result<(), NoMemory>
-    ensures { OnOk result (lines.new ≡ lines.old ++ line_text (kind.now ∷ key.now ∷ table.now ∷ row.now ∷ field.now ∷ value.now ∷ [])) }
+    ensures { OnOk result (lines.new
+        ≡ lines.old ++ line_text (kind.now ∷ key.now ∷ table.now ∷ row.now ∷ field.now ∷ value.now
+        ∷ [])) }
 {
     lines.write(&[kind, key, table, row, field, value])
 }

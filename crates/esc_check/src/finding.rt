@@ -15,7 +15,8 @@ use std::alloc::Global;
 use std::cmp::Ordering;
 use std::marker::Model;
 
-/// Where the tables of a registry break a rule. Ordered by the fields in turn, texts by their bytes.
+/// Where the tables of a registry break a rule. Ordered by the fields in turn, texts by their
+/// bytes.
 #[derive(Debug, Drop)]
 pub struct Finding {
     /// 1 to 7, of V1 to V7.
@@ -25,8 +26,8 @@ pub struct Finding {
     pub key: String,
     pub field: String,
     pub value: String,
-    /// What is told besides: the target's kind in V1, the number found in V2, the watermark in V5, the date of creation
-    /// in V6.
+    /// What is told besides: the target's kind in V1, the number found in V2, the watermark in V5,
+    /// the date of creation in V6.
     pub other: String,
 }
 
@@ -36,7 +37,14 @@ impl Model for Finding {
 
     ghost Value = { FindingValue };
 
-    ghost view = { λ f. record { code = f.code; kind = f.kind; key = string_bytes f.key; field = string_bytes f.field; value = string_bytes f.value; other = string_bytes f.other } };
+    ghost view = { λ f. record {
+      code = f.code;
+      kind = f.kind;
+      key = string_bytes f.key;
+      field = string_bytes f.field;
+      value = string_bytes f.value;
+      other = string_bytes f.other;
+    } };
 }
 
 impl PartialEq for Finding {
@@ -97,7 +105,15 @@ pub fn add(
     value: &str,
     other: &str,
 ) -> Result<(), NoMemory>
-    ensures { OnOk result (found.new.items ≡ found.old.items ++ record { code = code; kind = key.now.kind; key = key.now.text; field = field.now; value = value.now; other = other.now } ∷ []) }
+    ensures { OnOk result (found.new.items ≡ found.old.items
+        ++ record {
+          code = code;
+          kind = key.now.kind;
+          key = key.now.text;
+          field = field.now;
+          value = value.now;
+          other = other.now;
+        } ∷ []) }
 {
     found.push(Finding {
         code,

@@ -7,7 +7,14 @@ ghost use Rattle.esc_tables.specs.KeyName.{key_cmp};
 ghost use Rattle.esc_tables.specs.TableRow.{is_dns, key_named};
 ghost use Rattle.esc_check.specs.Fields.{parent_fields};
 ghost use Rattle.esc_check.specs.Findings.{missing_target};
-ghost use Rattle.esc_check.specs.Gathered.{text_links, field_links, child_links, links_of, is_present, link_findings};
+ghost use Rattle.esc_check.specs.Gathered.{
+  text_links,
+  field_links,
+  child_links,
+  links_of,
+  is_present,
+  link_findings,
+};
 
 use crate::field::{LinkField, cell, child_field, parent_fields};
 use crate::finding::{Finding, add};
@@ -62,7 +69,8 @@ fn add_link(
     field: LinkField,
     text: &str,
 ) -> Result<(), NoMemory>
-    ensures { OnOk result (links.new.items ≡ links.old.items ++ text_links from.now field text.now) }
+    ensures { OnOk result (links.new.items ≡ links.old.items
+        ++ text_links from.now field text.now) }
 {
     if text.is_empty() {
         return Ok(());
@@ -81,7 +89,8 @@ fn add_of_parent(
     key: &Key,
     parent: &Row,
 ) -> Result<(), NoMemory>
-    ensures { OnOk result (links.new.items ≡ links.old.items ++ flat_map (field_links key.now parent.now) (parent_fields key.now.kind)) }
+    ensures { OnOk result (links.new.items ≡ links.old.items
+        ++ flat_map (field_links key.now parent.now) (parent_fields key.now.kind)) }
 {
     for field in parent_fields(key.kind) {
         add_link(alloc, links, key, *field, cell(parent, field.name()))?;
@@ -104,7 +113,8 @@ fn add_of_children(
     key: &Key,
     children: &[Row],
 ) -> Result<(), NoMemory>
-    ensures { OnOk result (links.new.items ≡ links.old.items ++ flat_map (child_links key.now) children.now) }
+    ensures { OnOk result (links.new.items ≡ links.old.items
+        ++ flat_map (child_links key.now) children.now) }
 {
     for row in children {
         add_of_child(alloc, links, key, row)?;
@@ -152,7 +162,8 @@ pub fn check_links(
     t: &BTreeMap<Key, Object>,
     links: &[Link],
 ) -> Result<(), NoMemory>
-    ensures { OnOk result (found.new.items ≡ found.old.items ++ link_findings (is_present t.now.entries) links.now) }
+    ensures { OnOk result (found.new.items ≡ found.old.items
+        ++ link_findings (is_present t.now.entries) links.now) }
 {
     for link in links {
         if !is_missing(t, link) {

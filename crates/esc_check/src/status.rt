@@ -5,7 +5,15 @@ ghost use Rattle.std.specs.List.{flat_map, list_any};
 ghost use Rattle.std.specs.Option.{option_map};
 ghost use Rattle.std.specs.Str.{bytes_eq};
 ghost use Rattle.esc_check.specs.Fields.{status_table};
-ghost use Rattle.esc_check.specs.Gathered.{is_ok, is_mixed, is_status, row_status, statuses_of, one_unknown, status_findings};
+ghost use Rattle.esc_check.specs.Gathered.{
+  is_ok,
+  is_mixed,
+  is_status,
+  row_status,
+  statuses_of,
+  one_unknown,
+  status_findings,
+};
 ghost use Rattle.esc_check.specs.Statuses.{status_words};
 
 use crate::field::{cell, is_domain};
@@ -101,7 +109,8 @@ fn statuses_in<'a>(
     table: &str,
     children: &'a [Row],
 ) -> Result<Vec<&'a str>, NoMemory>
-    ensures { IfOk result (λ v. map (λ s. s.now) v.items ≡ flat_map (row_status table.now) children.now) }
+    ensures { IfOk result (λ v. map (λ s. s.now) v.items
+        ≡ flat_map (row_status table.now) children.now) }
 {
     let mut statuses = Vec::new(alloc);
     for row in children {
@@ -163,7 +172,8 @@ fn check_each(
     key: &Key,
     statuses: &[&str],
 ) -> Result<(), NoMemory>
-    ensures { OnOk result (found.new.items ≡ found.old.items ++ status_findings key.now (map (λ s. s.now) statuses.now)) }
+    ensures { OnOk result (found.new.items ≡ found.old.items
+        ++ status_findings key.now (map (λ s. s.now) statuses.now)) }
 {
     for status in statuses {
         add_unknown(alloc, found, key, status)?;
@@ -181,7 +191,8 @@ pub fn check_statuses(
     key: &Key,
     object: &Object,
 ) -> Result<(), NoMemory>
-    ensures { OnOk result (found.new.items ≡ found.old.items ++ status_findings key.now (statuses_of key.now object.now)) }
+    ensures { OnOk result (found.new.items ≡ found.old.items
+        ++ status_findings key.now (statuses_of key.now object.now)) }
 {
     match status_table(key.kind) {
         Some(table) => {

@@ -7,7 +7,13 @@ ghost use Rattle.std.specs.Map.{keys_of};
 ghost use Rattle.esc_tables.specs.KeyName.{key_cmp};
 ghost use Rattle.esc_check.specs.FindingValue.{FindingValue, listing_cmp};
 ghost use Rattle.esc_check.specs.Findings.{IsFinding};
-ghost use Rattle.esc_check.specs.Gathered.{is_present, links_of, link_findings, own_findings, object_findings};
+ghost use Rattle.esc_check.specs.Gathered.{
+  is_present,
+  links_of,
+  link_findings,
+  own_findings,
+  object_findings,
+};
 ghost use Rattle.esc_check.specs.Tables.{tables_of};
 
 use crate::count::check_counts;
@@ -30,7 +36,8 @@ pub fn check_own(
     key: &Key,
     object: &Object,
 ) -> Result<(), NoMemory>
-    ensures { OnOk result (found.new.items ≡ found.old.items ++ own_findings limit.now.moment (string_bytes limit.now.text) key.now object.now) }
+    ensures { OnOk result (found.new.items ≡ found.old.items
+        ++ own_findings limit.now.moment (string_bytes limit.now.text) key.now object.now) }
 {
     check_statuses(alloc, found, key, object)?;
     check_moments(alloc, found, limit, key, object)?;
@@ -45,7 +52,8 @@ fn check_linked(
     key: &Key,
     object: &Object,
 ) -> Result<(), NoMemory>
-    ensures { OnOk result (found.new.items ≡ found.old.items ++ link_findings (is_present t.now.entries) (links_of key.now object.now)) }
+    ensures { OnOk result (found.new.items ≡ found.old.items
+        ++ link_findings (is_present t.now.entries) (links_of key.now object.now)) }
 {
     let mut links = Vec::new(alloc);
     add_links(alloc, &mut links, key, object)?;
@@ -60,7 +68,9 @@ fn check_object(
     key: &Key,
     object: &Object,
 ) -> Result<(), NoMemory>
-    ensures { OnOk result (found.new.items ≡ found.old.items ++ object_findings (is_present t.now.entries) limit.now.moment (string_bytes limit.now.text) (key.now, object.now)) }
+    ensures { OnOk result (found.new.items ≡ found.old.items
+        ++ object_findings (is_present t.now.entries) limit.now.moment (string_bytes limit.now.text)
+        (key.now, object.now)) }
 {
     check_linked(alloc, found, t, key, object)?;
     check_own(alloc, found, limit, key, object)
@@ -73,7 +83,9 @@ fn check_objects(
     limit: &Limit,
 ) -> Result<(), NoMemory>
     ensures ordered { OnOk result (IsStrictlySortedBy key_cmp (keys_of t.now.entries)) }
-    ensures added { OnOk result (found.new.items ≡ found.old.items ++ flat_map (object_findings (is_present t.now.entries) limit.now.moment (string_bytes limit.now.text)) t.now.entries) }
+    ensures added { OnOk result (found.new.items ≡ found.old.items
+        ++ flat_map (object_findings (is_present t.now.entries) limit.now.moment
+        (string_bytes limit.now.text)) t.now.entries) }
 {
     for (key, object) in t.iter() {
         check_object(alloc, found, t, limit, key, object)?;
@@ -81,8 +93,9 @@ fn check_objects(
     Ok(())
 }
 
-/// What is found in the tables of a registry at a watermark, for which these numbers of objects are declared: V1 to V7,
-/// each once, by code, kind, key, field and value, texts by their bytes (this project's profile).
+/// What is found in the tables of a registry at a watermark, for which these numbers of objects are
+/// declared: V1 to V7, each once, by code, kind, key, field and value, texts by their bytes (this
+/// project's profile).
 pub fn verify(
     alloc: Global,
     t: &BTreeMap<Key, Object>,
@@ -90,7 +103,9 @@ pub fn verify(
     counts: &BTreeMap<Kind, u64>,
 ) -> Result<Vec<Finding>, NoMemory>
     ensures ordered { IfOk result (λ found. IsStrictlySortedBy listing_cmp found.items) }
-    ensures each { IfOk result (λ found. (f : FindingValue) → Contains found.items f ↔ IsFinding (tables_of t.now.entries) watermark counts.now.entries f) }
+    ensures each { IfOk result (λ found. (f : FindingValue)
+        → Contains found.items f ↔ IsFinding (tables_of t.now.entries) watermark counts.now.entries
+        f) }
 {
     let limit = limit_at(alloc, watermark)?;
     let mut found = Vec::new(alloc);

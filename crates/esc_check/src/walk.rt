@@ -45,7 +45,8 @@ fn start(alloc: Global) -> Gathering
     }
 }
 
-// Takes the next object in. Nearly all links lead to objects of an earlier kind, so that they are met, and are not kept.
+// Takes the next object in. Nearly all links lead to objects of an earlier kind, so that they are
+// met, and are not kept.
 fn take_in(
     alloc: Global,
     g: &mut Gathering,
@@ -53,7 +54,10 @@ fn take_in(
     key: Key,
     object: &Object,
 ) -> Result<(), NoMemory>
-    ensures { OnOk result ((left whole : List Entry) → InOrder whole → Leads limit.now.moment (string_bytes limit.now.text) g.old ((key, object.now) ∷ left) whole → Leads limit.now.moment (string_bytes limit.now.text) g.new left whole) }
+    ensures { OnOk result ((left whole : List Entry) → InOrder whole
+        → Leads limit.now.moment (string_bytes limit.now.text) g.old
+        ((key, object.now) ∷ left) whole
+        → Leads limit.now.moment (string_bytes limit.now.text) g.new left whole) }
 {
     check_own(alloc, &mut g.found, limit, &key, object)?;
     let mut links = Vec::new(alloc);
@@ -63,15 +67,17 @@ fn take_in(
     Ok(())
 }
 
-// What is found of all the objects that were taken in. Where a source that isn't honest gives a key twice, findings may differ
-// only in what is told besides; then one of them is listed.
+// What is found of all the objects that were taken in. Where a source that isn't honest gives a key
+// twice, findings may differ only in what is told besides; then one of them is listed.
 fn finish(
     alloc: Global,
     g: Gathering,
     counts: &BTreeMap<Kind, u64>,
 ) -> Result<Vec<Finding>, NoMemory>
     ensures ordered { IfOk result (λ found. IsStrictlySortedBy listing_cmp found.items) }
-    ensures each { IfOk result (λ found. (es : List Entry) (w : ℤ) → InOrder es → Leads w (printed w) g [] es → (f : FindingValue) → Contains found.items f ↔ IsFinding (tables_of es) w counts.now.entries f) }
+    ensures each { IfOk result (λ found. (es : List Entry) (w : ℤ) → InOrder es
+        → Leads w (printed w) g [] es → (f : FindingValue)
+        → Contains found.items f ↔ IsFinding (tables_of es) w counts.now.entries f) }
 {
     let Gathering {
         mut found,
@@ -101,8 +107,9 @@ fn gather<O: Objects>(
     Ok(gathered)
 }
 
-/// What `verify` finds in the tables of a registry, found of their objects as they come one at a time. It takes memory for
-/// what is found, for the keys, and for the links that lead to what had not come before them.
+/// What `verify` finds in the tables of a registry, found of their objects as they come one at a
+/// time. It takes memory for what is found, for the keys, and for the links that lead to what had
+/// not come before them.
 pub fn verify_from<O: Objects>(
     alloc: Global,
     o: &mut O,
@@ -112,7 +119,9 @@ pub fn verify_from<O: Objects>(
     ensures follows { O.follows o.old o.new }
     ensures source { IfErr result (λ fault. IfSource fault (O.has_failed o.new)) }
     ensures ordered { IfOk result (λ found. IsStrictlySortedBy listing_cmp found.items) }
-    ensures each { IfOk result (λ found. O.is_honest o.new → (es : List Entry) → O.lists o.old es → (f : FindingValue) → Contains found.items f ↔ IsFinding (tables_of es) watermark counts.now.entries f) }
+    ensures each { IfOk result (λ found. O.is_honest o.new → (es : List Entry) → O.lists o.old es
+        → (f : FindingValue) → Contains found.items f ↔ IsFinding
+        (tables_of es) watermark counts.now.entries f) }
 {
     let limit = limit_at(alloc, watermark)?;
     let gathered = gather(alloc, o, &limit)?;

@@ -1,12 +1,14 @@
 //! A client's connection, for which nobody waits without end.
 //!
-//! One connection is served at a time, so a client that sends a byte now and then, or takes its response so, would hold up
-//! all others. A time limit for each read doesn't help: each byte would have it anew. So the time that a client is waited for
-//! is counted as a whole, and bounded by what came or went.
+//! One connection is served at a time, so a client that sends a byte now and then, or takes its
+//! response so, would hold up all others. A time limit for each read doesn't help: each byte would
+//! have it anew. So the time that a client is waited for is counted as a whole, and bounded by what
+//! came or went.
 //!
-//! What goes in: a clock, a stream whose reads and writes can be limited in time, and a [`Patience`]. What comes out: a
-//! [`Client`], a reader and writer over the stream, that fails once the patience is over. Only the time within a read or a
-//! write counts, so that work between two of them costs a client nothing.
+//! What goes in: a clock, a stream whose reads and writes can be limited in time, and a
+//! [`Patience`]. What comes out: a [`Client`], a reader and writer over the stream, that fails once
+//! the patience is over. Only the time within a read or a write counts, so that work between two of
+//! them costs a client nothing.
 //!
 //! | Patience | The client is waited for |
 //! |---|---|
@@ -19,14 +21,16 @@
 //! ```text
 //! let (stream, _address) = listener.accept()?;
 //! let mut reader = Client::new(rt, &stream, Patience::for_request());
-//! reader.read(&mut buffer)?       // fails 10 seconds after the accept at the latest, where nothing comes
+//! reader.read(&mut buffer)?       // fails 10 seconds after the accept at the latest, where
+//! nothing comes
 //! ```
 //!
 //! # What the contracts mean
 //!
-//! `specs/Patience.antt` has the rule: `granted` of the bytes, `waited`, and `IsOver` where the one is not over the other. A
-//! read or a write of a `Client` fails where its patience is over, and begins nothing. Else the stream is limited to
-//! `next_wait`. That a limited read ends in time is the system's, and so is the clock: no contract says so.
+//! `specs/Patience.antt` has the rule: `granted` of the bytes, `waited`, and `IsOver` where the one
+//! is not over the other. A read or a write of a `Client` fails where its patience is over, and
+//! begins nothing. Else the stream is limited to `next_wait`. That a limited read ends in time is
+//! the system's, and so is the clock: no contract says so.
 #![tactic(auto)]
 
 mod client;

@@ -2,7 +2,16 @@
 
 ghost use Rattle.std.specs.Prelude.{◌≡◌, ◌+◌, ◌^◌, ◌-◌, ◌↔◌, min, IsNone, IfSome};
 ghost use Rattle.std.specs.Duration.{as_nanos, max_nanos};
-ghost use Rattle.esc_client.specs.Patience.{most_seconds, pause, moved, waited, granted, next_wait, IsOver, IsNew};
+ghost use Rattle.esc_client.specs.Patience.{
+  most_seconds,
+  pause,
+  moved,
+  waited,
+  granted,
+  next_wait,
+  IsOver,
+  IsNew,
+};
 
 use std::time::Duration;
 
@@ -83,7 +92,8 @@ impl Patience {
         Duration::from_secs(seconds.min(self.most))
     }
 
-    /// How long the next wait may last. There is none once the client was waited for as long as it is granted.
+    /// How long the next wait may last. There is none once the client was waited for as long as it
+    /// is granted.
     pub fn next_wait(&self) -> Option<Duration>
         ensures none { IsNone result ↔ IsOver self.now }
         ensures some { IfSome result (λ time. as_nanos time ≡ next_wait self.now) }

@@ -46,8 +46,8 @@ enum Job<'a> {
     Desk(DeskTask<'a>),
 }
 
-/// Runs the program on the words after its name. Returns the status. Help is printed on standard output, and what is wrong
-/// with the words on standard error.
+/// Runs the program on the words after its name. Returns the status. Help is printed on standard
+/// output, and what is wrong with the words on standard error.
 pub fn run_words<N, O, E>(
     rt: &HostRuntime,
     net: &N,
@@ -129,8 +129,9 @@ fn finish<O: Write>(rt: &HostRuntime, done: Result<Ended, Stop>, out: &mut O) ->
     Ok(ended.status)
 }
 
-// `init --store FILE --manifest FILE`: makes a store of a manifest, and tells how many rows that lists. A store that was made
-// stands, in the file or in its log, so a close that fails refuses nothing.
+// `init --store FILE --manifest FILE`: makes a store of a manifest, and tells how many rows that
+// lists. A store that was made stands, in the file or in its log, so a close that fails refuses
+// nothing.
 fn init<N, O, E>(
     rt: &HostRuntime,
     net: &N,
@@ -171,8 +172,8 @@ fn listed(alloc: Global, manifest: &Manifest) -> Result<Vec<u8>, AllocError> {
     Ok(line.into_bytes())
 }
 
-// Does a task with the desk of the store in a file. What was answered before a stop stays, and a stop is told before a
-// close that fails.
+// Does a task with the desk of the store in a file. What was answered before a stop stays, and a
+// stop is told before a close that fails.
 fn use_store<N, O, E>(
     rt: &HostRuntime,
     net: &N,

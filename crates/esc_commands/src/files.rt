@@ -19,7 +19,8 @@ pub struct Listing {
     pub unnamed: usize,
 }
 
-/// What stands for a path that can't be read, listed or written: `E1 PATH`, or `S2` where memory was refused.
+/// What stands for a path that can't be read, listed or written: `E1 PATH`, or `S2` where memory
+/// was refused.
 pub fn stop_at(rt: &HostRuntime, path: &str, error: &Error) -> Stop {
     if error.kind() == ErrorKind::OutOfMemory {
         return NO_MEMORY;
@@ -46,14 +47,15 @@ pub fn check_access(rt: &HostRuntime, path: &str) -> Result<(), Stop> {
     }
 }
 
-/// The bytes of a plain file, or of one that a link leads to: at most one more than `most`. So a file that is too long shows
-/// in the length of what was read, and its end is not waited for.
+/// The bytes of a plain file, or of one that a link leads to: at most one more than `most`. So a
+/// file that is too long shows in the length of what was read, and its end is not waited for.
 pub fn read_file(rt: &HostRuntime, path: &str, most: u64) -> Result<Vec<u8>, Stop> {
     plain_length(rt, path, fs::metadata(rt, path))?;
     read_front(rt, path, most)
 }
 
-/// The body in a plain file, which may not be a link. There is none in a file that is too long for one.
+/// The body in a plain file, which may not be a link. There is none in a file that is too long for
+/// one.
 pub fn read_body(rt: &HostRuntime, path: &str) -> Result<Option<Vec<u8>>, Stop> {
     if plain_length(rt, path, fs::symlink_metadata(rt, path))? > MOST_BYTES {
         return Ok(None);
@@ -66,8 +68,8 @@ pub fn read_body(rt: &HostRuntime, path: &str) -> Result<Option<Vec<u8>>, Stop> 
     }
 }
 
-// The length of what was found at a path, which has to be a plain file: a pipe would be waited for until somebody writes it,
-// and a device may have no end.
+// The length of what was found at a path, which has to be a plain file: a pipe would be waited for
+// until somebody writes it, and a device may have no end.
 fn plain_length(
     rt: &HostRuntime,
     path: &str,

@@ -14,9 +14,9 @@ const READS_AFTER: usize = 2048;
 
 const BYTES_AT_ONCE: usize = 16_384;
 
-/// Listens on a port of 127.0.0.1, says so, and serves connections one after the other: one request each. A read or
-/// write that fails is told, as one does of a client that was waited for too long, and the next connection is served. Returns
-/// the status.
+/// Listens on a port of 127.0.0.1, says so, and serves connections one after the other: one request
+/// each. A read or write that fails is told, as one does of a client that was waited for too long,
+/// and the next connection is served. Returns the status.
 pub fn serve_connections<N, S, O, E>(
     rt: &HostRuntime,
     net: &N,
@@ -62,8 +62,9 @@ fn serve_next<S: Alter, E: Write>(
     Ok(())
 }
 
-// Ends a connection. A client whose request was refused before its end still sends, and where nobody reads that it finds the
-// connection broken and may miss its response: so the rest is read and dropped, within limits.
+// Ends a connection. A client whose request was refused before its end still sends, and where
+// nobody reads that it finds the connection broken and may miss its response: so the rest is read
+// and dropped, within limits.
 fn see_off(rt: &HostRuntime, stream: &TcpStream) {
     if stream.shutdown(Shutdown::Write).is_err() {
         return;

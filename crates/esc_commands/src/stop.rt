@@ -79,8 +79,9 @@ impl<T: Drop> From<AllocFailed<T>> for Stop {
     }
 }
 
-/// A name or a path as a refusal tells it: in one line, so that no name can look like a second refusal. Where a control
-/// character is in it, as a line end, those are escaped as Rust writes them (`\n`, `\u{1b}`), and so are backslashes.
+/// A name or a path as a refusal tells it: in one line, so that no name can look like a second
+/// refusal. Where a control character is in it, as a line end, those are escaped as Rust writes
+/// them (`\n`, `\u{1b}`), and so are backslashes.
 #[derive(Clone, Copy)]
 struct OneLine<'a>(&'a str);
 
@@ -111,7 +112,8 @@ pub fn print<O: Write>(rt: &HostRuntime, out: &mut O, text: &[u8]) -> Result<(),
     }
 }
 
-/// Tells a refusal that doesn't stop the program. Where standard error fails there is nobody to tell.
+/// Tells a refusal that doesn't stop the program. Where standard error fails there is nobody to
+/// tell.
 pub fn tell<E: Write>(
     rt: &HostRuntime,
     err: &mut E,

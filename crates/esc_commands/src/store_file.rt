@@ -1,6 +1,7 @@
 //! The file of a store: each command opens it once, and closes it before it ends.
 //!
-//! The functions over a `Connection<S>` do the work. Those over a `FileStore<File>` only open and close.
+//! The functions over a `Connection<S>` do the work. Those over a `FileStore<File>` only open and
+//! close.
 
 use crate::files::{check_access, is_missing};
 use crate::stop::Stop;
@@ -32,7 +33,8 @@ pub fn open_file(rt: &HostRuntime, path: &str) -> Result<Connection<FileStore<Fi
     }
 }
 
-// Why a file can't be opened as a database: `E1` where the system doesn't let it be read and written, else `S1`.
+// Why a file can't be opened as a database: `E1` where the system doesn't let it be read and
+// written, else `S1`.
 fn why_closed(rt: &HostRuntime, path: &str) -> Stop {
     if names_no_file(path) {
         return Stop::Store(SFault::S1);

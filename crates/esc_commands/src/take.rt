@@ -7,8 +7,9 @@ use esc_http::{receipt_line, receipts_heading};
 use sqlite::Alter;
 use std::io::Write;
 
-/// Takes every plain file of a folder in byte order of names, the name being the arrival's number, and prints the receipts
-/// report: its heading once the folder is listed, then a line for each arrival as it is answered. Answers the status.
+/// Takes every plain file of a folder in byte order of names, the name being the arrival's number,
+/// and prints the receipts report: its heading once the folder is listed, then a line for each
+/// arrival as it is answered. Answers the status.
 pub fn take_folder<S: Alter, O: Write, E: Write>(
     rt: &HostRuntime,
     desk: &mut Desk<S>,
@@ -31,8 +32,8 @@ pub fn take_folder<S: Alter, O: Write, E: Write>(
     Ok(status)
 }
 
-// Takes one file, and says whether its deposit is held. A name that is no number and a body that is too long are told, and
-// are no arrivals.
+// Takes one file, and says whether its deposit is held. A name that is no number and a body that is
+// too long are told, and are no arrivals.
 fn take_file<S: Alter, O: Write, E: Write>(
     rt: &HostRuntime,
     desk: &mut Desk<S>,

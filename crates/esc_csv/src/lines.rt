@@ -8,7 +8,8 @@ use esc_bundle::NoMemory;
 use std::alloc::Global;
 use std::marker::Model;
 
-/// A text of CSV lines, each ended by LF, with quotes only where a field needs them. Contracts see it as its bytes.
+/// A text of CSV lines, each ended by LF, with quotes only where a field needs them. Contracts see
+/// it as its bytes.
 ///
 /// After an `Err` each later call is one.
 #[derive(Drop)]

@@ -9,7 +9,15 @@ use Rattle.esc_apply.specs.Images.{chain_state}
 use Rattle.esc_apply.specs.Tables.{tables}
 use Rattle.esc_store.specs.Kept.{Kept}
 use Rattle.esc_desk.specs.ArrivalValue.{ArrivalValue}
-use Rattle.esc_desk.specs.Events.{EventValue, Coming, union, coming, comings, arrivals, manifest_then}
+use Rattle.esc_desk.specs.Events.{
+  EventValue,
+  Coming,
+  union,
+  coming,
+  comings,
+  arrivals,
+  manifest_then,
+}
 use Rattle.esc_desk.specs.Receipts.{distinct, holds, receipts_after}
 use Rattle.esc_desk.specs.Stands.{deposits_of, rows_by, body_by, held_rows, held_body, StandsFor}
 

@@ -5,7 +5,8 @@ use Rattle.esc_store.specs.declared.change.Change.{Change}
 use Rattle.esc_store.specs.Kept.{Kept, with_registry}
 use Rattle.esc_store.specs.Standing.{IsHonest, Rest, HoldsNow}
 
--- a change of a store that stood for `before` has made k: its rows, receipts, bodies and chain, and its tables
+-- a change of a store that stood for `before` has made k: its rows, receipts, bodies and chain, and
+-- its tables
 pub record IsFilled {S : Type 0} (g : Ghosts S) (change : Change S) (before k : Kept) : Type 0 where
   pub tables : State
   pub rest : Rest g change before (with_registry k tables)

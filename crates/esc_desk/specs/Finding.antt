@@ -1,5 +1,24 @@
--- The verdict on a body (this project's profile; the comparison is with what RFC 8909 has a deposit say of itself).
-use Rattle.std.specs.Prelude.{ℕ, Bool, true, false, ◌&&◌, ◌||◌, ◌==◌, not, if◌then◌else◌, List, position, Option, Some, None, Result, Ok, Err}
+-- The verdict on a body (this project's profile; the comparison is with what RFC 8909 has a deposit
+-- say of itself).
+use Rattle.std.specs.Prelude.{
+  ℕ,
+  Bool,
+  true,
+  false,
+  ◌&&◌,
+  ◌||◌,
+  ◌==◌,
+  not,
+  if◌then◌else◌,
+  List,
+  position,
+  Option,
+  Some,
+  None,
+  Result,
+  Ok,
+  Err,
+}
 use Rattle.std.specs.Str.{bytes_eq}
 use Rattle.std.specs.Ordering.{int_eq}
 use Rattle.esc_envelope.specs.declared.place.DepositType.{DepositType}
@@ -11,7 +30,12 @@ use Rattle.esc_tables.specs.DepositValue.{DepositValue}
 use Rattle.esc_manifest.specs.declared.row.MRow.{MRow}
 use Rattle.esc_manifest.specs.Rows.{row_at}
 use Rattle.esc_desk.specs.declared.finding.Finding.{Finding}
-use Rattle.esc_desk.specs.declared.finding.Finding.TheVariants.{Unlisted, Unreadable, Differing, Holding}
+use Rattle.esc_desk.specs.declared.finding.Finding.TheVariants.{
+  Unlisted,
+  Unreadable,
+  Differing,
+  Holding,
+}
 
 -- the same watermark and the same type
 abbrev pub same_place : Place → Place → Bool
@@ -30,7 +54,10 @@ is_differential Full = false
 
 -- id, place and resend are the row's, and of a Differential the previous id too
 abbrev pub as_listed : HeaderValue → HeaderValue → Bool
-as_listed row d = bytes_eq row.id d.id && (same_place row.place d.place && ((row.resend == d.resend) && (not (is_differential row.place.kind) || same_option row.prev d.prev)))
+as_listed row d = bytes_eq row.id d.id
+    && (same_place row.place d.place
+    && ((row.resend == d.resend)
+    && (not (is_differential row.place.kind) || same_option row.prev d.prev)))
 
 -- the row with a digest
 abbrev pub row_of : List MRow → List ℕ → Option ℕ
@@ -49,8 +76,10 @@ abbrev pub found_at : List MRow → Option ℕ → Result DepositValue ℕ → F
 found_at m None reading = Unlisted
 found_at m (Some r) reading = found m r reading
 
--- what is found of a body: no row has its digest; or at that row no deposit reads from it, or another one, or the listed one
-abbrev pub finding : (List ℕ → List ℕ) → (List ℕ → Result DepositValue ℕ) → List MRow → List ℕ → Finding
+-- what is found of a body: no row has its digest; or at that row no deposit reads from it, or
+-- another one, or the listed one
+abbrev pub finding : (List ℕ → List ℕ) → (List ℕ → Result DepositValue ℕ) → List MRow → List ℕ
+    → Finding
 finding digest reads m body = found_at m (row_of m (digest body)) (reads body)
 
 -- the row whose deposit is held

@@ -1,7 +1,28 @@
 -- Where the pages of a walk begin.
-use Rattle.std.specs.Prelude.{◌≡◌, ℕ, ◌-◌, ◌++◌, Bool, List, [], ◌∷◌, Option, None, Some, if◌then◌else◌, MatchOption}
+use Rattle.std.specs.Prelude.{
+  ◌≡◌,
+  ℕ,
+  ◌-◌,
+  ◌++◌,
+  Bool,
+  List,
+  [],
+  ◌∷◌,
+  Option,
+  None,
+  Some,
+  if◌then◌else◌,
+  MatchOption,
+}
 use Rattle.esc_envelope.specs.declared.kind.Kind.{Kind}
-use Rattle.esc_envelope.specs.declared.kind.Kind.TheVariants.{Registrar, Contact, Host, Domain, Idn, Nndn}
+use Rattle.esc_envelope.specs.declared.kind.Kind.TheVariants.{
+  Registrar,
+  Contact,
+  Host,
+  Domain,
+  Idn,
+  Nndn,
+}
 use Rattle.esc_envelope.specs.Kinds.{kind_rank}
 use Rattle.esc_apply.specs.Objects.{Entry}
 use Rattle.esc_store.specs.Pages.{last_text}
@@ -25,7 +46,9 @@ abbrev pub kinds_left : Option Kind → ℕ
 kinds_left None = 0
 kinds_left (Some kind) = 6 - kind_rank kind
 
--- where the next page begins: of the same kind with the first bytes behind this page's last key, or where this page is
--- empty with the next kind, unless one kind is walked alone
+-- where the next page begins: of the same kind with the first bytes behind this page's last key, or
+-- where this page is empty with the next kind, unless one kind is walked alone
 abbrev pub IsPlaceBehind : Kind → Bool → List Entry → Option Kind → List ℕ → Type 0
-IsPlaceBehind kind alone page next from = MatchOption (last_text page) ((next ≡ (if alone then None else later_kind kind)) × (from ≡ [])) (λ text. (next ≡ Some kind) × (from ≡ text ++ 0 ∷ []))
+IsPlaceBehind kind alone page next from
+    = MatchOption (last_text page) ((next ≡ (if alone then None else later_kind kind))
+    × (from ≡ [])) (λ text. (next ≡ Some kind) × (from ≡ text ++ 0 ∷ []))

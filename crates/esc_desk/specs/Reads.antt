@@ -1,5 +1,17 @@
 -- What the reads of a desk answer after a list of events.
-use Rattle.std.specs.Prelude.{◌≡◌, ℕ, ◌-◌, List, length, map, Option, Some, None, option_map, slice_get}
+use Rattle.std.specs.Prelude.{
+  ◌≡◌,
+  ℕ,
+  ◌-◌,
+  List,
+  length,
+  map,
+  Option,
+  Some,
+  None,
+  option_map,
+  slice_get,
+}
 use Rattle.sha2.specs.Sha256.{sha256}
 use Rattle.esc_tables.specs.KeyName.{KeyName}
 use Rattle.esc_tables.specs.ObjectValue.{ObjectValue}

@@ -1,5 +1,19 @@
 -- What a store holds that stands for a list of events.
-use Rattle.std.specs.Prelude.{◌≡◌, ℕ, List, [], ◌∷◌, map, Option, Some, None, Result, Ok, Err, option_map}
+use Rattle.std.specs.Prelude.{
+  ◌≡◌,
+  ℕ,
+  List,
+  [],
+  ◌∷◌,
+  map,
+  Option,
+  Some,
+  None,
+  Result,
+  Ok,
+  Err,
+  option_map,
+}
 use Rattle.std.specs.List.{find}
 use Rattle.std.specs.FinSet as set
 use Rattle.esc_tables.specs.DepositValue.{DepositValue}

@@ -1,5 +1,19 @@
 -- What a walk over a desk's objects is still to give.
-use Rattle.std.specs.Prelude.{◌≡◌, ℕ, ◌==◌, Bool, false, not, List, filter, ◌++◌, Option, None, Some, if◌then◌else◌}
+use Rattle.std.specs.Prelude.{
+  ◌≡◌,
+  ℕ,
+  ◌==◌,
+  Bool,
+  false,
+  not,
+  List,
+  filter,
+  ◌++◌,
+  Option,
+  None,
+  Some,
+  if◌then◌else◌,
+}
 use Rattle.std.specs.Map.{lookup}
 use Rattle.std.specs.Ordering.{nat_cmp, is_ge, match_ordering}
 use Rattle.std.specs.Cmp.Lexicographic.{slice_cmp}

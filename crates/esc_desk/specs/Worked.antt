@@ -14,11 +14,17 @@ abbrev pub itself : List ℕ → List ℕ
 itself body = body
 
 abbrev pub full_header : HeaderValue
-full_header = record { id = codes "F1"; place = record { watermark = pos 0; kind = Full }; prev = None; resend = 0 }
+full_header = record {
+  id = codes "F1";
+  place = record { watermark = pos 0; kind = Full };
+  prev = None;
+  resend = 0;
+}
 
 -- each body reads as one Full
 abbrev pub reads_full : List ℕ → Result DepositValue ℕ
-reads_full body = Ok (record { header = full_header; counts = []; deletes = []; contents = []; orphans = 3 })
+reads_full body
+    = Ok (record { header = full_header; counts = []; deletes = []; contents = []; orphans = 3 })
 
 -- the Full is listed, with the body `f1`
 abbrev pub one_row : List MRow
@@ -36,11 +42,27 @@ other_1 = an_arrival (codes "1") (codes "x")
 
 -- the reply where the Full is held
 abbrev pub held_reply : ℕ → List ℕ → Bool → ReplyValue
-held_reply n number again = record { receipt = n; number = number; verdict = A1; id = Some (codes "F1"); resend = Some 0; again = Some again; orphans = Some 3 }
+held_reply n number again = record {
+  receipt = n;
+  number = number;
+  verdict = A1;
+  id = Some (codes "F1");
+  resend = Some 0;
+  again = Some again;
+  orphans = Some 3;
+}
 
 -- the reply where the body isn't listed
 abbrev pub unlisted_reply : ℕ → List ℕ → ReplyValue
-unlisted_reply n number = record { receipt = n; number = number; verdict = A2; id = None; resend = None; again = None; orphans = None }
+unlisted_reply n number = record {
+  receipt = n;
+  number = number;
+  verdict = A2;
+  id = None;
+  resend = None;
+  again = None;
+  orphans = None;
+}
 
 -- the Full is listed, and then these arrive
 abbrev pub listed_then : List ArrivalValue → List EventValue

@@ -1,6 +1,29 @@
 //! What a new arrival changes in the store, whole or not at all.
 
-ghost use Rattle.std.specs.Prelude.{◌≡◌, ◌+◌, ◌<◌, ◌≤◌, ◌-◌, ◌++◌, ◌∷◌, [], ℕ, List, Ok, None, length, map, take, min, ◌^◌, sum_by, IfOk, IfSome, OnOk, OnErr};
+ghost use Rattle.std.specs.Prelude.{
+  ◌≡◌,
+  ◌+◌,
+  ◌<◌,
+  ◌≤◌,
+  ◌-◌,
+  ◌++◌,
+  ◌∷◌,
+  [],
+  ℕ,
+  List,
+  Ok,
+  None,
+  length,
+  map,
+  take,
+  min,
+  ◌^◌,
+  sum_by,
+  IfOk,
+  IfSome,
+  OnOk,
+  OnErr,
+};
 ghost use Rattle.esc_tables.specs.DepositValue.{DepositValue};
 ghost use Rattle.esc_tables.specs.Reading.{reading};
 ghost use Rattle.esc_manifest.specs.declared.row.MRow.{MRow};

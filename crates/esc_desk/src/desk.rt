@@ -1,6 +1,25 @@
 //! The desk: arrivals, one after another.
 
-ghost use Rattle.std.specs.Prelude.{◌≡◌, ◌+◌, ◌<◌, ◌≤◌, ◌++◌, ◌∷◌, [], ℕ, List, length, true, false, Some, None, IfOk, IfSome, OnOk, OnErr};
+ghost use Rattle.std.specs.Prelude.{
+  ◌≡◌,
+  ◌+◌,
+  ◌<◌,
+  ◌≤◌,
+  ◌++◌,
+  ◌∷◌,
+  [],
+  ℕ,
+  List,
+  length,
+  true,
+  false,
+  Some,
+  None,
+  IfOk,
+  IfSome,
+  OnOk,
+  OnErr,
+};
 ghost use Rattle.sha2.specs.Sha256.{sha256};
 ghost use Rattle.esc_tables.specs.Reading.{reading};
 ghost use Rattle.esc_apply.specs.Registry.{saturated};
@@ -13,7 +32,18 @@ ghost use Rattle.esc_desk.specs.Stands.{StandsFor};
 ghost use Rattle.esc_desk.specs.Taking.{IsNew};
 ghost use Rattle.esc_desk.specs.declared.finding.Finding.TheVariants.{Holding};
 ghost use Rattle.esc_desk.specs.ArrivalValue.{an_arrival};
-ghost use Rattle.esc_desk.specs.Calls.{store_of, writes_of, DeskLeaves, DeskLeavesTaken, OkAfter, CrashAfter, WasHonest, ServesStill, RepeatsReply, HadRoom};
+ghost use Rattle.esc_desk.specs.Calls.{
+  store_of,
+  writes_of,
+  DeskLeaves,
+  DeskLeavesTaken,
+  OkAfter,
+  CrashAfter,
+  WasHonest,
+  ServesStill,
+  RepeatsReply,
+  HadRoom,
+};
 ghost use Rattle.esc_desk.specs.Events.{EventValue, union};
 ghost use Rattle.esc_desk.specs.Events.EventValue.{arrived};
 ghost use Rattle.esc_desk.specs.Serving.{Serves, DeskServes, Answers, no_work};
@@ -33,7 +63,8 @@ use sha2::{Digest, Sha256};
 use sqlite::Alter;
 use std::alloc::Global;
 
-/// A desk over a store. It remembers the rows of which a body is held, so that an arrival needn't ask for them.
+/// A desk over a store. It remembers the rows of which a body is held, so that an arrival needn't
+/// ask for them.
 #[derive(Drop)]
 pub struct Desk<S: Alter> {
     pub(crate) store: Store<S>,
@@ -70,12 +101,13 @@ impl<S: Alter> Desk<S> {
         self.store
     }
 
-    /// Takes an arrival: the reply, and the work of the move that it made. One alike an earlier one has the first
-    /// one's reply and makes no work; of any other the work is exactly the cost of going from the latest chain before it
-    /// to the latest chain with it, which is none where it adds no row to those that are held. [`Desk::writes`] grows by
-    /// the work's writes. At `Err` nothing has changed: `S1`, `S2`, or `S4` where the store has 1,000,000,000 receipts: then
-    /// no arrival is taken in that is like none before it. A crash leaves what was answered; after `S1` or `S2` it may leave
-    /// the arrival taken in.
+    /// Takes an arrival: the reply, and the work of the move that it made. One alike an earlier one
+    /// has the first one's reply and makes no work; of any other the work is exactly the cost of
+    /// going from the latest chain before it to the latest chain with it, which is none where it
+    /// adds no row to those that are held. [`Desk::writes`] grows by the work's writes. At `Err`
+    /// nothing has changed: `S1`, `S2`, or `S4` where the store has 1,000,000,000 receipts: then no
+    /// arrival is taken in that is like none before it. A crash leaves what was answered; after
+    /// `S1` or `S2` it may leave the arrival taken in.
     #[tactic(auto, using(crate::proofs::StoreFacts::was_honest))]
     pub fn arrive(
         &mut self,
@@ -111,8 +143,8 @@ impl<S: Alter> Desk<S> {
         }
     }
 
-    // Takes in an arrival for which no receipt is kept. What is remembered is forgotten first, and is only remembered
-    // again once the arrival was taken in, with its row if that was not held.
+    // Takes in an arrival for which no receipt is kept. What is remembered is forgotten first, and
+    // is only remembered again once the arrival was taken in, with its row if that was not held.
     #[tactic(auto, using(crate::proofs::StoreFacts::was_honest))]
     fn take_new(
         &mut self,
@@ -151,8 +183,8 @@ impl<S: Alter> Desk<S> {
         Ok(taken)
     }
 
-    // The rows that are held: those that were remembered, which are forgotten, or else those that the store's receipts
-    // hold.
+    // The rows that are held: those that were remembered, which are forgotten, or else those that
+    // the store's receipts hold.
     fn take_held(&mut self, alloc: Global) -> Result<Vec<usize>, SFault>
         ensures same { IsAsBefore S.Store self.old.store self.new.store }
         ensures forgotten { self.new.known ≡ None }
@@ -168,7 +200,8 @@ impl<S: Alter> Desk<S> {
     }
 }
 
-// Takes in an arrival for which no receipt is kept, where these rows are held, and has them be those held with it.
+// Takes in an arrival for which no receipt is kept, where these rows are held, and has them be
+// those held with it.
 #[tactic(auto, using(crate::proofs::StoreFacts::was_honest))]
 fn take_in<S: Alter>(
     store: &mut Store<S>,
@@ -209,8 +242,9 @@ fn take_in<S: Alter>(
     Ok((reply, kept.1))
 }
 
-// Keeps the receipt of a new arrival, and the deposit that was found if its row was not held; that is one of the held
-// rows then. What these are after an `Err` says nothing. The result is the receipt's number and the work.
+// Keeps the receipt of a new arrival, and the deposit that was found if its row was not held; that
+// is one of the held rows then. What these are after an `Err` says nothing. The result is the
+// receipt's number and the work.
 fn keep<S: Alter>(
     store: &mut Store<S>,
     alloc: Global,
@@ -253,8 +287,8 @@ fn keep<S: Alter>(
     }
 }
 
-// Keeps the receipt and the deposit of a row that was not held. The row is put in its place before anything changes in
-// the store, so that nothing fails for want of memory once the change is made.
+// Keeps the receipt and the deposit of a row that was not held. The row is put in its place before
+// anything changes in the store, so that nothing fails for want of memory once the change is made.
 #[tactic(auto, using(crate::proofs::StoreFacts::was_honest))]
 fn keep_deposit<S: Alter>(
     store: &mut Store<S>,

@@ -5,7 +5,14 @@ ghost use Rattle.std.specs.Option.{option_map};
 ghost use Rattle.std.specs.Str.{bytes_eq};
 ghost use Rattle.sha2.specs.Sha256.{sha256};
 ghost use Rattle.esc_tables.specs.Reading.{reading};
-ghost use Rattle.esc_desk.specs.Finding.{as_listed, same_option, same_place, compared, finding, held_row};
+ghost use Rattle.esc_desk.specs.Finding.{
+  as_listed,
+  same_option,
+  same_place,
+  compared,
+  finding,
+  held_row,
+};
 
 use esc_bundle::{Fault, NoMemory};
 use esc_envelope::{DepositType, Header, Place};

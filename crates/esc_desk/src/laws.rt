@@ -1,6 +1,7 @@
 //! What follows of lists of arrivals, by the definitions alone.
 //!
-//! The functions here do nothing. Each has a law as its contract: a caller who needs the law calls it.
+//! The functions here do nothing. Each has a law as its contract: a caller who needs the law calls
+//! it.
 
 ghost use Rattle.std.specs.Prelude.{List, ◌≡◌, [], ◌∷◌, Some, None, true, false, codes, map};
 ghost use Rattle.sha2.specs.Sha256.{sha256};
@@ -12,16 +13,34 @@ ghost use Rattle.esc_desk.specs.Events.{union, comings, arrivals, manifest_then}
 ghost use Rattle.esc_desk.specs.Events.EventValue.{listed};
 ghost use Rattle.esc_desk.specs.Receipts.{distinct, reply_to};
 ghost use Rattle.esc_desk.specs.Stands.{StandsFor};
-ghost use Rattle.esc_desk.specs.Worked.{itself, reads_full, full_1, full_9, other_1, held_reply, unlisted_reply, listed_then, came};
-ghost use Rattle.esc_desk.specs.AllArrivals.{RowsAreOfAll, BodiesAreOfAll, TablesAreOfAll, IsListedAtOnce, IsForManifestAndArrivals};
+ghost use Rattle.esc_desk.specs.Worked.{
+  itself,
+  reads_full,
+  full_1,
+  full_9,
+  other_1,
+  held_reply,
+  unlisted_reply,
+  listed_then,
+  came,
+};
+ghost use Rattle.esc_desk.specs.AllArrivals.{
+  RowsAreOfAll,
+  BodiesAreOfAll,
+  TablesAreOfAll,
+  IsListedAtOnce,
+  IsForManifestAndArrivals,
+};
 
-/// What a new store keeps stands for its manifest alone, so a desk over a new store serves that one event.
+/// What a new store keeps stands for its manifest alone, so a desk over a new store serves that one
+/// event.
 pub fn new_store_stands_for_its_manifest()
     ensures stands_for { (m : List MRow) → StandsFor sha256 reading (listed m ∷ []) (fresh m) }
 {}
 
-/// What a store holds that stands for a manifest and arrivals after it, said without events: the manifest's rows, the
-/// receipts and bodies that the arrivals leave, the latest chain of the held deposits, and its tables.
+/// What a store holds that stands for a manifest and arrivals after it, said without events: the
+/// manifest's rows, the receipts and bodies that the arrivals leave, the latest chain of the held
+/// deposits, and its tables.
 pub fn stands_for_manifest_and_arrivals()
     ensures stands_for { IsForManifestAndArrivals }
     ensures rows { (m : List MRow) (l : List ArrivalValue) → union (manifest_then m l) ≡ m }
@@ -29,18 +48,18 @@ pub fn stands_for_manifest_and_arrivals()
     ensures at_once { (m : List MRow) (l : List ArrivalValue) → IsListedAtOnce (manifest_then m l) }
 {}
 
-/// The definitions go by the first of the arrivals that are alike. Where no two different bodies of the list have the
-/// same digest, and no row was listed between two arrivals, the rows that are held are those of all arrivals with the
-/// verdict `A1`, the body of a held row is that of each arrival that holds it, and the tables are those of the latest
-/// chain of all these rows.
+/// The definitions go by the first of the arrivals that are alike. Where no two different bodies of
+/// the list have the same digest, and no row was listed between two arrivals, the rows that are
+/// held are those of all arrivals with the verdict `A1`, the body of a held row is that of each
+/// arrival that holds it, and the tables are those of the latest chain of all these rows.
 pub fn held_as_arrived()
     ensures rows { RowsAreOfAll }
     ensures bodies { BodiesAreOfAll }
     ensures tables { TablesAreOfAll }
 {}
 
-/// The definitions at some lists of arrivals: a repeat has the first reply, the same body under another number is held
-/// again, and another body under the same number has a receipt of its own.
+/// The definitions at some lists of arrivals: a repeat has the first reply, the same body under
+/// another number is held again, and another body under the same number has a receipt of its own.
 pub fn worked_replies()
     ensures distinct_ones { distinct itself reads_full
         (comings (listed_then (full_1 ∷ full_1 ∷ other_1 ∷ full_1 ∷ full_9 ∷ [])))

@@ -1,4 +1,5 @@
-//! How the registry gets from the chain that the store keeps to the latest chain of the rows held then.
+//! How the registry gets from the chain that the store keeps to the latest chain of the rows held
+//! then.
 
 ghost use Rattle.std.specs.Prelude.{◌≡◌, ◌<◌, ◌≤◌, ◌-◌, ℕ, List, Ok, length, map, drop, IfOk};
 ghost use Rattle.std.specs.FinSet as set;
@@ -124,7 +125,8 @@ fn step_of(rows: &[MRow], row: usize) -> Step
     }
 }
 
-// The deposits of steps: one is given, and the others are read from the bodies that the store keeps.
+// The deposits of steps: one is given, and the others are read from the bodies that the store
+// keeps.
 fn deposits_of<S: Alter>(
     store: &mut Store<S>,
     alloc: Global,
@@ -148,7 +150,8 @@ fn deposits_of<S: Alter>(
     Ok(deposits)
 }
 
-// The deposit of a row: the given one if it is of that row, else that of the body that the store keeps.
+// The deposit of a row: the given one if it is of that row, else that of the body that the store
+// keeps.
 fn next_deposit<S: Alter>(
     store: &mut Store<S>,
     alloc: Global,

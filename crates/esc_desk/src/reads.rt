@@ -34,8 +34,8 @@ impl<S: Alter> Desk<S> {
         self.store.manifest()
     }
 
-    /// How many objects the desk has written or removed since its store was opened; it stays at its greatest value.
-    /// Takes no memory.
+    /// How many objects the desk has written or removed since its store was opened; it stays at its
+    /// greatest value. Takes no memory.
     pub fn writes(&self) -> u64
         ensures count { result ≡ writes_of self.now }
     {
@@ -72,8 +72,8 @@ impl<S: Alter> Desk<S> {
         self.store.tables(alloc)
     }
 
-    /// What the latest chain's last deposit says of the registry, read from its body's envelope; `None` where there is no
-    /// chain. `S1`, `S2`.
+    /// What the latest chain's last deposit says of the registry, read from its body's envelope;
+    /// `None` where there is no chain. `S1`, `S2`.
     #[tactic(auto, using(crate::proofs::StoreFacts::still_stays))]
     pub fn end(&mut self, alloc: Global) -> Result<Option<End>, SFault>
         ensures stays { Stays S.Store self.old self.new }
@@ -106,7 +106,8 @@ impl<S: Alter> Desk<S> {
     }
 }
 
-// The numbers of a store with so many listed rows, so many receipts, these held rows and steps, and these objects.
+// The numbers of a store with so many listed rows, so many receipts, these held rows and steps, and
+// these objects.
 fn status_of(
     listed: usize,
     receipts: u64,
@@ -147,7 +148,8 @@ fn end_of_steps(steps: &[Step]) -> Option<(Place, u32)>
     Some((last.place, last.resend))
 }
 
-// What the deposit of the body that the store keeps for a row says of the registry. Its envelope says it: no row is read.
+// What the deposit of the body that the store keeps for a row says of the registry. Its envelope
+// says it: no row is read.
 fn stored_end<S: Alter>(store: &mut Store<S>, alloc: Global, row: usize) -> Result<End, SFault>
     ensures same { IsAsBefore S.Store store.old store.new }
     ensures says { IsHonest S.Store store.new → (k : Kept) → Stands S.Store store.old k

@@ -24,11 +24,12 @@ pub enum Outcome {
 impl<S: Alter> Desk<S> {
     /// Takes arrivals, one after another, and answers what came of each, in order.
     ///
-    /// For every accepted manifest and every list of arrivals, with repeats, losses and reorderings, the tables hold
-    /// for each object what the last deposit that mentions it says on the latest unbroken chain of the listed deposits
-    /// that arrived, each at its highest arrived revision; and arrivals alike in number and body get one receipt and
-    /// the first one's reply. Where the desk served a list of events before, it serves that list followed by the
-    /// answered arrivals, so runs compose. `NoMemory` is answered before the first arrival.
+    /// For every accepted manifest and every list of arrivals, with repeats, losses and
+    /// reorderings, the tables hold for each object what the last deposit that mentions it says on
+    /// the latest unbroken chain of the listed deposits that arrived, each at its highest arrived
+    /// revision; and arrivals alike in number and body get one receipt and the first one's reply.
+    /// Where the desk served a list of events before, it serves that list followed by the answered
+    /// arrivals, so runs compose. `NoMemory` is answered before the first arrival.
     pub fn run(&mut self, alloc: Global, arrivals: &[Arrival<'_>]) -> Result<Vec<Outcome>, NoMemory>
         ensures ran { OkAfter S.Store self.old self.new result
             (λ before outcomes. Ran S.Store self.new before arrivals.now outcomes.items) }

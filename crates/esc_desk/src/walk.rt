@@ -33,8 +33,10 @@ pub struct Pages {
     pub(crate) has_failed: bool,
 }
 
-/// The objects of the latest chain's tables, one at a time, by key. While it lives the desk takes no arrival.
-// What owns memory stands under a type parameter, so that contracts see what is left behind the reference in the end.
+/// The objects of the latest chain's tables, one at a time, by key. While it lives the desk takes
+/// no arrival.
+// What owns memory stands under a type parameter, so that contracts see what is left behind the
+// reference in the end.
 pub struct Walk<'a, S: Alter, P = Pages> {
     pub(crate) desk: &'a mut Desk<S>,
     pub(crate) pages: P,
@@ -44,8 +46,8 @@ impl<S: Alter> Desk<S> {
     ghost use Rattle.esc_desk.specs.contracts.desk.Desk.{the_row};
     ghost use Rattle.esc_desk.specs.Walking.{AreToCome, ListsPages, ListsTables, desk_of};
 
-    /// The objects of the latest chain's tables, those of one kind or of all, one at a time by key. No more than a page
-    /// of them is held in memory. `S1`, `S2`.
+    /// The objects of the latest chain's tables, those of one kind or of all, one at a time by key.
+    /// No more than a page of them is held in memory. `S1`, `S2`.
     pub fn walk(&mut self, alloc: Global, kind: Option<Kind>) -> Result<Walk<'_, S>, SFault>
         ensures* refused { sem 𝓛 (RestsIfErr (the_row S.row S.Store) self.entry
             (λ walk. walk.desk.ghost_name) result (Rests S.Store self.old)) }
@@ -135,7 +137,8 @@ fn first_place(alloc: Global, kind: Option<Kind>) -> Pages
     }
 }
 
-// Where the next page begins: behind the last key of this one, or where this one is empty with the next kind, if any.
+// Where the next page begins: behind the last key of this one, or where this one is empty with the
+// next kind, if any.
 fn next_place(
     alloc: Global,
     kind: Kind,
@@ -191,7 +194,8 @@ impl<'a, S: Alter> Objects for Walk<'a, S, Pages> {
 
     ghost follows = { λ a b. Follows S.Store a b };
 
-    // A walk that is in the midst of a call counts as failed, so that each way out but the last leaves it so.
+    // A walk that is in the midst of a call counts as failed, so that each way out but the last
+    // leaves it so.
     #[tactic(auto, using(crate::proofs::StoreFacts::still_serves))]
     fn next(&mut self) -> Result<Option<(Key, Object)>, SFault> {
         if self.pages.has_failed || self.pages.left == 0 {
@@ -212,9 +216,37 @@ impl<'a, S: Alter> Objects for Walk<'a, S, Pages> {
 
     ghost in_order = { λ walk es h. h.order };
 
-    ghost stays = { λ walk. record { same_reference = refl; same = record { manifest = refl; writes = refl; survives = record { clean = Prim.omega arith; shield = λ h. h; counts = Prim.omega arith; limit = refl; closes = λ _ up. inl up; crash = λ _ db may. inl may }; stands = λ k h. h }; known = refl; serves = λ e h. h } };
+    ghost stays = { λ walk. record {
+      same_reference = refl;
+      same = record {
+        manifest = refl;
+        writes = refl;
+        survives = record {
+          clean = Prim.omega arith;
+          shield = λ h. h;
+          counts = Prim.omega arith;
+          limit = refl;
+          closes = λ _ up. inl up;
+          crash = λ _ db may. inl may;
+        };
+        stands = λ k h. h;
+      };
+      known = refl;
+      serves = λ e h. h;
+    } };
 
-    ghost goes_on = { λ a b c p q. record { same_reference = q.same_reference ∙ p.same_reference; same = record { manifest = q.same.manifest ∙ p.same.manifest; writes = q.same.writes ∙ p.same.writes; survives = survives_then _ _ _ _ _ _ (λ _ db none. none) (λ _ db none. none) p.same.survives q.same.survives; stands = λ k h. q.same.stands k (p.same.stands k h) }; known = q.known ∙ p.known; serves = λ e h. q.serves e (p.serves e h) } };
+    ghost goes_on = { λ a b c p q. record {
+      same_reference = q.same_reference ∙ p.same_reference;
+      same = record {
+        manifest = q.same.manifest ∙ p.same.manifest;
+        writes = q.same.writes ∙ p.same.writes;
+        survives = survives_then _ _ _ _ _ _ (λ _ db none. none)
+            (λ _ db none. none) p.same.survives q.same.survives;
+        stands = λ k h. q.same.stands k (p.same.stands k h);
+      };
+      known = q.known ∙ p.known;
+      serves = λ e h. q.serves e (p.serves e h);
+    } };
 
     ghost was_honest = { λ a b p clean. Prim.omega (arith, p.same.survives.clean, clean) };
 }

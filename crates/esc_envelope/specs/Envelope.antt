@@ -12,7 +12,8 @@ use Rattle.esc_envelope.specs.Tables.{contents_in, deletes_in}
 unfoldable pub json_of : List ℕ → Option Data
 json_of text = if is_utf8 text then read text else None
 
--- the envelope that JSON data is: 6 is a member outside the tables that is missing or of another form, 7 a table that is not declared rightly
+-- the envelope that JSON data is: 6 is a member outside the tables that is missing or of another
+-- form, 7 a table that is not declared rightly
 unfoldable pub envelope_in : Data → Result EnvelopeValue ℕ
 envelope_in json = do
   header ← or_fault 6 (header_of json)

@@ -3,7 +3,9 @@ use Rattle.std.specs.Prelude.{ℕ, List, Bool}
 use Rattle.esc_envelope.specs.declared.kind.Kind.{Kind}
 use Rattle.esc_envelope.specs.HeaderValue.{HeaderValue}
 
--- a table that the deposit declares: name, kind of its objects, whether its rows are the objects themselves, the place of the key among the fields, the fields in order, and the section that has its rows
+-- a table that the deposit declares: name, kind of its objects, whether its rows are the objects
+-- themselves, the place of the key among the fields, the fields in order, and the section that has
+-- its rows
 pub record TableValue : Type 0 where
   pub name : List ℕ
   pub kind : Kind
@@ -12,7 +14,8 @@ pub record TableValue : Type 0 where
   pub fields : List (List ℕ)
   pub file : List ℕ
 
--- header, the declared numbers of objects in the order of kinds, and the tables of what is and of what was deleted
+-- header, the declared numbers of objects in the order of kinds, and the tables of what is and of
+-- what was deleted
 pub record EnvelopeValue : Type 0 where
   pub header : HeaderValue
   pub counts : List (Kind × ℕ)

@@ -2,7 +2,8 @@
 use Rattle.std.specs.Prelude.{ℕ, List, Option}
 use Rattle.esc_envelope.specs.declared.place.Place.{Place}
 
--- id, place, the id of the deposit that it builds on, and how often it was generated again; texts are their bytes
+-- id, place, the id of the deposit that it builds on, and how often it was generated again; texts
+-- are their bytes
 pub record HeaderValue : Type 0 where
   pub id : List ℕ
   pub place : Place

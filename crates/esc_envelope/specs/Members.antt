@@ -1,5 +1,24 @@
 -- The members of an envelope outside its tables (this project's profile of RFC 8909, section 4).
-use Rattle.std.specs.Prelude.{ℕ, ◌<◌, ℤ, List, [], ◌∷◌, ◌++◌, length, ◌==◌, nat_le, if◌then◌else◌, Option, Some, None, option_map, option_and_then, is_some, codes}
+use Rattle.std.specs.Prelude.{
+  ℕ,
+  ◌<◌,
+  ℤ,
+  List,
+  [],
+  ◌∷◌,
+  ◌++◌,
+  length,
+  ◌==◌,
+  nat_le,
+  if◌then◌else◌,
+  Option,
+  Some,
+  None,
+  option_map,
+  option_and_then,
+  is_some,
+  codes,
+}
 use Rattle.std.specs.Str.{bytes_eq}
 use Rattle.serde_json.specs.Data.{Data, Items, no_items, item}
 use Rattle.serde_json.specs.Find.{get, as_null, as_str, as_number, as_u64, as_array, as_object}
@@ -51,7 +70,8 @@ id_if_any text = if length text == 0 then Some None else option_map (λ id. Some
 
 abbrev pub prev_from : Option Data → Option (Option (List ℕ))
 prev_from None = Some None
-prev_from (Some value) = if is_some (as_null value) then Some None else option_and_then id_if_any (as_str value)
+prev_from (Some value) = if is_some (as_null value) then Some None else option_and_then id_if_any
+    (as_str value)
 
 -- `prevId`: missing, null or empty for none, else an id
 abbrev pub prev_of : Data → Option (Option (List ℕ))
@@ -67,7 +87,8 @@ if_resend n = if nat_le n 999_999 then Some n else None
 
 abbrev pub resend_from : Option Data → Option ℕ
 resend_from None = Some 0
-resend_from (Some value) = if is_some (as_null value) then Some 0 else option_and_then if_resend (whole_number value)
+resend_from (Some value) = if is_some (as_null value) then Some 0 else option_and_then if_resend
+    (whole_number value)
 
 -- `resend`: missing or null for 0, else a whole number up to 999999
 abbrev pub resend_of : Data → Option ℕ
@@ -81,7 +102,12 @@ header_of json = do
   watermark ← moment_of json
   prev ← prev_of json
   resend ← resend_of json
-  Some (record { id = id; place = record { watermark = watermark; kind = kind }; prev = prev; resend = resend })
+  Some (record {
+    id = id;
+    place = record { watermark = watermark; kind = kind };
+    prev = prev;
+    resend = resend;
+  })
 
 abbrev pub count_from : Option Data → Option (Option ℕ)
 count_from None = Some None

@@ -1,5 +1,28 @@
--- Moments: a day, a time of day and a fraction of a second, their text and their value (this project's profile of RFC 3339: UTC alone, without leap seconds).
-use Rattle.std.specs.Prelude.{ℕ, ◌+◌, ◌*◌, ◌/◌, ◌%◌, ◌<◌, ◌≡◌, List, [], ◌∷◌, ◌++◌, length, Bool, true, ◌&&◌, nat_lt, nat_le, ℤ, pos, ◌+ℤ◌, ◌*ℤ◌}
+-- Moments: a day, a time of day and a fraction of a second, their text and their value (this
+-- project's profile of RFC 3339: UTC alone, without leap seconds).
+use Rattle.std.specs.Prelude.{
+  ℕ,
+  ◌+◌,
+  ◌*◌,
+  ◌/◌,
+  ◌%◌,
+  ◌<◌,
+  ◌≡◌,
+  List,
+  [],
+  ◌∷◌,
+  ◌++◌,
+  length,
+  Bool,
+  true,
+  ◌&&◌,
+  nat_lt,
+  nat_le,
+  ℤ,
+  pos,
+  ◌+ℤ◌,
+  ◌*ℤ◌,
+}
 use Rattle.std.specs.Char.{is_ascii_digit}
 use Rattle.std.specs.List.{list_all}
 use Rattle.jiff_core.specs.Calendar.{days_in_month, days_from_civil}
@@ -13,7 +36,8 @@ two_digits n = (48 + n / 10) ∷ (48 + n % 10) ∷ []
 
 -- `YYYY-MM-DD`
 abbrev pub day_text : Day → List ℕ
-day_text d = two_digits (d.year / 100) ++ (two_digits (d.year % 100) ++ (45 ∷ (two_digits d.month ++ (45 ∷ two_digits d.day))))
+day_text d = two_digits (d.year / 100)
+    ++ (two_digits (d.year % 100) ++ (45 ∷ (two_digits d.month ++ (45 ∷ two_digits d.day))))
 
 -- `hh:mm:ss`
 abbrev pub clock_text : Clock → List ℕ
@@ -26,11 +50,13 @@ fraction_text (digit ∷ digits) = 46 ∷ digit ∷ digits
 
 -- `YYYY-MM-DDThh:mm:ss`, the fraction, and `Z`
 abbrev pub moment_text : Day → Clock → List ℕ → List ℕ
-moment_text d c fraction = (day_text d ++ (84 ∷ (clock_text c ++ fraction_text fraction))) ++ (90 ∷ [])
+moment_text d c fraction = (day_text d ++ (84 ∷ (clock_text c ++ fraction_text fraction)))
+    ++ (90 ∷ [])
 
 -- a day of the calendar, of the years 1970 to 2261
 abbrev pub is_day : Day → Bool
-is_day d = nat_le 1970 d.year && nat_le d.year 2261 && nat_le 1 d.month && nat_le d.month 12 && nat_le 1 d.day && nat_le d.day (days_in_month (pos d.year) d.month)
+is_day d = nat_le 1970 d.year && nat_le d.year 2261 && nat_le 1 d.month && nat_le d.month 12
+    && nat_le 1 d.day && nat_le d.day (days_in_month (pos d.year) d.month)
 
 -- a time of day: hours up to 23, minutes and seconds up to 59
 abbrev pub is_clock : Clock → Bool
@@ -38,7 +64,8 @@ is_clock c = nat_lt c.hour 24 && nat_lt c.minute 60 && nat_lt c.second 60
 
 -- one to nine digits
 abbrev pub is_fraction : List ℕ → Bool
-is_fraction digits = nat_lt 0 (length digits) && nat_le (length digits) 9 && list_all is_ascii_digit digits
+is_fraction digits = nat_lt 0 (length digits) && nat_le (length digits) 9
+    && list_all is_ascii_digit digits
 
 -- the nanoseconds since 1970-01-01T00:00:00Z
 abbrev pub moment_value : Day → Clock → ℕ → ℤ

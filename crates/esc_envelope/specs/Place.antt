@@ -12,7 +12,8 @@ rank Full = 2
 
 -- by watermark, and at equal watermarks by type
 abbrev pub IsBefore : Place → Place → Type 0
-IsBefore a b = (a.watermark <ℤ b.watermark) ⊎ ((a.watermark ≡ b.watermark) × (rank a.kind < rank b.kind))
+IsBefore a b = (a.watermark <ℤ b.watermark)
+    ⊎ ((a.watermark ≡ b.watermark) × (rank a.kind < rank b.kind))
 
 -- before, or the same place
 abbrev pub IsUpTo : Place → Place → Type 0

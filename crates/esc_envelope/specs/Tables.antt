@@ -1,5 +1,32 @@
 -- The tables that an envelope declares (this project's profile).
-use Rattle.std.specs.Prelude.{◌≡◌, ◌<◌, ◌≤◌, ℕ, List, [], ◌∷◌, length, map, Bool, true, false, not, ◌==◌, ◌&&◌, ◌||◌, nat_lt, nat_le, if◌then◌else◌, count_by, position, Option, Some, None, option_and_then, codes}
+use Rattle.std.specs.Prelude.{
+  ◌≡◌,
+  ◌<◌,
+  ◌≤◌,
+  ℕ,
+  List,
+  [],
+  ◌∷◌,
+  length,
+  map,
+  Bool,
+  true,
+  false,
+  not,
+  ◌==◌,
+  ◌&&◌,
+  ◌||◌,
+  nat_lt,
+  nat_le,
+  if◌then◌else◌,
+  count_by,
+  position,
+  Option,
+  Some,
+  None,
+  option_and_then,
+  codes,
+}
 use Rattle.std.specs.List.{list_all, list_any}
 use Rattle.std.specs.Str.{bytes_eq}
 use Rattle.serde_json.specs.Data.{Data}
@@ -30,7 +57,8 @@ are_distinct (text ∷ others) = not (is_among text others) && are_distinct othe
 
 -- a byte of a table's name: A to Z, a to z, 0 to 9 or an underscore
 abbrev pub is_name_byte : ℕ → Bool
-is_name_byte b = (nat_le 65 b && nat_le b 90) || (nat_le 97 b && nat_le b 122) || (nat_le 48 b && nat_le b 57) || (b == 95)
+is_name_byte b = (nat_le 65 b && nat_le b 90) || (nat_le 97 b && nat_le b 122)
+    || (nat_le 48 b && nat_le b 57) || (b == 95)
 
 -- 1 to 64 such bytes
 abbrev pub is_name : List ℕ → Bool
@@ -48,7 +76,8 @@ abbrev pub kind_of : Data → Option Kind
 kind_of json = option_and_then kind_named (text_at (codes "kind") json)
 
 abbrev pub is_parent_role : List ℕ → Option Bool
-is_parent_role role = if bytes_eq role (codes "parent") then Some true else (if bytes_eq role (codes "child") then Some false else None)
+is_parent_role role = if bytes_eq role (codes "parent") then Some true else
+    (if bytes_eq role (codes "child") then Some false else None)
 
 -- `role`: `parent`, whose rows are the objects, or `child`
 abbrev pub parent_of : Data → Option Bool
@@ -63,7 +92,8 @@ if_distinct fields = if are_distinct fields then Some fields else None
 
 -- 1 to 64 fields, none twice
 abbrev pub fields_in : List Data → Option (List (List ℕ))
-fields_in values = if nat_lt 0 (length values) && nat_le (length values) 64 then option_and_then if_distinct (all_of field_of values) else None
+fields_in values = if nat_lt 0 (length values)
+    && nat_le (length values) 64 then option_and_then if_distinct (all_of field_of values) else None
 
 -- `fields`: an array of such fields
 abbrev pub fields_of : Data → Option (List (List ℕ))
@@ -77,7 +107,8 @@ place_of texts text = position (λ other. bytes_eq other text) texts
 abbrev pub key_of : Data → List (List ℕ) → Option ℕ
 key_of json fields = option_and_then (place_of fields) (text_at (codes "key") json)
 
--- a declared table: its name and its fields have their forms, no field stands twice, and the key is one of them
+-- a declared table: its name and its fields have their forms, no field stands twice, and the key is
+-- one of them
 pub record IsTable (t : TableValue) : Type 0 where
   pub named : is_name t.name ≡ true
   pub formed : list_all is_id t.fields ≡ true
@@ -94,7 +125,14 @@ table_of json = do
   fields ← fields_of json
   key ← key_of json fields
   file ← text_at (codes "file") json
-  Some (record { name = name; kind = kind; parent = parent; key = key; fields = fields; file = file })
+  Some (record {
+    name = name;
+    kind = kind;
+    parent = parent;
+    key = key;
+    fields = fields;
+    file = file;
+  })
 
 -- whether no name stands twice
 abbrev pub have_distinct_names : List TableValue → Bool
@@ -117,10 +155,12 @@ abbrev pub AreDeletes : List TableValue → Type 0
 AreDeletes tables = (have_distinct_names tables ≡ true) × (list_all (λ t. t.parent) tables ≡ true)
 
 abbrev pub if_contents : List TableValue → Option (List TableValue)
-if_contents tables = if have_distinct_names tables && have_one_parent tables then Some tables else None
+if_contents tables = if have_distinct_names tables
+    && have_one_parent tables then Some tables else None
 
 abbrev pub if_deletes : List TableValue → Option (List TableValue)
-if_deletes tables = if have_distinct_names tables && list_all (λ t. t.parent) tables then Some tables else None
+if_deletes tables = if have_distinct_names tables
+    && list_all (λ t. t.parent) tables then Some tables else None
 
 -- the tables of what is: names once, and at most one parent table for each kind
 abbrev pub contents_in : List Data → Option (List TableValue)

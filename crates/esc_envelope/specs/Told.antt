@@ -5,4 +5,9 @@ use Rattle.esc_envelope.specs.HeaderValue.{HeaderValue}
 
 -- the header
 abbrev pub told_value : Told → HeaderValue
-told_value t = record { id = t.id.now; place = t.place; prev = option_map (λ p. p.now) t.prev; resend = t.resend }
+told_value t = record {
+  id = t.id.now;
+  place = t.place;
+  prev = option_map (λ p. p.now) t.prev;
+  resend = t.resend;
+}

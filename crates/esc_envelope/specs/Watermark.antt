@@ -1,5 +1,32 @@
 -- Watermarks and their texts, computed.
-use Rattle.std.specs.Prelude.{ℕ, zero, suc, ◌+◌, ◌-◌, ◌*◌, ◌/◌, ◌%◌, ◌==◌, ◌&&◌, nat_lt, List, [], ◌∷◌, length, take, slice_index, if◌then◌else◌, Option, Some, None, ℤ, pos, negsuc, ◌<ℤ◌, ◌≤ℤ◌}
+use Rattle.std.specs.Prelude.{
+  ℕ,
+  zero,
+  suc,
+  ◌+◌,
+  ◌-◌,
+  ◌*◌,
+  ◌/◌,
+  ◌%◌,
+  ◌==◌,
+  ◌&&◌,
+  nat_lt,
+  List,
+  [],
+  ◌∷◌,
+  length,
+  take,
+  slice_index,
+  if◌then◌else◌,
+  Option,
+  Some,
+  None,
+  ℤ,
+  pos,
+  negsuc,
+  ◌<ℤ◌,
+  ◌≤ℤ◌,
+}
 use Rattle.std.specs.Char.{is_ascii_digit}
 use Rattle.jiff_core.specs.Calendar.{days_in_month, days_in_year}
 use Rattle.jiff_fmt.specs.Reader.{fraction_value}
@@ -17,7 +44,8 @@ IsInYears w = (pos 0 ≤ℤ w) × (w <ℤ pos 9_214_646_400_000_000_000)
 abbrev pub two_at : List ℕ → Option (ℕ × List ℕ)
 two_at [] = None
 two_at (a ∷ []) = None
-two_at (a ∷ b ∷ rest) = if is_ascii_digit a && is_ascii_digit b then Some ((a - 48) * 10 + (b - 48), rest) else None
+two_at (a ∷ b ∷ rest) = if is_ascii_digit a
+    && is_ascii_digit b then Some ((a - 48) * 10 + (b - 48), rest) else None
 
 -- what follows a byte that a text begins with
 abbrev pub byte_at : ℕ → List ℕ → Option (List ℕ)
@@ -26,7 +54,8 @@ byte_at byte (b ∷ rest) = if b == byte then Some rest else None
 
 -- what stands before a `Z` at the end
 abbrev pub before_z : List ℕ → Option (List ℕ)
-before_z text = if slice_index text (length text - 1) == 90 then Some (take (length text - 1) text) else None
+before_z text = if slice_index text (length text - 1) == 90 then Some
+    (take (length text - 1) text) else None
 
 -- `YYYY-MM-DD` and what follows it
 unfoldable pub day_at : List ℕ → Option (Day × List ℕ)
@@ -52,11 +81,13 @@ clock_at text = do
 -- the billionths of nothing, or of a dot and one to nine digits
 abbrev pub billionths_of : List ℕ → Option ℕ
 billionths_of [] = Some 0
-billionths_of (b ∷ digits) = if (b == 46) && is_fraction digits then Some (fraction_value 9 digits) else None
+billionths_of (b ∷ digits) = if (b == 46)
+    && is_fraction digits then Some (fraction_value 9 digits) else None
 
 -- the value of a moment, if the calendar has it
 abbrev pub value_if : Day → Clock → ℕ → Option ℤ
-value_if day clock nanosecond = if is_day day && is_clock clock then Some (moment_value day clock nanosecond) else None
+value_if day clock nanosecond = if is_day day
+    && is_clock clock then Some (moment_value day clock nanosecond) else None
 
 -- the moment that a text writes, if it writes one
 unfoldable pub watermark_of : List ℕ → Option ℤ
@@ -68,17 +99,21 @@ watermark_of text = do
   nanosecond ← billionths_of clock.1
   value_if day.0 clock.0 nanosecond
 
--- of `count` years from `first` on: the year in which day n of them lies, and its place in the year, both from 0
+-- of `count` years from `first` on: the year in which day n of them lies, and its place in the
+-- year, both from 0
 unfoldable pub year_at : ℕ → ℕ → ℕ → ℕ × ℕ
 year_at zero first n = (first, n)
 year_at (suc count) first n =
-    if nat_lt n (days_in_year (pos first)) then (first, n) else year_at count (suc first) (n - days_in_year (pos first))
+    if nat_lt n (days_in_year (pos first)) then (first, n) else year_at count (suc first)
+    (n - days_in_year (pos first))
 
--- of `count` months of a year from `first` on: the month in which day n of them lies, and its place in the month from 0
+-- of `count` months of a year from `first` on: the month in which day n of them lies, and its place
+-- in the month from 0
 unfoldable pub month_at : ℕ → ℤ → ℕ → ℕ → ℕ × ℕ
 month_at zero year first n = (first, n)
 month_at (suc count) year first n =
-    if nat_lt n (days_in_month year first) then (first, n) else month_at count year (suc first) (n - days_in_month year first)
+    if nat_lt n (days_in_month year first) then (first, n) else month_at count year (suc first)
+    (n - days_in_month year first)
 
 -- day n of the years from 1970 on
 unfoldable pub day_of : ℕ → Day
@@ -89,12 +124,18 @@ day_of n =
 
 -- the time of day after so many nanoseconds
 abbrev pub clock_of : ℕ → Clock
-clock_of n = record { hour = n / 3_600_000_000_000; minute = n / 60_000_000_000 % 60; second = n / 1_000_000_000 % 60 }
+clock_of n = record {
+  hour = n / 3_600_000_000_000;
+  minute = n / 60_000_000_000 % 60;
+  second = n / 1_000_000_000 % 60;
+}
 
--- the text of a moment, if it is one of these years: the fraction goes up to its last digit that is not zero
+-- the text of a moment, if it is one of these years: the fraction goes up to its last digit that is
+-- not zero
 unfoldable pub watermark_text_of : ℤ → Option (List ℕ)
 watermark_text_of (negsuc n) = None
 watermark_text_of (pos n) =
     if nat_lt n 9_214_646_400_000_000_000
-    then Some (moment_text (day_of (n / 86_400_000_000_000)) (clock_of (n % 86_400_000_000_000)) (fraction None (n % 1_000_000_000)))
+    then Some (moment_text (day_of (n / 86_400_000_000_000)) (clock_of (n % 86_400_000_000_000))
+    (fraction None (n % 1_000_000_000)))
     else None

@@ -3,7 +3,14 @@
 ghost use Rattle.std.specs.Prelude.{◌≡◌, ◌++◌, IfOk, OnOk, Some, option_map};
 ghost use Rattle.serde_json.specs.View.{view};
 ghost use Rattle.esc_envelope.specs.Kinds.{kind_rank};
-ghost use Rattle.esc_envelope.specs.Members.{AreBelow, count_of, count_entry, whole_number, counts_of, counts_in};
+ghost use Rattle.esc_envelope.specs.Members.{
+  AreBelow,
+  count_of,
+  count_entry,
+  whole_number,
+  counts_of,
+  counts_in,
+};
 
 use crate::kind::Kind;
 use esc_bundle::NoMemory;
@@ -46,8 +53,8 @@ fn counts_in(alloc: Global, counts: &Value) -> Result<Option<BTreeMap<Kind, u64>
     Ok(Some(found))
 }
 
-/// The declared numbers of objects: `counts` is missing, or an object in which the members named as kinds are whole
-/// numbers.
+/// The declared numbers of objects: `counts` is missing, or an object in which the members named as
+/// kinds are whole numbers.
 pub(crate) fn counts_of(
     alloc: Global,
     envelope: &Value,

@@ -1,6 +1,20 @@
 //! The envelope of a deposit.
 
-ghost use Rattle.std.specs.Prelude.{◌≡◌, ◌⊎◌, ◌↔◌, ◌≤◌, ℕ, List, Ok, Err, Some, None, IfOk, IfErr, IsErrAnd};
+ghost use Rattle.std.specs.Prelude.{
+  ◌≡◌,
+  ◌⊎◌,
+  ◌↔◌,
+  ◌≤◌,
+  ℕ,
+  List,
+  Ok,
+  Err,
+  Some,
+  None,
+  IfOk,
+  IfErr,
+  IsErrAnd,
+};
 ghost use Rattle.serde_json.specs.View.{view};
 ghost use Rattle.esc_envelope.specs.Envelope.{json_of, envelope_in, envelope_of};
 ghost use Rattle.esc_envelope.specs.EnvelopeFaults.{Stands, IsLeast};
@@ -22,7 +36,8 @@ use std::marker::Model;
 #[derive(Drop)]
 pub struct Envelope {
     pub header: Header,
-    /// The numbers of objects in the registry at the watermark, of the kinds for which they are declared.
+    /// The numbers of objects in the registry at the watermark, of the kinds for which they are
+    /// declared.
     pub counts: BTreeMap<Kind, u64>,
     /// The tables of what is: each name once, and at most one parent table for each kind.
     pub contents: Vec<Table>,
@@ -36,14 +51,20 @@ impl Model for Envelope {
 
     ghost Value = { EnvelopeValue };
 
-    ghost view = { λ e. record { header = e.header; counts = e.counts.entries; contents = e.contents.items; deletes = e.deletes.items } };
+    ghost view = { λ e. record {
+      header = e.header;
+      counts = e.counts.entries;
+      contents = e.contents.items;
+      deletes = e.deletes.items;
+    } };
 
     ghost invariant = { λ e. AreContents e.contents.items × AreDeletes e.deletes.items };
 }
 
 fn parsed(alloc: Global, json: &[u8]) -> Result<Value, Fault>
     ensures json { IfOk result (λ v. json_of json.now ≡ Some (view v)) }
-    ensures refused { IfErr result (λ e. (n : ℕ) → e ≡ Fault.Refused n → (n ≡ 5) × (json_of json.now ≡ None)) }
+    ensures refused { IfErr result (λ e. (n : ℕ) → e ≡ Fault.Refused n
+        → (n ≡ 5) × (json_of json.now ≡ None)) }
 {
     match Value::from_slice(alloc, json) {
         Ok(value) => Ok(value),
@@ -60,7 +81,8 @@ fn parsed(alloc: Global, json: &[u8]) -> Result<Value, Fault>
 #[tactic(auto, unfolding(crate::specs::Envelope::envelope_in))]
 fn envelope_in(alloc: Global, json: &Value) -> Result<Envelope, Fault>
     ensures envelope { IfOk result (λ e. envelope_in (view json.now) ≡ Ok e) }
-    ensures refused { IfErr result (λ e. (n : ℕ) → e ≡ Fault.Refused n → envelope_in (view json.now) ≡ Err n) }
+    ensures refused { IfErr result (λ e. (n : ℕ) → e ≡ Fault.Refused n
+        → envelope_in (view json.now) ≡ Err n) }
 {
     let Some(header) = header_in(alloc, json)? else {
         return Err(Fault::Refused(6));
@@ -92,17 +114,20 @@ fn envelope_in(alloc: Global, json: &Value) -> Result<Envelope, Fault>
 #[tactic(auto, unfolding(crate::specs::Envelope::envelope_of))]
 fn envelope_from(alloc: Global, json: &[u8]) -> Result<Envelope, Fault>
     ensures envelope { IfOk result (λ e. envelope_of json.now ≡ Ok e) }
-    ensures refused { IfErr result (λ e. (n : ℕ) → e ≡ Fault.Refused n → envelope_of json.now ≡ Err n) }
+    ensures refused { IfErr result (λ e. (n : ℕ) → e ≡ Fault.Refused n
+        → envelope_of json.now ≡ Err n) }
 {
     let json = parsed(alloc, json)?;
     envelope_in(alloc, &json)
 }
 
-/// The envelope that a JSON text is (RFC 8259, as `serde_json` reads it), or the least of U5, U6 and U7 that stands:
-/// no JSON; a member outside the tables is missing or of another form; a table is not declared rightly.
+/// The envelope that a JSON text is (RFC 8259, as `serde_json` reads it), or the least of U5, U6
+/// and U7 that stands: no JSON; a member outside the tables is missing or of another form; a table
+/// is not declared rightly.
 pub fn read_envelope(alloc: Global, json: &[u8]) -> Result<Envelope, Fault>
     ensures envelope { IfOk result (λ e. envelope_of json.now ≡ Ok e) }
-    ensures refused { IfErr result (λ e. (n : ℕ) → e ≡ Fault.Refused n → envelope_of json.now ≡ Err n) }
+    ensures refused { IfErr result (λ e. (n : ℕ) → e ≡ Fault.Refused n
+        → envelope_of json.now ≡ Err n) }
     ensures least { IfErr result (λ e. (n : ℕ) → e ≡ Fault.Refused n → IsLeast json.now n) }
     ensures fault_told { (n : ℕ) → IsLeast json.now n →
         IsErrAnd result (λ e. (e ≡ Fault.Refused n) ⊎ (e ≡ Fault.NoMemory)) }
@@ -111,8 +136,8 @@ pub fn read_envelope(alloc: Global, json: &[u8]) -> Result<Envelope, Fault>
     envelope_from(alloc, json)
 }
 
-/// A text has the refusal that `envelope_of` gives exactly if it is the least of U5 to U7 that stands: a law of the
-/// definitions.
+/// A text has the refusal that `envelope_of` gives exactly if it is the least of U5 to U7 that
+/// stands: a law of the definitions.
 pub fn refusals_are_least()
     ensures least { (text : List ℕ) (n : ℕ) → (envelope_of text ≡ Err n) ↔ IsLeast text n }
     ensures numbers { (text : List ℕ) (n : ℕ) → Stands text n → (5 ≤ n) × (n ≤ 7) }

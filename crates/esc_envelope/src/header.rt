@@ -26,7 +26,12 @@ impl Model for Header {
 
     ghost Value = { HeaderValue };
 
-    ghost view = { λ h. record { id = string_bytes h.id; place = h.place; prev = option_map string_bytes h.prev; resend = h.resend } };
+    ghost view = { λ h. record {
+      id = string_bytes h.id;
+      place = h.place;
+      prev = option_map string_bytes h.prev;
+      resend = h.resend;
+    } };
 }
 
 impl Header {

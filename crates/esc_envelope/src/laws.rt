@@ -1,6 +1,7 @@
 //! Laws of the definitions.
 //!
-//! The functions here do nothing. Each has a law as its contract: a caller who needs the law calls it.
+//! The functions here do nothing. Each has a law as its contract: a caller who needs the law calls
+//! it.
 
 ghost use Rattle.std.specs.Prelude.{◌≡◌, ◌≤◌, ◌++◌, ℕ, List, All, Ok, Err};
 ghost use Rattle.esc_envelope.specs.EnvelopeValue.{EnvelopeValue};

@@ -1,8 +1,21 @@
-//! The members of an envelope outside its tables: each function answers what one function on JSON data gives.
+//! The members of an envelope outside its tables: each function answers what one function on JSON
+//! data gives.
 
 ghost use Rattle.std.specs.Prelude.{◌≡◌, IfOk, IfSome, option_map, string_bytes};
 ghost use Rattle.serde_json.specs.View.{view};
-ghost use Rattle.esc_envelope.specs.Members.{text_at, id_of, type_of, moment_of, prev_of, prev_from, id_if_any, resend_of, resend_from, whole_number, header_of};
+ghost use Rattle.esc_envelope.specs.Members.{
+  text_at,
+  id_of,
+  type_of,
+  moment_of,
+  prev_of,
+  prev_from,
+  id_if_any,
+  resend_of,
+  resend_from,
+  whole_number,
+  header_of,
+};
 ghost use Rattle.esc_envelope.specs.Told.{told_value};
 
 use crate::header::Header;
@@ -49,7 +62,8 @@ fn id_if_any(text: &str) -> Option<Option<&str>>
 }
 
 fn prev_from(value: &Value) -> Option<Option<&str>>
-    ensures { option_map (λ o. option_map (λ t. t.now) o) result ≡ prev_from (Some (view value.now)) }
+    ensures { option_map (λ o. option_map (λ t. t.now) o) result
+        ≡ prev_from (Some (view value.now)) }
 {
     if value.is_null() {
         return Some(None);

@@ -1,9 +1,31 @@
 //! Watermarks: moments in UTC, to the nanosecond.
 
-ghost use Rattle.std.specs.Prelude.{◌≡◌, ◌<◌, ◌↔◌, ℕ, ℤ, List, Some, None, Ok, IsSome, IfOk, IfSome, option_map, string_bytes, pos, ◌≤ℤ◌};
+ghost use Rattle.std.specs.Prelude.{
+  ◌≡◌,
+  ◌<◌,
+  ◌↔◌,
+  ℕ,
+  ℤ,
+  List,
+  Some,
+  None,
+  Ok,
+  IsSome,
+  IfOk,
+  IfSome,
+  option_map,
+  string_bytes,
+  pos,
+  ◌≤ℤ◌,
+};
 ghost use Rattle.jiff.specs.Words.{civil_nanos, IsBetween};
 ghost use Rattle.esc_envelope.specs.Moment.{IsWatermark};
-ghost use Rattle.esc_envelope.specs.Watermark.{IsInYears, value_if, watermark_of, watermark_text_of};
+ghost use Rattle.esc_envelope.specs.Watermark.{
+  IsInYears,
+  value_if,
+  watermark_of,
+  watermark_text_of,
+};
 
 use crate::parts::{Clock, Day, after_byte, before_z, billionths, read_clock, read_day};
 use esc_bundle::NoMemory;
@@ -54,8 +76,8 @@ fn nanoseconds(day: Day, clock: Clock, nanosecond: u32) -> Option<i64>
     }
 }
 
-/// The nanoseconds since 1970-01-01T00:00:00Z that a text `YYYY-MM-DDThh:mm:ss[.fraction]Z` writes, of a real date
-/// of the years 1970 to 2261, with 1 to 9 digits of fraction. Takes no memory.
+/// The nanoseconds since 1970-01-01T00:00:00Z that a text `YYYY-MM-DDThh:mm:ss[.fraction]Z` writes,
+/// of a real date of the years 1970 to 2261, with 1 to 9 digits of fraction. Takes no memory.
 #[tactic(auto, unfolding(crate::specs::Watermark::watermark_of))]
 pub fn watermark(text: &str) -> Option<i64>
     ensures value { result ≡ watermark_of text.now }
@@ -79,8 +101,8 @@ fn civil_at(watermark: i64) -> DateTime
     }
 }
 
-/// The text of a moment of the years 1970 to 2261, else `None`. A fraction is written only if it isn't zero, without
-/// trailing zeros. Of another moment it takes no memory.
+/// The text of a moment of the years 1970 to 2261, else `None`. A fraction is written only if it
+/// isn't zero, without trailing zeros. Of another moment it takes no memory.
 pub fn watermark_text(alloc: Global, watermark: i64) -> Result<Option<String>, NoMemory>
     ensures text { IfOk result (λ o. option_map string_bytes o ≡ watermark_text_of watermark) }
     ensures outside { (IsInYears watermark → ⊥) → result ≡ Ok None }
@@ -98,8 +120,10 @@ pub fn watermarks_are_moments()
     ensures { (text : List ℕ) (w : ℤ) → (watermark_of text ≡ Some w) ↔ IsWatermark text w }
 {}
 
-/// Printing and reading undo each other, and every moment of these years has a text: laws of the definitions.
+/// Printing and reading undo each other, and every moment of these years has a text: laws of the
+/// definitions.
 pub fn printed_watermarks_are_read()
-    ensures read { (w : ℤ) (text : List ℕ) → watermark_text_of w ≡ Some text → watermark_of text ≡ Some w }
+    ensures read { (w : ℤ) (text : List ℕ) → watermark_text_of w ≡ Some text
+        → watermark_of text ≡ Some w }
     ensures printed { (w : ℤ) → IsInYears w → IsSome (watermark_text_of w) }
 {}

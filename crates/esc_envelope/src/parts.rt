@@ -1,9 +1,17 @@
-//! The parts of a moment's text: from left to right, each reader answers a part and what follows it.
+//! The parts of a moment's text: from left to right, each reader answers a part and what follows
+//! it.
 
 ghost use Rattle.std.specs.Prelude.{◌≡◌, ◌<◌, ◌≤◌, ◌^◌, true, option_map, IfSome};
 ghost use Rattle.jiff_fmt.specs.Reader.{fraction_value};
 ghost use Rattle.esc_envelope.specs.Moment.{is_fraction};
-ghost use Rattle.esc_envelope.specs.Watermark.{two_at, byte_at, before_z, day_at, clock_at, billionths_of};
+ghost use Rattle.esc_envelope.specs.Watermark.{
+  two_at,
+  byte_at,
+  before_z,
+  day_at,
+  clock_at,
+  billionths_of,
+};
 ghost use Rattle.std.specs.Char.{is_ascii_digit};
 ghost use Rattle.std.specs.List.{list_all};
 

@@ -11,7 +11,8 @@ pub enum DepositType {
     Full,
 }
 
-/// A watermark and a type. Places are ordered by watermark, and at equal watermarks by type (this project's profile).
+/// A watermark and a type. Places are ordered by watermark, and at equal watermarks by type (this
+/// project's profile).
 #[derive(Clone, Copy, Debug, PartialEq, Eq, PartialOrd, Ord)]
 pub struct Place {
     /// Nanoseconds since 1970-01-01T00:00:00Z.

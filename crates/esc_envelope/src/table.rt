@@ -3,8 +3,8 @@
 use crate::kind::Kind;
 use std::marker::Model;
 
-/// A table of a deposit, as its envelope declares it (this project's profile): its fields have the forms that they say, and the key is
-/// one of them. Whoever makes a table proves it.
+/// A table of a deposit, as its envelope declares it (this project's profile): its fields have the
+/// forms that they say, and the key is one of them. Whoever makes a table proves it.
 #[derive(Debug, Drop)]
 pub struct Table {
     /// 1 to 64 of `A-Z a-z 0-9 _`.
@@ -28,7 +28,21 @@ impl Model for Table {
 
     ghost Value = { TableValue };
 
-    ghost view = { λ t. record { name = string_bytes t.name; kind = t.kind; parent = t.parent; key = t.key; fields = map string_bytes t.fields.items; file = string_bytes t.file } };
+    ghost view = { λ t. record {
+      name = string_bytes t.name;
+      kind = t.kind;
+      parent = t.parent;
+      key = t.key;
+      fields = map string_bytes t.fields.items;
+      file = string_bytes t.file;
+    } };
 
-    ghost invariant = { λ t. IsTable (record { name = string_bytes t.name; kind = t.kind; parent = t.parent; key = t.key; fields = map string_bytes t.fields.items; file = string_bytes t.file }) };
+    ghost invariant = { λ t. IsTable (record {
+      name = string_bytes t.name;
+      kind = t.kind;
+      parent = t.parent;
+      key = t.key;
+      fields = map string_bytes t.fields.items;
+      file = string_bytes t.file;
+    }) };
 }

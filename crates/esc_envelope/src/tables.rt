@@ -1,10 +1,26 @@
-//! The tables that an envelope declares: each function answers what one function on JSON data gives.
+//! The tables that an envelope declares: each function answers what one function on JSON data
+//! gives.
 
 ghost use Rattle.std.specs.Prelude.{◌≡◌, IfOk, OnOk, map, option_map, string_bytes, count_by};
 ghost use Rattle.std.specs.List.{list_all};
 ghost use Rattle.serde_json.specs.View.{view};
 ghost use Rattle.esc_envelope.specs.Kinds.{is_kind};
-ghost use Rattle.esc_envelope.specs.Tables.{all_of, is_name_byte, is_name, name_of, kind_of, parent_of, fields_of, key_of, table_of, have_distinct_names, is_parent_of, have_one_parent, contents_in, deletes_in};
+ghost use Rattle.esc_envelope.specs.Tables.{
+  all_of,
+  is_name_byte,
+  is_name,
+  name_of,
+  kind_of,
+  parent_of,
+  fields_of,
+  key_of,
+  table_of,
+  have_distinct_names,
+  is_parent_of,
+  have_one_parent,
+  contents_in,
+  deletes_in,
+};
 
 use crate::kind::Kind;
 use crate::members::text_at;
@@ -60,7 +76,8 @@ fn parent_in(table: &Value) -> Option<bool>
 }
 
 fn fields_of(alloc: Global, table: &Value) -> Result<Option<Vec<String>>, NoMemory>
-    ensures { IfOk result (λ o. option_map (λ v. map string_bytes v.items) o ≡ fields_of (view table.now)) }
+    ensures { IfOk result (λ o. option_map (λ v. map string_bytes v.items) o
+        ≡ fields_of (view table.now)) }
 {
     let Some(fields) = table.get("fields") else {
         return Ok(None);
@@ -113,7 +130,8 @@ fn table_in(alloc: Global, table: &Value) -> Result<Option<Table>, NoMemory>
 }
 
 fn tables_in(alloc: Global, values: &[Value]) -> Result<Option<Vec<Table>>, NoMemory>
-    ensures { IfOk result (λ o. option_map (λ v. v.items) o ≡ all_of table_of (map view values.now)) }
+    ensures { IfOk result (λ o. option_map (λ v. v.items) o
+        ≡ all_of table_of (map view values.now)) }
 {
     let mut tables = Vec::new(alloc);
     for value in values {

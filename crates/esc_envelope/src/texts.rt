@@ -1,6 +1,17 @@
 //! Lists of texts.
 
-ghost use Rattle.std.specs.Prelude.{◌≡◌, IfOk, OnOk, ◌++◌, ◌∷◌, [], map, option_map, position, string_bytes};
+ghost use Rattle.std.specs.Prelude.{
+  ◌≡◌,
+  IfOk,
+  OnOk,
+  ◌++◌,
+  ◌∷◌,
+  [],
+  map,
+  option_map,
+  position,
+  string_bytes,
+};
 ghost use Rattle.std.specs.List.{list_any};
 ghost use Rattle.std.specs.Str.{bytes_eq};
 ghost use Rattle.serde_json.specs.View.{view};
@@ -21,7 +32,8 @@ pub(crate) fn array_in(value: &Value) -> Option<&[Value]>
 
 /// The values of a member that is an array or missing.
 pub(crate) fn array_of<'a>(envelope: &'a Value, name: &str) -> Option<&'a [Value]>
-    ensures { option_map (λ values. map view values.now) result ≡ array_of name.now (view envelope.now) }
+    ensures { option_map (λ values. map view values.now) result
+        ≡ array_of name.now (view envelope.now) }
 {
     match envelope.get(name) {
         None => Some(&[]),
@@ -61,7 +73,8 @@ fn field_in(value: &Value) -> Option<&str>
 }
 
 fn push_copy(alloc: Global, texts: &mut Vec<String>, text: &str) -> Result<(), NoMemory>
-    ensures { OnOk result (map string_bytes texts.new.items ≡ map string_bytes texts.old.items ++ text.now ∷ []) }
+    ensures { OnOk result (map string_bytes texts.new.items
+        ≡ map string_bytes texts.old.items ++ text.now ∷ []) }
 {
     let copy = String::from_str(alloc, text)?;
     texts.push(copy)?;
@@ -69,7 +82,8 @@ fn push_copy(alloc: Global, texts: &mut Vec<String>, text: &str) -> Result<(), N
 }
 
 fn all_fields(alloc: Global, values: &[Value]) -> Result<Option<Vec<String>>, NoMemory>
-    ensures { IfOk result (λ o. option_map (λ v. map string_bytes v.items) o ≡ all_of field_of (map view values.now)) }
+    ensures { IfOk result (λ o. option_map (λ v. map string_bytes v.items) o
+        ≡ all_of field_of (map view values.now)) }
 {
     let mut fields = Vec::new(alloc);
     for value in values {
@@ -83,7 +97,8 @@ fn all_fields(alloc: Global, values: &[Value]) -> Result<Option<Vec<String>>, No
 
 /// One to 64 fields, none twice.
 pub(crate) fn fields_in(alloc: Global, values: &[Value]) -> Result<Option<Vec<String>>, NoMemory>
-    ensures { IfOk result (λ o. option_map (λ v. map string_bytes v.items) o ≡ fields_in (map view values.now)) }
+    ensures { IfOk result (λ o. option_map (λ v. map string_bytes v.items) o
+        ≡ fields_in (map view values.now)) }
 {
     if values.is_empty() || values.len() > 64 {
         return Ok(None);

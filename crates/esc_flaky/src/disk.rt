@@ -1,7 +1,19 @@
 //! A disk of which one call fails.
 
 ghost use Rattle.std.specs.Prelude.{◌≡◌, ◌⊎◌, ◌+◌, ◌^◌, ◌<◌, ◌≤◌, ◌&&◌, ◌↔◌, ⊤, ℕ, not};
-ghost use Rattle.std.specs.Prelude.{true, false, List, length, take, drop, None, Some, is_none, is_ok, IsErr};
+ghost use Rattle.std.specs.Prelude.{
+  true,
+  false,
+  List,
+  length,
+  take,
+  drop,
+  None,
+  Some,
+  is_none,
+  is_ok,
+  IsErr,
+};
 ghost use Rattle.std.specs.Prelude.{IsTrue, IfOk, OnOk};
 ghost use Rattle.sqlite_disk.specs.Disk.{Holds, Torn, Mixed, Cut, Follows, Only};
 ghost use Rattle.sqlite_disk.specs.Disk.{CountsFault, CountsFaultIf};
@@ -27,7 +39,8 @@ pub struct FlakyDisk<D: Disk> {
 // When a call fails.
 #[derive(Drop)]
 struct Turn {
-    // How many calls pass before the one that fails. There is no number once it has failed, or if none is to fail.
+    // How many calls pass before the one that fails. There is no number once it has failed, or if
+    // none is to fail.
     calls_before: Option<u64>,
     // How many have failed: none or one.
     refused: u64,

@@ -72,8 +72,8 @@ pub struct FailingWriter {
 }
 
 impl FailingWriter {
-    /// A writer that has no bytes yet. A write takes at most a piece of so many, one at least. Where it is stuck every
-    /// flush fails.
+    /// A writer that has no bytes yet. A write takes at most a piece of so many, one at least.
+    /// Where it is stuck every flush fails.
     pub fn new(alloc: Global, piece: usize, passing: usize, is_stuck: bool) -> FailingWriter
         ensures empty { written result ≡ [] }
         ensures piece { write_size result ≡ piece }

@@ -1,5 +1,17 @@
 -- Which request an input makes, and what answers it.
-use Rattle.std.specs.Prelude.{◌≡◌, ◌⊎◌, ℕ, List, if◌then◌else◌, nat_le, length, take, Option, Some, None}
+use Rattle.std.specs.Prelude.{
+  ◌≡◌,
+  ◌⊎◌,
+  ℕ,
+  List,
+  if◌then◌else◌,
+  nat_le,
+  length,
+  take,
+  Option,
+  Some,
+  None,
+}
 use Rattle.sqlite_trees.specs.declared.store.Store.{Ghosts}
 use Rattle.httparse.specs.Grammar.{RequestHead}
 use Rattle.esc_store.specs.declared.fault.SFault.{SFault}
@@ -31,13 +43,16 @@ pub data Request : Type 0 where
 -- what a head asks for, and the bytes that follow it: a body that is cut is no arrival
 abbrev pub with_body : Plan → List ℕ → Request
 with_body (Refuse refusal) rest = refused refusal
-with_body (Put number size) rest = if nat_le size (length rest) then arrives (an_arrival number (take size rest)) else refused BadRequest
+with_body (Put number size) rest
+    = if nat_le size (length rest) then arrives (an_arrival number (take size rest)) else refused
+    BadRequest
 with_body (Get report) rest = wants report
 
 -- the request that an input makes: that of its head, or a bad request where it has none
 abbrev pub Asks : List ℕ → Request → Type 0
 Asks input request =
-    ((h : RequestHead) × (rest : List ℕ) × HasHead input h rest × (request ≡ with_body (plan_of_head h) rest))
+    ((h : RequestHead) × (rest : List ℕ) × HasHead input h rest
+    × (request ≡ with_body (plan_of_head h) rest))
     ⊎ (HasNoHead input × (request ≡ refused BadRequest))
 
 -- ---- answers
@@ -51,8 +66,8 @@ abbrev pub IsFault : List ℕ → Type 0
 IsFault text = (fault : SFault) × (text ≡ fault_response fault)
 
 module _ {S : Type 0} (g : Ghosts S) (old new : Desk S) where
-  -- the arrival was taken: the desk serves the events before and this one, and the text tells its reply; it is like an
-  -- earlier one, or there was room for one more receipt
+  -- the arrival was taken: the desk serves the events before and this one, and the text tells its
+  -- reply; it is like an earlier one, or there was room for one more receipt
   pub record TakesArrival (a : ArrivalValue) (e : List EventValue) (text : List ℕ) : Type 0 where
     pub reply : ReplyValue
     pub answers : Answers g new e a reply
@@ -73,11 +88,13 @@ module _ {S : Type 0} (g : Ghosts S) (old new : Desk S) where
     pub is : Over g old new (λ e. IsReport e report body)
     pub told : IsOrMemory (report_response report body) text
 
-  -- the text answers the request, and the desk serves what it served, with the arrival that was taken
+  -- the text answers the request, and the desk serves what it served, with the arrival that was
+  -- taken
   abbrev pub IsAnswered : Request → List ℕ → Type 0
   IsAnswered (refused refusal) text = (new ≡ old) × IsOrMemory (refusal_response refusal) text
   IsAnswered (arrives a) text = IsTaken a text ⊎ LosesArrival text
-  IsAnswered (wants report) text = ((new ≡ old) ⊎ Stays g old new) × (TellsReport report text ⊎ IsFault text)
+  IsAnswered (wants report) text = ((new ≡ old) ⊎ Stays g old new)
+      × (TellsReport report text ⊎ IsFault text)
 
 -- the text of an answer, where there is none for want of memory
 abbrev pub text_or_memory : {A : Type 0} → (A → List ℕ) → Option A → List ℕ

@@ -1,4 +1,5 @@
--- What the head of a request asks for: the tests that need no body, in their order (this project's profile).
+-- What the head of a request asks for: the tests that need no body, in their order (this project's
+-- profile).
 use Rattle.std.specs.Prelude.{ℕ, List, if◌then◌else◌, ◌==◌, map, codes, Option, Some, None}
 use Rattle.std.specs.List.{before_first}
 use Rattle.std.specs.Str.{bytes_eq}
@@ -6,9 +7,22 @@ use Rattle.httparse.specs.Grammar.{RequestHead}
 use Rattle.httparse.specs.Spans.{name_and_value}
 use Rattle.esc_envelope.specs.Id.{is_id}
 use Rattle.esc_request.specs.declared.length.BodyLength.{BodyLength}
-use Rattle.esc_request.specs.declared.length.BodyLength.TheVariants.{Bytes, Missing, Malformed, TooLong}
+use Rattle.esc_request.specs.declared.length.BodyLength.TheVariants.{
+  Bytes,
+  Missing,
+  Malformed,
+  TooLong,
+}
 use Rattle.esc_request.specs.declared.reports.Report.{Report}
-use Rattle.esc_request.specs.declared.refusal.Refusal.TheVariants.{BadRequest, NotFound, PutOnly, GetOnly, BadNumber, LengthRequired, TooLarge}
+use Rattle.esc_request.specs.declared.refusal.Refusal.TheVariants.{
+  BadRequest,
+  NotFound,
+  PutOnly,
+  GetOnly,
+  BadNumber,
+  LengthRequired,
+  TooLarge,
+}
 use Rattle.esc_http.specs.declared.plan.Plan.{Plan}
 use Rattle.esc_http.specs.declared.plan.Plan.TheVariants.{Refuse, Put, Get}
 use Rattle.esc_request.specs.BodyLength.{Line, body_length}
@@ -28,7 +42,9 @@ plan_sized number TooLong = Refuse TooLarge
 -- at the route of an arrival: the method, the number's form, the length
 abbrev pub plan_to_put : List ℕ → List ℕ → List Line → Plan
 plan_to_put method number lines =
-    if bytes_eq method (codes "PUT") then (if is_id number then plan_sized number (body_length lines) else Refuse BadNumber) else Refuse PutOnly
+    if bytes_eq method (codes "PUT") then
+    (if is_id number then plan_sized number (body_length lines) else Refuse BadNumber) else
+    Refuse PutOnly
 
 -- at the route of a report: the method
 abbrev pub plan_to_get : List ℕ → Report → Plan

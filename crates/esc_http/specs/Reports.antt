@@ -21,17 +21,26 @@ use Rattle.esc_desk.specs.Events.{EventValue, union}
 use Rattle.esc_desk.specs.Reads.{replies_of, AreTables, IsEnd, IsStatus}
 use Rattle.esc_desk.specs.Stands.{held_body}
 use Rattle.esc_request.specs.declared.reports.Report.{Report}
-use Rattle.esc_request.specs.declared.reports.Report.TheVariants.{Status, Gaps, Links, Receipts, Export}
+use Rattle.esc_request.specs.declared.reports.Report.TheVariants.{
+  Status,
+  Gaps,
+  Links,
+  Receipts,
+  Export,
+}
 use Rattle.esc_texts.specs.GapsText.{gaps_text}
 use Rattle.esc_texts.specs.LinksText.{links_text}
 use Rattle.esc_texts.specs.ReceiptsText.{receipts_text}
 use Rattle.esc_http.specs.StatusText.{status_text}
 
--- what breaks a rule in tables at the end of a chain, each once and in order; without a chain there is nothing
+-- what breaks a rule in tables at the end of a chain, each once and in order; without a chain there
+-- is nothing
 abbrev pub AreFindings : List (KeyName × ObjectValue) → Option End → List FindingValue → Type 0
 AreFindings entries None found = found ≡ []
 AreFindings entries (Some end) found =
-    IsStrictlySortedBy listing_cmp found × ((f : FindingValue) → Contains found f ↔ IsFinding (tables_of entries) end.watermark end.counts.entries f)
+    IsStrictlySortedBy listing_cmp found
+    × ((f : FindingValue) → Contains found f ↔ IsFinding
+    (tables_of entries) end.watermark end.counts.entries f)
 
 module _ (e : List EventValue) where
   -- the numbers of the status

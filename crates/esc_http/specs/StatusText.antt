@@ -13,12 +13,15 @@ use Rattle.esc_desk.specs.declared.status.Status.{Status}
 abbrev pub number_line : List ℕ → ℕ → List ℕ
 number_line name n = name ++ codes " " ++ decimal n ++ codes "\n"
 
--- how many rows are listed and held, how many receipts there are, and how many steps the latest chain has
+-- how many rows are listed and held, how many receipts there are, and how many steps the latest
+-- chain has
 abbrev pub counts_text : Status → List ℕ
-counts_text s = number_line (codes "listed") s.listed ++ number_line (codes "held") s.held ++ number_line (codes "receipts") s.receipts ++ number_line (codes "chain") s.chain
+counts_text s = number_line (codes "listed") s.listed ++ number_line (codes "held") s.held
+    ++ number_line (codes "receipts") s.receipts ++ number_line (codes "chain") s.chain
 
 abbrev pub end_text : Place → ℕ → List ℕ
-end_text place resend = codes "end " ++ printed place.watermark ++ codes " " ++ type_name place.kind ++ codes " " ++ decimal resend ++ codes "\n"
+end_text place resend = codes "end " ++ printed place.watermark ++ codes " " ++ type_name place.kind
+    ++ codes " " ++ decimal resend ++ codes "\n"
 
 -- where the chain ends
 abbrev pub end_line : Option (Place × ℕ) → List ℕ

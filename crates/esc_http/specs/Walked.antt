@@ -13,7 +13,8 @@ use Rattle.esc_http.specs.Reports.{AreFindings}
 
 -- this is what breaks a rule in the tables of the latest chain, where its end says this
 abbrev pub AreFoundAt : List EventValue → Option End → List FindingValue → Type 0
-AreFoundAt e end found = (entries : List Entry) × AreTables e entries × AreFindings entries end found
+AreFoundAt e end found = (entries : List Entry) × AreTables e entries
+    × AreFindings entries end found
 
 -- the fault that ends a report over a walk: the walk's own, or S2 where memory was refused
 abbrev pub walk_fault : StreamFault SFault → SFault

@@ -10,7 +10,15 @@ ghost use Rattle.esc_http.specs.declared.plan.Plan.TheVariants.{Put};
 ghost use Rattle.esc_request.specs.Head.{ShowsHead};
 ghost use Rattle.esc_http.specs.Plans.{plan_of_head};
 ghost use Rattle.esc_request.specs.Router.{rows};
-ghost use Rattle.esc_http.specs.Answering.{Request, arrives, wants, with_body, Asks, IsAnswered, text_or_memory};
+ghost use Rattle.esc_http.specs.Answering.{
+  Request,
+  arrives,
+  wants,
+  with_body,
+  Asks,
+  IsAnswered,
+  text_or_memory,
+};
 
 use crate::plan::{Plan, plan_of_head};
 use crate::response::{fault_response, reply_response};
@@ -31,7 +39,9 @@ pub(crate) fn answer_input<S: Alter, R: Source>(
     desk: &mut Desk<S>,
     source: &mut R,
 ) -> Result<Option<Vec<u8>>, ReadFailed>
-    ensures answers { IfOk result (λ text. (request : Request) × IfSome (R.remaining source.old) (λ input. Asks input request) × IsAnswered S.Store desk.old desk.new request (text_or_memory (λ text. text.items) text)) }
+    ensures answers { IfOk result (λ text. (request : Request)
+        × IfSome (R.remaining source.old) (λ input. Asks input request)
+        × IsAnswered S.Store desk.old desk.new request (text_or_memory (λ text. text.items) text)) }
     ensures honest { WasHonest S.Store desk.old desk.new }
     ensures same { OnErr result (desk.new ≡ desk.old) }
     ensures err { OnErr result (IsTrue (R.failed source.new)) }
@@ -58,7 +68,12 @@ fn answer_head<S: Alter, R: Source>(
 ) -> Result<Option<Vec<u8>>, ReadFailed>
     requires within { IsRequestWithin bytes.now lines.now found.now.spans }
     requires head { ShowsHead bytes.now lines.now found.now.spans }
-    ensures answers { IfOk result (λ text. (h : RequestHead) → IsRequestAt bytes.now lines.now found.now.spans h → (request : Request) × IfSome (prepend_known (drop found.now.spans.len bytes.now) (R.remaining source.old)) (λ rest. request ≡ with_body (plan_of_head h) rest) × IsAnswered S.Store desk.old desk.new request (text_or_memory (λ text. text.items) text)) }
+    ensures answers { IfOk result (λ text. (h : RequestHead)
+        → IsRequestAt bytes.now lines.now found.now.spans h
+        → (request : Request) × IfSome
+        (prepend_known (drop found.now.spans.len bytes.now) (R.remaining source.old))
+        (λ rest. request ≡ with_body (plan_of_head h) rest)
+        × IsAnswered S.Store desk.old desk.new request (text_or_memory (λ text. text.items) text)) }
     ensures honest { WasHonest S.Store desk.old desk.new }
     ensures same { OnErr result (desk.new ≡ desk.old) }
     ensures err { OnErr result (IsTrue (R.failed source.new)) }
@@ -82,7 +97,12 @@ fn answer_routed<S: Alter, R: Source>(
     requires within { IsRequestWithin bytes.now lines.now found.now.spans }
     requires head { ShowsHead bytes.now lines.now found.now.spans }
     requires router_is { router.now ≡ rows }
-    ensures answers { IfOk result (λ text. (h : RequestHead) → IsRequestAt bytes.now lines.now found.now.spans h → (request : Request) × IfSome (prepend_known (drop found.now.spans.len bytes.now) (R.remaining source.old)) (λ rest. request ≡ with_body (plan_of_head h) rest) × IsAnswered S.Store desk.old desk.new request (text_or_memory (λ text. text.items) text)) }
+    ensures answers { IfOk result (λ text. (h : RequestHead)
+        → IsRequestAt bytes.now lines.now found.now.spans h
+        → (request : Request) × IfSome
+        (prepend_known (drop found.now.spans.len bytes.now) (R.remaining source.old))
+        (λ rest. request ≡ with_body (plan_of_head h) rest)
+        × IsAnswered S.Store desk.old desk.new request (text_or_memory (λ text. text.items) text)) }
     ensures honest { WasHonest S.Store desk.old desk.new }
     ensures same { OnErr result (desk.new ≡ desk.old) }
     ensures err { OnErr result (IsTrue (R.failed source.new)) }
@@ -106,7 +126,10 @@ fn answer_put<S: Alter, R: Source>(
     front: &[u8],
     size: u32,
 ) -> Result<Option<Vec<u8>>, ReadFailed>
-    ensures answers { IfOk result (λ text. (request : Request) × IfSome (prepend_known front.now (R.remaining source.old)) (λ rest. request ≡ with_body (Put number.now size) rest) × IsAnswered S.Store desk.old desk.new request (text_or_memory (λ text. text.items) text)) }
+    ensures answers { IfOk result (λ text. (request : Request)
+        × IfSome (prepend_known front.now (R.remaining source.old))
+        (λ rest. request ≡ with_body (Put number.now size) rest)
+        × IsAnswered S.Store desk.old desk.new request (text_or_memory (λ text. text.items) text)) }
     ensures honest { WasHonest S.Store desk.old desk.new }
     ensures same { OnErr result (desk.new ≡ desk.old) }
     ensures err { OnErr result (IsTrue (R.failed source.new)) }
@@ -124,7 +147,8 @@ fn answer_arrival<S: Alter>(
     number: &Number<'_>,
     body: &[u8],
 ) -> Option<Vec<u8>>
-    ensures answers { IsAnswered S.Store desk.old desk.new (arrives (an_arrival number.now body.now)) (text_or_memory (λ text. text.items) result) }
+    ensures answers { IsAnswered S.Store desk.old desk.new
+        (arrives (an_arrival number.now body.now)) (text_or_memory (λ text. text.items) result) }
     ensures honest { WasHonest S.Store desk.old desk.new }
 {
     match desk.arrive(alloc, number, body) {
@@ -135,7 +159,8 @@ fn answer_arrival<S: Alter>(
 
 #[tactic(auto, using(crate::proofs::StoreFacts::was_honest))]
 fn answer_report<S: Alter>(alloc: Global, desk: &mut Desk<S>, what: Report) -> Option<Vec<u8>>
-    ensures answers { IsAnswered S.Store desk.old desk.new (wants what) (text_or_memory (λ text. text.items) result) }
+    ensures answers { IsAnswered S.Store desk.old desk.new (wants what)
+        (text_or_memory (λ text. text.items) result) }
     ensures honest { WasHonest S.Store desk.old desk.new }
 {
     match report(alloc, desk, what) {

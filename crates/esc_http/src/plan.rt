@@ -31,7 +31,8 @@ pub(crate) fn plan_of_head<'b>(
     requires router_is { router.now ≡ rows }
     requires within { IsRequestWithin bytes.now lines.now found.now.spans }
     requires head { ShowsHead bytes.now lines.now found.now.spans }
-    ensures { (h : RequestHead) → IsRequestAt bytes.now lines.now found.now.spans h → result ≡ plan_of_head h }
+    ensures { (h : RequestHead) → IsRequestAt bytes.now lines.now found.now.spans h
+        → result ≡ plan_of_head h }
 {
     let spans = found.spans;
     let lines = &lines[..spans.headers];

@@ -3,7 +3,10 @@
 ghost use Rattle.std.specs.Prelude.{◌≡◌, ℕ, List, Err, IfSome, IsTrue, OnOk, OnErr};
 ghost use Rattle.std.specs.Io.KnownBytes.{Appends, Keeps};
 ghost use Rattle.esc_desk.specs.Calls.{WasHonest};
-ghost use Rattle.esc_http.specs.declared.serving.ServeFault.TheVariants.{Read as reading, Write as writing};
+ghost use Rattle.esc_http.specs.declared.serving.ServeFault.TheVariants.{
+  Read as reading,
+  Write as writing,
+};
 ghost use Rattle.esc_http.specs.Answering.{Request, Asks, IsAnswered, text_or_memory};
 ghost use Rattle.esc_request.specs.Sent.{AppendsBeginning};
 
@@ -19,7 +22,8 @@ use std::io::{Read, Write};
 pub enum ServeFault {
     /// A read failed. Nothing was written, and nothing arrived.
     Read,
-    /// A write or a flush failed. A beginning of the response was written, and an arrival that was taken stands.
+    /// A write or a flush failed. A beginning of the response was written, and an arrival that was
+    /// taken stands.
     Write,
 }
 
@@ -41,27 +45,33 @@ impl From<WriteFailed> for ServeFault {
 
 /// Reads one request, answers it, and writes the response.
 ///
-/// Whatever is read, the response answers some request; where the reader tells its bytes, it is the request that they
-/// make.
+/// Whatever is read, the response answers some request; where the reader tells its bytes, it is the
+/// request that they make.
 pub fn serve<S: Alter, R: Source, W: Sink>(
     alloc: Global,
     desk: &mut Desk<S>,
     source: &mut R,
     sink: &mut W,
 ) -> Result<(), ServeFault>
-    ensures ok { OnOk result ((request : Request) × (text : List ℕ) × IfSome (R.remaining source.old) (λ input. Asks input request)
-        × IsAnswered S.Store desk.old desk.new request text × Appends (W.contents sink.old) (W.contents sink.new) text) }
+    ensures ok { OnOk result ((request : Request) × (text : List ℕ)
+        × IfSome (R.remaining source.old) (λ input. Asks input request)
+        × IsAnswered S.Store desk.old desk.new request text
+        × Appends (W.contents sink.old) (W.contents sink.new) text) }
     ensures honest { WasHonest S.Store desk.old desk.new }
 
     // A read failed: nothing was written, and nothing arrived.
     ensures read_failed { result ≡ Err ServeFault.Read → IsTrue (R.failed source.new) }
-    ensures read_wrote { result ≡ Err ServeFault.Read → Keeps (W.contents sink.old) (W.contents sink.new) }
+    ensures read_wrote { result ≡ Err ServeFault.Read
+        → Keeps (W.contents sink.old) (W.contents sink.new) }
     ensures read_arrived { result ≡ Err ServeFault.Read → desk.new ≡ desk.old }
 
     // A write or a flush failed: a beginning of the response was written.
     ensures write_failed { result ≡ Err ServeFault.Write → IsTrue (W.failed sink.new) }
-    ensures write_wrote { result ≡ Err ServeFault.Write → (request : Request) × (text : List ℕ) × IfSome (R.remaining source.old) (λ input. Asks input request)
-        × IsAnswered S.Store desk.old desk.new request text × AppendsBeginning (W.contents sink.old) (W.contents sink.new) text }
+    ensures write_wrote { result ≡ Err ServeFault.Write
+        → (request : Request) × (text : List ℕ)
+        × IfSome (R.remaining source.old) (λ input. Asks input request)
+        × IsAnswered S.Store desk.old desk.new request text
+        × AppendsBeginning (W.contents sink.old) (W.contents sink.new) text }
 {
     let text = answer_input(alloc, desk, source)?;
     send_answer(sink, &text)?;
@@ -75,25 +85,34 @@ pub fn serve_one<S: Alter, R: Read, W: Write>(
     reader: &mut R,
     writer: &mut W,
 ) -> Result<(), ServeFault>
-    ensures ok { OnOk result ((request : Request) × (text : List ℕ) × IfSome (R.remaining reader.old) (λ input. Asks input request)
-        × IsAnswered S.Store desk.old desk.new request text × Appends (W.contents writer.old) (W.contents writer.new) text) }
+    ensures ok { OnOk result ((request : Request) × (text : List ℕ)
+        × IfSome (R.remaining reader.old) (λ input. Asks input request)
+        × IsAnswered S.Store desk.old desk.new request text
+        × Appends (W.contents writer.old) (W.contents writer.new) text) }
     ensures honest { WasHonest S.Store desk.old desk.new }
 
     // A read failed: nothing was written, and nothing arrived.
-    ensures read_wrote { result ≡ Err ServeFault.Read → Keeps (W.contents writer.old) (W.contents writer.new) }
+    ensures read_wrote { result ≡ Err ServeFault.Read
+        → Keeps (W.contents writer.old) (W.contents writer.new) }
     ensures read_arrived { result ≡ Err ServeFault.Read → desk.new ≡ desk.old }
 
     // A write or a flush failed: a beginning of the response was written.
-    ensures write_wrote { result ≡ Err ServeFault.Write → (request : Request) × (text : List ℕ) × IfSome (R.remaining reader.old) (λ input. Asks input request)
-        × IsAnswered S.Store desk.old desk.new request text × AppendsBeginning (W.contents writer.old) (W.contents writer.new) text }
+    ensures write_wrote { result ≡ Err ServeFault.Write
+        → (request : Request) × (text : List ℕ)
+        × IfSome (R.remaining reader.old) (λ input. Asks input request)
+        × IsAnswered S.Store desk.old desk.new request text
+        × AppendsBeginning (W.contents writer.old) (W.contents writer.new) text }
 {
     serve(alloc, desk, reader, writer)
 }
 
 // Writes an answer: want of memory has a text that takes none.
 fn send_answer<W: Sink>(sink: &mut W, text: &Option<Vec<u8>>) -> Result<(), WriteFailed>
-    ensures ok { OnOk result (Appends (W.contents sink.old) (W.contents sink.new) (text_or_memory (λ text. text.items) text.now)) }
-    ensures err { OnErr result (AppendsBeginning (W.contents sink.old) (W.contents sink.new) (text_or_memory (λ text. text.items) text.now)) }
+    ensures ok { OnOk result (Appends (W.contents sink.old) (W.contents sink.new)
+        (text_or_memory (λ text. text.items) text.now)) }
+    ensures err { OnErr result
+        (AppendsBeginning (W.contents sink.old) (W.contents sink.new)
+        (text_or_memory (λ text. text.items) text.now)) }
     ensures failed { OnErr result (IsTrue (W.failed sink.new)) }
 {
     match text {

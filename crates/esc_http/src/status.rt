@@ -3,7 +3,14 @@
 ghost use Rattle.std.specs.Prelude.{◌≡◌, ◌++◌, ℕ, IfOk, OnOk, string_bytes, option_map};
 ghost use Rattle.std.specs.Fmt.{decimal};
 ghost use Rattle.esc_envelope.specs.Watermark.{watermark_text_of};
-ghost use Rattle.esc_http.specs.StatusText.{number_line, counts_text, end_text, end_line, objects_text, status_text};
+ghost use Rattle.esc_http.specs.StatusText.{
+  number_line,
+  counts_text,
+  end_text,
+  end_line,
+  objects_text,
+  status_text,
+};
 
 use esc_bundle::NoMemory;
 use esc_desk::{SFault, Status};
@@ -11,7 +18,8 @@ use esc_envelope::{Kind, Place, watermark_text};
 use std::alloc::Global;
 use std::collections::BTreeMap;
 
-/// The status report: eleven lines. `S1` where the chain ends at a moment that has no text, as none of a manifest does.
+/// The status report: eleven lines. `S1` where the chain ends at a moment that has no text, as none
+/// of a manifest does.
 pub(crate) fn status_text(alloc: Global, status: &Status) -> Result<String, SFault>
     ensures { IfOk result (λ text. string_bytes text ≡ status_text status.now) }
 {
@@ -23,7 +31,8 @@ pub(crate) fn status_text(alloc: Global, status: &Status) -> Result<String, SFau
 }
 
 fn push_counts(alloc: Global, text: &mut String, status: &Status) -> Result<(), NoMemory>
-    ensures { OnOk result (string_bytes text.new ≡ string_bytes text.old ++ counts_text status.now) }
+    ensures { OnOk result (string_bytes text.new ≡ string_bytes text.old
+        ++ counts_text status.now) }
 {
     push_number(alloc, text, "listed", status.listed)?;
     push_number(alloc, text, "held", status.held)?;
@@ -32,7 +41,8 @@ fn push_counts(alloc: Global, text: &mut String, status: &Status) -> Result<(), 
 }
 
 fn push_number(alloc: Global, text: &mut String, name: &str, number: u64) -> Result<(), NoMemory>
-    ensures { OnOk result (string_bytes text.new ≡ string_bytes text.old ++ number_line name.now number) }
+    ensures { OnOk result (string_bytes text.new ≡ string_bytes text.old
+        ++ number_line name.now number) }
 {
     let line = number_line(alloc, name, number)?;
     text.push_str(line.as_str())?;
@@ -72,7 +82,8 @@ fn push_objects(
     text: &mut String,
     objects: &BTreeMap<Kind, u64>,
 ) -> Result<(), NoMemory>
-    ensures { OnOk result (string_bytes text.new ≡ string_bytes text.old ++ objects_text objects.now.entries) }
+    ensures { OnOk result (string_bytes text.new ≡ string_bytes text.old
+        ++ objects_text objects.now.entries) }
 {
     for (kind, count) in objects.iter() {
         push_number(alloc, text, kind.name(), *count)?;

@@ -9,9 +9,10 @@ use Rattle.esc_rows.specs.Schema.{no_schema}
 use Rattle.esc_store.specs.Kept.{Kept}
 use Rattle.esc_store.specs.Tables.{IsBlank, IsStore}
 
--- from a connection that was just opened on a database without any table, index or view: whatever a crash leaves after the call
--- is such a database, or a store of this
+-- from a connection that was just opened on a database without any table, index or view: whatever a
+-- crash leaves after the call is such a database, or a store of this
 abbrev pub LeavesBlankOr : {S : Type 0} → Ghosts S → Held S → Held S → Kept → Type 0
 LeavesBlankOr g old new k =
-    Opens (state g old) → IsLive (state g old) → IsBlank (state g old).now → HasCleanDisk (state g new)
+    Opens (state g old) → IsLive (state g old) → IsBlank (state g old).now
+    → HasCleanDisk (state g new)
     → (trees : Trees) → (state g new).may_leave trees → IsSound no_schema trees ⊎ IsStore trees k

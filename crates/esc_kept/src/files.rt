@@ -18,8 +18,8 @@ use sqlite::{Connection, FileFrom, FileStore, Files, Options, Start};
 use sqlite_disk::Disk;
 use std::alloc::Global;
 
-/// The two files of a desk, as they are: nothing is written. Each pair of files that a crash may leave of them holds a
-/// store that it may leave of the desk.
+/// The two files of a desk, as they are: nothing is written. Each pair of files that a crash may
+/// leave of them holds a store that it may leave of the desk.
 pub fn files_of<D: Disk + Drop>(desk: Desk<FileStore<D>>) -> Files<D>
     ensures left { AreClean D.Disk result.log result.db
         → (e doubtful : List EventValue)
@@ -30,8 +30,8 @@ pub fn files_of<D: Disk + Drop>(desk: Desk<FileStore<D>>) -> Files<D>
     desk.into_store().into_connection().into_store().close()
 }
 
-/// The desk over the store that two files hold, also where they are what a crash left. `S3` where they hold no store of this
-/// version, `S1`, `S2`.
+/// The desk over the store that two files hold, also where they are what a crash left. `S3` where
+/// they hold no store of this version, `S1`, `S2`.
 pub fn desk_of_files<D: Disk + Drop>(
     alloc: Global,
     files: Files<D>,
@@ -62,8 +62,8 @@ pub fn desk_of_files<D: Disk + Drop>(
     }
 }
 
-/// The desk over the store of the files at a path, where `start` stands for what they hold. `S3` where they hold no store of
-/// this version, `S1`, `S2`.
+/// The desk over the store of the files at a path, where `start` stands for what they hold. `S3`
+/// where they hold no store of this version, `S1`, `S2`.
 pub fn open_desk_at<S: Start>(
     rt: &HostRuntime,
     path: &str,
@@ -84,8 +84,8 @@ pub fn open_desk_at<S: Start>(
     }
 }
 
-/// The desk over the files of another, which is closed first: what still stands in the log is copied into the database. It
-/// serves what the other served. `S1`, `S2`.
+/// The desk over the files of another, which is closed first: what still stands in the log is
+/// copied into the database. It serves what the other served. `S1`, `S2`.
 pub fn reopen_desk<D: Disk + Drop>(
     alloc: Global,
     desk: Desk<FileStore<D>>,

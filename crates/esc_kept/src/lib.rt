@@ -1,22 +1,26 @@
 //! What a crash leaves of a desk, and what the next open finds: a reply that was sent is kept.
 //!
-//! A sender may throw a deposit away once it holds the reply. So whatever stops the desk, and wherever, the next open
-//! has to find every arrival that was answered. `esc_desk` says what a crash may leave while a desk is open; this crate
-//! follows it through the desk's two files (the database and its log) to the next open.
+//! A sender may throw a deposit away once it holds the reply. So whatever stops the desk, and
+//! wherever, the next open has to find every arrival that was answered. `esc_desk` says what a
+//! crash may leave while a desk is open; this crate follows it through the desk's two files (the
+//! database and its log) to the next open.
 //!
 //! - [`new_desk`] makes a store of a manifest in an empty database, and gives the desk over it.
-//! - [`open_desk`] gives the desk over the store that a connection's database is. [`open_desk_at`] does so from a path,
-//!   and [`desk_of_files`] from the two files.
-//! - [`files_of`] gives the files of a desk back as they are, as a crash would find them: nothing is written.
-//! - [`reopen_desk`] closes a desk, which copies what still stands in the log into the database, and opens it again.
+//! - [`open_desk`] gives the desk over the store that a connection's database is. [`open_desk_at`]
+//! does so from a path,   and [`desk_of_files`] from the two files.
+//! - [`files_of`] gives the files of a desk back as they are, as a crash would find them: nothing
+//!   is written.
+//! - [`reopen_desk`] closes a desk, which copies what still stands in the log into the database,
+//!   and opens it again.
 //!
 //! What goes in are connections, paths or files (`sqlite`) and manifests; what comes out are desks
-//! ([`Desk`](esc_desk::Desk)). Where the database fails, or is no store, the answer is the `SFault`.
+//! ([`Desk`](esc_desk::Desk)). Where the database fails, or is no store, the answer is the
+//! `SFault`.
 //!
 //! # Example
 //!
-//! A test puts both files on a disk that fails from some call on, has arrivals come until one is refused, takes the files
-//! as a crash leaves them, and opens them again:
+//! A test puts both files on a disk that fails from some call on, has arrivals come until one is
+//! refused, takes the files as a crash leaves them, and opens them again:
 //!
 //! ```text
 //! let mut desk = new_desk(alloc, connection, &manifest)?;
@@ -31,26 +35,28 @@
 //!
 //! # What is promised
 //!
-//! An arrival that was refused by `S1` or `S2` is *in doubt*: a crash may leave it taken in. None is in doubt once an
-//! arrival was answered that changed a table, in a new store, and in one that was just opened. `CrashLeaves`
-//! (`crates/esc_desk/specs/Crashes.antt`) says that whatever a crash leaves is a store of the events so far (the manifest and
-//! the answered arrivals), or of them and one of those in doubt; the contracts of `Desk::arrive` and `Desk::run` carry it from call to call, and those
-//! here carry it on:
+//! An arrival that was refused by `S1` or `S2` is *in doubt*: a crash may leave it taken in. None
+//! is in doubt once an arrival was answered that changed a table, in a new store, and in one that
+//! was just opened. `CrashLeaves` (`crates/esc_desk/specs/Crashes.antt`) says that whatever a crash
+//! leaves is a store of the events so far (the manifest and the answered arrivals), or of them and
+//! one of those in doubt; the contracts of `Desk::arrive` and `Desk::run` carry it from call to
+//! call, and those here carry it on:
 //!
-//! 1. `new_desk` begins it: the manifest alone, none in doubt. A crash while the store is made leaves a database without tables, or
-//!    the new store.
-//! 2. `files_of`: each pair of files that a crash may leave holds a store of the answered arrivals, or of them and one of
-//!    those in doubt (`HoldsOneOf`).
-//! 3. `desk_of_files` and `open_desk_at`: where that is what the files hold, the desk serves the answered arrivals, or
-//!    them and one of those in doubt (`ServesOneOf`), and none is in doubt any more. `reopen_desk`: the desk serves what it
-//!    served before.
+//! 1. `new_desk` begins it: the manifest alone, none in doubt. A crash while the store is made
+//! leaves a database without tables, or    the new store.
+//! 2. `files_of`: each pair of files that a crash may leave holds a store of the answered arrivals,
+//! or of them and one of    those in doubt (`HoldsOneOf`).
+//! 3. `desk_of_files` and `open_desk_at`: where that is what the files hold, the desk serves the
+//! answered arrivals, or    them and one of those in doubt (`ServesOneOf`), and none is in doubt
+//! any more. `reopen_desk`: the desk serves what it    served before.
 //!
-//! From there on `Desk::arrive` promises that an arrival alike an earlier one has the first one's reply. So an arrival that
-//! was answered before the crash has the same reply after it, and one in doubt is sent again and gets a receipt, once.
+//! From there on `Desk::arrive` promises that an arrival alike an earlier one has the first one's
+//! reply. So an arrival that was answered before the crash has the same reply after it, and one in
+//! doubt is sent again and gets a receipt, once.
 //!
-//! Each of these clauses has the premise that the disk gave back what was written to it, and what a crash may leave of two files
-//! is `sqlite`'s promise over its disk. That an open succeeds is not promised: memory or the disk may be refused.
-//! `Store::open` never answers `S3` on a store.
+//! Each of these clauses has the premise that the disk gave back what was written to it, and what a
+//! crash may leave of two files is `sqlite`'s promise over its disk. That an open succeeds is not
+//! promised: memory or the disk may be refused. `Store::open` never answers `S3` on a store.
 #![tactic(auto)]
 
 mod files;

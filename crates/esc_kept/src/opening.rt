@@ -17,8 +17,9 @@ use esc_store::Store;
 use sqlite::{Alter, Connection};
 use std::alloc::Global;
 
-/// A desk over a new store of a manifest, made in a database without any table, index or view. At `Err` the connection
-/// is given back, with `S3` where the database has one, `S1`, or `S2`. A crash in the middle leaves no table, or the new store.
+/// A desk over a new store of a manifest, made in a database without any table, index or view. At
+/// `Err` the connection is given back, with `S3` where the database has one, `S1`, or `S2`. A crash
+/// in the middle leaves no table, or the new store.
 pub fn new_desk<S: Alter>(
     alloc: Global,
     connection: Connection<S>,
@@ -36,13 +37,15 @@ pub fn new_desk<S: Alter>(
     }
 }
 
-/// The desk over the store that the last commit of a connection's database is. At `Err` the connection is given back, with
-/// `S3` where the database is no store of this version, `S1`, or `S2`.
+/// The desk over the store that the last commit of a connection's database is. At `Err` the
+/// connection is given back, with `S3` where the database is no store of this version, `S1`, or
+/// `S2`.
 pub fn open_desk<S: Alter>(
     alloc: Global,
     connection: Connection<S>,
 ) -> Result<Desk<S>, (SFault, Connection<S>)>
-    ensures honest { IfOk result (λ desk. IsHonestDesk S.Store desk → HasCleanDisk (state S.Store connection)) }
+    ensures honest { IfOk result (λ desk. IsHonestDesk S.Store desk
+        → HasCleanDisk (state S.Store connection)) }
     ensures serves { IfOk result (λ desk. IsHonestDesk S.Store desk
         → (e : List EventValue)
         → IsStoreFor (state S.Store connection).committed.trees e → DeskServes S.Store desk e) }

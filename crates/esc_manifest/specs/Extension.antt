@@ -1,9 +1,37 @@
 -- A manifest and the rows of another one (this project's profile).
-use Rattle.std.specs.Prelude.{ℕ, suc, Bool, true, false, not, ◌&&◌, ◌||◌, ◌==◌, List, ◌++◌, filter, position, Option, None, Some, Result, Ok, Err, if◌then◌else◌}
+use Rattle.std.specs.Prelude.{
+  ℕ,
+  suc,
+  Bool,
+  true,
+  false,
+  not,
+  ◌&&◌,
+  ◌||◌,
+  ◌==◌,
+  List,
+  ◌++◌,
+  filter,
+  position,
+  Option,
+  None,
+  Some,
+  Result,
+  Ok,
+  Err,
+  if◌then◌else◌,
+}
 use Rattle.std.specs.List.{list_any}
 use Rattle.std.specs.Str.{bytes_eq}
 use Rattle.esc_manifest.specs.declared.row.MRow.{MRow}
-use Rattle.esc_manifest.specs.RowFaults.{same_place, same_revision, moved_id, follows_later, same_digest, rows_fault}
+use Rattle.esc_manifest.specs.RowFaults.{
+  same_place,
+  same_revision,
+  moved_id,
+  follows_later,
+  same_digest,
+  rows_fault,
+}
 
 -- both have the same prevId, or both have none
 abbrev pub same_prev : Option (List ℕ) → Option (List ℕ) → Bool
@@ -32,13 +60,15 @@ new_rows m more = filter (λ r. not (is_listed m r)) more
 abbrev pub extended : List MRow → List MRow → List MRow
 extended m more = m ++ new_rows m more
 
--- the row repeats or contradicts one of m, by the fault of this number: M10, M11 or M13, or M12, where it is a Differential
--- that names a row of m which isn't earlier, or a Differential of m names it so
+-- the row repeats or contradicts one of m, by the fault of this number: M10, M11 or M13, or M12,
+-- where it is a Differential that names a row of m which isn't earlier, or a Differential of m
+-- names it so
 abbrev pub is_blamed : ℕ → List MRow → MRow → Bool
 is_blamed code m r =
     if code == 10 then list_any (λ q. same_revision q r) m
     else if code == 11 then list_any (λ q. moved_id q r) m
-    else if code == 12 then list_any (λ q. follows_later q r) m || list_any (λ q. follows_later r q) m
+    else if code == 12 then list_any (λ q. follows_later q r) m
+    || list_any (λ q. follows_later r q) m
     else if code == 13 then list_any (λ q. same_digest q r) m
     else false
 
@@ -47,8 +77,8 @@ abbrev pub row_or_whole : Option ℕ → ℕ
 row_or_whole None = 0
 row_or_whole (Some index) = suc index
 
--- the row of `more` that a fault of the union is told at: the least that isn't listed yet and has it (as `more` is accepted
--- by itself, each of these faults is against a row of m)
+-- the row of `more` that a fault of the union is told at: the least that isn't listed yet and has
+-- it (as `more` is accepted by itself, each of these faults is against a row of m)
 abbrev pub blamed : ℕ → List MRow → List MRow → ℕ
 blamed code m more = row_or_whole (position (λ r. not (is_listed m r) && is_blamed code m r) more)
 

@@ -1,13 +1,54 @@
 -- The least fault of rows, of a text and of an extension: which faults stand, and at which rows
 -- (this project's profile).
-use Rattle.std.specs.Prelude.{◌≡◌, ◌⊎◌, ◌<◌, ◌≤◌, ◌+◌, ℕ, suc, List, [], length, take, drop, map, Bool, true, false, ◌==◌, Some, slice_index_or, if◌then◌else◌}
+use Rattle.std.specs.Prelude.{
+  ◌≡◌,
+  ◌⊎◌,
+  ◌<◌,
+  ◌≤◌,
+  ◌+◌,
+  ℕ,
+  suc,
+  List,
+  [],
+  length,
+  take,
+  drop,
+  map,
+  Bool,
+  true,
+  false,
+  ◌==◌,
+  Some,
+  slice_index_or,
+  if◌then◌else◌,
+}
 use Rattle.std.specs.List.{list_any}
 use Rattle.esc_manifest.specs.declared.row.MRow.{MRow}
 use Rattle.esc_csv.specs.Records.{records_of}
 use Rattle.esc_manifest.specs.Extension.{extended, blamed}
 use Rattle.esc_manifest.specs.Fields.{row_of}
-use Rattle.esc_manifest.specs.Manifest.{most_bytes, has_other_length, lacks_heading, lacks_id, lacks_type, lacks_watermark, is_diff_alone, lacks_resend, lacks_digest}
-use Rattle.esc_manifest.specs.RowFaults.{most_rows, has_bad_id, has_bad_watermark, lacks_prev, has_bad_resend, same_revision, moved_id, follows_later, same_digest}
+use Rattle.esc_manifest.specs.Manifest.{
+  most_bytes,
+  has_other_length,
+  lacks_heading,
+  lacks_id,
+  lacks_type,
+  lacks_watermark,
+  is_diff_alone,
+  lacks_resend,
+  lacks_digest,
+}
+use Rattle.esc_manifest.specs.RowFaults.{
+  most_rows,
+  has_bad_id,
+  has_bad_watermark,
+  lacks_prev,
+  has_bad_resend,
+  same_revision,
+  moved_id,
+  follows_later,
+  same_digest,
+}
 use Rattle.esc_manifest.specs.Rows.{row_at}
 
 -- of faults, each a number with a row: this one stands, and no lesser number, nor the same number

@@ -1,5 +1,20 @@
 -- The place of an id, looked up.
-use Rattle.std.specs.Prelude.{◌≡◌, ◌<◌, ℕ, ℤ, List, length, Bool, false, not, ◌&&◌, int_lt, Option, Some, None}
+use Rattle.std.specs.Prelude.{
+  ◌≡◌,
+  ◌<◌,
+  ℕ,
+  ℤ,
+  List,
+  length,
+  Bool,
+  false,
+  not,
+  ◌&&◌,
+  int_lt,
+  Option,
+  Some,
+  None,
+}
 use Rattle.std.specs.BTreeMap as tree
 use Rattle.std.specs.BTreeMap.{BTreeMap}
 use Rattle.std.specs.Cmp.Lexicographic.{slice_cmp}
@@ -27,4 +42,5 @@ is_no_earlier (Some place) moment = not (int_lt place.watermark moment)
 abbrev pub names_later : BTreeMap (Bor (List ℕ)) Place → MRow → Bool
 names_later places row =
     is_diff row.header.place.kind
-    && is_some_id (λ id. is_no_earlier (place_in places id) row.header.place.watermark) row.header.prev
+    && is_some_id (λ id. is_no_earlier (place_in places id) row.header.place.watermark)
+    row.header.prev

@@ -1,11 +1,19 @@
-//! The first rows that stand against others. Keys that are looked up in sorted collections tell quickly that there is no
-//! such row, as in each manifest that is accepted; else, and where memory is refused, each row is compared with each.
+//! The first rows that stand against others. Keys that are looked up in sorted collections tell
+//! quickly that there is no such row, as in each manifest that is accepted; else, and where memory
+//! is refused, each row is compared with each.
 
 ghost use Rattle.std.specs.Prelude.{◌≡◌, ◌<◌, length, not, IfOk, IfSome, Some, None, true};
 ghost use Rattle.std.specs.List.{list_all};
 ghost use Rattle.esc_envelope.specs.declared.place.Place.{Place};
 ghost use Rattle.esc_manifest.specs.Lookups.{place_in, HavePlaces, is_no_earlier, names_later};
-ghost use Rattle.esc_manifest.specs.RowFaults.{same_revision, moved_id, follows_later, same_digest, first_against_earlier, first_against_any};
+ghost use Rattle.esc_manifest.specs.RowFaults.{
+  same_revision,
+  moved_id,
+  follows_later,
+  same_digest,
+  first_against_earlier,
+  first_against_any,
+};
 
 use crate::row::MRow;
 use crate::rows::{
@@ -24,7 +32,8 @@ fn revision_of(row: &MRow) -> (Place, u32)
 
 // Whether each row's place and resend are its own.
 fn have_own_revisions(alloc: Global, rows: &[MRow]) -> Result<bool, NoMemory>
-    ensures { IfOk result (λ own. own ≡ true → first_against_earlier same_revision rows.now ≡ None) }
+    ensures { IfOk result (λ own. own ≡ true → first_against_earlier same_revision rows.now
+        ≡ None) }
 {
     let mut seen = BTreeSet::new(alloc);
     for row in rows {

@@ -1,11 +1,34 @@
 //! Manifests that list more rows.
 
-ghost use Rattle.std.specs.Prelude.{◌≡◌, ◌≤◌, ◌<◌, ◌&&◌, ℕ, length, not, position, IfOk, IfSome, Ok, Err, option_map, string_bytes};
+ghost use Rattle.std.specs.Prelude.{
+  ◌≡◌,
+  ◌≤◌,
+  ◌<◌,
+  ◌&&◌,
+  ℕ,
+  length,
+  not,
+  position,
+  IfOk,
+  IfSome,
+  Ok,
+  Err,
+  option_map,
+  string_bytes,
+};
 ghost use Rattle.std.specs.List.{list_any};
 ghost use Rattle.esc_manifest.specs.declared.fault.MFault.TheVariants as MFault;
 ghost use Rattle.esc_manifest.specs.LeastFault.{IsLeastOfUnion};
 ghost use Rattle.esc_manifest.specs.RowFaults.{follows_later};
-ghost use Rattle.esc_manifest.specs.Extension.{same_prev, same_row, is_listed, extended, is_blamed, blamed, extension};
+ghost use Rattle.esc_manifest.specs.Extension.{
+  same_prev,
+  same_row,
+  is_listed,
+  extended,
+  is_blamed,
+  blamed,
+  extension,
+};
 
 use crate::fault::MFault;
 use crate::manifest::Manifest;
@@ -90,7 +113,8 @@ fn is_blamed(code: u8, rows: &[MRow], row: &MRow) -> bool
 }
 
 fn first_blamed(code: u8, rows: &[MRow], more: &[MRow]) -> Option<usize>
-    ensures first { result ≡ position (λ r. not (is_listed rows.now r) && is_blamed code rows.now r) more.now }
+    ensures first { result ≡ position (λ r. not (is_listed rows.now r) && is_blamed code rows.now r)
+        more.now }
     ensures within { IfSome result (λ r. r < length more.now) }
 {
     more.iter()
@@ -131,10 +155,11 @@ impl Manifest {
         }
     }
 
-    /// This manifest, and behind its rows those of another one that aren't equal to one of them in all six values, in their
-    /// order. Refuses with the least of M1 (more than 4,096 rows, row 0) and M10 to M13 that stands in the union. The row
-    /// is the least of `more`, counted from 1 as it stands there, that isn't listed yet and repeats or contradicts another;
-    /// for M12 the least that is a faulty Differential or whose id a faulty Differential of this manifest names.
+    /// This manifest, and behind its rows those of another one that aren't equal to one of them in
+    /// all six values, in their order. Refuses with the least of M1 (more than 4,096 rows, row 0)
+    /// and M10 to M13 that stands in the union. The row is the least of `more`, counted from 1 as
+    /// it stands there, that isn't listed yet and repeats or contradicts another; for M12 the least
+    /// that is a faulty Differential or whose id a faulty Differential of this manifest names.
     pub fn extend(&self, alloc: Global, more: &Manifest) -> Result<Manifest, MFault>
         ensures accepted { IfOk result (λ m. extension self.now more.now ≡ Ok m) }
         ensures union { IfOk result (λ m. m ≡ extended self.now more.now) }

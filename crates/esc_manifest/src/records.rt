@@ -10,11 +10,13 @@ use crate::rows::MOST_ROWS;
 use esc_csv::{Record, Records};
 use std::alloc::Global;
 
-/// The records of a text, the heading among them, or M1 where there are more than a heading and 4,096 rows.
+/// The records of a text, the heading among them, or M1 where there are more than a heading and
+/// 4,096 rows.
 pub(crate) fn read_records(alloc: Global, text: &[u8]) -> Result<Vec<Record>, MFault>
     ensures all { IfOk result (λ v. v.items ≡ records_of text.now) }
     ensures few { IfOk result (λ v. length v.items ≤ most_rows + 1) }
-    ensures refused { (code row : ℕ) → result ≡ Err (MFault.Refused code row) → (code ≡ 1) × (row ≡ 0) × (most_rows + 1 < length (records_of text.now)) }
+    ensures refused { (code row : ℕ) → result ≡ Err (MFault.Refused code row)
+        → (code ≡ 1) × (row ≡ 0) × (most_rows + 1 < length (records_of text.now)) }
 {
     let mut unread = Records::of(alloc, text);
     let mut records = Vec::new(alloc);

@@ -1,11 +1,38 @@
 //! Manifests of rows.
 
-ghost use Rattle.std.specs.Prelude.{◌≡◌, ◌<◌, ◌≤◌, ℕ, length, not, position, IfSome, IfOk, Some, None, Ok, Err};
+ghost use Rattle.std.specs.Prelude.{
+  ◌≡◌,
+  ◌<◌,
+  ◌≤◌,
+  ℕ,
+  length,
+  not,
+  position,
+  IfSome,
+  IfOk,
+  Some,
+  None,
+  Ok,
+  Err,
+};
 ghost use Rattle.std.specs.List.{list_any};
 ghost use Rattle.esc_envelope.specs.Id.{is_id};
 ghost use Rattle.esc_manifest.specs.declared.fault.MFault.TheVariants as MFault;
 ghost use Rattle.esc_manifest.specs.LeastFault.{IsLeast};
-ghost use Rattle.esc_manifest.specs.RowFaults.{has_bad_id, has_bad_watermark, lacks_prev, has_bad_resend, same_place, same_revision, moved_id, follows_later, same_digest, first_against_earlier, first_against_any, rows_fault};
+ghost use Rattle.esc_manifest.specs.RowFaults.{
+  has_bad_id,
+  has_bad_watermark,
+  lacks_prev,
+  has_bad_resend,
+  same_place,
+  same_revision,
+  moved_id,
+  follows_later,
+  same_digest,
+  first_against_earlier,
+  first_against_any,
+  rows_fault,
+};
 
 use crate::apart::{
     after_later, id_in_two_places, places_of_ids, repeated_digest, repeated_revision,
@@ -245,8 +272,9 @@ pub(crate) fn tested(alloc: Global, rows: Vec<MRow>) -> Result<Manifest, MFault>
     }
 }
 
-/// The manifest of these rows. Refuses with the least of M1 (more than 4,096 rows), M4, M6 to M8 and M10 to M13 that
-/// stands in them; a `prev` of an empty text is M4. Memory makes it quick; where that is refused it answers the same.
+/// The manifest of these rows. Refuses with the least of M1 (more than 4,096 rows), M4, M6 to M8
+/// and M10 to M13 that stands in them; a `prev` of an empty text is M4. Memory makes it quick;
+/// where that is refused it answers the same.
 pub fn from_rows(alloc: Global, rows: Vec<MRow>) -> Result<Manifest, MFault>
     ensures accepted { rows_fault rows.items ≡ None → result ≡ Ok rows.items }
     ensures refused { (code row : ℕ) → rows_fault rows.items ≡ Some (code, row) →

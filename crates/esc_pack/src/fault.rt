@@ -11,11 +11,11 @@ use std::fmt;
 /// Why bundles have no release manifest.
 #[derive(Clone, Copy, Debug, PartialEq, Eq)]
 pub enum ReleaseFault {
-    /// The bundle at this place among those given, from 0, has the refusal with this number, from U1
-    /// to U11.
+    /// The bundle at this place among those given, from 0, has the refusal with this number, from
+    /// U1 to U11.
     Unread { bundle: usize, code: u8 },
-    /// Their rows, in the order of places, have the refusal with this number, from M1 to M13, at this
-    /// row: rows count from 1, and row 0 is the whole.
+    /// Their rows, in the order of places, have the refusal with this number, from M1 to M13, at
+    /// this row: rows count from 1, and row 0 is the whole.
     Unlisted { code: u8, row: u32 },
     /// Memory was refused.
     NoMemory,

@@ -23,8 +23,8 @@
 //!
 //! `specs/Release.antt` says what the rows of bundles are (`IsRelease`), `specs/Written.antt` what
 //! their text is, and `specs/Listing.antt` puts them together: a text that is given is the text of
-//! those rows, and `read_manifest` reads it as exactly those rows (`IsManifestOf`); a refusal is one
-//! that stands (`IsRefused`), or that of memory, of which a contract says nothing.
+//! those rows, and `read_manifest` reads it as exactly those rows (`IsManifestOf`); a refusal is
+//! one that stands (`IsRefused`), or that of memory, of which a contract says nothing.
 #![tactic(auto)]
 
 mod fault;

@@ -1,5 +1,21 @@
 -- Reading a record from the front of a list, of texts that pass a test.
-use Rattle.std.specs.Prelude.{ℕ, zero, suc, Bool, nat_lt, if◌then◌else◌, List, [], ◌∷◌, length, take, drop, Option, None, Some}
+use Rattle.std.specs.Prelude.{
+  ℕ,
+  zero,
+  suc,
+  Bool,
+  nat_lt,
+  if◌then◌else◌,
+  List,
+  [],
+  ◌∷◌,
+  length,
+  take,
+  drop,
+  Option,
+  None,
+  Some,
+}
 use Rattle.std.specs.Int.{from_be_bytes, w32}
 use Rattle.esc_tables.specs.ObjectValue.{RowValue, ObjectValue}
 
@@ -19,7 +35,8 @@ number_at bytes = do
   Some (from_be_bytes w32 p.0, p.1)
 
 -- a list of n things and the rest
-abbrev pub many : {A : Type 0} → (List ℕ → Option (A × List ℕ)) → ℕ → List ℕ → Option (List A × List ℕ)
+abbrev pub many : {A : Type 0} → (List ℕ → Option (A × List ℕ)) → ℕ → List ℕ
+    → Option (List A × List ℕ)
 many one zero bytes = Some ([], bytes)
 many one (suc n) bytes = do
   x ← one bytes

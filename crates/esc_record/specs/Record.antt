@@ -1,5 +1,19 @@
 -- The record of an object: its bytes in the database (this project's profile).
-use Rattle.std.specs.Prelude.{ℕ, ◌^◌, Bool, ◌&&◌, nat_lt, if◌then◌else◌, List, ◌∷◌, ◌++◌, length, Option, None, Some}
+use Rattle.std.specs.Prelude.{
+  ℕ,
+  ◌^◌,
+  Bool,
+  ◌&&◌,
+  nat_lt,
+  if◌then◌else◌,
+  List,
+  ◌∷◌,
+  ◌++◌,
+  length,
+  Option,
+  None,
+  Some,
+}
 use Rattle.std.specs.List.{AllByRecursion, list_all, flat_map}
 use Rattle.std.specs.Int.{to_be_bytes, w32}
 use Rattle.std.specs.Str.{IsUtf8}
@@ -19,7 +33,8 @@ cell_bytes cell = text_bytes cell.0 ++ text_bytes cell.1
 
 -- a row: its table, the number of its cells, then the cells
 abbrev pub row_bytes : RowValue → List ℕ
-row_bytes row = text_bytes row.table ++ (number_bytes (length row.cells) ++ flat_map cell_bytes row.cells)
+row_bytes row = text_bytes row.table
+    ++ (number_bytes (length row.cells) ++ flat_map cell_bytes row.cells)
 
 -- the parent, then the children
 abbrev pub rows_of : ObjectValue → List RowValue
@@ -37,7 +52,8 @@ abbrev pub is_small_cell : List ℕ × List ℕ → Bool
 is_small_cell cell = is_small (length cell.0) && is_small (length cell.1)
 
 abbrev pub is_small_row : RowValue → Bool
-is_small_row row = is_small (length row.table) && is_small (length row.cells) && list_all is_small_cell row.cells
+is_small_row row = is_small (length row.table) && is_small (length row.cells)
+    && list_all is_small_cell row.cells
 
 -- each length and count fits four bytes
 abbrev pub is_small_object : ObjectValue → Bool

@@ -4,4 +4,5 @@ use Rattle.esc_bundle.specs.declared.fault.NoMemory.{NoMemory}
 
 -- it answers whether the thing fits, and has then put its bytes behind the others
 abbrev pub Pushes : Bool → List ℕ → List ℕ → List ℕ → Result Bool NoMemory → Type 0
-Pushes fits bytes old new result = IfOk result (λ answer. (answer ≡ fits) × (answer ≡ true → new ≡ old ++ bytes))
+Pushes fits bytes old new result
+    = IfOk result (λ answer. (answer ≡ fits) × (answer ≡ true → new ≡ old ++ bytes))

@@ -1,6 +1,7 @@
 //! Laws of records.
 //!
-//! The functions here do nothing. Each has a law as its contract: a caller who needs the law calls it.
+//! The functions here do nothing. Each has a law as its contract: a caller who needs the law calls
+//! it.
 
 ghost use Rattle.std.specs.Prelude.{◌≡◌, ◌++◌, ℕ, List, [], All, Some, Ok, IsSome};
 ghost use Rattle.esc_tables.specs.DepositValue.{DepositValue};
@@ -16,7 +17,8 @@ pub fn no_record_begins_another()
         → record_of p ≡ Some (bytes ++ more) → (more ≡ []) × (o ≡ p) }
 {}
 
-/// Each object of a deposit that is read from a body has a record: `to_record` never returns `None` for it.
+/// Each object of a deposit that is read from a body has a record: `to_record` never returns `None`
+/// for it.
 pub fn read_objects_have_records()
     ensures { (body : List ℕ) (d : DepositValue) → reading body ≡ Ok d
         → All (λ e. IsSome (record_of e.1)) d.contents }

@@ -1,15 +1,18 @@
 //! An object of the registry as bytes, and back (this project's profile).
 //!
-//! A *number* is four bytes, the greatest first. A *text* is its length as a number, then its bytes. A *row* is its
-//! table as a text, the number of its cells, then each cell as two texts, field and value. A *record* is the number of
-//! an object's rows, then the rows: the parent first, then the children in their order.
+//! A *number* is four bytes, the greatest first. A *text* is its length as a number, then its
+//! bytes. A *row* is its table as a text, the number of its cells, then each cell as two texts,
+//! field and value. A *record* is the number of an object's rows, then the rows: the parent first,
+//! then the children in their order.
 //!
 //! A database keeps each object of the registry as its record.
 //!
 //! # In and out
 //!
-//! - [`to_record`] takes an object and returns its record, or `None` where a length or a count needs more than four bytes.
-//! - [`read_record`] takes bytes and returns the object whose record they are, or `None` where they are the record of none.
+//! - [`to_record`] takes an object and returns its record, or `None` where a length or a count
+//!   needs more than four bytes.
+//! - [`read_record`] takes bytes and returns the object whose record they are, or `None` where they
+//!   are the record of none.
 //! - Both return `NoMemory` where memory is refused.
 //!
 //! ```text
@@ -22,12 +25,13 @@
 //!
 //! # What the contracts mean
 //!
-//! `specs/Record.antt` has `record_of`, the record of an object as a value. `to_record` returns exactly what it gives. What
-//! `read_record` finds has these bytes as its record, and where it finds nothing no object of texts has them.
+//! `specs/Record.antt` has `record_of`, the record of an object as a value. `to_record` returns
+//! exactly what it gives. What `read_record` finds has these bytes as its record, and where it
+//! finds nothing no object of texts has them.
 //!
-//! `no_record_begins_another`, a law, says that no record begins another, so records may stand side by side, and that each record
-//! is the record of one object. `read_objects_have_records`, another, says that each object of a deposit that was read from a body
-//! has a record.
+//! `no_record_begins_another`, a law, says that no record begins another, so records may stand side
+//! by side, and that each record is the record of one object. `read_objects_have_records`, another,
+//! says that each object of a deposit that was read from a body has a record.
 //!
 //! # Cost
 //!

@@ -1,10 +1,30 @@
 //! Reading a record.
 
-ghost use Rattle.std.specs.Prelude.{◌≡◌, ◌≢◌, Some, None, if◌then◌else◌, option_map, map, IfOk, IfSome, IfNone};
+ghost use Rattle.std.specs.Prelude.{
+  ◌≡◌,
+  ◌≢◌,
+  Some,
+  None,
+  if◌then◌else◌,
+  option_map,
+  map,
+  IfOk,
+  IfSome,
+  IfNone,
+};
 ghost use Rattle.std.specs.Str.{is_utf8};
 ghost use Rattle.esc_tables.specs.ObjectValue.{ObjectValue};
 ghost use Rattle.esc_record.specs.Record.{record_of, IsOfTexts};
-ghost use Rattle.esc_record.specs.Reading.{cut, number_at, text_at, cell_at, row_at, many, object_of, of_rows};
+ghost use Rattle.esc_record.specs.Reading.{
+  cut,
+  number_at,
+  text_at,
+  cell_at,
+  row_at,
+  many,
+  object_of,
+  of_rows,
+};
 
 use esc_bundle::NoMemory;
 use esc_tables::{Object, Row};
@@ -31,7 +51,8 @@ fn cut(count: usize, bytes: &[u8]) -> Option<(&[u8], &[u8])>
 
 // The text that bytes are, if they are UTF-8.
 fn as_text(bytes: &[u8]) -> Option<&str>
-    ensures { option_map (λ t. t.now) result ≡ (if is_utf8 bytes.now then Some bytes.now else None) }
+    ensures { option_map (λ t. t.now) result
+        ≡ (if is_utf8 bytes.now then Some bytes.now else None) }
 {
     match str::from_utf8(bytes) {
         Ok(text) => Some(text),
@@ -52,7 +73,8 @@ fn text_at(bytes: &[u8]) -> Option<(&str, &[u8])>
 // A cell, field and text, and the rest.
 #[tactic(auto, unfolding(crate::specs::Reading::cell_at))]
 fn cell_at(bytes: &[u8]) -> Option<((&str, &str), &[u8])>
-    ensures { option_map (λ p. ((p.0.0.now, p.0.1.now), p.1.now)) result ≡ cell_at is_utf8 bytes.now }
+    ensures { option_map (λ p. ((p.0.0.now, p.0.1.now), p.1.now)) result
+        ≡ cell_at is_utf8 bytes.now }
 {
     let (field, rest) = text_at(bytes)?;
     let (text, rest) = text_at(rest)?;
@@ -65,7 +87,9 @@ fn cells_at(
     count: u32,
     bytes: &[u8],
 ) -> Result<Option<(Vec<(&str, &str)>, &[u8])>, NoMemory>
-    ensures { IfOk result (λ found. option_map (λ p. (map (λ c. (c.0.now, c.1.now)) p.0.items, p.1.now)) found ≡ many (cell_at is_utf8) count bytes.now) }
+    ensures { IfOk result (λ found.
+        option_map (λ p. (map (λ c. (c.0.now, c.1.now)) p.0.items, p.1.now)) found
+        ≡ many (cell_at is_utf8) count bytes.now) }
 {
     let mut rest = bytes;
     let mut cells = Vec::new(alloc);
@@ -82,7 +106,8 @@ fn cells_at(
 // A row, and the rest.
 #[tactic(auto, unfolding(crate::specs::Reading::row_at))]
 fn row_at(alloc: Global, bytes: &[u8]) -> Result<Option<(Row, &[u8])>, NoMemory>
-    ensures { IfOk result (λ found. option_map (λ p. (p.0, p.1.now)) found ≡ row_at is_utf8 bytes.now) }
+    ensures { IfOk result (λ found. option_map (λ p. (p.0, p.1.now)) found
+        ≡ row_at is_utf8 bytes.now) }
 {
     let Some((table, rest)) = text_at(bytes) else {
         return Ok(None);
@@ -99,7 +124,8 @@ fn row_at(alloc: Global, bytes: &[u8]) -> Result<Option<(Row, &[u8])>, NoMemory>
 
 // So many rows, and the rest.
 fn rows_at(alloc: Global, count: u32, bytes: &[u8]) -> Result<Option<(Vec<Row>, &[u8])>, NoMemory>
-    ensures { IfOk result (λ found. option_map (λ p. (p.0.items, p.1.now)) found ≡ many (row_at is_utf8) count bytes.now) }
+    ensures { IfOk result (λ found. option_map (λ p. (p.0.items, p.1.now)) found
+        ≡ many (row_at is_utf8) count bytes.now) }
 {
     let mut rest = bytes;
     let mut rows = Vec::new(alloc);
@@ -131,7 +157,8 @@ fn of_rows(rows: Vec<Row>) -> Option<Object>
 /// The object whose record the bytes are, if they are one.
 pub fn read_record(alloc: Global, bytes: &[u8]) -> Result<Option<Object>, NoMemory>
     ensures found { IfOk result (λ found. IfSome found (λ o. record_of o ≡ Some bytes.now)) }
-    ensures none { IfOk result (λ found. IfNone found ((o : ObjectValue) → IsOfTexts o → record_of o ≢ Some bytes.now)) }
+    ensures none { IfOk result
+        (λ found. IfNone found ((o : ObjectValue) → IsOfTexts o → record_of o ≢ Some bytes.now)) }
 {
     object_of(alloc, bytes)
 }

@@ -2,21 +2,36 @@
 
 ghost use Rattle.std.specs.Prelude.{◌≡◌, option_map, IfOk, length};
 ghost use Rattle.std.specs.List.{list_all, flat_map};
-ghost use Rattle.esc_record.specs.Record.{number_bytes, text_bytes, cell_bytes, row_bytes, object_bytes, is_small, is_small_cell, is_small_row, is_small_object, record_of, rows_of};
+ghost use Rattle.esc_record.specs.Record.{
+  number_bytes,
+  text_bytes,
+  cell_bytes,
+  row_bytes,
+  object_bytes,
+  is_small,
+  is_small_cell,
+  is_small_row,
+  is_small_object,
+  record_of,
+  rows_of,
+};
 ghost use Rattle.esc_record.specs.Writing.{Pushes};
 
 use esc_bundle::NoMemory;
 use esc_tables::{Object, Row};
 use std::alloc::Global;
 
-/// The bytes that a record starts with room for: most records fit, so that writing one takes one allocation.
+/// The bytes that a record starts with room for: most records fit, so that writing one takes one
+/// allocation.
 const USUAL_LENGTH: usize = 256;
 
-// Each of these answers whether the lengths and counts fit; where one doesn't, what was pushed is of no use.
+// Each of these answers whether the lengths and counts fit; where one doesn't, what was pushed is
+// of no use.
 
 #[tactic(auto, unfolding(crate::specs::Record::number_bytes))]
 fn push_number(bytes: &mut Vec<u8>, number: usize) -> Result<bool, NoMemory>
-    ensures { Pushes (is_small number) (number_bytes number) bytes.old.items bytes.new.items result }
+    ensures { Pushes (is_small number) (number_bytes number) bytes.old.items bytes.new.items
+        result }
 {
     let Ok(number) = u32::try_from(number) else {
         return Ok(false);
@@ -26,7 +41,8 @@ fn push_number(bytes: &mut Vec<u8>, number: usize) -> Result<bool, NoMemory>
 }
 
 fn push_text(bytes: &mut Vec<u8>, text: &str) -> Result<bool, NoMemory>
-    ensures { Pushes (is_small (length text.now)) (text_bytes text.now) bytes.old.items bytes.new.items result }
+    ensures { Pushes (is_small (length text.now)) (text_bytes text.now) bytes.old.items
+        bytes.new.items result }
 {
     if !push_number(bytes, text.len())? {
         return Ok(false);
@@ -36,7 +52,8 @@ fn push_text(bytes: &mut Vec<u8>, text: &str) -> Result<bool, NoMemory>
 }
 
 fn push_cell(bytes: &mut Vec<u8>, field: &str, text: &str) -> Result<bool, NoMemory>
-    ensures { Pushes (is_small_cell (field.now, text.now)) (cell_bytes (field.now, text.now)) bytes.old.items bytes.new.items result }
+    ensures { Pushes (is_small_cell (field.now, text.now))
+        (cell_bytes (field.now, text.now)) bytes.old.items bytes.new.items result }
 {
     if !push_text(bytes, field)? {
         return Ok(false);
@@ -45,7 +62,8 @@ fn push_cell(bytes: &mut Vec<u8>, field: &str, text: &str) -> Result<bool, NoMem
 }
 
 fn push_cells(bytes: &mut Vec<u8>, row: &Row) -> Result<bool, NoMemory>
-    ensures { Pushes (list_all is_small_cell row.now.cells) (flat_map cell_bytes row.now.cells) bytes.old.items bytes.new.items result }
+    ensures { Pushes (list_all is_small_cell row.now.cells)
+        (flat_map cell_bytes row.now.cells) bytes.old.items bytes.new.items result }
 {
     for at in 0..row.len() {
         let Some((field, text)) = row.cell(at) else {
@@ -59,7 +77,8 @@ fn push_cells(bytes: &mut Vec<u8>, row: &Row) -> Result<bool, NoMemory>
 }
 
 fn push_row(bytes: &mut Vec<u8>, row: &Row) -> Result<bool, NoMemory>
-    ensures { Pushes (is_small_row row.now) (row_bytes row.now) bytes.old.items bytes.new.items result }
+    ensures { Pushes (is_small_row row.now) (row_bytes row.now) bytes.old.items bytes.new.items
+        result }
 {
     if !push_text(bytes, row.table())? {
         return Ok(false);
@@ -71,7 +90,8 @@ fn push_row(bytes: &mut Vec<u8>, row: &Row) -> Result<bool, NoMemory>
 }
 
 fn push_rows(bytes: &mut Vec<u8>, rows: &[Row]) -> Result<bool, NoMemory>
-    ensures { Pushes (list_all is_small_row rows.now) (flat_map row_bytes rows.now) bytes.old.items bytes.new.items result }
+    ensures { Pushes (list_all is_small_row rows.now) (flat_map row_bytes rows.now) bytes.old.items
+        bytes.new.items result }
 {
     for row in rows {
         if !push_row(bytes, row)? {
@@ -82,7 +102,8 @@ fn push_rows(bytes: &mut Vec<u8>, rows: &[Row]) -> Result<bool, NoMemory>
 }
 
 fn push_object(bytes: &mut Vec<u8>, o: &Object) -> Result<bool, NoMemory>
-    ensures { Pushes (is_small_object o.now) (object_bytes o.now) bytes.old.items bytes.new.items result }
+    ensures { Pushes (is_small_object o.now) (object_bytes o.now) bytes.old.items bytes.new.items
+        result }
 {
     let children = o.children.as_slice();
     if !push_number(bytes, children.len() + 1)? {

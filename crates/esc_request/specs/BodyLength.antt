@@ -1,11 +1,29 @@
--- How long the body of a request is, by its header lines (RFC 9112, section 6, within this project's profile).
-use Rattle.std.specs.Prelude.{ℕ, List, [], ◌∷◌, Bool, if◌then◌else◌, ◌&&◌, nat_lt, nat_le, length, codes}
+-- How long the body of a request is, by its header lines (RFC 9112, section 6, within this
+-- project's profile).
+use Rattle.std.specs.Prelude.{
+  ℕ,
+  List,
+  [],
+  ◌∷◌,
+  Bool,
+  if◌then◌else◌,
+  ◌&&◌,
+  nat_lt,
+  nat_le,
+  length,
+  codes,
+}
 use Rattle.std.specs.List.{list_any, list_all, filter}
 use Rattle.std.specs.Char.{is_ascii_digit}
 use Rattle.std.specs.Str.{str_eq_ignore_ascii_case}
 use Rattle.std.specs.Str.Parse.{digits_value}
 use Rattle.esc_request.specs.declared.length.BodyLength.{BodyLength}
-use Rattle.esc_request.specs.declared.length.BodyLength.TheVariants.{Bytes, Missing, Malformed, TooLong}
+use Rattle.esc_request.specs.declared.length.BodyLength.TheVariants.{
+  Bytes,
+  Missing,
+  Malformed,
+  TooLong,
+}
 
 -- a header line: its name, and its value without the white space around it
 abbrev pub Line : Type 0
@@ -22,7 +40,8 @@ is_numeral text = nat_lt 0 (length text) && list_all is_ascii_digit text
 -- the length that a value says: a numeral up to 16,777,216
 abbrev pub length_of_value : List ℕ → BodyLength
 length_of_value text =
-    if is_numeral text then (if nat_le (digits_value 10 text) 16777216 then Bytes (digits_value 10 text) else TooLong) else Malformed
+    if is_numeral text then (if nat_le (digits_value 10 text) 16777216 then Bytes
+    (digits_value 10 text) else TooLong) else Malformed
 
 -- the values of lines: none, one, or more
 pub data Values : Type 0 where
@@ -50,7 +69,8 @@ length_of_values nothing = Missing
 length_of_values (one value) = length_of_value value
 length_of_values more = Malformed
 
--- what header lines say of the body's length: nothing beside a Transfer-Encoding, else what the one Content-Length says
+-- what header lines say of the body's length: nothing beside a Transfer-Encoding, else what the one
+-- Content-Length says
 abbrev pub body_length : List Line → BodyLength
 body_length lines =
     if list_any (is_named (codes "transfer-encoding")) lines then Missing

@@ -17,4 +17,5 @@ HasNoHead input = (h : RequestHead) (rest : List ℕ) → HasHead input h rest �
 
 -- the spans show such a head at the front of these bytes
 abbrev pub ShowsHead : List ℕ → List HeaderSpan → RequestSpans → Type 0
-ShowsHead bytes lines spans = (h : RequestHead) × IsRequestAt bytes lines spans h × HasHead bytes h (drop spans.len bytes)
+ShowsHead bytes lines spans = (h : RequestHead) × IsRequestAt bytes lines spans h
+    × HasHead bytes h (drop spans.len bytes)

@@ -1,19 +1,36 @@
--- The texts of responses (RFC 9112, section 4; this project's profile): lines that end with CR LF, and a body.
+-- The texts of responses (RFC 9112, section 4; this project's profile): lines that end with CR LF,
+-- and a body.
 use Rattle.std.specs.Prelude.{ℕ, List, [], ◌++◌, length, codes}
 use Rattle.std.specs.Fmt.{decimal}
 use Rattle.esc_request.specs.declared.refusal.Refusal.{Refusal}
-use Rattle.esc_request.specs.declared.refusal.Refusal.TheVariants.{BadRequest, NotFound, PutOnly, GetOnly, BadNumber, LengthRequired, TooLarge}
+use Rattle.esc_request.specs.declared.refusal.Refusal.TheVariants.{
+  BadRequest,
+  NotFound,
+  PutOnly,
+  GetOnly,
+  BadNumber,
+  LengthRequired,
+  TooLarge,
+}
 use Rattle.esc_request.specs.declared.reports.Report.{Report}
-use Rattle.esc_request.specs.declared.reports.Report.TheVariants.{Status, Gaps, Links, Receipts, Export}
+use Rattle.esc_request.specs.declared.reports.Report.TheVariants.{
+  Status,
+  Gaps,
+  Links,
+  Receipts,
+  Export,
+}
 
 -- the end of a line
 abbrev pub crlf : List ℕ
 crlf = codes "\r\n"
 
--- the status line, the headers in their order, and an empty line; `allow` is one more header line, or nothing
+-- the status line, the headers in their order, and an empty line; `allow` is one more header line,
+-- or nothing
 abbrev pub response_head : List ℕ → List ℕ → List ℕ → ℕ → List ℕ
 response_head status media allow size =
-    (codes "HTTP/1.1 " ++ status ++ crlf) ++ (codes "Content-Type: " ++ media ++ crlf) ++ (codes "Content-Length: " ++ decimal size ++ crlf)
+    (codes "HTTP/1.1 " ++ status ++ crlf) ++ (codes "Content-Type: " ++ media ++ crlf)
+    ++ (codes "Content-Length: " ++ decimal size ++ crlf)
     ++ (codes "Connection: close" ++ crlf) ++ allow ++ crlf
 
 -- the head, and the body
@@ -26,7 +43,8 @@ plain status words = response status (codes "text/plain") [] words
 
 -- another method than the route's
 abbrev pub only : List ℕ → List ℕ
-only method = response (codes "405 Method Not Allowed") (codes "text/plain") (codes "Allow: " ++ method ++ crlf) (codes "method not allowed\n")
+only method = response (codes "405 Method Not Allowed") (codes "text/plain")
+    (codes "Allow: " ++ method ++ crlf) (codes "method not allowed\n")
 
 -- why a request is refused
 abbrev pub refusal_response : Refusal → List ℕ

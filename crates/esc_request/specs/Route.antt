@@ -1,10 +1,35 @@
 -- Where the path of a request leads (this project's profile).
-use Rattle.std.specs.Prelude.{ℕ, List, [], ◌∷◌, Bool, false, if◌then◌else◌, ◌==◌, nat_eq, not, length, drop, codes, Option, Some, None, option_map, option_and_then}
+use Rattle.std.specs.Prelude.{
+  ℕ,
+  List,
+  [],
+  ◌∷◌,
+  Bool,
+  false,
+  if◌then◌else◌,
+  ◌==◌,
+  nat_eq,
+  not,
+  length,
+  drop,
+  codes,
+  Option,
+  Some,
+  None,
+  option_map,
+  option_and_then,
+}
 use Rattle.std.specs.List.{starts_with, list_any}
 use Rattle.std.specs.Str.{bytes_eq}
 use Rattle.esc_envelope.specs.Kinds.{kind_named}
 use Rattle.esc_request.specs.declared.reports.Report.{Report}
-use Rattle.esc_request.specs.declared.reports.Report.TheVariants.{Status, Gaps, Links, Receipts, Export}
+use Rattle.esc_request.specs.declared.reports.Report.TheVariants.{
+  Status,
+  Gaps,
+  Links,
+  Receipts,
+  Export,
+}
 use Rattle.esc_request.specs.declared.route.Target.{Target}
 use Rattle.esc_request.specs.declared.route.Target.TheVariants as to
 
@@ -33,14 +58,16 @@ segment_after front path = option_and_then if_segment (strip front path)
 abbrev pub export_named : List ℕ → Option Leads
 export_named name = option_map (λ kind. tells (Export kind)) (kind_named name)
 
--- where a path leads: /status, /gaps, /links, /receipts, /arrivals/ and a number, /export/ and a kind; nothing is decoded
+-- where a path leads: /status, /gaps, /links, /receipts, /arrivals/ and a number, /export/ and a
+-- kind; nothing is decoded
 abbrev pub route_of : List ℕ → Option Leads
 route_of path =
     if bytes_eq (codes "/status") path then Some (tells Status)
     else (if bytes_eq (codes "/gaps") path then Some (tells Gaps)
     else (if bytes_eq (codes "/links") path then Some (tells Links)
     else (if bytes_eq (codes "/receipts") path then Some (tells Receipts)
-    else (if starts_with nat_eq path (codes "/arrivals/") then option_map arrival (segment_after (codes "/arrivals/") path)
+    else (if starts_with nat_eq path (codes "/arrivals/") then option_map arrival
+    (segment_after (codes "/arrivals/") path)
     else option_and_then export_named (segment_after (codes "/export/") path)))))
 
 -- where a path leads that has this target

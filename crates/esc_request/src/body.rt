@@ -24,7 +24,9 @@ pub fn read_body<R: Source>(
     front: &[u8],
     size: usize,
 ) -> Result<Body, ReadFailed>
-    ensures body { IfOk result (λ body. IfSome (prepend_known front.now (R.remaining source.old)) (λ input. IsBody size input body)) }
+    ensures body { IfOk result
+        (λ body. IfSome (prepend_known front.now (R.remaining source.old))
+        (λ input. IsBody size input body)) }
     ensures err { OnErr result (IsTrue (R.failed source.new)) }
 {
     let here = front.len().min(size);
@@ -59,8 +61,13 @@ fn fill_body<R: Source>(
 ) -> Result<bool, ReadFailed>
     requires { filled ≤ length body.old.items }
     ensures size { length body.new.items ≡ length body.old.items }
-    ensures whole { IfOk result (λ whole. OnTrue whole (Consumes (prepend_known (take filled body.old.items) (R.remaining source.old)) (R.remaining source.new) body.new.items)) }
-    ensures cut { IfOk result (λ whole. OnFalse whole (IfSome (prepend_known (take filled body.old.items) (R.remaining source.old)) (λ input. length input < length body.new.items))) }
+    ensures whole { IfOk result
+        (λ whole. OnTrue whole
+        (Consumes (prepend_known (take filled body.old.items) (R.remaining source.old))
+        (R.remaining source.new) body.new.items)) }
+    ensures cut { IfOk result (λ whole.
+        OnFalse whole (IfSome (prepend_known (take filled body.old.items) (R.remaining source.old))
+        (λ input. length input < length body.new.items))) }
     ensures err { OnErr result (IsTrue (R.failed source.new)) }
 {
     fill(source, body, filled)
@@ -69,8 +76,13 @@ fn fill_body<R: Source>(
 // The same over the elements alone.
 fn fill<R: Source>(source: &mut R, buffer: &mut [u8], filled: usize) -> Result<bool, ReadFailed>
     requires { filled ≤ length buffer.old }
-    ensures whole { IfOk result (λ whole. OnTrue whole (Consumes (prepend_known (take filled buffer.old) (R.remaining source.old)) (R.remaining source.new) buffer.new)) }
-    ensures cut { IfOk result (λ whole. OnFalse whole (IfSome (prepend_known (take filled buffer.old) (R.remaining source.old)) (λ input. length input < length buffer.new))) }
+    ensures whole { IfOk result
+        (λ whole. OnTrue whole
+        (Consumes (prepend_known (take filled buffer.old) (R.remaining source.old))
+        (R.remaining source.new) buffer.new)) }
+    ensures cut { IfOk result (λ whole.
+        OnFalse whole (IfSome (prepend_known (take filled buffer.old) (R.remaining source.old))
+        (λ input. length input < length buffer.new))) }
     ensures err { OnErr result (IsTrue (R.failed source.new)) }
 {
     let mut at = filled;

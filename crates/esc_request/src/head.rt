@@ -32,9 +32,15 @@ pub fn read_head<R: Source>(
     requires buffer_room { length buffer.old ≡ MOST_HEAD_BYTES }
     requires line_room { length lines.old ≡ MOST_LINES }
     ensures filled { IfOk result (λ found. IfSome found (λ f. f.filled ≤ length buffer.new)) }
-    ensures within { IfOk result (λ found. IfSome found (λ f. IsRequestWithin (take f.filled buffer.new) lines.new f.spans)) }
-    ensures head { IfOk result (λ found. IfSome found (λ f. ShowsHead (take f.filled buffer.new) lines.new f.spans)) }
-    ensures bytes { IfOk result (λ found. IfSome found (λ f. Consumes (R.remaining source.old) (R.remaining source.new) (take f.filled buffer.new))) }
+    ensures within { IfOk result
+        (λ found. IfSome found
+        (λ f. IsRequestWithin (take f.filled buffer.new) lines.new f.spans)) }
+    ensures head { IfOk result
+        (λ found. IfSome found (λ f. ShowsHead (take f.filled buffer.new) lines.new f.spans)) }
+    ensures bytes { IfOk result
+        (λ found. IfSome found
+        (λ f. Consumes (R.remaining source.old) (R.remaining source.new)
+        (take f.filled buffer.new))) }
     ensures none { IfOk result (λ found. IfNone found (IfSome (R.remaining source.old) HasNoHead)) }
     ensures err { OnErr result (IsTrue (R.failed source.new)) }
 {

@@ -3,7 +3,15 @@
 ghost use Rattle.std.specs.Prelude.{◌≡◌, ◌≤◌, ◌<◌, ◌+◌, ◌-◌, ◌*◌, length, map, All};
 ghost use Rattle.std.specs.List.{list_any, filter};
 ghost use Rattle.httparse.specs.Spans.{IsHeaderWithin, header_bytes};
-ghost use Rattle.esc_request.specs.BodyLength.{is_named, Values, values_of, value_after, length_of_value, length_of_values, body_length};
+ghost use Rattle.esc_request.specs.BodyLength.{
+  is_named,
+  Values,
+  values_of,
+  value_after,
+  length_of_value,
+  length_of_values,
+  body_length,
+};
 ghost use Rattle.esc_request.specs.Seen.{values_seen};
 
 use httparse::spans::HeaderSpan;
@@ -63,7 +71,8 @@ fn has_line(bytes: &[u8], lines: &[HeaderSpan], name: &[u8]) -> bool
 
 fn values_named<'b>(bytes: &'b [u8], lines: &[HeaderSpan], name: &[u8]) -> Values<'b>
     requires { All (IsHeaderWithin (length bytes.now)) lines.now }
-    ensures { values_seen result ≡ values_of (filter (is_named name.now) (map (header_bytes bytes.now) lines.now)) }
+    ensures { values_seen result
+        ≡ values_of (filter (is_named name.now) (map (header_bytes bytes.now) lines.now)) }
 {
     let mut values = Values::Nothing;
     for line in lines {
@@ -75,7 +84,8 @@ fn values_named<'b>(bytes: &'b [u8], lines: &[HeaderSpan], name: &[u8]) -> Value
 // The values with that of one more line, if it has the name.
 fn values_with<'b>(values: Values<'b>, bytes: &'b [u8], line: HeaderSpan, name: &[u8]) -> Values<'b>
     requires { IsHeaderWithin (length bytes.now) line }
-    ensures { values_seen result ≡ value_after (is_named name.now) (values_seen values.entry) (header_bytes bytes.now line) }
+    ensures { values_seen result
+        ≡ value_after (is_named name.now) (values_seen values.entry) (header_bytes bytes.now line) }
 {
     if !is_named(bytes, line, name) {
         return values;

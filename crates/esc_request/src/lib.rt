@@ -1,6 +1,7 @@
 //! What a request says, and the bytes that are sent for it, before any desk.
 //!
-//! The pieces of one HTTP/1.0 or 1.1 exchange (RFC 9112, within this project's profile), each over bytes alone:
+//! The pieces of one HTTP/1.0 or 1.1 exchange (RFC 9112, within this project's profile), each over
+//! bytes alone:
 //!
 //! | Piece | What it does |
 //! |---|---|
@@ -12,21 +13,23 @@
 //! | [`response`] | the text of a response; [`refusal_response`], [`report_response`] and [`out_of_memory`] those of one kind |
 //! | [`send`] | writes a text to its end and flushes |
 //!
-//! In which order these are asked, which refusal stands first, and what a desk answers, is `esc_http`'s.
+//! In which order these are asked, which refusal stands first, and what a desk answers, is
+//! `esc_http`'s.
 //!
 //! # What is promised
 //!
-//! A head is what the grammar of `httparse` has as one (`specs/Head.antt`): where [`read_head`] finds none, no beginning of
-//! the input is one. The routes that `matchit` finds are those of a plain definition by the path's text
-//! (`specs/Route.antt`). A body's length is a function of the header lines (`specs/BodyLength.antt`), and a body the bytes
-//! that stand behind the head, or it is cut (`specs/Body.antt`). A response is one text (`specs/Response.antt`). Where a
-//! write failed a beginning of the text was written (`specs/Sent.antt`). A failure is answered only where a call of the
-//! source or the sink has failed; want of memory only where memory is taken.
+//! A head is what the grammar of `httparse` has as one (`specs/Head.antt`): where [`read_head`]
+//! finds none, no beginning of the input is one. The routes that `matchit` finds are those of a
+//! plain definition by the path's text (`specs/Route.antt`). A body's length is a function of the
+//! header lines (`specs/BodyLength.antt`), and a body the bytes that stand behind the head, or it
+//! is cut (`specs/Body.antt`). A response is one text (`specs/Response.antt`). Where a write failed
+//! a beginning of the text was written (`specs/Sent.antt`). A failure is answered only where a call
+//! of the source or the sink has failed; want of memory only where memory is taken.
 //!
 //! # Cost
 //!
-//! Nothing is read past the head and the body but what came with them in one piece. The head lies in a buffer of the
-//! caller's; a body is read into one buffer of its length.
+//! Nothing is read past the head and the body but what came with them in one piece. The head lies
+//! in a buffer of the caller's; a body is read into one buffer of its length.
 #![tactic(auto)]
 
 mod body;

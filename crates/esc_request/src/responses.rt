@@ -1,7 +1,14 @@
 //! The texts of responses. Each function answers `None` for want of memory.
 
 ghost use Rattle.std.specs.Prelude.{◌≡◌, IfOk, IfSome, string_bytes};
-ghost use Rattle.esc_request.specs.Response.{response_head, response, refusal_response, out_of_memory, report_media, report_response};
+ghost use Rattle.esc_request.specs.Response.{
+  response_head,
+  response,
+  refusal_response,
+  out_of_memory,
+  report_media,
+  report_response,
+};
 
 use crate::refusal::Refusal;
 use crate::reports::Report;
@@ -75,7 +82,8 @@ fn report_media(report: Report) -> &'static str
     }
 }
 
-/// The response with this status, of this media type and with this body. `allow` is one more header line, or nothing.
+/// The response with this status, of this media type and with this body. `allow` is one more header
+/// line, or nothing.
 pub fn response(
     alloc: Global,
     status: &str,
@@ -83,7 +91,8 @@ pub fn response(
     allow: &str,
     body: &[u8],
 ) -> Option<Vec<u8>>
-    ensures { IfSome result (λ text. text.items ≡ response status.now media.now allow.now body.now) }
+    ensures { IfSome result (λ text. text.items
+        ≡ response status.now media.now allow.now body.now) }
 {
     let head = response_head(alloc, status, media, allow, body.len()).ok()?;
     let mut text = head.into_bytes();
@@ -98,7 +107,8 @@ fn response_head(
     allow: &str,
     size: usize,
 ) -> Result<String, AllocError>
-    ensures { IfOk result (λ head. string_bytes head ≡ response_head status.now media.now allow.now size) }
+    ensures { IfOk result (λ head. string_bytes head
+        ≡ response_head status.now media.now allow.now size) }
 {
     format!(in alloc;
         "HTTP/1.1 {status}\r\nContent-Type: {media}\r\nContent-Length: {size}\r\nConnection: close\r\n{allow}\r\n"

@@ -9,7 +9,8 @@ use crate::streams::{Sink, WriteFailed};
 /// Writes a text to its end and flushes. At `Err` a beginning of it was written.
 pub fn send<W: Sink>(sink: &mut W, text: &[u8]) -> Result<(), WriteFailed>
     ensures ok { OnOk result (Appends (W.contents sink.old) (W.contents sink.new) text.now) }
-    ensures err { OnErr result (AppendsBeginning (W.contents sink.old) (W.contents sink.new) text.now) }
+    ensures err { OnErr result
+        (AppendsBeginning (W.contents sink.old) (W.contents sink.new) text.now) }
     ensures failed { OnErr result (IsTrue (W.failed sink.new)) }
 {
     let mut rest = text;

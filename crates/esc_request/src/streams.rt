@@ -1,9 +1,23 @@
 //! What requests are read from and responses are written to.
 //!
-//! A contract over a reader of std can't say that a read failed. So the code here is written over two traits of its own,
-//! which have a word for it, and every reader and writer of std is one of them that doesn't tell.
+//! A contract over a reader of std can't say that a read failed. So the code here is written over
+//! two traits of its own, which have a word for it, and every reader and writer of std is one of
+//! them that doesn't tell.
 
-ghost use Rattle.std.specs.Prelude.{◌≡◌, ℕ, ◌≤◌, ◌<◌, List, length, Option, Bool, true, IfOk, IsTrue, OnErr};
+ghost use Rattle.std.specs.Prelude.{
+  ◌≡◌,
+  ℕ,
+  ◌≤◌,
+  ◌<◌,
+  List,
+  length,
+  Option,
+  Bool,
+  true,
+  IfOk,
+  IsTrue,
+  OnErr,
+};
 ghost use Rattle.std.specs.Io.KnownBytes.{ReadConsumes, WriteAppends, Keeps};
 
 use std::io::{Read, Write};
@@ -23,8 +37,8 @@ pub trait Source {
     // whether a read has failed
     ghost failed: { Self → Bool };
 
-    /// Reads some bytes to the front of a buffer, and answers how many: none where the bytes are at their end, or the
-    /// buffer has no room.
+    /// Reads some bytes to the front of a buffer, and answers how many: none where the bytes are at
+    /// their end, or the buffer has no room.
     fn read_some(&mut self, buffer: &mut [u8]) -> Result<usize, ReadFailed>
         ensures bound { IfOk result (λ n. n ≤ length buffer.new) }
         ensures bytes { ReadConsumes (remaining self.old) (remaining self.new) result buffer.new }
@@ -38,7 +52,8 @@ pub trait Sink {
     // whether a write or a flush has failed
     ghost failed: { Self → Bool };
 
-    /// Writes some bytes of the front of these, and answers how many: one at least, where there is one.
+    /// Writes some bytes of the front of these, and answers how many: one at least, where there is
+    /// one.
     fn write_some(&mut self, bytes: &[u8]) -> Result<usize, WriteFailed>
         ensures bound { IfOk result (λ n. n ≤ length bytes.now) }
         ensures some { IfOk result (λ n. 0 < length bytes.now → 0 < n) }
@@ -65,7 +80,8 @@ impl<R: Read> Source for R {
     }
 }
 
-// A writer of std doesn't tell whether a write has failed. One that takes no byte of some has failed.
+// A writer of std doesn't tell whether a write has failed. One that takes no byte of some has
+// failed.
 impl<W: Write> Sink for W {
     ghost contents = { λ w. W.contents w };
 

@@ -4,8 +4,34 @@ use Rattle.std.specs.Prelude.{ℕ, ℤ, ◌∷◌}
 use Rattle.sqlite_value.specs.declared.value.Value.TheVariants.{Int}
 use Rattle.sqlite_value.specs.Order.{Row}
 use Rattle.sqlite_schema.specs.declared.schema.Table.{Table}
-use Rattle.esc_rows.specs.Schema.{listed_table, receipt_table, held_table, step_table, object_table, undo_table}
-use Rattle.esc_rows.specs.Rows.{ListedRow, ReceiptRow, HeldRow, StepRow, ObjectRow, UndoRow, listed_number, receipt_number, held_number, step_number, object_number, undo_number, listed_columns, receipt_columns, held_columns, step_columns, object_columns, undo_columns}
+use Rattle.esc_rows.specs.Schema.{
+  listed_table,
+  receipt_table,
+  held_table,
+  step_table,
+  object_table,
+  undo_table,
+}
+use Rattle.esc_rows.specs.Rows.{
+  ListedRow,
+  ReceiptRow,
+  HeldRow,
+  StepRow,
+  ObjectRow,
+  UndoRow,
+  listed_number,
+  receipt_number,
+  held_number,
+  step_number,
+  object_number,
+  undo_number,
+  listed_columns,
+  receipt_columns,
+  held_columns,
+  step_columns,
+  object_columns,
+  undo_columns,
+}
 
 pub data StoreTable : Type 0 where
   Listed : StoreTable

@@ -1,10 +1,33 @@
 -- What objects, before-images and counts are decoded from.
-use Rattle.std.specs.Prelude.{◌≡◌, ◌==◌, ℕ, false, List, [], ◌∷◌, length, map, filter, Option, Some, IsSome, option_map, ◌↔◌}
+use Rattle.std.specs.Prelude.{
+  ◌≡◌,
+  ◌==◌,
+  ℕ,
+  false,
+  List,
+  [],
+  ◌∷◌,
+  length,
+  map,
+  filter,
+  Option,
+  Some,
+  IsSome,
+  option_map,
+  ◌↔◌,
+}
 use Rattle.std.specs.List.{Contains}
 use Rattle.std.specs.Map.{lookup}
 use Rattle.sqlite_trees.specs.Tree.{IsAscending}
 use Rattle.esc_envelope.specs.declared.kind.Kind.{Kind}
-use Rattle.esc_envelope.specs.declared.kind.Kind.TheVariants.{Registrar, Contact, Host, Domain, Idn, Nndn}
+use Rattle.esc_envelope.specs.declared.kind.Kind.TheVariants.{
+  Registrar,
+  Contact,
+  Host,
+  Domain,
+  Idn,
+  Nndn,
+}
 use Rattle.esc_envelope.specs.Kinds.{kind_rank}
 use Rattle.esc_tables.specs.KeyName.{KeyName, key_eq}
 use Rattle.esc_tables.specs.ObjectValue.{ObjectValue}
@@ -18,16 +41,21 @@ use Rattle.esc_store.specs.TypedRows.{image_kept}
 
 -- an object stands at just the keys of the rows, and its record is the row's
 abbrev pub AreObjectsOf : List ObjectEntry → List (KeyName × ObjectValue) → Type 0
-AreObjectsOf rows objects = (q : KeyName) → option_map record_of (lookup (key_eq q) objects) ≡ option_map (λ bytes. Some bytes) (entry_at (kind_rank q.kind) q.text rows)
+AreObjectsOf rows objects = (q : KeyName) → option_map record_of (lookup (key_eq q) objects)
+    ≡ option_map (λ bytes. Some bytes) (entry_at (kind_rank q.kind) q.text rows)
 
--- a before-image stands at just the keys of the rows: an object, whose record is the row's, or none, where the row has none
+-- a before-image stands at just the keys of the rows: an object, whose record is the row's, or
+-- none, where the row has none
 abbrev pub AreImagesOf : List ImageEntry → List (KeyName × Option ObjectValue) → Type 0
-AreImagesOf rows images = (q : KeyName) → option_map (option_map record_of) (lookup (key_eq q) images) ≡ option_map (option_map (λ bytes. Some bytes)) (image_entry_at (kind_rank q.kind) q.text rows)
+AreImagesOf rows images = (q : KeyName)
+    → option_map (option_map record_of) (lookup (key_eq q) images)
+    ≡ option_map (option_map (λ bytes. Some bytes)) (image_entry_at (kind_rank q.kind) q.text rows)
 
 -- these rows are what was noted of a step: of each key its record, or none
 pub record AreNotes (step : ℕ) (s : State) (rows : List ImageEntry) : Type 0 where
   pub each : (n : ℕ) (text : List ℕ) → image_entry_at n text rows ≡ image_kept (s.undo step) n text
-  pub recorded : (q : KeyName) (o : ObjectValue) → s.undo step q ≡ Some (Some o) → IsSome (record_of o)
+  pub recorded : (q : KeyName) (o : ObjectValue) → s.undo step q ≡ Some (Some o)
+      → IsSome (record_of o)
 
 -- no two objects have one key
 abbrev pub HaveOwnKeys : List ObjectRow → Type 0

@@ -1,8 +1,33 @@
 -- What a store keeps.
-use Rattle.std.specs.Prelude.{◌≡◌, ℕ, ◌<◌, Bool, ◌==◌, if◌then◌else◌, List, [], ◌∷◌, ◌++◌, map, All, Option, None, Some, IsSome, ◌↔◌}
+use Rattle.std.specs.Prelude.{
+  ◌≡◌,
+  ℕ,
+  ◌<◌,
+  Bool,
+  ◌==◌,
+  if◌then◌else◌,
+  List,
+  [],
+  ◌∷◌,
+  ◌++◌,
+  map,
+  All,
+  Option,
+  None,
+  Some,
+  IsSome,
+  ◌↔◌,
+}
 use Rattle.std.specs.List.{Contains, Any}
 use Rattle.esc_envelope.specs.declared.kind.Kind.{Kind}
-use Rattle.esc_envelope.specs.declared.kind.Kind.TheVariants.{Registrar, Contact, Host, Domain, Idn, Nndn}
+use Rattle.esc_envelope.specs.declared.kind.Kind.TheVariants.{
+  Registrar,
+  Contact,
+  Host,
+  Domain,
+  Idn,
+  Nndn,
+}
 use Rattle.esc_envelope.specs.Kinds.{kind_rank}
 use Rattle.esc_manifest.specs.declared.row.MRow.{MRow}
 use Rattle.esc_manifest.specs.Rows.{place_at, resend_at}
@@ -11,8 +36,8 @@ use Rattle.esc_apply.specs.Registry.{State, Content, empty, HasSize}
 use Rattle.esc_store.specs.declared.reply.Verdict.TheVariants.{A1}
 use Rattle.esc_store.specs.ReplyValue.{ReceiptValue, ReplyValue, replies_from, reply_alike}
 
--- the manifest's rows, a receipt for each distinct arrival in order, the bodies of held rows, the rows of the chain in
--- order, and its tables with their before-images
+-- the manifest's rows, a receipt for each distinct arrival in order, the bodies of held rows, the
+-- rows of the chain in order, and its tables with their before-images
 pub record Kept : Type 0 where
   pub listed : List MRow
   pub receipts : List ReceiptValue
@@ -22,11 +47,23 @@ pub record Kept : Type 0 where
 
 -- what a new store keeps
 abbrev pub fresh : List MRow → Kept
-fresh listed = record { listed = listed; receipts = []; bodies = λ row. None; steps = []; registry = empty }
+fresh listed = record {
+  listed = listed;
+  receipts = [];
+  bodies = λ row. None;
+  steps = [];
+  registry = empty;
+}
 
 -- with one receipt more
 abbrev pub with_receipt : Kept → ReceiptValue → Kept
-with_receipt k r = record { listed = k.listed; receipts = k.receipts ++ r ∷ []; bodies = k.bodies; steps = k.steps; registry = k.registry }
+with_receipt k r = record {
+  listed = k.listed;
+  receipts = k.receipts ++ r ∷ [];
+  bodies = k.bodies;
+  steps = k.steps;
+  registry = k.registry;
+}
 
 -- bodies with one more, or another at this row
 abbrev pub body_put : (ℕ → Option (List ℕ)) → ℕ → List ℕ → ℕ → Option (List ℕ)
@@ -34,15 +71,33 @@ body_put bodies row body n = if n == row then Some body else bodies n
 
 -- with the body of a row
 abbrev pub with_body : Kept → ℕ → List ℕ → Kept
-with_body k row body = record { listed = k.listed; receipts = k.receipts; bodies = body_put k.bodies row body; steps = k.steps; registry = k.registry }
+with_body k row body = record {
+  listed = k.listed;
+  receipts = k.receipts;
+  bodies = body_put k.bodies row body;
+  steps = k.steps;
+  registry = k.registry;
+}
 
 -- with another chain
 abbrev pub with_steps : Kept → List ℕ → Kept
-with_steps k steps = record { listed = k.listed; receipts = k.receipts; bodies = k.bodies; steps = steps; registry = k.registry }
+with_steps k steps = record {
+  listed = k.listed;
+  receipts = k.receipts;
+  bodies = k.bodies;
+  steps = steps;
+  registry = k.registry;
+}
 
 -- with other tables and before-images
 abbrev pub with_registry : Kept → State → Kept
-with_registry k s = record { listed = k.listed; receipts = k.receipts; bodies = k.bodies; steps = k.steps; registry = s }
+with_registry k s = record {
+  listed = k.listed;
+  receipts = k.receipts;
+  bodies = k.bodies;
+  steps = k.steps;
+  registry = s;
+}
 
 -- the replies of all receipts
 abbrev pub kept_replies : Kept → List ReplyValue
@@ -54,7 +109,11 @@ kept_reply k number digest = reply_alike k.listed 1 number digest k.receipts
 
 -- the step of a listed row
 abbrev pub step_at : List MRow → ℕ → Step
-step_at listed row = record { row = row; place = place_at listed row; resend = resend_at listed row }
+step_at listed row = record {
+  row = row;
+  place = place_at listed row;
+  resend = resend_at listed row;
+}
 
 -- the steps of the chain
 abbrev pub kept_chain : Kept → List Step
@@ -85,5 +144,6 @@ of_kind kind content q = if kind_rank q.kind == kind_rank kind then content q el
 
 -- how many objects there are of each kind, in the order of kinds
 pub record AreCounts (content : Content) (counts : List (Kind × ℕ)) : Type 0 where
-  pub kinds : map (λ (c : Kind × ℕ). c.0) counts ≡ Registrar ∷ Contact ∷ Host ∷ Domain ∷ Idn ∷ Nndn ∷ []
+  pub kinds : map (λ (c : Kind × ℕ). c.0) counts ≡ Registrar ∷ Contact ∷ Host ∷ Domain ∷ Idn ∷ Nndn
+      ∷ []
   pub each : All (λ (c : Kind × ℕ). HasSize (of_kind c.0 content) c.1) counts

@@ -6,7 +6,8 @@ use Rattle.sqlite.specs.State.{State, HasCleanDisk}
 abbrev pub IsSettled : State → Type 0
 IsSettled s = (s.in_transaction ≡ false) × (IsTrue s.is_open → s.now ≡ s.committed)
 
--- a transaction is on if one was, and while the connection is open it sees what it saw, over the same commit
+-- a transaction is on if one was, and while the connection is open it sees what it saw, over the
+-- same commit
 pub record IsAsItWas (old new : State) : Type 0 where
   pub in_transaction : HasCleanDisk new → new.in_transaction ≡ old.in_transaction
   pub committed : HasCleanDisk new → IsTrue new.is_open → new.committed ≡ old.committed

@@ -1,5 +1,19 @@
 -- Replies and receipts as values; texts are their bytes.
-use Rattle.std.specs.Prelude.{ℕ, suc, Bool, ◌&&◌, if◌then◌else◌, List, [], ◌∷◌, Option, None, Some, option_map, bytes_eq}
+use Rattle.std.specs.Prelude.{
+  ℕ,
+  suc,
+  Bool,
+  ◌&&◌,
+  if◌then◌else◌,
+  List,
+  [],
+  ◌∷◌,
+  Option,
+  None,
+  Some,
+  option_map,
+  bytes_eq,
+}
 use Rattle.esc_manifest.specs.declared.row.MRow.{MRow}
 use Rattle.esc_manifest.specs.Rows.{id_at, resend_at}
 use Rattle.esc_store.specs.declared.reply.Verdict.{Verdict}
@@ -25,7 +39,15 @@ pub record ReceiptValue : Type 0 where
 
 -- the reply of the n-th receipt, from 1: id and resend are the row's
 abbrev pub reply_kept : List MRow → ℕ → ReceiptValue → ReplyValue
-reply_kept listed n r = record { receipt = n; number = r.number; verdict = r.verdict; id = option_map (id_at listed) r.row; resend = option_map (resend_at listed) r.row; again = r.again; orphans = r.orphans }
+reply_kept listed n r = record {
+  receipt = n;
+  number = r.number;
+  verdict = r.verdict;
+  id = option_map (id_at listed) r.row;
+  resend = option_map (resend_at listed) r.row;
+  again = r.again;
+  orphans = r.orphans;
+}
 
 -- the replies of receipts that are numbered from n
 abbrev pub replies_from : List MRow → ℕ → List ReceiptValue → List ReplyValue
@@ -39,4 +61,6 @@ is_alike number digest r = bytes_eq r.number number && bytes_eq r.digest digest
 -- of receipts that are numbered from n, the reply of the first with this number and this digest
 abbrev pub reply_alike : List MRow → ℕ → List ℕ → List ℕ → List ReceiptValue → Option ReplyValue
 reply_alike listed n number digest [] = None
-reply_alike listed n number digest (r ∷ rs) = if is_alike number digest r then Some (reply_kept listed n r) else reply_alike listed (suc n) number digest rs
+reply_alike listed n number digest (r ∷ rs)
+    = if is_alike number digest r then Some (reply_kept listed n r) else reply_alike listed
+    (suc n) number digest rs

@@ -48,7 +48,8 @@ IsHonest g store = HasCleanDisk (state g store.conn)
 
 -- what the next open finds after a crash now is a store of this
 unfoldable pub LeavesOnly : {S : Type 0} → Ghosts S → Store S → Kept → Type 0
-LeavesOnly g store k = HasCleanDisk (state g store.conn) → (trees : Trees) → (state g store.conn).may_leave trees → IsStore trees k
+LeavesOnly g store k = HasCleanDisk (state g store.conn) → (trees : Trees)
+    → (state g store.conn).may_leave trees → IsStore trees k
 
 -- what a crash may leave after a call is what it might leave before, or a store of this
 unfoldable pub LeavesOr : {S : Type 0} → Ghosts S → Held S → Held S → Kept → Type 0
@@ -60,11 +61,14 @@ LeavesNoMore g old new = Survives (state g old) (state g new) (λ trees. ⊥)
 
 -- ---- a change
 
--- nothing is committed yet: either the transaction is on, and has the store's tables, or it was given up
+-- nothing is committed yet: either the transaction is on, and has the store's tables, or it was
+-- given up
 pub record IsBegun (s : State) (manifest : List MRow) (k : Kept) : Type 0 where
   pub listed : manifest ≡ k.listed
-  pub on : HasCleanDisk s → s.in_transaction ≡ true → IsTrue s.is_open × IsStoreDatabase s.committed k × HoldsTables s.now
-  pub off : HasCleanDisk s → s.in_transaction ≡ false → IsTrue s.is_open → IsStoreDatabase s.committed k × (s.now ≡ s.committed)
+  pub on : HasCleanDisk s → s.in_transaction ≡ true → IsTrue s.is_open
+      × IsStoreDatabase s.committed k × HoldsTables s.now
+  pub off : HasCleanDisk s → s.in_transaction ≡ false → IsTrue s.is_open
+      → IsStoreDatabase s.committed k × (s.now ≡ s.committed)
 
 -- a change was begun on this store, which stood for k, and nothing is committed of it yet
 unfoldable pub BeganIn : {S : Type 0} → Ghosts S → Store S → Kept → Type 0
@@ -75,7 +79,8 @@ pub record IsMade (s : State) (manifest : List MRow) (before k : Kept) : Type 0 
   pub listed : manifest ≡ k.listed
   pub books : HasCleanDisk s → s.in_transaction ≡ true → IsBooks (content_in s.now.trees) k
 
--- a change that was begun on a store of `before` has made this of its rows, receipts, bodies and chain
+-- a change that was begun on a store of `before` has made this of its rows, receipts, bodies and
+-- chain
 unfoldable pub RestIn : {S : Type 0} → Ghosts S → Store S → Kept → Kept → Type 0
 RestIn g store before k = IsMade (state g store.conn) store.manifest before k
 
@@ -93,8 +98,8 @@ HoldsIn g store tables = HasCleanDisk (state g store.conn) → IsUnderWay (state
 abbrev pub Began : {S : Type 0} → Ghosts S → Change S → Kept → Type 0
 Began g change k = BeganIn g change.store.now k
 
--- a change that was begun on a store of `before` has made this of its rows, receipts, bodies and chain; this says
--- nothing of k's registry
+-- a change that was begun on a store of `before` has made this of its rows, receipts, bodies and
+-- chain; this says nothing of k's registry
 abbrev pub Rest : {S : Type 0} → Ghosts S → Change S → Kept → Kept → Type 0
 Rest g change before k = RestIn g change.store.now before k
 
@@ -119,8 +124,8 @@ pub record GoesOn {S : Type 0} (g : Ghosts S) (old new : Change S) : Type 0 wher
   pub survives : LeavesNoMore g old.store.now.conn new.store.now.conn
   pub began : (k : Kept) → Began g old k → Began g new k
 
--- what the calls of a change as a registry leave as it was, whatever they answer: nothing is committed, and the rows,
--- receipts, bodies and chain are as they were
+-- what the calls of a change as a registry leave as it was, whatever they answer: nothing is
+-- committed, and the rows, receipts, bodies and chain are as they were
 pub record Follows {S : Type 0} (g : Ghosts S) (old new : Change S) : Type 0 where
   pub goes_on : GoesOn g old new
   pub rest : (before k : Kept) → Rest g old before k → Rest g new before k
@@ -134,31 +139,42 @@ pub record IsGivenUp (old new : State) : Type 0 where
   pub ended : HasCleanDisk new → new.in_transaction ≡ false
   pub settled : HasCleanDisk new → IsTrue new.is_open → new.now ≡ new.committed
 
--- a part of a change: where it succeeds it is made within the transaction, and where it fails that is given up
-pub record IsStep {X E : Type 0} (old new : State) (Made : Database → Database → Type 0) (result : Result X E) : Type 0 where
+-- a part of a change: where it succeeds it is made within the transaction, and where it fails that
+-- is given up
+pub record IsStep {X E : Type 0} (old new : State) (Made : Database → Database → Type 0)
+    (result : Result X E) : Type 0 where
   pub survives : Survives old new (λ trees. ⊥)
   pub kept : HasCleanDisk new → KeepsCommit old new
-  pub made : HasCleanDisk new → OnOk result ((old.in_transaction ≡ true) × Made old.now new.now × (new.in_transaction ≡ true) × IsTrue new.is_open)
-  pub failed : HasCleanDisk new → OnErr result ((new.in_transaction ≡ false) × (IsTrue new.is_open → new.now ≡ new.committed))
+  pub made : HasCleanDisk new → OnOk result ((old.in_transaction ≡ true) × Made old.now new.now
+      × (new.in_transaction ≡ true) × IsTrue new.is_open)
+  pub failed : HasCleanDisk new
+      → OnErr result ((new.in_transaction ≡ false) × (IsTrue new.is_open → new.now ≡ new.committed))
 
--- a read of a database of the store's schema: where it succeeds nothing has changed, and where it fails no transaction is on
-pub record IsLook {X E : Type 0} (old new : State) (Says : Database → X → Type 0) (result : Result X E) : Type 0 where
+-- a read of a database of the store's schema: where it succeeds nothing has changed, and where it
+-- fails no transaction is on
+pub record IsLook {X E : Type 0} (old new : State) (Says : Database → X → Type 0)
+    (result : Result X E) : Type 0 where
   pub survives : Survives old new (λ trees. ⊥)
   pub autocommit : HasCleanDisk new → old.in_transaction ≡ false → new.in_transaction ≡ false
   pub kept : HasCleanDisk new → old.now.schema ≡ store_schema → KeepsCommit old new
-  pub said : HasCleanDisk new → old.now.schema ≡ store_schema → IfOk result (λ x. Says old.now x × IsUnchanged old new)
-  pub failed : HasCleanDisk new → OnErr result ((new.in_transaction ≡ false) × (IsTrue new.is_open → new.now ≡ new.committed))
+  pub said : HasCleanDisk new → old.now.schema ≡ store_schema
+      → IfOk result (λ x. Says old.now x × IsUnchanged old new)
+  pub failed : HasCleanDisk new
+      → OnErr result ((new.in_transaction ≡ false) × (IsTrue new.is_open → new.now ≡ new.committed))
 
--- a read of a database that was found to have the store's schema: where it succeeds nothing has changed, and where it
--- fails no transaction is on
-pub record IsSure {X E : Type 0} (old new : State) (Says : Database → X → Type 0) (result : Result X E) : Type 0 where
+-- a read of a database that was found to have the store's schema: where it succeeds nothing has
+-- changed, and where it fails no transaction is on
+pub record IsSure {X E : Type 0} (old new : State) (Says : Database → X → Type 0)
+    (result : Result X E) : Type 0 where
   pub survives : Survives old new (λ trees. ⊥)
   pub kept : HasCleanDisk new → KeepsCommit old new
   pub said : HasCleanDisk new → IfOk result (λ x. Says old.now x × IsUnchanged old new)
-  pub failed : HasCleanDisk new → OnErr result ((new.in_transaction ≡ false) × (IsTrue new.is_open → new.now ≡ new.committed))
+  pub failed : HasCleanDisk new
+      → OnErr result ((new.in_transaction ≡ false) × (IsTrue new.is_open → new.now ≡ new.committed))
 
 -- the same of a store, whose manifest and count of writes are as they were
-pub record IsCheckedRead {S X E : Type 0} (g : Ghosts S) (old new : Store S) (Says : Content → X → Type 0) (result : Result X E) : Type 0 where
+pub record IsCheckedRead {S X E : Type 0} (g : Ghosts S) (old new : Store S) (Says : Content → X
+    → Type 0) (result : Result X E) : Type 0 where
   pub manifest : new.manifest ≡ old.manifest
   pub writes : new.writes ≡ old.writes
   pub sure : IsSure (state g old.conn) (state g new.conn) (Tells Says) result

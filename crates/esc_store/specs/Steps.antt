@@ -20,7 +20,8 @@ AddsNext r = Becomes (with_next_receipt r)
 
 -- a transaction is on, and the store has 1,000,000,000 receipts
 abbrev pub IsFull : State → Type 0
-IsFull s = (s.in_transaction ≡ true) × ((c : Content) → HoldsContent s.now c → 1_000_000_000 ≤ last_number c.receipts)
+IsFull s = (s.in_transaction ≡ true)
+    × ((c : Content) → HoldsContent s.now c → 1_000_000_000 ≤ last_number c.receipts)
 
 -- these rows are the steps
 abbrev pub with_step_rows : List ℕ → Content → Content

@@ -29,10 +29,12 @@ pub record IsStoreDatabase (db : Database) (k : Kept) : Type 0 where
   pub schema : db.schema ≡ store_schema
   pub kept : IsKept db.trees k
 
--- a database has the seven tables, and the row that tells a version tells 1; the tables let there be one such row at most
+-- a database has the seven tables, and the row that tells a version tells 1; the tables let there
+-- be one such row at most
 pub record IsOfVersion (db : Database) : Type 0 where
   pub schema : db.schema ≡ store_schema
-  pub version : length (db.trees info_tree) ≤ 1 → option_map (λ (r : Row). column r 2) (slice_get (db.trees info_tree) 0) ≡ Some (Int (pos 1))
+  pub version : length (db.trees info_tree) ≤ 1
+      → option_map (λ (r : Row). column r 2) (slice_get (db.trees info_tree) 0) ≡ Some (Int (pos 1))
 
 -- a database without any table, index or view
 abbrev pub IsBlank : Database → Type 0

@@ -1,8 +1,33 @@
 -- How what a store keeps stands in the rows of its tables (this project's profile).
-use Rattle.std.specs.Prelude.{◌≡◌, ℕ, suc, ◌==◌, Bool, true, false, if◌then◌else◌, List, [], ◌∷◌, Option, None, Some, IsSome, IfSome, option_map}
+use Rattle.std.specs.Prelude.{
+  ◌≡◌,
+  ℕ,
+  suc,
+  ◌==◌,
+  Bool,
+  true,
+  false,
+  if◌then◌else◌,
+  List,
+  [],
+  ◌∷◌,
+  Option,
+  None,
+  Some,
+  IsSome,
+  IfSome,
+  option_map,
+}
 use Rattle.std.specs.Option.{option_and_then}
 use Rattle.esc_envelope.specs.declared.kind.Kind.{Kind}
-use Rattle.esc_envelope.specs.declared.kind.Kind.TheVariants.{Registrar, Contact, Host, Domain, Idn, Nndn}
+use Rattle.esc_envelope.specs.declared.kind.Kind.TheVariants.{
+  Registrar,
+  Contact,
+  Host,
+  Domain,
+  Idn,
+  Nndn,
+}
 use Rattle.esc_envelope.specs.Kinds.{kind_rank}
 use Rattle.esc_envelope.specs.Place.{rank}
 use Rattle.esc_manifest.specs.declared.row.MRow.{MRow}
@@ -21,7 +46,15 @@ use Rattle.esc_store.specs.Kept.{Kept}
 
 -- a row of the manifest in the table of listed rows, at this place from 0
 abbrev pub listed_row : ℕ → MRow → ListedRow
-listed_row n r = record { row = n; id = r.header.id; kind = rank r.header.place.kind; watermark = r.header.place.watermark; prev = r.header.prev; resend = r.header.resend; digest = r.digest }
+listed_row n r = record {
+  row = n;
+  id = r.header.id;
+  kind = rank r.header.place.kind;
+  watermark = r.header.place.watermark;
+  prev = r.header.prev;
+  resend = r.header.resend;
+  digest = r.digest;
+}
 
 abbrev pub listed_from : ℕ → List MRow → List ListedRow
 listed_from n [] = []
@@ -46,7 +79,16 @@ bit b = if b then 1 else 0
 
 -- a receipt in its table, under its number
 abbrev pub receipt_row : ℕ → ReceiptValue → ReceiptRow
-receipt_row n r = record { receipt = n; number = r.number; digest = r.digest; verdict = verdict_number r.verdict; fault = fault_number r.verdict; row = r.row; again = option_map bit r.again; orphans = r.orphans }
+receipt_row n r = record {
+  receipt = n;
+  number = r.number;
+  digest = r.digest;
+  verdict = verdict_number r.verdict;
+  fault = fault_number r.verdict;
+  row = r.row;
+  again = option_map bit r.again;
+  orphans = r.orphans;
+}
 
 abbrev pub receipts_from : ℕ → List ReceiptValue → List ReceiptRow
 receipts_from n [] = []
@@ -59,7 +101,9 @@ steps_from n (row ∷ rows) = record { pos = n; row = row } ∷ steps_from (suc 
 
 -- the kind that a number is for
 abbrev pub kind_at : ℕ → Option Kind
-kind_at n = if n == 0 then Some Registrar else if n == 1 then Some Contact else if n == 2 then Some Host else if n == 3 then Some Domain else if n == 4 then Some Idn else if n == 5 then Some Nndn else None
+kind_at n = if n == 0 then Some Registrar else if n == 1 then Some Contact else if n == 2 then Some
+    Host else if n == 3 then Some Domain else if n == 4 then Some Idn else if n == 5 then Some Nndn
+    else None
 
 -- what a function of keys has at a kind's number and a key's bytes
 abbrev pub at_key : {X : Type 0} → (KeyName → Option X) → ℕ → List ℕ → Option X
@@ -83,6 +127,8 @@ pub record IsBooks (c : Content) (k : Kept) : Type 0 where
 -- the objects and before-images: of each key its record, and nothing else
 pub record IsRegistry (c : Content) (s : State) : Type 0 where
   pub objects : (n : ℕ) (text : List ℕ) → object_at n text c.objects ≡ record_at s.content n text
-  pub images : (step n : ℕ) (text : List ℕ) → image_at step n text c.undo ≡ image_kept (s.undo step) n text
+  pub images : (step n : ℕ) (text : List ℕ) → image_at step n text c.undo
+      ≡ image_kept (s.undo step) n text
   pub recorded : (q : KeyName) → IfSome (s.content q) (λ o. IsSome (record_of o))
-  pub noted : (step : ℕ) (q : KeyName) (o : ObjectValue) → s.undo step q ≡ Some (Some o) → IsSome (record_of o)
+  pub noted : (step : ℕ) (q : KeyName) (o : ObjectValue) → s.undo step q ≡ Some (Some o)
+      → IsSome (record_of o)

@@ -24,10 +24,13 @@ impl<S: Alter> Store<S> {
     pub(crate) fn add_next_here(&mut self, receipt: &Receipt<'_>) -> Result<u64, SFault>
         ensures manifest { self.new.manifest ≡ self.old.manifest }
         ensures writes { self.new.writes ≡ self.old.writes }
-        ensures step { IsStep (state S.Store self.old.conn) (state S.Store self.new.conn) (AddsNext receipt.now) result }
-        ensures number { IfOk result (λ n. IsHonest S.Store self.new → Tells (λ c n. n ≡ next_number c) (state S.Store self.old.conn).now n) }
+        ensures step { IsStep (state S.Store self.old.conn) (state S.Store self.new.conn)
+            (AddsNext receipt.now) result }
+        ensures number { IfOk result (λ n. IsHonest S.Store self.new
+            → Tells (λ c n. n ≡ next_number c) (state S.Store self.old.conn).now n) }
         ensures room { IfOk result (λ n. n ≤ 1_000_000_000) }
-        ensures full { IfErr result (λ fault. fault ≡ SFault.S4 → IsHonest S.Store self.new → IsFull (state S.Store self.old.conn)) }
+        ensures full { IfErr result (λ fault. fault ≡ SFault.S4 → IsHonest S.Store self.new
+            → IsFull (state S.Store self.old.conn)) }
         ensures cause { IfErr result IsS1OrS2OrS4 }
     {
         match self.goes_on() {
@@ -55,7 +58,8 @@ impl<S: Alter> Store<S> {
         }
     }
 
-    // Cuts the chain down to the front that it shares with these steps. The result is the length of that front.
+    // Cuts the chain down to the front that it shares with these steps. The result is the length of
+    // that front.
     fn keep_front_here(&mut self, steps: &[ChainStep]) -> Result<usize, SFault>
         ensures manifest { self.new.manifest ≡ self.old.manifest }
         ensures writes { self.new.writes ≡ self.old.writes }
@@ -81,12 +85,14 @@ impl<S: Alter> Store<S> {
         Ok(front)
     }
 
-    // Makes these the steps of the chain. A step that stands already is not written anew: each INSERT makes the
-    // database read the held body that the step names.
+    // Makes these the steps of the chain. A step that stands already is not written anew: each
+    // INSERT makes the database read the held body that the step names.
     pub(crate) fn set_steps_here(&mut self, steps: &[ChainStep]) -> Result<(), SFault>
         ensures manifest { self.new.manifest ≡ self.old.manifest }
         ensures writes { self.new.writes ≡ self.old.writes }
-        ensures step { (rows : List ℕ) → map step_row steps.now ≡ steps_from 1 rows → IsStep (state S.Store self.old.conn) (state S.Store self.new.conn) (SetsSteps rows) result }
+        ensures step { (rows : List ℕ) → map step_row steps.now ≡ steps_from 1 rows
+            → IsStep (state S.Store self.old.conn) (state S.Store self.new.conn)
+            (SetsSteps rows) result }
         ensures cause { IfErr result IsS1OrS2 }
     {
         let front = self.keep_front_here(steps)?;

@@ -1,6 +1,23 @@
 //! A change of the store.
 
-ghost use Rattle.std.specs.Prelude.{◌≡◌, ◌≤◌, ◌<◌, ◌+◌, ◌-◌, ◌^◌, ◌↔◌, ℕ, None, min, map, length, OnOk, OnErr, IfOk, IfErr};
+ghost use Rattle.std.specs.Prelude.{
+  ◌≡◌,
+  ◌≤◌,
+  ◌<◌,
+  ◌+◌,
+  ◌-◌,
+  ◌^◌,
+  ◌↔◌,
+  ℕ,
+  None,
+  min,
+  map,
+  length,
+  OnOk,
+  OnErr,
+  IfOk,
+  IfErr,
+};
 ghost use Rattle.sqlite.specs.Held.{state};
 ghost use Rattle.sqlite.specs.State.{HasCleanDisk};
 ghost use Rattle.esc_apply.specs.Registry.{State};
@@ -8,7 +25,17 @@ ghost use Rattle.esc_rows.specs.Entries.{step_row};
 ghost use Rattle.esc_store.specs.Faults.{IsS1OrS2, IsS1OrS2OrS4};
 ghost use Rattle.esc_store.specs.TypedRows.{steps_from};
 ghost use Rattle.esc_store.specs.Kept.{Kept, with_receipt, with_body, with_steps, with_registry};
-ghost use Rattle.esc_store.specs.Standing.{Stands, Began, Rest, HoldsNow, GoesOn, LeavesOnly, LeavesOr, LeavesNoMore, IsHonest};
+ghost use Rattle.esc_store.specs.Standing.{
+  Stands,
+  Began,
+  Rest,
+  HoldsNow,
+  GoesOn,
+  LeavesOnly,
+  LeavesOr,
+  LeavesNoMore,
+  IsHonest,
+};
 
 use crate::codec::small;
 use crate::codec::step::stored_steps;
@@ -19,23 +46,29 @@ use esc_apply::Step;
 use esc_rows::step::ChainStep;
 use sqlite::Alter;
 
-/// A change of a store: one transaction. It is made whole by `commit`, and leaves all as before where it is dropped.
+/// A change of a store: one transaction. It is made whole by `commit`, and leaves all as before
+/// where it is dropped.
 pub struct Change<'a, S: Alter> {
     pub(crate) store: &'a mut Store<S>,
     pub(crate) count: u64,
 }
 
 impl<'a, S: Alter> Change<'a, S> {
-    /// Adds the receipt of an arrival after the others, and returns its number, from 1. `S4` where the store has
-    /// 1,000,000,000 receipts, and only there; `S1`, `S2`.
+    /// Adds the receipt of an arrival after the others, and returns its number, from 1. `S4` where
+    /// the store has 1,000,000,000 receipts, and only there; `S1`, `S2`.
     pub fn record_receipt(&mut self, receipt: &Receipt<'_>) -> Result<u64, SFault>
         ensures goes_on { GoesOn S.Store self.old self.new }
         ensures count { self.new.count ≡ self.old.count }
-        ensures recorded { OnOk result ((before k : Kept) → Rest S.Store self.old before k → Rest S.Store self.new before (with_receipt k receipt.now)) }
-        ensures number { IfOk result (λ n. IsHonest S.Store self.new.store.now → (before k : Kept) → Rest S.Store self.old before k → n ≡ length k.receipts + 1) }
-        ensures holds { OnOk result ((s : State) → HoldsNow S.Store self.old s → HoldsNow S.Store self.new s) }
+        ensures recorded { OnOk result ((before k : Kept) → Rest S.Store self.old before k
+            → Rest S.Store self.new before (with_receipt k receipt.now)) }
+        ensures number { IfOk result (λ n. IsHonest S.Store self.new.store.now → (before k : Kept)
+            → Rest S.Store self.old before k → n ≡ length k.receipts + 1) }
+        ensures holds { OnOk result ((s : State) → HoldsNow S.Store self.old s
+            → HoldsNow S.Store self.new s) }
         ensures room { IfOk result (λ n. n ≤ 1_000_000_000) }
-        ensures full { IfErr result (λ e. e ≡ SFault.S4 → IsHonest S.Store self.new.store.now → (before k : Kept) → Rest S.Store self.old before k → 1_000_000_000 ≤ length k.receipts) }
+        ensures full { IfErr result (λ e. e ≡ SFault.S4 → IsHonest S.Store self.new.store.now
+            → (before k : Kept) → Rest S.Store self.old before k
+            → 1_000_000_000 ≤ length k.receipts) }
         ensures cause { IfErr result IsS1OrS2OrS4 }
     {
         self.store.add_next_here(receipt)
@@ -45,8 +78,11 @@ impl<'a, S: Alter> Change<'a, S> {
     pub fn hold(&mut self, row: usize, body: &[u8]) -> Result<(), SFault>
         ensures goes_on { GoesOn S.Store self.old self.new }
         ensures count { self.new.count ≡ self.old.count }
-        ensures held { OnOk result ((before k : Kept) → k.bodies row ≡ None → Rest S.Store self.old before k → Rest S.Store self.new before (with_body k row body.now)) }
-        ensures holds { OnOk result ((s : State) → HoldsNow S.Store self.old s → HoldsNow S.Store self.new s) }
+        ensures held { OnOk result ((before k : Kept) → k.bodies row ≡ None
+            → Rest S.Store self.old before k
+            → Rest S.Store self.new before (with_body k row body.now)) }
+        ensures holds { OnOk result ((s : State) → HoldsNow S.Store self.old s
+            → HoldsNow S.Store self.new s) }
         ensures cause { IfErr result IsS1OrS2 }
     {
         let row = small(row)?;
@@ -57,8 +93,10 @@ impl<'a, S: Alter> Change<'a, S> {
     fn hold_row(&mut self, row: u32, body: &[u8]) -> Result<(), SFault>
         ensures goes_on { GoesOn S.Store self.old self.new }
         ensures count { self.new.count ≡ self.old.count }
-        ensures held { OnOk result ((before k : Kept) → Rest S.Store self.old before k → Rest S.Store self.new before (with_body k row body.now)) }
-        ensures holds { OnOk result ((s : State) → HoldsNow S.Store self.old s → HoldsNow S.Store self.new s) }
+        ensures held { OnOk result ((before k : Kept) → Rest S.Store self.old before k
+            → Rest S.Store self.new before (with_body k row body.now)) }
+        ensures holds { OnOk result ((s : State) → HoldsNow S.Store self.old s
+            → HoldsNow S.Store self.new s) }
         ensures cause { IfErr result IsS1OrS2 }
     {
         self.store.hold_here(row, body)
@@ -68,8 +106,10 @@ impl<'a, S: Alter> Change<'a, S> {
     pub fn set_chain(&mut self, steps: &[Step]) -> Result<(), SFault>
         ensures goes_on { GoesOn S.Store self.old self.new }
         ensures count { self.new.count ≡ self.old.count }
-        ensures set { OnOk result ((before k : Kept) → Rest S.Store self.old before k → Rest S.Store self.new before (with_steps k (map (λ step. step.row) steps.now))) }
-        ensures holds { OnOk result ((s : State) → HoldsNow S.Store self.old s → HoldsNow S.Store self.new s) }
+        ensures set { OnOk result ((before k : Kept) → Rest S.Store self.old before k
+            → Rest S.Store self.new before (with_steps k (map (λ step. step.row) steps.now))) }
+        ensures holds { OnOk result ((s : State) → HoldsNow S.Store self.old s
+            → HoldsNow S.Store self.new s) }
         ensures cause { IfErr result IsS1OrS2 }
     {
         let stored = stored_steps(self.store.alloc, steps)?;
@@ -81,8 +121,10 @@ impl<'a, S: Alter> Change<'a, S> {
         requires { map step_row stored.now ≡ steps_from 1 (map (λ step. step.row) steps.now) }
         ensures goes_on { GoesOn S.Store self.old self.new }
         ensures count { self.new.count ≡ self.old.count }
-        ensures set { OnOk result ((before k : Kept) → Rest S.Store self.old before k → Rest S.Store self.new before (with_steps k (map (λ step. step.row) steps.now))) }
-        ensures holds { OnOk result ((s : State) → HoldsNow S.Store self.old s → HoldsNow S.Store self.new s) }
+        ensures set { OnOk result ((before k : Kept) → Rest S.Store self.old before k
+            → Rest S.Store self.new before (with_steps k (map (λ step. step.row) steps.now))) }
+        ensures holds { OnOk result ((s : State) → HoldsNow S.Store self.old s
+            → HoldsNow S.Store self.new s) }
         ensures cause { IfErr result IsS1OrS2 }
     {
         let _ = steps;
@@ -92,13 +134,23 @@ impl<'a, S: Alter> Change<'a, S> {
     /// Makes the whole change at once. At `Err` nothing is changed: `S1`, `S2`.
     pub fn commit(self) -> Result<(), SFault>
         ensures manifest { self.exit.0.now.manifest ≡ self.entry.store.now.manifest }
-        ensures honest { HasCleanDisk (state S.Store self.exit.0.now.conn) → HasCleanDisk (state S.Store self.entry.store.now.conn) }
-        ensures written { OnOk result (self.exit.0.now.writes ≡ min (self.entry.store.now.writes + self.entry.count) (2 ^ 64 - 1)) }
+        ensures honest { HasCleanDisk (state S.Store self.exit.0.now.conn)
+            → HasCleanDisk (state S.Store self.entry.store.now.conn) }
+        ensures written { OnOk result (self.exit.0.now.writes
+            ≡ min (self.entry.store.now.writes + self.entry.count) (2 ^ 64 - 1)) }
         ensures unwritten { OnErr result (self.exit.0.now.writes ≡ self.entry.store.now.writes) }
-        ensures committed { OnOk result ((before k : Kept) (s : State) → Rest S.Store self.entry before (with_registry k s) → HoldsNow S.Store self.entry k.registry → Stands S.Store self.exit.0.now k) }
-        ensures kept { OnErr result ((before : Kept) → Began S.Store self.entry before → Stands S.Store self.exit.0.now before) }
-        ensures crash { (before k : Kept) (s : State) → Rest S.Store self.entry before (with_registry k s) → HoldsNow S.Store self.entry k.registry → LeavesOr S.Store self.entry.store.now.conn self.exit.0.now.conn k }
-        ensures left { OnOk result ((before k : Kept) (s : State) → Rest S.Store self.entry before (with_registry k s) → HoldsNow S.Store self.entry k.registry → LeavesOnly S.Store self.exit.0.now k) }
+        ensures committed { OnOk result ((before k : Kept) (s : State)
+            → Rest S.Store self.entry before (with_registry k s)
+            → HoldsNow S.Store self.entry k.registry → Stands S.Store self.exit.0.now k) }
+        ensures kept { OnErr result ((before : Kept) → Began S.Store self.entry before
+            → Stands S.Store self.exit.0.now before) }
+        ensures crash { (before k : Kept) (s : State)
+            → Rest S.Store self.entry before (with_registry k s)
+            → HoldsNow S.Store self.entry k.registry
+            → LeavesOr S.Store self.entry.store.now.conn self.exit.0.now.conn k }
+        ensures left { OnOk result ((before k : Kept) (s : State)
+            → Rest S.Store self.entry before (with_registry k s)
+            → HoldsNow S.Store self.entry k.registry → LeavesOnly S.Store self.exit.0.now k) }
         ensures cause { IfErr result IsS1OrS2 }
     {
         let Change { store, count } = self;
@@ -112,7 +164,8 @@ impl<S: Alter> Drop for Change<'_, S> {
     fn drop(self)
         ensures manifest { self.exit.0.now.manifest ≡ self.entry.store.now.manifest }
         ensures writes { self.exit.0.now.writes ≡ self.entry.store.now.writes }
-        ensures kept { (before : Kept) → Began S.Store self.entry before → Stands S.Store self.exit.0.now before }
+        ensures kept { (before : Kept) → Began S.Store self.entry before
+            → Stands S.Store self.exit.0.now before }
         ensures survives { LeavesNoMore S.Store self.entry.store.now.conn self.exit.0.now.conn }
     {
         let Change { store, count: _ } = self;

@@ -8,7 +8,8 @@ use esc_envelope::is_id;
 
 /// The number that a text is: 1 to 64 of `A-Z a-z 0-9 . _ -`. Takes no memory.
 pub fn number(text: &str) -> Result<Number<'_>, N1>
-    ensures { MatchResult result (λ n. (n ≡ text.now) × IsTrue (is_id text.now)) (λ _. is_id text.now ≡ false) }
+    ensures { MatchResult result (λ n. (n ≡ text.now) × IsTrue (is_id text.now))
+        (λ _. is_id text.now ≡ false) }
 {
     if is_id(text) {
         Ok(Number::of_id(text))

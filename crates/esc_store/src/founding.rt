@@ -33,8 +33,11 @@ pub(crate) fn give_up_in<S: Alter>(conn: &mut Connection<S>)
 // Begins a transaction, and makes the tables of a manifest's rows in it.
 fn build_here<S: Alter>(conn: &mut Connection<S>, rows: &[Listed]) -> Result<(), Error>
     ensures survives { Survives (state S.Store conn.old) (state S.Store conn.new) (λ _. ⊥) }
-    ensures kept { HasCleanDisk (state S.Store conn.new) → KeepsCommit (state S.Store conn.old) (state S.Store conn.new) }
-    ensures built { OnOk result ((m : _) → map stored_row rows.now ≡ listed_from 0 m → (state S.Store conn.old).now.schema ≡ no_schema → HasCleanDisk (state S.Store conn.new) → IsStoreDatabase (state S.Store conn.new).now (fresh m)) }
+    ensures kept { HasCleanDisk (state S.Store conn.new)
+        → KeepsCommit (state S.Store conn.old) (state S.Store conn.new) }
+    ensures built { OnOk result ((m : _) → map stored_row rows.now ≡ listed_from 0 m
+        → (state S.Store conn.old).now.schema ≡ no_schema → HasCleanDisk (state S.Store conn.new)
+        → IsStoreDatabase (state S.Store conn.new).now (fresh m)) }
 {
     begin_in(conn)?;
     build(conn, rows)
@@ -42,24 +45,39 @@ fn build_here<S: Alter>(conn: &mut Connection<S>, rows: &[Listed]) -> Result<(),
 
 // The same, and commits it.
 fn found_whole<S: Alter>(conn: &mut Connection<S>, rows: &[Listed]) -> Result<(), Error>
-    ensures survives { (m : _) → map stored_row rows.now ≡ listed_from 0 m → (state S.Store conn.old).now.schema ≡ no_schema → Survives (state S.Store conn.old) (state S.Store conn.new) (λ trees. IsStore trees (fresh m)) }
-    ensures kept { HasCleanDisk (state S.Store conn.new) → OnErr result (KeepsCommit (state S.Store conn.old) (state S.Store conn.new)) }
-    ensures rests { OnOk result ((m : _) → map stored_row rows.now ≡ listed_from 0 m → (state S.Store conn.old).now.schema ≡ no_schema → RestsAt (state S.Store conn.new) (fresh m)) }
-    ensures left { OnOk result ((m : _) → map stored_row rows.now ≡ listed_from 0 m → (state S.Store conn.old).now.schema ≡ no_schema → HasCleanDisk (state S.Store conn.new) → (trees : Trees) → (state S.Store conn.new).may_leave trees → IsStore trees (fresh m)) }
+    ensures survives { (m : _) → map stored_row rows.now ≡ listed_from 0 m
+        → (state S.Store conn.old).now.schema ≡ no_schema
+        → Survives (state S.Store conn.old) (state S.Store conn.new)
+        (λ trees. IsStore trees (fresh m)) }
+    ensures kept { HasCleanDisk (state S.Store conn.new)
+        → OnErr result (KeepsCommit (state S.Store conn.old) (state S.Store conn.new)) }
+    ensures rests { OnOk result ((m : _) → map stored_row rows.now ≡ listed_from 0 m
+        → (state S.Store conn.old).now.schema ≡ no_schema
+        → RestsAt (state S.Store conn.new) (fresh m)) }
+    ensures left { OnOk result ((m : _) → map stored_row rows.now ≡ listed_from 0 m
+        → (state S.Store conn.old).now.schema ≡ no_schema → HasCleanDisk (state S.Store conn.new)
+        → (trees : Trees) → (state S.Store conn.new).may_leave trees → IsStore trees (fresh m)) }
 {
     build_here(conn, rows)?;
     commit_in(conn)
 }
 
-// Makes a store of a manifest's rows. `S3` where there is any table, index or view; `S1` also in a transaction, which goes
-// on.
+// Makes a store of a manifest's rows. `S3` where there is any table, index or view; `S1` also in a
+// transaction, which goes on.
 pub(crate) fn found_here<S: Alter>(conn: &mut Connection<S>, rows: &[Listed]) -> Result<(), SFault>
-    ensures survives { (m : _) → map stored_row rows.now ≡ listed_from 0 m → Survives (state S.Store conn.old) (state S.Store conn.new) (λ trees. IsStore trees (fresh m)) }
-    ensures kept { HasCleanDisk (state S.Store conn.new) → OnErr result (KeepsCommit (state S.Store conn.old) (state S.Store conn.new)) }
-    ensures rests { OnOk result ((m : _) → map stored_row rows.now ≡ listed_from 0 m → RestsAt (state S.Store conn.new) (fresh m)) }
-    ensures left { OnOk result ((m : _) → map stored_row rows.now ≡ listed_from 0 m → HasCleanDisk (state S.Store conn.new) → (trees : Trees) → (state S.Store conn.new).may_leave trees → IsStore trees (fresh m)) }
+    ensures survives { (m : _) → map stored_row rows.now ≡ listed_from 0 m
+        → Survives (state S.Store conn.old) (state S.Store conn.new)
+        (λ trees. IsStore trees (fresh m)) }
+    ensures kept { HasCleanDisk (state S.Store conn.new)
+        → OnErr result (KeepsCommit (state S.Store conn.old) (state S.Store conn.new)) }
+    ensures rests { OnOk result ((m : _) → map stored_row rows.now ≡ listed_from 0 m
+        → RestsAt (state S.Store conn.new) (fresh m)) }
+    ensures left { OnOk result ((m : _) → map stored_row rows.now ≡ listed_from 0 m
+        → HasCleanDisk (state S.Store conn.new) → (trees : Trees)
+        → (state S.Store conn.new).may_leave trees → IsStore trees (fresh m)) }
     ensures blank { OnOk result ((state S.Store conn.old).now.schema ≡ no_schema) }
-    ensures refused { IfErr result (λ fault. fault ≡ SFault.S3 → (state S.Store conn.old).now.schema ≡ no_schema → ⊥) }
+    ensures refused { IfErr result (λ fault. fault ≡ SFault.S3
+        → (state S.Store conn.old).now.schema ≡ no_schema → ⊥) }
     ensures unchanged { OnErr result (IsAsItWas (state S.Store conn.old) (state S.Store conn.new)) }
     ensures cause { IfErr result IsS1ToS3 }
 {

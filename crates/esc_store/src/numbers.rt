@@ -6,7 +6,8 @@ ghost use Rattle.esc_envelope.specs.Id.{is_id};
 use std::fmt;
 use std::marker::Model;
 
-/// The number that a sender gives an arrival: 1 to 64 of `A-Z a-z 0-9 . _ -` (this project's profile).
+/// The number that a sender gives an arrival: 1 to 64 of `A-Z a-z 0-9 . _ -` (this project's
+/// profile).
 #[derive(Debug, Drop)]
 pub struct Number<'a> {
     text: &'a str,

@@ -21,9 +21,14 @@ use std::alloc::Global;
 // Tests that the database has the tables of this version. `S3` where it has not.
 fn test_version<S: Alter>(conn: &mut Connection<S>) -> Result<(), SFault>
     ensures survives { Survives (state S.Store conn.old) (state S.Store conn.new) (λ _. ⊥) }
-    ensures kept { HasCleanDisk (state S.Store conn.new) → KeepsCommit (state S.Store conn.old) (state S.Store conn.new) }
-    ensures version { OnOk result (HasCleanDisk (state S.Store conn.new) → IsUnchanged (state S.Store conn.old) (state S.Store conn.new) × IsOfVersion (state S.Store conn.old).now) }
-    ensures never { IfErr result (λ fault. fault ≡ SFault.S3 → HasCleanDisk (state S.Store conn.new) → IsTrue (state S.Store conn.new).is_open → IsSettled (state S.Store conn.old) → (k : Kept) → IsStore (state S.Store conn.old).committed.trees k → ⊥) }
+    ensures kept { HasCleanDisk (state S.Store conn.new)
+        → KeepsCommit (state S.Store conn.old) (state S.Store conn.new) }
+    ensures version { OnOk result (HasCleanDisk (state S.Store conn.new)
+        → IsUnchanged (state S.Store conn.old) (state S.Store conn.new)
+        × IsOfVersion (state S.Store conn.old).now) }
+    ensures never { IfErr result (λ fault. fault ≡ SFault.S3 → HasCleanDisk (state S.Store conn.new)
+        → IsTrue (state S.Store conn.new).is_open → IsSettled (state S.Store conn.old) → (k : Kept)
+        → IsStore (state S.Store conn.old).committed.trees k → ⊥) }
     ensures cause { IfErr result IsS1ToS3 }
 {
     if !has_tables(conn) {
@@ -38,10 +43,16 @@ fn test_version<S: Alter>(conn: &mut Connection<S>) -> Result<(), SFault>
 // The manifest of the store that the database is.
 fn read_manifest<S: Alter>(alloc: Global, conn: &mut Connection<S>) -> Result<Manifest, SFault>
     ensures survives { Survives (state S.Store conn.old) (state S.Store conn.new) (λ _. ⊥) }
-    ensures kept { HasCleanDisk (state S.Store conn.new) → KeepsCommit (state S.Store conn.old) (state S.Store conn.new) }
-    ensures version { OnOk result (HasCleanDisk (state S.Store conn.new) → IsUnchanged (state S.Store conn.old) (state S.Store conn.new) × IsOfVersion (state S.Store conn.old).now) }
-    ensures manifest { IfOk result (λ manifest. HasCleanDisk (state S.Store conn.new) → (k : Kept) → IsStoreDatabase (state S.Store conn.old).now k → manifest ≡ k.listed) }
-    ensures never { IfErr result (λ fault. fault ≡ SFault.S3 → HasCleanDisk (state S.Store conn.new) → IsTrue (state S.Store conn.new).is_open → IsSettled (state S.Store conn.old) → (k : Kept) → IsStore (state S.Store conn.old).committed.trees k → ⊥) }
+    ensures kept { HasCleanDisk (state S.Store conn.new)
+        → KeepsCommit (state S.Store conn.old) (state S.Store conn.new) }
+    ensures version { OnOk result (HasCleanDisk (state S.Store conn.new)
+        → IsUnchanged (state S.Store conn.old) (state S.Store conn.new)
+        × IsOfVersion (state S.Store conn.old).now) }
+    ensures manifest { IfOk result (λ manifest. HasCleanDisk (state S.Store conn.new) → (k : Kept)
+        → IsStoreDatabase (state S.Store conn.old).now k → manifest ≡ k.listed) }
+    ensures never { IfErr result (λ fault. fault ≡ SFault.S3 → HasCleanDisk (state S.Store conn.new)
+        → IsTrue (state S.Store conn.new).is_open → IsSettled (state S.Store conn.old) → (k : Kept)
+        → IsStore (state S.Store conn.old).committed.trees k → ⊥) }
     ensures cause { IfErr result IsS1ToS3 }
 {
     test_version(conn)?;
@@ -49,17 +60,22 @@ fn read_manifest<S: Alter>(alloc: Global, conn: &mut Connection<S>) -> Result<Ma
     kept_manifest(alloc, stored.as_slice())
 }
 
-// The same, on a connection without a transaction: where it fails the connection is as it was. `S1` also in a transaction,
-// which goes on.
+// The same, on a connection without a transaction: where it fails the connection is as it was. `S1`
+// also in a transaction, which goes on.
 pub(crate) fn find_manifest<S: Alter>(
     alloc: Global,
     conn: &mut Connection<S>,
 ) -> Result<Manifest, SFault>
     ensures survives { Survives (state S.Store conn.old) (state S.Store conn.new) (λ _. ⊥) }
-    ensures version { OnOk result (HasCleanDisk (state S.Store conn.new) → IsUnchanged (state S.Store conn.old) (state S.Store conn.new) × IsOfVersion (state S.Store conn.old).now) }
+    ensures version { OnOk result (HasCleanDisk (state S.Store conn.new)
+        → IsUnchanged (state S.Store conn.old) (state S.Store conn.new)
+        × IsOfVersion (state S.Store conn.old).now) }
     ensures settled { OnOk result (IsSettled (state S.Store conn.old)) }
-    ensures manifest { IfOk result (λ manifest. HasCleanDisk (state S.Store conn.new) → (k : Kept) → IsStoreDatabase (state S.Store conn.old).now k → manifest ≡ k.listed) }
-    ensures never { IfErr result (λ fault. fault ≡ SFault.S3 → HasCleanDisk (state S.Store conn.new) → IsTrue (state S.Store conn.new).is_open → (k : Kept) → IsStore (state S.Store conn.old).committed.trees k → ⊥) }
+    ensures manifest { IfOk result (λ manifest. HasCleanDisk (state S.Store conn.new) → (k : Kept)
+        → IsStoreDatabase (state S.Store conn.old).now k → manifest ≡ k.listed) }
+    ensures never { IfErr result (λ fault. fault ≡ SFault.S3 → HasCleanDisk (state S.Store conn.new)
+        → IsTrue (state S.Store conn.new).is_open → (k : Kept)
+        → IsStore (state S.Store conn.old).committed.trees k → ⊥) }
     ensures unchanged { OnErr result (IsAsItWas (state S.Store conn.old) (state S.Store conn.new)) }
     ensures cause { IfErr result IsS1ToS3 }
 {

@@ -3,7 +3,14 @@
 ghost use Rattle.std.specs.Prelude.{◌≡◌, ℕ, map, length, IfOk, IfErr, option_map};
 ghost use Rattle.esc_apply.specs.Registry.{IsEntriesOf};
 ghost use Rattle.esc_store.specs.Faults.{IsS1OrS2};
-ghost use Rattle.esc_store.specs.Kept.{Kept, kept_replies, kept_reply, kept_chain, AreHeldBy, AreCounts};
+ghost use Rattle.esc_store.specs.Kept.{
+  Kept,
+  kept_replies,
+  kept_reply,
+  kept_chain,
+  AreHeldBy,
+  AreCounts,
+};
 ghost use Rattle.esc_store.specs.Pages.{IsPage};
 ghost use Rattle.esc_store.specs.Standing.{Stands, IsHonest, IsAsBefore};
 
@@ -24,7 +31,8 @@ use std::alloc::Global;
 use std::collections::BTreeMap;
 
 impl<S: Alter> Store<S> {
-    /// The reply that was kept for an arrival with this number and a body of this SHA-256. `S1`, `S2`.
+    /// The reply that was kept for an arrival with this number and a body of this SHA-256. `S1`,
+    /// `S2`.
     #[tactic(auto, using(crate::proofs::Sure::as_before))]
     pub fn receipt_of(
         &mut self,
@@ -33,7 +41,8 @@ impl<S: Alter> Store<S> {
         digest: &[u8; 32],
     ) -> Result<Option<Reply>, SFault>
         ensures same { IsAsBefore S.Store self.old self.new }
-        ensures found { IsHonest S.Store self.new → (k : Kept) → Stands S.Store self.old k → IfOk result (λ reply. reply ≡ kept_reply k number.now digest.now) }
+        ensures found { IsHonest S.Store self.new → (k : Kept) → Stands S.Store self.old k
+            → IfOk result (λ reply. reply ≡ kept_reply k number.now digest.now) }
         ensures cause { IfErr result IsS1OrS2 }
     {
         let found = self.receipt_here(number.text(), digest)?;
@@ -44,7 +53,8 @@ impl<S: Alter> Store<S> {
     #[tactic(auto, using(crate::proofs::Sure::as_before))]
     pub fn receipts(&mut self, alloc: Global) -> Result<Vec<Reply>, SFault>
         ensures same { IsAsBefore S.Store self.old self.new }
-        ensures all { IsHonest S.Store self.new → (k : Kept) → Stands S.Store self.old k → IfOk result (λ replies. replies.items ≡ kept_replies k) }
+        ensures all { IsHonest S.Store self.new → (k : Kept) → Stands S.Store self.old k
+            → IfOk result (λ replies. replies.items ≡ kept_replies k) }
         ensures cause { IfErr result IsS1OrS2 }
     {
         let stored = self.receipts_here(alloc)?;
@@ -55,7 +65,8 @@ impl<S: Alter> Store<S> {
     #[tactic(auto, using(crate::proofs::Sure::as_before))]
     pub fn receipt_count(&mut self) -> Result<u64, SFault>
         ensures same { IsAsBefore S.Store self.old self.new }
-        ensures count { IsHonest S.Store self.new → (k : Kept) → Stands S.Store self.old k → IfOk result (λ count. count ≡ length k.receipts) }
+        ensures count { IsHonest S.Store self.new → (k : Kept) → Stands S.Store self.old k
+            → IfOk result (λ count. count ≡ length k.receipts) }
         ensures cause { IfErr result IsS1OrS2 }
     {
         let last = self.last_here()?;
@@ -66,18 +77,21 @@ impl<S: Alter> Store<S> {
     #[tactic(auto, using(crate::proofs::Sure::as_before))]
     pub fn body_of(&mut self, _alloc: Global, row: usize) -> Result<Option<Vec<u8>>, SFault>
         ensures same { IsAsBefore S.Store self.old self.new }
-        ensures found { IsHonest S.Store self.new → (k : Kept) → Stands S.Store self.old k → IfOk result (λ body. option_map (λ b. b.items) body ≡ k.bodies row) }
+        ensures found { IsHonest S.Store self.new → (k : Kept) → Stands S.Store self.old k
+            → IfOk result (λ body. option_map (λ b. b.items) body ≡ k.bodies row) }
         ensures cause { IfErr result IsS1OrS2 }
     {
         let row = small(row)?;
         self.body_here(row)
     }
 
-    /// The rows, from 0, of which a receipt says that their deposit is held (`A1`), rising. No body is read. `S1`, `S2`.
+    /// The rows, from 0, of which a receipt says that their deposit is held (`A1`), rising. No body
+    /// is read. `S1`, `S2`.
     #[tactic(auto, using(crate::proofs::Sure::as_before))]
     pub fn held_by_receipts(&mut self, alloc: Global) -> Result<Vec<usize>, SFault>
         ensures same { IsAsBefore S.Store self.old self.new }
-        ensures rows { IsHonest S.Store self.new → (k : Kept) → Stands S.Store self.old k → IfOk result (λ rows. AreHeldBy k.receipts rows.items) }
+        ensures rows { IsHonest S.Store self.new → (k : Kept) → Stands S.Store self.old k
+            → IfOk result (λ rows. AreHeldBy k.receipts rows.items) }
         ensures cause { IfErr result IsS1OrS2 }
     {
         let rows = self.rows_here(alloc, verdict_number(Verdict::A1))?;
@@ -88,7 +102,8 @@ impl<S: Alter> Store<S> {
     #[tactic(auto, using(crate::proofs::Sure::as_before))]
     pub fn chain(&mut self, alloc: Global) -> Result<Vec<Step>, SFault>
         ensures same { IsAsBefore S.Store self.old self.new }
-        ensures steps { IsHonest S.Store self.new → (k : Kept) → Stands S.Store self.old k → IfOk result (λ steps. steps.items ≡ kept_chain k) }
+        ensures steps { IsHonest S.Store self.new → (k : Kept) → Stands S.Store self.old k
+            → IfOk result (λ steps. steps.items ≡ kept_chain k) }
         ensures cause { IfErr result IsS1OrS2 }
     {
         let stored = self.steps_here(alloc)?;
@@ -99,15 +114,16 @@ impl<S: Alter> Store<S> {
     #[tactic(auto, using(crate::proofs::Sure::as_before))]
     pub fn tables(&mut self, alloc: Global) -> Result<BTreeMap<Key, Object>, SFault>
         ensures same { IsAsBefore S.Store self.old self.new }
-        ensures objects { IsHonest S.Store self.new → (k : Kept) → Stands S.Store self.old k → IfOk result (λ tables. IsEntriesOf k.registry.content tables.entries) }
+        ensures objects { IsHonest S.Store self.new → (k : Kept) → Stands S.Store self.old k
+            → IfOk result (λ tables. IsEntriesOf k.registry.content tables.entries) }
         ensures cause { IfErr result IsS1OrS2 }
     {
         let stored = self.objects_here(alloc)?;
         objects_of(alloc, stored.as_slice())
     }
 
-    /// The first objects of a kind whose keys are not below these bytes, by key: a page of them, none only where there is
-    /// none. `S1`, `S2`.
+    /// The first objects of a kind whose keys are not below these bytes, by key: a page of them,
+    /// none only where there is none. `S1`, `S2`.
     #[tactic(auto, using(crate::proofs::Sure::as_before))]
     pub fn objects_from(
         &mut self,
@@ -116,7 +132,8 @@ impl<S: Alter> Store<S> {
         from: &[u8],
     ) -> Result<Vec<(Key, Object)>, SFault>
         ensures same { IsAsBefore S.Store self.old self.new }
-        ensures page { IsHonest S.Store self.new → (k : Kept) → Stands S.Store self.old k → IfOk result (λ page. IsPage k.registry.content kind from.now page.items) }
+        ensures page { IsHonest S.Store self.new → (k : Kept) → Stands S.Store self.old k
+            → IfOk result (λ page. IsPage k.registry.content kind from.now page.items) }
         ensures cause { IfErr result IsS1OrS2 }
     {
         let stored = self.page_here(alloc, kind_number(kind), from)?;
@@ -127,7 +144,8 @@ impl<S: Alter> Store<S> {
     #[tactic(auto, using(crate::proofs::Sure::as_before))]
     pub fn counts_by_kind(&mut self, alloc: Global) -> Result<BTreeMap<Kind, u64>, SFault>
         ensures same { IsAsBefore S.Store self.old self.new }
-        ensures counts { IsHonest S.Store self.new → (k : Kept) → Stands S.Store self.old k → IfOk result (λ counts. AreCounts k.registry.content counts.entries) }
+        ensures counts { IsHonest S.Store self.new → (k : Kept) → Stands S.Store self.old k
+            → IfOk result (λ counts. AreCounts k.registry.content counts.entries) }
         ensures cause { IfErr result IsS1OrS2 }
     {
         let kinds = self.kinds_here(alloc)?;

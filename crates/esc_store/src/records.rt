@@ -24,7 +24,10 @@ impl<'a, S: Alter> Change<'a, S> {
     pub(crate) fn find_record(&mut self, k: &Key) -> Result<Option<Vec<u8>>, SFault>
         ensures count { self.new.count ≡ self.old.count }
         ensures follows { Follows S.Store self.old self.new }
-        ensures found { IfOk result (λ found. HasCleanDisk (state S.Store self.new.store.now.conn) → (s : State) → HoldsNow S.Store self.old s → (option_map (λ b. b.items) found ≡ option_and_then record_of (s.content k.now)) × IfSome (s.content k.now) (λ x. IsSome (record_of x)) × HoldsNow S.Store self.new s) }
+        ensures found { IfOk result (λ found. HasCleanDisk (state S.Store self.new.store.now.conn)
+            → (s : State) → HoldsNow S.Store self.old s
+            → (option_map (λ b. b.items) found ≡ option_and_then record_of (s.content k.now))
+            × IfSome (s.content k.now) (λ x. IsSome (record_of x)) × HoldsNow S.Store self.new s) }
     {
         self.store.find_here(kind_number(k.kind), k.text.as_bytes())
     }
@@ -33,7 +36,8 @@ impl<'a, S: Alter> Change<'a, S> {
     pub(crate) fn put_record(&mut self, k: &Key, bytes: &[u8]) -> Result<(), SFault>
         ensures count { self.new.count ≡ self.old.count }
         ensures follows { Follows S.Store self.old self.new }
-        ensures written { OnOk result ((s : State) (o : ObjectValue) → record_of o ≡ Some bytes.now → HoldsNow S.Store self.old s → HoldsNow S.Store self.new (written s k.now (Some o))) }
+        ensures written { OnOk result ((s : State) (o : ObjectValue) → record_of o ≡ Some bytes.now
+            → HoldsNow S.Store self.old s → HoldsNow S.Store self.new (written s k.now (Some o))) }
     {
         self.store
             .put_here(kind_number(k.kind), k.text.as_bytes(), bytes)
@@ -43,7 +47,8 @@ impl<'a, S: Alter> Change<'a, S> {
     pub(crate) fn remove_record(&mut self, k: &Key) -> Result<(), SFault>
         ensures count { self.new.count ≡ self.old.count }
         ensures follows { Follows S.Store self.old self.new }
-        ensures written { OnOk result ((s : State) → HoldsNow S.Store self.old s → HoldsNow S.Store self.new (written s k.now None)) }
+        ensures written { OnOk result ((s : State) → HoldsNow S.Store self.old s
+            → HoldsNow S.Store self.new (written s k.now None)) }
     {
         self.store
             .remove_here(kind_number(k.kind), k.text.as_bytes())
@@ -58,7 +63,10 @@ impl<'a, S: Alter> Change<'a, S> {
     ) -> Result<(), SFault>
         ensures count { self.new.count ≡ self.old.count }
         ensures follows { Follows S.Store self.old self.new }
-        ensures noted { OnOk result ((s : State) (o : _) → option_and_then record_of o ≡ option_map (λ b. b.now) before.entry → IfSome o (λ x. IsSome (record_of x)) → HoldsNow S.Store self.old s → HoldsNow S.Store self.new (noted s step k.now o)) }
+        ensures noted { OnOk result ((s : State) (o : _)
+            → option_and_then record_of o ≡ option_map (λ b. b.now) before.entry
+            → IfSome o (λ x. IsSome (record_of x)) → HoldsNow S.Store self.old s
+            → HoldsNow S.Store self.new (noted s step k.now o)) }
     {
         self.store
             .note_here(step, kind_number(k.kind), k.text.as_bytes(), before)
@@ -72,7 +80,9 @@ impl<'a, S: Alter> Change<'a, S> {
     ) -> Result<Vec<StoredImage>, SFault>
         ensures count { self.new.count ≡ self.old.count }
         ensures follows { Follows S.Store self.old self.new }
-        ensures found { IfOk result (λ found. HasCleanDisk (state S.Store self.new.store.now.conn) → (s : State) → HoldsNow S.Store self.old s → AreNotes step s (map image_of found.items) × HoldsNow S.Store self.new s) }
+        ensures found { IfOk result (λ found. HasCleanDisk (state S.Store self.new.store.now.conn)
+            → (s : State) → HoldsNow S.Store self.old s
+            → AreNotes step s (map image_of found.items) × HoldsNow S.Store self.new s) }
     {
         self.store.notes_here(alloc, step)
     }
@@ -81,7 +91,8 @@ impl<'a, S: Alter> Change<'a, S> {
     pub(crate) fn forget_records(&mut self, step: u32) -> Result<(), SFault>
         ensures count { self.new.count ≡ self.old.count }
         ensures follows { Follows S.Store self.old self.new }
-        ensures taken { OnOk result ((s : State) → HoldsNow S.Store self.old s → HoldsNow S.Store self.new (taken s step)) }
+        ensures taken { OnOk result ((s : State) → HoldsNow S.Store self.old s
+            → HoldsNow S.Store self.new (taken s step)) }
     {
         self.store.forget_here(step)
     }
@@ -90,7 +101,8 @@ impl<'a, S: Alter> Change<'a, S> {
     pub(crate) fn clear_records(&mut self) -> Result<(), SFault>
         ensures count { self.new.count ≡ self.old.count }
         ensures follows { Follows S.Store self.old self.new }
-        ensures cleared { OnOk result ((s : State) → HoldsNow S.Store self.old s → HoldsNow S.Store self.new (record { content = empty.content; undo = s.undo })) }
+        ensures cleared { OnOk result ((s : State) → HoldsNow S.Store self.old s
+            → HoldsNow S.Store self.new (record { content = empty.content; undo = s.undo })) }
     {
         self.store.clear_objects_here()
     }
@@ -99,7 +111,9 @@ impl<'a, S: Alter> Change<'a, S> {
     pub(crate) fn clear_notes(&mut self) -> Result<(), SFault>
         ensures count { self.new.count ≡ self.old.count }
         ensures follows { Follows S.Store self.old self.new }
-        ensures cleared { OnOk result ((s : State) → HoldsNow S.Store self.old (record { content = empty.content; undo = s.undo }) → HoldsNow S.Store self.new empty) }
+        ensures cleared { OnOk result ((s : State)
+            → HoldsNow S.Store self.old (record { content = empty.content; undo = s.undo })
+            → HoldsNow S.Store self.new empty) }
     {
         self.store.clear_undo_here()
     }

@@ -43,7 +43,15 @@ impl Model for Reply {
 
     ghost Value = { ReplyValue };
 
-    ghost view = { λ r. record { receipt = r.receipt; number = string_bytes r.number; verdict = r.verdict; id = option_map string_bytes r.id; resend = r.resend; again = r.again; orphans = r.orphans } };
+    ghost view = { λ r. record {
+      receipt = r.receipt;
+      number = string_bytes r.number;
+      verdict = r.verdict;
+      id = option_map string_bytes r.id;
+      resend = r.resend;
+      again = r.again;
+      orphans = r.orphans;
+    } };
 }
 
 impl Reply {
@@ -86,5 +94,12 @@ impl<'a> Model for Receipt<'a> {
 
     ghost Value = { ReceiptValue };
 
-    ghost view = { λ r. record { number = r.number.now; digest = r.digest; verdict = r.verdict; row = r.row; again = r.again; orphans = r.orphans } };
+    ghost view = { λ r. record {
+      number = r.number.now;
+      digest = r.digest;
+      verdict = r.verdict;
+      row = r.row;
+      again = r.again;
+      orphans = r.orphans;
+    } };
 }

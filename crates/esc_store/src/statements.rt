@@ -3,7 +3,28 @@
 ghost use Rattle.std.specs.Prelude.{◌≡◌, true, false, map, option_map, OnOk, IfErr};
 ghost use Rattle.sqlite.specs.Held.{state};
 ghost use Rattle.esc_rows.specs.Content.{object_at};
-ghost use Rattle.esc_rows.specs.Changes.{PutsObject, RemovesObject, Becomes, Tells, without_objects, without_undo, steps_before, PutsImage, RemovesImages, ListsImages, AddsReceipt, HoldsBody, AddsStep, ListsObjects, ListsFrom, ListsKinds, ListsRows, last_number, receipt_of, body_of};
+ghost use Rattle.esc_rows.specs.Changes.{
+  PutsObject,
+  RemovesObject,
+  Becomes,
+  Tells,
+  without_objects,
+  without_undo,
+  steps_before,
+  PutsImage,
+  RemovesImages,
+  ListsImages,
+  AddsReceipt,
+  HoldsBody,
+  AddsStep,
+  ListsObjects,
+  ListsFrom,
+  ListsKinds,
+  ListsRows,
+  last_number,
+  receipt_of,
+  body_of,
+};
 ghost use Rattle.esc_rows.specs.Entries.{receipt_row, held_row, step_row, image_of, object_of};
 ghost use Rattle.esc_store.specs.Faults.{IsS1OrS2};
 ghost use Rattle.esc_store.specs.Standing.{IsStep, IsLook, IsCheckedRead};
@@ -28,7 +49,8 @@ impl<S: Alter> Store<S> {
     pub(crate) fn put_here(&mut self, kind: u32, key: &[u8], bytes: &[u8]) -> Result<(), SFault>
         ensures manifest { self.new.manifest ≡ self.old.manifest }
         ensures writes { self.new.writes ≡ self.old.writes }
-        ensures step { IsStep (state S.Store self.old.conn) (state S.Store self.new.conn) (PutsObject kind key.now bytes.now) result }
+        ensures step { IsStep (state S.Store self.old.conn) (state S.Store self.new.conn)
+            (PutsObject kind key.now bytes.now) result }
         ensures cause { IfErr result IsS1OrS2 }
     {
         match self.goes_on() {
@@ -43,7 +65,8 @@ impl<S: Alter> Store<S> {
     pub(crate) fn remove_here(&mut self, kind: u32, key: &[u8]) -> Result<(), SFault>
         ensures manifest { self.new.manifest ≡ self.old.manifest }
         ensures writes { self.new.writes ≡ self.old.writes }
-        ensures step { IsStep (state S.Store self.old.conn) (state S.Store self.new.conn) (RemovesObject kind key.now) result }
+        ensures step { IsStep (state S.Store self.old.conn) (state S.Store self.new.conn)
+            (RemovesObject kind key.now) result }
         ensures cause { IfErr result IsS1OrS2 }
     {
         match self.goes_on() {
@@ -58,7 +81,8 @@ impl<S: Alter> Store<S> {
     pub(crate) fn clear_objects_here(&mut self) -> Result<(), SFault>
         ensures manifest { self.new.manifest ≡ self.old.manifest }
         ensures writes { self.new.writes ≡ self.old.writes }
-        ensures step { IsStep (state S.Store self.old.conn) (state S.Store self.new.conn) (Becomes without_objects) result }
+        ensures step { IsStep (state S.Store self.old.conn) (state S.Store self.new.conn)
+            (Becomes without_objects) result }
         ensures cause { IfErr result IsS1OrS2 }
     {
         match self.goes_on() {
@@ -79,7 +103,8 @@ impl<S: Alter> Store<S> {
     ) -> Result<(), SFault>
         ensures manifest { self.new.manifest ≡ self.old.manifest }
         ensures writes { self.new.writes ≡ self.old.writes }
-        ensures step { IsStep (state S.Store self.old.conn) (state S.Store self.new.conn) (PutsImage step kind key.now (option_map (λ b. b.now) before.entry)) result }
+        ensures step { IsStep (state S.Store self.old.conn) (state S.Store self.new.conn)
+            (PutsImage step kind key.now (option_map (λ b. b.now) before.entry)) result }
         ensures cause { IfErr result IsS1OrS2 }
     {
         match self.goes_on() {
@@ -94,7 +119,8 @@ impl<S: Alter> Store<S> {
     pub(crate) fn forget_here(&mut self, step: u32) -> Result<(), SFault>
         ensures manifest { self.new.manifest ≡ self.old.manifest }
         ensures writes { self.new.writes ≡ self.old.writes }
-        ensures step { IsStep (state S.Store self.old.conn) (state S.Store self.new.conn) (RemovesImages step) result }
+        ensures step { IsStep (state S.Store self.old.conn) (state S.Store self.new.conn)
+            (RemovesImages step) result }
         ensures cause { IfErr result IsS1OrS2 }
     {
         match self.goes_on() {
@@ -109,7 +135,8 @@ impl<S: Alter> Store<S> {
     pub(crate) fn clear_undo_here(&mut self) -> Result<(), SFault>
         ensures manifest { self.new.manifest ≡ self.old.manifest }
         ensures writes { self.new.writes ≡ self.old.writes }
-        ensures step { IsStep (state S.Store self.old.conn) (state S.Store self.new.conn) (Becomes without_undo) result }
+        ensures step { IsStep (state S.Store self.old.conn) (state S.Store self.new.conn)
+            (Becomes without_undo) result }
         ensures cause { IfErr result IsS1OrS2 }
     {
         match self.goes_on() {
@@ -124,7 +151,8 @@ impl<S: Alter> Store<S> {
     pub(crate) fn add_receipt_here(&mut self, receipt: &Receipt) -> Result<(), SFault>
         ensures manifest { self.new.manifest ≡ self.old.manifest }
         ensures writes { self.new.writes ≡ self.old.writes }
-        ensures step { IsStep (state S.Store self.old.conn) (state S.Store self.new.conn) (AddsReceipt (receipt_row receipt.now)) result }
+        ensures step { IsStep (state S.Store self.old.conn) (state S.Store self.new.conn)
+            (AddsReceipt (receipt_row receipt.now)) result }
         ensures cause { IfErr result IsS1OrS2 }
     {
         match self.goes_on() {
@@ -139,7 +167,8 @@ impl<S: Alter> Store<S> {
     pub(crate) fn hold_here(&mut self, row: u32, body: &[u8]) -> Result<(), SFault>
         ensures manifest { self.new.manifest ≡ self.old.manifest }
         ensures writes { self.new.writes ≡ self.old.writes }
-        ensures step { IsStep (state S.Store self.old.conn) (state S.Store self.new.conn) (HoldsBody (held_row row body.now)) result }
+        ensures step { IsStep (state S.Store self.old.conn) (state S.Store self.new.conn)
+            (HoldsBody (held_row row body.now)) result }
         ensures cause { IfErr result IsS1OrS2 }
     {
         match self.goes_on() {
@@ -154,7 +183,8 @@ impl<S: Alter> Store<S> {
     pub(crate) fn clear_steps_from_here(&mut self, pos: u32) -> Result<(), SFault>
         ensures manifest { self.new.manifest ≡ self.old.manifest }
         ensures writes { self.new.writes ≡ self.old.writes }
-        ensures step { IsStep (state S.Store self.old.conn) (state S.Store self.new.conn) (Becomes (steps_before pos)) result }
+        ensures step { IsStep (state S.Store self.old.conn) (state S.Store self.new.conn)
+            (Becomes (steps_before pos)) result }
         ensures cause { IfErr result IsS1OrS2 }
     {
         match self.goes_on() {
@@ -169,7 +199,8 @@ impl<S: Alter> Store<S> {
     pub(crate) fn add_step_here(&mut self, step: ChainStep) -> Result<(), SFault>
         ensures manifest { self.new.manifest ≡ self.old.manifest }
         ensures writes { self.new.writes ≡ self.old.writes }
-        ensures step { IsStep (state S.Store self.old.conn) (state S.Store self.new.conn) (AddsStep (step_row step)) result }
+        ensures step { IsStep (state S.Store self.old.conn) (state S.Store self.new.conn)
+            (AddsStep (step_row step)) result }
         ensures cause { IfErr result IsS1OrS2 }
     {
         match self.goes_on() {
@@ -186,7 +217,9 @@ impl<S: Alter> Store<S> {
         ensures writes { self.new.writes ≡ self.old.writes }
         ensures on { OnOk result (self.old.conn.in_transaction ≡ true) }
         ensures off { self.old.conn.in_transaction ≡ false → self.new ≡ self.old }
-        ensures look { IsLook (state S.Store self.old.conn) (state S.Store self.new.conn) (Tells (λ c found. option_map (λ b. b.items) found ≡ object_at kind key.now c.objects)) result }
+        ensures look { IsLook (state S.Store self.old.conn) (state S.Store self.new.conn)
+            (Tells (λ c found. option_map (λ b. b.items) found ≡ object_at kind key.now c.objects))
+            result }
         ensures cause { IfErr result IsS1OrS2 }
     {
         match self.goes_on() {
@@ -207,7 +240,8 @@ impl<S: Alter> Store<S> {
         ensures writes { self.new.writes ≡ self.old.writes }
         ensures on { OnOk result (self.old.conn.in_transaction ≡ true) }
         ensures off { self.old.conn.in_transaction ≡ false → self.new ≡ self.old }
-        ensures look { IsLook (state S.Store self.old.conn) (state S.Store self.new.conn) (Tells (λ c found. ListsImages step c (map image_of found.items))) result }
+        ensures look { IsLook (state S.Store self.old.conn) (state S.Store self.new.conn)
+            (Tells (λ c found. ListsImages step c (map image_of found.items))) result }
         ensures cause { IfErr result IsS1OrS2 }
     {
         match self.goes_on() {
@@ -220,7 +254,8 @@ impl<S: Alter> Store<S> {
 
     // All receipts.
     pub(crate) fn receipts_here(&mut self, alloc: Global) -> Result<Vec<Receipt>, SFault>
-        ensures read { IsCheckedRead S.Store self.old self.new (λ c found. map receipt_row found.items ≡ c.receipts) result }
+        ensures read { IsCheckedRead S.Store self.old self.new
+            (λ c found. map receipt_row found.items ≡ c.receipts) result }
         ensures cause { IfErr result IsS1OrS2 }
     {
         match self.sound() {
@@ -237,7 +272,9 @@ impl<S: Alter> Store<S> {
         number: &str,
         digest: &[u8],
     ) -> Result<Option<Receipt>, SFault>
-        ensures read { IsCheckedRead S.Store self.old self.new (λ c found. option_map receipt_row found ≡ receipt_of number.now digest.now c.receipts) result }
+        ensures read { IsCheckedRead S.Store self.old self.new
+            (λ c found. option_map receipt_row found ≡ receipt_of number.now digest.now c.receipts)
+            result }
         ensures cause { IfErr result IsS1OrS2 }
     {
         match self.sound() {
@@ -250,7 +287,8 @@ impl<S: Alter> Store<S> {
 
     // The rows that the receipts of a verdict name.
     pub(crate) fn rows_here(&mut self, alloc: Global, verdict: u32) -> Result<Vec<u32>, SFault>
-        ensures read { IsCheckedRead S.Store self.old self.new (λ c found. ListsRows verdict c found.items) result }
+        ensures read { IsCheckedRead S.Store self.old self.new
+            (λ c found. ListsRows verdict c found.items) result }
         ensures cause { IfErr result IsS1OrS2 }
     {
         match self.sound() {
@@ -263,7 +301,8 @@ impl<S: Alter> Store<S> {
 
     // The body of a row.
     pub(crate) fn body_here(&mut self, row: u32) -> Result<Option<Vec<u8>>, SFault>
-        ensures read { IsCheckedRead S.Store self.old self.new (λ c found. option_map (λ b. b.items) found ≡ body_of row c.held) result }
+        ensures read { IsCheckedRead S.Store self.old self.new
+            (λ c found. option_map (λ b. b.items) found ≡ body_of row c.held) result }
         ensures cause { IfErr result IsS1OrS2 }
     {
         match self.sound() {
@@ -276,7 +315,8 @@ impl<S: Alter> Store<S> {
 
     // The steps of the chain.
     pub(crate) fn steps_here(&mut self, alloc: Global) -> Result<Vec<ChainStep>, SFault>
-        ensures read { IsCheckedRead S.Store self.old self.new (λ c found. map step_row found.items ≡ c.steps) result }
+        ensures read { IsCheckedRead S.Store self.old self.new
+            (λ c found. map step_row found.items ≡ c.steps) result }
         ensures cause { IfErr result IsS1OrS2 }
     {
         match self.sound() {
@@ -289,7 +329,8 @@ impl<S: Alter> Store<S> {
 
     // All records.
     pub(crate) fn objects_here(&mut self, alloc: Global) -> Result<Vec<StoredObject>, SFault>
-        ensures read { IsCheckedRead S.Store self.old self.new (λ c found. ListsObjects c (map object_of found.items)) result }
+        ensures read { IsCheckedRead S.Store self.old self.new
+            (λ c found. ListsObjects c (map object_of found.items)) result }
         ensures cause { IfErr result IsS1OrS2 }
     {
         match self.sound() {
@@ -307,7 +348,8 @@ impl<S: Alter> Store<S> {
         kind: u32,
         from: &[u8],
     ) -> Result<Vec<StoredObject>, SFault>
-        ensures read { IsCheckedRead S.Store self.old self.new (λ c found. ListsFrom kind from.now c (map object_of found.items)) result }
+        ensures read { IsCheckedRead S.Store self.old self.new
+            (λ c found. ListsFrom kind from.now c (map object_of found.items)) result }
         ensures cause { IfErr result IsS1OrS2 }
     {
         match self.sound() {
@@ -320,7 +362,8 @@ impl<S: Alter> Store<S> {
 
     // The kind of each record.
     pub(crate) fn kinds_here(&mut self, alloc: Global) -> Result<Vec<u32>, SFault>
-        ensures read { IsCheckedRead S.Store self.old self.new (λ c found. ListsKinds c found.items) result }
+        ensures read { IsCheckedRead S.Store self.old self.new
+            (λ c found. ListsKinds c found.items) result }
         ensures cause { IfErr result IsS1OrS2 }
     {
         match self.sound() {
@@ -333,7 +376,8 @@ impl<S: Alter> Store<S> {
 
     // The number of the last receipt, or 0.
     pub(crate) fn last_here(&mut self) -> Result<u32, SFault>
-        ensures read { IsCheckedRead S.Store self.old self.new (λ c found. found ≡ last_number c.receipts) result }
+        ensures read { IsCheckedRead S.Store self.old self.new
+            (λ c found. found ≡ last_number c.receipts) result }
         ensures cause { IfErr result IsS1OrS2 }
     {
         match self.sound() {

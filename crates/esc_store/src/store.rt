@@ -1,6 +1,18 @@
 //! The store.
 
-ghost use Rattle.std.specs.Prelude.{◌≡◌, true, false, Ok, IsErr, IsTrue, IfOk, IfErr, OnOk, OnErr, MatchResult};
+ghost use Rattle.std.specs.Prelude.{
+  ◌≡◌,
+  true,
+  false,
+  Ok,
+  IsErr,
+  IsTrue,
+  IfOk,
+  IfErr,
+  OnOk,
+  OnErr,
+  MatchResult,
+};
 ghost use Rattle.std.specs.Borrow.{sem, RestsIfErr};
 ghost use Rattle.sqlite.specs.Held.{state};
 ghost use Rattle.esc_rows.specs.Schema.{store_schema};
@@ -9,7 +21,21 @@ ghost use Rattle.esc_store.specs.Opening.{IsAsItWas};
 ghost use Rattle.esc_store.specs.Kept.{Kept, fresh, with_registry};
 ghost use Rattle.esc_apply.specs.Registry.{State};
 ghost use Rattle.esc_store.specs.Tables.{IsBlank, IsStore, IsOfVersion};
-ghost use Rattle.esc_store.specs.Standing.{Stands, Began, Rest, HoldsNow, BeganIn, RestIn, HoldsIn, HoldsKept, LeavesOnly, LeavesOr, LeavesNoMore, IsHonest, IsGivenUp};
+ghost use Rattle.esc_store.specs.Standing.{
+  Stands,
+  Began,
+  Rest,
+  HoldsNow,
+  BeganIn,
+  RestIn,
+  HoldsIn,
+  HoldsKept,
+  LeavesOnly,
+  LeavesOr,
+  LeavesNoMore,
+  IsHonest,
+  IsGivenUp,
+};
 ghost use Rattle.sqlite.specs.State.{HasCleanDisk};
 
 use crate::change::Change;
@@ -23,8 +49,9 @@ use esc_rows::transaction::{begin_in, commit_in};
 use sqlite::{Alter, Connection, Error};
 use std::alloc::Global;
 
-/// A store: a database of seven tables. Contracts see what it *stands for*: the rows of its manifest, a receipt for
-/// each distinct arrival, the bodies of the held rows, and the chain with its tables and before-images.
+/// A store: a database of seven tables. Contracts see what it *stands for*: the rows of its
+/// manifest, a receipt for each distinct arrival, the bodies of the held rows, and the chain with
+/// its tables and before-images.
 #[derive(Drop)]
 pub struct Store<S: Alter> {
     pub(crate) conn: Connection<S>,
@@ -36,9 +63,9 @@ pub struct Store<S: Alter> {
 impl<S: Alter> Store<S> {
     ghost use Rattle.esc_store.specs.contracts.store.Store.{the_row};
 
-    /// A new store of a manifest, over a database without any table, index or view, in one change. At `Err` the
-    /// connection is given back as it was: `S3` where it has a table, an index or a view; `S1`,
-    /// also in a transaction; `S2`.
+    /// A new store of a manifest, over a database without any table, index or view, in one change.
+    /// At `Err` the connection is given back as it was: `S3` where it has a table, an index or a
+    /// view; `S1`, also in a transaction; `S2`.
     pub fn create(
         alloc: Global,
         connection: Connection<S>,
@@ -48,11 +75,18 @@ impl<S: Alter> Store<S> {
         ensures left { IfOk result (λ store. LeavesOnly S.Store store (fresh manifest.now)) }
         ensures writes { IfOk result (λ store. store.writes ≡ 0) }
         ensures blank { OnOk result (IsBlank (state S.Store connection).now) }
-        ensures refused { IfErr result (λ e. HasCleanDisk (state S.Store e.1) → IsTrue (state S.Store e.1).is_open → (e.0 ≡ SFault.S3) → IsBlank (state S.Store connection).now → ⊥) }
-        ensures neither { IfErr result (λ e. HasCleanDisk (state S.Store e.1) → IsTrue (state S.Store e.1).is_open → (state S.Store e.1).committed ≡ (state S.Store connection).committed) }
-        ensures unchanged { IfErr result (λ e. IsAsItWas (state S.Store connection) (state S.Store e.1)) }
+        ensures refused { IfErr result (λ e. HasCleanDisk (state S.Store e.1)
+            → IsTrue (state S.Store e.1).is_open → (e.0 ≡ SFault.S3)
+            → IsBlank (state S.Store connection).now → ⊥) }
+        ensures neither { IfErr result (λ e. HasCleanDisk (state S.Store e.1)
+            → IsTrue (state S.Store e.1).is_open → (state S.Store e.1).committed
+            ≡ (state S.Store connection).committed) }
+        ensures unchanged { IfErr result
+            (λ e. IsAsItWas (state S.Store connection) (state S.Store e.1)) }
         ensures cause { IfErr result (λ e. IsS1ToS3 e.0) }
-        ensures crash { MatchResult result (λ store. LeavesOr S.Store connection store.conn (fresh manifest.now)) (λ e. LeavesOr S.Store connection e.1 (fresh manifest.now)) }
+        ensures crash { MatchResult result
+            (λ store. LeavesOr S.Store connection store.conn (fresh manifest.now))
+            (λ e. LeavesOr S.Store connection e.1 (fresh manifest.now)) }
     {
         let (own, rows) = match both_forms(alloc, manifest) {
             Ok(forms) => forms,
@@ -70,24 +104,30 @@ impl<S: Alter> Store<S> {
         }
     }
 
-    /// The store that a database is, also where the database is what a crash left of one. At `Err` the connection is
-    /// given back as it was: `S3` where it is no store of this version; `S1`, also in a transaction, or where the rows of its
-    /// manifest make none; `S2`.
+    /// The store that a database is, also where the database is what a crash left of one. At `Err`
+    /// the connection is given back as it was: `S3` where it is no store of this version; `S1`,
+    /// also in a transaction, or where the rows of its manifest make none; `S2`.
     pub fn open(
         alloc: Global,
         connection: Connection<S>,
     ) -> Result<Store<S>, (SFault, Connection<S>)>
-        ensures stands { IfOk result (λ store. IsHonest S.Store store → (k : Kept) → HoldsKept S.Store connection k → Stands S.Store store k) }
+        ensures stands { IfOk result (λ store. IsHonest S.Store store → (k : Kept)
+            → HoldsKept S.Store connection k → Stands S.Store store k) }
         ensures found { IfOk result (λ store. IsHonest S.Store store → (k : Kept)
             → IsStore (state S.Store connection).committed.trees k → Stands S.Store store k) }
         ensures left { IfOk result (λ store. (k : Kept)
             → IsStore (state S.Store connection).committed.trees k → LeavesOnly S.Store store k) }
         ensures writes { IfOk result (λ store. store.writes ≡ 0) }
-        ensures version { IfOk result (λ store. IsHonest S.Store store → IsOfVersion (state S.Store connection).now) }
-        ensures never { IfErr result (λ e. e.0 ≡ SFault.S3 → HasCleanDisk (state S.Store e.1) → IsTrue (state S.Store e.1).is_open → (k : Kept) → IsStore (state S.Store connection).committed.trees k → ⊥) }
-        ensures unchanged { IfErr result (λ e. IsAsItWas (state S.Store connection) (state S.Store e.1)) }
+        ensures version { IfOk result (λ store. IsHonest S.Store store
+            → IsOfVersion (state S.Store connection).now) }
+        ensures never { IfErr result (λ e. e.0 ≡ SFault.S3 → HasCleanDisk (state S.Store e.1)
+            → IsTrue (state S.Store e.1).is_open → (k : Kept)
+            → IsStore (state S.Store connection).committed.trees k → ⊥) }
+        ensures unchanged { IfErr result
+            (λ e. IsAsItWas (state S.Store connection) (state S.Store e.1)) }
         ensures cause { IfErr result (λ e. IsS1ToS3 e.0) }
-        ensures survives { MatchResult result (λ store. LeavesNoMore S.Store connection store.conn) (λ e. LeavesNoMore S.Store connection e.1) }
+        ensures survives { MatchResult result (λ store. LeavesNoMore S.Store connection store.conn)
+            (λ e. LeavesNoMore S.Store connection e.1) }
     {
         let mut connection = connection;
         match find_manifest(alloc, &mut connection) {
@@ -117,8 +157,8 @@ impl<S: Alter> Store<S> {
         &self.manifest
     }
 
-    /// How many objects were written or removed by the changes that were committed since the store was opened; it
-    /// stays at its greatest value. Takes no memory.
+    /// How many objects were written or removed by the changes that were committed since the store
+    /// was opened; it stays at its greatest value. Takes no memory.
     pub fn writes(&self) -> u64
         ensures { result ≡ self.now.writes }
     {
@@ -127,15 +167,23 @@ impl<S: Alter> Store<S> {
 
     /// Begins a change.
     pub fn begin(&mut self) -> Result<Change<'_, S>, SFault>
-        ensures* refused { sem 𝓛 (RestsIfErr (the_row S.row S.Store) self.entry (λ change. change.store.ghost_name) result (λ last. (last.manifest ≡ self.old.manifest) × (last.writes ≡ self.old.writes) × LeavesNoMore S.Store self.old.conn last.conn × ((k : Kept) → Stands S.Store self.old k → Stands S.Store last k))) }
+        ensures* refused { sem 𝓛
+            (RestsIfErr (the_row S.row S.Store) self.entry
+            (λ change. change.store.ghost_name) result (λ last. (last.manifest ≡ self.old.manifest)
+            × (last.writes ≡ self.old.writes) × LeavesNoMore S.Store self.old.conn last.conn
+            × ((k : Kept) → Stands S.Store self.old k → Stands S.Store last k))) }
         ensures same_reference { IfOk result (λ change. change.store.ghost_name ≡ self.entry.ghost_name) }
         ensures count { IfOk result (λ change. change.count ≡ 0) }
         ensures writes { IfOk result (λ change. change.store.now.writes ≡ self.old.writes) }
         ensures manifest { IfOk result (λ change. change.store.now.manifest ≡ self.old.manifest) }
-        ensures began { IfOk result (λ change. (k : Kept) → Stands S.Store self.old k → Began S.Store change k) }
-        ensures rest { IfOk result (λ change. (k : Kept) → Stands S.Store self.old k → Rest S.Store change k k) }
-        ensures holds { IfOk result (λ change. (k : Kept) → Stands S.Store self.old k → HoldsNow S.Store change k.registry) }
-        ensures survives { IfOk result (λ change. LeavesNoMore S.Store self.old.conn change.store.now.conn) }
+        ensures began { IfOk result (λ change. (k : Kept) → Stands S.Store self.old k
+            → Began S.Store change k) }
+        ensures rest { IfOk result (λ change. (k : Kept) → Stands S.Store self.old k
+            → Rest S.Store change k k) }
+        ensures holds { IfOk result (λ change. (k : Kept) → Stands S.Store self.old k
+            → HoldsNow S.Store change k.registry) }
+        ensures survives { IfOk result
+            (λ change. LeavesNoMore S.Store self.old.conn change.store.now.conn) }
         ensures cause { IfErr result IsS1OrS2 }
     {
         self.begin_here()?;
@@ -150,10 +198,14 @@ impl<S: Alter> Store<S> {
         ensures manifest { self.new.manifest ≡ self.old.manifest }
         ensures writes { self.new.writes ≡ self.old.writes }
         ensures survives { LeavesNoMore S.Store self.old.conn self.new.conn }
-        ensures stands { OnErr result ((k : Kept) → Stands S.Store self.old k → Stands S.Store self.new k) }
-        ensures began { OnOk result ((k : Kept) → Stands S.Store self.old k → BeganIn S.Store self.new k) }
-        ensures rest { OnOk result ((k : Kept) → Stands S.Store self.old k → RestIn S.Store self.new k k) }
-        ensures holds { OnOk result ((k : Kept) → Stands S.Store self.old k → HoldsIn S.Store self.new k.registry) }
+        ensures stands { OnErr result ((k : Kept) → Stands S.Store self.old k
+            → Stands S.Store self.new k) }
+        ensures began { OnOk result ((k : Kept) → Stands S.Store self.old k
+            → BeganIn S.Store self.new k) }
+        ensures rest { OnOk result ((k : Kept) → Stands S.Store self.old k
+            → RestIn S.Store self.new k k) }
+        ensures holds { OnOk result ((k : Kept) → Stands S.Store self.old k
+            → HoldsIn S.Store self.new k.registry) }
         ensures cause { IfErr result IsS1OrS2 }
     {
         let begun = begin_in(&mut self.conn);
@@ -165,10 +217,17 @@ impl<S: Alter> Store<S> {
         ensures manifest { self.new.manifest ≡ self.old.manifest }
         ensures writes { self.new.writes ≡ self.old.writes }
         ensures honest { IsHonest S.Store self.new → IsHonest S.Store self.old }
-        ensures committed { OnOk result ((before k : Kept) (s : State) → RestIn S.Store self.old before (with_registry k s) → HoldsIn S.Store self.old k.registry → Stands S.Store self.new k) }
-        ensures kept { OnErr result ((before : Kept) → BeganIn S.Store self.old before → Stands S.Store self.new before) }
-        ensures crash { (before k : Kept) (s : State) → RestIn S.Store self.old before (with_registry k s) → HoldsIn S.Store self.old k.registry → LeavesOr S.Store self.old.conn self.new.conn k }
-        ensures left { OnOk result ((before k : Kept) (s : State) → RestIn S.Store self.old before (with_registry k s) → HoldsIn S.Store self.old k.registry → LeavesOnly S.Store self.new k) }
+        ensures committed { OnOk result ((before k : Kept) (s : State)
+            → RestIn S.Store self.old before (with_registry k s)
+            → HoldsIn S.Store self.old k.registry → Stands S.Store self.new k) }
+        ensures kept { OnErr result ((before : Kept) → BeganIn S.Store self.old before
+            → Stands S.Store self.new before) }
+        ensures crash { (before k : Kept) (s : State)
+            → RestIn S.Store self.old before (with_registry k s)
+            → HoldsIn S.Store self.old k.registry → LeavesOr S.Store self.old.conn self.new.conn k }
+        ensures left { OnOk result ((before k : Kept) (s : State)
+            → RestIn S.Store self.old before (with_registry k s)
+            → HoldsIn S.Store self.old k.registry → LeavesOnly S.Store self.new k) }
         ensures cause { IfErr result IsS1OrS2 }
     {
         let committed = commit_in(&mut self.conn);
@@ -190,7 +249,9 @@ impl<S: Alter> Store<S> {
         ensures writes { self.new.writes ≡ self.old.writes }
         ensures survives { LeavesNoMore S.Store self.old.conn self.new.conn }
         ensures ok { IfOk result (λ x. (outcome ≡ Ok x) × (self.new ≡ self.old)) }
-        ensures err { OnErr result (IsErr outcome × IsGivenUp (state S.Store self.old.conn) (state S.Store self.new.conn)) }
+        ensures err { OnErr result
+            (IsErr outcome × IsGivenUp (state S.Store self.old.conn)
+            (state S.Store self.new.conn)) }
         ensures cause { IfErr result IsS1OrS2 }
     {
         match outcome {
@@ -202,13 +263,15 @@ impl<S: Alter> Store<S> {
         }
     }
 
-    // Whether the database has the store's schema. A store that was opened has it as long as the connection is open;
-    // the test is what a proof learns it from. Else what is on is given up.
+    // Whether the database has the store's schema. A store that was opened has it as long as the
+    // connection is open; the test is what a proof learns it from. Else what is on is given up.
     pub(crate) fn sound(&mut self) -> Result<(), SFault>
         ensures manifest { self.new.manifest ≡ self.old.manifest }
         ensures writes { self.new.writes ≡ self.old.writes }
-        ensures ok { OnOk result ((self.new ≡ self.old) × ((state S.Store self.old.conn).now.schema ≡ store_schema)) }
-        ensures err { OnErr result (IsGivenUp (state S.Store self.old.conn) (state S.Store self.new.conn)) }
+        ensures ok { OnOk result ((self.new ≡ self.old)
+            × ((state S.Store self.old.conn).now.schema ≡ store_schema)) }
+        ensures err { OnErr result
+            (IsGivenUp (state S.Store self.old.conn) (state S.Store self.new.conn)) }
         ensures cause { IfErr result (λ fault. fault ≡ SFault.S1) }
     {
         if is_store_schema(self.conn.schema()) {
@@ -221,7 +284,9 @@ impl<S: Alter> Store<S> {
     // Whether a transaction is on: after a failure it is given up, and a change goes on no more.
     pub(crate) fn goes_on(&self) -> Result<(), SFault>
         ensures on { OnOk result (self.now.conn.in_transaction ≡ true) }
-        ensures off { OnErr result ((self.now.conn.in_transaction ≡ false) × (IsTrue (state S.Store self.now.conn).is_open → (state S.Store self.now.conn).now ≡ (state S.Store self.now.conn).committed)) }
+        ensures off { OnErr result ((self.now.conn.in_transaction ≡ false)
+            × (IsTrue (state S.Store self.now.conn).is_open
+            → (state S.Store self.now.conn).now ≡ (state S.Store self.now.conn).committed)) }
         ensures cause { IfErr result (λ fault. fault ≡ SFault.S1) }
     {
         if self.conn.is_autocommit() {

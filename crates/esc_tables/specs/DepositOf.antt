@@ -1,5 +1,21 @@
--- What it is for a body to be a deposit, and which refusal stands (RFC 8909, section 2, and this project's profile).
-use Rattle.std.specs.Prelude.{◌≡◌, ◌⊎◌, ◌≤◌, ◌<◌, ℕ, List, ◌∷◌, length, map, true, false, Ok, Err, T}
+-- What it is for a body to be a deposit, and which refusal stands (RFC 8909, section 2, and this
+-- project's profile).
+use Rattle.std.specs.Prelude.{
+  ◌≡◌,
+  ◌⊎◌,
+  ◌≤◌,
+  ◌<◌,
+  ℕ,
+  List,
+  ◌∷◌,
+  length,
+  map,
+  true,
+  false,
+  Ok,
+  Err,
+  T,
+}
 use Rattle.std.specs.List.{list_all}
 use Rattle.std.specs.FinMap.Entries.{find, is_sorted}
 use Rattle.esc_bundle.specs.Bundle.{Named, IsBundle}
@@ -22,7 +38,8 @@ pub record Makes (files : List Named) (e : EnvelopeValue) (d : DepositValue) : T
   pub counts : d.counts ≡ e.counts
   pub deletes : d.deletes ≡ map key_of (rows_in files e.deletes)
   pub sorted : T (is_sorted key_cmp d.contents)
-  pub objects : (k : KeyName) → find key_cmp k d.contents ≡ object_of (parent_rows files e) (child_rows files e) k
+  pub objects : (k : KeyName) → find key_cmp k d.contents
+      ≡ object_of (parent_rows files e) (child_rows files e) k
   pub orphans : d.orphans ≡ orphans_of (parent_rows files e) (child_rows files e)
 
 -- the body is a bundle of an envelope and of files with rows, and these make this deposit
@@ -52,8 +69,11 @@ IsLeast files e n = Stands files e n × ((m : ℕ) → Stands files e m → n �
 
 -- the envelope of this bundle is refused, or it is one and its files are
 abbrev pub IsRefusedAt : Named → List Named → ℕ → Type 0
-IsRefusedAt first files n = (envelope_of first.bytes ≡ Err n) ⊎ ((e : EnvelopeValue) × (envelope_of first.bytes ≡ Ok e) × IsLeast files e n)
+IsRefusedAt first files n = (envelope_of first.bytes ≡ Err n)
+    ⊎ ((e : EnvelopeValue) × (envelope_of first.bytes ≡ Ok e) × IsLeast files e n)
 
 -- the body is refused with this number: it is no bundle, or one that is refused
 abbrev pub IsRefused : List ℕ → ℕ → Type 0
-IsRefused body n = IsFault body n ⊎ ((first : Named) × (files : List Named) × IsBundle body (first ∷ files) × IsRefusedAt first files n)
+IsRefused body n = IsFault body n
+    ⊎ ((first : Named) × (files : List Named) × IsBundle body (first ∷ files)
+    × IsRefusedAt first files n)

@@ -1,12 +1,31 @@
 -- Laws of keys: their order is total, and keys that tie are one key. Each is for whoever needs it.
 use Rattle.std.proofs.Common.{◌≡◌, ◌∙◌, ℕ, zero, suc, true, List, refl, sym, ap}
 use Rattle.std.specs.Ordering.{nat_cmp}
-use Rattle.std.specs.Cmp.{IsTotalOrder, IsEquivalence, nat_cmp_total, eq_by_cmp_equiv, on_total, Equal-is}
+use Rattle.std.specs.Cmp.{
+  IsTotalOrder,
+  IsEquivalence,
+  nat_cmp_total,
+  eq_by_cmp_equiv,
+  on_total,
+  Equal-is,
+}
 use Rattle.std.specs.Cmp.Lexicographic.{slice_cmp, nat_list_cmp_total}
 use Rattle.std.proofs.lemmas.Cmp.{then_total}
-use Rattle.std.proofs.lemmas.Map.Lookups.{CmpEqualImpliesEq, exact_unsigned, exact_bytes, exact_pairs}
+use Rattle.std.proofs.lemmas.Map.Lookups.{
+  CmpEqualImpliesEq,
+  exact_unsigned,
+  exact_bytes,
+  exact_pairs,
+}
 use Rattle.esc_envelope.specs.declared.kind.Kind.{Kind}
-use Rattle.esc_envelope.specs.declared.kind.Kind.TheVariants.{Registrar, Contact, Host, Domain, Idn, Nndn}
+use Rattle.esc_envelope.specs.declared.kind.Kind.TheVariants.{
+  Registrar,
+  Contact,
+  Host,
+  Domain,
+  Idn,
+  Nndn,
+}
 use Rattle.esc_envelope.specs.Kinds.{kind_rank}
 use Rattle.esc_tables.specs.KeyName.{KeyName, key_cmp, key_eq}
 
@@ -33,7 +52,8 @@ one_kind a b e = sym (kind_back a) ∙ ap kind_at e ∙ kind_back b
 
 -- the order of keys is total
 pub keys_total : IsTotalOrder key_cmp
-keys_total = then_total (on_total (λ k. kind_rank k.kind) nat_cmp_total) (on_total (λ k. k.text) nat_list_cmp_total)
+keys_total = then_total (on_total (λ k. kind_rank k.kind) nat_cmp_total)
+    (on_total (λ k. k.text) nat_list_cmp_total)
 
 -- the test of keys is an equivalence
 pub keys_alike : IsEquivalence key_eq
@@ -42,7 +62,8 @@ keys_alike = eq_by_cmp_equiv keys_total
 -- keys that tie are one key
 pub keys_exact : CmpEqualImpliesEq key_cmp
 keys_exact a b h =
-    let parts = exact_pairs nat_cmp (slice_cmp nat_cmp) exact_unsigned exact_bytes (kind_rank a.kind, a.text) (kind_rank b.kind, b.text) h in
+    let parts = exact_pairs nat_cmp (slice_cmp nat_cmp) exact_unsigned exact_bytes
+    (kind_rank a.kind, a.text) (kind_rank b.kind, b.text) h in
     let kinds : a.kind ≡ b.kind = one_kind a.kind b.kind (ap (λ (p : ℕ × List ℕ). p.0) parts) in
     let texts : a.text ≡ b.text = ap (λ (p : ℕ × List ℕ). p.1) parts in
     λ i. record { kind = kinds i; text = texts i }

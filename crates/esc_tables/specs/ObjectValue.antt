@@ -1,7 +1,8 @@
 -- Rows and objects as values; texts are their bytes.
 use Rattle.std.specs.Prelude.{ℕ, List}
 
--- what the rows of a table have in common: its name, and the names of its fields in the declared order
+-- what the rows of a table have in common: its name, and the names of its fields in the declared
+-- order
 pub record HeadingValue : Type 0 where
   pub name : List ℕ
   pub fields : List (List ℕ)

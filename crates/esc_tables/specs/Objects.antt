@@ -1,5 +1,19 @@
 -- Objects, as selections from lists of rows with their keys.
-use Rattle.std.specs.Prelude.{ℕ, List, [], ◌++◌, ◌∷◌, map, filter, Bool, not, Option, None, option_map, count_by}
+use Rattle.std.specs.Prelude.{
+  ℕ,
+  List,
+  [],
+  ◌++◌,
+  ◌∷◌,
+  map,
+  filter,
+  Bool,
+  not,
+  Option,
+  None,
+  option_map,
+  count_by,
+}
 use Rattle.std.specs.List.{list_any, last_or, fold}
 use Rattle.std.specs.FinMap.Entries.{put}
 use Rattle.esc_tables.specs.KeyName.{KeyName, key_cmp, key_eq}
@@ -17,8 +31,10 @@ abbrev pub with_children : List RowValue → RowValue → ObjectValue
 with_children children parent = record { parent = parent; children = children }
 
 -- the object of a key, if a parent row has it: the last such row with all child rows of the key
-abbrev pub object_of : List (KeyName × RowValue) → List (KeyName × RowValue) → KeyName → Option ObjectValue
-object_of parents children k = option_map (with_children (at_key k children)) (last_or None (at_key k parents))
+abbrev pub object_of : List (KeyName × RowValue) → List (KeyName × RowValue) → KeyName
+    → Option ObjectValue
+object_of parents children k = option_map (with_children (at_key k children))
+    (last_or None (at_key k parents))
 
 -- how many child rows have no parent row
 abbrev pub orphans_of : List (KeyName × RowValue) → List (KeyName × RowValue) → ℕ
@@ -29,8 +45,10 @@ abbrev pub in_order : {X : Type 0} → List (KeyName × X) → List (KeyName × 
 in_order pairs = fold (λ entries p. put key_cmp p.0 p.1 entries) [] pairs
 
 -- each key of a parent row, in order, with its object
-unfoldable pub objects_of : List (KeyName × RowValue) → List (KeyName × RowValue) → List (KeyName × ObjectValue)
-objects_of parents children = map (λ e. (e.0, with_children (at_key e.0 children) e.1)) (in_order parents)
+unfoldable pub objects_of : List (KeyName × RowValue) → List (KeyName × RowValue)
+    → List (KeyName × ObjectValue)
+objects_of parents children = map (λ e. (e.0, with_children (at_key e.0 children) e.1))
+    (in_order parents)
 
 -- an object of a parent row alone, with its key
 abbrev pub alone : KeyName × RowValue → KeyName × ObjectValue

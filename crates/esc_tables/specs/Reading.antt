@@ -1,5 +1,21 @@
 -- The deposit of a bundle, or its least fault (RFC 8909, section 2, and this project's profile).
-use Rattle.std.specs.Prelude.{ℕ, List, [], ◌∷◌, ◌++◌, length, map, filter, Bool, not, nat_le, if◌then◌else◌, Result, Ok, Err}
+use Rattle.std.specs.Prelude.{
+  ℕ,
+  List,
+  [],
+  ◌∷◌,
+  ◌++◌,
+  length,
+  map,
+  filter,
+  Bool,
+  not,
+  nat_le,
+  if◌then◌else◌,
+  Result,
+  Ok,
+  Err,
+}
 use Rattle.std.specs.List.{list_all, fold}
 use Rattle.std.specs.Cmp.Lexicographic.{slice_cmp}
 use Rattle.std.specs.Ordering.{nat_cmp, is_lt}
@@ -10,7 +26,15 @@ use Rattle.esc_envelope.specs.Envelope.{envelope_of}
 use Rattle.esc_tables.specs.DepositValue.{DepositValue}
 use Rattle.esc_tables.specs.KeyName.{KeyName}
 use Rattle.esc_tables.specs.ObjectValue.{RowValue}
-use Rattle.esc_tables.specs.TableRow.{TableRow, are_filed, rows_in, is_whole, has_key, key_of, keyed}
+use Rattle.esc_tables.specs.TableRow.{
+  TableRow,
+  are_filed,
+  rows_in,
+  is_whole,
+  has_key,
+  key_of,
+  keyed,
+}
 use Rattle.esc_tables.specs.Objects.{objects_of, orphans_of}
 
 infixl 10 ◌>>=◌
@@ -48,7 +72,8 @@ by_name tables = fold placed [] tables
 abbrev pub parent_rows : List Named → EnvelopeValue → List (KeyName × RowValue)
 parent_rows files e = map keyed (rows_in files (filter (λ t. t.parent) e.contents))
 
--- the rows that are parts of objects, with the keys of these: by table name, and then as in the file
+-- the rows that are parts of objects, with the keys of these: by table name, and then as in the
+-- file
 abbrev pub child_rows : List Named → EnvelopeValue → List (KeyName × RowValue)
 child_rows files e = map keyed (rows_in files (by_name (filter (λ t. not t.parent) e.contents)))
 
@@ -62,14 +87,16 @@ deposit_of files e = record {
   orphans = orphans_of (parent_rows files e) (child_rows files e);
 }
 
--- 9 is a row of another length or a field that is no UTF-8, 10 a key that is empty or too long, 11 too many rows
+-- 9 is a row of another length or a field that is no UTF-8, 10 a key that is empty or too long, 11
+-- too many rows
 unfoldable pub check_rows : List TableRow → Result (Unit {0}) ℕ
 check_rows rows = do
   whole ← check (list_all is_whole rows) 9
   named ← check (list_all has_key rows) 10
   check (nat_le (length rows) most_rows) 11
 
--- 8 is a declared file that is no section behind the envelope, or such a section that is not declared once
+-- 8 is a declared file that is no section behind the envelope, or such a section that is not
+-- declared once
 unfoldable pub deposit_in : List Named → EnvelopeValue → Result DepositValue ℕ
 deposit_in files e = do
   filed ← check (are_filed files (tables_of e)) 8
@@ -90,6 +117,7 @@ unfoldable pub sections_envelope : List Named → Result EnvelopeValue ℕ
 sections_envelope [] = Err 5
 sections_envelope (first ∷ files) = envelope_of first.bytes
 
--- the envelope of a body, whatever its files have, or the number of the refusal: 1 to 4 of the frame, 5 to 7 of the envelope
+-- the envelope of a body, whatever its files have, or the number of the refusal: 1 to 4 of the
+-- frame, 5 to 7 of the envelope
 unfoldable pub bundled_envelope : List ℕ → Result EnvelopeValue ℕ
 bundled_envelope body = frame body >>= sections_envelope

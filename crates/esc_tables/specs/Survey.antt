@@ -6,7 +6,10 @@ use Rattle.esc_tables.specs.Reading.{most_rows}
 
 -- what was seen when one more row is
 abbrev pub noted : Survey → TableRow → Survey
-noted s r = record { has_keys = s.has_keys && has_key r; rows = if nat_le s.rows most_rows then s.rows + 1 else s.rows }
+noted s r = record {
+  has_keys = s.has_keys && has_key r;
+  rows = if nat_le s.rows most_rows then s.rows + 1 else s.rows;
+}
 
 -- what is seen of no rows
 abbrev pub unseen : Survey

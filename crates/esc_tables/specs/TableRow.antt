@@ -1,5 +1,21 @@
--- The rows of declared tables, and what each row has to be (this project's profile of RFC 9022's CSV model).
-use Rattle.std.specs.Prelude.{ℕ, List, [], length, map, Bool, true, false, ◌==◌, ◌&&◌, nat_lt, nat_le, if◌then◌else◌, count_by}
+-- The rows of declared tables, and what each row has to be (this project's profile of RFC 9022's
+-- CSV model).
+use Rattle.std.specs.Prelude.{
+  ℕ,
+  List,
+  [],
+  length,
+  map,
+  Bool,
+  true,
+  false,
+  ◌==◌,
+  ◌&&◌,
+  nat_lt,
+  nat_le,
+  if◌then◌else◌,
+  count_by,
+}
 use Rattle.std.specs.Option.{option_map_or}
 use Rattle.std.specs.List.{flat_map, find, list_all, list_any, zip}
 use Rattle.std.specs.Str.{bytes_eq, is_utf8}
@@ -7,7 +23,14 @@ use Rattle.std.specs.Char.{to_ascii_lowercase}
 use Rattle.esc_bundle.specs.Bundle.{Named}
 use Rattle.esc_csv.specs.Records.{records_of, field}
 use Rattle.esc_envelope.specs.declared.kind.Kind.{Kind}
-use Rattle.esc_envelope.specs.declared.kind.Kind.TheVariants.{Registrar, Contact, Host, Domain, Idn, Nndn}
+use Rattle.esc_envelope.specs.declared.kind.Kind.TheVariants.{
+  Registrar,
+  Contact,
+  Host,
+  Domain,
+  Idn,
+  Nndn,
+}
 use Rattle.esc_envelope.specs.EnvelopeValue.{TableValue}
 use Rattle.esc_tables.specs.KeyName.{KeyName}
 use Rattle.esc_tables.specs.ObjectValue.{HeadingValue, RowValue}
@@ -67,7 +90,10 @@ is_dns Nndn = false
 
 -- the key of a kind that a text names: of a host or a domain in lower case
 abbrev pub key_named : Kind → List ℕ → KeyName
-key_named kind text = record { kind = kind; text = if is_dns kind then map to_ascii_lowercase text else text }
+key_named kind text = record {
+  kind = kind;
+  text = if is_dns kind then map to_ascii_lowercase text else text;
+}
 
 abbrev pub key_of : TableRow → KeyName
 key_of r = key_named r.table.kind (key_field r)

@@ -24,5 +24,11 @@ impl Model for Deposit {
 
     ghost Value = { DepositValue };
 
-    ghost view = { λ d. record { header = d.header; counts = d.counts.entries; deletes = d.deletes.items; contents = d.contents.entries; orphans = d.orphans } };
+    ghost view = { λ d. record {
+      header = d.header;
+      counts = d.counts.entries;
+      deletes = d.deletes.items;
+      contents = d.contents.entries;
+      orphans = d.orphans;
+    } };
 }

@@ -65,7 +65,8 @@ fn is_declared(contents: &[Table], deletes: &[Table], file: &Section<'_>) -> boo
 }
 
 fn are_declared(contents: &[Table], deletes: &[Table], files: &[Section<'_>]) -> bool
-    ensures { result ≡ list_all (λ s. is_declared (contents.now ++ deletes.now) (view s)) files.now }
+    ensures { result ≡ list_all (λ s. is_declared (contents.now ++ deletes.now) (view s))
+        files.now }
 {
     files
         .iter()

@@ -19,7 +19,8 @@ pub struct Gathered {
 }
 
 fn put(objects: &mut BTreeMap<Key, Object>, key: Key, object: Object) -> Result<(), NoMemory>
-    ensures entries { OnOk result (objects.new.entries ≡ insert_entry key_cmp objects.old.entries key object) }
+    ensures entries { OnOk result
+        (objects.new.entries ≡ insert_entry key_cmp objects.old.entries key object) }
     ensures ordered { OnOk result (IsOrdered key_cmp objects.new) }
 {
     match objects.insert(key, object) {
@@ -56,7 +57,8 @@ fn push_child(object: &mut Object, row: Row) -> Result<(), NoMemory>
 // Adds a child row to the object of its key, and answers whether there is one.
 fn add_child(objects: &mut BTreeMap<Key, Object>, key: &Key, row: Row) -> Result<bool, NoMemory>
     ensures added { OnOk result ((k : KeyName) → get key_cmp objects.new k
-        ≡ (if key_eq k key.now then option_map (with_child row) (get key_cmp objects.old k) else get key_cmp objects.old k)) }
+        ≡ (if key_eq k key.now then option_map (with_child row)
+        (get key_cmp objects.old k) else get key_cmp objects.old k)) }
     ensures ordered { OnOk result (IsOrdered key_cmp objects.new) }
     ensures found { IfOk result (λ found. found ≡ is_some (get key_cmp objects.old key.now)) }
 {
@@ -75,7 +77,8 @@ pub fn gather(
     parents: Vec<(Key, Row)>,
     children: Vec<(Key, Row)>,
 ) -> Result<Gathered, NoMemory>
-    ensures objects { IfOk result (λ g. g.objects.entries ≡ objects_of parents.items children.items) }
+    ensures objects { IfOk result (λ g. g.objects.entries
+        ≡ objects_of parents.items children.items) }
     ensures orphans { IfOk result (λ g. g.orphans ≡ orphans_of parents.items children.items) }
 {
     let mut objects = with_parents(alloc, parents)?;

@@ -1,6 +1,7 @@
 //! What the definitions say together.
 //!
-//! The functions here do nothing. Each stands for the law that its contract says: a caller who needs the law calls it.
+//! The functions here do nothing. Each stands for the law that its contract says: a caller who
+//! needs the law calls it.
 
 ghost use Rattle.std.specs.Prelude.{◌≡◌, ◌↔◌, ◌+◌, ◌≤◌, List, ℕ, All, length, Ok, Err};
 ghost use Rattle.std.specs.List.Sorted.{IsPermutation, IsSortedBy};
@@ -14,10 +15,11 @@ use esc_bundle::{each_text_has_one_reading, frame_is_exact};
 use esc_csv::fields_are_no_longer_than_the_text;
 use esc_envelope::{declared_tables_have_their_forms, envelope_refusals_are_5_to_7};
 
-/// The function `reading` of a body's bytes gives exactly what the relations say: the one deposit that the body is, or the
-/// least refusal that stands.
+/// The function `reading` of a body's bytes gives exactly what the relations say: the one deposit
+/// that the body is, or the least refusal that stands.
 pub fn reading_is_exact()
-    ensures deposit { (body : List ℕ) (d : DepositValue) → (reading body ≡ Ok d) ↔ IsDepositOf body d }
+    ensures deposit { (body : List ℕ) (d : DepositValue)
+        → (reading body ≡ Ok d) ↔ IsDepositOf body d }
     ensures refusal { (body : List ℕ) (n : ℕ) → (reading body ≡ Err n) ↔ IsRefused body n }
 {
     frame_is_exact();
@@ -34,8 +36,8 @@ pub fn refusals_are_1_to_11()
     envelope_refusals_are_5_to_7();
 }
 
-/// Each object of a deposit that is read is small: names of at most 64 bytes, at most 64 cells in a row, no text longer than a
-/// bundle, and no more child rows than a bundle has rows.
+/// Each object of a deposit that is read is small: names of at most 64 bytes, at most 64 cells in a
+/// row, no text longer than a bundle, and no more child rows than a bundle has rows.
 pub fn read_objects_are_small()
     ensures { (body : List ℕ) (d : DepositValue) → reading body ≡ Ok d
         → All (λ e. IsSmallObject e.1) d.contents }
@@ -45,12 +47,15 @@ pub fn read_objects_are_small()
     declared_tables_have_their_forms();
 }
 
-/// A deposit that is read has at most 100,000 deletes and objects together: no more than its bundle may have rows.
+/// A deposit that is read has at most 100,000 deletes and objects together: no more than its bundle
+/// may have rows.
 pub fn read_deposits_are_small()
-    ensures { (body : List ℕ) (d : DepositValue) → reading body ≡ Ok d → length d.deletes + length d.contents ≤ 100_000 }
+    ensures { (body : List ℕ) (d : DepositValue) → reading body ≡ Ok d
+        → length d.deletes + length d.contents ≤ 100_000 }
 {}
 
-/// Tables in the order of their names are the same tables, and none comes before one that stands earlier.
+/// Tables in the order of their names are the same tables, and none comes before one that stands
+/// earlier.
 pub fn tables_are_in_order()
     ensures same { (tables : List TableValue) → IsPermutation tables (by_name tables) }
     ensures rising { (tables : List TableValue) → IsSortedBy is_before (by_name tables) }

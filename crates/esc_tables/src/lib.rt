@@ -1,23 +1,26 @@
 //! From the bytes of a bundle to the deposit that it is.
 //!
-//! A bundle (`esc_bundle`) is an envelope and files. The envelope (`esc_envelope`) declares tables, each with a kind of objects,
-//! its fields, one of them the key, and the file that has its rows as CSV. This crate makes the objects of a registry from them.
+//! A bundle (`esc_bundle`) is an envelope and files. The envelope (`esc_envelope`) declares tables,
+//! each with a kind of objects, its fields, one of them the key, and the file that has its rows as
+//! CSV. This crate makes the objects of a registry from them.
 //!
 //! # In and out
 //!
 //! `read_deposit` takes the bytes of a body and returns
 //!
-//! - the `Deposit`: header and counts of the envelope; the keys of the delete rows in the order of declarations and rows; a map
-//!   from keys to objects, where an object is the last parent row of its key with all child rows of that kind and key, by table
-//!   name in byte order and then as in the file; and the number of orphans, the child rows that have no parent row;
-//! - or the least refusal of the whole bundle: U1 to U4 of its frame, U5 to U7 of its envelope, and then
-//!   U8: a declared file is no section behind the envelope, or such a section is not declared exactly once;
-//!   U9: a row has another number of fields than declared, or a field that is no UTF-8;
-//!   U10: a key is empty or longer than 255 bytes;
+//! - the `Deposit`: header and counts of the envelope; the keys of the delete rows in the order of
+//! declarations and rows; a map   from keys to objects, where an object is the last parent row of
+//! its key with all child rows of that kind and key, by table   name in byte order and then as in
+//! the file; and the number of orphans, the child rows that have no parent row;
+//! - or the least refusal of the whole bundle: U1 to U4 of its frame, U5 to U7 of its envelope, and
+//! then   U8: a declared file is no section behind the envelope, or such a section is not declared
+//! exactly once;   U9: a row has another number of fields than declared, or a field that is no
+//! UTF-8;   U10: a key is empty or longer than 255 bytes;
 //!   U11: there are more than 100,000 rows;
 //! - or `NoMemory`, where memory is refused.
 //!
-//! `read_bundled_envelope` takes the same bytes and returns the envelope alone, or the least of U1 to U7.
+//! `read_bundled_envelope` takes the same bytes and returns the envelope alone, or the least of U1
+//! to U7.
 //!
 //! ```text
 //! let deposit = read_deposit(alloc, body)?;
@@ -26,28 +29,32 @@
 //! }
 //! ```
 //!
-//! Keys of hosts and domains are the field's text with ASCII letters lowered (names of the DNS have no case), all others as they
-//! are. Cells keep the text of the file. CSV is as `esc_csv` reads it, without a heading row: empty lines are no rows, and
-//! a byte order mark at the start of a file is dropped.
+//! Keys of hosts and domains are the field's text with ASCII letters lowered (names of the DNS have
+//! no case), all others as they are. Cells keep the text of the file. CSV is as `esc_csv` reads it,
+//! without a heading row: empty lines are no rows, and a byte order mark at the start of a file is
+//! dropped.
 //!
 //! # What the contracts mean
 //!
-//! `read_deposit` returns exactly what the definition `reading` of `specs/Reading.antt` gives. That one selects from lists of rows;
-//! the code builds a map. `read_bundled_envelope` returns exactly what `bundled_envelope` gives; of a deposit, its header and counts.
-//! Both say the range of their refusals' numbers. A `Row` has as many texts as its heading has fields: no call makes another.
+//! `read_deposit` returns exactly what the definition `reading` of `specs/Reading.antt` gives. That
+//! one selects from lists of rows; the code builds a map. `read_bundled_envelope` returns exactly
+//! what `bundled_envelope` gives; of a deposit, its header and counts. Both say the range of their
+//! refusals' numbers. A `Row` has as many texts as its heading has fields: no call makes another.
 //!
-//! The laws: `reading_is_exact` says that `reading` is what the relations of `specs/DepositOf.antt` say: which body is
-//! which deposit, and which refusal is the least. `refusals_are_1_to_11` says the range of the numbers. `read_deposits_are_small` says
-//! that a deposit has no more deletes and objects than a bundle may have rows, and `read_objects_are_small` how large each object can
-//! be. `tables_are_in_order` says that child tables are put in the order of their names. `specs/KeyLaws.antt` has the laws of keys: their
-//! order is total, and keys that tie are one key.
+//! The laws: `reading_is_exact` says that `reading` is what the relations of `specs/DepositOf.antt`
+//! say: which body is which deposit, and which refusal is the least. `refusals_are_1_to_11` says
+//! the range of the numbers. `read_deposits_are_small` says that a deposit has no more deletes and
+//! objects than a bundle may have rows, and `read_objects_are_small` how large each object can be.
+//! `tables_are_in_order` says that child tables are put in the order of their names.
+//! `specs/KeyLaws.antt` has the laws of keys: their order is total, and keys that tie are one key.
 //!
 //! # Cost
 //!
-//! Two passes over the text: the first looks at every row and keeps none, the second copies each row's texts once, in one piece; the
-//! table's name and its fields' names are kept once for all its rows. Objects are found by a map, so the time is the number of rows
-//! times its logarithm. Nothing passes over all rows for one object or one table.
-//! For the envelope alone no row is looked at: the frame is passed over from section to section.
+//! Two passes over the text: the first looks at every row and keeps none, the second copies each
+//! row's texts once, in one piece; the table's name and its fields' names are kept once for all its
+//! rows. Objects are found by a map, so the time is the number of rows times its logarithm. Nothing
+//! passes over all rows for one object or one table. For the envelope alone no row is looked at:
+//! the frame is passed over from section to section.
 #![tactic(auto)]
 
 mod deposit;

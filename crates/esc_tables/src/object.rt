@@ -51,7 +51,8 @@ fn record_of(alloc: Global, texts: &[String]) -> Result<StringRecord, NoMemory>
 }
 
 fn shared(alloc: Global, name: &str, fields: StringRecord) -> Result<Rc<Heading>, NoMemory>
-    ensures { IfOk result (λ heading. heading.value ≡ record { name = name.now; fields = fields_of fields }) }
+    ensures { IfOk result (λ heading. heading.value
+        ≡ record { name = name.now; fields = fields_of fields }) }
 {
     let name = String::from_str(alloc, name)?;
     match Rc::new(alloc, Heading { name, fields }) {
@@ -60,8 +61,9 @@ fn shared(alloc: Global, name: &str, fields: StringRecord) -> Result<Rc<Heading>
     }
 }
 
-/// A row of a table: its cells in the declared order, each with its field's name. It has as many texts as its heading has fields.
-/// Rows that are read of one table share its heading, and a row's texts stand one behind the other in memory.
+/// A row of a table: its cells in the declared order, each with its field's name. It has as many
+/// texts as its heading has fields. Rows that are read of one table share its heading, and a row's
+/// texts stand one behind the other in memory.
 #[derive(Debug, Drop)]
 pub struct Row {
     heading: Rc<Heading>,
@@ -76,26 +78,34 @@ impl Model for Row {
 
     ghost Value = { RowValue };
 
-    ghost view = { λ r. record { table = r.heading.value.name; cells = zip r.heading.value.fields (fields_of r.texts) } };
+    ghost view = { λ r. record {
+      table = r.heading.value.name;
+      cells = zip r.heading.value.fields (fields_of r.texts);
+    } };
 
     ghost invariant = { λ r. length (fields_of r.texts) ≡ length r.heading.value.fields };
 }
 
-/// How many bytes most fields' names and texts have at most, so that a row's memory is mostly taken at once.
+/// How many bytes most fields' names and texts have at most, so that a row's memory is mostly taken
+/// at once.
 const USUAL_LENGTH: usize = 16;
 
 impl Row {
     /// The row of a heading and of as many texts as it has fields.
     pub(crate) fn under(heading: Rc<Heading>, texts: StringRecord) -> Row
         requires { length (fields_of texts) ≡ length heading.value.fields }
-        ensures { result ≡ record { table = heading.value.name; cells = zip heading.value.fields (fields_of texts) } }
+        ensures { result ≡ record {
+          table = heading.value.name;
+          cells = zip heading.value.fields (fields_of texts);
+        } }
     {
         Row { heading, texts }
     }
 
     /// A row of a table with these cells, each a field's name and its text.
     pub fn from_cells(alloc: Global, table: &str, cells: &[(&str, &str)]) -> Result<Row, NoMemory>
-        ensures { IfOk result (λ row. row ≡ record { table = table.now; cells = map (λ c. (c.0.now, c.1.now)) cells.now }) }
+        ensures { IfOk result (λ row. row
+            ≡ record { table = table.now; cells = map (λ c. (c.0.now, c.1.now)) cells.now }) }
     {
         let room = cells.len().saturating_mul(USUAL_LENGTH);
         let mut fields = StringRecord::with_capacity(alloc, room, cells.len())?;
@@ -142,7 +152,8 @@ impl Row {
     }
 }
 
-/// An object: a parent row with the child rows of its key (this project's profile of RFC 9022's CSV model).
+/// An object: a parent row with the child rows of its key (this project's profile of RFC 9022's CSV
+/// model).
 #[derive(Debug, Drop)]
 pub struct Object {
     pub parent: Row,

@@ -25,7 +25,8 @@ fn first_after(tables: &[&Table], name: &str) -> Option<usize>
 
 /// The child tables among these, in the byte order of their names. There are at most 64.
 pub fn child_tables<'a>(alloc: Global, tables: &'a [Table]) -> Result<Vec<&'a Table>, NoMemory>
-    ensures { IfOk result (λ v. map (λ t. t.now) v.items ≡ by_name (filter (λ t. not t.parent) tables.now)) }
+    ensures { IfOk result (λ v. map (λ t. t.now) v.items
+        ≡ by_name (filter (λ t. not t.parent) tables.now)) }
 {
     let mut sorted: Vec<&'a Table> = Vec::new(alloc);
     for table in tables {

@@ -5,7 +5,13 @@ ghost use Rattle.std.specs.List.{list_all};
 ghost use Rattle.esc_bundle.specs.Bundle.{views};
 ghost use Rattle.esc_tables.specs.TableRow.{rows_in, is_whole};
 ghost use Rattle.esc_tables.specs.DepositValue.{DepositValue};
-ghost use Rattle.esc_tables.specs.Reading.{tables_of, deposit_of, deposit_in, reading, bundled_envelope};
+ghost use Rattle.esc_tables.specs.Reading.{
+  tables_of,
+  deposit_of,
+  deposit_in,
+  reading,
+  bundled_envelope,
+};
 
 use crate::deposit::Deposit;
 use crate::files::are_filed;
@@ -50,7 +56,8 @@ fn make_deposit(
 
 fn read_files(alloc: Global, files: &[Section<'_>], envelope: Envelope) -> Result<Deposit, Fault>
     ensures read { IfOk result (λ d. deposit_in (views files.now) envelope ≡ Ok d) }
-    ensures refused { IfErr result (λ e. (n : ℕ) → e ≡ Fault.Refused n → deposit_in (views files.now) envelope ≡ Err n) }
+    ensures refused { IfErr result (λ e. (n : ℕ) → e ≡ Fault.Refused n
+        → deposit_in (views files.now) envelope ≡ Err n) }
 {
     let contents = envelope.contents.as_slice();
     let deletes = envelope.deletes.as_slice();
@@ -83,8 +90,9 @@ fn read_body(alloc: Global, body: &[u8]) -> Result<Deposit, Fault>
     read_files(alloc, files, envelope)
 }
 
-/// The envelope of a bundle, or the least refusal from U1 to U7. Of the files the frame alone is read, whatever their rows
-/// have; of a body that is a deposit, header and counts are the deposit's.
+/// The envelope of a bundle, or the least refusal from U1 to U7. Of the files the frame alone is
+/// read, whatever their rows have; of a body that is a deposit, header and counts are the
+/// deposit's.
 pub fn read_bundled_envelope(alloc: Global, body: &[u8]) -> Result<Envelope, Fault>
     ensures read { IfOk result (λ e. bundled_envelope body.now ≡ Ok e) }
     ensures refused { IfErr result (λ e. (n : ℕ) → e ≡ Fault.Refused n

@@ -1,7 +1,16 @@
 //! One row of a declared table.
 
 ghost use Rattle.std.specs.Prelude.{◌≡◌, true, IfOk};
-ghost use Rattle.esc_tables.specs.TableRow.{in_table, is_whole, has_key, is_dns, key_named, key_of, heading_of, keyed};
+ghost use Rattle.esc_tables.specs.TableRow.{
+  in_table,
+  is_whole,
+  has_key,
+  is_dns,
+  key_named,
+  key_of,
+  heading_of,
+  keyed,
+};
 
 use crate::key::Key;
 use crate::object::{Heading, Row};

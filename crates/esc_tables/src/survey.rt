@@ -54,9 +54,12 @@ fn survey_table(
     table: &Table,
     mut survey: Survey,
 ) -> Result<Survey, Fault>
-    ensures seen { IfOk result (λ s. s ≡ fold noted survey (table_rows (views files.now) table.now)) }
-    ensures whole { OnOk result (list_all is_whole (table_rows (views files.now) table.now) ≡ true) }
-    ensures refused { IfErr result (λ e. (n : ℕ) → e ≡ Fault.Refused n → (n ≡ 9) × (list_all is_whole (table_rows (views files.now) table.now) ≡ false)) }
+    ensures seen { IfOk result
+        (λ s. s ≡ fold noted survey (table_rows (views files.now) table.now)) }
+    ensures whole { OnOk result (list_all is_whole (table_rows (views files.now) table.now)
+        ≡ true) }
+    ensures refused { IfErr result (λ e. (n : ℕ) → e ≡ Fault.Refused n
+        → (n ≡ 9) × (list_all is_whole (table_rows (views files.now) table.now) ≡ false)) }
 {
     let mut rows = Records::of(alloc, bytes_named(files, table.file.as_str()));
     let mut row = Record::new(alloc);
@@ -77,7 +80,8 @@ fn survey_tables(
 ) -> Result<Survey, Fault>
     ensures seen { IfOk result (λ s. s ≡ fold noted survey (rows_in (views files.now) tables.now)) }
     ensures whole { OnOk result (list_all is_whole (rows_in (views files.now) tables.now) ≡ true) }
-    ensures refused { IfErr result (λ e. (n : ℕ) → e ≡ Fault.Refused n → (n ≡ 9) × (list_all is_whole (rows_in (views files.now) tables.now) ≡ false)) }
+    ensures refused { IfErr result (λ e. (n : ℕ) → e ≡ Fault.Refused n
+        → (n ≡ 9) × (list_all is_whole (rows_in (views files.now) tables.now) ≡ false)) }
 {
     for table in tables {
         survey = survey_table(alloc, files, table, survey)?;
@@ -85,15 +89,18 @@ fn survey_tables(
     Ok(survey)
 }
 
-/// Whether all rows are whole and have keys, and are not too many; else the least fault that stands.
+/// Whether all rows are whole and have keys, and are not too many; else the least fault that
+/// stands.
 pub fn check_rows(
     alloc: Global,
     files: &[Section<'_>],
     contents: &[Table],
     deletes: &[Table],
 ) -> Result<(), Fault>
-    ensures passed { OnOk result (check_rows (rows_in (views files.now) (contents.now ++ deletes.now)) ≡ Ok tt) }
-    ensures refused { IfErr result (λ e. (n : ℕ) → e ≡ Fault.Refused n → check_rows (rows_in (views files.now) (contents.now ++ deletes.now)) ≡ Err n) }
+    ensures passed { OnOk result
+        (check_rows (rows_in (views files.now) (contents.now ++ deletes.now)) ≡ Ok tt) }
+    ensures refused { IfErr result (λ e. (n : ℕ) → e ≡ Fault.Refused n
+        → check_rows (rows_in (views files.now) (contents.now ++ deletes.now)) ≡ Err n) }
 {
     let unseen = Survey {
         has_keys: true,

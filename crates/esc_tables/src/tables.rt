@@ -23,7 +23,8 @@ fn read_table(
     found: &mut Vec<(Key, Row)>,
 ) -> Result<(), NoMemory>
     requires { list_all is_whole (table_rows (views files.now) table.now) ≡ true }
-    ensures { OnOk result (found.new.items ≡ found.old.items ++ map keyed (table_rows (views files.now) table.now)) }
+    ensures { OnOk result (found.new.items ≡ found.old.items
+        ++ map keyed (table_rows (views files.now) table.now)) }
 {
     let heading = Heading::of(alloc, table)?;
     let mut rows = Records::of(alloc, bytes_named(files, table.file.as_str()));
@@ -41,7 +42,8 @@ fn read_keys(
     found: &mut Vec<Key>,
 ) -> Result<(), NoMemory>
     requires { list_all is_whole (table_rows (views files.now) table.now) ≡ true }
-    ensures { OnOk result (found.new.items ≡ found.old.items ++ map key_of (table_rows (views files.now) table.now)) }
+    ensures { OnOk result (found.new.items ≡ found.old.items
+        ++ map key_of (table_rows (views files.now) table.now)) }
 {
     let mut rows = Records::of(alloc, bytes_named(files, table.file.as_str()));
     let mut row = Record::new(alloc);
@@ -58,7 +60,8 @@ pub fn read_parents(
     tables: &[Table],
 ) -> Result<Vec<(Key, Row)>, NoMemory>
     requires { All (λ t. list_all is_whole (table_rows (views files.now) t) ≡ true) tables.now }
-    ensures { IfOk result (λ v. v.items ≡ map keyed (rows_in (views files.now) (filter (λ t. t.parent) tables.now))) }
+    ensures { IfOk result (λ v. v.items
+        ≡ map keyed (rows_in (views files.now) (filter (λ t. t.parent) tables.now))) }
 {
     let mut found = Vec::new(alloc);
     for table in tables {
@@ -75,8 +78,10 @@ fn read_tables(
     files: &[Section<'_>],
     tables: &[&Table],
 ) -> Result<Vec<(Key, Row)>, NoMemory>
-    requires { All (λ t. list_all is_whole (table_rows (views files.now) t) ≡ true) (map (λ t. t.now) tables.now) }
-    ensures { IfOk result (λ v. v.items ≡ map keyed (rows_in (views files.now) (map (λ t. t.now) tables.now))) }
+    requires { All (λ t. list_all is_whole (table_rows (views files.now) t) ≡ true)
+        (map (λ t. t.now) tables.now) }
+    ensures { IfOk result (λ v. v.items
+        ≡ map keyed (rows_in (views files.now) (map (λ t. t.now) tables.now))) }
 {
     let mut found = Vec::new(alloc);
     for table in tables {
@@ -92,7 +97,8 @@ pub fn read_children(
     tables: &[Table],
 ) -> Result<Vec<(Key, Row)>, NoMemory>
     requires { All (λ t. list_all is_whole (table_rows (views files.now) t) ≡ true) tables.now }
-    ensures { IfOk result (λ v. v.items ≡ map keyed (rows_in (views files.now) (by_name (filter (λ t. not t.parent) tables.now)))) }
+    ensures { IfOk result (λ v. v.items
+        ≡ map keyed (rows_in (views files.now) (by_name (filter (λ t. not t.parent) tables.now)))) }
 {
     let sorted = child_tables(alloc, tables)?;
     read_tables(alloc, files, sorted.as_slice())

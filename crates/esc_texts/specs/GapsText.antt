@@ -10,13 +10,16 @@ use Rattle.esc_texts.specs.Words.{printed}
 
 -- the first line
 abbrev pub heading : Line
-heading = codes "watermark" ∷ codes "type" ∷ codes "used" ∷ codes "state" ∷ codes "blocker" ∷ codes "awaited" ∷ []
+heading = codes "watermark" ∷ codes "type" ∷ codes "used" ∷ codes "state" ∷ codes "blocker"
+    ∷ codes "awaited" ∷ []
 
 -- the line of a place; what there is none of is empty
 abbrev pub gap_line : GapLine → Line
 gap_line l =
-    printed l.place.watermark ∷ type_name l.place.kind ∷ or_empty (option_map decimal l.used) ∷ state_text l.state
-    ∷ or_empty (option_and_then blocker_text l.blocker) ∷ or_empty (option_map decimal l.awaited) ∷ []
+    printed l.place.watermark ∷ type_name l.place.kind ∷ or_empty (option_map decimal l.used)
+    ∷ state_text l.state
+    ∷ or_empty (option_and_then blocker_text l.blocker) ∷ or_empty (option_map decimal l.awaited)
+    ∷ []
 
 -- the lines of places
 abbrev pub gap_lines_text : List GapLine → List ℕ

@@ -7,7 +7,8 @@ use Rattle.esc_csv.specs.Lines.{Line, line_text, text_of}
 
 -- the first line
 abbrev pub heading : Line
-heading = codes "code" ∷ codes "kind" ∷ codes "key" ∷ codes "field" ∷ codes "value" ∷ codes "other" ∷ []
+heading = codes "code" ∷ codes "kind" ∷ codes "key" ∷ codes "field" ∷ codes "value" ∷ codes "other"
+    ∷ []
 
 -- V and the rule's number
 abbrev pub code_text : ℕ → List ℕ

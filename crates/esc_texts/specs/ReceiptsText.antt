@@ -8,7 +8,8 @@ use Rattle.esc_texts.specs.Words.{verdict_word, copy_word, fault_of}
 
 -- the first line
 abbrev pub heading : Line
-heading = codes "receipt" ∷ codes "number" ∷ codes "verdict" ∷ codes "fault" ∷ codes "id" ∷ codes "resend" ∷ codes "copy" ∷ codes "orphans" ∷ []
+heading = codes "receipt" ∷ codes "number" ∷ codes "verdict" ∷ codes "fault" ∷ codes "id"
+    ∷ codes "resend" ∷ codes "copy" ∷ codes "orphans" ∷ []
 
 -- what isn't told is empty
 abbrev pub or_empty : Option (List ℕ) → List ℕ
@@ -17,8 +18,10 @@ or_empty text = unwrap_or text []
 -- the line of a reply
 abbrev pub receipt_line : ReplyValue → Line
 receipt_line r =
-    decimal r.receipt ∷ r.number ∷ verdict_word r.verdict ∷ or_empty (fault_of r.verdict) ∷ or_empty r.id
-    ∷ or_empty (option_map decimal r.resend) ∷ or_empty (option_map copy_word r.again) ∷ or_empty (option_map decimal r.orphans) ∷ []
+    decimal r.receipt ∷ r.number ∷ verdict_word r.verdict ∷ or_empty (fault_of r.verdict)
+    ∷ or_empty r.id
+    ∷ or_empty (option_map decimal r.resend) ∷ or_empty (option_map copy_word r.again)
+    ∷ or_empty (option_map decimal r.orphans) ∷ []
 
 -- the lines of replies
 abbrev pub replies_text : List ReplyValue → List ℕ

@@ -1,6 +1,17 @@
 -- A reply as JSON: an object of eight members in the order of their names, without white space.
 use Rattle.std.specs.Prelude.{ℕ, List, Bool, Option, Some, None, codes}
-use Rattle.serde_json.specs.Data.{Data, Members, object, member, no_members, put, string, number as numeral, unsigned, null}
+use Rattle.serde_json.specs.Data.{
+  Data,
+  Members,
+  object,
+  member,
+  no_members,
+  put,
+  string,
+  number as numeral,
+  unsigned,
+  null,
+}
 use Rattle.serde_json.specs.Written.{compact_text}
 use Rattle.esc_store.specs.ReplyValue.{ReplyValue}
 use Rattle.esc_texts.specs.Words.{verdict_word, copy_word, fault_of}
@@ -38,11 +49,13 @@ with_receipt r ms =
 
 -- members, with those of the row that lists the body
 abbrev pub with_row : ReplyValue → Members → Members
-with_row r ms = put (codes "resend") (number_or_null r.resend) (put (codes "id") (text_or_null r.id) ms)
+with_row r ms = put (codes "resend") (number_or_null r.resend)
+    (put (codes "id") (text_or_null r.id) ms)
 
 -- members, with those of a held deposit alone
 abbrev pub with_holding : ReplyValue → Members → Members
-with_holding r ms = put (codes "orphans") (number_or_null r.orphans) (put (codes "copy") (copy_or_null r.again) ms)
+with_holding r ms = put (codes "orphans") (number_or_null r.orphans)
+    (put (codes "copy") (copy_or_null r.again) ms)
 
 abbrev pub reply_text : ReplyValue → List ℕ
 reply_text r = compact_text (reply_data r)

@@ -15,8 +15,8 @@ use esc_envelope::{Place, watermark_text};
 use esc_store::SFault;
 use std::alloc::{AllocError, Global};
 
-/// The report of gaps: the heading, and a line for each of these. `S1` where a place has a moment that has no text, as
-/// none of a manifest has.
+/// The report of gaps: the heading, and a line for each of these. `S1` where a place has a moment
+/// that has no text, as none of a manifest has.
 pub fn gaps_text(alloc: Global, gaps: &[GapLine]) -> Result<Vec<u8>, SFault>
     ensures { IfOk result (λ text. text.items ≡ gaps_text gaps.now) }
 {
@@ -84,7 +84,8 @@ fn state_text(alloc: Global, state: State) -> Result<String, AllocError>
 }
 
 fn blocker_text(alloc: Global, blocker: &Option<Blocker>) -> Result<String, SFault>
-    ensures { IfOk result (λ text. string_bytes text ≡ or_empty (option_and_then blocker_text blocker.now)) }
+    ensures { IfOk result (λ text. string_bytes text
+        ≡ or_empty (option_and_then blocker_text blocker.now)) }
 {
     match blocker {
         Some(Blocker::NotHeld(place)) => place_text(alloc, place.place()),
@@ -113,7 +114,9 @@ fn write_fields<'x>(
     blocker: &'x [u8],
     awaited: &'x [u8],
 ) -> Result<(), SFault>
-    ensures { OnOk result (lines.new ≡ lines.old ++ line_text (watermark.now ∷ kind.now ∷ used.now ∷ state.now ∷ blocker.now ∷ awaited.now ∷ [])) }
+    ensures { OnOk result (lines.new
+        ≡ lines.old ++ line_text (watermark.now ∷ kind.now ∷ used.now ∷ state.now ∷ blocker.now
+        ∷ awaited.now ∷ [])) }
 {
     lines.write(&[watermark, kind, used, state, blocker, awaited])?;
     Ok(())

@@ -8,14 +8,15 @@
 //! | [`gaps_text`] | the report of gaps: a heading, and a line for each listed place |
 //! | [`links_text`] | the report of links: a heading, and a line for each finding |
 //!
-//! The reports are CSV, as `csv` writes it, and what isn't told is empty there. No desk is needed: each takes the values, and
-//! `esc_http` asks a desk for them.
+//! The reports are CSV, as `csv` writes it, and what isn't told is empty there. No desk is needed:
+//! each takes the values, and `esc_http` asks a desk for them.
 //!
 //! # What is promised
 //!
-//! Each text is exactly the one that its definition gives (`specs/ReplyText.antt`, `ReceiptsText.antt`, `GapsText.antt`,
-//! `LinksText.antt`, with the words of `Words.antt`), or there is want of memory. [`gaps_text`] may answer `S1` also, for a
-//! place whose moment has no text; a manifest has none.
+//! Each text is exactly the one that its definition gives (`specs/ReplyText.antt`,
+//! `ReceiptsText.antt`, `GapsText.antt`, `LinksText.antt`, with the words of `Words.antt`), or
+//! there is want of memory. [`gaps_text`] may answer `S1` also, for a place whose moment has no
+//! text; a manifest has none.
 #![tactic(auto)]
 
 mod gaps;

@@ -3,7 +3,13 @@
 ghost use Rattle.std.specs.Prelude.{◌≡◌, ◌∷◌, [], ◌++◌, IfOk, OnOk, string_bytes};
 ghost use Rattle.std.specs.Fmt.{decimal};
 ghost use Rattle.esc_csv.specs.Lines.{line_text};
-ghost use Rattle.esc_texts.specs.LinksText.{code_text, heading, finding_line, findings_text, links_text};
+ghost use Rattle.esc_texts.specs.LinksText.{
+  code_text,
+  heading,
+  finding_line,
+  findings_text,
+  links_text,
+};
 
 use esc_bundle::NoMemory;
 use esc_check::Finding;
@@ -67,7 +73,9 @@ fn write_fields<'x>(
     value: &'x [u8],
     other: &'x [u8],
 ) -> Result<(), NoMemory>
-    ensures { OnOk result (lines.new ≡ lines.old ++ line_text (code.now ∷ kind.now ∷ key.now ∷ field.now ∷ value.now ∷ other.now ∷ [])) }
+    ensures { OnOk result (lines.new
+        ≡ lines.old ++ line_text (code.now ∷ kind.now ∷ key.now ∷ field.now ∷ value.now ∷ other.now
+        ∷ [])) }
 {
     lines.write(&[code, kind, key, field, value, other])
 }

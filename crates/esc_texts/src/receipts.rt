@@ -3,7 +3,13 @@
 ghost use Rattle.std.specs.Prelude.{◌≡◌, ◌∷◌, [], ◌++◌, IfOk, OnOk, string_bytes, option_map};
 ghost use Rattle.std.specs.Fmt.{decimal};
 ghost use Rattle.esc_csv.specs.Lines.{line_text};
-ghost use Rattle.esc_texts.specs.ReceiptsText.{or_empty, heading, receipt_line, replies_text, receipts_text};
+ghost use Rattle.esc_texts.specs.ReceiptsText.{
+  or_empty,
+  heading,
+  receipt_line,
+  replies_text,
+  receipts_text,
+};
 ghost use Rattle.esc_texts.specs.Words.{copy_word};
 
 use crate::words::{copy_word, fault_of, verdict_word};
@@ -125,7 +131,9 @@ fn write_fields<'x>(
     copy: &'x [u8],
     orphans: &'x [u8],
 ) -> Result<(), NoMemory>
-    ensures { OnOk result (lines.new ≡ lines.old ++ line_text (receipt.now ∷ number.now ∷ verdict.now ∷ fault.now ∷ id.now ∷ resend.now ∷ copy.now ∷ orphans.now ∷ [])) }
+    ensures { OnOk result (lines.new
+        ≡ lines.old ++ line_text (receipt.now ∷ number.now ∷ verdict.now ∷ fault.now ∷ id.now
+        ∷ resend.now ∷ copy.now ∷ orphans.now ∷ [])) }
 {
     lines.write(&[receipt, number, verdict, fault, id, resend, copy, orphans])
 }

@@ -2,7 +2,16 @@
 
 ghost use Rattle.std.specs.Prelude.{◌≡◌, IfOk, OnOk, string_bytes, option_map};
 ghost use Rattle.serde_json.specs.View.{view, members_view};
-ghost use Rattle.esc_texts.specs.ReplyText.{text_or_null, number_or_null, copy_or_null, with_receipt, with_row, with_holding, reply_data, reply_text};
+ghost use Rattle.esc_texts.specs.ReplyText.{
+  text_or_null,
+  number_or_null,
+  copy_or_null,
+  with_receipt,
+  with_row,
+  with_holding,
+  reply_data,
+  reply_text,
+};
 ghost use Rattle.esc_texts.specs.Words.{fault_of};
 
 use crate::words::{copy_word, fault_of, verdict_word};

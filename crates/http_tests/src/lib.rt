@@ -1,8 +1,8 @@
 //! Tests of the requests and reports of `esc_http`.
 //!
-//! They stand in a crate of their own, since a crate with tests is proved twice, with them and without. What they say is
-//! not promised by any clause: that the definitions give the responses that were written by hand, and that calls succeed
-//! however the bytes come and go.
+//! They stand in a crate of their own, since a crate with tests is proved twice, with them and
+//! without. What they say is not promised by any clause: that the definitions give the responses
+//! that were written by hand, and that calls succeed however the bytes come and go.
 #![tactic(auto)]
 
 #[cfg(test)]

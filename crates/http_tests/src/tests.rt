@@ -65,7 +65,8 @@ impl Read for Pieces<'_> {
     }
 }
 
-// Takes at most so many bytes a write, and fails once it has all that are allowed, or when it is to hand them on.
+// Takes at most so many bytes a write, and fails once it has all that are allowed, or when it is to
+// hand them on.
 #[derive(Drop)]
 struct Narrow {
     text: Vec<u8>,
@@ -176,7 +177,8 @@ fn count_receipts<S: Alter>(alloc: Global, desk: &mut Desk<S>) -> Option<usize> 
     Some(desk.receipts(alloc).ok()?.len())
 }
 
-/// What came of a request: why the response did not go out whole, what of it did, and how many receipts there are then.
+/// What came of a request: why the response did not go out whole, what of it did, and how many
+/// receipts there are then.
 #[derive(Drop)]
 struct Outcome {
     fault: Option<ServeFault>,
@@ -245,8 +247,8 @@ fn assert_framed(
     }
 }
 
-/// Requests that come before, a request, why its response does not go out whole, what of it does, and how many receipts there
-/// are then.
+/// Requests that come before, a request, why its response does not go out whole, what of it does,
+/// and how many receipts there are then.
 static ANSWERS: [(
     &[Wire<'static>],
     Wire<'static>,
@@ -281,7 +283,8 @@ static ANSWERS: [(
         RECEIPTS,
         2,
     ),
-    // No more is read than the answer needs: all of a request without a body, and nothing behind a body.
+    // No more is read than the answer needs: all of a request without a body, and nothing behind a
+    // body.
     (
         &[],
         Wire {

@@ -280,7 +280,8 @@ fn stopping_move(rt: &impl Abort, alloc: Global, r: &mut Stopping) -> Result<Wor
     go(rt, alloc, r, "F1 D2 D3", "F1 D2-resent D3")
 }
 
-// What is told of that move where so many calls are let through, with the writes that the registry counts.
+// What is told of that move where so many calls are let through, with the writes that the registry
+// counts.
 fn moved_within(rt: &impl Abort, alloc: Global, calls: u32) -> Result<String, NoMemory> {
     let mut r = stopping_registry(rt, alloc, calls)?;
     let mut text = String::new(alloc);
@@ -292,8 +293,8 @@ fn moved_within(rt: &impl Abort, alloc: Global, calls: u32) -> Result<String, No
     Ok(text)
 }
 
-// What is told of a move where all its calls are let through. Back: for each step `take_undo` and one write; forward: three
-// calls for each of three mentions.
+// What is told of a move where all its calls are let through. Back: for each step `take_undo` and
+// one write; forward: three calls for each of three mentions.
 const CALLS: u32 = 13;
 
 const WHOLE: &str = "kept, 2 back, 2 on, 5 writes, 10";

@@ -210,7 +210,8 @@ fn insert(held: &mut Held, m: &Manifest, row: usize) -> Result<Option<bool>, NoM
     }
 }
 
-// Adds rows one after the other: of each whether it is new, and whether the rows 3 and 2 are held then.
+// Adds rows one after the other: of each whether it is new, and whether the rows 3 and 2 are held
+// then.
 fn push_inserts(text: &mut String, alloc: Global, m: &Manifest) -> Result<(), NoMemory> {
     let mut held = Held::new(alloc);
     for row in [3, 3, 6, 7] {

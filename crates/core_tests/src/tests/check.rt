@@ -323,8 +323,8 @@ const STOPPED: &str = "stopped\nstopped\n";
 // Nothing is found, and there is an export.
 const EXPORTED: &str = "kind,key,table,row,field,value\nregistrar,R1,registrar,0,id,R1\n";
 
-/// How many calls a source lets through, and what is told. Two objects are given by three calls: the last answers that there
-/// are no more.
+/// How many calls a source lets through, and what is told. Two objects are given by three calls:
+/// the last answers that there are no more.
 static WITHIN: [(u32, &str); 5] = [
     (0, STOPPED),
     (1, STOPPED),

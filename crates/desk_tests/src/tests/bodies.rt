@@ -215,7 +215,8 @@ fn envelope(alloc: Global, body: Body) -> Result<String, Fail> {
     Ok(text)
 }
 
-// How many rows a body has of hosts or domains beside those of the text, and what each of them ends with.
+// How many rows a body has of hosts or domains beside those of the text, and what each of them ends
+// with.
 fn numbered_of(body: Body, table: &str) -> Option<(u32, &'static str)> {
     match body {
         Many if table == "host" => Some((256, "")),

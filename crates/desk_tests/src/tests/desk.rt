@@ -1,4 +1,5 @@
-//! The worked rows over a desk: replies, receipts, held rows, tables, chains, before-images and numbers.
+//! The worked rows over a desk: replies, receipts, held rows, tables, chains, before-images and
+//! numbers.
 
 use super::bodies::{Body, bytes_of, line_of};
 use super::rows::{
@@ -69,7 +70,8 @@ const ARRIVALS: [(&str, Body); 7] = [
     ("6", Body::D2),
 ];
 
-// After each of them its verdict, the rows that are held, and how many the status says that there are.
+// After each of them its verdict, the rows that are held, and how many the status says that there
+// are.
 const HELD: &str = "A3(1), holds, 0 held
 A1, holds 3, 1 held
 A4, holds 3, 1 held
@@ -132,7 +134,8 @@ fn held_rows_of_a_store_that_is_opened_again(rt: HostRuntime) -> Result<(), Fail
     Ok(())
 }
 
-// Rows, with the numbers of a desk that took them: its writes, the lines of its status, and whether its chain has an end.
+// Rows, with the numbers of a desk that took them: its writes, the lines of its status, and whether
+// its chain has an end.
 const NUMBERS: [(Row, &str); 2] = [
     (
         RESENT,

@@ -54,8 +54,8 @@ const DOMAIN_E: &str =
 
 const DOMAIN_F: &str = "domain f.example: domain name=f.example clID=R1 registrant=C9";
 
-/// What stood at a.example before step 3: f1's domain as a record, which is its rows, and of each its table, cells, fields and
-/// texts, with their numbers and lengths.
+/// What stood at a.example before step 3: f1's domain as a record, which is its rows, and of each
+/// its table, cells, fields and texts, with their numbers and lengths.
 pub(crate) const IMAGE_OF_A: &str =
     "3 3 a.example \0\0\0\x01\0\0\0\x06domain\0\0\0\x03\0\0\0\x04name\0\0\0\x09a.example\0\0\0\x04clID\0\0\0\x02R1\0\0\0\x0aregistrant\0\0\0\x02C1";
 

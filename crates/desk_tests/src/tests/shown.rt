@@ -60,7 +60,8 @@ pub(crate) fn tell_reply(text: &mut String, reply: &Reply) -> Result<(), Fail> {
     tell_if(text, reply.orphans)
 }
 
-/// The end of a reply's line: whether all was cleared, steps taken back, steps applied, writes, and how many were counted.
+/// The end of a reply's line: whether all was cleared, steps taken back, steps applied, writes, and
+/// how many were counted.
 pub(crate) fn tell_work(
     text: &mut String,
     work: (bool, u32, u32, u64),

@@ -1,8 +1,9 @@
 //! A stop at each call of a file, and the store opened again.
 //!
-//! For every k, one of the two files fails each call past the k-th, while a store is made and the arrivals of a worked row
-//! come. What a crash then leaves is opened again: all that was written, or what was synced alone. The store has the receipts
-//! that were answered and at most one more, and all arrivals sent again have the row's replies and leave its tables.
+//! For every k, one of the two files fails each call past the k-th, while a store is made and the
+//! arrivals of a worked row come. What a crash then leaves is opened again: all that was written,
+//! or what was synced alone. The store has the receipts that were answered and at most one more,
+//! and all arrivals sent again have the row's replies and leave its tables.
 
 use super::bodies::{bytes_of, manifest_of};
 use super::rows::{IMAGE_OF_A, RESENT, Row, Taken};
@@ -109,8 +110,8 @@ fn left_after<D: Disk + Drop>(
     Ok((Some(answered), left_of(desk)))
 }
 
-// Makes a store in the files, and takes a row's arrivals up to the first that is refused: how many were answered, and
-// the files. There is no count where there is no store.
+// Makes a store in the files, and takes a row's arrivals up to the first that is refused: how many
+// were answered, and the files. There is no count where there is no store.
 fn run_until_stopped<D: Disk + Drop>(
     alloc: Global,
     files: Files<D>,
@@ -146,7 +147,8 @@ fn make_anew<S: Alter + Drop>(
     }
 }
 
-// The desk over a database, or one that is made anew where it has no tables: and whether there was a store.
+// The desk over a database, or one that is made anew where it has no tables: and whether there was
+// a store.
 fn find_or_make<S: Alter + Drop>(
     alloc: Global,
     connection: Connection<S>,
@@ -173,7 +175,8 @@ fn tell_sent_again<S: Alter + Drop>(
     Ok(())
 }
 
-// What a desk has once a row's arrivals came again: their replies, receipts, held rows, tables, chain and before-images.
+// What a desk has once a row's arrivals came again: their replies, receipts, held rows, tables,
+// chain and before-images.
 fn sent_again<S: Alter + Drop>(
     alloc: Global,
     mut desk: Desk<S>,
@@ -254,8 +257,8 @@ fn are_first(alloc: Global, kept: &str, row: &Row, count: usize) -> Result<bool,
     Ok(text.as_str() == kept)
 }
 
-// Whether a store was found that has the receipts that were answered, and at most one more; where there was none to begin
-// with, no receipt.
+// Whether a store was found that has the receipts that were answered, and at most one more; where
+// there was none to begin with, no receipt.
 fn is_kept(alloc: Global, found: &Found, answered: Option<usize>, row: &Row) -> Result<bool, Fail> {
     let kept = found.kept.as_str();
     match answered {
@@ -302,8 +305,9 @@ fn cut_files(alloc: Global, of_the_log: bool, calls: u64) -> Files<Cut> {
     }
 }
 
-// Stops after so many calls of one file, and opens what a crash leaves: all that was written, or what was synced. Answers
-// how many arrivals were answered, if a store was made, and what was found of either.
+// Stops after so many calls of one file, and opens what a crash leaves: all that was written, or
+// what was synced. Answers how many arrivals were answered, if a store was made, and what was found
+// of either.
 fn found_after(
     alloc: Global,
     files: Files<Cut>,

@@ -240,7 +240,8 @@ fn tell_size<S: Alter + Drop>(
     Ok(())
 }
 
-// What a desk is before a walk that gives its first object alone, and after it, and what arrives then.
+// What a desk is before a walk that gives its first object alone, and after it, and what arrives
+// then.
 const STOPPED_EARLY: [&str; 5] = [
     "1,1,A1,,F1,0,new,0; cleared false, 0 undone, 1 applied, 3 written, 3 counted",
     "3 written, 3 objects",

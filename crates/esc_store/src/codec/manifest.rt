@@ -127,7 +127,8 @@ fn digest_of(bytes: &[u8]) -> Result<[u8; 32], SFault>
 
 // The row of a manifest that a row of the table is of.
 fn manifest_row(alloc: Global, stored: &Listed) -> Result<MRow, SFault>
-    ensures row { IfOk result (λ row. (n : ℕ) (r : manifest_row) → stored_row stored.now ≡ listed_row n r → row ≡ r) }
+    ensures row { IfOk result (λ row. (n : ℕ) (r : manifest_row)
+        → stored_row stored.now ≡ listed_row n r → row ≡ r) }
     ensures cause { IfErr result (λ fault. (fault ≡ SFault.S1) ⊎ (fault ≡ SFault.S2)) }
 {
     let kind = type_of(stored.kind)?;
@@ -149,7 +150,8 @@ fn manifest_row(alloc: Global, stored: &Listed) -> Result<MRow, SFault>
 }
 
 fn manifest_rows(alloc: Global, stored: &[Listed]) -> Result<Vec<MRow>, SFault>
-    ensures rows { IfOk result (λ rows. (rs : List manifest_row) → map stored_row stored.now ≡ listed_from 0 rs → rows.items ≡ rs) }
+    ensures rows { IfOk result (λ rows. (rs : List manifest_row)
+        → map stored_row stored.now ≡ listed_from 0 rs → rows.items ≡ rs) }
     ensures cause { IfErr result (λ fault. (fault ≡ SFault.S1) ⊎ (fault ≡ SFault.S2)) }
 {
     let mut rows = Vec::new(alloc);
@@ -162,7 +164,8 @@ fn manifest_rows(alloc: Global, stored: &[Listed]) -> Result<Vec<MRow>, SFault>
 
 // The manifest that the table keeps.
 pub(crate) fn kept_manifest(alloc: Global, stored: &[Listed]) -> Result<Manifest, SFault>
-    ensures manifest { IfOk result (λ manifest. (rs : List manifest_row) → map stored_row stored.now ≡ listed_from 0 rs → manifest ≡ rs) }
+    ensures manifest { IfOk result (λ manifest. (rs : List manifest_row)
+        → map stored_row stored.now ≡ listed_from 0 rs → manifest ≡ rs) }
     ensures cause { IfErr result (λ fault. (fault ≡ SFault.S1) ⊎ (fault ≡ SFault.S2)) }
 {
     let rows = manifest_rows(alloc, stored)?;
@@ -175,7 +178,8 @@ pub(crate) fn both_forms(
     manifest: &Manifest,
 ) -> Result<(Manifest, Vec<Listed>), SFault>
     ensures own { IfOk result (λ forms. forms.0 ≡ manifest.now) }
-    ensures rows { IfOk result (λ forms. map stored_row forms.1.items ≡ listed_from 0 manifest.now) }
+    ensures rows { IfOk result (λ forms. map stored_row forms.1.items
+        ≡ listed_from 0 manifest.now) }
     ensures cause { IfErr result (λ fault. (fault ≡ SFault.S1) ⊎ (fault ≡ SFault.S2)) }
 {
     let own = copied_manifest(alloc, manifest)?;

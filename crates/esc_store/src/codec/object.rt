@@ -1,6 +1,21 @@
 //! Keys, objects and before-images as the tables keep them, and back.
 
-ghost use Rattle.std.specs.Prelude.{◌≡◌, Some, None, map, option_map, IfOk, IfErr, OnOk, IfSome, IsSome, [], ◌∷◌, ◌++◌, if◌then◌else◌};
+ghost use Rattle.std.specs.Prelude.{
+  ◌≡◌,
+  Some,
+  None,
+  map,
+  option_map,
+  IfOk,
+  IfErr,
+  OnOk,
+  IfSome,
+  IsSome,
+  [],
+  ◌∷◌,
+  ◌++◌,
+  if◌then◌else◌,
+};
 ghost use Rattle.std.specs.Option.{option_and_then};
 ghost use Rattle.esc_envelope.specs.Kinds.{kind_rank};
 ghost use Rattle.esc_record.specs.Record.{record_of};
@@ -93,7 +108,8 @@ pub(crate) fn record_object(alloc: Global, bytes: &[u8]) -> Result<Object, SFaul
 
 // The object that a record is of, if there is one. `S1` where the bytes are no record; `S2`.
 pub(crate) fn object_in(alloc: Global, found: Option<Vec<u8>>) -> Result<Option<Object>, SFault>
-    ensures object { IfOk result (λ object. (o : _) → option_map (λ b. b.items) found ≡ option_and_then record_of o → IfSome o (λ x. IsSome (record_of x)) → object ≡ o) }
+    ensures object { IfOk result (λ object. (o : _) → option_map (λ b. b.items) found
+        ≡ option_and_then record_of o → IfSome o (λ x. IsSome (record_of x)) → object ≡ o) }
     ensures cause { IfErr result IsS1OrS2 }
 {
     match found {
@@ -102,10 +118,12 @@ pub(crate) fn object_in(alloc: Global, found: Option<Vec<u8>>) -> Result<Option<
     }
 }
 
-// Adds what stands at a key. `S1` where something stands there, since a key has one row at most; `S2`.
+// Adds what stands at a key. `S1` where something stands there, since a key has one row at most;
+// `S2`.
 fn add_new<X: Drop>(all: &mut BTreeMap<Key, X>, key: Key, value: X) -> Result<(), SFault>
     ensures absent { OnOk result (lookup (key_eq key) all.old.entries ≡ None) }
-    ensures added { OnOk result ((q : KeyName) → lookup (key_eq q) all.new.entries ≡ (if key_eq key q then Some value else lookup (key_eq q) all.old.entries)) }
+    ensures added { OnOk result ((q : KeyName) → lookup (key_eq q) all.new.entries
+        ≡ (if key_eq key q then Some value else lookup (key_eq q) all.old.entries)) }
     ensures ordered { IsOrdered key_cmp all.new }
     ensures cause { IfErr result IsS1OrS2 }
 {
@@ -122,7 +140,8 @@ fn add_object(
     objects: &mut BTreeMap<Key, Object>,
     stored: &StoredObject,
 ) -> Result<(), SFault>
-    ensures added { OnOk result ((rows : _) → AreObjectsOf rows objects.old.entries → AreObjectsOf (rows ++ object_of stored.now ∷ []) objects.new.entries) }
+    ensures added { OnOk result ((rows : _) → AreObjectsOf rows objects.old.entries
+        → AreObjectsOf (rows ++ object_of stored.now ∷ []) objects.new.entries) }
     ensures ordered { OnOk result (IsOrdered key_cmp objects.new) }
     ensures cause { IfErr result IsS1OrS2 }
 {
@@ -137,7 +156,8 @@ pub(crate) fn objects_of(
     stored: &[StoredObject],
 ) -> Result<BTreeMap<Key, Object>, SFault>
     ensures once { IfOk result (λ objects. IsDistinct key_eq (keys_of objects.entries)) }
-    ensures each { IfOk result (λ objects. AreObjectsOf (map object_of stored.now) objects.entries) }
+    ensures each { IfOk result
+        (λ objects. AreObjectsOf (map object_of stored.now) objects.entries) }
     ensures cause { IfErr result IsS1OrS2 }
 {
     let mut objects = BTreeMap::new(alloc);
@@ -162,7 +182,8 @@ pub(crate) fn entries_of(
     alloc: Global,
     stored: &[StoredObject],
 ) -> Result<Vec<(Key, Object)>, SFault>
-    ensures entries { IfOk result (λ entries. map entry_row entries.items ≡ map (λ it. stored_row (object_of it)) stored.now) }
+    ensures entries { IfOk result (λ entries. map entry_row entries.items
+        ≡ map (λ it. stored_row (object_of it)) stored.now) }
     ensures cause { IfErr result IsS1OrS2 }
 {
     let mut entries = Vec::new(alloc);
@@ -175,7 +196,8 @@ pub(crate) fn entries_of(
 
 // What stood at a key before a step: the object of the row's record, or none.
 fn before_of(alloc: Global, stored: &StoredImage) -> Result<Option<Object>, SFault>
-    ensures before { IfOk result (λ before. option_map record_of before ≡ option_map (λ bytes. Some bytes) (image_of stored.now).bytes) }
+    ensures before { IfOk result (λ before. option_map record_of before
+        ≡ option_map (λ bytes. Some bytes) (image_of stored.now).bytes) }
     ensures cause { IfErr result IsS1OrS2 }
 {
     match &stored.record {
@@ -190,7 +212,8 @@ fn add_image(
     images: &mut BTreeMap<Key, Option<Object>>,
     stored: &StoredImage,
 ) -> Result<(), SFault>
-    ensures added { OnOk result ((rows : _) → AreImagesOf rows images.old.entries → AreImagesOf (rows ++ image_of stored.now ∷ []) images.new.entries) }
+    ensures added { OnOk result ((rows : _) → AreImagesOf rows images.old.entries
+        → AreImagesOf (rows ++ image_of stored.now ∷ []) images.new.entries) }
     ensures ordered { OnOk result (IsOrdered key_cmp images.new) }
     ensures cause { IfErr result IsS1OrS2 }
 {

@@ -1,10 +1,29 @@
 //! A receipt as the tables keep it, and back to its reply.
 
-ghost use Rattle.std.specs.Prelude.{◌≡◌, ℕ, List, map, option_map, IfOk, IfErr, Option, Bool, Some, string_bytes, IsSorted};
+ghost use Rattle.std.specs.Prelude.{
+  ◌≡◌,
+  ℕ,
+  List,
+  map,
+  option_map,
+  IfOk,
+  IfErr,
+  Option,
+  Bool,
+  Some,
+  string_bytes,
+  IsSorted,
+};
 ghost use Rattle.esc_rows.specs.Entries.{receipt_row};
 ghost use Rattle.esc_rows.specs.Changes.{receipt_of};
 ghost use Rattle.esc_store.specs.Faults.{IsS1OrS2};
-ghost use Rattle.esc_store.specs.TypedRows.{verdict_number, fault_number, bit, receipt_row as row_of, receipts_from};
+ghost use Rattle.esc_store.specs.TypedRows.{
+  verdict_number,
+  fault_number,
+  bit,
+  receipt_row as row_of,
+  receipts_from,
+};
 ghost use Rattle.std.specs.Ordering.{nat_cmp};
 ghost use Rattle.esc_manifest.specs.Rows.{id_at, resend_at};
 ghost use Rattle.esc_store.specs.declared.reply.Verdict.{Verdict as verdict};
@@ -95,7 +114,8 @@ pub(crate) fn stored_receipt(
 
 // The verdict that two numbers stand for.
 fn verdict_of(number: u32, fault: Option<u32>) -> Result<Verdict, SFault>
-    ensures verdict { IfOk result (λ v. (w : verdict) → number ≡ verdict_number w → fault ≡ fault_number w → v ≡ w) }
+    ensures verdict { IfOk result (λ v. (w : verdict) → number ≡ verdict_number w
+        → fault ≡ fault_number w → v ≡ w) }
     ensures cause { IfErr result IsS1OrS2 }
 {
     match (number, fault) {
@@ -139,7 +159,9 @@ fn listed_of(
     manifest: &Manifest,
     row: Option<u32>,
 ) -> Result<(Option<String>, Option<u32>), SFault>
-    ensures listed { IfOk result (λ p. (option_map string_bytes p.0 ≡ option_map (id_at manifest.now) row) × (p.1 ≡ option_map (resend_at manifest.now) row)) }
+    ensures listed { IfOk result
+        (λ p. (option_map string_bytes p.0 ≡ option_map (id_at manifest.now) row)
+        × (p.1 ≡ option_map (resend_at manifest.now) row)) }
     ensures cause { IfErr result IsS1OrS2 }
 {
     let Some(row) = row else {
@@ -161,7 +183,8 @@ pub(crate) fn reply_of(
     manifest: &Manifest,
     stored: &StoredReceipt,
 ) -> Result<Reply, SFault>
-    ensures reply { IfOk result (λ reply. (n : ℕ) (r : ReceiptValue) → receipt_row stored.now ≡ row_of n r → reply ≡ reply_kept manifest.now n r) }
+    ensures reply { IfOk result (λ reply. (n : ℕ) (r : ReceiptValue)
+        → receipt_row stored.now ≡ row_of n r → reply ≡ reply_kept manifest.now n r) }
     ensures cause { IfErr result IsS1OrS2 }
 {
     let number = String::from_str(alloc, stored.number.as_str())?;
@@ -185,7 +208,9 @@ pub(crate) fn reply_found(
     manifest: &Manifest,
     found: Option<StoredReceipt>,
 ) -> Result<Option<Reply>, SFault>
-    ensures reply { IfOk result (λ reply. (rs : List ReceiptValue) (number digest : List ℕ) → option_map receipt_row found ≡ receipt_of number digest (receipts_from 1 rs) → reply ≡ reply_alike manifest.now 1 number digest rs) }
+    ensures reply { IfOk result (λ reply. (rs : List ReceiptValue) (number digest : List ℕ)
+        → option_map receipt_row found ≡ receipt_of number digest (receipts_from 1 rs)
+        → reply ≡ reply_alike manifest.now 1 number digest rs) }
     ensures cause { IfErr result IsS1OrS2 }
 {
     match found {
@@ -200,7 +225,9 @@ pub(crate) fn replies_of(
     manifest: &Manifest,
     stored: &[StoredReceipt],
 ) -> Result<Vec<Reply>, SFault>
-    ensures replies { IfOk result (λ replies. (rs : List ReceiptValue) → map receipt_row stored.now ≡ receipts_from 1 rs → replies.items ≡ replies_from manifest.now 1 rs) }
+    ensures replies { IfOk result (λ replies. (rs : List ReceiptValue)
+        → map receipt_row stored.now ≡ receipts_from 1 rs
+        → replies.items ≡ replies_from manifest.now 1 rs) }
     ensures cause { IfErr result IsS1OrS2 }
 {
     let mut replies = Vec::new(alloc);
@@ -225,7 +252,8 @@ fn indices_of(alloc: Global, numbers: &[u32]) -> Result<Vec<usize>, SFault>
 
 // Numbers of 32 bits that don't fall as row indices, each once.
 pub(crate) fn distinct_indices_of(alloc: Global, numbers: &[u32]) -> Result<Vec<usize>, SFault>
-    ensures once { IsSorted nat_cmp numbers.now → IfOk result (λ rows. AreOnce numbers.now rows.items) }
+    ensures once { IsSorted nat_cmp numbers.now
+        → IfOk result (λ rows. AreOnce numbers.now rows.items) }
     ensures cause { IfErr result IsS1OrS2 }
 {
     let mut rows = indices_of(alloc, numbers)?;

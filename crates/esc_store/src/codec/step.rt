@@ -15,7 +15,8 @@ use std::alloc::Global;
 
 // The steps of a chain as their table keeps them, numbered from 1.
 pub(crate) fn stored_steps(alloc: Global, steps: &[Step]) -> Result<Vec<ChainStep>, SFault>
-    ensures rows { IfOk result (λ stored. map step_row stored.items ≡ steps_from 1 (map (λ step. step.row) steps.now)) }
+    ensures rows { IfOk result (λ stored. map step_row stored.items
+        ≡ steps_from 1 (map (λ step. step.row) steps.now)) }
     ensures cause { IfErr result IsS1OrS2 }
 {
     let mut stored = Vec::new(alloc);
@@ -51,7 +52,9 @@ pub(crate) fn steps_of(
     manifest: &Manifest,
     stored: &[ChainStep],
 ) -> Result<Vec<Step>, SFault>
-    ensures steps { IfOk result (λ steps. (rows : List ℕ) → map step_row stored.now ≡ steps_from 1 rows → steps.items ≡ map (step_at manifest.now) rows) }
+    ensures steps { IfOk result (λ steps. (rows : List ℕ)
+        → map step_row stored.now ≡ steps_from 1 rows → steps.items
+        ≡ map (step_at manifest.now) rows) }
     ensures cause { IfErr result IsS1OrS2 }
 {
     let mut steps = Vec::new(alloc);

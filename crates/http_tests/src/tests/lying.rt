@@ -39,7 +39,8 @@ fn no_beginning_of_an_arrival_arrives(rt: HostRuntime) {
     }
 }
 
-/// A request for the receipts: how many short header lines it has before a long one, how many bytes, and what it ends with.
+/// A request for the receipts: how many short header lines it has before a long one, how many
+/// bytes, and what it ends with.
 #[derive(Clone, Copy)]
 struct Head {
     lines: u32,
@@ -56,8 +57,8 @@ const WHOLE: Head = Head {
 // A head that goes on.
 const ENDLESS: Head = Head { end: b"", ..WHOLE };
 
-/// Heads, each with what the response begins with: of as many bytes and lines as there may be, of one more, and without
-/// an end.
+/// Heads, each with what the response begins with: of as many bytes and lines as there may be, of
+/// one more, and without an end.
 static HEADS: [(Head, &[u8]); 6] = [
     (WHOLE, b"HTTP/1.1 200 OK\r\n"),
     (

@@ -1,5 +1,5 @@
-//! Each route over a disk that refuses: the response is 503, and once the disk does what it is asked the same request has the
-//! response of a desk that nothing happened to.
+//! Each route over a disk that refuses: the response is 503, and once the disk does what it is
+//! asked the same request has the response of a desk that nothing happened to.
 
 ghost use Rattle.std.specs.Prelude.{◌≡◌, ◌+◌, ◌&&◌, not, false};
 ghost use Rattle.sqlite_disk.specs.Disk.{CountsFault};
@@ -121,7 +121,8 @@ fn file<'a>(alloc: Global, refuses: &'a Cell<bool>) -> Refusing<'a, Memory> {
     }
 }
 
-// A connection that keeps one page in memory, so that a request that needs another one asks the disk for it.
+// A connection that keeps one page in memory, so that a request that needs another one asks the
+// disk for it.
 fn connection<D: Disk + Drop>(alloc: Global, files: Files<D>) -> Option<Connection<FileStore<D>>> {
     if !files.may_be_used() {
         return None;
@@ -147,7 +148,8 @@ const UNAVAILABLE: &[u8] =
 const NO_OBJECTS: &[u8] =
     b"HTTP/1.1 200 OK\r\nContent-Type: text/csv\r\nContent-Length: 31\r\nConnection: close\r\n\r\nkind,key,table,row,field,value\n";
 
-/// Requests to a desk one after the other, each with its response. Two that read the same page stand apart.
+/// Requests to a desk one after the other, each with its response. Two that read the same page
+/// stand apart.
 static ROUTES: [(&[u8], &[u8]); 14] = [
     (PUT_SAMPLE, HELD),
     (b"GET /export/registrar HTTP/1.1\r\n\r\n", NO_OBJECTS),

@@ -20,7 +20,8 @@ const REPEATED_NAME: Result<usize, Fault> = Err(Fault::Refused(3));
 
 const OVER_LIMIT: Result<usize, Fault> = Err(Fault::Refused(4));
 
-/// Bundles, each in two pieces, with their sections, their lengths, and whether they are read and written so.
+/// Bundles, each in two pieces, with their sections, their lengths, and whether they are read and
+/// written so.
 static BUNDLES: [(&[u8], &[u8], &[(&str, &[u8])], &str); 2] = [
     (
         FRONT,
@@ -209,7 +210,8 @@ static BODIES: [(Body, Result<usize, Fault>); 17] = [
     ),
 ];
 
-/// Lists of sections, each with an envelope of so many zeros behind them, if there are any, and why no bundle has them.
+/// Lists of sections, each with an envelope of so many zeros behind them, if there are any, and why
+/// no bundle has them.
 static LISTS: [(&[(&str, &[u8])], usize, Option<Fault>); 7] = [
     (
         &[
@@ -299,7 +301,8 @@ pub(crate) fn joined(alloc: Global, front: &[u8], back: &[u8]) -> Result<Vec<u8>
     Ok(bytes)
 }
 
-// The length of a bundle, whether its sections are these, and whether it is what is written of them.
+// The length of a bundle, whether its sections are these, and whether it is what is written of
+// them.
 fn told(alloc: Global, body: &[u8], parts: &[(&str, &[u8])]) -> Result<String, Fault> {
     let is_read = parts_of(alloc, body)?.as_slice() == parts;
     let is_written = written(alloc, parts, 0)?.as_slice() == body;
@@ -324,7 +327,8 @@ fn bundles_are_read_and_written(rt: HostRuntime) {
     }
 }
 
-// The first beginning of a body that is read otherwise than as a broken frame, with what it gives: also where memory was refused.
+// The first beginning of a body that is read otherwise than as a broken frame, with what it gives:
+// also where memory was refused.
 fn other_beginning(alloc: Global, body: &[u8]) -> Option<(usize, Result<usize, Fault>)> {
     for length in 0..body.len() {
         let found = count_in(alloc, &body[..length]);

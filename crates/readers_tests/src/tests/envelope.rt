@@ -28,7 +28,8 @@ static ENVELOPES: [(&str, &str); 2] = [
     ),
 ];
 
-/// Members that stand behind a right header, of which the last of a name counts, and the answer to them.
+/// Members that stand behind a right header, of which the last of a name counts, and the answer to
+/// them.
 static MEMBERS: [(&str, u8); 57] = [
     ("", 0),
     (",\"tld\":1", 0),
@@ -374,7 +375,8 @@ fn answer_to_fields(alloc: Global, count: u8) -> u8 {
     }
 }
 
-// A line for each pair of places: whether the first stands before the second, and whether it is up to it.
+// A line for each pair of places: whether the first stands before the second, and whether it is up
+// to it.
 fn push_places(text: &mut String) -> Result<(), NoMemory> {
     for (first, second) in &PLACES {
         let before = if first.is_before(*second) {

@@ -8,8 +8,8 @@ use std::alloc::Global;
 /// The sample's second section and its end.
 const BACK: &[u8] = b"c.csv 6\nC1,R1\n\nend\n";
 
-/// What may stand in the place of the sample's second section and end, and what answers it: of the sections and of the
-/// deposit the number of the refusal, 0 where there is none.
+/// What may stand in the place of the sample's second section and end, and what answers it: of the
+/// sections and of the deposit the number of the refusal, 0 where there is none.
 static BACKS: [(&[u8], [u8; 2]); 18] = [
     (BACK, [0, 0]),
     // A name in other letters, and a length that is no number.

@@ -22,8 +22,8 @@ const DIGEST_OF_ABC: [u8; 32] = [
 const MANIFEST: &str =
     "id,type,watermark,prevId,resend,sha256\nF1,FULL,2024-03-03T00:00:00Z,X9,007,e3b0c44298fc1c149afbf4c8996fb92427ae41e4649b934ca495991b7852b855\nD2,DIFF,2024-03-04T00:00:00.0Z,F1,,BA7816BF8F01CFEA414140DE5DAE2223B00361A396177A9CB410FF61F20015AD\nF3,FULL,2024-03-05T00:00:00Z,,999999,00000000000000000000000000000000000000000000000000000000000000fF\n";
 
-/// Its rows and their copies: id, type, watermark, previous id, resend and digest; and the rows of the digest of `abc` and
-/// of one that has another first byte.
+/// Its rows and their copies: id, type, watermark, previous id, resend and digest; and the rows of
+/// the digest of `abc` and of one that has another first byte.
 const ROWS: &str =
     "F1 FULL 1709424000000000000 X9 7 e3b0c44298fc1c149afbf4c8996fb92427ae41e4649b934ca495991b7852b855
 F1 FULL 1709424000000000000 X9 7 e3b0c44298fc1c149afbf4c8996fb92427ae41e4649b934ca495991b7852b855
@@ -46,8 +46,9 @@ static FIRST_LINES: [(&[u8], &str); 5] = [
     ),
 ];
 
-/// Worked manifests, each fault alone, and the least of two: of each case what is said of it, and its rows: the first five
-/// fields, and the digest as a number. A row with `-` for it has the fields that stand there alone.
+/// Worked manifests, each fault alone, and the least of two: of each case what is said of it, and
+/// its rows: the first five fields, and the digest as a number. A row with `-` for it has the
+/// fields that stand there alone.
 const TEXTS: &str = "M12 row 2
 F1,FULL,2024-03-03T00:00:00Z,, 1
 D2,DIFF,2024-03-03T00:00:00Z,F1, 2

@@ -13,8 +13,8 @@ const CONTACT: &[u8] =
 /// A row's table and its cells.
 type Cells = (&'static str, &'static [(&'static str, &'static str)]);
 
-/// Objects, each with its parent and children, its record, whether that is written, its length, and the rows that are read of
-/// it.
+/// Objects, each with its parent and children, its record, whether that is written, its length, and
+/// the rows that are read of it.
 static OBJECTS: [(Cells, &[Cells], &[u8], &str); 4] = [
     (
         ("contact", &[("id", "C1"), ("clID", "R1")]),
@@ -63,7 +63,8 @@ static OTHERS: [&[u8]; 11] = [
     b"\x00\x00\x00\x00",
     b"\x00\x00\x00\x01\x00\x00\x00\x01\xff\x00\x00\x00\x00",
     b"\x00\x00\x00\x01\x00\x00\x00\x01t\x00\x00\x00\x00!",
-    // One row too few and one too many, one cell too few and one too many, a cell without its value.
+    // One row too few and one too many, one cell too few and one too many, a cell without its
+    // value.
     b"\x00\x00\x00\x02\x00\x00\x00\x07contact\x00\x00\x00\x02\x00\x00\x00\x02id\x00\x00\x00\x02C1\x00\x00\x00\x04clID\x00\x00\x00\x02R1",
     b"\x00\x00\x00\x01\x00\x00\x00\x07contact\x00\x00\x00\x02\x00\x00\x00\x02id\x00\x00\x00\x02C1\x00\x00\x00\x04clID\x00\x00\x00\x02R1\x00\x00\x00\x03idn\x00\x00\x00\x00",
     b"\x00\x00\x00\x01\x00\x00\x00\x03idn\x00\x00\x00\x01",

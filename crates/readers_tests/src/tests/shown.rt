@@ -28,7 +28,8 @@ pub(crate) fn push_object(text: &mut String, object: &Object) -> Result<(), NoMe
 /// The first line of a manifest.
 pub(crate) const HEADING: &str = "id,type,watermark,prevId,resend,sha256\n";
 
-/// A text of the heading and rows: each row's first five fields, and its digest as a number; 0 adds no sixth field.
+/// A text of the heading and rows: each row's first five fields, and its digest as a number; 0 adds
+/// no sixth field.
 pub(crate) fn manifest_text(alloc: Global, rows: &[(&str, u32)]) -> Result<String, NoMemory> {
     let mut text = String::from_str(alloc, HEADING)?;
     for (fields, digest) in rows {

@@ -34,7 +34,8 @@ struct Full<'a> {
     files: &'a [u8],
 }
 
-/// Fulls, each with the id and the number of contents of its envelope, and what it holds or the least refusal.
+/// Fulls, each with the id and the number of contents of its envelope, and what it holds or the
+/// least refusal.
 static FULLS: [(Full<'static>, &str); 13] = [
     // The last row of a lowered key counts.
     (
@@ -63,8 +64,8 @@ static FULLS: [(Full<'static>, &str); 13] = [
         },
         "F1, 2 tables\nF1, 0 counts\nContact C1: contact id=C1 clID=R1\n1 orphans\n",
     ),
-    // Three contact rows have no parent row, in other letters or of another id; two of the name servers have none,
-    // and a status stands at a domain that has a contact's id.
+    // Three contact rows have no parent row, in other letters or of another id; two of the name
+    // servers have none, and a status stands at a domain that has a contact's id.
     (
         Full {
             contents: "contact contactStatus domain domainNs domainStatus",
@@ -170,8 +171,8 @@ static UNREADABLE: [(&[u8], &str); 8] = [
     ),
 ];
 
-/// Contacts by the letters before each one's number and how many there are, whether a deleted domain stands beside them, and
-/// what is said.
+/// Contacts by the letters before each one's number and how many there are, whether a deleted
+/// domain stands beside them, and what is said.
 static SIZES: [(u8, u32, bool, &str); 8] = [
     (254, 1, false, "1 objects"),
     (254, 1, true, "1 objects"),
@@ -470,7 +471,8 @@ fn keys_and_rows_have_limits(rt: HostRuntime) {
     }
 }
 
-// With ample memory this says less than the test of the same deposits. It is for runs in which an allocation is refused.
+// With ample memory this says less than the test of the same deposits. It is for runs in which an
+// allocation is refused.
 #[test]
 fn a_fault_is_answered_where_memory_is_refused(rt: HostRuntime) {
     assert!(rt; count_refused(&rt, rt.alloc()) < 2);

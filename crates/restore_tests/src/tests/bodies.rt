@@ -1,4 +1,5 @@
-//! The bundles of the tests, and the manifests that list them. Lengths and digests were computed by another program.
+//! The bundles of the tests, and the manifests that list them. Lengths and digests were computed by
+//! another program.
 
 /// A Full: registrar R1, contact C1, domain a.example.
 pub const F1: &str = r#"escrow-bundle 1
@@ -315,7 +316,8 @@ id,type,watermark,prevId,resend,sha256
 F1,FULL,2024-03-03T00:00:00Z,,,1d41f5eeb08831b6a8f6956b591cf4d4a358e3df4c4601a65b3528460d54055c
 ";
 
-/// Three bodies that are no deposits, one that says another resend than its row, and a Differential.
+/// Three bodies that are no deposits, one that says another resend than its row, and a
+/// Differential.
 pub const UNREADABLE: &str = "\
 id,type,watermark,prevId,resend,sha256
 E0,FULL,2024-03-01T00:00:00Z,,,e3b0c44298fc1c149afbf4c8996fb92427ae41e4649b934ca495991b7852b855

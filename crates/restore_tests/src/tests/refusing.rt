@@ -331,7 +331,8 @@ fn an_empty_path_is_told(rt: HostRuntime) -> Result<(), Fail> {
     compare(&rt, row, status, &said, &told)
 }
 
-/// Zeros are a heading of one field. A manifest that is too long is refused by its length, however long it is.
+/// Zeros are a heading of one field. A manifest that is too long is refused by its length, however
+/// long it is.
 const LENGTHS: Scene = Scene {
     folder: "lengths",
     folders: &[],
@@ -377,7 +378,8 @@ fn manifests_are_refused_by_their_length(rt: HostRuntime) -> Result<(), Fail> {
     Ok(fs::remove_dir_all(&rt, LENGTHS.folder)?)
 }
 
-/// Links are followed, but for those in the folder that is taken. One that leads to nothing can't be read.
+/// Links are followed, but for those in the folder that is taken. One that leads to nothing can't
+/// be read.
 const LINKS: Scene = Scene {
     folder: "links",
     folders: &["links/deposits"],

@@ -1,5 +1,5 @@
-//! The desk on a socket. Both ends are in this process, one after the other: the requests are sent while the program says
-//! that it listens, and the responses are read once it has ended.
+//! The desk on a socket. Both ends are in this process, one after the other: the requests are sent
+//! while the program says that it listens, and the responses are read once it has ended.
 
 use super::bodies::WITH_SAMPLE;
 use super::streams::{Narrow, check_narrow};
@@ -15,7 +15,8 @@ use std::net::{Net, Shutdown, TcpListener, TcpStream};
 use std::process::Abort;
 use std::test::Fail;
 
-/// Standard output that calls an address once something is written, and sends each request by a connection of its own.
+/// Standard output that calls an address once something is written, and sends each request by a
+/// connection of its own.
 #[derive(Drop)]
 struct Calling<'a, N: Net<Listener = TcpListener, Stream = TcpStream>> {
     net: &'a N,

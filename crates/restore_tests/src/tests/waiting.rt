@@ -119,7 +119,8 @@ fn desk(rt: &HostRuntime) -> Result<Desk<MemStore>, Fail> {
 
 const STATUS: &[u8] = b"GET /status HTTP/1.1\r\n\r\n";
 
-/// Milliseconds before each part of a request of 24 bytes, and the bytes of each; what is told, and when.
+/// Milliseconds before each part of a request of 24 bytes, and the bytes of each; what is told, and
+/// when.
 const HEADS: [(u64, usize, &str, u64); 5] = [
     (0, 24, "", 0),
     // The whole head comes in 9.6 seconds; in 12 seconds it doesn't come.
@@ -150,7 +151,8 @@ fn a_head_is_waited_for_as_a_whole(rt: HostRuntime) -> Result<(), Fail> {
 
 /// Bytes of a body of 700,000 that come each second; what is told, and after how many seconds.
 const BODIES: [(usize, &str, u64); 3] = [
-    // 8,192 bytes come with the head, the others in eleven seconds: more than ten, and earned by those that came.
+    // 8,192 bytes come with the head, the others in eleven seconds: more than ten, and earned by
+    // those that came.
     (64_000, "", 12),
     // Each second earns less than a second.
     (6_000, "read fault\n", 10),
@@ -205,7 +207,8 @@ fn a_response_is_waited_for_as_a_whole(rt: HostRuntime) -> Result<(), Fail> {
     Ok(())
 }
 
-/// Milliseconds before each byte that a client sends that has its response, and when nobody reads any more.
+/// Milliseconds before each byte that a client sends that has its response, and when nobody reads
+/// any more.
 const RESTS: [(u64, u64); 3] = [(900, 10_000), (1_000, 10_000), (1_001, 1_000)];
 
 #[test]

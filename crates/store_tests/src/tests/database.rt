@@ -1,4 +1,5 @@
-//! The tables of a database: whether it is unused, has those of a store, or others, and what a new store has in them.
+//! The tables of a database: whether it is unused, has those of a store, or others, and what a new
+//! store has in them.
 
 use super::assert_text;
 use Deed::{Make, Nothing, Run};

@@ -182,7 +182,8 @@ fn tell<S: Alter>(alloc: Global, text: &mut String, store: &mut Store<S>) -> Res
     tell_chain(alloc, text, store)
 }
 
-// What is told of a new store, after an arrival, after one that isn't committed, and of the store that is found again.
+// What is told of a new store, after an arrival, after one that isn't committed, and of the store
+// that is found again.
 const STAGES: &str = "0 writes; lists F1; lists D1; 0 receipts
 1 writes; lists F1; lists D1; 1 receipts; 1 one A1; holds 0; 0 at 1709424000000000000
 1 writes; lists F1; lists D1; 1 receipts; 1 one A1; holds 0; 0 at 1709424000000000000
@@ -322,7 +323,8 @@ fn other_databases_are_no_store_of_a_longer_manifest(rt: HostRuntime) -> Result<
     assert_databases(&rt, rt.alloc(), &manifest)
 }
 
-// Writes an object at each key, and notes that none stood there before step 1, but for the last key, where it did.
+// Writes an object at each key, and notes that none stood there before step 1, but for the last
+// key, where it did.
 fn fill<S: Alter>(
     alloc: Global,
     store: &mut Store<S>,
@@ -427,7 +429,8 @@ fn tell_tables<S: Alter>(
     tell_counts(text, &counts)
 }
 
-// The keys and counts, and what is undone of step 1, of step 1 again, since the change was dropped, and of step 2.
+// The keys and counts, and what is undone of step 1, of step 1 again, since the change was dropped,
+// and of step 2.
 const READ_BACK: &str =
     "host ns.a.example; domain a.example; domain b.example; 0 0 1 2 0 0 \nns.a.example false; a.example true; b.example false; 0 left\nns.a.example false; a.example true; b.example false; 0 left\n0 left\n";
 
@@ -504,7 +507,8 @@ fn tell_body<S: Alter>(
     Ok(())
 }
 
-// Numbers and digests with the receipt that was kept for them, and rows with the length of their bodies.
+// Numbers and digests with the receipt that was kept for them, and rows with the length of their
+// bodies.
 const FOUND: &str = "one 1: receipt 1
 one 2: receipt 0
 two 1: receipt 0

@@ -58,7 +58,8 @@ fn rows_from(alloc: Global, first: usize) -> Result<Vec<usize>, NoMemory> {
     Ok(rows)
 }
 
-// The latest chain where all rows from one on are held: its length, and whether it is the first rows in order.
+// The latest chain where all rows from one on are held: its length, and whether it is the first
+// rows in order.
 fn push_chain(text: &mut String, chain: &[usize]) -> Result<(), NoMemory> {
     let in_order = chain.iter().enumerate().all(|(k, row)| k == *row);
     let length = chain.len();

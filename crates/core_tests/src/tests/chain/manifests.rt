@@ -21,7 +21,8 @@ D2,DIFF,2024-03-04T00:00:00Z,F1,1
 D3,DIFF,2024-03-05T00:00:00Z,X9,1
 ";
 
-// Two types at one watermark, not in the order of places, and an Incremental on a Full of the same moment.
+// Two types at one watermark, not in the order of places, and an Incremental on a Full of the same
+// moment.
 const TIES: &str = "F2,FULL,2024-03-04T00:00:00Z,,
 D2,DIFF,2024-03-04T00:00:00Z,F1,
 F1,FULL,2024-03-03T00:00:00Z,,

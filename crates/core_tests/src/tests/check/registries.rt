@@ -1,8 +1,9 @@
 //! Small registries: what is found in each, and what is exported of it.
 //!
-//! A registry is a text of its objects with an empty line between them. The first line of an object is its kind and key and
-//! the cells of its row, of the table that has its kind's name; the others are its child rows, each its table and its cells.
-//! A table of cases that is made of texts alone is proved sooner than one of lists in lists.
+//! A registry is a text of its objects with an empty line between them. The first line of an object
+//! is its kind and key and the cells of its row, of the table that has its kind's name; the others
+//! are its child rows, each its table and its cells. A table of cases that is made of texts alone
+//! is proved sooner than one of lists in lists.
 
 use esc_envelope::Kind;
 
@@ -18,7 +19,8 @@ pub(crate) const FRONT: &str = "registrar R1: id=R1
 contact C1: id=C1|clID=R1
 ";
 
-// Statuses and dates of two domains: one is ok and gone, and expires before it is created, after the watermark.
+// Statuses and dates of two domains: one is ok and gone, and expires before it is created, after
+// the watermark.
 const STATUSES_AND_DATES: Found = (
     "registrar R1: id=R1
 
