@@ -1,11 +1,13 @@
 pub mod AllHeld
 pub mod AtFirst
+pub mod CauseLemmas
 pub mod Distinct
 pub mod EventLemmas
 pub mod FrontLemmas
 pub mod HeldRows
 pub mod Holding
 pub mod OneArrival
+pub mod OutcomeLemmas
 pub mod PlanLemmas
 pub mod ReadLemmas
 pub mod Remembering

@@ -1,17 +1,18 @@
 -- The words of a desk's contracts: what a call says of whatever events the desk served before it.
-use Rattle.std.specs.Prelude.{◌≡◌, ℕ, ◌<◌, ◌++◌, List, length, Some, None, Result, IfOk}
+use Rattle.std.specs.Prelude.{◌≡◌, ℕ, ◌<◌, ◌≤◌, ◌++◌, List, length, Some, None, Result, IfOk}
 use Rattle.sha2.specs.Sha256.{sha256}
 use Rattle.sqlite_trees.specs.declared.store.Store.{Ghosts}
 use Rattle.esc_tables.specs.Reading.{reading}
 use Rattle.esc_apply.specs.declared.moves.Work.{Work}
 use Rattle.esc_store.specs.declared.fault.SFault.{SFault}
+use Rattle.esc_store.specs.declared.fault.SFault.TheVariants.{S1, S2, S3, S4}
 use Rattle.esc_store.specs.declared.store.Store.{Store}
 use Rattle.esc_store.specs.ReplyValue.{ReplyValue}
 use Rattle.esc_store.specs.Standing.{IsHonest, IsAsBefore}
 use Rattle.esc_desk.specs.declared.desk.Desk.{Desk}
 use Rattle.esc_desk.specs.declared.running.Outcome.{Outcome}
 use Rattle.esc_desk.specs.ArrivalValue.{ArrivalValue}
-use Rattle.esc_desk.specs.Crashes.{CrashLeaves, LeavesTaken, doubtful_after}
+use Rattle.esc_desk.specs.Crashes.{CrashLeaves, LeavesTaken, LeavesOutcome, doubtful_after}
 use Rattle.esc_desk.specs.Events.{EventValue}
 use Rattle.esc_desk.specs.Receipts.{receipts_of, reply_to}
 use Rattle.esc_desk.specs.Running.{answered}
@@ -68,6 +69,10 @@ module _ {S : Type 0} (g : Ghosts S) (old new : Desk S) where
     pub same : IsAsBefore g old.store new.store
     pub serves : ServesStill
 
+  -- the call did nothing
+  abbrev pub IsUntouched : Type 0
+  IsUntouched = new ≡ old
+
   -- the desk remembers what it did
   abbrev pub RemembersStill : Type 0
   RemembersStill = new.known ≡ old.known
@@ -89,6 +94,20 @@ abbrev pub RepeatsReply : List EventValue → ArrivalValue → ReplyValue → Wo
 RepeatsReply e a reply work = (r : ReplyValue) → reply_to sha256 reading e a ≡ Some r
     → (reply ≡ r) × (work ≡ no_work)
 
+-- there is no room for the receipt of an arrival: it is like none before it, and there are
+-- 1,000,000,000 receipts
+abbrev pub HasNoRoom : List EventValue → ArrivalValue → Type 0
+HasNoRoom e a = (reply_to sha256 reading e a ≡ None)
+    × (1_000_000_000 ≤ length (receipts_of sha256 reading e))
+
+-- why an arrival may be lost: the database failed (S1), memory was refused (S2), or there is no
+-- room for its receipt (S4)
+abbrev pub IsCause : List EventValue → ArrivalValue → SFault → Type 0
+IsCause e a S1 = Unit {0}
+IsCause e a S2 = Unit {0}
+IsCause e a S3 = ⊥
+IsCause e a S4 = HasNoRoom e a
+
 -- an arrival like none before it: there was room for its receipt
 abbrev pub HadRoom : List EventValue → ArrivalValue → Type 0
 HadRoom e a = reply_to sha256 reading e a ≡ None
@@ -98,6 +117,12 @@ HadRoom e a = reply_to sha256 reading e a ≡ None
 abbrev pub DeskLeavesTaken : {S X : Type 0} → Ghosts S → Desk S → List EventValue → List EventValue
     → ArrivalValue → Result X SFault → Type 0
 DeskLeavesTaken g desk e doubtful a result = LeavesTaken g desk.store.conn e doubtful a result
+
+-- what a crash leaves after an arrival of a run, by its outcome
+abbrev pub DeskLeavesOutcome : {S : Type 0} → Ghosts S → Desk S → List EventValue
+    → List EventValue → ArrivalValue → Outcome → Type 0
+DeskLeavesOutcome g desk e doubtful a outcome =
+    LeavesOutcome g desk.store.conn e doubtful a outcome
 
 -- what a crash leaves after a run over arrivals: the events before it and the answered arrivals,
 -- and those in doubt then

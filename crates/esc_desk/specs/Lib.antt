@@ -1,10 +1,12 @@
 pub mod AllArrivals
 pub mod ArrivalValue
 pub mod Calls
+pub mod Causes
 pub mod Events
 pub mod Filled
 pub mod Finding
 pub mod Given
+pub mod Outcomes
 pub mod Places
 pub mod Plans
 pub mod Reads

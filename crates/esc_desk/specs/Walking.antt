@@ -4,6 +4,7 @@ use Rattle.std.specs.Prelude.{
   ℕ,
   ◌==◌,
   Bool,
+  true,
   false,
   not,
   List,
@@ -68,8 +69,20 @@ abbrev pub Lists : {S : Type 0} → Ghosts S → Walk S Pages → List Entry →
 Lists g walk es = AreToCome g walk.desk.now.store walk.pages es
 
 -- the desk that a walk goes over, as it is now
-abbrev pub desk_of : {S : Type 0} → Walk S Pages → Desk S
+abbrev pub desk_of : {S P : Type 0} → Walk S P → Desk S
 desk_of walk = walk.desk.now
+
+-- the name of the reference by which the desk is lent to a walk
+abbrev pub lent_as : {S P : Type 0} → Walk S P → ℕ
+lent_as walk = walk.desk.ghost_name
+
+-- at most so many objects does a walk still give
+abbrev pub most_left : {S : Type 0} → Walk S Pages → ℕ
+most_left walk = walk.pages.left
+
+-- a call of the walk has failed
+abbrev pub HasFailed : {S : Type 0} → Walk S Pages → Type 0
+HasFailed walk = walk.pages.has_failed ≡ true
 
 -- a walk is still to give the objects of the tables after these events, of one kind or all
 abbrev pub ListsTables : {S : Type 0} → Ghosts S → Walk S Pages → Option Kind → List EventValue

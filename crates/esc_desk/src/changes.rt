@@ -20,6 +20,7 @@ ghost use Rattle.std.specs.Prelude.{
   ◌^◌,
   sum_by,
   IfOk,
+  IfErr,
   IfSome,
   OnOk,
   OnErr,
@@ -34,14 +35,17 @@ ghost use Rattle.esc_apply.specs.Images.{chain_state};
 ghost use Rattle.esc_apply.specs.Front.{common_front};
 ghost use Rattle.esc_store.specs.Kept.{Kept, with_receipt, with_body, with_steps, with_registry};
 ghost use Rattle.esc_store.specs.Standing.{Stands, IsHonest, IsAsBefore, LeavesOnly};
+ghost use Rattle.esc_store.specs.Faults.{IsS1OrS2};
+ghost use Rattle.esc_desk.specs.Causes.{IsStoreFault, IsChangeFault};
 ghost use Rattle.esc_desk.specs.Plans.{rows_in, kept_by};
-ghost use Rattle.esc_store.specs.Standing.{Began, Rest, HoldsNow, GoesOn};
+ghost use Rattle.esc_store.specs.Standing.{Began, Rest, HoldsNow, GoesOn, Follows};
 ghost use Rattle.esc_desk.specs.Filled.{IsFilled};
 ghost use Rattle.esc_desk.specs.Crashes.{AddsStore};
 
 use crate::plan::Plan;
-use esc_apply::{Work, move_chain};
+use esc_apply::{Step, Work, move_chain};
 use esc_store::{Change, Receipt, SFault, Store};
+use esc_tables::Deposit;
 use sqlite::Alter;
 use std::alloc::Global;
 
@@ -66,6 +70,7 @@ pub(crate) fn note_receipt<S: Alter>(
         → AddsStore S.Store store.old.conn store.new.conn result (with_receipt k receipt.now) }
     ensures kept { OnErr result ((k : Kept) → Stands S.Store store.old k
         → Stands S.Store store.new k) }
+    ensures cause { IfErr result (IsStoreFault S.Store store.old store.new) }
 {
     let mut change = store.begin()?;
     let number = note_in(&mut change, receipt)?;
@@ -82,6 +87,7 @@ fn note_in<S: Alter>(change: &mut Change<'_, S>, receipt: &Receipt<'_>) -> Resul
     ensures numbered { IfOk result (λ n. IsHonest S.Store change.new.store.now → (before k : Kept)
         → Rest S.Store change.old before k → n ≡ length k.receipts + 1) }
     ensures room { IfOk result (λ n. n ≤ 1_000_000_000) }
+    ensures cause { IfErr result (IsChangeFault S.Store change.old change.new) }
 {
     change.record_receipt(receipt)
 }
@@ -129,6 +135,7 @@ pub(crate) fn hold_deposit<S: Alter>(
     ensures uncounted { OnErr result (store.new.writes ≡ store.old.writes) }
     ensures kept { OnErr result ((k : Kept) → Stands S.Store store.old k
         → Stands S.Store store.new k) }
+    ensures cause { IfErr result (IsStoreFault S.Store store.old store.new) }
 {
     let mut change = store.begin()?;
     let filled = fill_change(&mut change, alloc, receipt, row, body, plan)?;
@@ -169,12 +176,56 @@ fn fill_change<S: Alter>(
         → p.1 ≡ cost c plan.now.old.items plan.now.new.items plan.now.deposits.items) }
     ensures counted { IfOk result (λ p. saturated change.new.count
         ≡ saturated (saturated change.old.count + p.1.writes)) }
+    ensures cause { IfErr result (IsChangeFault S.Store change.old change.new) }
 {
     let number = change.record_receipt(receipt)?;
     change.hold(row, body)?;
-    let work = move_chain(alloc, change, &plan.old, &plan.new, &plan.deposits)?;
+    let work = move_here(change, alloc, &plan.old, &plan.new, &plan.deposits)?;
     change.set_chain(&plan.new)?;
     Ok((number, work))
+}
+
+// Moves the tables from one chain to the other. A registry's fault is one of the store.
+fn move_here<S: Alter>(
+    change: &mut Change<'_, S>,
+    alloc: Global,
+    old: &[Step],
+    new: &[Step],
+    deposits: &[Deposit],
+) -> Result<Work, SFault>
+    requires few_old { length old.now ≤ 4096 }
+    requires few_new { length new.now ≤ 4096 }
+    requires deposits { length deposits.now ≡ length new.now - common_front old.now new.now }
+    ensures follows { Follows S.Store change.old change.new }
+    ensures counted { IfOk result (λ work. saturated change.new.count
+        ≡ saturated (saturated change.old.count + work.writes)) }
+    ensures moved { OnOk result (IsHonest S.Store change.new.store.now
+        → (c : List DepositValue) → length c ≡ length old.now
+        → HoldsNow S.Store change.old (chain_state c)
+        → HoldsNow S.Store change.new
+        (chain_state (take (common_front old.now new.now) c ++ deposits.now))) }
+    ensures cost { IfOk result (λ work. IsHonest S.Store change.new.store.now
+        → (c : List DepositValue) → length c ≡ length old.now
+        → HoldsNow S.Store change.old (chain_state c)
+        → sum_by mention_count (c ++ deposits.now) < 2 ^ 64
+        → work ≡ cost c old.now new.now deposits.now) }
+    ensures cause { IfErr result IsS1OrS2 }
+{
+    match move_chain(alloc, change, old, new, deposits) {
+        Ok(work) => Ok(work),
+        Err(fault) => Err(store_fault(fault)),
+    }
+}
+
+// A fault of a registry as one of the store, since a registry's contract doesn't say which faults
+// there are.
+fn store_fault(fault: SFault) -> SFault
+    ensures { IsS1OrS2 result }
+{
+    match fault {
+        SFault::S2 => SFault::S2,
+        SFault::S1 | SFault::S3 | SFault::S4 => SFault::S1,
+    }
 }
 
 // Makes a change whole.
@@ -192,6 +243,7 @@ fn commit_filled<S: Alter>(change: Change<'_, S>) -> Result<(), SFault>
         → LeavesOnly S.Store change.exit.0.now k) }
     ensures crash { (before k : Kept) → IsFilled S.Store change.entry before k
         → AddsStore S.Store change.entry.store.now.conn change.exit.0.now.conn result k }
+    ensures cause { IfErr result IsS1OrS2 }
 {
     change.commit()
 }

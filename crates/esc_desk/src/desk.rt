@@ -16,6 +16,7 @@ ghost use Rattle.std.specs.Prelude.{
   Some,
   None,
   IfOk,
+  IfErr,
   IfSome,
   OnOk,
   OnErr,
@@ -23,9 +24,11 @@ ghost use Rattle.std.specs.Prelude.{
 ghost use Rattle.sha2.specs.Sha256.{sha256};
 ghost use Rattle.esc_tables.specs.Reading.{reading};
 ghost use Rattle.esc_apply.specs.Registry.{saturated};
+ghost use Rattle.esc_store.specs.Faults.{IsS1OrS2, IsS1OrS2OrS4};
 ghost use Rattle.esc_store.specs.Kept.{Kept, AreHeld};
 ghost use Rattle.esc_store.specs.ReplyValue.{reply_alike};
 ghost use Rattle.esc_store.specs.Standing.{Stands, IsHonest, IsAsBefore, LeavesOnly};
+ghost use Rattle.esc_desk.specs.Causes.{IsStoreFault};
 ghost use Rattle.esc_desk.specs.Finding.{held_row};
 ghost use Rattle.esc_desk.specs.Receipts.{is_among, is_old};
 ghost use Rattle.esc_desk.specs.Stands.{StandsFor};
@@ -37,12 +40,14 @@ ghost use Rattle.esc_desk.specs.Calls.{
   writes_of,
   DeskLeaves,
   DeskLeavesTaken,
+  After,
   OkAfter,
   CrashAfter,
   WasHonest,
   ServesStill,
   RepeatsReply,
   HadRoom,
+  IsCause,
 };
 ghost use Rattle.esc_desk.specs.Events.{EventValue, union};
 ghost use Rattle.esc_desk.specs.Events.EventValue.{arrived};
@@ -125,6 +130,9 @@ impl<S: Alter> Desk<S> {
             (λ e p. AddsNoRow e (arrived (an_arrival number.now body.now)) → p.1 ≡ no_work) }
         ensures room { OkAfter S.Store self.old self.new result
             (λ e _. HadRoom e (an_arrival number.now body.now)) }
+        ensures cause { IfErr result IsS1OrS2OrS4 }
+        ensures full { After S.Store self.old self.new
+            (λ e. IfErr result (IsCause e (an_arrival number.now body.now))) }
         ensures counted { IfOk result
             (λ p. writes_of self.new ≡ saturated (writes_of self.old + p.1.writes)) }
         ensures uncounted { OnErr result (writes_of self.new ≡ writes_of self.old) }
@@ -176,6 +184,7 @@ impl<S: Alter> Desk<S> {
             → AddsStoreFor S.Store self.old.store.conn self.new.store.conn result
             (e ++ arrived (an_arrival number.now body.now) ∷ []) }
         ensures honest { IsHonest S.Store self.new.store → IsHonest S.Store self.old.store }
+        ensures cause { IfErr result (IsStoreFault S.Store self.old.store self.new.store) }
     {
         let mut held = self.take_held(alloc)?;
         let taken = take_in(&mut self.store, alloc, number, digest, body, &mut held)?;
@@ -192,6 +201,7 @@ impl<S: Alter> Desk<S> {
             → Stands S.Store self.old.store k → StandsFor sha256 reading e k
             → IfSome self.old.known (λ rows. AreHeld k.bodies rows.items)
             → IfOk result (λ rows. AreHeld k.bodies rows.items) }
+        ensures cause { IfErr result IsS1OrS2 }
     {
         match self.known.take() {
             Some(rows) => Ok(rows),
@@ -232,6 +242,7 @@ fn take_in<S: Alter>(
         → AddsStoreFor S.Store store.old.conn store.new.conn result
         (e ++ arrived (an_arrival number.now body.now) ∷ []) }
     ensures honest { IsHonest S.Store store.new → IsHonest S.Store store.old }
+    ensures cause { IfErr result (IsStoreFault S.Store store.old store.new) }
 {
     let found = find(alloc, store.manifest(), &digest, body)?;
     let again = is_among(held, held_row(&found));
@@ -275,6 +286,7 @@ fn keep<S: Alter>(
         ≡ saturated (store.old.writes + p.1.writes)) }
     ensures uncounted { OnErr result (store.new.writes ≡ store.old.writes) }
     ensures honest { IsHonest S.Store store.new → IsHonest S.Store store.old }
+    ensures cause { IfErr result (IsStoreFault S.Store store.old store.new) }
 {
     if is_old(held, held_row(&found)) {
         return Ok((note_receipt(store, receipt)?, NO_WORK));
@@ -320,6 +332,7 @@ fn keep_deposit<S: Alter>(
         ≡ saturated (store.old.writes + p.1.writes)) }
     ensures uncounted { OnErr result (store.new.writes ≡ store.old.writes) }
     ensures honest { IsHonest S.Store store.new → IsHonest S.Store store.old }
+    ensures cause { IfErr result (IsStoreFault S.Store store.old store.new) }
 {
     latest_chain_rows_are_held();
     read_deposits_mention_few();

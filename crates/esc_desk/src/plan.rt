@@ -1,13 +1,27 @@
 //! How the registry gets from the chain that the store keeps to the latest chain of the rows held
 //! then.
 
-ghost use Rattle.std.specs.Prelude.{◌≡◌, ◌<◌, ◌≤◌, ◌-◌, ℕ, List, Ok, length, map, drop, IfOk};
+ghost use Rattle.std.specs.Prelude.{
+  ◌≡◌,
+  ◌<◌,
+  ◌≤◌,
+  ◌-◌,
+  ℕ,
+  List,
+  Ok,
+  length,
+  map,
+  drop,
+  IfOk,
+  IfErr,
+};
 ghost use Rattle.std.specs.FinSet as set;
 ghost use Rattle.esc_tables.specs.Reading.{reading};
 ghost use Rattle.esc_manifest.specs.declared.row.MRow.{MRow};
 ghost use Rattle.esc_manifest.specs.Accepted.{IsAccepted};
 ghost use Rattle.esc_chain.specs.Chain.{InRange};
 ghost use Rattle.esc_apply.specs.Front.{common_front};
+ghost use Rattle.esc_store.specs.Faults.{IsS1OrS2};
 ghost use Rattle.esc_store.specs.Kept.{Kept, body_put, step_at};
 ghost use Rattle.esc_store.specs.Standing.{Stands, IsHonest, IsAsBefore};
 ghost use Rattle.esc_desk.specs.Stands.{deposit_of, deposits_of};
@@ -50,6 +64,7 @@ pub(crate) fn plan_move<S: Alter>(
     ensures planned { IsHonest S.Store store.new → (k : Kept) → Stands S.Store store.old k
         → (body : List ℕ) → reading body ≡ Ok deposit
         → IfOk result (IsPlanned reading k held.now row body) }
+    ensures cause { IfErr result IsS1OrS2 }
 {
     let old = store.chain(alloc)?;
     if old.len() > MOST_STEPS {
@@ -76,6 +91,7 @@ fn next_steps(
         (λ steps. IsLatestChain manifest.now (with_held held.now row) (rows_in steps.items)) }
     ensures in_range { OnOk result (InRange manifest.now (with_held held.now row)) }
     ensures accepted { OnOk result (IsAccepted manifest.now) }
+    ensures cause { IfErr result IsS1OrS2 }
 {
     let rows = held_with(alloc, manifest, held, row)?;
     let chain = latest_chain(alloc, manifest, &rows)?;
@@ -89,6 +105,7 @@ fn held_with(alloc: Global, manifest: &Manifest, rows: &[usize], row: usize) -> 
     requires { row < length manifest.now }
     ensures held { IfOk result (λ h. h ≡ with_held rows.now row) }
     ensures in_range { IfOk result (InRange manifest.now) }
+    ensures cause { IfErr result IsS1OrS2 }
 {
     let mut held = Held::new(alloc);
     for held_row in rows {
@@ -140,6 +157,7 @@ fn deposits_of<S: Alter>(
         → (body : List ℕ) → reading body ≡ Ok deposit
         → IfOk result (λ v. v.items
         ≡ deposits_of reading (body_put k.bodies row body) (rows_in steps.now)) }
+    ensures cause { IfErr result IsS1OrS2 }
 {
     let mut given = Some(deposit);
     let mut deposits = Vec::new(alloc);
@@ -164,6 +182,7 @@ fn next_deposit<S: Alter>(
     ensures read { IsHonest S.Store store.new → (k : Kept) → Stands S.Store store.old k
         → (body : List ℕ) → IfSome given.old (λ d. reading body ≡ Ok d)
         → IfOk result (λ d. d ≡ deposit_of reading (body_put k.bodies given_row body row)) }
+    ensures cause { IfErr result IsS1OrS2 }
 {
     if row == given_row {
         return match given.take() {
@@ -186,6 +205,7 @@ fn stored_deposit<S: Alter>(
     ensures same { IsAsBefore S.Store store.old store.new }
     ensures read { IsHonest S.Store store.new → (k : Kept) → Stands S.Store store.old k
         → IfOk result (λ d. d ≡ deposit_of reading (k.bodies row)) }
+    ensures cause { IfErr result IsS1OrS2 }
 {
     let Some(body) = store.body_of(alloc, row)? else {
         return Err(SFault::S1);

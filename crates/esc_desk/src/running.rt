@@ -1,9 +1,24 @@
 //! Runs: lists of arrivals, one after another.
 
-ghost use Rattle.std.specs.Prelude.{◌≡◌, IfOk, OnErr};
-ghost use Rattle.esc_desk.specs.Calls.{After, OkAfter, CrashAfter, WasHonest, DeskLeavesRun};
+ghost use Rattle.std.specs.Prelude.{◌≡◌, length, All, IfOk, OnErr};
+ghost use Rattle.esc_desk.specs.Calls.{
+  After,
+  OkAfter,
+  CrashAfter,
+  WasHonest,
+  IsUntouched,
+  DeskLeavesOutcome,
+  DeskLeavesRun,
+  writes_of,
+};
 ghost use Rattle.esc_desk.specs.Running.{Ran, Takes};
-ghost use Rattle.esc_desk.specs.Crashes.{LeavesOutcome};
+ghost use Rattle.esc_desk.specs.Outcomes.{
+  IsOutcome,
+  IsOutcomeOf,
+  AreOutcomesOf,
+  HasWorked,
+  HasWorkedOnce,
+};
 
 use crate::arrival::Arrival;
 use crate::desk::Desk;
@@ -29,16 +44,29 @@ impl<S: Alter> Desk<S> {
     /// the latest unbroken chain of the listed deposits that arrived, each at its highest arrived
     /// revision; and arrivals alike in number and body get one receipt and the first one's reply.
     /// Where the desk served a list of events before, it serves that list followed by the answered
-    /// arrivals, so runs compose. `NoMemory` is answered before the first arrival.
+    /// arrivals, so runs compose. There is an outcome for each arrival. One is lost by `S1` or
+    /// `S2`, or by `S4` where it is like none before it and the store has 1,000,000,000 receipts.
+    /// [`Desk::writes`] grows by the writes of the work of each answered arrival. `NoMemory` is
+    /// returned before the first arrival.
     pub fn run(&mut self, alloc: Global, arrivals: &[Arrival<'_>]) -> Result<Vec<Outcome>, NoMemory>
         ensures ran { OkAfter S.Store self.old self.new result
             (λ before outcomes. Ran S.Store self.new before arrivals.now outcomes.items) }
         ensures crash { IfOk result (λ outcomes. CrashAfter S.Store self.old
             (λ before doubtful. DeskLeavesRun S.Store self.new before doubtful
             arrivals.now outcomes.items)) }
-        ensures refused { OnErr result (self.new ≡ self.old) }
+        ensures counted { IfOk result (λ outcomes. length outcomes.items
+            ≡ length arrivals.now) }
+        ensures cause { IfOk result (λ outcomes. All IsOutcome outcomes.items) }
+        ensures causes { OkAfter S.Store self.old self.new result
+            (λ before outcomes. AreOutcomesOf before arrivals.now outcomes.items) }
+        ensures worked { OkAfter S.Store self.old self.new result
+            (λ before outcomes. HasWorked before arrivals.now outcomes.items
+            (writes_of self.old) (writes_of self.new)) }
+        ensures refused { OnErr result (IsUntouched S.Store self.old self.new) }
         ensures honest { WasHonest S.Store self.old self.new }
     {
+        // A proof knows that a count is below 2^64 where the body reads it.
+        let _writes = self.store.writes();
         let mut outcomes = Vec::with_capacity(alloc, arrivals.len())?;
         for arrival in arrivals {
             let outcome = self.take(alloc, arrival);
@@ -52,8 +80,13 @@ impl<S: Alter> Desk<S> {
         ensures taken { After S.Store self.old self.new
             (λ e. Takes S.Store self.new e arrival.now result) }
         ensures crash { CrashAfter S.Store self.old
-            (λ e doubtful. LeavesOutcome S.Store self.new.store.conn e doubtful
+            (λ e doubtful. DeskLeavesOutcome S.Store self.new e doubtful
             arrival.now result) }
+        ensures cause { IsOutcome result }
+        ensures causes { After S.Store self.old self.new
+            (λ e. IsOutcomeOf e arrival.now result) }
+        ensures worked { After S.Store self.old self.new
+            (λ e. HasWorkedOnce e arrival.now result (writes_of self.old) (writes_of self.new)) }
         ensures honest { WasHonest S.Store self.old self.new }
     {
         match self.arrive(alloc, &arrival.number, arrival.body) {

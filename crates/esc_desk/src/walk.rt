@@ -44,15 +44,14 @@ pub struct Walk<'a, S: Alter, P = Pages> {
 
 impl<S: Alter> Desk<S> {
     ghost use Rattle.esc_desk.specs.contracts.desk.Desk.{the_row};
-    ghost use Rattle.esc_desk.specs.Walking.{AreToCome, ListsPages, ListsTables, desk_of};
+    ghost use Rattle.esc_desk.specs.Walking.{AreToCome, ListsPages, ListsTables, desk_of, lent_as};
 
     /// The objects of the latest chain's tables, those of one kind or of all, one at a time by key.
     /// No more than a page of them is held in memory. `S1`, `S2`.
     pub fn walk(&mut self, alloc: Global, kind: Option<Kind>) -> Result<Walk<'_, S>, SFault>
         ensures* refused { sem 𝓛 (RestsIfErr (the_row S.row S.Store) self.entry
-            (λ walk. walk.desk.ghost_name) result (Rests S.Store self.old)) }
-        ensures same_reference { IfOk result (λ walk. walk.desk.ghost_name
-            ≡ self.entry.ghost_name) }
+            (λ walk. lent_as walk) result (Rests S.Store self.old)) }
+        ensures same_reference { IfOk result (λ walk. lent_as walk ≡ self.entry.ghost_name) }
         ensures rests { IfOk result (λ walk. Rests S.Store self.old (desk_of walk)) }
         ensures lists { IfOk result (λ walk. Over S.Store self.old (desk_of walk)
             (λ e. ListsTables S.Store walk kind e)) }
@@ -180,17 +179,18 @@ fn kind_after(kind: Kind) -> Option<Kind>
 impl<'a, S: Alter> Objects for Walk<'a, S, Pages> {
     ghost use Rattle.std.proofs.Common.{true, refl, inl, ◌∙◌, arith};
     ghost use Rattle.sqlite.proofs.StateLemmas.{survives_then};
-    ghost use Rattle.esc_desk.specs.Walking.{Lists, Follows};
+    ghost use Rattle.esc_desk.specs.Calls.{IsHonestDesk};
+    ghost use Rattle.esc_desk.specs.Walking.{Lists, Follows, HasFailed, desk_of, most_left};
 
     type Error = SFault;
 
     ghost lists = { λ walk es. Lists S.Store walk es };
 
-    ghost bound = { λ walk. walk.pages.left };
+    ghost bound = { λ walk. most_left walk };
 
-    ghost has_failed = { λ walk. walk.pages.has_failed ≡ true };
+    ghost has_failed = { λ walk. HasFailed walk };
 
-    ghost is_honest = { λ walk. IsHonest S.Store walk.desk.now.store };
+    ghost is_honest = { λ walk. IsHonestDesk S.Store (desk_of walk) };
 
     ghost follows = { λ a b. Follows S.Store a b };
 
@@ -252,8 +252,10 @@ impl<'a, S: Alter> Objects for Walk<'a, S, Pages> {
 }
 
 impl<S: Alter, P: Drop> Drop for Walk<'_, S, P> {
+    ghost use Rattle.esc_desk.specs.Walking.{desk_of};
+
     fn drop(self)
-        ensures { self.exit.0.now ≡ self.entry.desk.now }
+        ensures { self.exit.0.now ≡ desk_of self.entry }
     {
         let Walk { desk: _, pages: _ } = self;
     }

@@ -28,9 +28,9 @@ returns-clause-filled g c = λ k held none size began rest stood.
       tables = chain_state held;
       rest = subst (λ (rows : List ℕ). Rest g.S.Store c.set_chain.new.self start (with_steps kept rows)) steps (c.in_ok-set_chain.ensures.set start kept parts);
       holds = λ clean.
-          let honest : IsHonest g.S.Store c.move_chain.new.r.store.now = omega (arith, c.in_ok-set_chain.ensures.goes_on.survives.clean, clean) in
+          let honest : IsHonest g.S.Store c.move_here.new.change.store.now = omega (arith, c.in_ok-set_chain.ensures.goes_on.survives.clean, clean) in
           let moved = c.in_ok-work.ensures.moved honest held (size ∙ ap length (sym old)) before in
-          c.in_ok-set_chain.ensures.holds _ (subst (λ (ds : List DepositValue). HoldsNow g.S.Store c.move_chain.new.r (chain_state ds)) all moved);
+          c.in_ok-set_chain.ensures.holds _ (subst (λ (ds : List DepositValue). HoldsNow g.S.Store c.move_here.new.change (chain_state ds)) all moved);
     }
 
 pub returns-clause-worked : goal.returns-clause-worked
@@ -38,7 +38,7 @@ returns-clause-worked g c = λ clean held size stood few.
     let old = c.deref.ensures.value in
     let new = c.deref-2.ensures.value in
     let deposits = c.deref-3.ensures.value in
-    let honest : IsHonest g.S.Store c.move_chain.new.r.store.now = omega (arith, c.in_ok-set_chain.ensures.goes_on.survives.clean, clean) in
+    let honest : IsHonest g.S.Store c.move_here.new.change.store.now = omega (arith, c.in_ok-set_chain.ensures.goes_on.survives.clean, clean) in
     let before = c.in_ok-hold.ensures.holds (chain_state held) (c.in_ok-number.ensures.holds (chain_state held) stood) in
     let fits = subst (λ (ds : List DepositValue). sum_by mention_count (held ++ ds) < 2 ^ 64) (sym deposits) few in
     c.in_ok-work.ensures.cost honest held (size ∙ ap length (sym old)) before fits

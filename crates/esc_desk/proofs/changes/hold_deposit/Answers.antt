@@ -2,6 +2,8 @@ use Rattle.std.proofs.Common.{rules, Ok}
 use Rattle.esc_apply.specs.Images.{chain_state}
 use Rattle.esc_store.specs.Kept.{with_registry}
 use Rattle.esc_desk.proofs.CrashLemmas.{none_then, adds_no_store, adds_store_then, adds_store_as, not_full_by}
+use Rattle.esc_desk.proofs.StoreFacts.{clean_before}
+use Rattle.esc_desk.proofs.CauseLemmas.{if_err_is, fault_then}
 use Rattle.esc_desk.proofs.changes.hold_deposit.Goals as goal
 
 pub returns-in_err-change-clause-crash : goal.returns-in_err-change-clause-crash
@@ -25,3 +27,8 @@ returns-clause-crash g c = λ k held none size stood.
     let made = adds_store_then g.S.Store c.args.store.now.conn _ _ (Ok c.in_ok-filled.filled) _ (none_then _ _ _ _ c.in_ok-change.ensures.survives c.in_ok-filled.ensures.goes_on.survives)
     (adds_store_as g.S.Store _ _ _ (Ok c.in_ok-filled.filled) _ (λ h. tt) (c.in_ok-commit_filled.ensures.crash start _ (c.in_ok-filled.ensures.filled k held none size (c.in_ok-change.ensures.began start stood) (c.in_ok-change.ensures.rest start stood) (c.in_ok-change.ensures.holds start stood)))) in
     search (rules, made)
+
+pub returns-in_err-filled-clause-cause : goal.returns-in_err-filled-clause-cause
+returns-in_err-filled-clause-cause g c =
+    if_err_is c.from_residual-in_err-filled.result c.in_err-filled.field-0.0 _ (search rules)
+    (fault_then c.in_err-filled.field-0.0 _ _ (λ full. λ clean k stood. full (clean_before _ _ c.drop-change.ensures.survives (search (rules, clean))) k k (c.in_ok-change.ensures.rest k stood)) c.in_err-filled.ensures.cause)

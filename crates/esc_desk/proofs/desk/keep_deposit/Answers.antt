@@ -15,6 +15,7 @@ use Rattle.esc_desk.proofs.TakingIn.{reads_of}
 use Rattle.esc_desk.proofs.Holding.{stands_held, no_body_yet, old_count}
 use Rattle.esc_desk.proofs.Working.{few_moved, moved, both_ok}
 use Rattle.esc_desk.proofs.CrashLemmas.{leaves_for, adds_none, adds_then, adds_for}
+use Rattle.esc_desk.proofs.CauseLemmas.{if_err_each, fault_then}
 use Rattle.esc_desk.proofs.desk.keep_deposit.Goals as goal
 
 pub returns-clause-kept : goal.returns-clause-kept
@@ -72,3 +73,6 @@ returns-clause-crash g c = λ clean e n k stood new is.
     let count = old_count law e accepted a k rows receipt row deposit is new plan planned in
     adds_then g.S.Store _ _ _ _ _ c.in_ok-plan.ensures.same.survives (adds_for g.S.Store _ _ _ _ _ stands
     (c.hold_deposit.ensures.crash k (deposits_of reading k.bodies k.steps) (no_body_yet law e accepted a k rows receipt row deposit is new plan planned) count before))
+
+pub returns-clause-cause : goal.returns-clause-cause
+returns-clause-cause g c = if_err_each c.hold_deposit.result _ _ (λ f cause. fault_then f _ _ (λ full. λ clean k stood. full clean k (c.in_ok-plan.ensures.same.stands k stood)) cause) c.hold_deposit.ensures.cause

@@ -1,4 +1,4 @@
-use Rattle.std.proofs.Common.{rules, refl, ◌≡◌, ◌<◌, Some, None, List, [], ◌∷◌, ◌++◌, ℕ, length, sym, ap, ap₂, subst, ◌∙◌}
+use Rattle.std.proofs.Common.{rules, refl, ◌≡◌, ◌<◌, ◌≤◌, Some, None, List, [], ◌∷◌, ◌++◌, ℕ, length, sym, ap, ap₂, subst, ◌∙◌}
 use Rattle.std.proofs.lemmas.Option.{IfSome_then}
 use Rattle.std.proofs.lemmas.Result.{IfOk-weaker}
 use Rattle.sha2.specs.Sha256.{sha256}
@@ -15,6 +15,7 @@ use Rattle.esc_desk.proofs.Remembering.{held_by}
 use Rattle.esc_desk.proofs.Searches.{same_answer, no_answer}
 use Rattle.esc_desk.proofs.Working.{chain_stays}
 use Rattle.esc_desk.proofs.CrashLemmas.{adds_then, leaves_kept, leaves_early, leaves_taken, if_clean, if_then_on, if_ok_each, on_ok_each}
+use Rattle.esc_desk.proofs.CauseLemmas.{if_err_is, if_err_each, one_of_three, cause_by, cause_of}
 use Rattle.esc_desk.proofs.desk.Desk.arrive.Goals as goal
 
 pub returns-in-Some-clause-answered : goal.returns-in-Some-clause-answered
@@ -126,3 +127,22 @@ returns-in-None-clause-crash g c = λ e doubtful served left.
     (λ clean. ap₂ (λ (d : List ℕ) (rs : List ReceiptValue). reply_alike (union e) 1 a.number d rs) (sym c.digest-digest.ensures) (sym stood.receipts) ∙ none clean)
     (λ clean. adds_then g.S.Store _ _ _ _ _ c.in_ok-reply.ensures.same.survives (c.take_new.ensures.crash clean e serves.kept there stood known (none clean)))
     (λ clean. if_then_on c.take_new.result _ _ (λ p taken. taken.left) (c.take_new.ensures.answered clean e serves.kept there stood known (none clean)))
+
+pub returns-in_err-reply-clause-full : goal.returns-in_err-reply-clause-full
+returns-in_err-reply-clause-full g c = λ clean e served.
+    if_err_is c.from_residual.result c.in_err-reply.field-0.0 _ (search rules)
+    (cause_by e (record { number = c.args.number.now; body = c.args.body.now }) c.in_err-reply.field-0.0 c.in_err-reply.ensures.cause)
+
+pub returns-in-None-clause-cause : goal.returns-in-None-clause-cause
+returns-in-None-clause-cause g c = if_err_each c.take_new.result _ _ (λ f cause. one_of_three f _ cause) c.take_new.ensures.cause
+
+pub returns-in-None-clause-full : goal.returns-in-None-clause-full
+returns-in-None-clause-full g c = λ clean e served.
+    let serves = served.serves in
+    let stood = serves.stands_for in
+    let a : ArrivalValue = record { number = c.args.number.now; body = c.args.body.now } in
+    let there = c.in_ok-reply.ensures.same.stands serves.kept serves.stands in
+    let none : reply_alike (union e) 1 a.number c.digest-digest.result serves.kept.receipts ≡ None =
+    sym (c.in_ok-reply.ensures.found (c.take_new.ensures.honest clean) serves.kept serves.stands ∙ ap (λ (x : List MRow). reply_alike x 1 a.number c.digest-digest.result serves.kept.receipts) stood.listed) ∙ c.in-None.is in
+    let never = ap₂ (λ (d : List ℕ) (rs : List ReceiptValue). reply_alike (union e) 1 a.number d rs) (sym c.digest-digest.ensures) (sym stood.receipts) ∙ none in
+    if_err_each c.take_new.result _ _ (λ f cause. cause_of e a f _ (λ full. (never, subst (λ (rs : List ReceiptValue). 1_000_000_000 ≤ length rs) stood.receipts (full clean serves.kept there))) cause) c.take_new.ensures.cause
