@@ -12,4 +12,4 @@ printed_is_read : (o : Option (String Global)) (text : String Global) (w : ℤ) 
 printed_is_read o text w is told law = rw (is_utf8-from_IsUtf8 (string_bytes text) (IsUtf8-string_bytes text)) (law (sym told ∙ ap (option_map string_bytes) is))
 
 pub returns-clause-read : goal.returns-clause-read
-returns-clause-read c = printed_is_read _ c.in-Some.text c.args.watermark c.in-Some.is (c.in_ok-text.ensures ∙ ap watermark_text_of (to_z-of_z w64 c.args.watermark c.ranges.watermark)) (c.printed_watermarks_are_read.ensures.read c.args.watermark (string_bytes c.in-Some.text))
+returns-clause-read c = printed_is_read _ c.in-Some.text c.args.watermark c.in-Some.is (c.in_ok-text.ensures.text ∙ ap watermark_text_of (to_z-of_z w64 c.args.watermark c.ranges.watermark)) (c.printed_watermarks_are_read.ensures.read c.args.watermark (string_bytes c.in-Some.text))
