@@ -76,7 +76,8 @@ pub(crate) fn apply_all<R: Registry>(
     ensures number { IfOk result (λ n. n ≡ saturated (sum_by mention_count deposits.now)) }
     ensures counted { OnOk result
         (R.count r.new ≡ saturated (R.count r.old + sum_by mention_count deposits.now)) }
-    ensures applied { OnOk result (R.is_honest r.new → (c : List DepositValue) → length c ≡ steps
+    ensures applied { OnOk result (R.is_honest r.new → (c : List DepositValue)
+        → length c ≡ steps
         → R.holds r.old (chain_state c)
         → R.holds r.new (chain_state (c ++ deposits.now))) }
 {

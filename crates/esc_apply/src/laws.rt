@@ -12,7 +12,8 @@ use esc_tables::read_deposits_are_small;
 /// A deposit that is read from a body mentions at most 100,000 keys. There is nothing to run: a
 /// caller calls it for what it ensures.
 pub fn read_deposits_mention_few()
-    ensures { (body : List ℕ) (d : DepositValue) → reading body ≡ Ok d → mention_count d ≤ 100_000 }
+    ensures { (body : List ℕ) (d : DepositValue) → reading body ≡ Ok d
+        → mention_count d ≤ 100_000 }
 {
     read_deposits_are_small();
 }

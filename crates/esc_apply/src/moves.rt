@@ -82,7 +82,8 @@ fn go_back<R: Registry>(r: &mut R, alloc: Global, steps: u32, front: u32) -> Res
     requires { front ≤ steps }
     ensures follows { R.follows r.old r.new }
     ensures counted { IfOk result (λ n. R.count r.new ≡ saturated (R.count r.old + n)) }
-    ensures gone { IfOk result (λ n. R.is_honest r.new → (c : List DepositValue) → length c ≡ steps
+    ensures gone { IfOk result (λ n. R.is_honest r.new → (c : List DepositValue)
+        → length c ≡ steps
         → R.holds r.old (chain_state c)
         → R.holds r.new (chain_state (take front c))
         × (n ≡ saturated (sum_by mention_count (undone_of c front)))) }

@@ -30,7 +30,8 @@ pub trait Objects {
     /// it.
     fn next(&mut self) -> Result<Option<(Key, Object)>, Self::Error>
         ensures follows { follows self.old self.new }
-        ensures given { IfOk result (λ o. is_honest self.new → (es : List Entry) → lists self.old es
+        ensures given { IfOk result (λ o. is_honest self.new → (es : List Entry)
+            → lists self.old es
             → Gives (lists self.new) es o) }
         ensures fewer { IfOk result (λ o. IsSome o → bound self.new < bound self.old) }
         ensures failed { OnErr result (has_failed self.new) }

@@ -24,13 +24,15 @@ pub fn each_text_has_one_reading()
         IsBundle body ss → IsFault body n → ⊥ }
     ensures one_list { (body : List ℕ) (ss ts : List Named) →
         IsBundle body ss → IsBundle body ts → ss ≡ ts }
-    ensures one_fault { (body : List ℕ) (m n : ℕ) → IsFault body m → IsFault body n → m ≡ n }
+    ensures one_fault { (body : List ℕ) (m n : ℕ) → IsFault body m → IsFault body n
+        → m ≡ n }
     ensures numbers { (body : List ℕ) (n : ℕ) → IsFault body n → (1 ≤ n) × (n ≤ 4) }
 {}
 
 /// The function `frame` of a text's bytes gives what the relations say.
 pub fn frame_is_exact()
-    ensures bundle { (body : List ℕ) (ss : List Named) → (frame body ≡ Ok ss) ↔ IsBundle body ss }
+    ensures bundle { (body : List ℕ) (ss : List Named)
+        → (frame body ≡ Ok ss) ↔ IsBundle body ss }
     ensures fault { (body : List ℕ) (n : ℕ) → (frame body ≡ Err n) ↔ IsFault body n }
 {}
 
@@ -41,7 +43,8 @@ pub fn bundle_of_is_exact()
         (bundle_of ss ≡ Ok body) ↔ IsBundle body ss }
     ensures fault { (ss : List Named) (n : ℕ) →
         bundle_of ss ≡ Err n → (body : List ℕ) → IsBundle body ss → ⊥ }
-    ensures unwritten { (ss : List Named) (n : ℕ) → (bundle_of ss ≡ Err n) ↔ IsUnwritten ss n }
+    ensures unwritten { (ss : List Named) (n : ℕ)
+        → (bundle_of ss ≡ Err n) ↔ IsUnwritten ss n }
     ensures numbers { (ss : List Named) (n : ℕ) → IsUnwritten ss n → (1 ≤ n) × (n ≤ 4) }
 {}
 
@@ -62,7 +65,8 @@ pub fn worked_texts()
     ensures wrong_name { frame (codes "escrow-bundle 1\nEnvelope.json 2\n{}\nend\n") ≡ Err 2 }
     ensures zero_before_name { frame (codes "escrow-bundle 1\nEnvelope.json 02\n{}\nend\n")
         ≡ Err 1 }
-    ensures repeated { frame (codes "escrow-bundle 1\nenvelope.json 2\n{}\nenvelope.json 2\n{}\nend\n") ≡ Err 3 }
+    ensures repeated { frame
+        (codes "escrow-bundle 1\nenvelope.json 2\n{}\nenvelope.json 2\n{}\nend\n") ≡ Err 3 }
     ensures too_long { frame (codes "escrow-bundle 1\nenvelope.json 16777217\n") ≡ Err 4 }
     ensures limit_before_first { frame (codes "escrow-bundle 1\nc.csv 16777217\n") ≡ Err 4 }
     ensures nothing_to_write { bundle_of [] ≡ Err 1 }

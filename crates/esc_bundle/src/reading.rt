@@ -258,7 +258,8 @@ fn next_section<'a>(
     before: &[Section<'_>],
     rest: &'a [u8],
 ) -> Result<Option<(Section<'a>, &'a [u8])>, Fault>
-    ensures { Gives (option_map {U = Named × List ℕ} (λ found. (view found.0, found.1.now))) result
+    ensures { Gives (option_map {U = Named × List ℕ} (λ found. (view found.0, found.1.now)))
+        result
         (next_at (views before.now) rest.now) }
 {
     if !rest.starts_with(LAST_LINE) {
@@ -305,13 +306,15 @@ fn gather(alloc: Global, text: &[u8]) -> Result<Vec<Section<'_>>, Fault>
 /// with the first line.
 pub fn sections(alloc: Global, body: &[u8]) -> Result<Vec<Section<'_>>, Fault>
     ensures found { IfOk result (λ v. IsBundle body.now (views v.items)) }
-    ensures refused { IfErr result (λ e. (n : ℕ) → e ≡ Fault.Refused n → IsFault body.now n) }
+    ensures refused { IfErr result (λ e. (n : ℕ) → e ≡ Fault.Refused n
+        → IsFault body.now n) }
     ensures bundle_found { (ss : List Named) → IsBundle body.now ss →
         MatchResult result (λ v. views v.items ≡ ss) (λ e. e ≡ Fault.NoMemory) }
     ensures fault_told { (n : ℕ) → IsFault body.now n →
         IsErrAnd result (λ e. (e ≡ Fault.Refused n) ⊎ (e ≡ Fault.NoMemory)) }
     ensures framed { IfOk result (λ v. frame body.now ≡ Ok (views v.items)) }
-    ensures unframed { IfErr result (λ e. (n : ℕ) → e ≡ Fault.Refused n → frame body.now ≡ Err n) }
+    ensures unframed { IfErr result (λ e. (n : ℕ) → e ≡ Fault.Refused n
+        → frame body.now ≡ Err n) }
     ensures over_limit { limit < length body.now → result ≡ Err (Fault.Refused 4) }
     ensures other_line { length body.now ≤ limit →
         ((rest : List ℕ) → body.now ≢ first_line ++ rest) → result ≡ Err (Fault.Refused 1) }

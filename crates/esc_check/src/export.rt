@@ -69,7 +69,8 @@ pub fn export_from<O: Objects>(
 ) -> Result<Vec<u8>, StreamFault<O::Error>>
     ensures follows { O.follows o.old o.new }
     ensures source { IfErr result (λ fault. IfSource fault (O.has_failed o.new)) }
-    ensures text { IfOk result (λ text. O.is_honest o.new → (es : List Entry) → O.lists o.old es
+    ensures text { IfOk result (λ text. O.is_honest o.new → (es : List Entry)
+        → O.lists o.old es
         → text.items ≡ export_text kind es) }
 {
     let mut lines = Lines::new(alloc);
@@ -113,7 +114,8 @@ fn write_children(
     key: &Key,
     children: &[Row],
 ) -> Result<(), NoMemory>
-    ensures { OnOk result (lines.new ≡ lines.old ++ text_of (child_lines key.now [] children.now)) }
+    ensures { OnOk result (lines.new
+        ≡ lines.old ++ text_of (child_lines key.now [] children.now)) }
 {
     let mut table = "";
     let mut number = 0;

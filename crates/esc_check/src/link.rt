@@ -176,7 +176,8 @@ pub fn check_links(
 
 /// Those of these links that lead to none of these keys. Takes no memory.
 pub fn unmet(met: &BTreeSet<Key>, mut links: Vec<Link>) -> Vec<Link>
-    ensures { result.items ≡ filter (λ l. not (sorted.contains key_cmp met.now l.to)) links.items }
+    ensures { result.items ≡ filter (λ l. not (sorted.contains key_cmp met.now l.to))
+        links.items }
 {
     links.retain(|link| !met.contains(&link.to));
     links

@@ -36,7 +36,8 @@ pub struct Gathering {
 }
 
 fn start(alloc: Global) -> Gathering
-    ensures { (w : ℤ) (shown : List ℕ) (whole : List Entry) → Leads w shown result whole whole }
+    ensures { (w : ℤ) (shown : List ℕ) (whole : List Entry)
+        → Leads w shown result whole whole }
 {
     Gathering {
         found: Vec::new(alloc),
@@ -119,7 +120,8 @@ pub fn verify_from<O: Objects>(
     ensures follows { O.follows o.old o.new }
     ensures source { IfErr result (λ fault. IfSource fault (O.has_failed o.new)) }
     ensures ordered { IfOk result (λ found. IsStrictlySortedBy listing_cmp found.items) }
-    ensures each { IfOk result (λ found. O.is_honest o.new → (es : List Entry) → O.lists o.old es
+    ensures each { IfOk result (λ found. O.is_honest o.new → (es : List Entry)
+        → O.lists o.old es
         → (f : FindingValue) → Contains found.items f ↔ IsFinding
         (tables_of es) watermark counts.now.entries f) }
 {

@@ -84,7 +84,8 @@ fn note_in<S: Alter>(change: &mut Change<'_, S>, receipt: &Receipt<'_>) -> Resul
     ensures filled { OnOk result ((k : Kept)
         → Rest S.Store change.old k k → HoldsNow S.Store change.old k.registry
         → IsFilled S.Store change.new k (with_receipt k receipt.now)) }
-    ensures numbered { IfOk result (λ n. IsHonest S.Store change.new.store.now → (before k : Kept)
+    ensures numbered { IfOk result (λ n. IsHonest S.Store change.new.store.now
+        → (before k : Kept)
         → Rest S.Store change.old before k → n ≡ length k.receipts + 1) }
     ensures room { IfOk result (λ n. n ≤ 1_000_000_000) }
     ensures cause { IfErr result (IsChangeFault S.Store change.old change.new) }
@@ -166,7 +167,8 @@ fn fill_change<S: Alter>(
         (with_registry k (chain_state c)) → HoldsNow S.Store change.old (chain_state c)
         → IsFilled S.Store change.new (with_registry k (chain_state c))
         (kept_by plan.now receipt.now row body.now k c)) }
-    ensures numbered { IfOk result (λ p. IsHonest S.Store change.new.store.now → (before k : Kept)
+    ensures numbered { IfOk result (λ p. IsHonest S.Store change.new.store.now
+        → (before k : Kept)
         → Rest S.Store change.old before k → p.0 ≡ length k.receipts + 1) }
     ensures room { IfOk result (λ p. p.0 ≤ 1_000_000_000) }
     ensures worked { IfOk result (λ p. IsHonest S.Store change.new.store.now
@@ -231,7 +233,8 @@ fn store_fault(fault: SFault) -> SFault
 // Makes a change whole.
 fn commit_filled<S: Alter>(change: Change<'_, S>) -> Result<(), SFault>
     ensures manifest { change.exit.0.now.manifest ≡ change.entry.store.now.manifest }
-    ensures honest { IsHonest S.Store change.exit.0.now → IsHonest S.Store change.entry.store.now }
+    ensures honest { IsHonest S.Store change.exit.0.now
+        → IsHonest S.Store change.entry.store.now }
     ensures written { OnOk result (change.exit.0.now.writes
         ≡ saturated (change.entry.store.now.writes + change.entry.count)) }
     ensures unwritten { OnErr result (change.exit.0.now.writes ≡ change.entry.store.now.writes) }

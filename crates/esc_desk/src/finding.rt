@@ -89,7 +89,8 @@ fn is_same_place(a: Place, b: Place) -> bool
 }
 
 fn is_same_option(a: &Option<String>, b: &Option<String>) -> bool
-    ensures { result ≡ same_option (option_map string_bytes a.now) (option_map string_bytes b.now) }
+    ensures { result ≡ same_option (option_map string_bytes a.now)
+        (option_map string_bytes b.now) }
 {
     match (a, b) {
         (None, None) => true,

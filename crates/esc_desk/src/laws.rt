@@ -44,8 +44,10 @@ pub fn new_store_stands_for_its_manifest()
 pub fn stands_for_manifest_and_arrivals()
     ensures stands_for { IsForManifestAndArrivals }
     ensures rows { (m : List MRow) (l : List ArrivalValue) → union (manifest_then m l) ≡ m }
-    ensures arrivals { (m : List MRow) (l : List ArrivalValue) → arrivals (manifest_then m l) ≡ l }
-    ensures at_once { (m : List MRow) (l : List ArrivalValue) → IsListedAtOnce (manifest_then m l) }
+    ensures arrivals { (m : List MRow) (l : List ArrivalValue)
+        → arrivals (manifest_then m l) ≡ l }
+    ensures at_once { (m : List MRow) (l : List ArrivalValue)
+        → IsListedAtOnce (manifest_then m l) }
 {}
 
 /// The definitions go by the first of the arrivals that are alike. Where no two different bodies of
@@ -71,5 +73,6 @@ pub fn worked_replies()
         ≡ Some (held_reply 2 (codes "9") true) }
     ensures unlisted { reply_to itself reads_full (listed_then (full_1 ∷ other_1 ∷ [])) other_1
         ≡ Some (unlisted_reply 2 (codes "1")) }
-    ensures never_arrived { reply_to itself reads_full (listed_then (full_1 ∷ [])) full_9 ≡ None }
+    ensures never_arrived { reply_to itself reads_full (listed_then (full_1 ∷ [])) full_9
+        ≡ None }
 {}

@@ -83,7 +83,8 @@ impl<S: Alter> Desk<S> {
         ensures kept { OnOk result (IsHonest S.Store self.new.store → (es : List Entry)
             → AreToCome S.Store self.old.store pages.old es
             → AreToCome S.Store self.new.store pages.new es) }
-        ensures full { OnOk result (into_iter_len pages.new.page ≡ 0 → pages.new.kind ≡ None) }
+        ensures full { OnOk result (into_iter_len pages.new.page ≡ 0
+            → pages.new.kind ≡ None) }
     {
         while pages.page.len() == 0 {
             match pages.kind {

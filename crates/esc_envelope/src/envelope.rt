@@ -128,10 +128,12 @@ pub fn read_envelope(alloc: Global, json: &[u8]) -> Result<Envelope, Fault>
     ensures envelope { IfOk result (λ e. envelope_of json.now ≡ Ok e) }
     ensures refused { IfErr result (λ e. (n : ℕ) → e ≡ Fault.Refused n
         → envelope_of json.now ≡ Err n) }
-    ensures least { IfErr result (λ e. (n : ℕ) → e ≡ Fault.Refused n → IsLeast json.now n) }
+    ensures least { IfErr result (λ e. (n : ℕ) → e ≡ Fault.Refused n
+        → IsLeast json.now n) }
     ensures fault_told { (n : ℕ) → IsLeast json.now n →
         IsErrAnd result (λ e. (e ≡ Fault.Refused n) ⊎ (e ≡ Fault.NoMemory)) }
-    ensures numbers { IfErr result (λ e. (n : ℕ) → e ≡ Fault.Refused n → (5 ≤ n) × (n ≤ 7)) }
+    ensures numbers { IfErr result (λ e. (n : ℕ) → e ≡ Fault.Refused n
+        → (5 ≤ n) × (n ≤ 7)) }
 {
     envelope_from(alloc, json)
 }
@@ -139,6 +141,7 @@ pub fn read_envelope(alloc: Global, json: &[u8]) -> Result<Envelope, Fault>
 /// A text has the refusal that `envelope_of` gives exactly if it is the least of U5 to U7 that
 /// stands: a law of the definitions.
 pub fn refusals_are_least()
-    ensures least { (text : List ℕ) (n : ℕ) → (envelope_of text ≡ Err n) ↔ IsLeast text n }
+    ensures least { (text : List ℕ) (n : ℕ)
+        → (envelope_of text ≡ Err n) ↔ IsLeast text n }
     ensures numbers { (text : List ℕ) (n : ℕ) → Stands text n → (5 ≤ n) × (n ≤ 7) }
 {}

@@ -20,5 +20,6 @@ pub fn declared_tables_have_their_forms()
 
 /// The refusals of an envelope are U5 to U7.
 pub fn envelope_refusals_are_5_to_7()
-    ensures { (text : List ℕ) (n : ℕ) → envelope_of text ≡ Err n → (5 ≤ n) × (n ≤ 7) }
+    ensures { (text : List ℕ) (n : ℕ) → envelope_of text ≡ Err n
+        → (5 ≤ n) × (n ≤ 7) }
 {}

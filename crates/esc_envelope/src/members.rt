@@ -130,7 +130,8 @@ fn told_in(envelope: &Value) -> Option<Told<'_>>
 }
 
 fn copy_prev(alloc: Global, prev: Option<&str>) -> Result<Option<String>, NoMemory>
-    ensures { IfOk result (λ o. option_map string_bytes o ≡ option_map (λ t. t.now) prev.entry) }
+    ensures { IfOk result (λ o. option_map string_bytes o
+        ≡ option_map (λ t. t.now) prev.entry) }
 {
     match prev {
         Some(prev) => Ok(Some(String::from_str(alloc, prev)?)),

@@ -117,7 +117,8 @@ pub fn watermark_text(alloc: Global, watermark: i64) -> Result<Option<String>, N
 
 /// What `watermark` reads is exactly the texts of moments: a law of the definitions.
 pub fn watermarks_are_moments()
-    ensures { (text : List ℕ) (w : ℤ) → (watermark_of text ≡ Some w) ↔ IsWatermark text w }
+    ensures { (text : List ℕ) (w : ℤ)
+        → (watermark_of text ≡ Some w) ↔ IsWatermark text w }
 {}
 
 /// Printing and reading undo each other, and every moment of these years has a text: laws of the

@@ -186,7 +186,8 @@ fn are_parents(tables: &[Table]) -> bool
 
 /// The tables of what is: names once, and at most one parent table for each kind.
 pub(crate) fn contents_in(alloc: Global, values: &[Value]) -> Result<Option<Vec<Table>>, NoMemory>
-    ensures { IfOk result (λ o. option_map (λ v. v.items) o ≡ contents_in (map view values.now)) }
+    ensures { IfOk result (λ o. option_map (λ v. v.items) o
+        ≡ contents_in (map view values.now)) }
 {
     let Some(tables) = tables_in(alloc, values)? else {
         return Ok(None);
@@ -200,7 +201,8 @@ pub(crate) fn contents_in(alloc: Global, values: &[Value]) -> Result<Option<Vec<
 
 /// The tables of what was deleted: names once, and parent tables alone.
 pub(crate) fn deletes_in(alloc: Global, values: &[Value]) -> Result<Option<Vec<Table>>, NoMemory>
-    ensures { IfOk result (λ o. option_map (λ v. v.items) o ≡ deletes_in (map view values.now)) }
+    ensures { IfOk result (λ o. option_map (λ v. v.items) o
+        ≡ deletes_in (map view values.now)) }
 {
     let Some(tables) = tables_in(alloc, values)? else {
         return Ok(None);

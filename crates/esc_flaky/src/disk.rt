@@ -168,7 +168,8 @@ impl<D: Disk> Disk for FlakyDisk<D> {
         ensures key { key_of D.Disk self.new ≡ key_of D.Disk self.old }
         ensures rot { is_rotten D.Disk self.new ≡ is_rotten D.Disk self.old }
         ensures usable { IsTrue (is_usable D.Disk self.new) }
-        ensures crash { (c : List ℕ) → may_leave D.Disk self.new c → may_leave D.Disk self.old c }
+        ensures crash { (c : List ℕ) → may_leave D.Disk self.new c
+            → may_leave D.Disk self.old c }
     {
         self.turn.pass()?;
         self.inner.len()
@@ -189,7 +190,8 @@ impl<D: Disk> Disk for FlakyDisk<D> {
         ensures key { key_of D.Disk self.new ≡ key_of D.Disk self.old }
         ensures rot { is_rotten D.Disk self.new ≡ is_rotten D.Disk self.old }
         ensures usable { IsTrue (is_usable D.Disk self.new) }
-        ensures crash { (c : List ℕ) → may_leave D.Disk self.new c → may_leave D.Disk self.old c }
+        ensures crash { (c : List ℕ) → may_leave D.Disk self.new c
+            → may_leave D.Disk self.old c }
     {
         self.turn.pass()?;
         self.inner.read_at(at, buf)
@@ -220,7 +222,8 @@ impl<D: Disk> Disk for FlakyDisk<D> {
         ensures rot { is_rotten D.Disk self.new ≡ is_rotten D.Disk self.old }
         ensures rotten { IsTrue (is_rotten D.Disk self.old at (length buf.old)) → IsErr result }
         ensures usable { IsTrue (is_usable D.Disk self.new) }
-        ensures crash { (c : List ℕ) → may_leave D.Disk self.new c → may_leave D.Disk self.old c }
+        ensures crash { (c : List ℕ) → may_leave D.Disk self.new c
+            → may_leave D.Disk self.old c }
     {
         self.turn.pass()?;
         self.inner.read_checked(key, want, at, buf)
@@ -280,7 +283,8 @@ impl<D: Disk> Disk for FlakyDisk<D> {
         ensures key { key_of D.Disk self.new ≡ key_of D.Disk self.old }
         ensures rot { is_rotten D.Disk self.new ≡ is_rotten D.Disk self.old }
         ensures usable { is_usable D.Disk self.new ≡ is_ok result }
-        ensures crash { (c : List ℕ) → may_leave D.Disk self.new c → may_leave D.Disk self.old c }
+        ensures crash { (c : List ℕ) → may_leave D.Disk self.new c
+            → may_leave D.Disk self.old c }
     {
         if let Err(error) = self.turn.pass() {
             self.sync_refused = true;

@@ -46,7 +46,8 @@ fn have_own_revisions(alloc: Global, rows: &[MRow]) -> Result<bool, NoMemory>
 
 // Whether each row's digest is its own.
 fn have_own_digests(alloc: Global, rows: &[MRow]) -> Result<bool, NoMemory>
-    ensures { IfOk result (λ own. own ≡ true → first_against_earlier same_digest rows.now ≡ None) }
+    ensures { IfOk result (λ own. own ≡ true → first_against_earlier same_digest rows.now
+        ≡ None) }
 {
     let mut seen = BTreeSet::new(alloc);
     for row in rows {

@@ -113,7 +113,8 @@ fn is_blamed(code: u8, rows: &[MRow], row: &MRow) -> bool
 }
 
 fn first_blamed(code: u8, rows: &[MRow], more: &[MRow]) -> Option<usize>
-    ensures first { result ≡ position (λ r. not (is_listed rows.now r) && is_blamed code rows.now r)
+    ensures first { result ≡ position
+        (λ r. not (is_listed rows.now r) && is_blamed code rows.now r)
         more.now }
     ensures within { IfSome result (λ r. r < length more.now) }
 {
@@ -139,7 +140,8 @@ impl Manifest {
     fn union_with(&self, alloc: Global, more: &Manifest) -> Result<Manifest, MFault>
         ensures accepted { IfOk result (λ m. extension self.now more.now ≡ Ok m) }
         ensures union { IfOk result (λ m. m ≡ extended self.now more.now) }
-        ensures within { (code row : ℕ) → result ≡ Err (MFault.Refused code row) → row ≤ 4096 }
+        ensures within { (code row : ℕ) → result ≡ Err (MFault.Refused code row)
+            → row ≤ 4096 }
         ensures refused { (code row : ℕ) → result ≡ Err (MFault.Refused code row) →
             extension self.now more.now ≡ Err (code, row) }
     {

@@ -23,7 +23,8 @@ const MOST_BYTES: usize = 4_194_304;
 // The row of a body.
 fn row_of_body(alloc: Global, body: &[u8]) -> Result<MRow, Fault>
     ensures row { IfOk result (λ row. row_of_body body.now ≡ Ok row) }
-    ensures refused { IfErr result (λ e. (n : ℕ) → e ≡ Fault.Refused n → reading body.now ≡ Err n) }
+    ensures refused { IfErr result (λ e. (n : ℕ) → e ≡ Fault.Refused n
+        → reading body.now ≡ Err n) }
 {
     let deposit = read_deposit(alloc, body)?;
     Ok(MRow {

@@ -41,7 +41,8 @@ pub fn read_head<R: Source>(
         (λ found. IfSome found
         (λ f. Consumes (R.remaining source.old) (R.remaining source.new)
         (take f.filled buffer.new))) }
-    ensures none { IfOk result (λ found. IfNone found (IfSome (R.remaining source.old) HasNoHead)) }
+    ensures none { IfOk result
+        (λ found. IfNone found (IfSome (R.remaining source.old) HasNoHead)) }
     ensures err { OnErr result (IsTrue (R.failed source.new)) }
 {
     let mut filled = 0usize;

@@ -61,7 +61,8 @@ impl<'a, S: Alter> Change<'a, S> {
         ensures count { self.new.count ≡ self.old.count }
         ensures recorded { OnOk result ((before k : Kept) → Rest S.Store self.old before k
             → Rest S.Store self.new before (with_receipt k receipt.now)) }
-        ensures number { IfOk result (λ n. IsHonest S.Store self.new.store.now → (before k : Kept)
+        ensures number { IfOk result (λ n. IsHonest S.Store self.new.store.now
+            → (before k : Kept)
             → Rest S.Store self.old before k → n ≡ length k.receipts + 1) }
         ensures holds { OnOk result ((s : State) → HoldsNow S.Store self.old s
             → HoldsNow S.Store self.new s) }

@@ -26,7 +26,8 @@ fn test_version<S: Alter>(conn: &mut Connection<S>) -> Result<(), SFault>
     ensures version { OnOk result (HasCleanDisk (state S.Store conn.new)
         → IsUnchanged (state S.Store conn.old) (state S.Store conn.new)
         × IsOfVersion (state S.Store conn.old).now) }
-    ensures never { IfErr result (λ fault. fault ≡ SFault.S3 → HasCleanDisk (state S.Store conn.new)
+    ensures never { IfErr result (λ fault. fault ≡ SFault.S3
+        → HasCleanDisk (state S.Store conn.new)
         → IsTrue (state S.Store conn.new).is_open → IsSettled (state S.Store conn.old) → (k : Kept)
         → IsStore (state S.Store conn.old).committed.trees k → ⊥) }
     ensures cause { IfErr result IsS1ToS3 }
@@ -48,9 +49,11 @@ fn read_manifest<S: Alter>(alloc: Global, conn: &mut Connection<S>) -> Result<Ma
     ensures version { OnOk result (HasCleanDisk (state S.Store conn.new)
         → IsUnchanged (state S.Store conn.old) (state S.Store conn.new)
         × IsOfVersion (state S.Store conn.old).now) }
-    ensures manifest { IfOk result (λ manifest. HasCleanDisk (state S.Store conn.new) → (k : Kept)
+    ensures manifest { IfOk result (λ manifest. HasCleanDisk (state S.Store conn.new)
+        → (k : Kept)
         → IsStoreDatabase (state S.Store conn.old).now k → manifest ≡ k.listed) }
-    ensures never { IfErr result (λ fault. fault ≡ SFault.S3 → HasCleanDisk (state S.Store conn.new)
+    ensures never { IfErr result (λ fault. fault ≡ SFault.S3
+        → HasCleanDisk (state S.Store conn.new)
         → IsTrue (state S.Store conn.new).is_open → IsSettled (state S.Store conn.old) → (k : Kept)
         → IsStore (state S.Store conn.old).committed.trees k → ⊥) }
     ensures cause { IfErr result IsS1ToS3 }
@@ -71,9 +74,11 @@ pub(crate) fn find_manifest<S: Alter>(
         → IsUnchanged (state S.Store conn.old) (state S.Store conn.new)
         × IsOfVersion (state S.Store conn.old).now) }
     ensures settled { OnOk result (IsSettled (state S.Store conn.old)) }
-    ensures manifest { IfOk result (λ manifest. HasCleanDisk (state S.Store conn.new) → (k : Kept)
+    ensures manifest { IfOk result (λ manifest. HasCleanDisk (state S.Store conn.new)
+        → (k : Kept)
         → IsStoreDatabase (state S.Store conn.old).now k → manifest ≡ k.listed) }
-    ensures never { IfErr result (λ fault. fault ≡ SFault.S3 → HasCleanDisk (state S.Store conn.new)
+    ensures never { IfErr result (λ fault. fault ≡ SFault.S3
+        → HasCleanDisk (state S.Store conn.new)
         → IsTrue (state S.Store conn.new).is_open → (k : Kept)
         → IsStore (state S.Store conn.old).committed.trees k → ⊥) }
     ensures unchanged { OnErr result (IsAsItWas (state S.Store conn.old) (state S.Store conn.new)) }

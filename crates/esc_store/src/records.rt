@@ -36,7 +36,8 @@ impl<'a, S: Alter> Change<'a, S> {
     pub(crate) fn put_record(&mut self, k: &Key, bytes: &[u8]) -> Result<(), SFault>
         ensures count { self.new.count ≡ self.old.count }
         ensures follows { Follows S.Store self.old self.new }
-        ensures written { OnOk result ((s : State) (o : ObjectValue) → record_of o ≡ Some bytes.now
+        ensures written { OnOk result ((s : State) (o : ObjectValue)
+            → record_of o ≡ Some bytes.now
             → HoldsNow S.Store self.old s → HoldsNow S.Store self.new (written s k.now (Some o))) }
     {
         self.store

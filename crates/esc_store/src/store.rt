@@ -172,10 +172,12 @@ impl<S: Alter> Store<S> {
             (λ change. change.store.ghost_name) result (λ last. (last.manifest ≡ self.old.manifest)
             × (last.writes ≡ self.old.writes) × LeavesNoMore S.Store self.old.conn last.conn
             × ((k : Kept) → Stands S.Store self.old k → Stands S.Store last k))) }
-        ensures same_reference { IfOk result (λ change. change.store.ghost_name ≡ self.entry.ghost_name) }
+        ensures same_reference { IfOk result (λ change. change.store.ghost_name
+            ≡ self.entry.ghost_name) }
         ensures count { IfOk result (λ change. change.count ≡ 0) }
         ensures writes { IfOk result (λ change. change.store.now.writes ≡ self.old.writes) }
-        ensures manifest { IfOk result (λ change. change.store.now.manifest ≡ self.old.manifest) }
+        ensures manifest { IfOk result (λ change. change.store.now.manifest
+            ≡ self.old.manifest) }
         ensures began { IfOk result (λ change. (k : Kept) → Stands S.Store self.old k
             → Began S.Store change k) }
         ensures rest { IfOk result (λ change. (k : Kept) → Stands S.Store self.old k

@@ -10,7 +10,8 @@ use esc_bundle::Section;
 use esc_envelope::Table;
 
 fn section_named<'a, 'b>(files: &'b [Section<'a>], name: &str) -> Option<&'b Section<'a>>
-    ensures { option_map (λ s. s.now) result ≡ find (λ s. bytes_eq s.name.now name.now) files.now }
+    ensures { option_map (λ s. s.now) result
+        ≡ find (λ s. bytes_eq s.name.now name.now) files.now }
 {
     files.iter().find(|file| file.name == name)
 }

@@ -20,14 +20,16 @@ use esc_envelope::{declared_tables_have_their_forms, envelope_refusals_are_5_to_
 pub fn reading_is_exact()
     ensures deposit { (body : List ℕ) (d : DepositValue)
         → (reading body ≡ Ok d) ↔ IsDepositOf body d }
-    ensures refusal { (body : List ℕ) (n : ℕ) → (reading body ≡ Err n) ↔ IsRefused body n }
+    ensures refusal { (body : List ℕ) (n : ℕ)
+        → (reading body ≡ Err n) ↔ IsRefused body n }
 {
     frame_is_exact();
 }
 
 /// A body is refused with a number from U1 to U11, and its envelope with one from U1 to U7.
 pub fn refusals_are_1_to_11()
-    ensures deposit { (body : List ℕ) (n : ℕ) → reading body ≡ Err n → (1 ≤ n) × (n ≤ 11) }
+    ensures deposit { (body : List ℕ) (n : ℕ) → reading body ≡ Err n
+        → (1 ≤ n) × (n ≤ 11) }
     ensures envelope { (body : List ℕ) (n : ℕ) → bundled_envelope body ≡ Err n
         → (1 ≤ n) × (n ≤ 7) }
 {

@@ -71,8 +71,10 @@ fn read_files(alloc: Global, files: &[Section<'_>], envelope: Envelope) -> Resul
 /// The deposit that a bundle is, or the least refusal from U1 to U11.
 pub fn read_deposit(alloc: Global, body: &[u8]) -> Result<Deposit, Fault>
     ensures read { IfOk result (λ d. reading body.now ≡ Ok d) }
-    ensures refused { IfErr result (λ e. (n : ℕ) → e ≡ Fault.Refused n → reading body.now ≡ Err n) }
-    ensures numbers { IfErr result (λ e. (n : ℕ) → e ≡ Fault.Refused n → (1 ≤ n) × (n ≤ 11)) }
+    ensures refused { IfErr result (λ e. (n : ℕ) → e ≡ Fault.Refused n
+        → reading body.now ≡ Err n) }
+    ensures numbers { IfErr result (λ e. (n : ℕ) → e ≡ Fault.Refused n
+        → (1 ≤ n) × (n ≤ 11)) }
 {
     refusals_are_1_to_11();
     read_body(alloc, body)
@@ -80,7 +82,8 @@ pub fn read_deposit(alloc: Global, body: &[u8]) -> Result<Deposit, Fault>
 
 fn read_body(alloc: Global, body: &[u8]) -> Result<Deposit, Fault>
     ensures read { IfOk result (λ d. reading body.now ≡ Ok d) }
-    ensures refused { IfErr result (λ e. (n : ℕ) → e ≡ Fault.Refused n → reading body.now ≡ Err n) }
+    ensures refused { IfErr result (λ e. (n : ℕ) → e ≡ Fault.Refused n
+        → reading body.now ≡ Err n) }
 {
     let sections = sections(alloc, body)?;
     let [first, files @ ..] = sections.as_slice() else {
@@ -97,7 +100,8 @@ pub fn read_bundled_envelope(alloc: Global, body: &[u8]) -> Result<Envelope, Fau
     ensures read { IfOk result (λ e. bundled_envelope body.now ≡ Ok e) }
     ensures refused { IfErr result (λ e. (n : ℕ) → e ≡ Fault.Refused n
         → bundled_envelope body.now ≡ Err n) }
-    ensures numbers { IfErr result (λ e. (n : ℕ) → e ≡ Fault.Refused n → (1 ≤ n) × (n ≤ 7)) }
+    ensures numbers { IfErr result (λ e. (n : ℕ) → e ≡ Fault.Refused n
+        → (1 ≤ n) × (n ≤ 7)) }
     ensures deposit { (d : DepositValue) → reading body.now ≡ Ok d →
         MatchResult result (λ e. (e.header ≡ d.header) × (e.counts ≡ d.counts))
         (λ e. e ≡ Fault.NoMemory) }

@@ -78,8 +78,10 @@ fn survey_tables(
     tables: &[Table],
     mut survey: Survey,
 ) -> Result<Survey, Fault>
-    ensures seen { IfOk result (λ s. s ≡ fold noted survey (rows_in (views files.now) tables.now)) }
-    ensures whole { OnOk result (list_all is_whole (rows_in (views files.now) tables.now) ≡ true) }
+    ensures seen { IfOk result
+        (λ s. s ≡ fold noted survey (rows_in (views files.now) tables.now)) }
+    ensures whole { OnOk result (list_all is_whole (rows_in (views files.now) tables.now)
+        ≡ true) }
     ensures refused { IfErr result (λ e. (n : ℕ) → e ≡ Fault.Refused n
         → (n ≡ 9) × (list_all is_whole (rows_in (views files.now) tables.now) ≡ false)) }
 {

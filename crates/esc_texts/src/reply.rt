@@ -97,7 +97,8 @@ fn fault_value(alloc: Global, verdict: Verdict) -> Result<Value, AllocError>
 }
 
 fn text_value(alloc: Global, text: &Option<String>) -> Result<Value, AllocError>
-    ensures { IfOk result (λ value. view value ≡ text_or_null (option_map string_bytes text.now)) }
+    ensures { IfOk result (λ value. view value
+        ≡ text_or_null (option_map string_bytes text.now)) }
 {
     match text {
         Some(text) => json!(in alloc; text.as_str()),

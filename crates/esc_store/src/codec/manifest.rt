@@ -40,7 +40,8 @@ fn type_of(number: u32) -> Result<DepositType, SFault>
 
 // A text that there may be.
 fn copy_of(alloc: Global, text: &Option<String>) -> Result<Option<String>, SFault>
-    ensures text { IfOk result (λ t. option_map string_bytes t ≡ option_map string_bytes text.now) }
+    ensures text { IfOk result (λ t. option_map string_bytes t
+        ≡ option_map string_bytes text.now) }
     ensures cause { IfErr result (λ fault. fault ≡ SFault.S2) }
 {
     match text {

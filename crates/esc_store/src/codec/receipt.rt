@@ -132,7 +132,8 @@ fn verdict_of(number: u32, fault: Option<u32>) -> Result<Verdict, SFault>
 
 // What a bit stands for.
 fn again_of(again: Option<u32>) -> Result<Option<bool>, SFault>
-    ensures again { IfOk result (λ a. (b : Option Bool) → again ≡ option_map bit b → a ≡ b) }
+    ensures again { IfOk result (λ a. (b : Option Bool) → again ≡ option_map bit b
+        → a ≡ b) }
     ensures cause { IfErr result IsS1OrS2 }
 {
     match again {
