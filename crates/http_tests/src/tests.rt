@@ -1,16 +1,18 @@
 //! Requests over memory: whole, in pieces, and with a read, a write or a flush that fails.
 
+mod disks;
+mod list;
 mod lying;
-mod refusing;
+mod routes;
+mod sweeps;
 
 use esc_desk::Desk;
+use esc_flaky::{FailingReader, FailingWriter};
 use esc_http::{Report, ServeFault, receipt_line, receipts_heading, report, serve_one};
 use esc_manifest::{Manifest, read_manifest};
 use esc_store::Store;
 use sqlite::{Alter, Connection, MemStore};
 use std::alloc::Global;
-use std::io;
-use std::io::{Read, Write};
 use std::process::Abort;
 
 const LISTED: &[u8] = b"id,type,watermark,prevId,resend,sha256
@@ -39,62 +41,6 @@ const GET_STATUS: &[u8] = b"GET /status HTTP/1.1\r\n\r\n";
 // The status of a desk that took nothing.
 const STATUS: &[u8] =
     b"HTTP/1.1 200 OK\r\nContent-Type: text/plain\r\nContent-Length: 95\r\nConnection: close\r\n\r\nlisted 1\nheld 0\nreceipts 0\nchain 0\nend none\nregistrar 0\ncontact 0\nhost 0\ndomain 0\nidn 0\nnndn 0\n";
-
-// Gives at most so many bytes a read, and fails once it gave all that are allowed.
-#[derive(Drop)]
-struct Pieces<'a> {
-    rest: &'a [u8],
-    step: usize,
-    allowed: usize,
-}
-
-impl Read for Pieces<'_> {
-    fn read(&mut self, buf: &mut [u8]) -> io::Result<usize> {
-        if self.allowed == 0 {
-            return Err(io::Error::from(io::ErrorKind::ConnectionReset));
-        }
-        let count = self
-            .step
-            .min(self.allowed)
-            .min(buf.len())
-            .min(self.rest.len());
-        buf[..count].copy_from_slice(&self.rest[..count]);
-        self.rest = &self.rest[count..];
-        self.allowed -= count;
-        Ok(count)
-    }
-}
-
-// Takes at most so many bytes a write, and fails once it has all that are allowed, or when it is to
-// hand them on.
-#[derive(Drop)]
-struct Narrow {
-    text: Vec<u8>,
-    step: usize,
-    allowed: usize,
-    is_stuck: bool,
-}
-
-impl Write for Narrow {
-    fn write(&mut self, buf: &[u8]) -> io::Result<usize> {
-        if self.allowed == 0 {
-            return Err(io::Error::from(io::ErrorKind::BrokenPipe));
-        }
-        let count = self.step.min(self.allowed).min(buf.len());
-        if self.text.extend_from_slice(&buf[..count]).is_err() {
-            return Err(io::Error::from(io::ErrorKind::OutOfMemory));
-        }
-        self.allowed -= count;
-        Ok(count)
-    }
-
-    fn flush(&mut self) -> io::Result<()> {
-        if self.is_stuck {
-            return Err(io::Error::from(io::ErrorKind::BrokenPipe));
-        }
-        Ok(())
-    }
-}
 
 /// How a request comes, and how its response goes.
 #[derive(Clone, Copy)]
@@ -151,20 +97,10 @@ fn served<S: Alter>(
     desk: &mut Desk<S>,
     wire: &Wire<'_>,
 ) -> (Option<ServeFault>, Vec<u8>) {
-    let mut reader = Pieces {
-        rest: wire.input,
-        step: wire.step,
-        allowed: wire.readable,
-    };
-    let mut writer = Narrow {
-        text: Vec::new(alloc),
-        step: wire.step,
-        allowed: wire.writable,
-        is_stuck: wire.is_stuck,
-    };
+    let mut reader = FailingReader::new(wire.input, wire.step, wire.readable);
+    let mut writer = FailingWriter::new(alloc, wire.step, wire.writable, wire.is_stuck);
     let fault = serve_one(alloc, desk, &mut reader, &mut writer).err();
-    let Narrow { text, .. } = writer;
-    (fault, text)
+    (fault, writer.into_text())
 }
 
 fn serve_all<S: Alter>(alloc: Global, desk: &mut Desk<S>, wires: &[Wire<'_>]) {
@@ -325,38 +261,6 @@ fn answers(rt: HostRuntime) {
             let found = told(rt.alloc(), before, &Wire { step, ..*wire });
             assert_told(&rt, found, *fault, text, *receipts);
         }
-    }
-}
-
-#[test]
-fn a_read_that_fails(rt: HostRuntime) {
-    for readable in 0..PUT_OTHER.len() - 1 {
-        let wire = Wire {
-            readable,
-            step: 5,
-            ..OTHER
-        };
-        let found = told(rt.alloc(), &[], &wire);
-        assert_told(&rt, found, Some(ServeFault::Read), b"", 0);
-    }
-}
-
-#[test]
-fn a_write_that_fails(rt: HostRuntime) {
-    for writable in 0..UNLISTED.len() {
-        let wire = Wire {
-            writable,
-            step: 5,
-            ..OTHER
-        };
-        let found = told(rt.alloc(), &[], &wire);
-        assert_told(
-            &rt,
-            found,
-            Some(ServeFault::Write),
-            &UNLISTED[..writable],
-            1,
-        );
     }
 }
 

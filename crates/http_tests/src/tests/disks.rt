@@ -1,0 +1,191 @@
+//! Databases over two files of which one call fails.
+
+use esc_desk::{Desk, SFault};
+use esc_flaky::FlakyDisk;
+use esc_manifest::Manifest;
+use esc_store::Store;
+use sqlite::{Alter, Connection, FileStore, Files, Options};
+use sqlite_disk::{Disk, Memory};
+use std::alloc::Global;
+use std::test::Fail;
+
+/// A desk over files of which one call fails.
+pub(crate) type FlakyDesk<D> = Desk<FileStore<FlakyDisk<D>>>;
+
+/// A call of one of the two files.
+#[derive(Clone, Copy, Debug)]
+pub(crate) struct Call {
+    /// Whether the file is the log, or that of the database.
+    pub of_the_log: bool,
+    /// How many calls of the file come before.
+    pub at: u64,
+}
+
+/// The files, of which this call fails.
+pub(crate) fn flaky<D: Disk + Drop>(files: Files<D>, call: Call) -> Files<FlakyDisk<D>> {
+    if call.of_the_log {
+        Files {
+            log: FlakyDisk::new(files.log, call.at),
+            db: FlakyDisk::sound(files.db),
+        }
+    } else {
+        Files {
+            log: FlakyDisk::sound(files.log),
+            db: FlakyDisk::new(files.db, call.at),
+        }
+    }
+}
+
+/// The files, of which no call fails from now on.
+pub(crate) fn inner<D: Disk + Drop>(files: Files<FlakyDisk<D>>) -> Files<D> {
+    Files {
+        log: files.log.into_inner(),
+        db: files.db.into_inner(),
+    }
+}
+
+fn sound<D: Disk + Drop>(files: Files<FlakyDisk<D>>) -> Files<FlakyDisk<D>> {
+    let files = inner(files);
+    Files {
+        log: FlakyDisk::sound(files.log),
+        db: FlakyDisk::sound(files.db),
+    }
+}
+
+/// Files without a byte.
+pub(crate) fn new_files(alloc: Global) -> Files<Memory> {
+    Files {
+        log: Memory::new(alloc),
+        db: Memory::new(alloc),
+    }
+}
+
+/// Whether the call that is to fail has come.
+pub(crate) fn have_failed<D: Disk + Drop>(files: &Files<FlakyDisk<D>>) -> bool {
+    files.log.has_failed() && files.db.has_failed()
+}
+
+/// How much of a database is kept in memory, so that it isn't asked of the disk.
+#[derive(Clone, Copy)]
+pub(crate) struct Room {
+    /// How many pages that were read.
+    pub cache_pages: usize,
+    /// How many pages the log may have before it is copied into the database file.
+    pub log_pages: usize,
+}
+
+/// Everything.
+pub(crate) const PLENTY: Room = Room {
+    cache_pages: 2_000,
+    log_pages: 1_000,
+};
+
+/// A connection, or the files, where a call of theirs fails.
+pub(crate) fn connect<D: Disk + Drop>(
+    alloc: Global,
+    files: Files<D>,
+    room: Room,
+) -> Result<Connection<FileStore<D>>, Files<D>> {
+    if !files.may_be_used() {
+        return Err(files);
+    }
+    let options = Options {
+        cache_pages: room.cache_pages,
+        checkpoint_frames: room.log_pages,
+        ..Options::new(7)
+    };
+    match Connection::open_files(alloc, files, options) {
+        Ok(connection) => Ok(connection),
+        Err((_, left)) => Err(left.into_files()),
+    }
+}
+
+pub(crate) fn close<D: Disk + Drop>(desk: Desk<FileStore<D>>) -> Files<D> {
+    disconnect(desk.into_store().into_connection())
+}
+
+fn disconnect<D: Disk + Drop>(connection: Connection<FileStore<D>>) -> Files<D> {
+    connection.into_store().close()
+}
+
+// A desk over a new store, or the connection where it is refused by `S1`.
+fn create<S: Alter + Drop>(
+    alloc: Global,
+    connection: Connection<S>,
+    manifest: &Manifest,
+) -> Result<Result<Desk<S>, Connection<S>>, Fail> {
+    match Store::create(alloc, connection, manifest) {
+        Ok(store) => Ok(Ok(Desk::open(store))),
+        Err((SFault::S1, connection)) => Ok(Err(connection)),
+        Err((fault, _)) => Err(Fail::new(fault)),
+    }
+}
+
+// The desk over a database, or over a new store where it has no table; or the connection where it
+// is refused by `S1`.
+fn open_or_create<S: Alter + Drop>(
+    alloc: Global,
+    connection: Connection<S>,
+    manifest: &Manifest,
+) -> Result<Result<Desk<S>, Connection<S>>, Fail> {
+    match Store::open(alloc, connection) {
+        Ok(store) => Ok(Ok(Desk::open(store))),
+        Err((SFault::S3, connection)) => create(alloc, connection, manifest),
+        Err((SFault::S1, connection)) => Ok(Err(connection)),
+        Err((fault, _)) => Err(Fail::new(fault)),
+    }
+}
+
+// The same, once more where it is refused.
+fn open_twice<S: Alter + Drop>(
+    alloc: Global,
+    connection: Connection<S>,
+    manifest: &Manifest,
+) -> Result<Result<Desk<S>, Connection<S>>, Fail> {
+    match open_or_create(alloc, connection, manifest)? {
+        Ok(desk) => Ok(Ok(desk)),
+        Err(connection) => open_or_create(alloc, connection, manifest),
+    }
+}
+
+/// The desk over a database of which no call fails.
+pub(crate) fn sound_desk<S: Alter + Drop>(
+    alloc: Global,
+    connection: Connection<S>,
+    manifest: &Manifest,
+) -> Result<Desk<S>, Fail> {
+    match open_or_create(alloc, connection, manifest)? {
+        Ok(desk) => Ok(desk),
+        Err(_) => Err(Fail::new("a sound store is refused")),
+    }
+}
+
+/// The desk over files that are opened again, of which no call fails any more.
+pub(crate) fn reopen<D: Disk + Drop>(
+    alloc: Global,
+    files: Files<FlakyDisk<D>>,
+    room: Room,
+    manifest: &Manifest,
+) -> Result<FlakyDesk<D>, Fail> {
+    match connect(alloc, sound(files), room) {
+        Ok(connection) => sound_desk(alloc, connection, manifest),
+        Err(_) => Err(Fail::new("sound files do not open")),
+    }
+}
+
+/// The desk over these files, in which a store is made if there is none. Where it is refused that
+/// is done once more, and where it is refused again over the files that are opened again.
+pub(crate) fn begin<D: Disk + Drop>(
+    alloc: Global,
+    files: Files<FlakyDisk<D>>,
+    room: Room,
+    manifest: &Manifest,
+) -> Result<FlakyDesk<D>, Fail> {
+    match connect(alloc, files, room) {
+        Ok(connection) => match open_twice(alloc, connection, manifest)? {
+            Ok(desk) => Ok(desk),
+            Err(connection) => reopen(alloc, disconnect(connection), room, manifest),
+        },
+        Err(files) => reopen(alloc, files, room, manifest),
+    }
+}

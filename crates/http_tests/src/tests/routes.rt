@@ -1,0 +1,318 @@
+//! Each route where one thing fails in the middle: a call of either file, a read, a write or the
+//! flush. The same request again has the response of a desk that nothing happened to.
+
+use super::disks::{Call, FlakyDesk, Room, begin, close, flaky, have_failed, new_files, reopen};
+use super::{
+    HELD, OPEN, PUT_SAMPLE, RECEIPTS, Wire, assert_told, count_receipts, desk, manifest, served,
+    told_of,
+};
+use esc_desk::Desk;
+use esc_flaky::FlakyDisk;
+use esc_http::ServeFault;
+use esc_manifest::Manifest;
+use sqlite::{Alter, Files};
+use sqlite_disk::Disk;
+use std::alloc::Global;
+use std::process::Abort;
+use std::test::Fail;
+
+// What needs another page asks the disk for it, and the log is copied into the database file now
+// and then.
+const ONE_PAGE: Room = Room {
+    cache_pages: 1,
+    log_pages: 8,
+};
+
+const UNAVAILABLE: &[u8] =
+    b"HTTP/1.1 503 Service Unavailable\r\nContent-Type: text/plain\r\nContent-Length: 3\r\nConnection: close\r\n\r\nS1\n";
+
+// The export of a kind that has no object.
+const NO_OBJECTS: &[u8] =
+    b"HTTP/1.1 200 OK\r\nContent-Type: text/csv\r\nContent-Length: 31\r\nConnection: close\r\n\r\nkind,key,table,row,field,value\n";
+
+/// A request to a desk.
+#[derive(Clone, Copy)]
+struct Exchange {
+    request: &'static [u8],
+    response: &'static [u8],
+    /// How many receipts there are before it, and after it.
+    receipts: (usize, usize),
+}
+
+/// Requests to a desk one after the other. Two that read the same page stand apart.
+static ROUTES: [Exchange; 14] = [
+    Exchange {
+        request: PUT_SAMPLE,
+        response: HELD,
+        receipts: (0, 1),
+    },
+    Exchange {
+        request: b"GET /export/registrar HTTP/1.1\r\n\r\n",
+        response: NO_OBJECTS,
+        receipts: (1, 1),
+    },
+    // The second receipt: a request before that was refused has none.
+    Exchange {
+        request: b"PUT /arrivals/n2 HTTP/1.0\r\nContent-Length: 3\r\n\r\nabc",
+        response: b"HTTP/1.1 422 Unprocessable Content\r\nContent-Type: application/json\r\nContent-Length: 106\r\nConnection: close\r\n\r\n{\"copy\":null,\"fault\":null,\"id\":null,\"number\":\"n2\",\"orphans\":null,\"receipt\":2,\"resend\":null,\"verdict\":\"A2\"}",
+        receipts: (1, 2),
+    },
+    Exchange {
+        request: b"GET /export/contact HTTP/1.1\r\n\r\n",
+        response: b"HTTP/1.1 200 OK\r\nContent-Type: text/csv\r\nContent-Length: 87\r\nConnection: close\r\n\r\nkind,key,table,row,field,value\ncontact,C1,contact,0,id,C1\ncontact,C1,contact,0,clID,R1\n",
+        receipts: (2, 2),
+    },
+    // A repeat.
+    Exchange {
+        request: PUT_SAMPLE,
+        response: HELD,
+        receipts: (2, 2),
+    },
+    Exchange {
+        request: b"GET /export/host HTTP/1.1\r\n\r\n",
+        response: NO_OBJECTS,
+        receipts: (2, 2),
+    },
+    Exchange {
+        request: b"GET /receipts HTTP/1.1\r\n\r\n",
+        response: RECEIPTS,
+        receipts: (2, 2),
+    },
+    Exchange {
+        request: b"GET /export/domain HTTP/1.1\r\n\r\n",
+        response: NO_OBJECTS,
+        receipts: (2, 2),
+    },
+    Exchange {
+        request: b"GET /gaps HTTP/1.1\r\n\r\n",
+        response: b"HTTP/1.1 200 OK\r\nContent-Type: text/csv\r\nContent-Length: 78\r\nConnection: close\r\n\r\nwatermark,type,used,state,blocker,awaited\n2024-03-03T00:00:00Z,FULL,0,chain,,\n",
+        receipts: (2, 2),
+    },
+    Exchange {
+        request: b"GET /export/idn HTTP/1.1\r\n\r\n",
+        response: NO_OBJECTS,
+        receipts: (2, 2),
+    },
+    Exchange {
+        request: b"GET /receipts HTTP/1.1\r\n\r\n",
+        response: RECEIPTS,
+        receipts: (2, 2),
+    },
+    Exchange {
+        request: b"GET /export/nndn HTTP/1.1\r\n\r\n",
+        response: NO_OBJECTS,
+        receipts: (2, 2),
+    },
+    Exchange {
+        request: b"GET /links HTTP/1.1\r\n\r\n",
+        response: b"HTTP/1.1 200 OK\r\nContent-Type: text/csv\r\nContent-Length: 64\r\nConnection: close\r\n\r\ncode,kind,key,field,value,other\nV1,contact,C1,clID,R1,registrar\n",
+        receipts: (2, 2),
+    },
+    Exchange {
+        request: b"GET /status HTTP/1.1\r\n\r\n",
+        response: b"HTTP/1.1 200 OK\r\nContent-Type: text/plain\r\nContent-Length: 118\r\nConnection: close\r\n\r\nlisted 1\nheld 1\nreceipts 2\nchain 1\nend 2024-03-03T00:00:00Z FULL 0\nregistrar 0\ncontact 1\nhost 0\ndomain 0\nidn 0\nnndn 0\n",
+        receipts: (2, 2),
+    },
+];
+
+// Sends a request: whether it had its response, or else 503.
+fn is_answered<S: Alter + Drop>(
+    rt: &impl Abort,
+    alloc: Global,
+    desk: &mut Desk<S>,
+    exchange: &Exchange,
+) -> bool {
+    let wire = Wire {
+        input: exchange.request,
+        ..OPEN
+    };
+    let (fault, text) = served(alloc, desk, &wire);
+    let is_refused = text.as_slice() == UNAVAILABLE;
+    let response = if is_refused {
+        UNAVAILABLE
+    } else {
+        exchange.response
+    };
+    assert_eq!(rt;
+        (fault, text.as_slice()),
+        (None, response),
+        "{:?}",
+        exchange.request
+    );
+    !is_refused
+}
+
+// Whether a desk that refused a request has the receipts that it had before. One that refuses each
+// call tells none.
+fn is_unchanged<S: Alter + Drop>(alloc: Global, desk: &mut Desk<S>, exchange: &Exchange) -> bool {
+    let (before, _) = exchange.receipts;
+    count_receipts(alloc, desk).is_none_or(|count| count == before)
+}
+
+// Sends a request until it is answered: once more at the same desk, or where that refuses again at
+// the one of the files that are opened again. Gives how often it was refused.
+fn settle<D: Disk + Drop>(
+    rt: &impl Abort,
+    alloc: Global,
+    mut desk: FlakyDesk<D>,
+    exchange: &Exchange,
+    manifest: &Manifest,
+) -> Result<(FlakyDesk<D>, u32), Fail> {
+    if is_answered(rt, alloc, &mut desk, exchange) {
+        return Ok((desk, 0));
+    }
+    assert!(rt;
+        is_unchanged(alloc, &mut desk, exchange),
+        "{:?}",
+        exchange.request
+    );
+    if is_answered(rt, alloc, &mut desk, exchange) {
+        return Ok((desk, 1));
+    }
+    let mut desk = reopen(alloc, close(desk), ONE_PAGE, manifest)?;
+    let is_answered = is_answered(rt, alloc, &mut desk, exchange);
+    assert!(rt; is_answered, "{:?}", exchange.request);
+    Ok((desk, 2))
+}
+
+// All requests over files of which one call fails, and how often each was refused at most. Whether
+// the call came.
+fn assert_routes<D: Disk + Drop>(
+    rt: &impl Abort,
+    alloc: Global,
+    files: Files<FlakyDisk<D>>,
+    manifest: &Manifest,
+    refused: &mut [u32],
+) -> Result<bool, Fail> {
+    let mut desk = begin(alloc, files, ONE_PAGE, manifest)?;
+    for (exchange, refused) in ROUTES.iter().zip(refused) {
+        let (settled, refusals) = settle(rt, alloc, desk, exchange, manifest)?;
+        desk = settled;
+        *refused = refusals.max(*refused);
+    }
+    Ok(have_failed(&close(desk)))
+}
+
+/// More calls than there are.
+const MOST_CALLS: u64 = 5_000;
+
+// Each call of a file, up to a run of which none fails.
+fn assert_calls(
+    rt: &impl Abort,
+    alloc: Global,
+    of_the_log: bool,
+    refused: &mut [u32],
+) -> Result<(), Fail> {
+    let manifest = manifest(alloc).ok_or("no manifest")?;
+    for at in 0..MOST_CALLS {
+        let files = flaky(new_files(alloc), Call { of_the_log, at });
+        if !assert_routes(rt, alloc, files, &manifest, refused)? {
+            return Ok(());
+        }
+    }
+    Err(Fail::new("there are more calls"))
+}
+
+// How often each request is refused at most: an arrival that is a commit twice, since it may be
+// open whether it is kept, and any other request once.
+const REFUSED: [u32; 14] = [2, 1, 2, 1, 1, 1, 1, 1, 1, 1, 1, 1, 1, 1];
+
+#[test]
+fn each_call_of_either_file_over_the_routes(rt: HostRuntime) -> Result<(), Fail> {
+    let mut refused = [0; 14];
+    for of_the_log in [false, true] {
+        assert_calls(&rt, rt.alloc(), of_the_log, &mut refused)?;
+    }
+    assert_eq!(rt; refused, REFUSED);
+    Ok(())
+}
+
+// Sends a request of which a read fails after so many bytes, for each number of them.
+fn assert_reads<S: Alter>(
+    rt: &impl Abort,
+    alloc: Global,
+    desk: &mut Desk<S>,
+    exchange: &Exchange,
+    step: usize,
+) {
+    let (before, _) = exchange.receipts;
+    for readable in 0..exchange.request.len() {
+        let wire = Wire {
+            input: exchange.request,
+            step,
+            readable,
+            ..OPEN
+        };
+        let found = told_of(alloc, desk, &[], &wire);
+        assert_told(rt, found, Some(ServeFault::Read), b"", before);
+    }
+}
+
+// Sends a request of whose response a write fails after so many bytes, for each number of them.
+fn assert_writes<S: Alter>(
+    rt: &impl Abort,
+    alloc: Global,
+    desk: &mut Desk<S>,
+    exchange: &Exchange,
+    step: usize,
+) {
+    let (_, after) = exchange.receipts;
+    for writable in 0..exchange.response.len() {
+        let wire = Wire {
+            input: exchange.request,
+            step,
+            writable,
+            ..OPEN
+        };
+        let found = told_of(alloc, desk, &[], &wire);
+        let beginning = &exchange.response[..writable];
+        assert_told(rt, found, Some(ServeFault::Write), beginning, after);
+    }
+}
+
+// The same where the response can't be handed on, and where nothing fails.
+fn assert_rest<S: Alter>(
+    rt: &impl Abort,
+    alloc: Global,
+    desk: &mut Desk<S>,
+    exchange: &Exchange,
+    step: usize,
+) {
+    let (_, after) = exchange.receipts;
+    for fault in [Some(ServeFault::Write), None] {
+        let wire = Wire {
+            input: exchange.request,
+            step,
+            is_stuck: fault.is_some(),
+            ..OPEN
+        };
+        let found = told_of(alloc, desk, &[], &wire);
+        assert_told(rt, found, fault, exchange.response, after);
+    }
+}
+
+// Reads, writes and the flush of each request fail, one after the other.
+fn assert_streams<S: Alter>(rt: &impl Abort, alloc: Global, desk: &mut Desk<S>, step: usize) {
+    for exchange in &ROUTES {
+        assert_reads(rt, alloc, desk, exchange, step);
+        assert_writes(rt, alloc, desk, exchange, step);
+        assert_rest(rt, alloc, desk, exchange, step);
+    }
+}
+
+fn assert_steps(rt: &impl Abort, alloc: Global, step: usize) {
+    match desk(alloc) {
+        Some(mut desk) => assert_streams(rt, alloc, &mut desk, step),
+        None => panic!(rt; "no desk"),
+    }
+}
+
+#[test]
+fn each_read_and_write_of_one_byte_over_the_routes(rt: HostRuntime) {
+    assert_steps(&rt, rt.alloc(), 1);
+}
+
+#[test]
+fn each_read_and_write_of_many_bytes_over_the_routes(rt: HostRuntime) {
+    assert_steps(&rt, rt.alloc(), 100_000);
+}
