@@ -12,7 +12,7 @@ from crates import TOP, libraries, uses
 # What the prover says of a text that it can't read, so that no contract was tried.
 UNREAD = re.compile(r'is not in scope|has no field|is no name|operand is missing|expected the end|cannot continue')
 # What it says of an answer that names a step which the edit took away.
-NAMES = re.compile(r'(\./)?proofs/.*(has no field|is not in scope|has no `|was not admitted)')
+NAMES = re.compile(r'(\./)?proofs/.*(has no field|record `[^`]*` \(nearest|is not in scope|has no `|was not admitted)')
 
 
 @dataclass
