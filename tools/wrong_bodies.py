@@ -116,11 +116,11 @@ def read_edit(crate, folder, path):
 
 
 def check_words(tree, crate):
-    """The command that checks the crate in the current folder over the libraries of a tree, as `rt` calls it."""
+    """The command that checks the crate in the current folder over the libraries of a tree, as `rt` calls it, after what else runs."""
     kit = os.path.dirname(os.path.dirname(os.path.realpath(shutil.which('rt'))))
     listed = uses()
     rlib = {it: f'{tree}/crates/{it}/out/rlib' for it in libraries()[crate]}
-    words = [f'{kit}/bin/rattle', 'check', '--crate-name', crate, 'src/lib.rt', '--extern', f'std={kit}/rlibs/std.rlib']
+    words = ['nice', f'{kit}/bin/rattle', 'check', '--crate-name', crate, 'src/lib.rt', '--extern', f'std={kit}/rlibs/std.rlib']
     for name in listed[crate]:
         words += ['--extern', f'{name}={rlib.get(name, kit + "/rlibs")}/{name}.rlib']
     for folder in (f'{kit}/rlibs', *rlib.values()):
