@@ -57,14 +57,15 @@ fn serve_next<S: Alter, E: Write>(
     let (stream, _address) = listener.accept()?;
     let mut reader = Client::new(rt, &stream, Patience::for_request());
     let mut writer = Client::new(rt, &stream, Patience::for_response());
-    serve_streams(rt, desk, &mut reader, &mut writer, err);
-    see_off(rt, &stream);
+    if serve_streams(rt, desk, &mut reader, &mut writer, err) {
+        see_off(rt, &stream);
+    }
     Ok(())
 }
 
-// Ends a connection. A client whose request was refused before its end still sends, and where
-// nobody reads that it finds the connection broken and may miss its response: so the rest is read
-// and dropped, within limits.
+// Ends a connection whose response was sent. A client whose request was refused before its end
+// still sends, and where nobody reads that it finds the connection broken and may miss its
+// response: so the rest is read and dropped, within limits.
 fn see_off(rt: &HostRuntime, stream: &TcpStream) {
     if stream.shutdown(Shutdown::Write).is_err() {
         return;
@@ -78,18 +79,21 @@ fn see_off(rt: &HostRuntime, stream: &TcpStream) {
     }
 }
 
-/// Serves one request over a reader and a writer. Where one of them fails, that is told.
+/// Serves one request over a reader and a writer. Returns whether the response was sent whole.
+/// Where the reader or the writer fails, that is told.
 pub fn serve_streams<S: Alter, R: Read, W: Write, E: Write>(
     rt: &HostRuntime,
     desk: &mut Desk<S>,
     reader: &mut R,
     writer: &mut W,
     err: &mut E,
-) {
-    // Where standard error fails there is nobody to tell.
-    let _ = match serve_one(rt.alloc(), desk, reader, writer) {
-        Ok(()) => Ok(()),
-        Err(ServeFault::Read) => err.write_all(b"read fault\n"),
-        Err(ServeFault::Write) => err.write_all(b"write fault\n"),
+) -> bool {
+    let line: &[u8] = match serve_one(rt.alloc(), desk, reader, writer) {
+        Ok(()) => return true,
+        Err(ServeFault::Read) => b"read fault\n",
+        Err(ServeFault::Write) => b"write fault\n",
     };
+    // Where standard error fails there is nobody to tell.
+    let _ = err.write_all(line);
+    false
 }
