@@ -48,7 +48,7 @@ both db k s tables books registry = record {
   schema = tables.schema_is;
   kept = record {
     tables = tables.store;
-    books = record { listed = books.listed; receipts = books.receipts; held = books.held; steps = books.steps };
+    books = record { listed = books.listed; receipts = books.receipts; held = books.held; parked = books.parked; moment = books.moment; steps = books.steps };
     registry = registry;
   };
 }

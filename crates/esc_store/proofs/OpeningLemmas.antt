@@ -28,15 +28,15 @@ int_is : (version : Option ℤ) (n : ℤ) → option_map Int version ≡ Some (I
 int_is None n is = let no : ⊥ = cc in absurd no
 int_is (Some v) n is = let e : v ≡ n = cc in ap Some e
 
--- and its version is 1
-pub version_told : (s : State) (version : Option ℤ) (k : Kept) → s.now ≡ s.committed → s.now.schema ≡ store_schema → TellsVersion s.now version → IsStore s.committed.trees k → version ≡ Some (pos 1)
+-- and its version is 2
+pub version_told : (s : State) (version : Option ℤ) (k : Kept) → s.now ≡ s.committed → s.now.schema ≡ store_schema → TellsVersion s.now version → IsStore s.committed.trees k → version ≡ Some (pos 2)
 unfolding IsStore
 version_told s version k same schema tells stored =
     let info : s.now.trees info_tree ≡ info_row ∷ [] = ap (λ (db : Database). db.trees info_tree) same ∙ stored.tables.rows.info in
     let one : length (s.now.trees info_tree) ≤ 1 = subst (λ (rows : List Row). length rows ≤ 1) (sym info) (omega arith) in
-    int_is version (pos 1) (tells schema one ∙ ap (λ (rows : List Row). option_map (λ (r : Row). column r 2) (slice_get rows 0)) info)
+    int_is version (pos 2) (tells schema one ∙ ap (λ (rows : List Row). option_map (λ (r : Row). column r 2) (slice_get rows 0)) info)
 
-pub is_of_version : (db : Database) (version : Option ℤ) → db.schema ≡ store_schema → TellsVersion db version → version ≡ Some (pos 1) → IsOfVersion db
+pub is_of_version : (db : Database) (version : Option ℤ) → db.schema ≡ store_schema → TellsVersion db version → version ≡ Some (pos 2) → IsOfVersion db
 is_of_version db version schema tells is = record { schema = schema; version = λ one. sym (tells schema one) ∙ ap (option_map Int) is }
 
 pub is_off : (b on : Bool) → b ≡ not on → IsTrue b → on ≡ false

@@ -147,7 +147,7 @@ pub remove_turns : (kind : ℕ) (key : List ℕ) (old new : Database) → Remove
 remove_turns kind key old new made = turned kind key None old new made
 
 pub books_objects : (k : Kept) (c c' : Content) → c' ≡ record c { objects = c'.objects } → IsBooks c k → IsBooks c' k
-books_objects k c c' only books = subst (λ x. IsBooks x k) (sym only) (record { listed = books.listed; receipts = books.receipts; held = books.held; steps = books.steps })
+books_objects k c c' only books = subst (λ x. IsBooks x k) (sym only) (record { listed = books.listed; receipts = books.receipts; held = books.held; parked = books.parked; moment = books.moment; steps = books.steps })
 
 pub set_registry : (s : State) (k : KeyName) (o : Option ObjectValue) (w : Option (List ℕ)) (c c' : Content) → option_and_then record_of o ≡ w → IfSome o (λ x. IsSome (record_of x)) → SetsObject (kind_rank k.kind) k.text w c c' → IsRegistry c s → IsRegistry c' (written s k o)
 set_registry s k o w c c' bytes has set it = record {
@@ -167,7 +167,7 @@ pub record SetsImages (step : ℕ) (g : ℕ → List ℕ → Option (Option (Lis
   pub map_is : (p n : ℕ) (text : List ℕ) → image_at p n text c'.undo ≡ (if step == p then g n text else image_at p n text c.undo)
 
 pub books_images : (k : Kept) (c c' : Content) → c' ≡ record c { undo = c'.undo } → IsBooks c k → IsBooks c' k
-books_images k c c' only books = subst (λ x. IsBooks x k) (sym only) (record { listed = books.listed; receipts = books.receipts; held = books.held; steps = books.steps })
+books_images k c c' only books = subst (λ x. IsBooks x k) (sym only) (record { listed = books.listed; receipts = books.receipts; held = books.held; parked = books.parked; moment = books.moment; steps = books.steps })
 
 pub record PutsOneImage (step kind : ℕ) (key : List ℕ) (before : Option (List ℕ)) (c c' : Content) : Type 0 where
   pub only : c' ≡ record c { undo = c'.undo }
@@ -252,10 +252,10 @@ pub undo_turns : (old new : Database) → Becomes without_undo old new → Turns
 undo_turns old new made tables = let b = becomes new (without_undo (content_in old.trees)) (made (content_in old.trees) tables) in (b.0, record { is = b.1 })
 
 pub books_no_objects : (k : Kept) (c c' : Content) → DropsObjects c c' → IsBooks c k → IsBooks c' k
-books_no_objects k c c' drops books = subst (λ x. IsBooks x k) (sym drops.is) (record { listed = books.listed; receipts = books.receipts; held = books.held; steps = books.steps })
+books_no_objects k c c' drops books = subst (λ x. IsBooks x k) (sym drops.is) (record { listed = books.listed; receipts = books.receipts; held = books.held; parked = books.parked; moment = books.moment; steps = books.steps })
 
 pub books_no_undo : (k : Kept) (c c' : Content) → DropsUndo c c' → IsBooks c k → IsBooks c' k
-books_no_undo k c c' drops books = subst (λ x. IsBooks x k) (sym drops.is) (record { listed = books.listed; receipts = books.receipts; held = books.held; steps = books.steps })
+books_no_undo k c c' drops books = subst (λ x. IsBooks x k) (sym drops.is) (record { listed = books.listed; receipts = books.receipts; held = books.held; parked = books.parked; moment = books.moment; steps = books.steps })
 
 pub nothing_there : (n : ℕ) (text : List ℕ) → record_at (λ q. None) n text ≡ None
 nothing_there n text = by_kind (kind_at n) where

@@ -92,6 +92,8 @@ books_receipt k r c c' turn books = subst (λ x. IsBooks x (with_receipt k r)) (
   listed = books.listed;
   receipts = ap (λ (rs : List ReceiptRow). rs ++ receipt_row (last_number rs + 1) r ∷ []) books.receipts ∙ sym (receipts_push 1 k.receipts r _ (ap (λ n. n + 1) (sym (counted k.receipts))));
   held = books.held;
+  parked = books.parked;
+  moment = books.moment;
   steps = books.steps;
 })
 
@@ -148,6 +150,8 @@ books_held k h row body c c' row_is body_is turn books = subst (λ x. IsBooks x 
   listed = books.listed;
   receipts = books.receipts;
   held = λ n. body_in h c.held n ∙ rw (row_is, body_is) (ap (λ o. if n == row then Some body else o) (books.held n));
+  parked = books.parked;
+  moment = books.moment;
   steps = books.steps;
 })
 
@@ -157,7 +161,7 @@ registry_held s h c c' turn it = subst (λ x. IsRegistry x s) (sym turn.is) (rec
 -- ---- steps
 
 pub books_steps : (k : Kept) (rows : List ℕ) (c c' : Content) → Becoming (with_step_rows rows) c c' → IsBooks c k → IsBooks c' (with_steps k rows)
-books_steps k rows c c' turn books = subst (λ x. IsBooks x (with_steps k rows)) (sym turn.is) (record { listed = books.listed; receipts = books.receipts; held = books.held; steps = refl })
+books_steps k rows c c' turn books = subst (λ x. IsBooks x (with_steps k rows)) (sym turn.is) (record { listed = books.listed; receipts = books.receipts; held = books.held; parked = books.parked; moment = books.moment; steps = refl })
 
 pub registry_steps : (s : Tables) (rows : List ℕ) (c c' : Content) → Becoming (with_step_rows rows) c c' → IsRegistry c s → IsRegistry c' s
 registry_steps s rows c c' turn it = subst (λ x. IsRegistry x s) (sym turn.is) (record { objects = it.objects; images = it.images; recorded = it.recorded; noted = it.noted })

@@ -3,7 +3,7 @@
 //! # What it is for
 //!
 //! A store keeps a manifest's rows, a receipt for each distinct arrival, the bodies of held rows,
-//! the chain, its tables and the before-images of its steps. It keeps them in the seven tables of
+//! the chain, its tables and the before-images of its steps. It keeps them in the nine tables of
 //! `esc_rows`. The desk above decides what is kept; no SQL and no row of a table is seen there.
 //!
 //! # What goes in and out

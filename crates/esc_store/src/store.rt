@@ -49,7 +49,7 @@ use esc_rows::transaction::{begin_in, commit_in};
 use sqlite::{Alter, Connection, Error};
 use std::alloc::Global;
 
-/// A store: a database of seven tables. Contracts see what it *stands for*: the rows of its
+/// A store: a database of nine tables. Contracts see what it *stands for*: the rows of its
 /// manifest, a receipt for each distinct arrival, the bodies of the held rows, and the chain with
 /// its tables and before-images.
 #[derive(Drop)]
