@@ -44,7 +44,7 @@ one_of p (b ∷ l) e = by_test (p b) refl e (one_of p l)
     by_test false is e rest = let x = rest e in (x.0, inr x.1, x.2)
 
 -- the first that passes is one of the list, and passes
-first_of : (p : Coming → Bool) (l : List Coming) (y : Coming) → find p l ≡ Some y → Among l y × (p y ≡ true)
+pub first_of : (p : Coming → Bool) (l : List Coming) (y : Coming) → find p l ≡ Some y → Among l y × (p y ≡ true)
 first_of p [] y e = absurd (cc)
 first_of p (b ∷ l) y e = by_test (p b) refl e (first_of p l y)
   where
@@ -81,7 +81,7 @@ row_found m r (Some q) (Ok d) is = by_test _ is
     by_test true same = ap Some (same_number q r same)
     by_test false none = absurd (true≢false (sym none))
 
-digest_of_row : (m : List MRow) (r : ℕ) (digest : List ℕ) → row_of m digest ≡ Some r → (get_or m r no_row).digest ≡ digest
+pub digest_of_row : (m : List MRow) (r : ℕ) (digest : List ℕ) → row_of m digest ≡ Some r → (get_or m r no_row).digest ≡ digest
 digest_of_row m r digest is = (bytes_decides (get_or m r no_row).digest digest).0 (position-Some (λ (row : MRow). bytes_eq row.digest digest) m r no_row is).1
 
 module _ (digest : List ℕ → List ℕ) (reads : List ℕ → Result DepositValue ℕ) where
@@ -127,7 +127,7 @@ module _ (digest : List ℕ → List ℕ) (reads : List ℕ → Result DepositVa
 
 -- ---- of events
 
-among_arrivals : (l : List Coming) (c : Coming) → Among l c → Among (map arrival_of l) (arrival_of c)
+pub among_arrivals : (l : List Coming) (c : Coming) → Among l c → Among (map arrival_of l) (arrival_of c)
 among_arrivals [] c there = there
 among_arrivals (b ∷ l) c (inl is) = inl (ap arrival_of is)
 among_arrivals (b ∷ l) c (inr there) = inr (among_arrivals l c there)
