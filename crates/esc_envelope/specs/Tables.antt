@@ -50,7 +50,7 @@ all_of f (x ∷ xs) = do
 abbrev pub is_among : List ℕ → List (List ℕ) → Bool
 is_among text others = list_any (λ other. bytes_eq other text) others
 
--- whether no text stands twice
+-- whether no text occurs twice
 unfoldable pub are_distinct : List (List ℕ) → Bool
 are_distinct [] = true
 are_distinct (text ∷ others) = not (is_among text others) && are_distinct others
@@ -107,7 +107,7 @@ place_of texts text = position (λ other. bytes_eq other text) texts
 abbrev pub key_of : Data → List (List ℕ) → Option ℕ
 key_of json fields = option_and_then (place_of fields) (text_at (codes "key") json)
 
--- a declared table: its name and its fields have their forms, no field stands twice, and the key is
+-- a declared table: its name and its fields have their forms, no field occurs twice, and the key is
 -- one of them
 pub record IsTable (t : TableValue) : Type 0 where
   pub named : is_name t.name ≡ true
@@ -134,7 +134,7 @@ table_of json = do
     file = file;
   })
 
--- whether no name stands twice
+-- whether no name occurs twice
 abbrev pub have_distinct_names : List TableValue → Bool
 have_distinct_names tables = are_distinct (map (λ t. t.name) tables)
 

@@ -1,8 +1,8 @@
 //! What requests are read from and responses are written to.
 //!
 //! A contract over a reader of std can't say that a read failed. So the code here is written over
-//! two traits of its own, which have a word for it, and every reader and writer of std is one of
-//! them that doesn't tell.
+//! two traits of its own, which have a word for it, and every reader and writer of std has them
+//! without reporting a failure.
 
 ghost use Rattle.std.specs.Prelude.{
   ◌≡◌,
@@ -37,7 +37,7 @@ pub trait Source {
     // whether a read has failed
     ghost failed: { Self → Bool };
 
-    /// Reads some bytes to the front of a buffer, and answers how many: none where the bytes are at
+    /// Reads some bytes to the front of a buffer, and returns how many: none where the bytes are at
     /// their end, or the buffer has no room.
     fn read_some(&mut self, buffer: &mut [u8]) -> Result<usize, ReadFailed>
         ensures bound { IfOk result (λ n. n ≤ length buffer.new) }
@@ -52,7 +52,7 @@ pub trait Sink {
     // whether a write or a flush has failed
     ghost failed: { Self → Bool };
 
-    /// Writes some bytes of the front of these, and answers how many: one at least, where there is
+    /// Writes some bytes of the front of these, and returns how many: one at least, where there is
     /// one.
     fn write_some(&mut self, bytes: &[u8]) -> Result<usize, WriteFailed>
         ensures bound { IfOk result (λ n. n ≤ length bytes.now) }
@@ -66,7 +66,7 @@ pub trait Sink {
         ensures err { OnErr result (IsTrue (failed self.new)) };
 }
 
-// A reader of std doesn't tell whether a read has failed.
+// A reader of std doesn't report whether a read has failed.
 impl<R: Read> Source for R {
     ghost remaining = { λ r. R.remaining r };
 
@@ -80,7 +80,7 @@ impl<R: Read> Source for R {
     }
 }
 
-// A writer of std doesn't tell whether a write has failed. One that takes no byte of some has
+// A writer of std doesn't report whether a write has failed. One that takes no byte of some has
 // failed.
 impl<W: Write> Sink for W {
     ghost contents = { λ w. W.contents w };

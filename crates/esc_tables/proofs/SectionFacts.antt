@@ -13,10 +13,6 @@ pub find_map : {A B : Type 0} (f : A → B) (test : B → Bool) (xs : List A) �
 find_map f test [] = refl
 find_map f test (x ∷ xs) = elim (cases_Bool (test (f x))) [ inl e ↦ rw e refl | inr e ↦ rw e (find_map f test xs) ]
 
-pub any_map : {A B : Type 0} (f : A → B) (test : B → Bool) (xs : List A) → list_any test (map f xs) ≡ list_any (λ x. test (f x)) xs
-any_map f test [] = refl
-any_map f test (x ∷ xs) = ap (λ (b : Bool). test (f x) || b) (any_map f test xs)
-
 seen : (o : Option Section) → option_map_or (λ s. s.bytes) (option_map view o) [] ≡ option_map_or (λ s. s.bytes.now) o []
 seen None = refl
 seen (Some s) = refl
