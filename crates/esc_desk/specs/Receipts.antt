@@ -88,8 +88,8 @@ module _ (digest : List ℕ → List ℕ) (reads : List ℕ → Result DepositVa
   abbrev pub alike : Coming → Coming → Bool
   alike a b = bytes_eq a.number b.number && bytes_eq (digest a.body) (digest b.body)
 
-  -- a list without each arrival that is like an earlier one: its first, and the distinct ones behind
-  -- it that aren't like that one
+  -- a list without each arrival that is like an earlier one: its first, and the distinct ones
+  -- behind it that aren't like that one
   abbrev pub distinct : List Coming → List Coming
   distinct [] = []
   distinct (a ∷ l) = a ∷ filter (λ b. not (alike a b)) (distinct l)

@@ -9,16 +9,16 @@ use Rattle.esc_desk.specs.ArrivalValue.{ArrivalValue}
 use Rattle.esc_desk.specs.Events.{EventValue, union, arrivals}
 use Rattle.esc_desk.specs.Stands.{held_rows, StandsFor}
 
--- the same rows are listed, the same are held, and no two different bodies, one of either list, have
--- the same digest
+-- the same rows are listed, the same are held, and no two different bodies, one of either list,
+-- have the same digest
 pub record HoldTheSame (e f : List EventValue) : Type 0 where
   pub listed : union e ≡ union f
   pub held : held_rows sha256 reading e ≡ held_rows sha256 reading f
   pub apart : (a b : ArrivalValue) → Among (arrivals e) a → Among (arrivals f) b
       → sha256 a.body ≡ sha256 b.body → a.body ≡ b.body
 
--- two stores keep the same, but for the receipts: the rows, the bodies, the chain, its tables and its
--- before-images
+-- two stores keep the same, but for the receipts: the rows, the bodies, the chain, its tables and
+-- its before-images
 pub record KeepTheSame (k l : Kept) : Type 0 where
   pub listed : k.listed ≡ l.listed
   pub bodies : (r : ℕ) → k.bodies r ≡ l.bodies r

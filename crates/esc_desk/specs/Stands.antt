@@ -76,8 +76,9 @@ module _ (digest : List ℕ → List ℕ) (reads : List ℕ → Result DepositVa
   abbrev pub held_body : List EventValue → ℕ → Option (List ℕ)
   held_body e = body_by (distinct digest reads (comings e))
 
-  -- what listed rows and distinct arrivals leave: the rows, the receipts and bodies of the arrivals,
-  -- the rows of the latest chain of the held deposits, and that chain's tables and before-images
+  -- what listed rows and distinct arrivals leave: the rows, the receipts and bodies of the
+  -- arrivals, the rows of the latest chain of the held deposits, and that chain's tables and
+  -- before-images
   pub record IsLeftBy (m : List MRow) (ds : List Coming) (k : Kept) : Type 0 where
     pub listed : k.listed ≡ m
     pub receipts : k.receipts ≡ receipts_after digest reads [] ds

@@ -16,6 +16,7 @@ ghost use Rattle.std.specs.Prelude.{
   true,
   IfOk,
   IsTrue,
+  OnOk,
   OnErr,
 };
 ghost use Rattle.std.specs.Io.KnownBytes.{ReadConsumes, WriteAppends, Keeps};
@@ -51,6 +52,8 @@ pub trait Sink {
     ghost contents: { Self → Option (List ℕ) };
     // whether a write or a flush has failed
     ghost failed: { Self → Bool };
+    // whether all that was written was handed on
+    ghost flushed: { Self → Bool };
 
     /// Writes some bytes of the front of these, and returns how many: one at least, where there is
     /// one.
@@ -63,6 +66,7 @@ pub trait Sink {
     /// Hands on what was written.
     fn flush(&mut self) -> Result<(), WriteFailed>
         ensures bytes { Keeps (contents self.old) (contents self.new) }
+        ensures flushed { OnOk result (IsTrue (flushed self.new)) }
         ensures err { OnErr result (IsTrue (failed self.new)) };
 }
 
@@ -80,12 +84,14 @@ impl<R: Read> Source for R {
     }
 }
 
-// A writer of std doesn't report whether a write has failed. One that takes no byte of some has
-// failed.
+// A writer of std doesn't report whether a write has failed, or what was handed on. One that takes
+// no byte of some has failed.
 impl<W: Write> Sink for W {
     ghost contents = { λ w. W.contents w };
 
     ghost failed = { λ _. true };
+
+    ghost flushed = { λ _. true };
 
     fn write_some(&mut self, bytes: &[u8]) -> Result<usize, WriteFailed> {
         match self.write(bytes) {
