@@ -4,7 +4,6 @@ use Rattle.std.specs.Prelude.{
   ℕ,
   ℤ,
   ◌<◌,
-  Bool,
   ◌==◌,
   if◌then◌else◌,
   List,

@@ -1,23 +1,5 @@
 -- How what a store keeps stands in the rows of its tables (this project's profile).
-use Rattle.std.specs.Prelude.{
-  ◌≡◌,
-  ℕ,
-  suc,
-  ◌==◌,
-  Bool,
-  true,
-  false,
-  if◌then◌else◌,
-  List,
-  [],
-  ◌∷◌,
-  Option,
-  None,
-  Some,
-  IsSome,
-  IfSome,
-  option_map,
-}
+use Rattle.std.specs.Prelude.{◌≡◌, ℕ, suc, ◌==◌, Bool, if◌then◌else◌, List, [], ◌∷◌, Option, None, Some, IsSome, IfSome, option_map}
 use Rattle.std.specs.Option.{option_and_then}
 use Rattle.esc_envelope.specs.declared.kind.Kind.{Kind}
 use Rattle.esc_envelope.specs.declared.kind.Kind.TheVariants.{
@@ -28,7 +10,6 @@ use Rattle.esc_envelope.specs.declared.kind.Kind.TheVariants.{
   Idn,
   Nndn,
 }
-use Rattle.esc_envelope.specs.Kinds.{kind_rank}
 use Rattle.esc_envelope.specs.Place.{rank}
 use Rattle.esc_manifest.specs.declared.row.MRow.{MRow}
 use Rattle.esc_tables.specs.KeyName.{KeyName}

@@ -17,7 +17,7 @@
 //! | `store`, `founding`, `opening` | a store, how it is made, and how one is found |
 //! | `reads` | what a store answers of itself |
 //! | `change`, `books`, `registry`, `records` | a change: its receipt, body and chain, and its objects |
-//! | `statements` | a write, a read in a change, and a checked read: one call of `esc_rows` each |
+//! | `statements` | a write or a read of the tables: one call of `esc_rows` each |
 //! | `codec` | what the tables keep, as their rows and bytes, and back |
 //!
 //! # An example
