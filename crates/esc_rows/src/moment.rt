@@ -9,7 +9,7 @@ ghost use Rattle.esc_rows.specs.Changes.{Becomes, Tells};
 ghost use Rattle.esc_rows.specs.Entries.{first_of};
 ghost use Rattle.esc_rows.specs.Parked.{SetsMoment, without_moment, ShowsMoment};
 
-use crate::within::{read_all, write_within};
+use crate::within::write_within;
 use sqlite::{Alter, Connection, Error, Row, params};
 
 /// Removes the moment, if one is set.
@@ -36,7 +36,7 @@ fn ask_moment<S: Alter>(conn: &mut Connection<S>) -> Result<Vec<Row>, Error>
     ensures read { IsRead (state S.Store conn.old) (state S.Store conn.new)
         (λ db rows. Tells ShowsMoment db rows.items) result }
 {
-    read_all(conn, "SELECT watermark FROM moment", &[])
+    conn.query_all("SELECT watermark FROM moment", &[])
 }
 
 // The number in the first column of the first row, if there is one.

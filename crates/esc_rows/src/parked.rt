@@ -15,7 +15,7 @@ ghost use Rattle.esc_rows.specs.Parked.{
 };
 
 use crate::reader::{FromRow, read_rows};
-use crate::within::{read_all, write_within};
+use crate::within::write_within;
 use sqlite::{Alter, Connection, Error, Row, params};
 use std::alloc::Global;
 
@@ -51,11 +51,7 @@ fn ask_parked<S: Alter>(conn: &mut Connection<S>, digest: &[u8]) -> Result<Vec<R
     ensures read { IsRead (state S.Store conn.old) (state S.Store conn.new)
         (λ db rows. Tells (ShowsParked digest.now) db rows.items) result }
 {
-    read_all(
-        conn,
-        "SELECT body FROM parked WHERE digest = ?1",
-        params![digest],
-    )
+    conn.query_all("SELECT body FROM parked WHERE digest = ?1", params![digest])
 }
 
 /// The body that is parked under the digest, if one is.
@@ -78,7 +74,7 @@ fn ask_digests<S: Alter>(conn: &mut Connection<S>) -> Result<Vec<Row>, Error>
     ensures read { IsRead (state S.Store conn.old) (state S.Store conn.new)
         (λ db rows. Tells ShowsDigests db rows.items) result }
 {
-    read_all(conn, "SELECT digest FROM parked ORDER BY digest", &[])
+    conn.query_all("SELECT digest FROM parked ORDER BY digest", &[])
 }
 
 /// A digest is read from the first column.

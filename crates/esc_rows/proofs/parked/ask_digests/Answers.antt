@@ -9,5 +9,5 @@ use Rattle.esc_rows.proofs.parked.ask_digests.Goals as goal
 pub returns : goal.returns
 returns g c =
     let old = state g.S.Store c.args.conn.now in
-    let new = state g.S.Store c.read_all.new.conn in
-    record { read = tells _ parked_digests_is _ [] old new ShowsDigests (λ v. v.items) c.read_all.result c.read_all.ensures.survives c.read_all.ensures.autocommit c.read_all.ensures.ok c.read_all.ensures.err refl (shows_digests old new) }
+    let new = state g.S.Store c.query_all.new.self in
+    record { read = tells _ parked_digests_is _ [] old new ShowsDigests (λ v. v.items) c.query_all.result c.query_all.ensures.survives c.query_all.ensures.mode c.query_all.ensures.ok c.query_all.ensures.err refl (shows_digests old new) }
