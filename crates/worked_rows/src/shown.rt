@@ -9,7 +9,7 @@ use std::fmt::{Display, Write};
 use std::test::Fail;
 
 /// Lines, each with its end.
-pub(crate) fn tell_lines(text: &mut String, lines: &[&str]) -> Result<(), Fail> {
+pub fn tell_lines(text: &mut String, lines: &[&str]) -> Result<(), Fail> {
     for line in lines {
         writeln!(text, "{line}")?;
     }
@@ -17,7 +17,7 @@ pub(crate) fn tell_lines(text: &mut String, lines: &[&str]) -> Result<(), Fail> 
 }
 
 /// The text of lines.
-pub(crate) fn text_of(alloc: Global, lines: &[&str]) -> Result<String, Fail> {
+pub fn text_of(alloc: Global, lines: &[&str]) -> Result<String, Fail> {
     let mut text = String::new(alloc);
     tell_lines(&mut text, lines)?;
     Ok(text)
@@ -51,7 +51,7 @@ fn copy_of(again: Option<bool>) -> &'static str {
 }
 
 /// Receipt, number, verdict, fault, id, resend, copy and orphans of a reply, with no end of line.
-pub(crate) fn tell_reply(text: &mut String, reply: &Reply) -> Result<(), Fail> {
+pub fn tell_reply(text: &mut String, reply: &Reply) -> Result<(), Fail> {
     write!(text, "{},{},", reply.receipt, reply.number.as_str())?;
     tell_verdict(text, reply.verdict)?;
     write!(text, ",{},", reply.id.as_deref().unwrap_or(""))?;
@@ -62,11 +62,7 @@ pub(crate) fn tell_reply(text: &mut String, reply: &Reply) -> Result<(), Fail> {
 
 /// The end of a reply's line: whether all was cleared, steps taken back, steps applied, writes, and
 /// how many were counted.
-pub(crate) fn tell_work(
-    text: &mut String,
-    work: (bool, u32, u32, u64),
-    counted: u64,
-) -> Result<(), Fail> {
+pub fn tell_work(text: &mut String, work: (bool, u32, u32, u64), counted: u64) -> Result<(), Fail> {
     let (cleared, undone, applied, writes) = work;
     writeln!(
         text,
@@ -85,7 +81,7 @@ fn tell_cells(text: &mut String, row: &Row) -> Result<(), Fail> {
 }
 
 /// A line of an object: kind, key and rows.
-pub(crate) fn tell_object(text: &mut String, key: &Key, object: &Object) -> Result<(), Fail> {
+pub fn tell_object(text: &mut String, key: &Key, object: &Object) -> Result<(), Fail> {
     write!(text, "{} {}: ", key.kind.name(), key.text.as_str())?;
     tell_cells(text, &object.parent)?;
     for child in &object.children {
@@ -97,12 +93,7 @@ pub(crate) fn tell_object(text: &mut String, key: &Key, object: &Object) -> Resu
 }
 
 /// The moment and the type of a deposit, and its resend.
-pub(crate) fn tell_place(
-    alloc: Global,
-    text: &mut String,
-    place: Place,
-    resend: u32,
-) -> Result<(), Fail> {
+pub fn tell_place(alloc: Global, text: &mut String, place: Place, resend: u32) -> Result<(), Fail> {
     let moment = watermark_text(alloc, place.watermark)?.ok_or("no moment")?;
     writeln!(text, "{moment} {} {resend}", place.kind.name())?;
     Ok(())
@@ -117,7 +108,7 @@ fn tell_end(alloc: Global, text: &mut String, end: Option<(Place, u32)>) -> Resu
 }
 
 /// A line for each kind that has a count.
-pub(crate) fn tell_counts(text: &mut String, counts: &BTreeMap<Kind, u64>) -> Result<(), Fail> {
+pub fn tell_counts(text: &mut String, counts: &BTreeMap<Kind, u64>) -> Result<(), Fail> {
     for (kind, count) in counts {
         writeln!(text, "{} {count}", kind.name())?;
     }
@@ -125,7 +116,7 @@ pub(crate) fn tell_counts(text: &mut String, counts: &BTreeMap<Kind, u64>) -> Re
 }
 
 /// The eleven numbers of a status, a line each.
-pub(crate) fn tell_status(alloc: Global, text: &mut String, status: &Status) -> Result<(), Fail> {
+pub fn tell_status(alloc: Global, text: &mut String, status: &Status) -> Result<(), Fail> {
     let (listed, held) = (status.listed, status.held);
     let (receipts, chain) = (status.receipts, status.chain);
     writeln!(

@@ -1,8 +1,8 @@
 //! What is seen of a desk, and what a row says of one that took its arrivals.
 
-use super::bodies::listed_as;
-use super::rows::{Row, Taken};
-use super::shown::{tell_lines, tell_object, tell_place, tell_reply, tell_work};
+use crate::bodies::listed_as;
+use crate::rows::{Row, Taken};
+use crate::shown::{tell_lines, tell_object, tell_place, tell_reply, tell_work};
 use esc_apply::Step;
 use esc_desk::{Desk, Reply};
 use esc_store::Store;
@@ -23,7 +23,7 @@ fn tell_replies(text: &mut String, replies: &[Reply]) -> Result<(), Fail> {
 }
 
 /// A line for each receipt that is kept.
-pub(crate) fn tell_receipts<S: Alter + Drop>(
+pub fn tell_receipts<S: Alter + Drop>(
     alloc: Global,
     text: &mut String,
     desk: &mut Desk<S>,
@@ -60,7 +60,7 @@ fn tell_objects(text: &mut String, tables: &BTreeMap<Key, Object>) -> Result<(),
 }
 
 /// A line for each object of the tables.
-pub(crate) fn tell_tables<S: Alter + Drop>(
+pub fn tell_tables<S: Alter + Drop>(
     alloc: Global,
     text: &mut String,
     desk: &mut Desk<S>,
@@ -97,7 +97,7 @@ fn tell_state<S: Alter + Drop>(
 }
 
 /// Receipts, held rows, tables and chain of a desk, and its connection.
-pub(crate) fn tell_desk<S: Alter + Drop>(
+pub fn tell_desk<S: Alter + Drop>(
     alloc: Global,
     text: &mut String,
     mut desk: Desk<S>,
@@ -135,7 +135,7 @@ fn tell_image(text: &mut String, image: &sqlite::Row) -> Result<(), Fail> {
 }
 
 /// A line for each before-image: its step, kind, key and record.
-pub(crate) fn tell_images<S: Alter + Drop>(
+pub fn tell_images<S: Alter + Drop>(
     text: &mut String,
     conn: &mut Connection<S>,
 ) -> Result<(), Fail> {
@@ -157,17 +157,13 @@ fn replies_of(alloc: Global, taken: &[Taken]) -> Result<Vec<&'static str>, Fail>
 }
 
 /// The receipts that a row's arrivals leave.
-pub(crate) fn tell_replies_of(
-    alloc: Global,
-    text: &mut String,
-    taken: &[Taken],
-) -> Result<(), Fail> {
+pub fn tell_replies_of(alloc: Global, text: &mut String, taken: &[Taken]) -> Result<(), Fail> {
     let replies = replies_of(alloc, taken)?;
     tell_lines(text, replies.as_slice())
 }
 
 /// The replies and works of a row's arrivals.
-pub(crate) fn tell_taken(text: &mut String, row: &Row) -> Result<(), Fail> {
+pub fn tell_taken(text: &mut String, row: &Row) -> Result<(), Fail> {
     for taken in row.taken {
         let (_, _, _, writes) = taken.work;
         text.push_str(taken.reply)?;
@@ -186,7 +182,7 @@ fn tell_row_chain(text: &mut String, row: &Row) -> Result<(), Fail> {
 }
 
 /// Receipts, held rows, tables and chain that a row says.
-pub(crate) fn tell_row(alloc: Global, text: &mut String, row: &Row) -> Result<(), Fail> {
+pub fn tell_row(alloc: Global, text: &mut String, row: &Row) -> Result<(), Fail> {
     tell_replies_of(alloc, text, row.taken)?;
     tell_rows(text, row.listed.len(), row.held)?;
     tell_lines(text, row.tables)?;

@@ -1,13 +1,13 @@
 //! The worked rows: which arrivals come in which order, and what comes of them.
 
-use super::bodies::Body;
+use crate::bodies::Body;
 use Body::{
     Abc, Both, Cut, D2, D2Resent, D3, D3Unlisted, D6, Empty, F1, F2, F5, I4, Long, Orphan, Unequal,
 };
 
 /// An arrival, and what it is answered.
 #[derive(Clone, Copy)]
-pub(crate) struct Taken {
+pub struct Taken {
     pub number: &'static str,
     pub body: Body,
     /// Receipt, number, verdict, fault, id, resend, copy and orphans.
@@ -18,7 +18,7 @@ pub(crate) struct Taken {
 
 /// A worked row.
 #[derive(Clone, Copy)]
-pub(crate) struct Row {
+pub struct Row {
     pub name: &'static str,
     /// The bodies that the manifest lists, in order.
     pub listed: &'static [Body],
@@ -35,13 +35,13 @@ const NO_WORK: (bool, u32, u32, u64) = (false, 0, 0, 0);
 
 const B: &[Body] = &[F1, D2, D3, I4, F5, D6, D2Resent];
 
-pub(crate) const R1: &str = "registrar R1: registrar id=R1";
+pub const R1: &str = "registrar R1: registrar id=R1";
 
 const C1: &str = "contact C1: contact id=C1 clID=R1";
 
-pub(crate) const DOMAIN_A: &str = "domain a.example: domain name=a.example clID=R1 registrant=C1";
+pub const DOMAIN_A: &str = "domain a.example: domain name=a.example clID=R1 registrant=C1";
 
-pub(crate) const DOMAIN_B: &str = "domain b.example: domain name=b.example clID=R1 registrant=C1";
+pub const DOMAIN_B: &str = "domain b.example: domain name=b.example clID=R1 registrant=C1";
 
 const DOMAIN_C: &str = "domain c.example: domain name=c.example clID=R1 registrant=C1";
 
@@ -56,17 +56,17 @@ const DOMAIN_F: &str = "domain f.example: domain name=f.example clID=R1 registra
 
 /// What stood at a.example before step 3: f1's domain as a record, which is its rows, and of each
 /// its table, cells, fields and texts, with their numbers and lengths.
-pub(crate) const IMAGE_OF_A: &str =
+pub const IMAGE_OF_A: &str =
     "3 3 a.example \0\0\0\x01\0\0\0\x06domain\0\0\0\x03\0\0\0\x04name\0\0\0\x09a.example\0\0\0\x04clID\0\0\0\x02R1\0\0\0\x0aregistrant\0\0\0\x02C1";
 
-pub(crate) const TAKEN_F1: Taken = Taken {
+pub const TAKEN_F1: Taken = Taken {
     number: "1",
     body: F1,
     reply: "1,1,A1,,F1,0,new,0",
     work: (false, 0, 1, 3),
 };
 
-pub(crate) const TAKEN_D2: Taken = Taken {
+pub const TAKEN_D2: Taken = Taken {
     number: "2",
     body: D2,
     reply: "2,2,A1,,D2,0,new,0",
@@ -89,7 +89,7 @@ const F1_AGAIN: Taken = Taken {
 };
 
 /// Deposits in the order of their places.
-pub(crate) const FORWARD: Row = Row {
+pub const FORWARD: Row = Row {
     name: "in order",
     listed: B,
     taken: &[TAKEN_F1, TAKEN_D2, TAKEN_D3],
@@ -99,7 +99,7 @@ pub(crate) const FORWARD: Row = Row {
 };
 
 /// The same ones, the last first.
-pub(crate) const BACKWARDS: Row = Row {
+pub const BACKWARDS: Row = Row {
     name: "the last first",
     listed: B,
     taken: &[
@@ -128,7 +128,7 @@ pub(crate) const BACKWARDS: Row = Row {
 };
 
 /// A deposit that comes again at a higher resend, below the end of the chain.
-pub(crate) const RESENT: Row = Row {
+pub const RESENT: Row = Row {
     name: "a higher resend",
     listed: B,
     taken: &[
@@ -148,7 +148,7 @@ pub(crate) const RESENT: Row = Row {
 };
 
 /// A chain whose last deposit tells how many objects there are.
-pub(crate) const COUNTED: Row = Row {
+pub const COUNTED: Row = Row {
     name: "a Full with its Differential",
     listed: B,
     taken: &[
@@ -171,7 +171,7 @@ pub(crate) const COUNTED: Row = Row {
 };
 
 /// A desk that nothing came to.
-pub(crate) const NO_ARRIVALS: Row = Row {
+pub const NO_ARRIVALS: Row = Row {
     name: "no arrivals",
     listed: B,
     taken: &[],
@@ -457,6 +457,6 @@ const ROWS: &[Row] = &[
 
 /// The worked rows.
 // A function, so that the proof of one that goes over them has not all of them in it.
-pub(crate) fn rows() -> &'static [Row] {
+pub fn rows() -> &'static [Row] {
     ROWS
 }

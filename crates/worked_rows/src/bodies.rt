@@ -12,7 +12,7 @@ use std::test::Fail;
 
 /// A body of the worked rows.
 #[derive(Clone, Copy, Debug, PartialEq, Eq)]
-pub(crate) enum Body {
+pub enum Body {
     F1,
     D2,
     D2Resent,
@@ -64,7 +64,7 @@ fn bytes_alone(body: Body) -> Option<&'static [u8]> {
 }
 
 /// What a manifest says of a body: id, type, watermark, previous id and resend.
-pub(crate) fn listed_as(body: Body) -> [&'static str; 5] {
+pub fn listed_as(body: Body) -> [&'static str; 5] {
     match body {
         F1 | Orphan | Unequal | Cut => ["F1", "FULL", "2024-03-03T00:00:00Z", "", "0"],
         D2 | Both => ["D2", "DIFF", "2024-03-04T00:00:00Z", "F1", "0"],
@@ -273,7 +273,7 @@ fn bundle(alloc: Global, body: Body) -> Result<String, Fail> {
 }
 
 /// The bytes of a body.
-pub(crate) fn bytes_of(alloc: Global, body: Body) -> Result<Vec<u8>, Fail> {
+pub fn bytes_of(alloc: Global, body: Body) -> Result<Vec<u8>, Fail> {
     match bytes_alone(body) {
         Some(bytes) => Ok(Vec::from_slice(alloc, bytes)?),
         None => Ok(bundle(alloc, body)?.into_bytes()),
@@ -291,7 +291,7 @@ fn push_line(alloc: Global, text: &mut String, body: Body) -> Result<(), Fail> {
 }
 
 /// The row of a manifest that lists a body.
-pub(crate) fn line_of(alloc: Global, body: Body) -> Result<String, Fail> {
+pub fn line_of(alloc: Global, body: Body) -> Result<String, Fail> {
     let mut line = String::new(alloc);
     push_line(alloc, &mut line, body)?;
     Ok(line)
@@ -302,7 +302,7 @@ fn read(alloc: Global, text: &str) -> Result<Manifest, Fail> {
 }
 
 /// The manifest that lists these bodies.
-pub(crate) fn manifest_of(alloc: Global, bodies: &[Body]) -> Result<Manifest, Fail> {
+pub fn manifest_of(alloc: Global, bodies: &[Body]) -> Result<Manifest, Fail> {
     let mut text = String::from_str(alloc, "id,type,watermark,prevId,resend,sha256\n")?;
     for body in bodies {
         push_line(alloc, &mut text, *body)?;

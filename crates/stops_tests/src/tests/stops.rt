@@ -5,11 +5,7 @@
 //! or what was synced alone. The store has the receipts that were answered and at most one more,
 //! and all arrivals sent again have the row's replies and leave its tables.
 
-use super::bodies::{bytes_of, manifest_of};
-use super::rows::{IMAGE_OF_A, RESENT, Row, Taken};
-use super::seen::{tell_desk, tell_images, tell_receipts, tell_row};
-use super::shown::{tell_lines, tell_reply};
-use super::{arrive, assert_text};
+use super::assert_text;
 use esc_desk::{Desk, SFault, number};
 use esc_kept::{files_of, new_desk, open_desk};
 use esc_manifest::Manifest;
@@ -18,6 +14,11 @@ use sqlite_disk::{Crash, Disk, Fuse, Memory};
 use std::alloc::Global;
 use std::process::Abort;
 use std::test::Fail;
+use worked_rows::bodies::{bytes_of, manifest_of};
+use worked_rows::desks::arrive;
+use worked_rows::rows::{IMAGE_OF_A, RESENT, Row, Taken};
+use worked_rows::seen::{tell_desk, tell_images, tell_receipts, tell_row};
+use worked_rows::shown::{tell_lines, tell_reply};
 
 /// A file in memory that fails every call after so many.
 type Cut = Fuse<Memory>;
