@@ -1,5 +1,5 @@
 -- With no collision, what is held by the distinct arrivals is held by all; and a manifest and its arrivals.
-use Rattle.std.proofs.Common.{◌≡◌, inl, inr, ℕ, Bool, true, false, cond, not, filter, ◌||◌, List, [], ◌∷◌, ◌++◌, Option, Some, None, option_map, Result, Ok, Err, map, refl, sym, ap, ap₂, subst, subst₂, ◌∙◌, true≢false, get_or}
+use Rattle.std.proofs.Common.{◌≡◌, inl, inr, ℕ, Bool, true, false, cond, not, filter, ◌||◌, List, [], ◌∷◌, Option, Some, None, option_map, Result, Ok, Err, map, refl, sym, ap, ap₂, subst, subst₂, ◌∙◌, true≢false, get_or}
 use Rattle.std.specs.List.{list_any, find}
 use Rattle.std.specs.Str.{bytes_eq}
 use Rattle.std.specs.FinSet as set

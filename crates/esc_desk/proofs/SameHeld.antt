@@ -1,5 +1,5 @@
 -- Two lists of events by which the same is held leave the same chain and tables.
-use Rattle.std.proofs.Common.{◌≡◌, inl, inr, ℕ, ◌<◌, Bool, true, false, List, [], ◌∷◌, ◌++◌, length, Option, Some, None, option_map, IsTrue, get_or, refl, sym, ap, subst, ◌∙◌, append_assoc, append-nil, true≢false}
+use Rattle.std.proofs.Common.{◌≡◌, inl, inr, ℕ, true, false, List, [], ◌∷◌, ◌++◌, Option, Some, None, option_map, get_or, refl, sym, ap, subst, ◌∙◌, append_assoc, append-nil, true≢false}
 use Rattle.std.specs.List.{find, list_any}
 use Rattle.std.specs.Str.{bytes_eq}
 use Rattle.std.specs.FinSet as set
@@ -14,14 +14,13 @@ use Rattle.esc_manifest.specs.Rows.{no_row}
 use Rattle.esc_chain.specs.Chain.{Rows, IsLatestChain}
 use Rattle.esc_chain.specs.Laws.{OneLatestChain}
 use Rattle.esc_apply.specs.Images.{chain_state}
-use Rattle.esc_store.specs.Kept.{Kept}
 use Rattle.esc_desk.specs.AllArrivals.{Among}
-use Rattle.esc_desk.specs.Events.{EventValue, Coming, union_after, union, coming, comings_after, comings, arrival_of}
+use Rattle.esc_desk.specs.Events.{EventValue, Coming, union_after, union, comings_after, comings, arrival_of}
 use Rattle.esc_desk.specs.Events.EventValue.{listed, arrived}
 use Rattle.esc_desk.specs.Finding.{row_of}
 use Rattle.esc_desk.specs.Receipts.{holds, distinct}
 use Rattle.esc_desk.specs.SameHeld.{HoldTheSame, SameHeldSameKept}
-use Rattle.esc_desk.specs.Stands.{deposits_of, rows_by, held_rows, held_body, StandsFor}
+use Rattle.esc_desk.specs.Stands.{deposits_of, held_rows, held_body}
 use Rattle.esc_desk.proofs.AllHeld.{first_of, row_found, digest_of_row, distinct_among, among_arrivals}
 use Rattle.esc_desk.proofs.HeldRows.{contains_held}
 use Rattle.esc_desk.proofs.ReadLemmas.{same_deposits}
