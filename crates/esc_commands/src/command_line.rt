@@ -58,7 +58,7 @@ const ABOUT: &str =
     "Rebuilds a domain name registry's tables from the escrow deposits that its agent released";
 
 /// The version of the program, and that of the stores that it makes and opens.
-const VERSION: &str = "1 (store version 1)";
+const VERSION: &str = "1 (store version 2)";
 
 const DETAILS: &str = "\
 A release manifest is a CSV file that lists the deposits of a release, each with its id, type (FULL, INCR or DIFF),

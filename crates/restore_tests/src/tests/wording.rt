@@ -59,8 +59,8 @@ fn other_words_are_refused(rt: HostRuntime) -> Result<(), Fail> {
 
 /// Words that ask for help or the version, and what is told among others.
 const HELP: [(&str, &str); 12] = [
-    ("--version", "restore 1 (store version 1)\n"),
-    ("-V", "restore 1 (store version 1)\n"),
+    ("--version", "restore 1 (store version 2)\n"),
+    ("-V", "restore 1 (store version 2)\n"),
     ("--help", "-V, --version"),
     ("--help", "restore take --store desk.db deposits"),
     ("-h", "id,type,watermark,prevId,resend,sha256"),
