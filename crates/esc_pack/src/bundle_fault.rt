@@ -11,7 +11,7 @@ use std::error::Error;
 use std::fmt;
 
 /// Why files have no bundle. Tables count from 0 in the order of the description, contents before
-/// deletes, the files of a table from 0, and the rows of a file from 1, its heading among them.
+/// deletes, the files of a table from 0, and the rows of a file from 1, after its heading.
 #[derive(Clone, Copy, Debug, PartialEq, Eq)]
 pub enum BundleFault {
     /// The refusal with this number: U5 to U7 of the description, U1 to U4 of the frame, U8 to U11
