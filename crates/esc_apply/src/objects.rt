@@ -13,7 +13,7 @@ pub trait Objects {
     /// The objects that are still to come. A relation, since it may hold of no list.
     ghost lists: { Self → List Entry → Type 0 };
 
-    /// At most n objects are still to come, whatever is true of them.
+    /// A bound on how many objects are still to come, whatever is true of them.
     ghost bound: { Self → ℕ };
 
     /// An error was returned, so nothing comes any more.

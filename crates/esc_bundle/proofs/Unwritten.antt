@@ -1,5 +1,5 @@
 -- Why no bundle has some sections.
-use Rattle.std.proofs.Common.{◌≡◌, ◌⊎◌, ℕ, ◌<◌, ◌≤◌, true, false, Bool, List, [], ◌∷◌, ◌++◌, length, Result, Ok, Err, refl, sym, ap, subst, ◌∙◌, arith, inl, inr}
+use Rattle.std.proofs.Common.{◌≡◌, ℕ, ◌<◌, ◌≤◌, true, List, [], ◌∷◌, ◌++◌, length, Result, Ok, Err, refl, sym, ap, subst, ◌∙◌, arith, inl, inr}
 use Rattle.std.specs.Prelude.{IfErr, nat_le}
 use Rattle.std.specs.Global.{Vec}
 use Rattle.std.proofs.lemmas.Bool.{cases_lt}
@@ -8,7 +8,6 @@ use Rattle.std.proofs.lemmas.List.{append-nil, length-append}
 use Rattle.esc_bundle.specs.declared.fault.Fault.{Fault}
 use Rattle.esc_bundle.specs.declared.fault.Fault.TheVariants.{Refused}
 use Rattle.esc_bundle.specs.Bundle.{Named, limit, bundle_text, AreSections}
-use Rattle.esc_bundle.specs.Steps.{◌>>=◌, check}
 use Rattle.esc_bundle.specs.Reading.{stands_at}
 use Rattle.esc_bundle.specs.Writing.{in_order, within_limit, bundle_of, FaultAmong, IsUnwritten}
 use Rattle.esc_bundle.proofs.FaultNumbers.{stands_in_range}

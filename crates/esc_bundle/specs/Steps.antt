@@ -28,8 +28,8 @@ abbrev pub Gives : {X Y : Type 0} → (X → Y) → Result X Fault → Result Y 
 Gives view (Ok x) told = told ≡ Ok (view x)
 Gives view (Err e) told = Refuses e told
 
--- a function that takes memory gives what the definition gives, seen by view, unless memory was
--- refused
+-- a function that allocates gives what the definition gives, seen by view, unless it is out of
+-- memory
 abbrev pub GivesOrNoMemory : {X Y : Type 0} → (X → Y) → Result X Fault → Result Y ℕ → Type 0
 GivesOrNoMemory view (Ok x) told = told ≡ Ok (view x)
 GivesOrNoMemory view (Err e) told = (n : ℕ) → e ≡ Refused n → told ≡ Err n

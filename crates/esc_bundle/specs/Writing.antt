@@ -54,8 +54,8 @@ pub record FaultAmong (ss : List Named) (n : ℕ) : Type 0 where
   pub sections : AreSections before
   pub fault : stands_at before section.name (length section.bytes) ≡ Err n
 
--- why no bundle has these sections: there is none, or one of them may not stand where it does, or
--- the whole is too long
+-- why no bundle has these sections: there is none, or one of them may not be where it is, or the
+-- whole is too long
 abbrev pub IsUnwritten : List Named → ℕ → Type 0
 IsUnwritten ss n =
     ((length ss ≡ 0) × (n ≡ 1))

@@ -131,7 +131,7 @@ malformed k field text = record {
   other = [];
 }
 
--- V7: a date has not the form of a watermark, or is none of its years
+-- V7: a date does not have the form of a watermark, or is none of its years
 abbrev pub IsMalformed : KeyName → List ℕ → List ℕ → FindingValue → Type 0
 IsMalformed k field text f = (text ≢ []) × (watermark_of text ≡ None) × (f ≡ malformed k field text)
 

@@ -45,11 +45,11 @@
 //! # Cost
 //!
 //! One walk over the objects, and one over their keys for each declared number; a look-up in the
-//! map for each link. Memory is taken for what is found, and for the links and statuses of one
+//! map for each link. Both allocate for what is found, and for the links and statuses of one
 //! object at a time. Child rows that are grouped by table, as those of a deposit are, are counted
 //! once for each table.
 //!
-//! `export_from` takes memory for its text. `verify_from` takes it for what is found, for the keys,
+//! `export_from` allocates for its text. `verify_from` allocates for what is found, for the keys,
 //! and for the links that lead to what did not come before them. Registrars come first, then
 //! contacts, hosts and domains, so these are the links to IDN tables and those that lead to
 //! nothing. A link is looked up among the keys as it comes, and if it leads to none of them, once

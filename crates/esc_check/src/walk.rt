@@ -109,7 +109,7 @@ fn gather<O: Objects>(
 }
 
 /// What `verify` finds in the tables of a registry, found of their objects as they come one at a
-/// time. It takes memory for what is found, for the keys, and for the links that lead to what had
+/// time. It allocates for what is found, for the keys, and for the links that lead to what had
 /// not come before them.
 pub fn verify_from<O: Objects>(
     alloc: Global,

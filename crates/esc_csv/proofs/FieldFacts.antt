@@ -1,6 +1,6 @@
 -- The fields of a record, and those of a record of texts.
-use Rattle.std.proofs.Common.{◌≡◌, ℕ, zero, suc, Bool, true, false, List, [], ◌∷◌, get_or, refl, sym, inl, inr}
-use Rattle.std.specs.Prelude.{unwrap_or, ◌&&◌, Result, Ok, Err, is_ok, MatchResult}
+use Rattle.std.proofs.Common.{◌≡◌, ℕ, zero, suc, true, List, [], ◌∷◌, get_or, refl, sym, inl, inr}
+use Rattle.std.specs.Prelude.{unwrap_or, Result, Ok, Err, is_ok, MatchResult}
 use Rattle.std.specs.List.{list_all}
 use Rattle.std.specs.Str.{is_utf8, IsUtf8}
 use Rattle.std.proofs.lemmas.Str.{IsUtf8-from_is_utf8, is_utf8-from_IsUtf8}

@@ -43,7 +43,7 @@
 //! # Cost
 //!
 //! One pass over a text. `next` fills the record that it is given, so its memory is used again.
-//! `Lines` takes memory for its text alone.
+//! `Lines` allocates for its text alone.
 #![tactic(auto)]
 
 mod laws;

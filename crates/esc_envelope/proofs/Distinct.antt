@@ -1,15 +1,15 @@
 -- Texts that occur once.
 use Rattle.esc_bundle.specs.ListLaws.{list_any_map}
-use Rattle.std.proofs.Common.{◌≡◌, ◌⊎◌, ℕ, ◌+◌, ◌-◌, ◌<◌, ◌≤◌, Bool, true, false, cond, List, [], ◌∷◌, ◌++◌, length, drop, take, map, get_or, refl, sym, ap, ◌∙◌, inl, inr, Bor}
-use Rattle.std.specs.Prelude.{not, ◌&&◌, ◌||◌, position}
+use Rattle.std.proofs.Common.{◌≡◌, ℕ, ◌+◌, ◌-◌, ◌<◌, ◌≤◌, Bool, true, false, cond, List, [], ◌∷◌, ◌++◌, length, drop, take, map, get_or, refl, sym, ap, ◌∙◌, inl, inr, Bor}
+use Rattle.std.specs.Prelude.{not, ◌||◌, position}
 use Rattle.std.specs.BTreeSet.{BTreeSet, contains, Updates}
 use Rattle.std.specs.Cmp.Lexicographic.{slice_cmp}
 use Rattle.std.specs.List.{list_any, prefix_len}
 use Rattle.std.specs.Ordering.{nat_cmp}
 use Rattle.std.specs.Str.{bytes_eq}
 use Rattle.std.specs.declared.cmp.Ordering.{Ordering}
-use Rattle.std.proofs.lemmas.Bool.{cases_Bool, or_cases, or_parts, and_parts, not-true}
-use Rattle.std.proofs.lemmas.List.{drop_more, drop_all, take_rest, take_more, take_all, take-append-drop, map-append, length-map}
+use Rattle.std.proofs.lemmas.Bool.{or_cases, or_parts, and_parts, not-true}
+use Rattle.std.proofs.lemmas.List.{drop_more, drop_all, take_rest, take_more, take-append-drop, map-append, length-map}
 use Rattle.std.proofs.lemmas.List.Folds.{list_any-append}
 use Rattle.std.proofs.lemmas.Map.Text.{is_eq-slice_cmp}
 use Rattle.std.proofs.lemmas.Slice.Eq.{bytes_eq-Decides}

@@ -11,7 +11,7 @@ LacksMember json =
     (header_of json ≡ None) ⊎ (counts_of json ≡ None)
     ⊎ (array_of (codes "contents") json ≡ None) ⊎ (array_of (codes "deletes") json ≡ None)
 
--- the tables of what is, or those of what was deleted, are not declared rightly
+-- the tables of contents, or those of deletes, are not declared rightly
 abbrev pub LacksTables : Data → Type 0
 LacksTables json =
     ((values : List Data) × (array_of (codes "contents") json ≡ Some values)

@@ -146,11 +146,11 @@ is_parent_of kind table = table.parent && is_kind kind table.kind
 abbrev pub have_one_parent : List TableValue → Bool
 have_one_parent tables = list_all (λ kind. nat_le (count_by (is_parent_of kind) tables) 1) kinds
 
--- tables of what is: names once, and at most one parent table for each kind
+-- tables of contents: names once, and at most one parent table for each kind
 abbrev pub AreContents : List TableValue → Type 0
 AreContents tables = (have_distinct_names tables ≡ true) × (have_one_parent tables ≡ true)
 
--- tables of what was deleted: names once, and parent tables alone
+-- tables of deletes: names once, and parent tables alone
 abbrev pub AreDeletes : List TableValue → Type 0
 AreDeletes tables = (have_distinct_names tables ≡ true) × (list_all (λ t. t.parent) tables ≡ true)
 
@@ -162,10 +162,10 @@ abbrev pub if_deletes : List TableValue → Option (List TableValue)
 if_deletes tables = if have_distinct_names tables
     && list_all (λ t. t.parent) tables then Some tables else None
 
--- the tables of what is: names once, and at most one parent table for each kind
+-- the tables of contents: names once, and at most one parent table for each kind
 abbrev pub contents_in : List Data → Option (List TableValue)
 contents_in values = option_and_then if_contents (all_of table_of values)
 
--- the tables of what was deleted: names once, and parent tables alone
+-- the tables of deletes: names once, and parent tables alone
 abbrev pub deletes_in : List Data → Option (List TableValue)
 deletes_in values = option_and_then if_deletes (all_of table_of values)

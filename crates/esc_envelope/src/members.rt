@@ -103,7 +103,7 @@ fn resend_in(envelope: &Value) -> Option<u32>
     }
 }
 
-/// What a header says, with texts that lie in the envelope.
+/// What a header says, with texts that are slices of the envelope.
 #[derive(Clone, Copy)]
 struct Told<'a> {
     id: &'a str,

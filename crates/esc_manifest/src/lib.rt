@@ -22,7 +22,7 @@
 //! file:
 //!
 //! - M1: more than 4,096 rows, or more than 4,194,304 bytes (row 0);
-//! - M2: a record has not six fields; M3: the heading is missing or another (row 0);
+//! - M2: a record does not have six fields; M3: the heading is missing or another (row 0);
 //! - M4: an id is not 1 to 64 of `A-Z a-z 0-9 . _ -`, or a prevId is neither empty nor of that
 //!   form;
 //! - M5: the type is not `FULL`, `INCR` or `DIFF`; M6: the watermark is no moment of its form;

@@ -5,7 +5,7 @@
 //!
 //! | Piece | What it does |
 //! |---|---|
-//! | [`Source`], [`Sink`] | readers and writers that report that a call has failed; those of std are read and written without such a report |
+//! | [`Source`], [`Sink`] | readers and writers that report a failed call; those of std do not |
 //! | [`read_head`] | reads the head, of at most 8,192 bytes and 32 header lines, in whatever pieces it comes |
 //! | [`router`], [`route_of`] | where a path leads: to the arrival with this number, or to a [`Report`] |
 //! | [`body_length`] | how long the body is, by the header lines |

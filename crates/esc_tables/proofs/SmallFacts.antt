@@ -1,5 +1,5 @@
 -- The objects of a deposit are small: their rows are rows of its tables.
-use Rattle.std.proofs.Common.{◌≡◌, ℕ, ◌+◌, ◌≤◌, Bool, true, List, [], ◌∷◌, ◌++◌, length, map, filter, sym, subst, arith, inl, inr}
+use Rattle.std.proofs.Common.{◌≡◌, ℕ, ◌≤◌, Bool, true, List, [], ◌∷◌, ◌++◌, length, map, filter, sym, subst, arith, inl, inr}
 use Rattle.std.specs.Prelude.{Ok, All, not, ◌&&◌, nat_lt, nat_le, ◌↔◌}
 use Rattle.std.specs.List.{AllByRecursion, list_all, fold, zip}
 use Rattle.std.specs.Str.{bytes_eq}

@@ -1,5 +1,5 @@
 -- Laws of keys: their order is total, and keys that tie are one key.
-use Rattle.std.proofs.Common.{◌≡◌, ◌∙◌, ℕ, zero, suc, true, List, refl, sym, ap}
+use Rattle.std.proofs.Common.{◌≡◌, ℕ, true, List, ap}
 use Rattle.std.specs.Ordering.{nat_cmp}
 use Rattle.std.specs.Cmp.{
   IsTotalOrder,

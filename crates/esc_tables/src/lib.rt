@@ -41,7 +41,8 @@
 //! `read_deposit` returns exactly what the definition `reading` of `specs/Reading.antt` gives. The
 //! definition selects from lists of rows; the code builds a map. `read_bundled_envelope` returns
 //! exactly what `bundled_envelope` gives; of a deposit, its header and counts. Both contracts say
-//! the range of the refusals' numbers. A `Row` has as many texts as its heading has fields: no call makes another.
+//! the range of the refusals' numbers. A `Row` has as many texts as its heading has fields: no call
+//! makes another.
 //!
 //! The laws: `reading_is_exact` says that `reading` is what the relations of `specs/DepositOf.antt`
 //! say: which body is which deposit, and which refusal is the least. `refusals_are_1_to_11` says
@@ -54,9 +55,9 @@
 //!
 //! Two passes over the text: the first looks at every row and keeps none, the second copies each
 //! row's texts once, in one piece; the table's name and its fields' names are kept once for all its
-//! rows. Objects are found by a map, so the time is the number of rows times its logarithm. Nothing
-//! passes over all rows for one object or one table. For the envelope alone no row is looked at:
-//! the frame is passed over from section to section.
+//! rows. Objects are found by a map, so the time is n log n in the number of rows. Nothing passes
+//! over all rows for one object or one table. For the envelope alone no row is looked at: the frame
+//! is passed over from section to section.
 #![tactic(auto)]
 
 mod deposit;
