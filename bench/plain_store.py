@@ -1,7 +1,7 @@
 #!/usr/bin/env python3
 """plain_store.py [--restore PROGRAM] [--keep FOLDER]: that a store by the format's words alone is a store.
 
-Makes a store of the first sample's manifest with the C library (python's sqlite3) and with nothing of the program: the seven
+Makes a store of the first sample's manifest with the C library (python's sqlite3) and with nothing of the program: the nine
 tables as the format words them, the version and the manifest's rows. Then it runs each command on it and on a store that
 `restore init` made: the sample's deposits are taken, taken again, and every report and export is printed. Both print the same
 bytes, hold the same rows, and pass the C library's checks. A store with its tables in another order is no store of this version:
@@ -21,6 +21,8 @@ TABLES = {
     'step': 'pos integer primary key, row integer not null unique references held',
     'object': 'kind integer not null, key blob not null, record blob not null, primary key (kind, key)',
     'undo': 'pos integer not null, kind integer not null, key blob not null, record blob, primary key (pos, kind, key)',
+    'parked': 'digest blob primary key, body blob not null',
+    'moment': 'id integer primary key check (id = 1), watermark integer not null',
 }
 ANOTHER_ORDER = ('listed', 'info', *list(TABLES)[2:])
 TYPES = {'DIFF': 0, 'INCR': 1, 'FULL': 2}
@@ -48,7 +50,7 @@ def plain_store(name, order):
     db = sqlite3.connect(store)
     for table in order:
         db.execute(f'create table {table} ({TABLES[table]})')
-    db.execute('insert into info values (1, 1)')
+    db.execute('insert into info values (1, 2)')
     with open(os.path.join(SAMPLE, 'manifest.csv'), newline='') as manifest:
         records = list(csv.reader(manifest))[1:]
     db.executemany('insert into listed values (?, ?, ?, ?, ?, ?, ?)', (listed(*it) for it in enumerate(records)))
@@ -79,7 +81,7 @@ def used(store):
 
 
 def content(store):
-    """The rows of the seven tables, after the C library's checks of the file."""
+    """The rows of the nine tables, after the C library's checks of the file."""
     db = sqlite3.connect(store)
     checks = db.execute('pragma integrity_check').fetchall(), db.execute('pragma foreign_key_check').fetchall()
     if checks != ([('ok',)], []):

@@ -81,35 +81,49 @@ def copied_tree(tree):
     shutil.copytree(f'{TOP}/crates', f'{tree}/crates', symlinks=True, ignore=lambda folder, _: {'out', 'must-fail', 'plants'})
 
 
+def has_tests(crate):
+    return any('#[test]' in open(f'{at}/{name}').read() for at, _, names in os.walk(f'{TOP}/crates/{crate}/src') for name in names)
+
+
 class WrongBodies:
-    """Tries the wrong bodies of each crate over the libraries of a tree, the crates with the most of them first, in as many lanes as
-    it is given. A crate's turn comes once `rt ci` has proved it."""
+    """Tries the wrong bodies of each crate over the libraries of a tree, once `rt ci` has proved it, the crates with the most of them
+    first. They take the lanes that `rt ci` leaves idle: where fewer of its tasks can run than there are lanes."""
 
     def __init__(self, tree, lanes):
-        self.tree, self.edits = tree, {it: edits_of(it, 'must-fail') for it in libraries()}
+        self.tree, self.lanes, self.below = tree, lanes, libraries()
+        self.edits = {it: edits_of(it, 'must-fail') for it in self.below}
         self.left = sorted((it for it in self.edits if self.edits[it]), key=lambda it: -len(self.edits[it]))
-        self.proved, self.free, self.is_over, self.changed = set(), 0, False, threading.Condition()
+        # The tasks of `rt ci` that have not ended: the proof of each crate, and that of its tests.
+        self.tasks = {(it, part) for it in self.below for part in ('proof', 'tests') if part == 'proof' or has_tests(it)}
+        self.proved, self.running, self.is_over, self.changed = set(), 0, False, threading.Condition()
         self.counts = []
-        self.lanes = [threading.Thread(target=self.run) for _ in range(lanes)]
-        for lane in self.lanes:
-            lane.start()
+        self.threads = [threading.Thread(target=self.run) for _ in range(lanes)]
+        for thread in self.threads:
+            thread.start()
 
-    def note(self, crates, lanes):
-        """Takes note of crates that are proved, and of lanes that are free."""
+    def note(self, crate, part, is_proved):
+        """Takes note of a task of `rt ci` that has ended."""
         with self.changed:
-            self.proved.update(crates)
-            self.free += lanes
+            self.tasks.discard((crate, part))
+            if part == 'proof' and is_proved:
+                self.proved.add(crate)
             self.changed.notify_all()
+
+    def has_idle_lane(self):
+        """Whether fewer checks run, or could run now in `rt ci`, than there are lanes."""
+        ready = [crate for crate, _ in self.tasks if not any((it, 'proof') in self.tasks for it in self.below[crate])]
+        return self.is_over or len(ready) + self.running < self.lanes
 
     def next(self):
         """The crate that a lane is to try, once there is one; None where no one is left."""
         with self.changed:
-            self.changed.wait_for(lambda: self.is_over or self.free > 0)
-            self.free -= 1
-            self.changed.wait_for(lambda: self.is_over or not self.left or self.proved.intersection(self.left))
+            self.changed.wait_for(
+                lambda: self.is_over or not self.left or self.has_idle_lane() and self.proved.intersection(self.left))
             crate = next((it for it in self.left if it in self.proved), None)
             if crate:
                 self.left.remove(crate)
+                self.running += 1
+            self.changed.notify_all()
             return crate
 
     def run(self):
@@ -120,34 +134,30 @@ class WrongBodies:
                     said = 'refused, as it must be' if verdict.is_refused else 'NOT REFUSED'
                     print(f'must-fail {crate}/{name}: {said}: {verdict.why[:200]}', flush=True)
                     self.counts.append(verdict.is_refused)
-                self.free += 1
+                self.running -= 1
+                self.changed.notify_all()
 
     def ended(self):
         """Waits until all are tried; how many were refused, and how many were not or could not be tried."""
         with self.changed:
             self.is_over = True
             self.changed.notify_all()
-        for lane in self.lanes:
-            lane.join()
+        for thread in self.threads:
+            thread.join()
         refused = sum(self.counts)
         return refused, sum(map(len, self.edits.values())) - refused
 
 
-def has_tests(crate):
-    return any('#[test]' in open(f'{at}/{name}').read() for at, _, names in os.walk(f'{TOP}/crates/{crate}/src') for name in names)
-
-
-def proved(tree, lanes, bodies):
-    """Runs `rt ci` in a tree, prints what it prints but its last line, and gives the numbers of that line. It lends the lanes that
-    are idle at its end to the wrong bodies."""
-    last, left = '', len(libraries()) + sum(map(has_tests, libraries()))
+def proved(tree, bodies):
+    """Runs `rt ci` in a tree, prints what it prints but its last line, and gives the numbers of that line. It tells the wrong bodies
+    what has ended."""
+    last = ''
     with subprocess.Popen(['rt', 'ci'], cwd=tree, stdin=subprocess.DEVNULL, stdout=subprocess.PIPE, stderr=subprocess.STDOUT) as gate:
         for line in gate.stdout:
             print(last, end='', flush=True)
             last = line.decode(errors='replace')
             if done := re.match(r'rt: (\w+)(: its tests are)? (NOT PROVED|proved)', last):
-                left -= 1
-                bodies.note([done[1]] if done[3] == 'proved' and not done[2] else [], 1 if left < lanes else 0)
+                bodies.note(done[1], 'tests' if done[2] else 'proof', done[3] == 'proved')
     found = re.fullmatch(r'(\d+) passed, (\d+) failed\s*', last)
     if not found:
         print(last, end='', flush=True)
@@ -161,7 +171,7 @@ def main():
         os.chmod(tree, 0o755)
         copied_tree(tree)
         bodies = WrongBodies(tree, lanes)
-        passed, failed = proved(tree, lanes, bodies)
+        passed, failed = proved(tree, bodies)
         refused, through = bodies.ended()
         passed, failed = passed + refused, failed + through
         for crate in libraries():

@@ -12,7 +12,7 @@ from crates import TOP, libraries, uses
 # What the prover says of a text that it can't read, so that no contract was tried.
 UNREAD = re.compile(r'is not in scope|has no field|is no name|operand is missing|expected the end|cannot continue')
 # What it says of an answer that names a step which the edit took away.
-NAMES = re.compile(r'(\./)?proofs/.*(has no field|is not in scope|has no `|was not admitted)')
+NAMES = re.compile(r'(\./)?proofs/.*(has no field|record `[^`]*` \(nearest|is not in scope|has no `|was not admitted)')
 
 
 @dataclass
@@ -60,7 +60,22 @@ def changes_of(path):
     return changes
 
 
-def function_at(crate, file, text, at):
+def module_of(file):
+    """The modules that lead from a crate to a file of its src/."""
+    return [it for it in file[len('src/'):-len('.rt')].split('/') if it not in ('lib', 'main', 'mod')]
+
+
+def home_of(folder, file, name):
+    """The file of a crate that declares a type: this one, or the first other that does; this one where none does."""
+    others = sorted(os.path.relpath(f'{at}/{it}', folder) for at, _, names in os.walk(f'{folder}/src') for it in names)
+    for path in [file, *others]:
+        with open(f'{folder}/{path}') as text:
+            if re.search(rf'^(?:pub(?:\([a-z]+\))? )?(?:struct|enum) {name}\b', text.read(), re.M):
+                return path
+    return file
+
+
+def function_at(crate, folder, file, text, at):
     """The function of a .rt file in which a place stands; None where it stands in none."""
     if not file.startswith('src/') or not file.endswith('.rt'):
         return None
@@ -79,7 +94,9 @@ def function_at(crate, file, text, at):
     if not found:
         return None
     name, block, is_trait = found
-    module = '::'.join([crate, *(it for it in file[len('src/'):-len('.rt')].split('/') if it not in ('lib', 'main', 'mod'))])
+    # A method has the path of its type, wherever it is written.
+    home = home_of(folder, file, block) if block and not is_trait else file
+    module = '::'.join([crate, *module_of(home)])
     if is_trait:
         return Function(module, re.compile(rf'fn {module}::{block}\w*::{name}\b'))
     inner = f'{block}::{name}' if block else name
@@ -94,16 +111,16 @@ def read_edit(crate, folder, path):
             text = it.read()
         if text.count(old) != 1:
             raise ValueError(f'its old text is in {file} {text.count(old)} times')
-        functions.append(function_at(crate, file, text, text.index(old)))
+        functions.append(function_at(crate, folder, file, text, text.index(old)))
     return Edit(os.path.basename(path), changes, functions)
 
 
 def check_words(tree, crate):
-    """The command that checks the crate in the current folder over the libraries of a tree, as `rt` calls it."""
+    """The command that checks the crate in the current folder over the libraries of a tree, as `rt` calls it, after what else runs."""
     kit = os.path.dirname(os.path.dirname(os.path.realpath(shutil.which('rt'))))
     listed = uses()
     rlib = {it: f'{tree}/crates/{it}/out/rlib' for it in libraries()[crate]}
-    words = [f'{kit}/bin/rattle', 'check', '--crate-name', crate, 'src/lib.rt', '--extern', f'std={kit}/rlibs/std.rlib']
+    words = ['nice', f'{kit}/bin/rattle', 'check', '--crate-name', crate, 'src/lib.rt', '--extern', f'std={kit}/rlibs/std.rlib']
     for name in listed[crate]:
         words += ['--extern', f'{name}={rlib.get(name, kit + "/rlibs")}/{name}.rlib']
     for folder in (f'{kit}/rlibs', *rlib.values()):

@@ -9,10 +9,12 @@ use Rattle.esc_tables.specs.KeyName.{KeyName}
 use Rattle.esc_tables.specs.ObjectValue.{ObjectValue}
 use Rattle.esc_tables.specs.DepositValue.{DepositValue}
 use Rattle.esc_apply.specs.Tables.{mentions, says, tables, mention_count}
-use Rattle.esc_apply.specs.Registry.{State, nothing, empty, with_step, stepped, restored, saturated, HasSize}
+use Rattle.esc_apply.specs.Registry.{State, nothing, with_step, stepped, restored, saturated, HasSize}
 use Rattle.esc_apply.specs.Images.{image_of, before_images, chain_state}
 use Rattle.esc_apply.proofs.Mentions.{count_mentions}
 use Rattle.esc_apply.proofs.Runs.{itself}
+-- the desk's proofs still name it here
+pub use Rattle.esc_apply.specs.ChainLaws.{empty-chain}
 
 abbrev Noted : Type 0
 Noted = Option (Option ObjectValue)
@@ -34,7 +36,7 @@ suc_zero n = grind (arith, nat_tests)
 suc_suc : (n i : ℕ) → eqb (suc n) (suc i) ≡ eqb n i
 suc_suc n i = grind (arith, nat_tests)
 
--- the before-image of the i-th of these deposits, from 0, where others stand before them
+-- the before-image of the i-th of these deposits, from 0, where others are before them
 abbrev image_at : List DepositValue → List DepositValue → ℕ → KeyName → Noted
 image_at b c i q = image_of (b ++ take i c) (slice_get c i) q
 
@@ -69,14 +71,6 @@ images_past b (x ∷ c) q = images_past b c q
 -- past the end of a chain nothing is noted
 pub fresh-chain : (c : List DepositValue) (j : ℕ) → j ≡ suc (length c) → (chain_state c).undo j ≡ nothing
 fresh-chain c j is = subst (λ (n : ℕ). (chain_state c).undo n ≡ nothing) (sym is) (λ i q. images_past (take (length c) c) c q i)
-
--- a registry without anything holds the chain of no deposits
-pub empty-chain : empty ≡ chain_state []
-empty-chain = λ i. record { content = λ q. None; undo = λ j q. none j q i }
-  where
-    none : (j : ℕ) (q : KeyName) → None ≡ before_images [] j q
-    none zero q = refl
-    none (suc j) q = refl
 
 -- the step back undoes a step
 restored-stepped : (s : State) (j : ℕ) (d : DepositValue) → s.undo j ≡ nothing → restored (stepped s j d) j ≡ s
@@ -124,7 +118,7 @@ one_more Held k ds i d held more =
     (ap chain_state (append_assoc k (take i ds) (d ∷ []) ∙ ap (λ (l : List DepositValue). k ++ l) (sym more)))
     held
 
--- so many writes more
+-- n writes more
 pub one_more_sum : (ds : List DepositValue) (i before now : ℕ) (d : DepositValue) → take (i + 1) ds ≡ take i ds ++ d ∷ [] → before ≡ saturated (now + sum_by mention_count (take i ds)) → saturated (before + mention_count d) ≡ saturated (now + sum_by mention_count (take (i + 1) ds))
 one_more_sum ds i before now d more was =
     let sum : sum_by mention_count (take (i + 1) ds) ≡ sum_by mention_count (take i ds) + mention_count d = ap (sum_by mention_count) more ∙ sum_by_push mention_count (take i ds) d in
@@ -147,7 +141,7 @@ undone_last Held c d j n at size held =
       size_last c d n (subst (λ (i : ℕ). HasSize ((chain_state (c ++ d ∷ [])).undo i) n) is size),
     )
 
--- one step less: the state of the shorter chain is held, and so many writes more were made
+-- one step less: the state of the shorter chain is held, and n writes more were made
 pub one_less : (Before Held : State → Type 0) (k : List DepositValue) (left j writes n : ℕ) → left ≡ suc j → j < length k → writes ≡ saturated (sum_by mention_count (drop left k)) → Before (chain_state (take left k))
     → ((c : List DepositValue) (d : DepositValue) → length c + 1 ≡ left → Before (chain_state (c ++ d ∷ [])) → Held (chain_state c) × (n ≡ mention_count d))
     → Held (chain_state (take j k)) × (saturated (writes + n) ≡ saturated (sum_by mention_count (drop j k)))

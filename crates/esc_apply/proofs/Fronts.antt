@@ -4,32 +4,17 @@ use Rattle.std.specs.Bool.{Decides}
 use Rattle.std.specs.List.{take_while, zip}
 use Rattle.std.proofs.lemmas.List.Sums.{take_while-cons}
 use Rattle.std.proofs.lemmas.Bool.Decides.{Decides-int_eq, Decides-eqb, Decides-and, Decides-like}
-use Rattle.esc_envelope.specs.declared.place.DepositType.{DepositType}
-use Rattle.esc_envelope.specs.declared.place.DepositType.TheVariants.{Diff, Incr, Full}
 use Rattle.esc_envelope.specs.declared.place.Place.{Place}
 use Rattle.esc_envelope.specs.Place.{rank}
 use Rattle.esc_apply.specs.declared.front.Step.{Step}
 use Rattle.esc_apply.specs.Front.{mark, IsCommon, IsCommonFront, same_step, common_front}
+use Rattle.esc_envelope.specs.PlaceLaws.{one_type}
 
--- the type of a rank
-abbrev type_of : ℕ → DepositType
-type_of zero = Diff
-type_of (suc zero) = Incr
-type_of (suc (suc n)) = Full
-
-ranked : (k : DepositType) → type_of (rank k) ≡ k
-ranked Diff = refl
-ranked Incr = refl
-ranked Full = refl
-
-same_rank : (a b : DepositType) → rank a ≡ rank b → a ≡ b
-same_rank a b e = sym (ranked a) ∙ ap type_of e ∙ ranked b
-
--- the test on steps tells whether they have one place and one resend
+-- the test on steps says whether they have one place and one resend
 compares : (a b : Step) → Decides (same_step (a, b)) (mark a ≡ mark b)
 compares a b =
     let places = Decides-and _ _ (Decides-int_eq a.place.watermark b.place.watermark) (Decides-eqb (rank a.place.kind) (rank b.place.kind)) in
-    Decides-like _ (λ e. together e.0.0 (same_rank _ _ e.0.1) e.1)
+    Decides-like _ (λ e. together e.0.0 (one_type _ _ e.0.1) e.1)
     (λ e. ((ap (λ (m : Place × ℕ). m.0.watermark) e, ap (λ (m : Place × ℕ). rank m.0.kind) e), ap (λ (m : Place × ℕ). m.1) e))
     (Decides-and _ _ places (Decides-eqb a.resend b.resend))
   where

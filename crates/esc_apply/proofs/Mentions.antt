@@ -14,7 +14,7 @@ use Rattle.esc_tables.specs.KeyLaws.{keys_total, keys_exact, key_itself}
 use Rattle.esc_apply.proofs.Keys.{Keys, one, two, keys}
 use Rattle.esc_apply.proofs.Runs.{AreChangesOf}
 
--- what shall stand at a key, if a change is of it
+-- what shall be at a key, if a change is of it
 abbrev Said : Type 0
 Said = Option (Option ObjectValue)
 
@@ -193,6 +193,6 @@ changes_made d contents deletes plain same_contents same_deletes once once_plain
     ∙ ap (λ (ks : List KeyName). list_any (key_eq q) ks && not (Found q contents)) same_deletes
     ∙ ap (λ (es : List (KeyName × ObjectValue)). list_any (key_eq q) (deletes_of d) && not (Found q es)) same_contents))
 
--- so many they are
+-- how many they are
 pub changes_counted : (d : DepositValue) (contents : List (KeyName × ObjectValue)) (plain : List KeyName) → AreChangesOf d (map with_object contents ++ map without plain) → length contents + length plain ≡ mention_count d
 changes_counted d contents plain are = omega (arith, are.count, length-append (map with_object contents) (map without plain), length-map contents with_object, length-map plain without)

@@ -148,18 +148,10 @@ pub record Leads (Held : State → Type 0) (end : State) (j : ℕ) (left : List 
   pub new : AreNew now j left
   pub leads : changed_by now j left ≡ end
 
-pub leads_first : (Held : State → Type 0) (s : State) (j : ℕ) (es : List Change) → Held s → AreNew s j es → Leads Held (changed_by s j es) j es
-leads_first Held s j es held new = record { now = s; held = held; new = new; leads = refl }
-
 pub leads_more : (Before After : State → Type 0) (end : State) (j : ℕ) (e : Change) (es left : List Change) → left ≡ e ∷ es → Leads Before end j left → ((t : State) → Before t → t.undo j e.0 ≡ None → After (changed t j e.0 e.1)) → Leads After end j es
 leads_more Before After end j e es left is going made =
     let first : Leads Before end j (e ∷ es) = subst (λ (l : List Change). Leads Before end j l) is going in
     record { now = changed first.now j e.0 e.1; held = made first.now first.held first.new.fresh.0; new = new_rest first.now j e es first.new; leads = first.leads }
-
-pub leads_last : (Held : State → Type 0) (end : State) (j : ℕ) (left : List Change) → left ≡ [] → Leads Held end j left → Held end
-leads_last Held end j left is going =
-    let last : Leads Held end j [] = subst (λ (l : List Change). Leads Held end j l) is going in
-    subst Held last.leads last.held
 
 -- ---- the way back
 undo-written_by : (s : State) (es : List Change) → (written_by s es).undo ≡ s.undo
@@ -181,11 +173,6 @@ pub record Returns (Held : State → Type 0) (end : State) (left : List Change) 
 
 pub returns_first : (Held : State → Type 0) (s : State) (j : ℕ) (es : List Change) → IsEntriesOf (s.undo j) es → Held (taken s j) → Returns Held (restored s j) es
 returns_first Held s j es are held = record { now = taken s j; held = held; leads = written_by-all s j es are }
-
-pub returns_more : (Before After : State → Type 0) (end : State) (e : Change) (es left : List Change) → left ≡ e ∷ es → Returns Before end left → ((t : State) → Before t → After (written t e.0 e.1)) → Returns After end es
-returns_more Before After end e es left is going made =
-    let first : Returns Before end (e ∷ es) = subst (λ (l : List Change). Returns Before end l) is going in
-    record { now = written first.now e.0 e.1; held = made first.now first.held; leads = first.leads }
 
 pub returns_last : (Held : State → Type 0) (end : State) (left : List Change) → left ≡ [] → Returns Held end left → Held end
 returns_last Held end left is going =

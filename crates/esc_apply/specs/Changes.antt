@@ -6,19 +6,19 @@ use Rattle.esc_tables.specs.KeyName.{KeyName, key_eq}
 use Rattle.esc_tables.specs.ObjectValue.{ObjectValue}
 use Rattle.esc_apply.specs.Registry.{State, written, changed}
 
--- a key, and what shall stand there
+-- a key, and what shall be there
 abbrev pub Change : Type 0
 Change = KeyName × Option ObjectValue
 
--- an object shall stand at its key
+-- an object shall be at its key
 abbrev pub with_object : KeyName × ObjectValue → Change
 with_object e = (e.0, Some e.1)
 
--- nothing shall stand at a key
+-- nothing shall be at a key
 abbrev pub without : KeyName → Change
 without k = (k, None)
 
--- each change is made, and what stood there is noted for step j
+-- each change is made, and what was there is noted for step j
 abbrev pub changed_by : State → ℕ → List Change → State
 changed_by s j [] = s
 changed_by s j (e ∷ es) = changed_by (changed s j e.0 e.1) j es

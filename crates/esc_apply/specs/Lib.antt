@@ -1,3 +1,4 @@
+pub mod ChainLaws
 pub mod Changes
 pub mod Front
 pub mod Images

@@ -28,7 +28,7 @@ is_cleared steps front = (front == 0) && nat_lt 0 steps
 abbrev pub undone_of : List DepositValue → ℕ → List DepositValue
 undone_of c front = if is_cleared (length c) front then [] else drop front c
 
--- the work of going from so many steps to the first `front` of them and so many others, by these
+-- the work of going from n steps to the first `front` of them and to others, by these
 -- writes
 abbrev pub work_of : ℕ → ℕ → ℕ → ℕ → Work
 work_of steps front applied writes = record {

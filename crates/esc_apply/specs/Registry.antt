@@ -25,11 +25,11 @@ use Rattle.esc_apply.specs.Tables.{mentions, says}
 abbrev pub Content : Type 0
 Content = KeyName → Option ObjectValue
 
--- of each key what stood there before a step, if that was noted
+-- of each key what was there before a step, if that was noted
 abbrev pub Befores : Type 0
 Befores = KeyName → Option (Option ObjectValue)
 
--- the objects, and for each step what stood before it at the keys that it changed
+-- the objects, and for each step what was before it at the keys that it changed
 pub record State : Type 0 where
   pub content : Content
   pub undo : ℕ → Befores
@@ -54,7 +54,7 @@ with_step f j g i q = if j == i then g q else f i q
 abbrev pub written : State → KeyName → Option ObjectValue → State
 written s k w = record { content = with_key s.content k w; undo = s.undo }
 
--- what stood at a key before step j
+-- what was at a key before step j
 abbrev pub noted : State → ℕ → KeyName → Option ObjectValue → State
 noted s j k w = record {
   content = s.content;
@@ -65,11 +65,11 @@ noted s j k w = record {
 abbrev pub taken : State → ℕ → State
 taken s j = record { content = s.content; undo = with_step s.undo j nothing }
 
--- what stands at a key is noted for step j, and then changed
+-- what is at a key is noted for step j, and then changed
 abbrev pub changed : State → ℕ → KeyName → Option ObjectValue → State
 changed s j k w = written (noted s j k (s.content k)) k w
 
--- each key that a deposit mentions has what the deposit says, and what stood there is noted for
+-- each key that a deposit mentions has what the deposit says, and what was there is noted for
 -- step j
 abbrev pub stepped : State → ℕ → DepositValue → State
 stepped s j d = record {

@@ -22,10 +22,10 @@ ghost use Rattle.esc_apply.specs.Images.{chain_state};
 use crate::registry::Registry;
 use std::alloc::Global;
 
-/// Puts back what stood before step `pos` at each key of which it was noted: a registry that holds
-/// the tables and before-images of a chain with this step as its last holds afterwards those of the
-/// chain without it. Returns the number of writes: one for each of these before-images, which are
-/// the keys that the step's deposit mentions.
+/// Puts back what was at each noted key before step `pos`: a registry that holds the tables and
+/// before-images of a chain with this step as its last holds afterwards those of the chain without
+/// it. Returns the number of writes: one for each of these before-images, which are the keys that
+/// the step's deposit mentions.
 pub fn undo_step<R: Registry>(alloc: Global, r: &mut R, pos: u32) -> Result<u64, R::Error>
     ensures follows { R.follows r.old r.new }
     ensures counted { IfOk result (λ n. R.count r.new ≡ saturated (R.count r.old + n)) }
@@ -46,7 +46,7 @@ pub fn undo_step<R: Registry>(alloc: Global, r: &mut R, pos: u32) -> Result<u64,
     Ok(befores.len() as u64)
 }
 
-/// Takes the last steps of a chain back, down to a front. Answers the number of writes (at most
+/// Takes the last steps of a chain back, down to a front. Returns the number of writes (at most
 /// 2^64 - 1).
 pub(crate) fn undo_to<R: Registry>(
     r: &mut R,

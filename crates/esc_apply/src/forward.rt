@@ -38,7 +38,7 @@ use esc_tables::{Deposit, Key, Object};
 use std::alloc::Global;
 use std::collections::{BTreeMap, BTreeSet};
 
-/// Applies a deposit as step `pos`, and notes what stood at each key that it mentions: a registry
+/// Applies a deposit as step `pos`, and notes what was at each key that it mentions: a registry
 /// that holds the tables and before-images of the steps before holds afterwards those of these
 /// steps and this one. Returns the number of writes: one for each key that the deposit mentions.
 pub fn apply_step<R: Registry>(
@@ -63,7 +63,7 @@ pub fn apply_step<R: Registry>(
     Ok((d.contents.len() + deletes.len()) as u64)
 }
 
-/// Applies deposits behind a chain of so many steps. Answers the number of writes (at most 2^64 -
+/// Applies deposits after a chain of `steps` steps. Returns the number of writes (at most 2^64 -
 /// 1).
 pub(crate) fn apply_all<R: Registry>(
     r: &mut R,
@@ -158,7 +158,7 @@ fn remove_deletes<R: Registry>(
     Ok(())
 }
 
-// Notes what stands at a key, and writes what shall stand there.
+// Notes what is at a key, and writes what shall be there.
 fn change<R: Registry>(
     r: &mut R,
     alloc: Global,
@@ -179,7 +179,7 @@ fn change<R: Registry>(
     }
 }
 
-// Notes what stands at a key.
+// Notes what is at a key.
 fn note<R: Registry>(r: &mut R, alloc: Global, pos: u32, key: &Key) -> Result<(), R::Error>
     ensures follows { R.follows r.old r.new }
     ensures counted { OnOk result (R.count r.new ≡ R.count r.old) }

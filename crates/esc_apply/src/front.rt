@@ -15,7 +15,7 @@ pub struct Step {
     pub resend: u32,
 }
 
-/// The length of the longest common beginning of two chains, by place and resend. Takes no memory.
+/// The length of the longest common beginning of two chains, by place and resend. Doesn't allocate.
 pub fn common_front(old: &[Step], new: &[Step]) -> usize
     ensures front { result ≡ common_front old.now new.now }
     ensures longest { IsCommonFront old.now new.now result }

@@ -6,19 +6,24 @@
 //! mentions it says.
 //!
 //! What goes in is a [`Registry`], which holds the tables of a chain with its *before-images* (for
-//! each step what stood, before it, at the keys that it mentions), and the deposits of another
-//! chain. What comes out is the registry with the tables and before-images of that other chain, and
-//! the [`Work`] that it took.
+//! each step what was, before it, at the keys that it mentions), and the deposits of another chain.
+//! What comes out is the registry with the tables and before-images of that other chain, and the
+//! [`Work`] that it took.
+//!
+//! ```text
+//! let work = move_chain(alloc, &mut registry, &old, &new, &deposits)?;
+//! // registry holds the tables of `new`; work.writes is what that cost
+//! ```
 //!
 //! - [`common_front`]: how many steps two chains have in common at their beginning, by place and
 //!   resend.
 //! - [`apply_step`]: one deposit more. It notes the before-image of each key that the deposit
-//! mentions and makes one   write for each.
+//!   mentions and makes one write for each.
 //! - [`undo_step`]: the last deposit taken back, by one write for each of its before-images.
 //! - [`move_chain`]: the steps past the common front are taken back, the last first, and the new
-//! ones applied. Where   nothing is common, all is cleared at once, which is no write.
+//!   ones applied. Where nothing is common, all is cleared at once, which is no write.
 //! - [`MemRegistry`]: a registry in memory.
-//! - [`Objects`]: objects one at a time, for who wants to see all of a registry and not hold them.
+//! - [`Objects`]: objects one at a time, for a report that need not keep all of them.
 //! - [`MapObjects`]: those of a map in memory.
 //! - [`read_deposits_mention_few`]: a law, that a deposit which was read from a body mentions at
 //!   most 100,000 keys.
@@ -27,7 +32,7 @@
 //! The contracts speak of any [`Registry`], by what it *holds*: a relation between it and a content
 //! with its before-images. A registry over a disk can promise that alone as long as the disk gives
 //! back what was written to it, so each clause on the content has the premise that the registry
-//! `is_honest` after the call. Whatever a call answers, the registry `follows` from what it was,
+//! `is_honest` after the call. Whatever a call returns, the registry `follows` from what it was,
 //! which carries what no call of a registry breaks (that nothing was committed, for instance).
 //! After an `Err` nothing is said of the content.
 #![tactic(auto)]

@@ -26,7 +26,7 @@ impl Model for MapObjects {
 }
 
 impl MapObjects {
-    /// The objects of this map. Takes no memory.
+    /// The objects of this map. Doesn't allocate.
     pub fn new(objects: BTreeMap<Key, Object>) -> MapObjects
         ensures all { result ≡ objects.entries }
         ensures in_order { InOrder result }

@@ -14,7 +14,7 @@ use esc_tables::{Key, Object};
 use std::alloc::Global;
 use std::collections::BTreeMap;
 
-// What stood before a step, at each key of which it was noted.
+// What was before a step at each noted key.
 type Notes = BTreeMap<Key, Option<Object>>;
 
 fn copied(alloc: Global, object: Option<&Object>) -> Result<Option<Object>, NoMemory>
@@ -39,7 +39,7 @@ fn taken(alloc: Global, notes: &mut BTreeMap<u32, Notes>, step: u32) -> Notes
     }
 }
 
-// Notes what stood at a key before a step.
+// Notes what was at a key before a step.
 fn note(
     alloc: Global,
     notes: &mut BTreeMap<u32, Notes>,

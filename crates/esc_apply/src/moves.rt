@@ -32,7 +32,7 @@ use std::alloc::Global;
 /// What a move did.
 #[derive(Clone, Copy, Debug, PartialEq, Eq)]
 pub struct Work {
-    /// All objects and before-images were taken away at once.
+    /// Whether all objects and before-images were removed at once.
     pub cleared: bool,
     /// How many steps were taken back one by one.
     pub undone: u32,

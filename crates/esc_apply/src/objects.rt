@@ -13,17 +13,17 @@ pub trait Objects {
     /// The objects that are still to come. A relation, since it may hold of no list.
     ghost lists: { Self → List Entry → Type 0 };
 
-    /// At most so many objects are still to come, whatever is true of them.
+    /// A bound on how many objects are still to come, whatever is true of them.
     ghost bound: { Self → ℕ };
 
-    /// An error was answered, so nothing comes any more.
+    /// An error was returned, so nothing comes any more.
     ghost has_failed: { Self → Type 0 };
 
     /// What it gave so far is what its source holds (for instance: the disk gave back what was
     /// written).
     ghost is_honest: { Self → Type 0 };
 
-    /// What stays true through calls, whatever they answer (for instance: nothing was committed).
+    /// What stays true through calls, whatever they return (for instance: nothing was committed).
     ghost follows: { Self → Self → Type 0 };
 
     /// The next object: the first of those to come, or `None` where there is none. An error ends

@@ -16,8 +16,8 @@ use esc_bundle::NoMemory;
 use esc_tables::{Key, Object};
 use std::alloc::Global;
 
-/// Objects by their keys, and by step and key what stood at a key before the step. After an `Err`
-/// nothing is said of the content.
+/// Objects by their keys, and by step and key the object that the key had before the step. After an
+/// `Err` nothing is said of the content.
 pub trait Registry {
     type Error: From<NoMemory>;
 
@@ -28,11 +28,11 @@ pub trait Registry {
     /// once there.
     ghost count: { Self → ℕ };
 
-    /// What it answered so far is what was written to it (for instance: the disk gave back what it
+    /// What it returned so far is what was written to it (for instance: the disk gave back what it
     /// was given).
     ghost is_honest: { Self → Type 0 };
 
-    /// What stays true through calls, whatever they answer (for instance: nothing was committed).
+    /// What stays true through calls, whatever they return (for instance: nothing was committed).
     ghost follows: { Self → Self → Type 0 };
 
     /// The object at a key, if there is one.
@@ -56,15 +56,14 @@ pub trait Registry {
         ensures written { OnOk result (is_honest self.new → (s : State) → holds self.old s
             → holds self.new (written s k.now None)) };
 
-    /// Takes all objects and all before-images away, which is no write.
+    /// Removes all objects and all before-images, which is no write.
     fn clear(&mut self) -> Result<(), Self::Error>
         ensures follows { follows self.old self.new }
         ensures counted { OnOk result (count self.new ≡ count self.old) }
         ensures cleared { OnOk result (is_honest self.new → (s : State) → holds self.old s
             → holds self.new empty) };
 
-    /// Notes what stood at a key before a step, where nothing is noted of them yet. This is no
-    /// write.
+    /// Notes what was at a key before a step, where nothing is noted of them yet. This is no write.
     fn put_undo(
         &mut self,
         alloc: Global,
@@ -78,7 +77,7 @@ pub trait Registry {
             → s.undo step k.now ≡ None
             → holds self.new (noted s step k.now (option_copied before.entry))) };
 
-    /// Takes away what was noted for a step, and answers it: each key once. This is no write.
+    /// Removes what was noted for a step, and returns it: each key once. This is no write.
     fn take_undo(
         &mut self,
         alloc: Global,

@@ -1,4 +1,4 @@
--- Who gives what `frame` gives answers for the relations.
+-- What gives the value of `frame` meets the relations.
 use Rattle.std.proofs.Common.{◌≡◌, ◌⊎◌, ℕ, List, Result, Ok, Err, refl, sym, ◌∙◌, inl, inr}
 use Rattle.std.specs.Prelude.{IfOk, IfErr, MatchResult, IsErrAnd}
 use Rattle.std.specs.Global.{Vec}
@@ -12,7 +12,7 @@ use Rattle.esc_bundle.specs.Frame.{frame}
 use Rattle.esc_bundle.proofs.StepFacts.{done_is, done_or_fault}
 use Rattle.esc_bundle.proofs.Frames.{frame_is_bundle, frame_of_bundle, frame_is_fault, frame_of_fault}
 
--- what is promised of an answer to a body
+-- what is promised of a result for a body
 pub record Answered (body : List ℕ) (result : Result (Vec Section) Fault) : Type 0 where
   pub found : IfOk result (λ v. IsBundle body (views v.items))
   pub refused : IfErr result (λ e. (n : ℕ) → e ≡ Refused n → IsFault body n)

@@ -2,20 +2,22 @@
 use Rattle.std.proofs.Common.{◌≡◌, ◌⊎◌, ℕ, zero, suc, ◌+◌, ◌<◌, ◌≤◌, ◌≢◌, true, false, List, [], ◌∷◌, ◌++◌, length, drop, Option, Some, None, Result, Ok, Err, refl, sym, ap, subst, ◌∙◌, arith, inl, inr, append_assoc}
 use Rattle.std.specs.Prelude.{nat_eq, nat_lt, nat_le, ◌&&◌, ◌==◌}
 use Rattle.std.specs.List.{starts_with}
-use Rattle.std.proofs.lemmas.Bool.{cases_Bool, cases_lt, eqb-true}
+use Rattle.std.proofs.lemmas.Bool.{cases_Bool, cases_lt, eqb-true, and_parts}
 use Rattle.std.proofs.lemmas.Bool.Decides.{nat_tests, Decides-eqb}
 use Rattle.std.proofs.lemmas.Slice.Eq.{starts_is}
 use Rattle.std.proofs.lemmas.List.{length_push, drop_at, length-drop, nil_from_length, flat_map_more}
+use Rattle.std.proofs.lemmas.Option.{same_Some}
 use Rattle.esc_bundle.specs.Bundle.{Named, limit, first_line, last_line, section_text, beginning_text, bundle_text, AreSections, IsBundle}
 use Rattle.esc_bundle.specs.Reading.{section_at, end_at, next_at, FaultBehind, IsFault}
 use Rattle.esc_bundle.specs.Frame.{frame_after, frame}
-use Rattle.esc_bundle.proofs.StepFacts.{and_true, bind_done, check_done, done, done_is, some_is}
+use Rattle.esc_bundle.proofs.StepFacts.{check_done, done, done_is}
 use Rattle.esc_bundle.proofs.SectionTexts.{section_takes, sections_push, no_sections}
 use Rattle.esc_bundle.proofs.OneReading.{more_of, no_more, one_list, no_bundle_fault, one_fault}
+use Rattle.esc_bundle.specs.StepLaws.{bind_done}
 
--- ---- what stands at a place
+-- ---- what is at a place
 
--- the last line alone stands behind some sections
+-- the last line alone comes after some sections
 pub record Ends (before : List Named) (rest : List ℕ) : Type 0 where
   pub rest_is : rest ≡ last_line
   pub some : 0 < length before
@@ -24,7 +26,7 @@ end_takes : (before : List Named) (rest : List ℕ) (x : Option (Named × List �
 unfolding end_at
 end_takes before rest x e =
     let c = check_done ((length rest == 4) && nat_lt 0 (length before)) 1 _ x e in
-    let both = and_true (length rest == 4) (nat_lt 0 (length before)) c.0 in
+    let both = and_parts (length rest == 4) (nat_lt 0 (length before)) c.0 in
     (eqb-true _ _ both.0, let one : nat_lt 0 (length before) ≡ true = both.1 in grind (arith, nat_tests), sym (done_is None x c.1))
 
 last_line_alone : (rest : List ℕ) → starts_with nat_eq rest last_line ≡ true → length rest ≡ 4 → rest ≡ last_line
@@ -44,7 +46,7 @@ pub next_section_takes : (before : List Named) (rest : List ℕ) (x : Named × L
 unfolding next_at
 next_section_takes before rest x e = elim (cases_Bool (starts_with nat_eq rest last_line)) [
   | inl begins ↦ let t = end_takes before rest (Some x) (rw begins at e) in absurd (let no = t.2 in cc)
-  | inr other ↦ let s = bind_done (section_at before rest) _ (Some x) (rw other at e) in let same : s.0 ≡ x = some_is s.0 x (done_is _ _ s.2) in s.1 ∙ ap done same
+  | inr other ↦ let s = bind_done (section_at before rest) _ (Some x) (rw other at e) in let same : s.0 ≡ x = same_Some s.0 x (done_is _ _ s.2) in s.1 ∙ ap done same
 ]
 
 -- what one more section leaves
@@ -60,7 +62,7 @@ one_more body before rest x e old next =
       sections = sections_push before x.0 old t.1;
     }
 
--- no section stands behind 64
+-- no section comes after 64
 pub next_has_room : (before : List Named) (rest : List ℕ) (x : Named × List ℕ) → next_at before rest ≡ more_of x → length before < 64
 next_has_room before rest x next = (section_takes before rest x (next_section_takes before rest x next)).1.room
 
@@ -79,7 +81,7 @@ pub frame_at_fault : (steps : ℕ) (before : List Named) (rest : List ℕ) (n : 
 unfolding frame_after
 frame_at_fault steps before rest n next = rw next refl
 
--- what a result says of a body: its sections, or its fault behind the first line
+-- what a result says of a body: its sections, or its fault after the first line
 abbrev Says : List ℕ → Result (List Named) ℕ → Type 0
 Says body (Ok ss) = (body ≡ bundle_text ss) × AreSections ss × (0 < length ss)
 Says body (Err n) = FaultBehind body n

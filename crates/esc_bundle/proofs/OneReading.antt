@@ -6,7 +6,7 @@ use Rattle.std.specs.Char.{is_ascii_digit}
 use Rattle.std.specs.Fmt.{decimal}
 use Rattle.std.specs.Str.{bytes_eq}
 use Rattle.std.specs.Str.Parse.{digits_value}
-use Rattle.std.proofs.lemmas.Bool.{cases_lt, cases_Bool}
+use Rattle.std.proofs.lemmas.Bool.{cases_lt, cases_Bool, and_parts, or_parts}
 use Rattle.std.proofs.lemmas.Bool.Decides.{nat_tests, Decides-eqb}
 use Rattle.std.proofs.lemmas.Slice.Eq.{bytes_eq-Decides, starts_is}
 use Rattle.std.proofs.lemmas.Fmt.{digits_decimal, digits_value-decimal, decimal_nonempty, first_decimal, decimal_digit}
@@ -15,12 +15,12 @@ use Rattle.std.proofs.lemmas.List.Folds.{list_any_none, list_any-append}
 use Rattle.std.proofs.lemmas.List.Concat.{flat_map-cons}
 use Rattle.esc_bundle.specs.Bundle.{Named, limit, first_line, last_line, envelope_name, is_name_byte, is_name, is_length, section_text, beginning_text, AreSections, IsBundle}
 use Rattle.esc_bundle.specs.Reading.{parted, length_at, section_at, end_at, next_at, FaultBehind, IsFault}
-use Rattle.esc_bundle.proofs.StepFacts.{and_true, or_false, done_is, done_or_fault}
-use Rattle.esc_bundle.proofs.Words.{digits_model}
+use Rattle.esc_bundle.proofs.StepFacts.{done_is, done_or_fault}
 use Rattle.esc_bundle.proofs.Standing.{stands_again}
 use Rattle.esc_bundle.proofs.SectionTexts.{MayFollow}
+use Rattle.esc_bundle.specs.ListLaws.{digits_model}
 
--- ---- what stands round the first c
+-- ---- the bytes round the first c
 
 abbrev Lacks : ℕ → List ℕ → Type 0
 Lacks c bs = list_any (λ b. b == c) bs ≡ false
@@ -28,7 +28,7 @@ Lacks c bs = list_any (λ b. b == c) bs ≡ false
 parted_again : (c : ℕ) (a b : List ℕ) → Lacks c a → parted c (a ++ (c ∷ b)) ≡ Some (a, b)
 parted_again c [] b h = let same : (c == c) ≡ true = grind (arith, nat_tests) in rw same refl
 parted_again c (x ∷ a) b h =
-    let p = or_false (x == c) _ h in
+    let p = or_parts (x == c) _ h in
     rw (p.0, parted_again c a b p.1) refl
 
 name_byte_apart : (c b : ℕ) → (c ≡ 10) ⊎ (c ≡ 32) → is_name_byte b ≡ true → (b == c) ≡ false
@@ -40,11 +40,11 @@ digit_apart b h = grind (arith, nat_tests)
 
 name_lacks : (c : ℕ) (name : List ℕ) → (c ≡ 10) ⊎ (c ≡ 32) → list_all is_name_byte name ≡ true → Lacks c name
 name_lacks c [] k h = refl
-name_lacks c (b ∷ bs) k h = let p = and_true _ _ h in rw (name_byte_apart c b k p.0, name_lacks c bs k p.1) refl
+name_lacks c (b ∷ bs) k h = let p = and_parts _ _ h in rw (name_byte_apart c b k p.0, name_lacks c bs k p.1) refl
 
 digits_lack : (ds : List ℕ) → list_all is_ascii_digit ds ≡ true → Lacks 10 ds
 digits_lack [] h = refl
-digits_lack (b ∷ bs) h = let p = and_true _ _ h in rw (digit_apart b p.0, digits_lack bs p.1) refl
+digits_lack (b ∷ bs) h = let p = and_parts _ _ h in rw (digit_apart b p.0, digits_lack bs p.1) refl
 
 -- ---- a length's text
 
@@ -60,7 +60,7 @@ is_length-decimal n small =
     rw (some, digits, leading) refl
 
 name_all : (name : List ℕ) → is_name name ≡ true → list_all is_name_byte name ≡ true
-name_all name h = (and_true _ _ h).1
+name_all name h = (and_parts _ _ h).1
 
 length_again : (before : List Named) (s : Named) → MayFollow before s → length_at before s.name (decimal (length s.bytes)) ≡ Ok (length s.bytes)
 unfolding length_at
@@ -87,7 +87,7 @@ section_again before s after may =
     let back : drop (length s.bytes + 1) (s.bytes ++ (10 ∷ after)) ≡ after = ap (drop (length s.bytes + 1)) (sym (append_assoc s.bytes (10 ∷ []) after)) ∙ drop_at (s.bytes ++ (10 ∷ [])) after (length s.bytes + 1) (length_push s.bytes 10) in
     rw (lines, words, length_again before s may, lt, feed, front, back) refl
 
--- ---- the last line and a section don't begin alike
+-- ---- the last line and a section begin differently
 
 section_at_end : (more : List ℕ) (before : List Named) → section_at before (last_line ++ more) ≡ Err 1
 unfolding section_at
@@ -118,7 +118,7 @@ pub next_end_again : (before : List Named) → 0 < length before → next_at bef
 unfolding next_at end_at
 next_end_again before some = let one : nat_lt 0 (length before) ≡ true = grind (arith, nat_tests) in rw one refl
 
--- where the last line stands there is no section
+-- where the last line is there is no section
 end_is_no_section : (before : List Named) (more : List ℕ) (x : Named × List ℕ) → section_at before (last_line ++ more) ≡ Ok x → ⊥
 end_is_no_section before more x read = done_or_fault x 1 (sym read ∙ section_at_end more before)
 
@@ -131,7 +131,7 @@ first_of_all (b ∷ before) s more none h = absurd (omega arith)
 names_differ : (a b : List ℕ) → a ≢ b → bytes_eq a b ≡ false
 names_differ a b other = elim (cases_Bool (bytes_eq a b)) [ inl same ↦ absurd (other ((bytes_eq-Decides a b).0 same)) | inr h ↦ h ]
 
--- each section may stand behind those before it
+-- each section may come after those before it
 pub may_follow : (before : List Named) (s : Named) (more : List Named) → AreSections (before ++ (s ∷ more)) → MayFollow before s
 may_follow before s more all =
     let at = length before in
@@ -162,7 +162,7 @@ compared_cons s a x b y (inl same) = inl (ap (λ (l : List Named). s ∷ l) same
 compared_cons s a x b y (inr (inl longer)) = inr (inl (longer.0, longer.1, ap (λ (l : List Named). s ∷ l) longer.2, longer.3))
 compared_cons s a x b y (inr (inr longer)) = inr (inr (longer.0, longer.1, ap (λ (l : List Named). s ∷ l) longer.2, longer.3))
 
-move_over : (before : List Named) (s : Named) (more : List Named) → before ++ (s ∷ more) ≡ (before ++ (s ∷ [])) ++ more
+pub move_over : (before : List Named) (s : Named) (more : List Named) → before ++ (s ∷ more) ≡ (before ++ (s ∷ [])) ++ more
 move_over before s more = simp append_assoc
 
 compare : (before a : List Named) (x : List ℕ) (b : List Named) (y : List ℕ) → AreSections (before ++ a) → AreSections (before ++ b) → flat_map section_text a ++ x ≡ flat_map section_text b ++ y → Compared a x b y

@@ -1,25 +1,28 @@
--- What is read as a section is its text, and may stand there.
+-- What is read as a section is its text, and may be there.
 use Rattle.std.proofs.Common.{◌≡◌, ℕ, zero, suc, ◌+◌, ◌<◌, ◌≤◌, ◌≢◌, Bool, true, false, cond, eqb, List, [], ◌∷◌, ◌++◌, length, take, drop, get_or, Option, Some, None, Ok, refl, sym, ap, subst, ◌∙◌, arith, inl, inr, append_assoc}
 use Rattle.std.specs.Prelude.{option_map, nat_lt, ◌&&◌, ◌==◌, slice_index, IfSome, slice_get, IsTrue}
 use Rattle.std.specs.List.{list_any}
 use Rattle.std.specs.Fmt.{decimal}
 use Rattle.std.specs.Str.{bytes_eq}
 use Rattle.std.specs.Str.Parse.{digits_value}
-use Rattle.std.proofs.lemmas.Bool.{eqb-true}
+use Rattle.std.proofs.lemmas.Bool.{eqb-true, and_parts, or_cases, or_parts, not-true}
 use Rattle.std.proofs.lemmas.Bool.Decides.{nat_tests}
 use Rattle.std.proofs.lemmas.Slice.Eq.{bytes_eq-Decides}
 use Rattle.std.proofs.lemmas.Fmt.{decimal-digits_value}
 use Rattle.std.proofs.lemmas.List.{take-append-drop, length-take-le, length_push, drop_more}
 use Rattle.std.proofs.lemmas.List.Elements.{All-push}
 use Rattle.std.proofs.lemmas.List.Quantifiers.{all_pairs_push}
+use Rattle.std.proofs.lemmas.Option.{same_Some}
 use Rattle.esc_bundle.specs.Bundle.{Named, limit, is_name, is_length, envelope_name, section_text, AreSections}
 use Rattle.esc_bundle.specs.Steps.{or_fault}
 use Rattle.esc_bundle.specs.Reading.{parted, stands_at, length_at, section_at}
-use Rattle.esc_bundle.proofs.StepFacts.{and_true, or_true, or_false, not_true, bind_done, check_done, value_there, done_is, some_is}
-use Rattle.esc_bundle.proofs.Words.{with_byte, digits_model}
+use Rattle.esc_bundle.proofs.StepFacts.{check_done, value_there, done_is}
+use Rattle.esc_bundle.proofs.Words.{with_byte}
 use Rattle.esc_bundle.proofs.Standing.{MayStand, stands_takes}
+use Rattle.esc_bundle.specs.ListLaws.{digits_model}
+use Rattle.esc_bundle.specs.StepLaws.{bind_done}
 
--- a section may stand behind these
+-- a section may come after these
 abbrev pub MayFollow : List Named → Named → Type 0
 MayFollow before s = MayStand before s.name (length s.bytes)
 
@@ -28,12 +31,12 @@ MayFollow before s = MayStand before s.name (length s.bytes)
 parted_tail : (b c : ℕ) (bs : List ℕ) (o : Option (List ℕ × List ℕ)) (p : List ℕ × List ℕ) → ((q : List ℕ × List ℕ) → o ≡ Some q → bs ≡ q.0 ++ (c ∷ q.1)) → option_map (with_byte b) o ≡ Some p → b ∷ bs ≡ p.0 ++ (c ∷ p.1)
 parted_tail b c bs None p h e = absurd cc
 parted_tail b c bs (Some q) p h e =
-    let same : with_byte b q ≡ p = some_is (with_byte b q) p e in
+    let same : with_byte b q ≡ p = same_Some (with_byte b q) p e in
     subst (λ (r : List ℕ × List ℕ). b ∷ bs ≡ r.0 ++ (c ∷ r.1)) same (ap (λ (x : List ℕ). b ∷ x) (h q refl))
 
 parted_head : (is_c : Bool) (b c : ℕ) (bs : List ℕ) (p : List ℕ × List ℕ) → (is_c ≡ true → b ≡ c) → ((q : List ℕ × List ℕ) → parted c bs ≡ Some q → bs ≡ q.0 ++ (c ∷ q.1)) → cond is_c (Some ([], bs)) (option_map (with_byte b) (parted c bs)) ≡ Some p → b ∷ bs ≡ p.0 ++ (c ∷ p.1)
 parted_head true b c bs p same h e =
-    let whole : ([], bs) ≡ p = some_is ([], bs) p e in
+    let whole : ([], bs) ≡ p = same_Some ([], bs) p e in
     subst (λ (r : List ℕ × List ℕ). b ∷ bs ≡ r.0 ++ (c ∷ r.1)) whole (ap (λ (x : ℕ). x ∷ bs) (same refl))
 parted_head false b c bs p same h e = parted_tail b c bs (parted c bs) p h e
 
@@ -41,7 +44,7 @@ pub parted_takes : (c : ℕ) (bs : List ℕ) (p : List ℕ × List ℕ) → part
 parted_takes c [] p e = absurd cc
 parted_takes c (b ∷ bs) p e = parted_head (eqb b c) b c bs p (eqb-true b c) (λ q. parted_takes c bs q) e
 
--- ---- what a section's line tells
+-- ---- what a section's line says
 
 pub record Told (before : List Named) (name size : List ℕ) (value : ℕ) : Type 0 where
   pub form : is_length size ≡ true
@@ -63,11 +66,11 @@ length_takes before name size value e =
 -- a length's text is the decimal text of its value
 pub size_text : (size : List ℕ) → is_length size ≡ true → digits_value 10 size ≤ limit → decimal (digits_value 10 size) ≡ size
 size_text size form small =
-    let p = and_true _ _ form in
-    let q = and_true _ _ p.0 in
+    let p = and_parts _ _ form in
+    let q = and_parts _ _ p.0 in
     let some : 0 < length size = let a : nat_lt 0 (length size) ≡ true = q.0 in grind (arith, nat_tests) in
-    decimal-digits_value digits_model size q.1 some (λ zero_first. elim (or_true _ _ p.1) [
-      | inl other ↦ let a : (slice_index size 0 == 48) ≡ false = not_true _ other in absurd (grind (arith, nat_tests))
+    decimal-digits_value digits_model size q.1 some (λ zero_first. elim (or_cases _ _ p.1) [
+      | inl other ↦ let a : (slice_index size 0 == 48) ≡ false = not-true _ other in absurd (grind (arith, nat_tests))
       | inr one ↦ eqb-true _ _ one
     ]) (omega arith)
 
@@ -95,7 +98,7 @@ section_takes before rest x e =
     let v = bind_done (length_at before w.0.0 w.0.1) _ x w.2 in
     let c = check_done (nat_lt v.0 (length l.0.1) && (slice_index l.0.1 v.0 == 10)) 1 _ x v.2 in
     let told = length_takes before w.0.0 w.0.1 v.0 v.1 in
-    let ends = and_true _ _ c.0 in
+    let ends = and_parts _ _ c.0 in
     let lt : v.0 < length l.0.1 = let a : nat_lt v.0 (length l.0.1) ≡ true = ends.0 in grind (arith, nat_tests) in
     let len : length (take v.0 l.0.1) ≡ v.0 = length-take-le v.0 l.0.1 (omega arith) in
     let line : rest ≡ (w.0.0 ++ (32 ∷ w.0.1)) ++ (10 ∷ l.0.1) = parted_takes 10 rest l.0 (value_there 1 _ _ l.1) ∙ ap (λ (y : List ℕ). y ++ (10 ∷ l.0.1)) (parted_takes 32 l.0.0 w.0 (value_there 1 _ _ w.1)) in
@@ -117,8 +120,8 @@ no_sections = record {
 
 lacks_at : {X : Type 0} (p : X → Bool) (xs : List X) → list_any p xs ≡ false → (k : ℕ) (d : X) → k < length xs → p (get_or xs k d) ≡ false
 lacks_at p [] h k d lt = absurd (omega arith)
-lacks_at p (x ∷ xs) h zero d lt = (or_false (p x) (list_any p xs) h).0
-lacks_at p (x ∷ xs) h (suc k) d lt = lacks_at p xs (or_false (p x) (list_any p xs) h).1 k d (omega arith)
+lacks_at p (x ∷ xs) h zero d lt = (or_parts (p x) (list_any p xs) h).0
+lacks_at p (x ∷ xs) h (suc k) d lt = lacks_at p xs (or_parts (p x) (list_any p xs) h).1 k d (omega arith)
 
 first_push : (before : List Named) (s : Named) → AreSections before → MayFollow before s → IfSome (slice_get (before ++ s ∷ []) 0) (λ t. t.name ≡ envelope_name)
 first_push [] s old may = may.first refl

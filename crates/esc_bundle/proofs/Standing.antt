@@ -1,19 +1,20 @@
--- Where a section may stand.
+-- Where a section may be.
 use Rattle.std.proofs.Common.{◌≡◌, ℕ, ◌<◌, ◌≤◌, Bool, true, false, List, length, Ok, refl, subst, arith, inl, inr}
 use Rattle.std.specs.Prelude.{nat_lt, nat_le, not, ◌&&◌, ◌||◌, ◌==◌}
 use Rattle.std.specs.List.{list_any}
 use Rattle.std.specs.Str.{bytes_eq}
 use Rattle.std.specs.Str.Parse.{digits_value}
-use Rattle.std.proofs.lemmas.Bool.{cases_lt, cases_Bool, eqb-true}
+use Rattle.std.proofs.lemmas.Bool.{cases_lt, cases_Bool, eqb-true, and_parts, or_cases, not-true}
 use Rattle.std.proofs.lemmas.Bool.Decides.{nat_tests}
 use Rattle.std.proofs.lemmas.Slice.Eq.{bytes_eq-Decides}
 use Rattle.esc_bundle.specs.Bundle.{Named, limit, envelope_name, is_name, is_length}
 use Rattle.esc_bundle.specs.declared.fault.Fault.{Fault}
 use Rattle.esc_bundle.specs.Steps.{Refuses}
 use Rattle.esc_bundle.specs.Reading.{stands_at, length_at}
-use Rattle.esc_bundle.proofs.StepFacts.{and_true, or_true, not_true, check_done, check_passed, refused_first}
+use Rattle.esc_bundle.proofs.StepFacts.{check_done, refused_first}
+use Rattle.esc_bundle.specs.StepLaws.{check_passed}
 
--- a section of this name and length may stand behind these
+-- a section of this name and length may come after these
 pub record MayStand (before : List Named) (name : List ℕ) (size : ℕ) : Type 0 where
   pub named : is_name name ≡ true
   pub new : list_any (λ t. bytes_eq t.name name) before ≡ false
@@ -30,15 +31,15 @@ stands_takes before name size u e =
     let name_passed = check_done (is_name name) 2 _ u e in
     let new_passed = check_done (not (list_any (λ t. bytes_eq t.name name) before)) 3 _ u name_passed.1 in
     let room_passed = check_done (nat_lt (length before) 64 && nat_le size limit) 4 _ u new_passed.1 in
-    let room = and_true (nat_lt (length before) 64) (nat_le size limit) room_passed.0 in
+    let room = and_parts (nat_lt (length before) 64) (nat_le size limit) room_passed.0 in
     let order = check_passed (is_in_order before name) 1 u room_passed.1 in
     record {
       named = name_passed.0;
-      new = not_true _ new_passed.0;
+      new = not-true _ new_passed.0;
       room = let below : nat_lt (length before) 64 ≡ true = room.0 in grind (arith, nat_tests);
       small = let within : nat_le size limit ≡ true = room.1 in grind (arith, nat_tests);
-      first = λ none. elim (or_true _ _ order) [
-        | inl some ↦ let other : (length before == 0) ≡ false = not_true _ some in absurd (grind (arith, nat_tests))
+      first = λ none. elim (or_cases _ _ order) [
+        | inl some ↦ let other : (length before == 0) ≡ false = not-true _ some in absurd (grind (arith, nat_tests))
         | inr same ↦ (bytes_eq-Decides _ _).0 same
       ];
     }

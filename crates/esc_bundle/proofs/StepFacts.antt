@@ -1,27 +1,10 @@
 -- What a row of tests came to.
-use Rattle.std.proofs.Common.{◌≡◌, ℕ, Bool, true, false, ◌⊎◌, inl, inr, Option, Some, None, Result, Ok, Err, refl, ap}
-use Rattle.std.specs.Prelude.{not, ◌&&◌, ◌||◌}
+use Rattle.std.proofs.Common.{◌≡◌, ℕ, Bool, true, false, Option, Some, None, Result, Ok, Err, refl, ap}
 use Rattle.esc_bundle.specs.declared.fault.Fault.{Fault}
 use Rattle.esc_bundle.specs.declared.fault.Fault.TheVariants.{Refused, NoMemory}
 use Rattle.esc_bundle.specs.Steps.{◌>>=◌, check, or_fault, Refuses}
 
 -- ---- of two tests
-
-pub and_true : (a b : Bool) → (a && b) ≡ true → (a ≡ true) × (b ≡ true)
-and_true true b h = (refl, h)
-and_true false b h = absurd cc
-
-pub or_true : (a b : Bool) → (a || b) ≡ true → (a ≡ true) ⊎ (b ≡ true)
-or_true true b h = inl refl
-or_true false b h = inr h
-
-pub or_false : (a b : Bool) → (a || b) ≡ false → (a ≡ false) × (b ≡ false)
-or_false true b h = absurd cc
-or_false false b h = (refl, h)
-
-pub not_true : (a : Bool) → not a ≡ true → a ≡ false
-not_true true h = absurd cc
-not_true false h = refl
 
 -- ---- of a step
 
@@ -35,22 +18,10 @@ done_is x y e = cc
 pub done_or_fault : {A : Type 0} (x : A) (n : ℕ) → done x ≡ Err n → ⊥
 done_or_fault x n e = cc
 
-pub some_is : {A : Type 0} (x y : A) → ◌≡◌ {A = Option A} (Some x) (Some y) → x ≡ y
-some_is x y e = cc
-
--- both steps were done
-pub bind_done : {A B : Type 0} (r : Result A ℕ) (next : A → Result B ℕ) (y : B) → (r >>= next) ≡ Ok y → (x : A) × (r ≡ Ok x) × (next x ≡ Ok y)
-bind_done (Ok x) next y e = (x, refl, e)
-bind_done (Err n) next y e = absurd cc
-
 -- the test passed, and the next step was done
 pub check_done : {B : Type 0} (b : Bool) (n : ℕ) (next : Unit {0} → Result B ℕ) (y : B) → (check b n >>= next) ≡ Ok y → (b ≡ true) × (next tt ≡ Ok y)
 check_done true n next y e = (refl, e)
 check_done false n next y e = absurd cc
-
-pub check_passed : (b : Bool) (n : ℕ) (y : Unit {0}) → check b n ≡ Ok y → b ≡ true
-check_passed true n y e = refl
-check_passed false n y e = absurd cc
 
 -- the value was there
 pub value_there : {A : Type 0} (n : ℕ) (o : Option A) (x : A) → or_fault n o ≡ Ok x → o ≡ Some x

@@ -1,5 +1,5 @@
 -- Why no bundle has some sections.
-use Rattle.std.proofs.Common.{◌≡◌, ◌⊎◌, ℕ, ◌<◌, ◌≤◌, true, false, Bool, List, [], ◌∷◌, ◌++◌, length, Result, Ok, Err, refl, sym, ap, subst, ◌∙◌, arith, inl, inr}
+use Rattle.std.proofs.Common.{◌≡◌, ℕ, ◌<◌, ◌≤◌, true, List, [], ◌∷◌, ◌++◌, length, Result, Ok, Err, refl, sym, ap, subst, ◌∙◌, arith, inl, inr}
 use Rattle.std.specs.Prelude.{IfErr, nat_le}
 use Rattle.std.specs.Global.{Vec}
 use Rattle.std.proofs.lemmas.Bool.{cases_lt}
@@ -8,19 +8,14 @@ use Rattle.std.proofs.lemmas.List.{append-nil, length-append}
 use Rattle.esc_bundle.specs.declared.fault.Fault.{Fault}
 use Rattle.esc_bundle.specs.declared.fault.Fault.TheVariants.{Refused}
 use Rattle.esc_bundle.specs.Bundle.{Named, limit, bundle_text, AreSections}
-use Rattle.esc_bundle.specs.Steps.{◌>>=◌, check}
 use Rattle.esc_bundle.specs.Reading.{stands_at}
 use Rattle.esc_bundle.specs.Writing.{in_order, within_limit, bundle_of, FaultAmong, IsUnwritten}
 use Rattle.esc_bundle.proofs.FaultNumbers.{stands_in_range}
-use Rattle.esc_bundle.proofs.OneReading.{may_follow}
+use Rattle.esc_bundle.proofs.OneReading.{may_follow, move_over}
 use Rattle.esc_bundle.proofs.SectionTexts.{sections_push, no_sections}
 use Rattle.esc_bundle.proofs.Standing.{stands_takes, stands_again}
-use Rattle.esc_bundle.proofs.Written.{move_over, in_order_takes, in_order_again, over_limit_is, bundle_of_none, bundle_of_some}
-
--- the first step had the fault, or the next one
-bind_fault : {A B : Type 0} (r : Result A ℕ) (next : A → Result B ℕ) (n : ℕ) → (r >>= next) ≡ Err n → (r ≡ Err n) ⊎ ((x : A) × (r ≡ Ok x) × (next x ≡ Err n))
-bind_fault (Ok x) next n e = inr (x, refl, e)
-bind_fault {A} (Err m) next n e = let same : m ≡ n = cc in inl (ap (λ (k : ℕ). Err k) same)
+use Rattle.esc_bundle.proofs.Written.{in_order_takes, in_order_again, over_limit_is, bundle_of_none, bundle_of_some}
+use Rattle.esc_bundle.specs.StepLaws.{bind_fault}
 
 within_limit_refuses : (text : List ℕ) (n : ℕ) → within_limit text ≡ Err n → (limit < length text) × (n ≡ 4)
 unfolding within_limit
@@ -29,7 +24,7 @@ within_limit_refuses text n e = elim (cases_lt limit (length text)) [
   | inr within ↦ let fits : nat_le (length text) limit ≡ true = grind (arith, nat_tests) in absurd (cc (rw fits at e))
 ]
 
--- the first that may not stand where it does
+-- the first that may not be where it is
 among : (before ss : List Named) (n : ℕ) → AreSections before → in_order before ss ≡ Err n → FaultAmong (before ++ ss) n
 unfolding in_order
 among before [] n old e = absurd cc
@@ -56,7 +51,7 @@ is_unwritten ss n e = elim (cases_lt 0 (length ss)) [
       inl (empty, cc)
 ]
 
--- what stands in order before the rest
+-- what is in order before the rest
 order_at : (before xs ys : List Named) → AreSections (before ++ xs) → in_order before (xs ++ ys) ≡ in_order (before ++ xs) ys
 unfolding in_order
 order_at before [] ys all = ap (λ (b : List Named). in_order b ys) (sym (append-nil before))

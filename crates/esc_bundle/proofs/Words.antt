@@ -1,18 +1,18 @@
 -- The words of a section's line.
-use Rattle.std.proofs.Common.{◌≡◌, ℕ, suc, ◌+◌, ◌^◌, ◌<◌, Bool, true, false, cond, ltb, eqb, List, [], ◌∷◌, length, take, drop, Option, Some, None, Err, refl, ap, subst, ◌∙◌, arith, inl, inr, rules}
+use Rattle.std.proofs.Common.{◌≡◌, ℕ, suc, ◌+◌, ◌^◌, ◌<◌, Bool, true, false, cond, ltb, eqb, List, [], ◌∷◌, length, take, drop, Option, Some, None, Err, refl, ap, subst, ◌∙◌, arith, inl, inr}
 use Rattle.std.specs.Prelude.{option_map, not}
 use Rattle.std.specs.List.{list_all, list_any, position_or_len}
 use Rattle.std.specs.Char.{is_ascii_digit}
 use Rattle.std.specs.Str.{bytes_eq, IsAscii}
 use Rattle.std.specs.Str.Parse.{digits_value, ParsesUnsigned}
-use Rattle.std.proofs.lemmas.Bool.{cases_lt, cases_Bool}
+use Rattle.std.proofs.lemmas.Bool.{cases_lt, cases_Bool, and_parts}
 use Rattle.std.proofs.lemmas.Bool.Decides.{nat_tests}
 use Rattle.std.proofs.lemmas.Str.Ascii.{IsAscii-nil, IsAscii-cons}
-use Rattle.std.proofs.lemmas.Str.Parse.{IsNumeralModel, numerals_by_value, parse_digits}
+use Rattle.std.proofs.lemmas.Str.Parse.{parse_digits}
 use Rattle.esc_bundle.specs.declared.section.Section.{Section}
 use Rattle.esc_bundle.specs.Bundle.{views, limit, is_name_byte}
+use Rattle.esc_bundle.specs.ListLaws.{digits_model}
 use Rattle.esc_bundle.specs.Reading.{parted}
-use Rattle.esc_bundle.proofs.StepFacts.{and_true}
 
 -- ---- the parts round the first c
 
@@ -72,20 +72,9 @@ name_byte_small b h = grind (arith, nat_tests)
 
 pub IsAscii-name : (name : List ℕ) → list_all is_name_byte name ≡ true → IsAscii name
 IsAscii-name [] h = IsAscii-nil
-IsAscii-name (b ∷ bs) h = let p = and_true _ _ h in IsAscii-cons b bs (name_byte_small b p.0) (IsAscii-name bs p.1)
+IsAscii-name (b ∷ bs) h = let p = and_parts _ _ h in IsAscii-cons b bs (name_byte_small b p.0) (IsAscii-name bs p.1)
 
 -- ---- lengths
-
--- the texts of digits have values
-pub digits_model : IsNumeralModel (λ ds. list_all is_ascii_digit ds ≡ true) (digits_value 10)
-digits_model = numerals_by_value _ (search rules)
-
-digit_small : (b : ℕ) → is_ascii_digit b ≡ true → b < 128
-digit_small b h = grind (arith, nat_tests)
-
-pub IsAscii-digits : (ds : List ℕ) → list_all is_ascii_digit ds ≡ true → IsAscii ds
-IsAscii-digits [] h = IsAscii-nil
-IsAscii-digits (b ∷ bs) h = let p = and_true _ _ h in IsAscii-cons b bs (digit_small b p.0) (IsAscii-digits bs p.1)
 
 -- digits that 64 bits don't hold are above the limit
 pub unparsed_over_limit : {E : Type 0} (text ds : List ℕ) (e : E) → ParsesUnsigned 64 10 text (Err e) → text ≡ ds → 0 < length ds → list_all is_ascii_digit ds ≡ true → limit < digits_value 10 ds

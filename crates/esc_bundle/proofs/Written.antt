@@ -1,5 +1,5 @@
 -- Sections that are written in order.
-use Rattle.std.proofs.Common.{◌≡◌, ◌⊎◌, ℕ, ◌+◌, ◌<◌, ◌≤◌, true, false, List, [], ◌∷◌, ◌++◌, length, take, drop, get_or, map, Result, Ok, Err, refl, sym, ap, subst, ◌∙◌, arith, inl, inr, append_assoc}
+use Rattle.std.proofs.Common.{◌≡◌, ◌⊎◌, ℕ, ◌+◌, ◌<◌, ◌≤◌, true, false, List, [], ◌∷◌, ◌++◌, length, take, drop, get_or, map, Result, Ok, Err, refl, sym, ap, subst, ◌∙◌, arith, inl, inr}
 use Rattle.std.specs.Prelude.{String, nat_lt, nat_le, IfOk, IfErr, MatchResult, IsErrAnd}
 use Rattle.std.specs.Global.{Vec}
 use Rattle.std.specs.declared.alloc.Global.{Global}
@@ -14,15 +14,13 @@ use Rattle.esc_bundle.specs.Bundle.{Named, view, views, limit, first_line, last_
 use Rattle.esc_bundle.specs.Steps.{◌>>=◌, GivesOrNoMemory}
 use Rattle.esc_bundle.specs.Reading.{stands_at}
 use Rattle.esc_bundle.specs.Writing.{named, in_order, within_limit, bundle_of}
-use Rattle.esc_bundle.proofs.StepFacts.{bind_done, check_done, done, done_is, done_or_fault}
+use Rattle.esc_bundle.proofs.StepFacts.{check_done, done, done_is, done_or_fault}
 use Rattle.esc_bundle.proofs.Standing.{stands_takes, stands_again}
 use Rattle.esc_bundle.proofs.SectionTexts.{sections_push, no_sections}
-use Rattle.esc_bundle.proofs.OneReading.{may_follow}
+use Rattle.esc_bundle.proofs.OneReading.{may_follow, move_over}
+use Rattle.esc_bundle.specs.StepLaws.{bind_done}
 
 -- ---- sections in order
-
-pub move_over : (before : List Named) (s : Named) (more : List Named) → before ++ (s ∷ more) ≡ (before ++ (s ∷ [])) ++ more
-move_over before s more = simp append_assoc
 
 -- what is in order are sections
 pub in_order_takes : (before ss all : List Named) → AreSections before → in_order before ss ≡ Ok all → AreSections all × (all ≡ before ++ ss)
@@ -90,7 +88,7 @@ bundle_of_bundle ss body is =
 pub no_bundle : (ss : List Named) (n : ℕ) → bundle_of ss ≡ Err n → (body : List ℕ) → IsBundle body ss → ⊥
 no_bundle ss n fault body is = done_or_fault body n (sym (bundle_of_bundle ss body is) ∙ fault)
 
--- ---- what is promised of an answer to a list
+-- ---- what is promised of a result for a list
 
 abbrev fault_of : ℕ → Result (List ℕ) ℕ
 fault_of n = Err n

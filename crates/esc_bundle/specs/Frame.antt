@@ -21,7 +21,7 @@ use Rattle.esc_bundle.specs.Bundle.{Named, limit, first_line}
 use Rattle.esc_bundle.specs.Steps.{◌>>=◌, check}
 use Rattle.esc_bundle.specs.Reading.{next_at}
 
--- these sections and those that stand behind them, told within so many steps
+-- these sections and those that come after them, found within n steps
 unfoldable pub frame_after : ℕ → List Named → List ℕ → Result (List Named) ℕ
 frame_after zero before rest = Err 4
 frame_after (suc steps) before rest

@@ -4,3 +4,5 @@ pub mod Reading
 pub mod Frame
 pub mod Writing
 pub mod Codes
+pub mod ListLaws
+pub mod StepLaws

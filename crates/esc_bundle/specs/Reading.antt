@@ -47,12 +47,12 @@ use Rattle.esc_bundle.specs.Bundle.{
 }
 use Rattle.esc_bundle.specs.Steps.{◌>>=◌, check, or_fault}
 
--- what stands before and after the first c, if there is one
+-- the bytes before and after the first c, if there is one
 abbrev pub parted : ℕ → List ℕ → Option (List ℕ × List ℕ)
 parted c [] = None
 parted c (b ∷ bs) = if b == c then Some ([], bs) else option_map (λ p. (b ∷ p.0, p.1)) (parted c bs)
 
--- a section of this name and length may stand behind these: the name has its form and is new,
+-- a section of this name and length may come after these: the name has its form and is new,
 -- there is room for it and its bytes, and the first section is the envelope
 unfoldable pub stands_at : List Named → List ℕ → ℕ → Result (Unit {0}) ℕ
 stands_at before name size = do
@@ -61,7 +61,7 @@ stands_at before name size = do
   room ← check (nat_lt (length before) 64 && nat_le size limit) 4
   check (not (length before == 0) || bytes_eq name envelope_name) 1
 
--- the length that a section's line tells, behind these sections
+-- the length that a section's line states, after these sections
 unfoldable pub length_at : List Named → List ℕ → List ℕ → Result ℕ ℕ
 length_at before name size = do
   form ← check (is_length size) 1
@@ -77,18 +77,18 @@ section_at before rest = do
   ends ← check (nat_lt size (length line.1) && (slice_index line.1 size == 10)) 1
   Ok (record { name = words.0; bytes = take size line.1 }, drop (size + 1) line.1)
 
--- the last line stands here: nothing may follow it, and it follows a section
+-- the last line is here: nothing may follow it, and it follows a section
 unfoldable pub end_at : List Named → List ℕ → Result (Option (Named × List ℕ)) ℕ
 end_at before rest = do
   last ← check ((length rest == 4) && nat_lt 0 (length before)) 1
   Ok None
 
--- what stands behind these sections: no more of them, or a section and what follows it
+-- what comes after these sections: no more of them, or a section and what follows it
 unfoldable pub next_at : List Named → List ℕ → Result (Option (Named × List ℕ)) ℕ
 next_at before rest = if starts_with nat_eq rest last_line then end_at before rest else
     (section_at before rest >>= λ next. Ok (Some next))
 
--- the text begins with the first line and these sections, and there a fault stands
+-- the text begins with the first line and these sections, and there it has a fault
 pub record FaultBehind (body : List ℕ) (n : ℕ) : Type 0 where
   pub before : List Named
   pub rest : List ℕ

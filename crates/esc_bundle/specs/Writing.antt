@@ -28,7 +28,7 @@ use Rattle.esc_bundle.specs.Reading.{stands_at}
 abbrev pub named : String Global × Vec ℕ → Named
 named p = record { name = string_bytes p.0; bytes = p.1.items }
 
--- these sections, and then the others, each of which may stand behind those before it
+-- these sections, and then the others, each of which may come after those before it
 unfoldable pub in_order : List Named → List Named → Result (List Named) ℕ
 in_order before [] = Ok before
 in_order before (s ∷ ss) = stands_at before s.name (length s.bytes) >>= λ stands.
@@ -45,7 +45,7 @@ bundle_of ss = do
   sections ← in_order [] ss
   within_limit (bundle_text sections)
 
--- the first section that may not stand behind those before it, and why
+-- the first section that may not come after those before it, and why
 pub record FaultAmong (ss : List Named) (n : ℕ) : Type 0 where
   pub before : List Named
   pub section : Named
@@ -54,8 +54,8 @@ pub record FaultAmong (ss : List Named) (n : ℕ) : Type 0 where
   pub sections : AreSections before
   pub fault : stands_at before section.name (length section.bytes) ≡ Err n
 
--- why no bundle has these sections: there is none, or one of them may not stand where it does, or
--- the whole is too long
+-- why no bundle has these sections: there is none, or one of them may not be where it is, or the
+-- whole is too long
 abbrev pub IsUnwritten : List Named → ℕ → Type 0
 IsUnwritten ss n =
     ((length ss ≡ 0) × (n ≡ 1))

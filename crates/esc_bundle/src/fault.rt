@@ -8,12 +8,12 @@ use std::alloc::{AllocError, AllocFailed};
 use std::error::Error;
 use std::fmt;
 
-/// Why no deposit reads from a bundle's bytes.
+/// Why a bundle's bytes are no deposit.
 #[derive(Clone, Copy, Debug, PartialEq, Eq)]
 pub enum Fault {
     /// The refusal with this number, from U1 to U11.
     Refused(u8),
-    /// Memory was refused.
+    /// Out of memory.
     NoMemory,
 }
 
@@ -54,7 +54,7 @@ impl From<NoMemory> for Fault {
     }
 }
 
-/// Memory was refused, and there is no other way to fail.
+/// Out of memory: the one failure of a call that refuses nothing.
 #[derive(Clone, Copy, Debug, PartialEq, Eq)]
 pub struct NoMemory;
 

@@ -9,7 +9,7 @@ ghost use Rattle.esc_bundle.specs.Reading.{IsFault};
 ghost use Rattle.esc_bundle.specs.Frame.{frame};
 ghost use Rattle.esc_bundle.specs.Writing.{bundle_of, IsUnwritten};
 
-/// No bundle begins another.
+/// No bundle is a proper beginning of another.
 pub fn no_bundle_begins_another()
     ensures { (body more : List ℕ) (ss ts : List Named) →
         IsBundle body ss → IsBundle (body ++ more) ts → more ≡ [] }

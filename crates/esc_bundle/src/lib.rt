@@ -1,7 +1,7 @@
 //! The frame of a bundle.
 //!
 //! A deposit comes as one file, a *bundle* of named sections. The first section, `envelope.json`,
-//! tells what the others are. RFC 8909 leaves the files of a deposit to the parties; this form is
+//! says what the others are. RFC 8909 leaves the files of a deposit to the parties; this form is
 //! the project's own:
 //!
 //! ```text
@@ -14,7 +14,7 @@
 //! ```
 //!
 //! A line feed ends each line and follows the bytes of each section, whose length does not count
-//! it. A name is 1 to 32 of `a-z 0-9 . _ -`, and no name stands twice. A bundle has 1 to 64
+//! it. A name is 1 to 32 of `a-z 0-9 . _ -`, and no name occurs twice. A bundle has 1 to 64
 //! sections, and neither it nor a section has more than 16,777,216 bytes.
 //!
 //! `sections` takes the bytes of a bundle apart: names and contents come out as slices of them.
@@ -22,16 +22,23 @@
 //!
 //! # What is promised
 //!
-//! What a bundle is stands in `specs/Bundle.antt`, by texts (`IsBundle`). Which fault any other
-//! text has, from U1 to U4, stands in `specs/Reading.antt` (`IsFault`). `sections` answers exactly
-//! the sections of a bundle, and refuses exactly the other texts, each with its fault.
-//! `write_bundle` gives the one text of its sections, and refuses exactly the lists that no bundle
-//! has. Where memory is refused, either may answer `Fault::NoMemory` instead.
+//! `specs/Bundle.antt` defines what a bundle is, by texts (`IsBundle`), and `specs/Reading.antt`
+//! which fault any other text has, from U1 to U4 (`IsFault`). `sections` returns exactly the
+//! sections of a bundle, and refuses exactly the other texts, each with its fault. `write_bundle`
+//! returns the one text of its sections, and refuses exactly the lists that no bundle has. Out of
+//! memory, either returns `Fault::NoMemory` instead.
 //!
-//! `specs/Frame.antt` and `specs/Writing.antt` have the same as functions, `frame` and `bundle_of`,
-//! in whose terms the crates above reason about bundles. The laws in `src/laws.rt` are of the
+//! ```text
+//! let sections = sections(alloc, body)?;
+//! // sections[0].name is "envelope.json", and sections[0].bytes its contents
+//! ```
+//!
+//! `specs/Frame.antt` and `specs/Writing.antt` have the same as functions, `frame` and `bundle_of`;
+//! the crates above reason about bundles by these. The laws in `src/laws.rt` are about the
 //! definitions alone: the functions give what the relations say; each text is a bundle of one list
-//! of sections or has one fault, and never both; and no bundle begins another.
+//! of sections or has one fault, and never both; and no bundle is a proper beginning of another.
+//! `specs/StepLaws.antt` and `specs/ListLaws.antt` have lemmas that the crates above cite: on steps
+//! of which one may fail, on lists, and on digits.
 #![tactic(auto)]
 
 mod fault;

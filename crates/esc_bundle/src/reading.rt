@@ -77,13 +77,13 @@ const MOST_SECTIONS: usize = 64;
 /// The most bytes of a name.
 const LONGEST_NAME: usize = 32;
 
-/// The text has not the frame of a bundle.
+/// The text does not have the frame of a bundle.
 pub(crate) const BROKEN_FRAME: Fault = Fault::Refused(1);
 
-/// A section's name has not the form of a name.
+/// A section's name does not have the form of a name.
 const WRONG_NAME: Fault = Fault::Refused(2);
 
-/// A section's name stood before.
+/// An earlier section has the same name.
 const REPEATED_NAME: Fault = Fault::Refused(3);
 
 /// There are too many sections or bytes.
@@ -95,7 +95,7 @@ fn index_of(bytes: &[u8], byte: u8) -> Option<usize>
     bytes.iter().position(|b| *b == byte)
 }
 
-// What stands before and after the first separator, if there is one.
+// The bytes before and after the first separator, if there is one.
 fn split_at_byte(bytes: &[u8], separator: u8) -> Option<(&[u8], &[u8])>
     ensures { option_map (λ p. (p.0.now, p.1.now)) result ≡ parted separator bytes.now }
 {
@@ -175,14 +175,14 @@ fn is_repeated(before: &[Section<'_>], name: &[u8]) -> bool
     is_any_named(before, name)
 }
 
-// Whether the envelope is the first.
+// Whether the first section is the envelope.
 fn is_in_order(before: &[Section<'_>], name: &[u8]) -> bool
     ensures { result ≡ (not (length (views before.now) == 0) || bytes_eq name.now envelope_name) }
 {
     !before.is_empty() || name == ENVELOPE
 }
 
-// Refuses a section of this name and length that may not stand behind these.
+// Refuses a section of this name and length that may not come after these.
 #[tactic(auto, unfolding(crate::specs::Reading::stands_at))]
 pub(crate) fn check_stand(before: &[Section<'_>], name: &[u8], size: usize) -> Result<(), Fault>
     ensures { Gives (λ done. tt) result (stands_at (views before.now) name.now size) }
@@ -202,7 +202,7 @@ pub(crate) fn check_stand(before: &[Section<'_>], name: &[u8], size: usize) -> R
     Ok(())
 }
 
-// The length that a section's line tells, behind these sections.
+// The length that a section's line states, after these sections.
 #[tactic(auto, unfolding(crate::specs::Reading::length_at))]
 fn told_length(before: &[Section<'_>], name: &[u8], size: &[u8]) -> Result<usize, Fault>
     ensures { Gives (λ n. n) result (length_at (views before.now) name.now size.now) }
@@ -272,7 +272,7 @@ fn next_section<'a>(
     Ok(None)
 }
 
-// The sections that stand from here on to the end of the bundle.
+// The sections from here to the end of the bundle.
 fn gather(alloc: Global, text: &[u8]) -> Result<Vec<Section<'_>>, Fault>
     ensures { GivesOrNoMemory (λ v. views v.items) result (frame_after 65 [] text.now) }
 {
@@ -294,16 +294,16 @@ fn gather(alloc: Global, text: &[u8]) -> Result<Vec<Section<'_>>, Fault>
 ///
 /// # Errors
 ///
-/// Of a body that is no bundle the first fault, read from the front:
+/// For a body that is no bundle, its first fault from the front:
 ///
 /// - `Refused(1)`: it has another frame, or its first section is not `envelope.json`;
 /// - `Refused(2)`: a name is not 1 to 32 of `a-z 0-9 . _ -`;
-/// - `Refused(3)`: a name stood before;
+/// - `Refused(3)`: a name occurs twice;
 /// - `Refused(4)`: the body or a section has more than 16,777,216 bytes, or there is a 65th
 ///   section.
 ///
-/// `NoMemory`, if there was none for the list of sections: of any body up to the limit that begins
-/// with the first line.
+/// `NoMemory` where the list of sections can't be allocated: for any body up to the limit that
+/// begins with the first line.
 pub fn sections(alloc: Global, body: &[u8]) -> Result<Vec<Section<'_>>, Fault>
     ensures found { IfOk result (λ v. IsBundle body.now (views v.items)) }
     ensures refused { IfErr result (λ e. (n : ℕ) → e ≡ Fault.Refused n

@@ -1,7 +1,7 @@
 //! A section of a bundle.
 
-/// A named section. Both parts are slices of the bundle's bytes: that nothing is copied is what the
-/// lifetime says, and contracts speak of the bytes alone.
+/// A named section. Both parts are slices of the bundle's bytes: the lifetime says that nothing is
+/// copied, and contracts speak of the bytes alone.
 #[derive(Clone, Copy, Debug)]
 pub struct Section<'a> {
     /// 1 to 32 of `a-z 0-9 . _ -`.

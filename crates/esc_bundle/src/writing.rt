@@ -28,7 +28,7 @@ use crate::reading::{BROKEN_FRAME, FIRST_LINE, LAST_LINE, LIMIT, OVER_LIMIT, che
 use crate::section::Section;
 use std::alloc::Global;
 
-// The sections of a list, if each may stand behind those before it.
+// The sections of a list, if each may come after those before it.
 fn in_order(alloc: Global, list: &[(String, Vec<u8>)]) -> Result<Vec<Section<'_>>, Fault>
     ensures { GivesOrNoMemory (λ v. views v.items) result (in_order [] (map named list.now)) }
 {
@@ -69,7 +69,7 @@ fn push_section(alloc: Global, text: &mut Vec<u8>, section: &Section<'_>) -> Res
     Ok(())
 }
 
-// The text of a bundle with these sections. It is given up as soon as it is too long.
+// The text of a bundle with these sections. The write stops as soon as the text is too long.
 fn join(alloc: Global, sections: &[Section<'_>]) -> Result<Vec<u8>, Fault>
     ensures { GivesOrNoMemory (λ v. v.items) result
         (within_limit (bundle_text (views sections.now))) }
@@ -96,13 +96,13 @@ fn join(alloc: Global, sections: &[Section<'_>]) -> Result<Vec<u8>, Fault>
 ///
 /// - `Refused(1)`: there is none, or the first is not `envelope.json`;
 /// - `Refused(2)`: a name is not 1 to 32 of `a-z 0-9 . _ -`;
-/// - `Refused(3)`: a name stood before;
+/// - `Refused(3)`: a name occurs twice;
 /// - `Refused(4)`: a section or the whole has more than 16,777,216 bytes, or there is a 65th
 ///   section.
 ///
-/// The faults of the first section that has one count before those of later sections, and its own
-/// in the order 2, 3, 4, 1; the length of the whole comes last. `NoMemory`, for any list but an
-/// empty one, if there was none for the text.
+/// The first section with a fault decides; of its faults the first in the order 2, 3, 4, 1 is
+/// returned, and the length of the whole is tested last. `NoMemory` where the text can't be
+/// allocated, for any list but an empty one.
 pub fn write_bundle(alloc: Global, list: &[(String, Vec<u8>)]) -> Result<Vec<u8>, Fault>
     ensures written { IfOk result (λ v. IsBundle v.items (map named list.now)) }
     ensures refused { IfErr result (λ e. (n : ℕ) → e ≡ Fault.Refused n →

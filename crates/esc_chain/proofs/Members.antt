@@ -21,7 +21,7 @@ earlier_below m r within =
     let next : watermark_at m r <ℤ (watermark_at m r +ℤ pos 1) = omega (arith, ints) in
     omega (arith, earlier_falls (watermark_at m r +ℤ pos 1) m r within next, earlier_few (watermark_at m r +ℤ pos 1) m)
 
--- behind a row there are at most as many rows as are earlier
+-- before a row in a chain there are at most as many rows as are earlier
 leads_few : (m : List MRow) (h : Rows) → IsAccepted m → InRange m h → (r : ℕ) (c : List ℕ) → r < length m → LeadsBack m h r c → length c ≤ earlier (watermark_at m r) m
 leads_few m h ok range r [] within leads = omega arith
 leads_few m h ok range r (s ∷ c) within leads =
@@ -34,7 +34,7 @@ leads_held m h r c held leads zero below = held
 leads_held m h r [] held leads (suc k) below = absurd (omega arith)
 leads_held m h r (s ∷ c) held leads (suc k) below = leads_held m h s c leads.1.held leads.2 k (omega arith)
 
--- the rows behind a row are earlier
+-- the rows before a row in a chain are earlier
 behind_earlier : (m : List MRow) (h : Rows) → IsAccepted m → InRange m h → (r : ℕ) (c : List ℕ) → r < length m → LeadsBack m h r c → (k : ℕ) → k < length c → watermark_at m (slice_index c k) <ℤ watermark_at m r
 behind_earlier m h ok range r [] within leads k below = absurd (omega arith)
 behind_earlier m h ok range r (s ∷ c) within leads zero below = base_earlier m ok r (place_at m s) within leads.0
@@ -45,7 +45,7 @@ behind_earlier m h ok range r (s ∷ c) within leads (suc k) below =
     let rest = behind_earlier m h ok range s c inside leads.2 k lt in
     omega (arith, ints)
 
--- no row stands twice
+-- no row occurs twice
 apart : (m : List MRow) (h : Rows) → IsAccepted m → InRange m h → (r : ℕ) (c : List ℕ) → r < length m → LeadsBack m h r c → (j k : ℕ) → j < k → k < length (r ∷ c) → slice_index (r ∷ c) j ≢ slice_index (r ∷ c) k
 apart m h ok range r c within leads zero zero lt below = absurd (omega arith)
 apart m h ok range r c within leads zero (suc k) lt below = λ same.

@@ -1,15 +1,14 @@
 -- The latest chain up to a moment is the latest chain of the held rows that are not later.
-use Rattle.std.proofs.Common.{◌≡◌, ◌⊎◌, inl, inr, ◌↔◌, ℕ, ◌+◌, ◌<◌, Bool, true, false, ◌||◌, ℤ, ◌<ℤ◌, List, [], ◌∷◌, length, reverse, Option, Some, None, refl, sym, ap, subst, ◌∙◌, arith}
-use Rattle.std.specs.Prelude.{Result, Ok, Err, IfOk}
+use Rattle.std.proofs.Common.{◌≡◌, ◌⊎◌, inl, inr, ◌↔◌, ℕ, ◌+◌, ◌<◌, true, ◌||◌, ℤ, ◌<ℤ◌, List, [], ◌∷◌, length, reverse, Option, Some, None, sym, ap, subst, ◌∙◌, arith}
 use Rattle.std.specs.FinSet as set
 use Rattle.std.specs.Cmp.{nat_cmp_total}
 use Rattle.std.specs.Ordering.{nat_cmp, eq_by_cmp}
-use Rattle.std.proofs.lemmas.Bool.{cases_order, false≢true}
+use Rattle.std.proofs.lemmas.Bool.{cases_order, false≢true, or_cases}
 use Rattle.std.proofs.lemmas.Bool.Decides.{nat_tests}
 use Rattle.std.proofs.lemmas.Int.{ints}
 use Rattle.std.proofs.lemmas.Map.Lookups.{exact_unsigned}
 use Rattle.std.proofs.lemmas.Map.Views.{tells_apart}
-use Rattle.std.proofs.lemmas.List.{reverse-reverse}
+use Rattle.std.proofs.Math.Bool.{or-true}
 use Rattle.esc_envelope.specs.declared.place.Place.{Place}
 use Rattle.esc_manifest.specs.declared.row.MRow.{MRow}
 use Rattle.esc_manifest.specs.Rows.{place_at, watermark_at}
@@ -18,7 +17,7 @@ use Rattle.esc_chain.specs.Chain.{Rows, IsHeld, InRange, IsUsed, LeadsBack, IsCh
 use Rattle.esc_chain.proofs.Chains.{base_earlier}
 use Rattle.esc_chain.proofs.HeldRows.{none_in_range, one_more_in_range}
 
--- what is earlier is not later than the moment either
+-- what is earlier is not later than the moment or_cases
 earlier_by : (t : Option ℤ) (v w : ℤ) → v <ℤ w → IsBy t w → IsBy t v
 earlier_by None v w lt by = tt
 earlier_by (Some t) v w lt by = omega (arith, ints, lt, by)
@@ -89,21 +88,13 @@ until_skip m h t n g not_here known = record {
     back r at (inr (inl before)) = (known.each r).1 (before, at.1, at.2)
     back r at (inr (inr after)) = absurd (let lt = at.0 in omega (arith, lt, after))
 
-either : (a b : Bool) → (a || b) ≡ true → (a ≡ true) ⊎ (b ≡ true)
-either true b e = inl refl
-either false b e = inr e
-
-or_true : (b : Bool) → (b || true) ≡ true
-or_true true = refl
-or_true false = refl
-
 same_is : (r n : ℕ) → r ≡ n → eq_by_cmp nat_cmp r n ≡ true
 same_is r n same = grind (arith, nat_tests, same)
 
 pub until_more : (m : List MRow) (h : Rows) (t : Option ℤ) (n : ℕ) (g : Rows) → n < length m → (IsHeld h n × IsBy t (watermark_at m n)) → IsUntilBelow m h t n g → IsUntilBelow m h t (n + 1) (set.insert g n)
 until_more m h t n g within here known = record {
   in_range = one_more_in_range m g n within known.in_range;
-  each = λ r. (λ there. out r (either _ _ (sym (set.contains-insert nat_cmp_total g n r) ∙ there)), λ at. back r at (cases_order r n));
+  each = λ r. (λ there. out r (or_cases _ _ (sym (set.contains-insert nat_cmp_total g n r) ∙ there)), λ at. back r at (cases_order r n));
 }
   where
     out : (r : ℕ) → (eq_by_cmp nat_cmp r n ≡ true) ⊎ (set.contains g r ≡ true) → (r < n + 1) × IsHeld h r × IsBy t (watermark_at m r)
@@ -112,12 +103,8 @@ until_more m h t n g within here known = record {
 
     back : (r : ℕ) → ((r < n + 1) × IsHeld h r × IsBy t (watermark_at m r)) → (r ≡ n) ⊎ ((r < n) ⊎ (n < r)) → IsHeld (set.insert g n) r
     back r at (inl same) = set.contains-insert nat_cmp_total g n r ∙ ap (λ b. b || set.contains g r) (same_is r n same)
-    back r at (inr (inl before)) = set.contains-insert nat_cmp_total g n r ∙ ap (λ b. eq_by_cmp nat_cmp r n || b) ((known.each r).1 (before, at.1, at.2)) ∙ or_true (eq_by_cmp nat_cmp r n)
+    back r at (inr (inl before)) = set.contains-insert nat_cmp_total g n r ∙ ap (λ b. eq_by_cmp nat_cmp r n || b) ((known.each r).1 (before, at.1, at.2)) ∙ or-true (eq_by_cmp nat_cmp r n)
     back r at (inr (inr after)) = absurd (let lt = at.0 in omega (arith, lt, after))
 
 pub until_all : (m : List MRow) (h : Rows) (t : Option ℤ) (g : Rows) → InRange m h → IsUntilBelow m h t (length m) g → AreUntil m h t g
 until_all m h t g range known r = (λ there. let at = (known.each r).0 there in (at.1, at.2), λ at. (known.each r).1 (range r at.0, at.0, at.1))
-
-pub if_ok : {X E : Type 0} (r : Result X E) (P Q : X → Type 0) → ((x : X) → P x → Q x) → IfOk r P → IfOk r Q
-if_ok (Ok x) P Q goes is = goes x is
-if_ok (Err e) P Q goes is = tt

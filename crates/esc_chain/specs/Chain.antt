@@ -58,7 +58,7 @@ pub record IsUsed (m : List MRow) (h : Rows) (r : ℕ) : Type 0 where
   pub held : IsHeld h r
   pub greatest : (q : ℕ) → IsHeld h q → place_at m q ≡ place_at m r → resend_at m q ≤ resend_at m r
 
--- from row r back to a Full: r is a Full, or the next row is used, stands at the place of r's base,
+-- from row r back to a Full: r is a Full, or the next row is used, is at the place of r's base,
 -- and goes on so
 abbrev pub LeadsBack : List MRow → Rows → ℕ → List ℕ → Type 0
 LeadsBack m h r [] = kind_at m r ≡ Full

@@ -25,8 +25,7 @@ use std::alloc::Global;
 /// whose end is the greatest place, and the empty list where there is none (this project's
 /// profile).
 ///
-/// Takes time about as the number of rows, whatever chains there are. The one error is want of
-/// memory.
+/// Takes time n log n in the number of rows. The one error is out of memory.
 pub fn latest_chain(alloc: Global, m: &Manifest, h: &Held) -> Result<Vec<usize>, NoMemory>
     requires { InRange m.now h.now }
     ensures latest { IfOk result (λ c. IsLatestChain m.now h.now c.items) }
@@ -57,8 +56,7 @@ pub fn latest_chain(alloc: Global, m: &Manifest, h: &Held) -> Result<Vec<usize>,
 /// than the moment the one whose end is the greatest place, and the empty list where there is none.
 /// Without a moment it is the latest of all chains.
 ///
-/// Takes time about as the number of rows, whatever chains there are. The one error is want of
-/// memory.
+/// Takes time n log n in the number of rows. The one error is out of memory.
 pub fn latest_chain_at(
     alloc: Global,
     m: &Manifest,

@@ -30,11 +30,10 @@ use std::alloc::Global;
 use std::collections::{BTreeMap, BTreeSet};
 
 /// A line for each listed place, in the order of places: which revision of it counts, whether a
-/// chain ends there or the latest chain passes it, what stands in its way, and which revision of it
-/// is awaited (this project's profile).
+/// chain ends there or the latest chain passes it, what blocks it, and which revision of it is
+/// awaited (this project's profile).
 ///
-/// Takes time about as the number of rows, whatever ways there are. The one error is want of
-/// memory.
+/// Takes time n log n in the number of rows. The one error is out of memory.
 pub fn gaps(alloc: Global, m: &Manifest, h: &Held) -> Result<Vec<GapLine>, NoMemory>
     requires { InRange m.now h.now }
     ensures { IfOk result (λ lines. AreGapLines m.now h.now lines.items) }
@@ -45,8 +44,7 @@ pub fn gaps(alloc: Global, m: &Manifest, h: &Held) -> Result<Vec<GapLine>, NoMem
 /// The lines as of a moment, if there is one: the latest chain is the one up to the moment, so that
 /// a place where a later chain ends is `Standing`. All else in them is as without a moment.
 ///
-/// Takes time about as the number of rows, whatever ways there are. The one error is want of
-/// memory.
+/// Takes time n log n in the number of rows. The one error is out of memory.
 pub fn gaps_at(
     alloc: Global,
     m: &Manifest,
@@ -67,7 +65,7 @@ pub fn gaps_at(
     Ok(lines)
 }
 
-// What lines are told by.
+// What the lines are made from.
 #[derive(Drop)]
 pub(crate) struct Ways {
     // The used row of each place that has one.
@@ -151,7 +149,7 @@ fn state_by(in_chain: bool, stop: Option<usize>) -> State
     }
 }
 
-// What stands in the way where the way back stops, if it does.
+// The blocker of a row whose chain is broken, if any.
 fn blocker_if(
     alloc: Global,
     m: &Manifest,
@@ -171,7 +169,7 @@ fn blocker_if(
     }
 }
 
-// What stands in the way of a row with a base that has no used row.
+// The blocker of a row with a base that has no used row.
 fn blocker_by(alloc: Global, header: &Header, base: Base) -> Result<Blocker, NoMemory>
     requires { HasText base }
     ensures { IfOk result (λ blocker. blocker ≡ blocker_by header.now base) }

@@ -2,7 +2,7 @@
 use Rattle.std.proofs.Common.{◌≡◌, ◌≢◌, ◌⊎◌, inl, inr, ℕ, ℤ, Bool, true, false, cond, not, ◌&&◌, List, [], ◌∷◌, ◌++◌, Option, Some, None, is_some, refl, sym, ap, subst, ◌∙◌, arith}
 use Rattle.std.specs.Prelude.{◌↔◌, codes, ◌<ℤ◌, ◌==◌, eqb, int_lt}
 use Rattle.std.proofs.lemmas.Int.{ints}
-use Rattle.std.proofs.lemmas.Bool.{eq-eqb}
+use Rattle.std.proofs.lemmas.Bool.{eq-eqb, and_parts}
 use Rattle.std.proofs.lemmas.Bool.Decides.{eqb_tells}
 use Rattle.std.specs.List.{Contains, IsDistinct, flat_map, list_any}
 use Rattle.std.specs.List.Sorted.{IsStrictlySortedBy}
@@ -56,10 +56,6 @@ unless true x f h = absurd (nothing_in f h)
 give_unless : (b : Bool) (x f : FindingValue) → b ≡ false → f ≡ x → Contains (cond b [] (x ∷ [])) f
 give_unless b x f fails is =
     subst (λ (d : Bool). Contains (cond d [] (x ∷ [])) f) (sym fails) (subst (λ (g : FindingValue). Contains (x ∷ []) g) (sym is) (here x []))
-
-both : (a b : Bool) → (a && b) ≡ true → (a ≡ true) × (b ≡ true)
-both true b h = (refl, h)
-both false b h = absurd (false_true h)
 
 gone : {X : Type 0} (o : Option X) → not (is_some o) ≡ true → o ≡ None
 gone None h = refl
@@ -225,8 +221,8 @@ is_other s h = pick (is_ok s) refl
 
 mixed_is : (k : KeyName) (o : ObjectValue) (f : FindingValue) → is_mixed k.kind (statuses_of k o) ≡ true → f ≡ mixed_status k → IsMixed k o f
 mixed_is k o f h is =
-    let p = both _ _ h in
-    let q = both _ _ p.1 in
+    let p = and_parts _ _ h in
+    let q = and_parts _ _ p.1 in
     let one = from_any is_ok (statuses_of k o) q.0 in
     let other = from_any (λ (s : List ℕ). not (is_ok s)) (statuses_of k o) q.1 in (
       domain_is k.kind p.0,
@@ -299,7 +295,7 @@ found_moments w k o f (inr (e, d, expiry, creation, sooner, is)) =
 malformed_found : (k : KeyName) (field text : List ℕ) (f : FindingValue) → Contains (malformed_findings k field text) f → IsMalformed k field text f
 malformed_found k field text f h =
     let g = given (is_malformed text) (malformed k field text) f h in
-    let p = both _ _ g.0 in
+    let p = and_parts _ _ g.0 in
     (λ e. false_true (sym (ap (λ (t : List ℕ). not (is_empty t)) e) ∙ p.0), gone (watermark_of text) p.1, g.1)
 
 found_malformed : (k : KeyName) (field text : List ℕ) (f : FindingValue) → IsMalformed k field text f → Contains (malformed_findings k field text) f

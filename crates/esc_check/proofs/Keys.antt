@@ -1,4 +1,4 @@
--- Keys that are alike are one key, and how many of a list are of a kind.
+-- Keys that tie are one key, and how many of a list are of a kind.
 use Rattle.std.proofs.Common.{◌≡◌, ℕ, Bool, true, false, cond, List, [], ◌∷◌, length, filter, sym, ap, subst, ◌∙◌}
 use Rattle.std.specs.Prelude.{◌↔◌, IsSome}
 use Rattle.std.specs.Bool.{one_answer}
@@ -11,11 +11,12 @@ use Rattle.std.specs.List.{Contains, IsDistinct, AllByRecursion}
 use Rattle.std.specs.Map.{keys_of}
 use Rattle.esc_envelope.specs.declared.kind.Kind.{Kind}
 use Rattle.esc_envelope.specs.Kinds.{kind_rank, is_kind}
-use Rattle.esc_tables.specs.KeyLaws.{one_kind, keys_alike, one_key}
+use Rattle.esc_tables.specs.KeyLaws.{keys_alike, one_key}
 use Rattle.esc_tables.specs.KeyName.{KeyName, key_eq}
 use Rattle.esc_check.specs.Gathered.{count_of}
 use Rattle.esc_check.specs.Tables.{Entry, tables_of, AreKeysOf, HasCount}
 use Rattle.esc_check.proofs.Members.{from_chosen, in_chosen}
+use Rattle.esc_envelope.specs.KindLaws.{one_kind}
 
 key_decides : (a b : KeyName) → (key_eq a b ≡ true → a ≡ b) × (a ≡ b → key_eq a b ≡ true)
 key_decides a b = (one_key a b, λ e. subst (λ (q : KeyName). key_eq a q ≡ true) e (keys_alike.refl a))
@@ -70,11 +71,11 @@ are_keys es kind apart = record {
 count_kept : (es : List Entry) (kind : Kind) → length (of_kind kind es) ≡ count_of (keys_of es) kind
 count_kept es kind = length-filter (λ (q : KeyName). is_kind q.kind kind) (keys_of es)
 
--- so many are of a kind as are counted
+-- as many are of a kind as are counted
 pub count_has : (es : List Entry) (kind : Kind) → IsDistinct key_eq (keys_of es) → HasCount (tables_of es) kind (count_of (keys_of es) kind)
 count_has es kind apart = (of_kind kind es, are_keys es kind apart, count_kept es kind)
 
--- and only so many
+-- and no more
 pub count_is : (es : List Entry) (kind : Kind) (n : ℕ) → IsDistinct key_eq (keys_of es) → HasCount (tables_of es) kind n → n ≡ count_of (keys_of es) kind
 count_is es kind n apart (keys, are, long) =
     let here = are_keys es kind apart in

@@ -1,4 +1,4 @@
--- Findings in order, of which those that differ only in what is told besides are listed once.
+-- Findings in order, of which those that differ only in what else they report are listed once.
 use Rattle.std.proofs.Common.{◌≡◌, ◌+◌, false, List, [], ◌∷◌, get_or, refl, sym, ap, ◌∙◌, arith}
 use Rattle.std.specs.Cmp.{IsTotalOrder, nat_cmp_total}
 use Rattle.std.specs.Cmp.Lexicographic.{slice_cmp}

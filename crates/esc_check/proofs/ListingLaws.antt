@@ -1,4 +1,4 @@
--- No two findings differ in nothing but what else they tell, so that they are listed in strict order.
+-- No two findings differ in nothing but what else they report, so they are in strict order.
 use Rattle.std.proofs.Common.{◌≡◌, inl, inr, ℕ, ℤ, cond, List, [], ◌∷◌, Option, Some, refl, sym, ap, subst, ◌∙◌}
 use Rattle.std.specs.Prelude.{◌↔◌, ◌==◌}
 use Rattle.std.specs.Cmp.Lexicographic.{slice_cmp}
@@ -29,8 +29,8 @@ use Rattle.esc_check.specs.LinkValue.{LinkValue}
 use Rattle.esc_check.specs.Links.{IsLinkOf}
 use Rattle.esc_check.specs.Tables.{Entry, tables_of}
 use Rattle.esc_check.proofs.Keys.{count_is}
-use Rattle.esc_tables.specs.KeyLaws.{one_kind}
 use Rattle.esc_check.proofs.Members.{here, there}
+use Rattle.esc_envelope.specs.KindLaws.{one_kind}
 
 -- orders
 
@@ -79,7 +79,7 @@ listed [] each h = tt
 listed (f ∷ fs) each h =
     (all_listed f fs (λ g has. each f g (here f fs) (there f fs g has)) h.0, listed fs (λ g k one other. each g k (there f fs g one) (there f fs k other)) h.1)
 
--- what a finding tells besides follows from its code, kind, key and field
+-- what else a finding reports follows from its code, kind, key and field
 
 abbrev target_name : List ℕ → List ℕ
 target_name name =

@@ -5,8 +5,8 @@ use Rattle.std.specs.Cmp.{Equal-is}
 use Rattle.std.specs.Cmp.Lexicographic.{slice_cmp}
 use Rattle.std.proofs.lemmas.Map.Lookups.{CmpEqualImpliesEq, exact_unsigned, exact_bytes, exact_pairs}
 use Rattle.esc_envelope.specs.Kinds.{kind_rank}
-use Rattle.esc_tables.specs.KeyLaws.{one_kind}
 use Rattle.esc_check.specs.FindingValue.{FindingValue, finding_cmp, finding_eq}
+use Rattle.esc_envelope.specs.KindLaws.{one_kind}
 
 -- the texts of a finding
 abbrev Texts : Type 0

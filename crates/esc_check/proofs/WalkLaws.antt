@@ -28,7 +28,7 @@ use Rattle.esc_tables.specs.KeyLaws.{keys_total}
 use Rattle.esc_check.proofs.Members.{from_pieces, in_pieces, from_chosen, in_chosen}
 use Rattle.esc_check.proofs.Writing.{front_added}
 
--- keys that come in order are put behind the others
+-- keys that come in order are put after the others
 
 in_the_middle : (P : KeyName → Type 0) (xs ys : List KeyName) (k : KeyName) → AllByRecursion P (xs ++ k ∷ ys) → P k
 in_the_middle P [] ys k h = h.0

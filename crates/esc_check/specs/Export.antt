@@ -26,11 +26,11 @@ row_lines k n r = map (cell_line k n r.table) r.cells
 abbrev pub is_in : List ℕ → RowValue → Bool
 is_in table r = bytes_eq r.table table
 
--- the place of a row behind these rows among the rows of its table, from 1
+-- the place of a row after these rows among the rows of its table, from 1
 abbrev pub number_behind : List RowValue → RowValue → ℕ
 number_behind earlier r = count_by (is_in r.table) (earlier ++ r ∷ [])
 
--- the lines of child rows that stand behind these rows, each with its place among the rows of its
+-- the lines of child rows that come after these rows, each with its place among the rows of its
 -- table
 unfoldable pub child_lines : KeyName → List RowValue → List RowValue → List Line
 child_lines k earlier [] = []

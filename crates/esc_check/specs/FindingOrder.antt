@@ -14,6 +14,6 @@ finding_total =
     (then_total (on_total (λ (f : FindingValue). f.value) nat_list_cmp_total)
     (on_total (λ (f : FindingValue). f.other) nat_list_cmp_total)))))
 
--- findings that tie are alike
+-- the test of findings is an equivalence
 pub finding_equiv : IsEquivalence finding_eq
 finding_equiv = eq_by_cmp_equiv finding_total

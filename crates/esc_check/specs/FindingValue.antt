@@ -23,7 +23,7 @@ listing_cmp =
     (then_cmp (on (λ f. f.key) (slice_cmp nat_cmp))
     (then_cmp (on (λ f. f.field) (slice_cmp nat_cmp)) (on (λ f. f.value) (slice_cmp nat_cmp)))))
 
--- the same, and at last by what else is told, so that findings that tie are one
+-- the same, and at last by what else is reported, so that findings that tie are one
 abbrev pub finding_cmp : FindingValue → FindingValue → Ordering
 finding_cmp =
     then_cmp (on (λ f. f.code) nat_cmp)

@@ -17,7 +17,7 @@ use Rattle.esc_check.specs.Links.{IsLink}
 use Rattle.esc_check.specs.Statuses.{status_words, IsStatusOf}
 use Rattle.esc_check.specs.Tables.{Tables, HasCount}
 
--- V1, as it is told of a link
+-- V1, as it is reported of a link
 abbrev pub missing_target : LinkValue → FindingValue
 missing_target l = record {
   code = 1;
@@ -32,7 +32,7 @@ missing_target l = record {
 abbrev pub IsMissing : Tables → FindingValue → Type 0
 IsMissing t f = (l : LinkValue) × IsLink t l × (t l.to ≡ None) × (f ≡ missing_target l)
 
--- V2, as it is told of a kind with so many objects declared, and so many found
+-- V2, as it is reported of a kind with a declared and a found number of objects
 abbrev pub miscounted : Kind → ℕ → ℕ → FindingValue
 miscounted kind declared found
     = record {
@@ -50,7 +50,7 @@ IsMiscounted t counts f = (kind : Kind) × (declared : ℕ) × (n : ℕ)
     × Contains counts (kind, declared) × HasCount t kind n × (n ≢ declared)
     × (f ≡ miscounted kind declared n)
 
--- V3, as it is told of an object's status
+-- V3, as it is reported of an object's status
 abbrev pub unknown_status : KeyName → List ℕ → FindingValue
 unknown_status k s = record {
   code = 3;
@@ -66,7 +66,7 @@ abbrev pub IsUnknown : KeyName → ObjectValue → FindingValue → Type 0
 IsUnknown k o f = (s : List ℕ) × IsStatusOf k o s × (Contains (status_words k.kind) s → ⊥)
     × (f ≡ unknown_status k s)
 
--- V4, as it is told of a domain
+-- V4, as it is reported of a domain
 abbrev pub mixed_status : KeyName → FindingValue
 mixed_status k = record {
   code = 4;
@@ -86,7 +86,7 @@ IsMixed k o f = (k.kind ≡ Domain) × IsStatusOf k o (codes "ok")
 abbrev pub printed : ℤ → List ℕ
 printed w = unwrap_or (watermark_text_of w) []
 
--- V5, as it is told of an object's date of creation and the watermark
+-- V5, as it is reported of an object's date of creation and the watermark
 abbrev pub late : KeyName → List ℕ → List ℕ → FindingValue
 late k text shown = record {
   code = 5;
@@ -102,7 +102,7 @@ abbrev pub IsLate : ℤ → KeyName → ObjectValue → FindingValue → Type 0
 IsLate w k o f = (d : ℤ) × (watermark_of (created k o) ≡ Some d) × (w <ℤ d)
     × (f ≡ late k (created k o) (printed w))
 
--- V6, as it is told of a domain's dates of expiry and creation
+-- V6, as it is reported of a domain's dates of expiry and creation
 abbrev pub early : KeyName → List ℕ → List ℕ → FindingValue
 early k text created_text = record {
   code = 6;
@@ -120,7 +120,7 @@ IsEarly k o f =
     × (watermark_of (created k o) ≡ Some d) × (e <ℤ d)
     × (f ≡ early k (expires k o) (created k o))
 
--- V7, as it is told of a date in a field
+-- V7, as it is reported of a date in a field
 abbrev pub malformed : KeyName → List ℕ → List ℕ → FindingValue
 malformed k field text = record {
   code = 7;
@@ -131,7 +131,7 @@ malformed k field text = record {
   other = [];
 }
 
--- V7: a date has not the form of a watermark, or is none of its years
+-- V7: a date does not have the form of a watermark, or is none of its years
 abbrev pub IsMalformed : KeyName → List ℕ → List ℕ → FindingValue → Type 0
 IsMalformed k field text f = (text ≢ []) × (watermark_of text ≡ None) × (f ≡ malformed k field text)
 

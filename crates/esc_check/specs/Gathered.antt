@@ -1,5 +1,5 @@
 -- What a walk over the objects gathers, with repeats, as lists. These are what the crate's own
--- functions give one another; what `verify` answers is said by `Findings` alone.
+-- functions give one another; `Findings` alone says what `verify` returns.
 use Rattle.std.specs.Prelude.{
   ◌≡◌,
   ℕ,

@@ -9,7 +9,7 @@ ghost use Rattle.esc_check.specs.FindingValue.{FindingValue, finding_cmp, listin
 use crate::finding::Finding;
 use std::cmp::Ordering;
 
-/// These findings in order, each once. Takes no memory.
+/// These findings in order, each once. Doesn't allocate.
 pub fn settle(mut found: Vec<Finding>) -> Vec<Finding>
     ensures ordered { IsStrictlySortedBy finding_cmp result.items }
     ensures same { (f : FindingValue) → Contains result.items f ↔ Contains found.items f }
@@ -19,8 +19,8 @@ pub fn settle(mut found: Vec<Finding>) -> Vec<Finding>
     found
 }
 
-/// Of findings in order, of those that stand next to each other and differ only in what is told
-/// besides, the first. Takes no memory.
+/// Of findings in order, the first of those that are neighbours and differ only in what else they
+/// report. Doesn't allocate.
 pub fn listed(mut found: Vec<Finding>) -> Vec<Finding>
     requires { IsStrictlySortedBy finding_cmp found.items }
     ensures ordered { IsStrictlySortedBy listing_cmp result.items }

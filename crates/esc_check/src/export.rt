@@ -61,7 +61,7 @@ pub fn export_rows(
     lines.into_text()
 }
 
-/// The same of objects that come one at a time. It takes memory for the text alone.
+/// The same of objects that come one at a time. It allocates for the text alone.
 pub fn export_from<O: Objects>(
     alloc: Global,
     o: &mut O,
@@ -127,8 +127,8 @@ fn write_children(
     Ok(())
 }
 
-// The place of a row of a table behind these rows, of which `last` has `number`. Where rows stand
-// by table, as those of a deposit do, each table is counted once.
+// The place of a row of a table after these rows, of which `last` has `number`. Where rows are
+// grouped by table, as those of a deposit are, each table is counted once.
 fn number_behind(earlier: &[Row], last: &str, number: usize, table: &str) -> usize
     requires known { number ≡ count_by (is_in last.now) earlier.now }
     requires room { length earlier.now + 1 < 2 ^ 64 }

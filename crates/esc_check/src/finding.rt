@@ -26,7 +26,7 @@ pub struct Finding {
     pub key: String,
     pub field: String,
     pub value: String,
-    /// What is told besides: the target's kind in V1, the number found in V2, the watermark in V5,
+    /// What else is reported: the target's kind in V1, the number found in V2, the watermark in V5,
     /// the date of creation in V6.
     pub other: String,
 }

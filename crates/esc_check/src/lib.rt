@@ -7,7 +7,7 @@
 //! the parent row first and then each child row with its place among the object's rows of its
 //! table. Its contract gives the whole text.
 //!
-//! `verify` answers what breaks a rule of this project's profile, each finding once and in order:
+//! `verify` returns what breaks a rule of this project's profile, each finding once and in order:
 //!
 //! - V1: a link leads to no object;
 //! - V2: a kind has another number of objects than the deposit declares;
@@ -20,7 +20,7 @@
 //! Where a row has a field twice, the first cell counts. An empty cell links nothing, is no status
 //! and no date.
 //!
-//! `export_from` and `verify_from` answer the same of objects that come one at a time, from a
+//! `export_from` and `verify_from` return the same of objects that come one at a time, from a
 //! source that is an `Objects` of `esc_apply`: by key, each key once. They ask for all of them, and
 //! keep none.
 //!
@@ -28,31 +28,32 @@
 //!
 //! `specs/Findings.antt` says what a finding is, by relations over the tables as a map from keys to
 //! objects, the watermark and the declared numbers; `specs/Links.antt` and `specs/Statuses.antt`
-//! say what an object's links and statuses are. What `verify` answers has exactly the findings, in
-//! strict order, so each of them once. `specs/Export.antt` has the lines of the export. Where
-//! memory is refused, either answers `NoMemory`.
+//! say what an object's links and statuses are. What `verify` returns has exactly the findings, in
+//! strict order, so each of them once. `specs/Export.antt` has the lines of the export. Out of
+//! memory, either returns `NoMemory`.
 //!
-//! Over a source that is honest, `export_from` and `verify_from` answer just that of what it lists;
-//! that findings are in strict order holds over any. Where the source fails they answer its fault,
-//! and nothing of what came before. Whatever they answer, the source `follows` from what it was.
+//! Over a source that is honest, `export_from` and `verify_from` return just that of what it lists;
+//! that findings are in strict order holds over any. Where the source fails they return its fault,
+//! and nothing of what came before. Whatever they return, the source `follows` from what it was.
 //!
 //! `specs/Gathered.antt` is what the functions here give one another, as lists with repeats: what
 //! is found of one object, where these keys are there. `proofs/FindingLaws.antt` shows that it is
 //! the same set.
 //!
-//! `Lines` of `esc_csv`, in which the export is written, is passed on for other reports.
+//! `Lines` of `esc_csv`, in which the export is written, is re-exported for other reports.
 //!
 //! # Cost
 //!
 //! One walk over the objects, and one over their keys for each declared number; a look-up in the
-//! map for each link. Memory is taken for what is found, and for the links and statuses of one
-//! object at a time. Child rows that stand by table, as those of a deposit do, are counted once for
-//! each table.
+//! map for each link. Both allocate for what is found, and for the links and statuses of one
+//! object at a time. Child rows that are grouped by table, as those of a deposit are, are counted
+//! once for each table.
 //!
-//! `export_from` takes memory for its text. `verify_from` takes it for what is found, for the keys,
+//! `export_from` allocates for its text. `verify_from` allocates for what is found, for the keys,
 //! and for the links that lead to what did not come before them. Registrars come first, then
 //! contacts, hosts and domains, so these are the links to IDN tables and those that lead to
-//! nothing. A link is looked up among the keys as it comes, and if it waited once more at the end.
+//! nothing. A link is looked up among the keys as it comes, and if it leads to none of them, once
+//! more at the end.
 #![tactic(auto)]
 
 mod count;

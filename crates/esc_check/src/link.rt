@@ -155,7 +155,7 @@ fn add_missing(alloc: Global, found: &mut Vec<Finding>, link: &Link) -> Result<(
     )
 }
 
-/// Adds what is found of links between the objects of these tables.
+/// Adds the findings of links between the objects of these tables.
 pub fn check_links(
     alloc: Global,
     found: &mut Vec<Finding>,
@@ -174,7 +174,7 @@ pub fn check_links(
     Ok(())
 }
 
-/// Those of these links that lead to none of these keys. Takes no memory.
+/// Those of these links that lead to none of these keys. Doesn't allocate.
 pub fn unmet(met: &BTreeSet<Key>, mut links: Vec<Link>) -> Vec<Link>
     ensures { result.items ≡ filter (λ l. not (sorted.contains key_cmp met.now l.to))
         links.items }
@@ -183,7 +183,7 @@ pub fn unmet(met: &BTreeSet<Key>, mut links: Vec<Link>) -> Vec<Link>
     links
 }
 
-/// Adds what is told of links to nothing.
+/// Adds the findings of links to nothing.
 pub fn add_all_missing(
     alloc: Global,
     found: &mut Vec<Finding>,

@@ -96,14 +96,14 @@ fn is_among(text: &str, words: &[&str]) -> bool
     words.iter().any(|word| *word == text)
 }
 
-#[tactic(auto, using(crate::proofs::Pieces::list_any_map))]
+#[tactic(auto, using(esc_bundle::specs::ListLaws::list_any_map))]
 fn is_status(kind: Kind, text: &str) -> bool
     ensures { result ≡ is_status kind text.now }
 {
     is_among(text, status_words(kind))
 }
 
-// The statuses in a table of an object, as they stand.
+// The statuses in a table of an object, in their order.
 fn statuses_in<'a>(
     alloc: Global,
     table: &str,
@@ -139,7 +139,7 @@ fn has_other(statuses: &[&str]) -> bool
 }
 
 // Whether a domain has `ok` and another status.
-#[tactic(auto, using(crate::proofs::Pieces::list_any_map))]
+#[tactic(auto, using(esc_bundle::specs::ListLaws::list_any_map))]
 fn is_mixed(kind: Kind, statuses: &[&str]) -> bool
     ensures { result ≡ is_mixed kind (map (λ s. s.now) statuses.now) }
 {

@@ -8,9 +8,9 @@ use esc_bundle::NoMemory;
 /// Why a report over objects that come one at a time was given up.
 #[derive(Clone, Copy, Debug, PartialEq, Eq, Drop)]
 pub enum StreamFault<E> {
-    /// The source of the objects failed, and answered this.
+    /// The source of the objects failed, and returned this.
     Source(E),
-    /// Memory was refused.
+    /// Out of memory.
     NoMemory,
 }
 

@@ -46,7 +46,7 @@ fn start(alloc: Global) -> Gathering
     }
 }
 
-// Takes the next object in. Nearly all links lead to objects of an earlier kind, so that they are
+// Takes in the next object. Nearly all links lead to objects of an earlier kind, so that they are
 // met, and are not kept.
 fn take_in(
     alloc: Global,
@@ -69,7 +69,7 @@ fn take_in(
 }
 
 // What is found of all the objects that were taken in. Where a source that isn't honest gives a key
-// twice, findings may differ only in what is told besides; then one of them is listed.
+// twice, findings may differ only in what else they report; then one of them is listed.
 fn finish(
     alloc: Global,
     g: Gathering,
@@ -109,7 +109,7 @@ fn gather<O: Objects>(
 }
 
 /// What `verify` finds in the tables of a registry, found of their objects as they come one at a
-/// time. It takes memory for what is found, for the keys, and for the links that lead to what had
+/// time. It allocates for what is found, for the keys, and for the links that lead to what had
 /// not come before them.
 pub fn verify_from<O: Objects>(
     alloc: Global,

@@ -57,6 +57,9 @@ struct Form {
 const ABOUT: &str =
     "Rebuilds a domain name registry's tables from the escrow deposits that its agent released";
 
+/// The version of the program, and that of the stores that it makes and opens.
+const VERSION: &str = "1 (store version 2)";
+
 const DETAILS: &str = "\
 A release manifest is a CSV file that lists the deposits of a release, each with its id, type (FULL, INCR or DIFF),
 watermark, previous id, resend and the SHA-256 of its bundle:
@@ -217,6 +220,7 @@ impl Form {
 // The program without its commands.
 fn program<'a>(alloc: Global) -> Command<'a> {
     Command::new(alloc, "restore")
+        .version(VERSION)
         .about(ABOUT)
         .after_help(DETAILS)
         .subcommand_required(true)

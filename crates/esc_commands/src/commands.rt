@@ -46,8 +46,8 @@ enum Job<'a> {
     Desk(DeskTask<'a>),
 }
 
-/// Runs the program on the words after its name. Returns the status. Help is printed on standard
-/// output, and what is wrong with the words on standard error.
+/// Runs the program on the words after its name. Returns the status. Help and version are printed on
+/// standard output, and what is wrong with the words on standard error.
 pub fn run_words<N, O, E>(
     rt: &HostRuntime,
     net: &N,
@@ -80,7 +80,7 @@ fn with_name<'a>(alloc: Global, words: &'a [String]) -> Result<Vec<&'a str>, All
     Ok(named)
 }
 
-// Tells the help that was asked for, or what is wrong with the words.
+// Tells the help or the version that was asked for, or what is wrong with the words.
 fn tell_error<O: Write, E: Write>(rt: &HostRuntime, error: &Error, out: &mut O, err: &mut E) -> u8 {
     if error.kind() == ErrorKind::OutOfMemory {
         return tell_stop(rt, err, &NO_MEMORY);

@@ -1,7 +1,7 @@
 //! Taking a folder of deposits.
 
 use crate::files::{path_in, plain_files, read_body};
-use crate::stop::{DONE, NO_MEMORY, REFUSED, Stop, print, tell};
+use crate::stop::{DONE, REFUSED, Stop, print, tell};
 use esc_desk::{Arrival, Desk, Outcome, Reply, Verdict, number};
 use esc_http::{receipt_line, receipts_heading};
 use sqlite::Alter;
@@ -70,9 +70,8 @@ fn answer<S: Alter>(
     arrival: Arrival<'_>,
 ) -> Result<Reply, Stop> {
     let mut outcomes = desk.run(rt.alloc(), &[arrival])?;
-    match outcomes.pop() {
-        Some(Outcome::Done(reply)) => Ok(reply),
-        Some(Outcome::Lost(fault)) => Err(Stop::Store(fault)),
-        None => Err(NO_MEMORY),
+    match outcomes.remove(0) {
+        Outcome::Done(reply) => Ok(reply),
+        Outcome::Lost(fault) => Err(Stop::Store(fault)),
     }
 }

@@ -2,6 +2,7 @@
 use Rattle.std.proofs.Common.{◌≡◌, ℕ, zero, suc, ◌<◌, ◌≤◌, Bool, true, false, cond, List, [], ◌∷◌, ◌++◌, length, Option, Some, None, refl, ap, subst, arith, inl, inr}
 use Rattle.std.specs.Prelude.{◌==◌, ◌&&◌}
 use Rattle.std.proofs.lemmas.Bool.{cases_Bool}
+use Rattle.std.proofs.lemmas.Option.{same_Some}
 use Rattle.csv.specs.Machine.{Read, next_record, step, in_field, start_field, start_record, after_end, ends_with, is_end, ends_at_end, fields_after, field_after, is_byte}
 use Rattle.csv.specs.Reading.{records_from}
 use Rattle.csv.specs.declared.parser.Config.{Config}
@@ -12,7 +13,7 @@ use Rattle.csv.specs.declared.parser.Action.TheVariants as act
 use Rattle.csv.specs.declared.parser.Terminator.{Terminator}
 use Rattle.csv.specs.declared.parser.Terminator.TheVariants as term
 
--- ---- where a record ends, the machine stands between two records
+-- ---- where a record ends, the machine is between two records
 
 abbrev Closes : State × Action → Type 0
 Closes p = is_end p.1 ≡ true → ends_at_end p.0 ≡ false
@@ -65,15 +66,12 @@ step_closes cfg st.AfterCr c = closes_either (c == 10) (st.StartRecord, act.Skip
 abbrev Leaves : List ℕ → Read → Type 0
 Leaves xs p = (length p.2 ≤ length xs) × (ends_at_end p.1 ≡ false)
 
-same_read : (p q : Read) → ◌≡◌ {A = Option Read} (Some p) (Some q) → p ≡ q
-same_read p q e = cc
-
 leaves_at_end : (b : Bool) (fields : List (List ℕ)) (p : Read) → cond b (Some (fields, st.StartRecord, [])) None ≡ Some p → Leaves [] p
-leaves_at_end true fields p e = subst (Leaves []) (same_read (fields, st.StartRecord, []) p e) (omega arith, refl)
+leaves_at_end true fields p e = subst (Leaves []) (same_Some (fields, st.StartRecord, []) p e) (omega arith, refl)
 leaves_at_end false fields p e = absurd cc
 
 leaves_either : (rest : List ℕ) (b : Bool) (q : Read) (o : Option Read) (p : Read) → (b ≡ true → Leaves rest q) → ((r : Read) → o ≡ Some r → Leaves rest r) → cond b (Some q) o ≡ Some p → Leaves rest p
-leaves_either rest true q o p at_end later e = subst (Leaves rest) (same_read q p e) (at_end refl)
+leaves_either rest true q o p at_end later e = subst (Leaves rest) (same_Some q p e) (at_end refl)
 leaves_either rest false q o p at_end later e = later p e
 
 pub leaves : (cfg : Config) (s : State) (fields : List (List ℕ)) (field xs : List ℕ) (p : Read) → next_record cfg s fields field xs ≡ Some p → Leaves xs p

@@ -3,6 +3,7 @@ use Rattle.std.proofs.Common.{◌≡◌, ℕ, zero, suc, ◌+◌, ◌≤◌, Boo
 use Rattle.std.specs.Prelude.{All}
 use Rattle.std.specs.List.{AllByRecursion}
 use Rattle.std.proofs.lemmas.List.Elements.{All-from_recursion, All-nil, All-cons}
+use Rattle.std.proofs.lemmas.Option.{same_Some}
 use Rattle.csv.specs.Machine.{Read, next_record, step, is_end, ends_at_end, fields_after, field_after}
 use Rattle.csv.specs.Reading.{records_from, records_next, default_config, is_bom, strip_bom}
 use Rattle.csv.specs.declared.parser.Config.{Config}
@@ -37,15 +38,12 @@ one_byte act.EndRecord c field = omega arith
 abbrev ShortRead : ℕ → List ℕ → Read → Type 0
 ShortRead n xs p = Short n p.0 × (length p.2 ≤ length xs)
 
-same_read : (p q : Read) → ◌≡◌ {A = Option Read} (Some p) (Some q) → p ≡ q
-same_read p q e = cc
-
 at_end : (n : ℕ) (b : Bool) (q p : Read) → ShortRead n [] q → cond b (Some q) None ≡ Some p → ShortRead n [] p
-at_end n true q p short e = subst (ShortRead n []) (same_read q p e) short
+at_end n true q p short e = subst (ShortRead n []) (same_Some q p e) short
 at_end n false q p short e = absurd cc
 
 ends_or_goes_on : (n : ℕ) (rest : List ℕ) (b : Bool) (q : Read) (o : Option Read) (p : Read) → ShortRead n rest q → ((r : Read) → o ≡ Some r → ShortRead n rest r) → cond b (Some q) o ≡ Some p → ShortRead n rest p
-ends_or_goes_on n rest true q o p ended later e = subst (ShortRead n rest) (same_read q p e) ended
+ends_or_goes_on n rest true q o p ended later e = subst (ShortRead n rest) (same_Some q p e) ended
 ends_or_goes_on n rest false q o p ended later e = later p e
 
 next_short : (cfg : Config) (n : ℕ) (s : State) (fields : List (List ℕ)) (field xs : List ℕ) (p : Read) → Short n fields → length field + length xs ≤ n → next_record cfg s fields field xs ≡ Some p → ShortRead n xs p

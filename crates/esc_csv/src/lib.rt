@@ -3,11 +3,11 @@
 //! # In and out
 //!
 //! `Records` takes the bytes of a text and gives its records, one at a time. A record is a list of
-//! fields, each of them bytes: commas stand between fields, a line ends a record, and a field in
+//! fields, each of them bytes: commas separate fields, a line ends a record, and a field in
 //! double quotes may hold any of these, a quote in it twice. Records may have any numbers of
 //! fields. Empty lines are no records, nothing is trimmed, no record is a heading, and a byte order
 //! mark at the start of a text is dropped. Every text has its records: what isn't right in one is
-//! for the caller to say.
+//! the caller's to test.
 //!
 //! `Lines` takes records and gives the text of their lines: each is ended by LF, and a field has
 //! quotes only where it needs them.
@@ -37,13 +37,13 @@
 //! order mark would lose it. `fields_are_no_longer_than_the_text`, another, bounds each field by
 //! the text.
 //!
-//! Where memory is refused a call answers `NoMemory`. From then on `Records` has no record, and
-//! `Lines` answers `NoMemory`.
+//! Out of memory, a call returns `NoMemory`. From then on `Records` has no record, and `Lines`
+//! returns `NoMemory`.
 //!
 //! # Cost
 //!
 //! One pass over a text. `next` fills the record that it is given, so its memory is used again.
-//! `Lines` takes memory for its text alone.
+//! `Lines` allocates for its text alone.
 #![tactic(auto)]
 
 mod laws;

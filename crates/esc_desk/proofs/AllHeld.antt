@@ -1,5 +1,5 @@
 -- With no collision, what is held by the distinct arrivals is held by all; and a manifest and its arrivals.
-use Rattle.std.proofs.Common.{◌≡◌, inl, inr, ℕ, Bool, true, false, cond, ◌||◌, List, [], ◌∷◌, ◌++◌, Option, Some, None, option_map, Result, Ok, Err, map, refl, sym, ap, ap₂, subst, subst₂, ◌∙◌, true≢false, get_or}
+use Rattle.std.proofs.Common.{◌≡◌, inl, inr, ℕ, Bool, true, false, cond, not, filter, ◌||◌, List, [], ◌∷◌, Option, Some, None, option_map, Result, Ok, Err, map, refl, sym, ap, ap₂, subst, subst₂, ◌∙◌, true≢false, get_or}
 use Rattle.std.specs.List.{list_any, find}
 use Rattle.std.specs.Str.{bytes_eq}
 use Rattle.std.specs.FinSet as set
@@ -17,7 +17,7 @@ use Rattle.esc_desk.specs.declared.finding.Finding.TheVariants.{Differing, Holdi
 use Rattle.esc_desk.specs.ArrivalValue.{ArrivalValue}
 use Rattle.esc_desk.specs.Events.{EventValue, Coming, union, coming, comings, arrival_of, manifest_then}
 use Rattle.esc_desk.specs.Finding.{finding, found_at, row_of, held_row}
-use Rattle.esc_desk.specs.Receipts.{alike, is_row, holds, holds_row, distinct, distinct_after, receipts_after}
+use Rattle.esc_desk.specs.Receipts.{alike, is_row, holds, holds_row, distinct, receipts_after}
 use Rattle.esc_desk.specs.Stands.{rows_by, body_by, StandsFor}
 use Rattle.esc_desk.specs.AllArrivals.{Among, IsApart, IsListedAtOnce, RowsAreOfAll, BodiesAreOfAll, TablesAreOfAll, StandsForArrivals, IsForManifestAndArrivals}
 use Rattle.esc_desk.proofs.EventLemmas.{union_then, comings_then}
@@ -44,7 +44,7 @@ one_of p (b ∷ l) e = by_test (p b) refl e (one_of p l)
     by_test false is e rest = let x = rest e in (x.0, inr x.1, x.2)
 
 -- the first that passes is one of the list, and passes
-first_of : (p : Coming → Bool) (l : List Coming) (y : Coming) → find p l ≡ Some y → Among l y × (p y ≡ true)
+pub first_of : (p : Coming → Bool) (l : List Coming) (y : Coming) → find p l ≡ Some y → Among l y × (p y ≡ true)
 first_of p [] y e = absurd (cc)
 first_of p (b ∷ l) y e = by_test (p b) refl e (first_of p l y)
   where
@@ -55,6 +55,15 @@ first_of p (b ∷ l) y e = by_test (p b) refl e (first_of p l y)
     by_test : (t : Bool) → p b ≡ t → cond t (Some b) (find p l) ≡ Some y → (find p l ≡ Some y → Among l y × (p y ≡ true)) → Among (b ∷ l) y × (p y ≡ true)
     by_test true is e rest = (inl (sym (ap item e)), ap p (sym (ap item e)) ∙ is)
     by_test false is e rest = let x = rest e in (inr x.0, x.1)
+
+passed_among : (p : Coming → Bool) (l : List Coming) (a : Coming) → Among (filter p l) a → Among l a
+passed_among p [] a among = among
+passed_among p (b ∷ l) a among = by_test (p b) among (passed_among p l a)
+  where
+    by_test : (t : Bool) → Among (cond t (b ∷ filter p l) (filter p l)) a → (Among (filter p l) a → Among l a) → Among (b ∷ l) a
+    by_test true (inl is) rest = inl is
+    by_test true (inr there) rest = inr (rest there)
+    by_test false there rest = inr (rest there)
 
 same_bool : (a b : Bool) → (a ≡ true → b ≡ true) → (b ≡ true → a ≡ true) → a ≡ b
 same_bool true true f g = refl
@@ -72,18 +81,14 @@ row_found m r (Some q) (Ok d) is = by_test _ is
     by_test true same = ap Some (same_number q r same)
     by_test false none = absurd (true≢false (sym none))
 
-digest_of_row : (m : List MRow) (r : ℕ) (digest : List ℕ) → row_of m digest ≡ Some r → (get_or m r no_row).digest ≡ digest
+pub digest_of_row : (m : List MRow) (r : ℕ) (digest : List ℕ) → row_of m digest ≡ Some r → (get_or m r no_row).digest ≡ digest
 digest_of_row m r digest is = (bytes_decides (get_or m r no_row).digest digest).0 (position-Some (λ (row : MRow). bytes_eq row.digest digest) m r no_row is).1
 
 module _ (digest : List ℕ → List ℕ) (reads : List ℕ → Result DepositValue ℕ) where
-  distinct_among : (e l : List Coming) (a : Coming) → Among (distinct_after digest reads e l) a → Among l a
-  distinct_among e [] a among = among
-  distinct_among e (b ∷ l) a among = by_test (list_any (alike digest reads b) e) among (distinct_among (e ++ b ∷ []) l a)
-    where
-      by_test : (t : Bool) → Among (cond t (distinct_after digest reads (e ++ b ∷ []) l) (b ∷ distinct_after digest reads (e ++ b ∷ []) l)) a → (Among (distinct_after digest reads (e ++ b ∷ []) l) a → Among l a) → Among (b ∷ l) a
-      by_test true among rest = inr (rest among)
-      by_test false (inl is) rest = inl is
-      by_test false (inr there) rest = inr (rest there)
+  pub distinct_among : (l : List Coming) (a : Coming) → Among (distinct digest reads l) a → Among l a
+  distinct_among [] a among = among
+  distinct_among (b ∷ l) a (inl is) = inl is
+  distinct_among (b ∷ l) a (inr there) = inr (distinct_among l a (passed_among (λ x. not (alike digest reads b x)) (distinct digest reads l) a there))
 
   -- no two different bodies of the list have one digest, and all came while the same rows were listed
   module _ (l : List Coming) (apart : (a b : Coming) → Among l a → Among l b → digest a.body ≡ digest b.body → a.body ≡ b.body)
@@ -92,14 +97,14 @@ module _ (digest : List ℕ → List ℕ) (reads : List ℕ → Result DepositVa
     same_any r = same_bool _ _ down up
       where
         down : list_any (holds digest reads r) (distinct digest reads l) ≡ true → list_any (holds digest reads r) l ≡ true
-        down e = let x = one_of (holds digest reads r) (distinct digest reads l) e in any_of (holds digest reads r) l x.0 (distinct_among [] l x.0 x.1) x.2
+        down e = let x = one_of (holds digest reads r) (distinct digest reads l) e in any_of (holds digest reads r) l x.0 (distinct_among l x.0 x.1) x.2
 
         up : list_any (holds digest reads r) l ≡ true → list_any (holds digest reads r) (distinct digest reads l) ≡ true
         up e =
             let x = one_of (holds digest reads r) l e in
-            let like : list_any (alike digest reads x.0) (distinct digest reads l) ≡ true = sym (any_alike digest reads [] l x.0) ∙ any_of (alike digest reads x.0) l x.0 x.1 ((alike_laws digest reads).refl x.0) in
+            let like : list_any (alike digest reads x.0) (distinct digest reads l) ≡ true = sym (any_alike digest reads l x.0) ∙ any_of (alike digest reads x.0) l x.0 x.1 ((alike_laws digest reads).refl x.0) in
             let y = one_of (alike digest reads x.0) (distinct digest reads l) like in
-            let there = distinct_among [] l y.0 y.1 in
+            let there = distinct_among l y.0 y.1 in
             let digests : digest x.0.body ≡ digest y.0.body = (bytes_decides (digest x.0.body) (digest y.0.body)).0 (both (bytes_eq x.0.number y.0.number) (bytes_eq (digest x.0.body) (digest y.0.body)) y.2).1 in
             let bodies : x.0.body ≡ y.0.body = apart x.0 y.0 x.1 there digests in
             any_of (holds digest reads r) (distinct digest reads l) y.0 y.1 (ap₂ (λ (m : List MRow) (b : List ℕ). holds_row r (finding digest reads m b)) (sym (at_once x.0 y.0 x.1 there)) (sym bodies) ∙ x.2)
@@ -117,12 +122,12 @@ module _ (digest : List ℕ → List ℕ) (reads : List ℕ → Result DepositVa
         by_find None none = absurd (true≢false (sym (same_any r ∙ any_of (holds digest reads r) l a among is) ∙ find_none (holds digest reads r) (distinct digest reads l) none))
         by_find (Some y) here =
             let first = first_of (holds digest reads r) (distinct digest reads l) y here in
-            let there = distinct_among [] l y first.0 in
+            let there = distinct_among l y first.0 in
             ap Some (apart y a there among (sym (digest_is y first.1) ∙ ap (λ (m : List MRow). (get_or m r no_row).digest) (at_once y a there among) ∙ digest_is a is))
 
 -- ---- of events
 
-among_arrivals : (l : List Coming) (c : Coming) → Among l c → Among (map arrival_of l) (arrival_of c)
+pub among_arrivals : (l : List Coming) (c : Coming) → Among l c → Among (map arrival_of l) (arrival_of c)
 among_arrivals [] c there = there
 among_arrivals (b ∷ l) c (inl is) = inl (ap arrival_of is)
 among_arrivals (b ∷ l) c (inr there) = inr (among_arrivals l c there)

@@ -53,7 +53,7 @@ module _ (digest : List ℕ → List ℕ) (reads : List ℕ → Result DepositVa
   -- one more of the arrivals is alike an earlier one
   module _ (l : List Coming) (c : Coming) (was : list_any (alike digest reads c) l ≡ true) where
     one_more_seen : distinct digest reads (l ++ c ∷ []) ≡ distinct digest reads l
-    one_more_seen = distinct-push digest reads [] l c ∙ ap (λ b. cond b (distinct digest reads l) (distinct digest reads l ++ c ∷ [])) was
+    one_more_seen = distinct-push digest reads l c ∙ ap (λ b. cond b (distinct digest reads l) (distinct digest reads l ++ c ∷ [])) was
 
     any_with : (x : Coming) → list_any (alike digest reads x) (l ++ c ∷ []) ≡ list_any (alike digest reads x) l
     any_with x = list_any-append (alike digest reads x) l (c ∷ []) ∙ by_test (alike digest reads x c) refl
@@ -65,13 +65,13 @@ module _ (digest : List ℕ → List ℕ) (reads : List ℕ → Result DepositVa
     -- with another behind it
     two_more_seen : (x : Coming) → distinct digest reads ((l ++ c ∷ []) ++ x ∷ []) ≡ distinct digest reads (l ++ x ∷ [])
     two_more_seen x =
-        distinct-push digest reads [] (l ++ c ∷ []) x
+        distinct-push digest reads (l ++ c ∷ []) x
         ∙ ap₂ (λ (b : Bool) (d : List Coming). cond b d (d ++ x ∷ [])) (any_with x) one_more_seen
-        ∙ sym (distinct-push digest reads [] l x)
+        ∙ sym (distinct-push digest reads l x)
 
   seen : (e : List EventValue) (a : ArrivalValue) (r : ReplyValue) → reply_to digest reads e a ≡ Some r → list_any (alike digest reads (coming (union e) a)) (comings e) ≡ true
   seen e a r told =
-      any_alike digest reads [] (comings e) (coming (union e) a)
+      any_alike digest reads (comings e) (coming (union e) a)
       ∙ (sym (kept_any digest reads [] (distinct digest reads (comings e)) (coming (union e) a)) ∙ some_alike (union e) a.number (digest a.body) 1 (receipts_of digest reads e) r told)
 
   module _ (e : List EventValue) (a : ArrivalValue) (was : list_any (alike digest reads (coming (union e) a)) (comings e) ≡ true) where

@@ -1,17 +1,16 @@
 -- One more arrival, in the list of distinct ones and their receipts.
-use Rattle.std.proofs.Common.{◌≡◌, ℕ, suc, Bool, true, false, cond, ◌&&◌, ◌||◌, List, [], ◌∷◌, ◌++◌, length, Result, refl, sym, ap, ap₂, ◌∙◌, append_assoc, append-nil, true≢false}
+use Rattle.std.proofs.Common.{◌≡◌, ℕ, suc, Bool, true, false, cond, not, filter, ◌&&◌, ◌||◌, List, [], ◌∷◌, ◌++◌, length, Result, refl, sym, ap, ap₂, ◌∙◌, append_assoc, append-nil, true≢false}
 use Rattle.std.specs.List.{list_any}
 use Rattle.std.specs.Str.{bytes_eq}
 use Rattle.std.specs.Cmp.{IsEquivalence}
 use Rattle.std.specs.Cmp.Lexicographic.{nat_list_eq_equiv}
-use Rattle.std.proofs.lemmas.List.Folds.{list_any-append}
-use Rattle.std.proofs.lemmas.Map.Steps.{list_any_congr}
+use Rattle.std.proofs.lemmas.List.Elements.{filter-append}
 use Rattle.esc_tables.specs.DepositValue.{DepositValue}
 use Rattle.esc_desk.specs.declared.finding.Finding.{Finding}
 use Rattle.esc_desk.specs.declared.finding.Finding.TheVariants.{Unlisted, Unreadable, Differing, Holding}
 use Rattle.esc_desk.specs.Events.{Coming}
 use Rattle.esc_store.specs.ReplyValue.{ReceiptValue, is_alike}
-use Rattle.esc_desk.specs.Receipts.{receipt_by, found_then, alike, distinct_after, receipt_for, receipts_after}
+use Rattle.esc_desk.specs.Receipts.{receipt_by, found_then, alike, distinct, receipt_for, receipts_after}
 
 -- ---- laws of alike
 pub both : (a b : Bool) → (a && b) ≡ true → (a ≡ true) × (b ≡ true)
@@ -27,49 +26,51 @@ module _ (digest : List ℕ → List ℕ) (reads : List ℕ → Result DepositVa
     congr = λ a b d e. let p = both _ _ e in ap₂ (λ x y. x && y) (nat_list_eq_equiv.congr a.number b.number d.number p.0) (nat_list_eq_equiv.congr (digest a.body) (digest b.body) (digest d.body) p.1);
   }
 
+  -- what is not like b is like one of a list exactly if it is like one of those that aren't like b
+  any_unlike : (a b : Coming) → alike digest reads a b ≡ false → (l : List Coming) → list_any (alike digest reads a) l ≡ list_any (alike digest reads a) (filter (λ x. not (alike digest reads b x)) l)
+  any_unlike a b other [] = refl
+  any_unlike a b other (x ∷ l) = by_test (alike digest reads b x) refl (any_unlike a b other l)
+    where
+      others : List Coming
+      others = filter (λ y. not (alike digest reads b y)) l
+
+      unlike : alike digest reads b x ≡ true → alike digest reads a x ≡ false
+      unlike like = alike_laws.symm a x ∙ sym (alike_laws.congr b x a like) ∙ alike_laws.symm b a ∙ other
+
+      by_test : (t : Bool) → alike digest reads b x ≡ t → list_any (alike digest reads a) l ≡ list_any (alike digest reads a) others
+          → (alike digest reads a x || list_any (alike digest reads a) l) ≡ list_any (alike digest reads a) (cond (not t) (x ∷ others) others)
+      by_test true like rest = ap (λ s. s || list_any (alike digest reads a) l) (unlike like) ∙ rest
+      by_test false is rest = ap (λ s. alike digest reads a x || s) rest
+
   -- an arrival is like one of a list exactly if it is like one of the distinct ones
-  pub any_alike : (e l : List Coming) (a : Coming) → list_any (alike digest reads a) (e ++ l) ≡ (list_any (alike digest reads a) e || list_any (alike digest reads a) (distinct_after digest reads e l))
-  any_alike e [] a = ap (list_any (alike digest reads a)) (append-nil e) ∙ or_false _
+  pub any_alike : (l : List Coming) (a : Coming) → list_any (alike digest reads a) l ≡ list_any (alike digest reads a) (distinct digest reads l)
+  any_alike [] a = refl
+  any_alike (b ∷ l) a = ap (λ s. alike digest reads a b || s) (any_alike l a) ∙ by_test (alike digest reads a b) refl
     where
-      or_false : (b : Bool) → b ≡ (b || false)
-      or_false true = refl
-      or_false false = refl
-  any_alike e (b ∷ l) a =
-      ap (list_any (alike digest reads a)) (sym (append_assoc e (b ∷ []) l))
-      ∙ any_alike (e ++ b ∷ []) l a
-      ∙ ap (λ x. x || list_any (alike digest reads a) (distinct_after digest reads (e ++ b ∷ []) l)) (list_any-append (alike digest reads a) e (b ∷ []))
-      ∙ by_seen (list_any (alike digest reads b) e) refl (alike digest reads a b) refl
-    where
-      there : (list_any (alike digest reads b) e ≡ true) → alike digest reads a b ≡ true → list_any (alike digest reads a) e ≡ true
-      there seen same = list_any_congr alike_laws a b e same ∙ seen
-
-      or_false : (x : Bool) (y : Bool) → ((x || (false || false)) || y) ≡ (x || y)
-      or_false true y = refl
-      or_false false y = refl
-
-      or_assoc : (x y z : Bool) → ((x || (y || false)) || z) ≡ (x || (y || z))
-      or_assoc true y z = refl
-      or_assoc false true z = refl
-      or_assoc false false z = refl
-
-      by_seen : (t : Bool) → list_any (alike digest reads b) e ≡ t → (s : Bool) → alike digest reads a b ≡ s
-          → ((list_any (alike digest reads a) e || (s || false)) || list_any (alike digest reads a) (distinct_after digest reads (e ++ b ∷ []) l)) ≡ (list_any (alike digest reads a) e || list_any (alike digest reads a) (cond t (distinct_after digest reads (e ++ b ∷ []) l) (b ∷ distinct_after digest reads (e ++ b ∷ []) l)))
-      by_seen true p true q = rw (there p q) refl
-      by_seen true p false q = or_false (list_any (alike digest reads a) e) (list_any (alike digest reads a) (distinct_after digest reads (e ++ b ∷ []) l))
-      by_seen false p s q = or_assoc (list_any (alike digest reads a) e) s (list_any (alike digest reads a) (distinct_after digest reads (e ++ b ∷ []) l)) ∙ ap (λ y. list_any (alike digest reads a) e || (y || list_any (alike digest reads a) (distinct_after digest reads (e ++ b ∷ []) l))) (sym q)
+      by_test : (t : Bool) → alike digest reads a b ≡ t
+          → (t || list_any (alike digest reads a) (distinct digest reads l)) ≡ (t || list_any (alike digest reads a) (filter (λ x. not (alike digest reads b x)) (distinct digest reads l)))
+      by_test true like = refl
+      by_test false other = any_unlike a b other (distinct digest reads l)
 
   -- one more arrival is one more distinct one, or none
-  pub distinct-push : (e l : List Coming) (a : Coming) → distinct_after digest reads e (l ++ a ∷ []) ≡ cond (list_any (alike digest reads a) (e ++ l)) (distinct_after digest reads e l) (distinct_after digest reads e l ++ a ∷ [])
-  distinct-push e [] a = ap (λ (x : List Coming). cond (list_any (alike digest reads a) x) [] (a ∷ [])) (sym (append-nil e))
-  distinct-push e (b ∷ l) a =
-      ap (λ (x : List Coming). cond (list_any (alike digest reads b) e) x (b ∷ x)) (distinct-push (e ++ b ∷ []) l a ∙ ap (λ (x : List Coming). cond (list_any (alike digest reads a) x) (distinct_after digest reads (e ++ b ∷ []) l) (distinct_after digest reads (e ++ b ∷ []) l ++ a ∷ [])) (append_assoc e (b ∷ []) l))
-      ∙ by_tests (list_any (alike digest reads b) e) (list_any (alike digest reads a) (e ++ b ∷ l)) _
+  pub distinct-push : (l : List Coming) (a : Coming) → distinct digest reads (l ++ a ∷ []) ≡ cond (list_any (alike digest reads a) l) (distinct digest reads l) (distinct digest reads l ++ a ∷ [])
+  distinct-push [] a = refl
+  distinct-push (b ∷ l) a = ap (λ (x : List Coming). b ∷ unlike x) (distinct-push l a) ∙ by_tests (alike digest reads a b) refl (list_any (alike digest reads a) l)
     where
-      by_tests : (t u : Bool) (x : List Coming) → cond t (cond u x (x ++ a ∷ [])) (b ∷ cond u x (x ++ a ∷ [])) ≡ cond u (cond t x (b ∷ x)) (cond t x (b ∷ x) ++ a ∷ [])
-      by_tests true true x = refl
-      by_tests true false x = refl
-      by_tests false true x = refl
-      by_tests false false x = refl
+      unlike : List Coming → List Coming
+      unlike x = filter (λ y. not (alike digest reads b y)) x
+
+      before : List Coming
+      before = distinct digest reads l
+
+      pushed : (t : Bool) → alike digest reads a b ≡ t → unlike (before ++ a ∷ []) ≡ unlike before ++ cond (not t) (a ∷ []) []
+      pushed t is = filter-append (λ y. not (alike digest reads b y)) before (a ∷ []) ∙ ap (λ s. unlike before ++ cond (not s) (a ∷ []) []) (alike_laws.symm b a ∙ is)
+
+      by_tests : (t : Bool) → alike digest reads a b ≡ t → (u : Bool) → (b ∷ unlike (cond u before (before ++ a ∷ []))) ≡ cond (t || u) (b ∷ unlike before) (b ∷ unlike before ++ a ∷ [])
+      by_tests true is true = refl
+      by_tests true is false = ap (λ (x : List Coming). b ∷ x) (pushed true is ∙ append-nil (unlike before))
+      by_tests false is true = refl
+      by_tests false is false = ap (λ (x : List Coming). b ∷ x) (pushed false is)
 
   -- ---- receipts
   pub receipts-push : (before ds : List Coming) (a : Coming) → receipts_after digest reads before (ds ++ a ∷ []) ≡ receipts_after digest reads before ds ++ receipt_for digest reads (before ++ ds) a ∷ []

@@ -12,6 +12,7 @@ pub mod PlanLemmas
 pub mod ReadLemmas
 pub mod Remembering
 pub mod RunLemmas
+pub mod SameHeld
 pub mod Searches
 pub mod StoreFacts
 pub mod TakingIn

@@ -33,7 +33,7 @@ with_row_same h (Some q) there = set.same_set nat_cmp_total nat_cmp-IsAntisymmet
 module _ (digest : List ℕ → List ℕ) (reads : List ℕ → Result DepositValue ℕ) where
   -- whether an arrival of the list is alike, by the receipts
   any_kept : (l : List Coming) (c : Coming) → list_any (alike digest reads c) l ≡ list_any (is_alike c.number (digest c.body)) (receipts_after digest reads [] (distinct digest reads l))
-  any_kept l c = any_alike digest reads [] l c ∙ sym (kept_any digest reads [] (distinct digest reads l) c)
+  any_kept l c = any_alike digest reads l c ∙ sym (kept_any digest reads [] (distinct digest reads l) c)
 
   -- what a store stands for goes by the rows that are listed and by the distinct arrivals
   pub stands_as : (e f : List EventValue) (k : Kept) → union f ≡ union e → distinct digest reads (comings f) ≡ distinct digest reads (comings e) → StandsFor digest reads e k → StandsFor digest reads f k
@@ -59,7 +59,7 @@ module _ (digest : List ℕ → List ℕ) (reads : List ℕ → Result DepositVa
     pushed : after ≡ cond (list_any (is_alike a.number (digest a.body)) k.receipts) before (before ++ came ∷ [])
     pushed =
         ap (distinct digest reads) (comings-arrived e a)
-        ∙ distinct-push digest reads [] (comings e) came
+        ∙ distinct-push digest reads (comings e) came
         ∙ ap (λ b. cond b before (before ++ came ∷ [])) (any_kept (comings e) came ∙ ap (list_any (is_alike a.number (digest a.body))) (sym stood.receipts))
 
     -- the reply by receipts

@@ -21,7 +21,7 @@ use Rattle.esc_desk.proofs.Searches.{alike-front}
 use Rattle.esc_desk.proofs.Distinct.{distinct-push, receipts-push}
 
 receipts_grow : (e : List EventValue) (a : ArrivalValue) → (more : List ReceiptValue) × (receipts_of sha256 reading (e ++ arrived a ∷ []) ≡ receipts_of sha256 reading e ++ more)
-receipts_grow e a = by_test (list_any (alike sha256 reading came) (comings e)) (ap (receipts_after sha256 reading []) (ap (distinct sha256 reading) (comings-arrived e a) ∙ distinct-push sha256 reading [] (comings e) came))
+receipts_grow e a = by_test (list_any (alike sha256 reading came) (comings e)) (ap (receipts_after sha256 reading []) (ap (distinct sha256 reading) (comings-arrived e a) ∙ distinct-push sha256 reading (comings e) came))
   where
     came : Coming
     came = coming (union e) a

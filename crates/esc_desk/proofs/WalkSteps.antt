@@ -1,5 +1,5 @@
 -- What a walk is still to give, from call to call.
-use Rattle.std.proofs.Common.{◌≡◌, ℕ, suc, ◌-◌, ◌<◌, slice_get, Bool, true, false, cond, ◌||◌, List, [], ◌∷◌, ◌++◌, length, Option, Some, None, refl, sym, ap, subst, ◌∙◌, arith, true≢false}
+use Rattle.std.proofs.Common.{◌≡◌, ℕ, suc, ◌-◌, ◌<◌, slice_get, Bool, true, false, cond, not, filter, ◌||◌, List, [], ◌∷◌, ◌++◌, length, Option, Some, None, refl, sym, ap, subst, ◌∙◌, arith, true≢false}
 use Rattle.std.specs.List.{list_any}
 use Rattle.std.specs.Map.{lookup, keys_of}
 use Rattle.std.specs.Option.{is_some}
@@ -27,7 +27,7 @@ use Rattle.esc_store.specs.Pages.{IsPage, last_text}
 use Rattle.esc_desk.specs.declared.walk.Pages.{Pages}
 use Rattle.esc_desk.specs.Events.{EventValue, Coming, union, comings}
 use Rattle.esc_desk.specs.Finding.{row_of}
-use Rattle.esc_desk.specs.Receipts.{alike, holds, distinct, distinct_after}
+use Rattle.esc_desk.specs.Receipts.{alike, holds, distinct}
 use Rattle.esc_desk.specs.Stands.{held_rows}
 use Rattle.esc_desk.specs.Serving.{Serves}
 use Rattle.esc_desk.specs.Reads.{AreTables, tables_of}
@@ -52,18 +52,22 @@ any_in_range n r (c ∷ l) up is = by_test (holds sha256 reading r c) refl is (a
         omega (arith, at.0, up.0)
     by_test false there is more = more is
 
-distinct_up_to : (n : ℕ) (before l : List Coming) → HaveUpTo n l → HaveUpTo n (distinct_after sha256 reading before l)
-distinct_up_to n before [] up = tt
-distinct_up_to n before (c ∷ l) up = by_test (list_any (alike sha256 reading c) before) (distinct_up_to n (before ++ c ∷ []) l up.1)
+passed_up_to : (n : ℕ) (p : Coming → Bool) (l : List Coming) → HaveUpTo n l → HaveUpTo n (filter p l)
+passed_up_to n p [] up = tt
+passed_up_to n p (c ∷ l) up = by_test (p c) (passed_up_to n p l up.1)
   where
-    by_test : (b : Bool) → HaveUpTo n (distinct_after sha256 reading (before ++ c ∷ []) l) → HaveUpTo n (cond b (distinct_after sha256 reading (before ++ c ∷ []) l) (c ∷ distinct_after sha256 reading (before ++ c ∷ []) l))
-    by_test true rest = rest
-    by_test false rest = (up.0, rest)
+    by_test : (b : Bool) → HaveUpTo n (filter p l) → HaveUpTo n (cond b (c ∷ filter p l) (filter p l))
+    by_test true rest = (up.0, rest)
+    by_test false rest = rest
+
+distinct_up_to : (n : ℕ) (l : List Coming) → HaveUpTo n l → HaveUpTo n (distinct sha256 reading l)
+distinct_up_to n [] up = tt
+distinct_up_to n (c ∷ l) up = (up.0, passed_up_to n (λ x. not (alike sha256 reading c x)) (distinct sha256 reading l) (distinct_up_to n l up.1))
 
 pub held_in_range : (e : List EventValue) → InRange (union e) (held_rows sha256 reading e)
 held_in_range e r held =
     let ds = distinct sha256 reading (comings e) in
-    any_in_range (length (union e)) r ds (distinct_up_to (length (union e)) [] (comings e) (came_with_listed e)) (sym (contains_held sha256 reading ds r) ∙ held)
+    any_in_range (length (union e)) r ds (distinct_up_to (length (union e)) (comings e) (came_with_listed e)) (sym (contains_held sha256 reading ds r) ∙ held)
 
 -- ---- the page at hand
 

@@ -5,7 +5,6 @@ use Rattle.sha2.specs.Sha256.{sha256}
 use Rattle.esc_tables.specs.Reading.{reading}
 use Rattle.esc_manifest.specs.declared.row.MRow.{MRow}
 use Rattle.esc_chain.specs.Chain.{Rows, IsLatestChain}
-use Rattle.esc_apply.specs.Images.{chain_state}
 use Rattle.esc_apply.specs.Tables.{tables}
 use Rattle.esc_store.specs.Kept.{Kept}
 use Rattle.esc_desk.specs.ArrivalValue.{ArrivalValue}
@@ -18,8 +17,15 @@ use Rattle.esc_desk.specs.Events.{
   arrivals,
   manifest_then,
 }
-use Rattle.esc_desk.specs.Receipts.{distinct, holds, receipts_after}
-use Rattle.esc_desk.specs.Stands.{deposits_of, rows_by, body_by, held_rows, held_body, StandsFor}
+use Rattle.esc_desk.specs.Receipts.{distinct, holds}
+use Rattle.esc_desk.specs.Stands.{
+  deposits_of,
+  rows_by,
+  held_rows,
+  held_body,
+  IsLeftBy,
+  StandsFor,
+}
 
 -- it is one of the list
 abbrev pub Among : {X : Type 0} → List X → X → Type 0
@@ -71,15 +77,9 @@ TablesAreOfAll = OfAll (λ e. (k : Kept) → StandsFor sha256 reading e k → Ho
 abbrev pub distinct_of : List MRow → List ArrivalValue → List Coming
 distinct_of m l = distinct sha256 reading (map (coming m) l)
 
--- what a store holds that stands for a manifest and a list of arrivals: the manifest's rows, the
--- receipts and bodies that the arrivals leave, the rows of the latest chain of the held deposits,
--- and that chain's tables and before-images
-pub record StandsForArrivals (m : List MRow) (l : List ArrivalValue) (k : Kept) : Type 0 where
-  pub listed : k.listed ≡ m
-  pub receipts : k.receipts ≡ receipts_after sha256 reading [] (distinct_of m l)
-  pub bodies : (r : ℕ) → k.bodies r ≡ body_by sha256 reading (distinct_of m l) r
-  pub chain : IsLatestChain m (rows_by sha256 reading (distinct_of m l)) k.steps
-  pub registry : k.registry ≡ chain_state (deposits_of reading k.bodies k.steps)
+-- the store holds what the manifest's rows and the distinct arrivals leave
+abbrev pub StandsForArrivals : List MRow → List ArrivalValue → Kept → Type 0
+StandsForArrivals m l k = IsLeftBy sha256 reading m (distinct_of m l) k
 
 -- that is what stands for the manifest and then the arrivals, as events
 abbrev pub IsForManifestAndArrivals : Type 0

@@ -69,10 +69,6 @@ module _ {S : Type 0} (g : Ghosts S) (old new : Desk S) where
     pub same : IsAsBefore g old.store new.store
     pub serves : ServesStill
 
-  -- the call did nothing
-  abbrev pub IsUntouched : Type 0
-  IsUntouched = new ≡ old
-
   -- the desk remembers what it did
   abbrev pub RemembersStill : Type 0
   RemembersStill = new.known ≡ old.known

@@ -12,6 +12,7 @@ pub mod Plans
 pub mod Reads
 pub mod Receipts
 pub mod Running
+pub mod SameHeld
 pub mod Serving
 pub mod Stands
 pub mod Taking

@@ -8,7 +8,8 @@ use Rattle.std.specs.Prelude.{
   ◌&&◌,
   ◌==◌,
   nat_eq,
-  if◌then◌else◌,
+  not,
+  filter,
   List,
   [],
   ◌∷◌,
@@ -87,16 +88,11 @@ module _ (digest : List ℕ → List ℕ) (reads : List ℕ → Result DepositVa
   abbrev pub alike : Coming → Coming → Bool
   alike a b = bytes_eq a.number b.number && bytes_eq (digest a.body) (digest b.body)
 
-  -- those that are like none before them, where `before` stood before all of them
-  abbrev pub distinct_after : List Coming → List Coming → List Coming
-  distinct_after before [] = []
-  distinct_after before (a ∷ l) =
-      if list_any (alike a) before then distinct_after (before ++ a ∷ []) l
-      else a ∷ distinct_after (before ++ a ∷ []) l
-
-  -- a list without each arrival that is like an earlier one
+  -- a list without each arrival that is like an earlier one: its first, and the distinct ones
+  -- behind it that aren't like that one
   abbrev pub distinct : List Coming → List Coming
-  distinct l = distinct_after [] l
+  distinct [] = []
+  distinct (a ∷ l) = a ∷ filter (λ b. not (alike a b)) (distinct l)
 
   -- what was found of a body when it came, by the rows that were listed then
   abbrev pub found_then : Coming → Finding

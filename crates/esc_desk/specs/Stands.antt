@@ -17,13 +17,14 @@ use Rattle.std.specs.Prelude.{
 use Rattle.std.specs.List.{find}
 use Rattle.std.specs.FinSet as set
 use Rattle.esc_tables.specs.DepositValue.{DepositValue}
+use Rattle.esc_manifest.specs.declared.row.MRow.{MRow}
 use Rattle.esc_manifest.specs.Rows.{no_row}
 use Rattle.esc_chain.specs.Chain.{Rows, IsLatestChain}
 use Rattle.esc_apply.specs.Images.{chain_state}
 use Rattle.esc_store.specs.Kept.{Kept}
 use Rattle.esc_desk.specs.Events.{EventValue, Coming, union, comings}
 use Rattle.esc_desk.specs.Finding.{held_row}
-use Rattle.esc_desk.specs.Receipts.{distinct, found_then, holds, receipts_of}
+use Rattle.esc_desk.specs.Receipts.{distinct, found_then, holds, receipts_after}
 
 -- stands where no body reads: a held body always reads
 abbrev pub no_deposit : DepositValue
@@ -75,11 +76,16 @@ module _ (digest : List ℕ → List ℕ) (reads : List ℕ → Result DepositVa
   abbrev pub held_body : List EventValue → ℕ → Option (List ℕ)
   held_body e = body_by (distinct digest reads (comings e))
 
-  -- the store holds the rows that are listed, the receipts and bodies that the arrivals leave, the
-  -- rows of the latest chain of the held deposits, and that chain's tables and before-images
-  pub record StandsFor (e : List EventValue) (k : Kept) : Type 0 where
-    pub listed : k.listed ≡ union e
-    pub receipts : k.receipts ≡ receipts_of digest reads e
-    pub bodies : (r : ℕ) → k.bodies r ≡ held_body e r
-    pub chain : IsLatestChain (union e) (held_rows e) k.steps
+  -- what listed rows and distinct arrivals leave: the rows, the receipts and bodies of the
+  -- arrivals, the rows of the latest chain of the held deposits, and that chain's tables and
+  -- before-images
+  pub record IsLeftBy (m : List MRow) (ds : List Coming) (k : Kept) : Type 0 where
+    pub listed : k.listed ≡ m
+    pub receipts : k.receipts ≡ receipts_after digest reads [] ds
+    pub bodies : (r : ℕ) → k.bodies r ≡ body_by ds r
+    pub chain : IsLatestChain m (rows_by ds) k.steps
     pub registry : k.registry ≡ chain_state (deposits_of reads k.bodies k.steps)
+
+  -- the store holds what the rows that are listed and the distinct arrivals leave
+  abbrev pub StandsFor : List EventValue → Kept → Type 0
+  StandsFor e k = IsLeftBy (union e) (distinct digest reads (comings e)) k

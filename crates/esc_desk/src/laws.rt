@@ -31,6 +31,9 @@ ghost use Rattle.esc_desk.specs.AllArrivals.{
   IsListedAtOnce,
   IsForManifestAndArrivals,
 };
+ghost use Rattle.esc_desk.specs.SameHeld.{SameHeldSameKept};
+
+use esc_chain::latest_chain_is_one;
 
 /// What a new store keeps stands for its manifest alone, so a desk over a new store serves that one
 /// event.
@@ -59,6 +62,15 @@ pub fn held_as_arrived()
     ensures bodies { BodiesAreOfAll }
     ensures tables { TablesAreOfAll }
 {}
+
+/// Two lists of events by which the same rows are listed and held leave the same chain, tables and
+/// before-images, in whatever order, however often and under whatever numbers the deposits came.
+/// It has the premise that no two different bodies of the two lists have the same digest.
+pub fn same_held_same_kept()
+    ensures { SameHeldSameKept }
+{
+    latest_chain_is_one();
+}
 
 /// The definitions at some lists of arrivals: a repeat has the first reply, the same body under
 /// another number is held again, and another body under the same number has a receipt of its own.

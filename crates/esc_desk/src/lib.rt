@@ -93,8 +93,8 @@ pub use arrival::Arrival;
 pub use desk::Desk;
 pub use esc_store::{N1, Number, Reply, SFault, Verdict, number};
 pub use laws::{
-    held_as_arrived, new_store_stands_for_its_manifest, stands_for_manifest_and_arrivals,
-    worked_replies,
+    held_as_arrived, new_store_stands_for_its_manifest, same_held_same_kept,
+    stands_for_manifest_and_arrivals, worked_replies,
 };
 pub use running::Outcome;
 pub use status::{End, Status};

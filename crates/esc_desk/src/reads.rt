@@ -1,10 +1,11 @@
 //! What a desk answers of its store.
 
-ghost use Rattle.std.specs.Prelude.{◌≡◌, ℕ, List, Ok, Some, length, option_map, IfOk};
+ghost use Rattle.std.specs.Prelude.{◌≡◌, ℕ, List, Ok, Some, length, option_map, IfOk, IfErr};
 ghost use Rattle.sha2.specs.Sha256.{sha256};
 ghost use Rattle.esc_tables.specs.DepositValue.{DepositValue};
 ghost use Rattle.esc_tables.specs.Reading.{reading};
 ghost use Rattle.esc_apply.specs.declared.front.Step.{Step};
+ghost use Rattle.esc_store.specs.Faults.{IsS1OrS2};
 ghost use Rattle.esc_store.specs.Kept.{Kept, AreHeld};
 ghost use Rattle.esc_store.specs.Standing.{Stands, IsHonest, IsAsBefore};
 ghost use Rattle.esc_desk.specs.Calls.{store_of, writes_of, OkOver, Stays};
@@ -48,6 +49,7 @@ impl<S: Alter> Desk<S> {
         ensures stays { Stays S.Store self.old self.new }
         ensures all { OkOver S.Store self.old self.new result
             (λ e replies. replies.items ≡ replies_of e) }
+        ensures cause { IfErr result IsS1OrS2 }
     {
         self.store.receipts(alloc)
     }
@@ -58,6 +60,7 @@ impl<S: Alter> Desk<S> {
         ensures stays { Stays S.Store self.old self.new }
         ensures rows { OkOver S.Store self.old self.new result
             (λ e rows. AreHeld (held_body sha256 reading e) rows.items) }
+        ensures cause { IfErr result IsS1OrS2 }
     {
         self.store.held_by_receipts(alloc)
     }
@@ -68,6 +71,7 @@ impl<S: Alter> Desk<S> {
         ensures stays { Stays S.Store self.old self.new }
         ensures objects { OkOver S.Store self.old self.new result
             (λ e objects. AreTables e objects.entries) }
+        ensures cause { IfErr result IsS1OrS2 }
     {
         self.store.tables(alloc)
     }
@@ -79,6 +83,7 @@ impl<S: Alter> Desk<S> {
         ensures stays { Stays S.Store self.old self.new }
         ensures end { OkOver S.Store self.old self.new result
             (λ e end. IsEnd e end) }
+        ensures cause { IfErr result IsS1OrS2 }
     {
         let steps = self.store.chain(alloc)?;
         match last_row(&steps) {
@@ -96,6 +101,7 @@ impl<S: Alter> Desk<S> {
         ensures stays { Stays S.Store self.old self.new }
         ensures status { OkOver S.Store self.old self.new result
             (λ e status. IsStatus e status) }
+        ensures cause { IfErr result IsS1OrS2 }
     {
         let receipts = self.store.receipt_count()?;
         let held = self.store.held_by_receipts(alloc)?;
@@ -155,6 +161,7 @@ fn stored_end<S: Alter>(store: &mut Store<S>, alloc: Global, row: usize) -> Resu
     ensures says { IsHonest S.Store store.new → (k : Kept) → Stands S.Store store.old k
         → IfOk result (λ end. (body : List ℕ) × (k.bodies row ≡ Some body) × ((d : DepositValue)
         → reading body ≡ Ok d → SaysEnd d end)) }
+    ensures cause { IfErr result IsS1OrS2 }
 {
     let Some(body) = store.body_of(alloc, row)? else {
         return Err(SFault::S1);

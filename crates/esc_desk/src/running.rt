@@ -6,7 +6,6 @@ ghost use Rattle.esc_desk.specs.Calls.{
   OkAfter,
   CrashAfter,
   WasHonest,
-  IsUntouched,
   DeskLeavesOutcome,
   DeskLeavesRun,
   writes_of,
@@ -62,7 +61,7 @@ impl<S: Alter> Desk<S> {
         ensures worked { OkAfter S.Store self.old self.new result
             (λ before outcomes. HasWorked before arrivals.now outcomes.items
             (writes_of self.old) (writes_of self.new)) }
-        ensures refused { OnErr result (IsUntouched S.Store self.old self.new) }
+        ensures refused { OnErr result (self.new ≡ self.old) }
         ensures honest { WasHonest S.Store self.old self.new }
     {
         // A proof knows that a count is below 2^64 where the body reads it.

@@ -1,9 +1,23 @@
 //! The objects of a desk's tables, one at a time.
 
-ghost use Rattle.std.specs.Prelude.{◌≡◌, ◌<◌, ◌++◌, ◌∷◌, [], List, Some, None, is_some, IfOk, OnOk};
+ghost use Rattle.std.specs.Prelude.{
+  ◌≡◌,
+  ◌<◌,
+  ◌++◌,
+  ◌∷◌,
+  [],
+  List,
+  Some,
+  None,
+  is_some,
+  IfOk,
+  IfErr,
+  OnOk,
+};
 ghost use Rattle.std.specs.Vec.Iter.{into_iter_items, into_iter_len};
 ghost use Rattle.std.specs.Borrow.{sem, RestsIfErr};
 ghost use Rattle.esc_apply.specs.Objects.{Entry};
+ghost use Rattle.esc_store.specs.Faults.{IsS1OrS2};
 ghost use Rattle.esc_store.specs.Standing.{IsHonest, IsAsBefore};
 ghost use Rattle.esc_desk.specs.Places.{first_kind, later_kind, kinds_left, IsPlaceBehind};
 ghost use Rattle.esc_desk.specs.Calls.{Over, OkOver, Rests};
@@ -55,6 +69,7 @@ impl<S: Alter> Desk<S> {
         ensures rests { IfOk result (λ walk. Rests S.Store self.old (desk_of walk)) }
         ensures lists { IfOk result (λ walk. Over S.Store self.old (desk_of walk)
             (λ e. ListsTables S.Store walk kind e)) }
+        ensures cause { IfErr result IsS1OrS2 }
     {
         let pages = self.first_page(alloc, kind)?;
         Ok(Walk { desk: self, pages })
@@ -66,6 +81,7 @@ impl<S: Alter> Desk<S> {
         ensures rests { Rests S.Store self.old self.new }
         ensures lists { OkOver S.Store self.old self.new result
             (λ e pages. ListsPages S.Store self.new.store pages kind e) }
+        ensures cause { IfErr result IsS1OrS2 }
     {
         latest_chain_is_one();
         let _rows = self.store.manifest().rows();
@@ -85,6 +101,7 @@ impl<S: Alter> Desk<S> {
             → AreToCome S.Store self.new.store pages.new es) }
         ensures full { OnOk result (into_iter_len pages.new.page ≡ 0
             → pages.new.kind ≡ None) }
+        ensures cause { IfErr result IsS1OrS2 }
     {
         while pages.page.len() == 0 {
             match pages.kind {
@@ -107,6 +124,7 @@ impl<S: Alter> Desk<S> {
             → AreToCome S.Store self.new.store pages.new es) }
         ensures nearer { OnOk result (into_iter_len pages.new.page ≡ 0
             → kinds_left pages.new.kind < kinds_left (Some kind)) }
+        ensures cause { IfErr result IsS1OrS2 }
     {
         let page = self
             .store
@@ -145,7 +163,9 @@ fn next_place(
     alone: bool,
     page: &[(Key, Object)],
 ) -> Result<(Option<Kind>, Vec<u8>), SFault>
-    ensures { IfOk result (λ place. IsPlaceBehind kind alone page.now place.0 place.1.items) }
+    ensures place { IfOk result
+        (λ place. IsPlaceBehind kind alone page.now place.0 place.1.items) }
+    ensures cause { IfErr result IsS1OrS2 }
 {
     match page.last() {
         Some(entry) => Ok((Some(kind), bytes_behind(alloc, entry.0.text.as_bytes())?)),
@@ -156,7 +176,8 @@ fn next_place(
 
 // The first bytes behind these: with a zero behind them.
 fn bytes_behind(alloc: Global, bytes: &[u8]) -> Result<Vec<u8>, SFault>
-    ensures { IfOk result (λ behind. behind.items ≡ bytes.now ++ 0 ∷ []) }
+    ensures behind { IfOk result (λ behind. behind.items ≡ bytes.now ++ 0 ∷ []) }
+    ensures cause { IfErr result IsS1OrS2 }
 {
     let mut behind = Vec::from_slice(alloc, bytes)?;
     behind.push(0)?;

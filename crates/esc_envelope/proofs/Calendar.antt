@@ -58,7 +58,8 @@ month_is_at (suc count) year first n some ends before =
           rw later (record { low = omega (arith, rest.low); high = rest.high; inside = rest.inside; same = omega (arith, rest.same, start, more, past) })
     ]
 
-last_day : day_count (pos 2262) 1 1 ≡ 4_478_604
+-- 1 January 2262
+pub last_day : day_count (pos 2262) 1 1 ≡ 4_478_604
 unfolding day_count days_of_years days_of_months
 last_day = refl
 

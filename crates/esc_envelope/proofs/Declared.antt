@@ -6,42 +6,29 @@ use Rattle.std.specs.Str.{bytes_eq}
 use Rattle.std.proofs.lemmas.Bool.Decides.{nat_tests}
 use Rattle.std.proofs.lemmas.List.Elements.{All-nil, All-cons}
 use Rattle.std.proofs.lemmas.List.Quantifiers.{position-Some}
+use Rattle.std.proofs.lemmas.Bool.{and_parts}
+use Rattle.std.proofs.lemmas.Option.{same_Some}
 use Rattle.serde_json.specs.Data.{Data}
 use Rattle.serde_json.specs.Find.{get, as_str}
 use Rattle.esc_envelope.specs.EnvelopeValue.{TableValue}
 use Rattle.esc_envelope.specs.Id.{is_id}
 use Rattle.esc_envelope.specs.Members.{text_at, array_in, if_id}
+use Rattle.esc_envelope.specs.StepLaws.{Bound, bound}
 use Rattle.esc_envelope.specs.Steps.{◌>>=◌}
 use Rattle.esc_envelope.specs.Tables.{all_of, are_distinct, is_name, if_name, name_of, kind_of, parent_of, field_of, if_distinct, fields_in, fields_of, place_of, key_of, IsTable, table_of, have_distinct_names, have_one_parent, AreContents, AreDeletes, if_contents, if_deletes, contents_in, deletes_in}
 
 -- ---- one step after another
 
-pub record Bound {A B : Type 0} (o : Option A) (f : A → Option B) (y : B) : Type 0 where
-  pub it : A
-  pub was : o ≡ Some it
-  pub goes : f it ≡ Some y
-
-pub bound : {A B : Type 0} (o : Option A) (f : A → Option B) (y : B) → (o >>= f) ≡ Some y → Bound o f y
-bound None f y h = absurd cc
-bound (Some x) f y h = record { it = x; was = refl; goes = h }
-
 then_bound : {A B : Type 0} (o : Option A) (f : A → Option B) (y : B) → option_and_then f o ≡ Some y → Bound o f y
 then_bound None f y h = absurd cc
 then_bound (Some x) f y h = record { it = x; was = refl; goes = h }
-
-same_some : {A : Type 0} (x y : A) → Some x ≡ Some y → x ≡ y
-same_some x y h = cc
-
-both : (a b : Bool) → (a && b) ≡ true → (a ≡ true) × (b ≡ true)
-both true b h = (refl, h)
-both false b h = absurd cc
 
 -- what passes a test is given back
 abbrev Kept : {A : Type 0} → Bool → A → A → Type 0
 Kept b x y = (b ≡ true) × (x ≡ y)
 
 kept : {A : Type 0} (b : Bool) (x y : A) → cond b (Some x) None ≡ Some y → Kept b x y
-kept true x y h = (refl, same_some x y h)
+kept true x y h = (refl, same_Some x y h)
 kept false x y h = absurd cc
 
 kept_then : {A : Type 0} (b : Bool) (o : Option A) (y : A) → cond b o None ≡ Some y → (b ≡ true) × (o ≡ Some y)
@@ -53,12 +40,12 @@ kept_then false o y h = absurd cc
 -- what f makes of each has P, where f makes nothing else
 all_made : {A B : Type 0} (f : A → Option B) (P : B → Type 0) → ((x : A) (y : B) → f x ≡ Some y → P y) → (xs : List A) (ys : List B) → all_of f xs ≡ Some ys → (length ys ≡ length xs) × All P ys
 unfolding all_of
-all_made f P each [] ys h = let none : [] ≡ ys = same_some [] ys h in subst (λ zs. (length zs ≡ 0) × All P zs) none (refl, All-nil P)
+all_made f P each [] ys h = let none : [] ≡ ys = same_Some [] ys h in subst (λ zs. (length zs ≡ 0) × All P zs) none (refl, All-nil P)
 all_made f P each (x ∷ xs) ys h =
     let first = bound (f x) (λ y. all_of f xs >>= (λ zs. Some (y ∷ zs))) ys h in
     let others = bound (all_of f xs) (λ zs. Some (first.it ∷ zs)) ys first.goes in
     let rest = all_made f P each xs others.it others.was in
-    let same : first.it ∷ others.it ≡ ys = same_some (first.it ∷ others.it) ys others.goes in
+    let same : first.it ∷ others.it ≡ ys = same_Some (first.it ∷ others.it) ys others.goes in
     subst (λ zs. (length zs ≡ length (x ∷ xs)) × All P zs) same (ap suc rest.0, All-cons P first.it others.it (each x first.it first.was) rest.1)
 
 all_pass : {A : Type 0} (test : A → Bool) (xs : List A) → All (λ x. test x ≡ true) xs → list_all test xs ≡ true
@@ -85,7 +72,7 @@ record AreFields (fields : List (List ℕ)) : Type 0 where
 are_fields_in : (values : List Data) (fields : List (List ℕ)) → fields_in values ≡ Some fields → AreFields fields
 are_fields_in values fields h =
     let sized = kept_then (nat_lt 0 (length values) && nat_le (length values) 64) (option_and_then if_distinct (all_of field_of values)) fields h in
-    let small : nat_le (length values) 64 ≡ true = (both (nat_lt 0 (length values)) (nat_le (length values) 64) sized.0).1 in
+    let small : nat_le (length values) 64 ≡ true = (and_parts (nat_lt 0 (length values)) (nat_le (length values) 64) sized.0).1 in
     let made = then_bound (all_of field_of values) if_distinct fields sized.1 in
     let once = kept (are_distinct made.it) made.it fields made.goes in
     let each = all_made field_of (λ field. is_id field ≡ true) an_id values made.it made.was in
@@ -121,7 +108,7 @@ is_table json t h =
     let fields = bound (fields_of json) _ t parent.goes in
     let key = bound (key_of json fields.it) _ t fields.goes in
     let file = bound (text_at (codes "file") json) _ t key.goes in
-    subst IsTable (same_some _ t file.goes) (is_table_of json _ name.was fields.was key.was)
+    subst IsTable (same_Some _ t file.goes) (is_table_of json _ name.was fields.was key.was)
 
 -- ---- the tables
 
@@ -129,10 +116,10 @@ pub are_contents : (values : List Data) (tables : List TableValue) → contents_
 are_contents values tables h =
     let made = then_bound (all_of table_of values) if_contents tables h in
     let right = kept (have_distinct_names made.it && have_one_parent made.it) made.it tables made.goes in
-    subst (λ ts. All IsTable ts × AreContents ts) right.1 ((all_made table_of IsTable is_table values made.it made.was).1, both (have_distinct_names made.it) (have_one_parent made.it) right.0)
+    subst (λ ts. All IsTable ts × AreContents ts) right.1 ((all_made table_of IsTable is_table values made.it made.was).1, and_parts (have_distinct_names made.it) (have_one_parent made.it) right.0)
 
 pub are_deletes : (values : List Data) (tables : List TableValue) → deletes_in values ≡ Some tables → All IsTable tables × AreDeletes tables
 are_deletes values tables h =
     let made = then_bound (all_of table_of values) if_deletes tables h in
     let right = kept (have_distinct_names made.it && list_all (λ t. t.parent) made.it) made.it tables made.goes in
-    subst (λ ts. All IsTable ts × AreDeletes ts) right.1 ((all_made table_of IsTable is_table values made.it made.was).1, both (have_distinct_names made.it) (list_all (λ t. t.parent) made.it) right.0)
+    subst (λ ts. All IsTable ts × AreDeletes ts) right.1 ((all_made table_of IsTable is_table values made.it made.was).1, and_parts (have_distinct_names made.it) (list_all (λ t. t.parent) made.it) right.0)

@@ -1,24 +1,26 @@
--- Texts that stand once.
-use Rattle.std.proofs.Common.{◌≡◌, ◌⊎◌, ℕ, ◌+◌, ◌-◌, ◌<◌, ◌≤◌, Bool, true, false, cond, List, [], ◌∷◌, ◌++◌, length, drop, take, map, get_or, refl, sym, ap, ◌∙◌, inl, inr, Bor}
-use Rattle.std.specs.Prelude.{not, ◌&&◌, ◌||◌, position}
+-- Texts that occur once.
+use Rattle.esc_bundle.specs.ListLaws.{list_any_map}
+use Rattle.std.proofs.Common.{◌≡◌, ℕ, ◌+◌, ◌-◌, ◌<◌, ◌≤◌, Bool, true, false, cond, List, [], ◌∷◌, ◌++◌, length, drop, take, map, get_or, refl, sym, ap, ◌∙◌, inl, inr, Bor}
+use Rattle.std.specs.Prelude.{not, ◌||◌, position}
 use Rattle.std.specs.BTreeSet.{BTreeSet, contains, Updates}
 use Rattle.std.specs.Cmp.Lexicographic.{slice_cmp}
 use Rattle.std.specs.List.{list_any, prefix_len}
 use Rattle.std.specs.Ordering.{nat_cmp}
 use Rattle.std.specs.Str.{bytes_eq}
 use Rattle.std.specs.declared.cmp.Ordering.{Ordering}
-use Rattle.std.proofs.lemmas.Bool.{cases_Bool}
-use Rattle.std.proofs.lemmas.List.{drop_more, drop_all, take_rest, take_more, take_all, take-append-drop, map-append, length-map}
+use Rattle.std.proofs.lemmas.Bool.{or_cases, or_parts, and_parts, not-true}
+use Rattle.std.proofs.lemmas.List.{drop_more, drop_all, take_rest, take_more, take-append-drop, map-append, length-map}
 use Rattle.std.proofs.lemmas.List.Folds.{list_any-append}
 use Rattle.std.proofs.lemmas.Map.Text.{is_eq-slice_cmp}
 use Rattle.std.proofs.lemmas.Slice.Eq.{bytes_eq-Decides}
+use Rattle.std.proofs.Math.Bool.{or-false, or-true, or_assoc, and-false}
+use Rattle.std.proofs.lemmas.Cmp.{nat_list_eq_equiv}
 use Rattle.esc_envelope.specs.Tables.{is_among, are_distinct, place_of}
 
 pub among_map : {A : Type 0} (v : A → List ℕ) (text : List ℕ) (xs : List A) → list_any (λ x. bytes_eq (v x) text) xs ≡ is_among text (map v xs)
-among_map v text [] = refl
-among_map v text (x ∷ xs) = ap (λ (b : Bool). bytes_eq (v x) text || b) (among_map v text xs)
+among_map v text xs = sym (list_any_map (λ other. bytes_eq other text) v xs)
 
--- what is known before element i: those before it stand once
+-- what is known before element i: those before it occur once
 pub one_more : {A : Type 0} (v : A → List ℕ) (xs : List A) (i : ℕ) (d : A) (all : Bool) → i < length xs → list_any (λ x. bytes_eq (v x) (v (get_or xs i d))) (take (length xs - (i + 1)) (drop (i + 1) xs)) ≡ false
     → are_distinct (map v (drop i xs)) ≡ all → are_distinct (map v (drop (i + 1) xs)) ≡ all
 unfolding are_distinct
@@ -51,54 +53,8 @@ place_map v text xs = rw (place_len v text xs, length-map xs v) refl
 
 -- ---- texts seen so far
 
-or_true : (a b : Bool) → (a || b) ≡ true → (a ≡ true) ⊎ (b ≡ true)
-or_true true b e = inl refl
-or_true false b e = inr e
-
-or_false : (a b : Bool) → (a || b) ≡ false → (a ≡ false) × (b ≡ false)
-or_false true b e = absurd cc
-or_false false b e = (refl, e)
-
 same_text : (x y : List ℕ) → bytes_eq x y ≡ true → x ≡ y
 same_text x y e = (bytes_eq-Decides x y).0 e
-
-turned : (x y : List ℕ) → bytes_eq x y ≡ bytes_eq y x
-turned x y =
-    elim (cases_Bool (bytes_eq x y)) [
-      | inl same ↦ let e = same_text x y same in same ∙ sym ((bytes_eq-Decides y x).1 (sym e))
-      | inr other ↦ elim (cases_Bool (bytes_eq y x)) [
-        | inl back ↦ let e = same_text y x back in let same = (bytes_eq-Decides x y).1 (sym e) in absurd cc
-        | inr apart ↦ other ∙ sym apart
-      ]
-    ]
-
-or_none : (b : Bool) → (b || false) ≡ b
-or_none true = refl
-or_none false = refl
-
-or_any : (b : Bool) → (b || true) ≡ true
-or_any true = refl
-or_any false = refl
-
-or_assoc : (a b c : Bool) → ((a || b) || c) ≡ (a || (b || c))
-or_assoc true b c = refl
-or_assoc false b c = refl
-
-and_none : (b : Bool) → (b && false) ≡ false
-and_none true = refl
-and_none false = refl
-
-both : (a b : Bool) → (a && b) ≡ true → (a ≡ true) × (b ≡ true)
-both true b e = (refl, e)
-both false b e = absurd cc
-
-pub not_true : (b : Bool) → not b ≡ true → b ≡ false
-not_true true e = absurd cc
-not_true false e = refl
-
-pub not_false : (b : Bool) → not b ≡ false → b ≡ true
-not_false true e = refl
-not_false false e = absurd cc
 
 joined : (a b : Bool) → cond a true b ≡ (b || a)
 joined true true = refl
@@ -107,36 +63,36 @@ joined false true = refl
 joined false false = refl
 
 among_push : (text x : List ℕ) (xs : List (List ℕ)) → is_among text (xs ++ (x ∷ [])) ≡ (is_among text xs || bytes_eq x text)
-among_push text x [] = or_none (bytes_eq x text)
+among_push text x [] = or-false (bytes_eq x text)
 among_push text x (y ∷ ys) = ap (λ (b : Bool). bytes_eq y text || b) (among_push text x ys) ∙ sym (or_assoc (bytes_eq y text) (is_among text ys) (bytes_eq x text))
 
 still_distinct : (xs : List (List ℕ)) (x : List ℕ) → are_distinct xs ≡ true → is_among x xs ≡ false → are_distinct (xs ++ (x ∷ [])) ≡ true
 unfolding are_distinct
 still_distinct [] x once new = refl
 still_distinct (y ∷ ys) x once new =
-    let apart = or_false (bytes_eq y x) (is_among x ys) new in
-    let here = both (not (is_among y ys)) (are_distinct ys) once in
-    let none : is_among y ys ≡ false = not_true (is_among y ys) here.0 in
-    let first : is_among y (ys ++ (x ∷ [])) ≡ false = among_push y x ys ∙ rw (none, turned x y, apart.0) refl in
+    let apart = or_parts (bytes_eq y x) (is_among x ys) new in
+    let here = and_parts (not (is_among y ys)) (are_distinct ys) once in
+    let none : is_among y ys ≡ false = not-true (is_among y ys) here.0 in
+    let first : is_among y (ys ++ (x ∷ [])) ≡ false = among_push y x ys ∙ rw (none, nat_list_eq_equiv.symm x y, apart.0) refl in
     rw first (still_distinct ys x here.1 apart.1)
 
 pub never_distinct : (xs : List (List ℕ)) (x : List ℕ) (rest : List (List ℕ)) → is_among x xs ≡ true → are_distinct (xs ++ (x ∷ rest)) ≡ false
 unfolding are_distinct
 never_distinct [] x rest again = absurd cc
 never_distinct (y ∷ ys) x rest again =
-    elim (or_true (bytes_eq y x) (is_among x ys) again) [
+    elim (or_cases (bytes_eq y x) (is_among x ys) again) [
       | inl same ↦
           let e = same_text y x same in
-          let twice : is_among y (ys ++ (x ∷ rest)) ≡ true = list_any-append (λ other. bytes_eq other y) ys (x ∷ rest) ∙ ap (λ (b : Bool). is_among y ys || (b || is_among y rest)) ((bytes_eq-Decides x y).1 (sym e)) ∙ or_any (is_among y ys) in
+          let twice : is_among y (ys ++ (x ∷ rest)) ≡ true = list_any-append (λ other. bytes_eq other y) ys (x ∷ rest) ∙ ap (λ (b : Bool). is_among y ys || (b || is_among y rest)) ((bytes_eq-Decides x y).1 (sym e)) ∙ or-true (is_among y ys) in
           rw twice refl
-      | inr later ↦ rw (never_distinct ys x rest later) (and_none (not (is_among y (ys ++ (x ∷ rest)))))
+      | inr later ↦ rw (never_distinct ys x rest later) (and-false (not (is_among y (ys ++ (x ∷ rest)))))
     ]
 
 -- the order of a set of texts
 abbrev pub text_order : Bor (List ℕ) → Bor (List ℕ) → Ordering
 text_order x y = slice_cmp nat_cmp x.now y.now
 
--- what is known before element i: those before it stand once, and the set has them
+-- what is known before element i: those before it occur once, and the set has them
 pub record AreSeen {A : Type 0} (v : A → List ℕ) (xs : List A) (i : ℕ) (s : BTreeSet (Bor (List ℕ))) : Type 0 where
   pub once : are_distinct (map v (take i xs)) ≡ true
   pub has : (q : Bor (List ℕ)) → contains text_order s q ≡ is_among q.now (map v (take i xs))
@@ -168,6 +124,3 @@ seen_twice v xs i d key s inside is there known =
     let cut : xs ≡ take i xs ++ (get_or xs i d ∷ drop (i + 1) xs) = sym (take-append-drop i xs) ∙ ap (λ (l : List _). take i xs ++ l) (drop_more xs i d inside) in
     let whole : map v xs ≡ front ++ (v (get_or xs i d) ∷ map v (drop (i + 1) xs)) = ap (map v) cut ∙ map-append v (take i xs) (get_or xs i d ∷ drop (i + 1) xs) in
     ap are_distinct whole ∙ never_distinct front (v (get_or xs i d)) (map v (drop (i + 1) xs)) again
-
-pub all_seen : {A : Type 0} (v : A → List ℕ) (xs : List A) (i : ℕ) (s : BTreeSet (Bor (List ℕ))) → length xs ≤ i → AreSeen v xs i s → are_distinct (map v xs) ≡ true
-all_seen v xs i s past known = ap (λ (l : List _). are_distinct (map v l)) (sym (take_all i xs past)) ∙ known.once

@@ -13,13 +13,6 @@ after_front front rest = option_map (λ more. front ++ more) rest
 abbrev pub IsGathered : {A X B : Type 0} → (X → Option B) → (A → X) → List A → ℕ → List B → Type 0
 IsGathered f v xs i made = after_front made (all_of f (map v (drop i xs))) ≡ all_of f (map v xs)
 
-pub started : {A X B : Type 0} (f : X → Option B) (v : A → X) (xs : List A) → IsGathered f v xs 0 []
-started f v xs = none (all_of f (map v xs))
-  where
-    none : {B : Type 0} (rest : Option (List B)) → after_front [] rest ≡ rest
-    none None = refl
-    none (Some more) = refl
-
 moved : {B : Type 0} (front : List B) (y : B) (rest : Option (List B)) → after_front front (rest >>= (λ more. Some (y ∷ more))) ≡ after_front (front ++ (y ∷ [])) rest
 moved front y None = refl
 moved front y (Some more) = ap (λ (l : List _). Some l) (sym (append_assoc front (y ∷ []) more))

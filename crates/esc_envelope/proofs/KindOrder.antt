@@ -60,10 +60,6 @@ pub insert_last : (es : List (Kind × ℕ)) (kind : Kind) (n : ℕ) → AreBelow
 insert_last [] kind n below = refl
 insert_last (e ∷ es) kind n (low, below) = rw (cmp_above kind e.0 low) (ap (λ (l : List (Kind × ℕ)). e ∷ l) (insert_last es kind n below))
 
-pub are_below_more : (rank : ℕ) (es : List (Kind × ℕ)) → AreBelow rank es → AreBelow (rank + 1) es
-are_below_more rank [] below = tt
-are_below_more rank (e ∷ es) (low, below) = (omega arith, are_below_more rank es below)
-
 pub are_below_push : (rank : ℕ) (es : List (Kind × ℕ)) (kind : Kind) (count : Option ℕ) → kind_rank kind ≡ rank → AreBelow rank es → AreBelow (rank + 1) (es ++ count_entry kind count)
 are_below_push rank [] kind None same below = tt
 are_below_push rank [] kind (Some n) same below = (omega arith, tt)

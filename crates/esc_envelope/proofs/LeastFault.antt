@@ -1,4 +1,4 @@
--- The refusal that an envelope has is the least that stands.
+-- The refusal that an envelope has is the least that applies.
 use Rattle.std.proofs.Common.{◌≡◌, ◌⊎◌, ℕ, ◌≤◌, List, Option, Some, None, Result, Ok, Err, refl, sym, ap, subst, ◌∙◌, arith, inl, inr}
 use Rattle.std.specs.Prelude.{IfOk, IfErr, IsErrAnd, codes}
 use Rattle.serde_json.specs.Data.{Data}
@@ -108,7 +108,7 @@ json_there text json e = rw e refl
 same_json : (text : List ℕ) (a b : Data) → json_of text ≡ Some a → json_of text ≡ Some b → a ≡ b
 same_json text = same_values (json_of text)
 
--- an envelope of which no refusal stands, or the least
+-- an envelope to which no refusal applies, or the least
 abbrev pub Told : List ℕ → Type 0
 Told text = ((e : EnvelopeValue) × (envelope_of text ≡ Ok e) × ((n : ℕ) → Stands text n → ⊥)) ⊎ ((n : ℕ) × (envelope_of text ≡ Err n) × IsLeast text n)
 
@@ -167,7 +167,7 @@ number_of text n (inl s) = (omega (arith, s.0), omega (arith, s.0))
 number_of text n (inr (inl s)) = (omega (arith, s.0), omega (arith, s.0))
 number_of text n (inr (inr s)) = (omega (arith, s.0), omega (arith, s.0))
 
--- ---- what is promised of an answer to a text
+-- ---- what is promised of a result for a text
 
 pub record Answered (text : List ℕ) (result : Result EnvelopeValue Fault) : Type 0 where
   pub envelope : IfOk result (λ e. envelope_of text ≡ Ok e)

@@ -1,8 +1,8 @@
 -- What is read as a moment is its text, and the text of a moment is read.
-use Rattle.std.proofs.Common.{◌≡◌, ℕ, ◌+◌, ◌-◌, ◌*◌, ◌/◌, ◌%◌, ◌<◌, ◌≤◌, ◌&&◌, Bool, true, false, List, [], ◌∷◌, ◌++◌, length, take, drop, Option, Some, None, refl, sym, ap, subst, ◌∙◌, ◌↔◌, arith, ℤ, pos}
+use Rattle.std.proofs.Common.{◌≡◌, ℕ, ◌+◌, ◌-◌, ◌*◌, ◌/◌, ◌%◌, ◌<◌, ◌≤◌, ◌&&◌, true, List, [], ◌∷◌, ◌++◌, length, take, drop, Option, Some, None, refl, sym, ap, subst, ◌∙◌, ◌↔◌, arith, ℤ, pos}
 use Rattle.std.specs.Prelude.{slice_index, ◌==◌, nat_le, nat_lt}
 use Rattle.std.specs.Char.{is_ascii_digit}
-use Rattle.std.proofs.lemmas.Bool.{eqb-true, leb-true, ltb-true}
+use Rattle.std.proofs.lemmas.Bool.{eqb-true, leb-true, ltb-true, and_parts}
 use Rattle.std.proofs.lemmas.Option.{cond_some}
 use Rattle.std.proofs.lemmas.Bool.Decides.{nat_tests}
 use Rattle.std.proofs.lemmas.List.{take-append-drop, drop_more, drop_all, take_at, get_or_at, length-append}
@@ -16,14 +16,10 @@ use Rattle.esc_envelope.specs.Moment.{two_digits, day_text, clock_text, fraction
 use Rattle.esc_envelope.specs.Steps.{◌>>=◌}
 use Rattle.esc_envelope.specs.Watermark.{two_at, byte_at, before_z, day_at, clock_at, billionths_of, watermark_of}
 
--- the answer of a step that has one
+-- the value of a step that has one
 pub step_some : {A B : Type 0} (o : Option A) (f : A → Option B) (y : B) → (o >>= f) ≡ Some y → (x : A) × (o ≡ Some x) × (f x ≡ Some y)
 step_some None f y e = absurd cc
 step_some (Some x) f y e = (x, refl, e)
-
-pub both_true : (a b : Bool) → (a && b) ≡ true → (a ≡ true) × (b ≡ true)
-both_true true b e = (refl, e)
-both_true false b e = absurd cc
 
 abbrev pub some_of : {A : Type 0} → A → Option A
 some_of x = Some x
@@ -49,11 +45,11 @@ pub record IsShortDay (d : Day) : Type 0 where
 
 pub short_day : (d : Day) → is_day d ≡ true → IsShortDay d
 short_day d real =
-    let last = both_true _ (nat_le d.day (days_in_month (pos d.year) d.month)) real in
-    let first = both_true _ (nat_le 1 d.day) last.0 in
-    let most = both_true _ (nat_le d.month 12) first.0 in
-    let least = both_true _ (nat_le 1 d.month) most.0 in
-    let years = both_true (nat_le 1970 d.year) (nat_le d.year 2261) least.0 in
+    let last = and_parts _ (nat_le d.day (days_in_month (pos d.year) d.month)) real in
+    let first = and_parts _ (nat_le 1 d.day) last.0 in
+    let most = and_parts _ (nat_le d.month 12) first.0 in
+    let least = and_parts _ (nat_le 1 d.month) most.0 in
+    let years = and_parts (nat_le 1970 d.year) (nat_le d.year 2261) least.0 in
     let month_length = days_in_month_bounds (pos d.year) d.month in
     let y : nat_le d.year 2261 ≡ true = years.1 in
     let m : nat_le d.month 12 ≡ true = most.1 in
@@ -78,14 +74,11 @@ day_again d rest real =
     )
     (ap (λ (y : ℕ). some_of (the_day y d.month d.day, rest)) whole)
 
-abbrev the_clock : ℕ → ℕ → ℕ → Clock
-the_clock h m s = record { hour = h; minute = m; second = s }
-
 clock_again : (c : Clock) (rest : List ℕ) → is_clock c ≡ true → clock_at (clock_text c ++ rest) ≡ Some (c, rest)
 unfolding clock_at
 clock_again c rest timed =
-    let last = both_true _ (nat_lt c.second 60) timed in
-    let first = both_true (nat_lt c.hour 24) (nat_lt c.minute 60) last.0 in
+    let last = and_parts _ (nat_lt c.second 60) timed in
+    let first = and_parts (nat_lt c.hour 24) (nat_lt c.minute 60) last.0 in
     let hour = ltb-true _ _ first.0 in
     let minute = ltb-true _ _ first.1 in
     let second = ltb-true _ _ last.1 in
@@ -126,7 +119,7 @@ two_takes [] x e = absurd cc
 two_takes (a ∷ []) x e = absurd cc
 two_takes (a ∷ b ∷ more) x e =
     let told = cond_some (is_ascii_digit a && is_ascii_digit b) ((a - 48) * 10 + (b - 48), more) x e in
-    let digits = both_true (is_ascii_digit a) (is_ascii_digit b) told.0 in
+    let digits = and_parts (is_ascii_digit a) (is_ascii_digit b) told.0 in
     let first : (48 ≤ a) × (a ≤ 57) = (grind (arith, nat_tests, digits.0), grind (arith, nat_tests, digits.0)) in
     let second : (48 ≤ b) × (b ≤ 57) = (grind (arith, nat_tests, digits.1), grind (arith, nat_tests, digits.1)) in
     let value : x.0 ≡ (a - 48) * 10 + (b - 48) = ap (λ (y : ℕ × List ℕ). y.0) (sym told.1) in
@@ -140,7 +133,7 @@ two_small [] x e = absurd cc
 two_small (a ∷ []) x e = absurd cc
 two_small (a ∷ b ∷ more) x e =
     let told = cond_some (is_ascii_digit a && is_ascii_digit b) ((a - 48) * 10 + (b - 48), more) x e in
-    let digits = both_true (is_ascii_digit a) (is_ascii_digit b) told.0 in
+    let digits = and_parts (is_ascii_digit a) (is_ascii_digit b) told.0 in
     let first : (48 ≤ a) × (a ≤ 57) = (grind (arith, nat_tests, digits.0), grind (arith, nat_tests, digits.0)) in
     let second : (48 ≤ b) × (b ≤ 57) = (grind (arith, nat_tests, digits.1), grind (arith, nat_tests, digits.1)) in
     let value : x.0 ≡ (a - 48) * 10 + (b - 48) = ap (λ (y : ℕ × List ℕ). y.0) (sym told.1) in
@@ -209,7 +202,7 @@ z_takes text moment e =
     let rest : drop n text ≡ 90 ∷ [] = drop_more text n 0 inside ∙ ap (λ (b : ℕ). b ∷ drop (n + 1) text) last ∙ ap (λ (l : List ℕ). 90 ∷ l) (drop_all (n + 1) text (omega arith)) in
     sym (take-append-drop n text) ∙ ap (λ (l : List ℕ). take n text ++ l) rest ∙ ap (λ (l : List ℕ). l ++ (90 ∷ [])) told.1
 
--- a fraction's digits, told by its text
+-- a fraction's digits, by its text
 pub record IsFractionOf (text : List ℕ) (n : ℕ) : Type 0 where
   pub digits : List ℕ
   pub form : 0 < length digits → is_fraction digits ≡ true
@@ -224,7 +217,7 @@ billionths_takes : (text : List ℕ) (n : ℕ) → billionths_of text ≡ Some n
 billionths_takes [] n e = record { digits = []; form = λ some. absurd (omega arith); written = refl; value = sym (some_is 0 n e) ∙ sym (fraction_value-nil 9) }
 billionths_takes (b ∷ digits) n e =
     let told = cond_some ((b == 46) && is_fraction digits) (fraction_value 9 digits) n e in
-    let parts = both_true (b == 46) (is_fraction digits) told.0 in
+    let parts = and_parts (b == 46) (is_fraction digits) told.0 in
     record { digits = digits; form = λ some. parts.1; written = dotted b digits (eqb-true b 46 parts.0) parts.1; value = sym told.1 }
 
 watermark_takes : (text : List ℕ) (w : ℤ) → watermark_of text ≡ Some w → IsWatermark text w
@@ -236,7 +229,7 @@ watermark_takes text w e =
     let clock = step_some (clock_at after.0) _ w after.2 in
     let fraction = step_some (billionths_of clock.0.1) _ w clock.2 in
     let told = cond_some (is_day day.0.0 && is_clock clock.0.0) (moment_value day.0.0 clock.0.0 fraction.0) w fraction.2 in
-    let real = both_true (is_day day.0.0) (is_clock clock.0.0) told.0 in
+    let real = and_parts (is_day day.0.0) (is_clock clock.0.0) told.0 in
     let parts = billionths_takes clock.0.1 fraction.0 fraction.1 in
     let inner : moment.0 ≡ day_text day.0.0 ++ (84 ∷ (clock_text clock.0.0 ++ fraction_text parts.digits)) =
     day_takes moment.0 day.0 day.1

@@ -1,7 +1,7 @@
 -- What `jiff` writes of a civil datetime is the text of its moment.
 use Rattle.std.proofs.Common.{◌≡◌, ℕ, zero, suc, ◌+◌, ◌*◌, ◌/◌, ◌%◌, ◌<◌, ◌≤◌, ◌++◌, [], ◌∷◌, List, length, true, false, Some, None, refl, sym, ap, ◌∙◌, ne_eqb, arith, inl, inr, ℤ, pos, negsuc}
 use Rattle.std.specs.Prelude.{nat_lt, nat_le, ◌==◌}
-use Rattle.std.proofs.lemmas.Bool.{leb-true, lt-ltb, cases_Bool, ltb-true}
+use Rattle.std.proofs.lemmas.Bool.{leb-true, lt-ltb, cases_Bool, ltb-true, and_parts}
 use Rattle.jiff.specs.Names.{iso_datetime_text}
 use Rattle.jiff_core.specs.declared.civil.date.Date.{Date}
 use Rattle.jiff_core.specs.declared.civil.time.Time.{Time}
@@ -19,7 +19,7 @@ use Rattle.esc_envelope.specs.declared.parts.Day.{Day}
 use Rattle.esc_envelope.specs.Moment.{is_day, fraction_text, moment_text}
 use Rattle.esc_envelope.specs.Watermark.{IsInYears, clock_of, day_of, watermark_text_of}
 use Rattle.esc_envelope.proofs.Calendar.{day_is_of}
-use Rattle.esc_envelope.proofs.MomentReads.{both_true, some_of}
+use Rattle.esc_envelope.proofs.MomentReads.{some_of}
 
 dotted : (digits : List ℕ) → 0 < length digits → fraction_text digits ≡ 46 ∷ digits
 dotted [] some = absurd (omega arith)
@@ -37,11 +37,11 @@ fraction_shown (suc n) low =
 -- the date of a day of the calendar
 date_of : (d : Day) → is_day d ≡ true → (date : Date) × (date.year ≡ pos d.year) × (date.month ≡ d.month) × (date.day ≡ d.day)
 date_of d real =
-    let last = both_true _ (nat_le d.day (days_in_month (pos d.year) d.month)) real in
-    let first = both_true _ (nat_le 1 d.day) last.0 in
-    let most = both_true _ (nat_le d.month 12) first.0 in
-    let least = both_true _ (nat_le 1 d.month) most.0 in
-    let years = both_true (nat_le 1970 d.year) (nat_le d.year 2261) least.0 in
+    let last = and_parts _ (nat_le d.day (days_in_month (pos d.year) d.month)) real in
+    let first = and_parts _ (nat_le 1 d.day) last.0 in
+    let most = and_parts _ (nat_le d.month 12) first.0 in
+    let least = and_parts _ (nat_le 1 d.month) most.0 in
+    let years = and_parts (nat_le 1970 d.year) (nat_le d.year 2261) least.0 in
     let year : d.year ≤ 2261 = leb-true _ _ years.1 in
     let date : Date = record {
       year = pos d.year;

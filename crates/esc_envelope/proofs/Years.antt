@@ -1,4 +1,5 @@
 -- The nanoseconds of the years 1970 to 2261.
+use Rattle.esc_envelope.proofs.Calendar.{last_day}
 use Rattle.std.proofs.Common.{◌≡◌, ℕ, ◌<◌, ℤ, pos, ◌<ℤ◌, ◌≤ℤ◌, refl, arith}
 use Rattle.jiff_core.specs.declared.civil.datetime.DateTime.{DateTime}
 use Rattle.jiff_core.specs.Calendar.{IsBetween, IsCivilDate, days_from_civil, day_count, days_of_years, days_of_months}
@@ -8,11 +9,7 @@ use Rattle.jiff_core.proofs.CalendarLemmas.{day_count-lt_year, days_from_civil-d
 use Rattle.jiff_core.proofs.DateTimeLemmas.{civil_nanos-parts, time_nanos_bound}
 use Rattle.esc_envelope.specs.Watermark.{IsInYears}
 
--- 1 January 2262 and 31 December 1969
-after_last : day_count (pos 2262) 1 1 ≡ 4_478_604
-unfolding day_count days_of_years days_of_months
-after_last = refl
-
+-- 31 December 1969
 before_first : day_count (pos 1969) 12 31 ≡ 4_371_952
 unfolding day_count days_of_years days_of_months
 before_first = refl
@@ -22,7 +19,7 @@ days_in_range y m d date years =
     let below : day_count y m d < day_count (pos 2262) 1 1 = day_count-lt_year y m d (pos 2262) 1 1 date (omega arith) (omega (arith, signed_arith)) in
     let december : IsCivilDate (pos 1969) 12 31 = ((omega (arith, signed_arith), omega (arith, signed_arith)), (omega arith, omega arith), (omega arith, omega arith)) in
     let above : day_count (pos 1969) 12 31 < day_count y m d = day_count-lt_year (pos 1969) 12 31 y m d december date.2.0 (omega (arith, signed_arith)) in
-    (omega (arith, signed_arith, days_from_civil-day_count y m d, above, before_first), omega (arith, signed_arith, days_from_civil-day_count y m d, below, after_last))
+    (omega (arith, signed_arith, days_from_civil-day_count y m d, above, before_first), omega (arith, signed_arith, days_from_civil-day_count y m d, below, last_day))
 
 pub civil_in_years : (civil : DateTime) → IsBetween (pos 1970) (pos 2261) civil.date.year → IsInYears (civil_nanos civil)
 civil_in_years civil years =

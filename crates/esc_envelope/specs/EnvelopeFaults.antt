@@ -1,4 +1,4 @@
--- Which refusal of an envelope stands (this project's profile).
+-- Which refusal of an envelope applies (this project's profile).
 use Rattle.std.specs.Prelude.{◌≡◌, ◌⊎◌, ◌≤◌, ℕ, List, Some, None, codes}
 use Rattle.serde_json.specs.Data.{Data}
 use Rattle.esc_envelope.specs.Envelope.{json_of}
@@ -11,7 +11,7 @@ LacksMember json =
     (header_of json ≡ None) ⊎ (counts_of json ≡ None)
     ⊎ (array_of (codes "contents") json ≡ None) ⊎ (array_of (codes "deletes") json ≡ None)
 
--- the tables of what is, or those of what was deleted, are not declared rightly
+-- the tables of contents, or those of deletes, are not declared rightly
 abbrev pub LacksTables : Data → Type 0
 LacksTables json =
     ((values : List Data) × (array_of (codes "contents") json ≡ Some values)
@@ -19,13 +19,13 @@ LacksTables json =
     ⊎ ((values : List Data) × (array_of (codes "deletes") json ≡ Some values)
     × (deletes_in values ≡ None))
 
--- the refusal of this number stands
+-- the refusal of this number applies
 abbrev pub Stands : List ℕ → ℕ → Type 0
 Stands text n =
     ((n ≡ 5) × (json_of text ≡ None))
     ⊎ ((n ≡ 6) × (json : Data) × (json_of text ≡ Some json) × LacksMember json)
     ⊎ ((n ≡ 7) × (json : Data) × (json_of text ≡ Some json) × LacksTables json)
 
--- it stands, and no lesser one does
+-- it applies, and no lesser one does
 abbrev pub IsLeast : List ℕ → ℕ → Type 0
 IsLeast text n = Stands text n × ((m : ℕ) → Stands text m → n ≤ m)

@@ -14,8 +14,8 @@ pub record TableValue : Type 0 where
   pub fields : List (List ℕ)
   pub file : List ℕ
 
--- header, the declared numbers of objects in the order of kinds, and the tables of what is and of
--- what was deleted
+-- header, the declared numbers of objects in the order of kinds, and the tables of contents and of
+-- deletes
 pub record EnvelopeValue : Type 0 where
   pub header : HeaderValue
   pub counts : List (Kind × ℕ)

@@ -3,10 +3,13 @@ pub mod EnvelopeFaults
 pub mod EnvelopeValue
 pub mod HeaderValue
 pub mod Id
+pub mod KindLaws
 pub mod Kinds
 pub mod Members
 pub mod Moment
 pub mod Place
+pub mod PlaceLaws
+pub mod StepLaws
 pub mod Steps
 pub mod Tables
 pub mod Told

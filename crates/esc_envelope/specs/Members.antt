@@ -31,7 +31,7 @@ use Rattle.esc_envelope.specs.Kinds.{kind_name, kind_rank, kinds}
 use Rattle.esc_envelope.specs.Steps.{◌>>=◌}
 use Rattle.esc_envelope.specs.Watermark.{watermark_of}
 
--- the text of a member that has to stand
+-- the text of a member that must be present
 abbrev pub text_at : List ℕ → Data → Option (List ℕ)
 text_at name json = option_and_then as_str (get name json)
 

@@ -1,4 +1,4 @@
--- One step after another, for as long as each has an answer.
+-- One step after another, for as long as each has a value.
 use Rattle.std.specs.Prelude.{Option, Some, None}
 
 infixl 10 ◌>>=◌

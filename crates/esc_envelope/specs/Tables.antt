@@ -50,7 +50,7 @@ all_of f (x ∷ xs) = do
 abbrev pub is_among : List ℕ → List (List ℕ) → Bool
 is_among text others = list_any (λ other. bytes_eq other text) others
 
--- whether no text stands twice
+-- whether no text occurs twice
 unfoldable pub are_distinct : List (List ℕ) → Bool
 are_distinct [] = true
 are_distinct (text ∷ others) = not (is_among text others) && are_distinct others
@@ -107,7 +107,7 @@ place_of texts text = position (λ other. bytes_eq other text) texts
 abbrev pub key_of : Data → List (List ℕ) → Option ℕ
 key_of json fields = option_and_then (place_of fields) (text_at (codes "key") json)
 
--- a declared table: its name and its fields have their forms, no field stands twice, and the key is
+-- a declared table: its name and its fields have their forms, no field occurs twice, and the key is
 -- one of them
 pub record IsTable (t : TableValue) : Type 0 where
   pub named : is_name t.name ≡ true
@@ -134,7 +134,7 @@ table_of json = do
     file = file;
   })
 
--- whether no name stands twice
+-- whether no name occurs twice
 abbrev pub have_distinct_names : List TableValue → Bool
 have_distinct_names tables = are_distinct (map (λ t. t.name) tables)
 
@@ -146,11 +146,11 @@ is_parent_of kind table = table.parent && is_kind kind table.kind
 abbrev pub have_one_parent : List TableValue → Bool
 have_one_parent tables = list_all (λ kind. nat_le (count_by (is_parent_of kind) tables) 1) kinds
 
--- tables of what is: names once, and at most one parent table for each kind
+-- tables of contents: names once, and at most one parent table for each kind
 abbrev pub AreContents : List TableValue → Type 0
 AreContents tables = (have_distinct_names tables ≡ true) × (have_one_parent tables ≡ true)
 
--- tables of what was deleted: names once, and parent tables alone
+-- tables of deletes: names once, and parent tables alone
 abbrev pub AreDeletes : List TableValue → Type 0
 AreDeletes tables = (have_distinct_names tables ≡ true) × (list_all (λ t. t.parent) tables ≡ true)
 
@@ -162,10 +162,10 @@ abbrev pub if_deletes : List TableValue → Option (List TableValue)
 if_deletes tables = if have_distinct_names tables
     && list_all (λ t. t.parent) tables then Some tables else None
 
--- the tables of what is: names once, and at most one parent table for each kind
+-- the tables of contents: names once, and at most one parent table for each kind
 abbrev pub contents_in : List Data → Option (List TableValue)
 contents_in values = option_and_then if_contents (all_of table_of values)
 
--- the tables of what was deleted: names once, and parent tables alone
+-- the tables of deletes: names once, and parent tables alone
 abbrev pub deletes_in : List Data → Option (List TableValue)
 deletes_in values = option_and_then if_deletes (all_of table_of values)

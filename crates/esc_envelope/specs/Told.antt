@@ -1,4 +1,4 @@
--- A header whose texts lie in the envelope.
+-- A header whose texts are slices of the envelope.
 use Rattle.std.specs.Prelude.{option_map}
 use Rattle.esc_envelope.specs.declared.members.Told.{Told}
 use Rattle.esc_envelope.specs.HeaderValue.{HeaderValue}

@@ -52,7 +52,7 @@ abbrev pub byte_at : ℕ → List ℕ → Option (List ℕ)
 byte_at byte [] = None
 byte_at byte (b ∷ rest) = if b == byte then Some rest else None
 
--- what stands before a `Z` at the end
+-- the text before a `Z` at the end
 abbrev pub before_z : List ℕ → Option (List ℕ)
 before_z text = if slice_index text (length text - 1) == 90 then Some
     (take (length text - 1) text) else None
@@ -122,7 +122,7 @@ day_of n =
     let month = month_at 12 (pos year.0) 1 year.1 in
     record { year = year.0; month = month.0; day = month.1 + 1 }
 
--- the time of day after so many nanoseconds
+-- the time of day after n nanoseconds
 abbrev pub clock_of : ℕ → Clock
 clock_of n = record {
   hour = n / 3_600_000_000_000;

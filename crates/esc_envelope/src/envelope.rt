@@ -39,9 +39,9 @@ pub struct Envelope {
     /// The numbers of objects in the registry at the watermark, of the kinds for which they are
     /// declared.
     pub counts: BTreeMap<Kind, u64>,
-    /// The tables of what is: each name once, and at most one parent table for each kind.
+    /// The tables of contents: each name once, and at most one parent table for each kind.
     pub contents: Vec<Table>,
-    /// The tables of what was deleted: each name once, and parent tables alone.
+    /// The tables of deletes: each name once, and parent tables alone.
     pub deletes: Vec<Table>,
 }
 
@@ -110,7 +110,7 @@ fn envelope_in(alloc: Global, json: &Value) -> Result<Envelope, Fault>
     })
 }
 
-// The envelope that a JSON text is, or the first refusal that stands.
+// The envelope that a JSON text is, or the first refusal that applies.
 #[tactic(auto, unfolding(crate::specs::Envelope::envelope_of))]
 fn envelope_from(alloc: Global, json: &[u8]) -> Result<Envelope, Fault>
     ensures envelope { IfOk result (λ e. envelope_of json.now ≡ Ok e) }
@@ -122,7 +122,7 @@ fn envelope_from(alloc: Global, json: &[u8]) -> Result<Envelope, Fault>
 }
 
 /// The envelope that a JSON text is (RFC 8259, as `serde_json` reads it), or the least of U5, U6
-/// and U7 that stands: no JSON; a member outside the tables is missing or of another form; a table
+/// and U7 that applies: no JSON; a member outside the tables is missing or of another form; a table
 /// is not declared rightly.
 pub fn read_envelope(alloc: Global, json: &[u8]) -> Result<Envelope, Fault>
     ensures envelope { IfOk result (λ e. envelope_of json.now ≡ Ok e) }
@@ -139,7 +139,7 @@ pub fn read_envelope(alloc: Global, json: &[u8]) -> Result<Envelope, Fault>
 }
 
 /// A text has the refusal that `envelope_of` gives exactly if it is the least of U5 to U7 that
-/// stands: a law of the definitions.
+/// applies: a law of the definitions.
 pub fn refusals_are_least()
     ensures least { (text : List ℕ) (n : ℕ)
         → (envelope_of text ≡ Err n) ↔ IsLeast text n }

@@ -6,34 +6,40 @@
 //! which tables the other sections hold (`contents`, `deletes`). The members and their forms are
 //! this project's profile.
 //!
-//! `read_envelope` takes the section's bytes and answers an `Envelope`, or a refusal:
+//! `read_envelope` takes the section's bytes and returns an `Envelope`, or a refusal:
 //!
 //! - U5: the bytes are no JSON as `serde_json` reads it (no UTF-8, nesting over its limit, a byte
 //!   order mark);
 //! - U6: a member outside the tables is missing or of another form;
 //! - U7: a table is not declared rightly.
 //!
-//! The first that stands, in this order, is answered. Of a member that stands twice the last
+//! The first that applies, in this order, is returned. Of a member that occurs twice the last
 //! counts, and members of other names are ignored. A whole number is digits alone.
 //!
+//! ```text
+//! let envelope = read_envelope(alloc, bytes)?;
+//! // envelope.header.place is the deposit's watermark and type
+//! ```
+//!
 //! Its contract says exactly that. `specs/Envelope.antt` has the function `envelope_of` from bytes
-//! to an envelope or a number of refusal, put together from one small definition for each member
-//! (`specs/Members.antt`, `specs/Tables.antt`); `specs/EnvelopeFaults.antt` says of each number
-//! what stands against a text, and that number is the least that does (`IsLeast`). An `Ok` is the
-//! envelope that `envelope_of` gives, and a refusal is its number; only want of memory may be
-//! answered in place of either. Contracts see an `Envelope` as an `EnvelopeValue`, a `Header` as a
+//! to an envelope or a refusal's number, put together from one small definition for each member
+//! (`specs/Members.antt`, `specs/Tables.antt`); `specs/EnvelopeFaults.antt` says which texts each
+//! number refuses, and that the refusal is the least of them (`IsLeast`). An `Ok` is the envelope
+//! that `envelope_of` gives, and a refusal is its number; only out of memory may be returned in
+//! place of either. Contracts see an `Envelope` as an `EnvelopeValue`, a `Header` as a
 //! `HeaderValue` and a `Table` as a `TableValue`, records of texts as bytes, numbers and lists.
 //!
 //! A watermark is a moment in UTC, in nanoseconds since 1970-01-01T00:00:00Z, of the years 1970 to
-//! 2261. `watermark` reads its text and takes no memory, `watermark_text` prints it.
-//! `specs/Moment.antt` says what the text of a moment is and what it is worth, by the calendar of
-//! `jiff`; two functions with empty bodies state the laws: what is read is exactly the texts of
-//! moments, every moment of these years has a text, and printing and reading undo each other.
+//! 2261. `watermark` reads its text and doesn't allocate, `watermark_text` prints it.
+//! `specs/Moment.antt` says what the text of a moment is and which moment it means, by the calendar
+//! of `jiff`; two functions with empty bodies state the laws: the texts that are read are exactly
+//! those of moments, every moment of these years has a text, and printing and reading undo each
+//! other.
 //!
 //! A `Place` is a watermark and a type, ordered by watermark and then `DIFF < INCR < FULL`.
 //!
-//! Reading takes time linear in the text, up to the logarithm of a set: names of tables are
-//! compared through a set, and only the at most 64 fields of one table in pairs.
+//! Reading takes time n log n in the length of the text: names of tables are looked up in a set,
+//! and only the fields of one table, at most 64, are compared in pairs.
 #![tactic(auto)]
 
 mod counts;

@@ -1,4 +1,4 @@
-//! The members of an envelope outside its tables: each function answers what one function on JSON
+//! The members of an envelope outside its tables: each function returns what one definition on JSON
 //! data gives.
 
 ghost use Rattle.std.specs.Prelude.{◌≡◌, IfOk, IfSome, option_map, string_bytes};
@@ -26,7 +26,7 @@ use esc_bundle::NoMemory;
 use serde_json::Value;
 use std::alloc::Global;
 
-/// The text of a member that has to stand.
+/// The text of a member that must be present.
 pub(crate) fn text_at<'a>(object: &'a Value, name: &str) -> Option<&'a str>
     ensures { option_map (λ t. t.now) result ≡ text_at name.now (view object.now) }
 {
@@ -103,7 +103,7 @@ fn resend_in(envelope: &Value) -> Option<u32>
     }
 }
 
-/// What a header says, with texts that lie in the envelope.
+/// What a header says, with texts that are slices of the envelope.
 #[derive(Clone, Copy)]
 struct Told<'a> {
     id: &'a str,

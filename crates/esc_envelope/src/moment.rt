@@ -77,7 +77,7 @@ fn nanoseconds(day: Day, clock: Clock, nanosecond: u32) -> Option<i64>
 }
 
 /// The nanoseconds since 1970-01-01T00:00:00Z that a text `YYYY-MM-DDThh:mm:ss[.fraction]Z` writes,
-/// of a real date of the years 1970 to 2261, with 1 to 9 digits of fraction. Takes no memory.
+/// of a real date of the years 1970 to 2261, with 1 to 9 digits of fraction. Doesn't allocate.
 #[tactic(auto, unfolding(crate::specs::Watermark::watermark_of))]
 pub fn watermark(text: &str) -> Option<i64>
     ensures value { result ≡ watermark_of text.now }
@@ -102,7 +102,7 @@ fn civil_at(watermark: i64) -> DateTime
 }
 
 /// The text of a moment of the years 1970 to 2261, else `None`. A fraction is written only if it
-/// isn't zero, without trailing zeros. Of another moment it takes no memory.
+/// isn't zero, without trailing zeros. For another moment it doesn't allocate.
 pub fn watermark_text(alloc: Global, watermark: i64) -> Result<Option<String>, NoMemory>
     ensures text { IfOk result (λ o. option_map string_bytes o ≡ watermark_text_of watermark) }
     ensures outside { (IsInYears watermark → ⊥) → result ≡ Ok None }
@@ -115,7 +115,7 @@ pub fn watermark_text(alloc: Global, watermark: i64) -> Result<Option<String>, N
     Ok(Some(text))
 }
 
-/// What `watermark` reads is exactly the texts of moments: a law of the definitions.
+/// The texts that `watermark` reads are exactly those of moments: a law of the definitions.
 pub fn watermarks_are_moments()
     ensures { (text : List ℕ) (w : ℤ)
         → (watermark_of text ≡ Some w) ↔ IsWatermark text w }

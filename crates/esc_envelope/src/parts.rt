@@ -1,4 +1,4 @@
-//! The parts of a moment's text: from left to right, each reader answers a part and what follows
+//! The parts of a moment's text: from left to right, each reader returns a part and what follows
 //! it.
 
 ghost use Rattle.std.specs.Prelude.{◌≡◌, ◌<◌, ◌≤◌, ◌^◌, true, option_map, IfSome};
@@ -56,7 +56,7 @@ pub(crate) fn after_byte(bytes: &[u8], byte: u8) -> Option<&[u8]>
     }
 }
 
-/// What stands before a `Z` at the end.
+/// The text before a `Z` at the end.
 pub(crate) fn before_z(bytes: &[u8]) -> Option<&[u8]>
     ensures { option_map (λ x. x.now) result ≡ before_z bytes.now }
 {

@@ -24,14 +24,14 @@ impl Place {
     ghost use Rattle.std.specs.Prelude.{IsTrue, ◌↔◌};
     ghost use Rattle.esc_envelope.specs.Place.{IsBefore, IsUpTo};
 
-    /// Whether this place stands before another.
+    /// Whether this place is before another.
     pub fn is_before(self, other: Place) -> bool
         ensures { IsTrue result ↔ IsBefore self other }
     {
         self < other
     }
 
-    /// Whether this place stands before another, or is the same.
+    /// Whether this place is before another, or the same.
     pub fn is_up_to(self, other: Place) -> bool
         ensures { IsTrue result ↔ IsUpTo self other }
     {

@@ -4,7 +4,7 @@ use crate::kind::Kind;
 use std::marker::Model;
 
 /// A table of a deposit, as its envelope declares it (this project's profile): its fields have the
-/// forms that they say, and the key is one of them. Whoever makes a table proves it.
+/// forms that they say, and the key is one of them. Who makes a table proves it.
 #[derive(Debug, Drop)]
 pub struct Table {
     /// 1 to 64 of `A-Z a-z 0-9 _`.

@@ -1,4 +1,4 @@
-//! The tables that an envelope declares: each function answers what one function on JSON data
+//! The tables that an envelope declares: each function returns what one definition on JSON data
 //! gives.
 
 ghost use Rattle.std.specs.Prelude.{◌≡◌, IfOk, OnOk, map, option_map, string_bytes, count_by};
@@ -143,7 +143,7 @@ fn tables_in(alloc: Global, values: &[Value]) -> Result<Option<Vec<Table>>, NoMe
     Ok(Some(tables))
 }
 
-/// Whether no name stands twice: a set of the names so far keeps this near linear.
+/// Whether no name occurs twice. A set of the names so far makes this n log n.
 fn have_distinct_names(alloc: Global, tables: &[Table]) -> Result<bool, NoMemory>
     ensures { IfOk result (λ b. b ≡ have_distinct_names tables.now) }
 {
@@ -184,7 +184,7 @@ fn are_parents(tables: &[Table]) -> bool
     tables.iter().all(|table| table.parent)
 }
 
-/// The tables of what is: names once, and at most one parent table for each kind.
+/// The tables of contents: names once, and at most one parent table for each kind.
 pub(crate) fn contents_in(alloc: Global, values: &[Value]) -> Result<Option<Vec<Table>>, NoMemory>
     ensures { IfOk result (λ o. option_map (λ v. v.items) o
         ≡ contents_in (map view values.now)) }
@@ -199,7 +199,7 @@ pub(crate) fn contents_in(alloc: Global, values: &[Value]) -> Result<Option<Vec<
     }
 }
 
-/// The tables of what was deleted: names once, and parent tables alone.
+/// The tables of deletes: names once, and parent tables alone.
 pub(crate) fn deletes_in(alloc: Global, values: &[Value]) -> Result<Option<Vec<Table>>, NoMemory>
     ensures { IfOk result (λ o. option_map (λ v. v.items) o
         ≡ deletes_in (map view values.now)) }

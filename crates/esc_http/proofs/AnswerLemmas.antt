@@ -7,7 +7,10 @@ use Rattle.httparse.specs.Grammar.{RequestHead}
 use Rattle.httparse.proofs.GrammarLemmas.{ReadsRequest-append}
 use Rattle.esc_store.specs.declared.fault.SFault.{SFault}
 use Rattle.esc_store.specs.declared.fault.SFault.TheVariants.{S2}
+use Rattle.esc_store.specs.Faults.{IsS1OrS2, IsS1OrS2OrS4}
 use Rattle.esc_desk.specs.declared.desk.Desk.{Desk}
+use Rattle.esc_desk.specs.ArrivalValue.{ArrivalValue}
+use Rattle.esc_desk.specs.Calls.{After, ServesStill, IsCause}
 use Rattle.esc_request.specs.declared.refusal.Refusal.TheVariants.{BadRequest}
 use Rattle.esc_http.specs.declared.plan.Plan.{Plan}
 use Rattle.esc_http.specs.declared.plan.Plan.TheVariants.{Put}
@@ -15,17 +18,17 @@ use Rattle.esc_request.specs.Head.{HasHead, HasNoHead}
 use Rattle.esc_http.specs.Plans.{plan_of_head}
 use Rattle.esc_request.specs.Response.{out_of_memory}
 use Rattle.esc_http.specs.Response.{fault_response}
-use Rattle.esc_http.specs.Answering.{Request, refused, arrives, wants, with_body, Asks, IsAnswered, IsOrMemory, IsFault, text_or_memory}
+use Rattle.esc_http.specs.Answering.{Request, refused, arrives, wants, with_body, Asks, IsAnswered, IsOrMemory, TellsFault, LosesArrival, text_or_memory}
 
 -- the text that was made, or that of want of memory
 pub text_is : {A : Type 0} (view : A → List ℕ) (expected : List ℕ) (o : Option A) → IfSome o (λ text. view text ≡ expected) → IsOrMemory expected (text_or_memory view o)
 text_is view expected None is = inr refl
 text_is view expected (Some text) is = inl is
 
--- why the store refused, or want of memory
-pub fault_is : {A : Type 0} (view : A → List ℕ) (fault : SFault) (o : Option A) → IfSome o (λ text. view text ≡ fault_response fault) → IsFault (text_or_memory view o)
-fault_is view fault None is = (S2, refl)
-fault_is view fault (Some text) is = (fault, is)
+-- why no report was made, or want of memory
+pub fault_told : {A : Type 0} (view : A → List ℕ) (fault : SFault) (o : Option A) → IsS1OrS2 fault → IfSome o (λ text. view text ≡ fault_response fault) → TellsFault (text_or_memory view o)
+fault_told view fault None cause is = record { fault = S2; cause = inr refl; told = refl }
+fault_told view fault (Some text) cause is = record { fault = fault; cause = cause; told = is }
 
 -- a head stays one, whatever follows
 longer : (front : List ℕ) (h : RequestHead) (rest more : List ℕ) → HasHead front h rest → HasHead (front ++ more) h (rest ++ more)
@@ -76,12 +79,18 @@ pub some_request : (o : Option (List ℕ)) (plan : Plan) → (request : Request)
 some_request None plan = (refused BadRequest, tt)
 some_request (Some rest) plan = (with_body plan rest, refl)
 
+-- why an arrival was lost, or want of memory
+pub loss_told : {S A : Type 0} (g : Ghosts S) (old new : Desk S) (a : ArrivalValue) (view : A → List ℕ) (fault : SFault) (o : Option A) → ServesStill g old new → IsS1OrS2OrS4 fault → After g old new (λ e. IsCause e a fault)
+    → IfSome o (λ text. view text ≡ fault_response fault) → LosesArrival g old new a (text_or_memory view o)
+loss_told g old new a view fault None kept one cause is = record { kept = kept; fault = S2; is_one = inr (inr refl); cause = λ clean e serves. tt; told = refl }
+loss_told g old new a view fault (Some text) kept one cause is = record { kept = kept; fault = fault; is_one = one; cause = cause; told = is }
+
 module _ {S : Type 0} (g : Ghosts S) (desk : Desk S) where
   -- want of memory answers each request
   pub memory_answers : (request : Request) → IsAnswered g desk desk request out_of_memory
   memory_answers (refused refusal) = (refl, inr refl)
-  memory_answers (arrives a) = inr (record { kept = λ e serves. serves; told = (S2, refl) })
-  memory_answers (wants report) = (inl refl, inr (S2, refl))
+  memory_answers (arrives a) = inr (record { kept = λ e serves. serves; fault = S2; is_one = inr (inr refl); cause = λ clean e serves. tt; told = refl })
+  memory_answers (wants report) = (inl refl, inr (record { fault = S2; cause = inr refl; told = refl }))
 
   -- so it does whatever the input is
   pub memory_answers_some : (o : Option (List ℕ)) (plan : Plan) → (request : Request) × IfSome o (λ rest. request ≡ with_body plan rest) × IsAnswered g desk desk request out_of_memory

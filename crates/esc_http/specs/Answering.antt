@@ -15,10 +15,11 @@ use Rattle.std.specs.Prelude.{
 use Rattle.sqlite_trees.specs.declared.store.Store.{Ghosts}
 use Rattle.httparse.specs.Grammar.{RequestHead}
 use Rattle.esc_store.specs.declared.fault.SFault.{SFault}
+use Rattle.esc_store.specs.Faults.{IsS1OrS2, IsS1OrS2OrS4}
 use Rattle.esc_store.specs.ReplyValue.{ReplyValue}
 use Rattle.esc_desk.specs.declared.desk.Desk.{Desk}
 use Rattle.esc_desk.specs.ArrivalValue.{ArrivalValue, an_arrival}
-use Rattle.esc_desk.specs.Calls.{After, Over, ServesStill, Stays, HadRoom}
+use Rattle.esc_desk.specs.Calls.{After, Over, ServesStill, Stays, HadRoom, IsCause}
 use Rattle.esc_desk.specs.Events.{EventValue}
 use Rattle.esc_desk.specs.Serving.{Answers}
 use Rattle.esc_request.specs.declared.reports.Report.{Report}
@@ -61,9 +62,11 @@ Asks input request =
 abbrev pub IsOrMemory : List ℕ → List ℕ → Type 0
 IsOrMemory expected text = (text ≡ expected) ⊎ (text ≡ out_of_memory)
 
--- the store refused
-abbrev pub IsFault : List ℕ → Type 0
-IsFault text = (fault : SFault) × (text ≡ fault_response fault)
+-- no report was made: the store failed (S1), or memory was refused (S2)
+pub record TellsFault (text : List ℕ) : Type 0 where
+  pub fault : SFault
+  pub cause : IsS1OrS2 fault
+  pub told : text ≡ fault_response fault
 
 module _ {S : Type 0} (g : Ghosts S) (old new : Desk S) where
   -- the arrival was taken: the desk serves the events before and this one, and the text tells its
@@ -77,10 +80,14 @@ module _ {S : Type 0} (g : Ghosts S) (old new : Desk S) where
   abbrev pub IsTaken : ArrivalValue → List ℕ → Type 0
   IsTaken a text = After g old new (λ e. TakesArrival a e text)
 
-  -- the arrival was lost: the desk serves what it served, and the text tells why
-  pub record LosesArrival (text : List ℕ) : Type 0 where
+  -- the arrival was lost: the desk serves what it served, and the text tells why. That is S4 only
+  -- where the arrival is like none before it and there is no room for its receipt
+  pub record LosesArrival (a : ArrivalValue) (text : List ℕ) : Type 0 where
     pub kept : ServesStill g old new
-    pub told : IsFault text
+    pub fault : SFault
+    pub is_one : IsS1OrS2OrS4 fault
+    pub cause : After g old new (λ e. IsCause e a fault)
+    pub told : text ≡ fault_response fault
 
   -- the report was made, of what the store stands for
   pub record TellsReport (report : Report) (text : List ℕ) : Type 0 where
@@ -92,9 +99,9 @@ module _ {S : Type 0} (g : Ghosts S) (old new : Desk S) where
   -- taken
   abbrev pub IsAnswered : Request → List ℕ → Type 0
   IsAnswered (refused refusal) text = (new ≡ old) × IsOrMemory (refusal_response refusal) text
-  IsAnswered (arrives a) text = IsTaken a text ⊎ LosesArrival text
+  IsAnswered (arrives a) text = IsTaken a text ⊎ LosesArrival a text
   IsAnswered (wants report) text = ((new ≡ old) ⊎ Stays g old new)
-      × (TellsReport report text ⊎ IsFault text)
+      × (TellsReport report text ⊎ TellsFault text)
 
 -- the text of an answer, where there is none for want of memory
 abbrev pub text_or_memory : {A : Type 0} → (A → List ℕ) → Option A → List ℕ

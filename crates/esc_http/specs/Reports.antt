@@ -8,6 +8,7 @@ use Rattle.esc_envelope.specs.declared.kind.Kind.{Kind}
 use Rattle.esc_tables.specs.KeyName.{KeyName}
 use Rattle.esc_tables.specs.ObjectValue.{ObjectValue}
 use Rattle.esc_tables.specs.Reading.{reading}
+use Rattle.esc_apply.specs.Objects.{InOrder}
 use Rattle.esc_chain.specs.declared.gap.GapLine.{GapLine}
 use Rattle.esc_chain.specs.Gap.{AreGapLines}
 use Rattle.esc_check.specs.Export.{export_text}
@@ -49,10 +50,11 @@ module _ (e : List EventValue) where
     pub numbers : IsStatus e status
     pub is : text ≡ status_text status
 
-  -- the objects of a kind in the tables of the latest chain
+  -- the objects of a kind in the tables of the latest chain, by key in byte order
   pub record IsExport (kind : Kind) (text : List ℕ) : Type 0 where
     pub entries : List (KeyName × ObjectValue)
     pub tables : AreTables e entries
+    pub order : InOrder entries
     pub is : text ≡ export_text kind entries
 
   -- what breaks a rule in the tables of the latest chain, by what its last deposit says

@@ -5,7 +5,7 @@ use Rattle.esc_check.specs.FindingValue.{FindingValue}
 use Rattle.esc_check.specs.declared.stream.StreamFault.{StreamFault}
 use Rattle.esc_check.specs.declared.stream.StreamFault.TheVariants.{Source, NoMemory}
 use Rattle.esc_store.specs.declared.fault.SFault.{SFault}
-use Rattle.esc_store.specs.declared.fault.SFault.TheVariants.{S2}
+use Rattle.esc_store.specs.declared.fault.SFault.TheVariants.{S1, S2, S3, S4}
 use Rattle.esc_desk.specs.declared.status.End.{End}
 use Rattle.esc_desk.specs.Events.{EventValue}
 use Rattle.esc_desk.specs.Reads.{AreTables}
@@ -16,7 +16,10 @@ abbrev pub AreFoundAt : List EventValue → Option End → List FindingValue →
 AreFoundAt e end found = (entries : List Entry) × AreTables e entries
     × AreFindings entries end found
 
--- the fault that ends a report over a walk: the walk's own, or S2 where memory was refused
+-- the fault that ends a report over a walk: S2 where memory was refused, else S1
 abbrev pub walk_fault : StreamFault SFault → SFault
-walk_fault (Source fault) = fault
+walk_fault (Source S1) = S1
+walk_fault (Source S2) = S2
+walk_fault (Source S3) = S1
+walk_fault (Source S4) = S1
 walk_fault NoMemory = S2

@@ -153,7 +153,7 @@ fn answer_arrival<S: Alter>(
 {
     match desk.arrive(alloc, number, body) {
         Ok((reply, _)) => reply_response(alloc, &reply),
-        Err(fault) => fault_response(alloc, fault),
+        Err(cause) => fault_response(alloc, cause),
     }
 }
 

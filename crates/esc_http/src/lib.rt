@@ -14,7 +14,7 @@
 //! | there is one Content-Length, of digits alone | 400 |
 //! | it is at most 16,777,216 | 413 |
 //! | so many bytes follow the head; else it is no arrival | 400 |
-//! | the desk takes the arrival, or makes the report | 503 with `S1`, `S2` or `S4` |
+//! | the desk takes the arrival, or makes the report | 503 with `S1`, `S2` or, of an arrival, `S4` |
 //!
 //! An arrival that was taken is answered with its reply as JSON, 200 where the deposit is held and
 //! 422 where it isn't; a report with 200 and its text. Want of memory is 503 with `S2`, whatever
@@ -38,7 +38,8 @@
 //!
 //! The contract of [`serve_one`] speaks of readers and writers of std, which tell their bytes and
 //! no failures. [`serve`] has the same body over a [`Source`] and a [`Sink`], which tell failures
-//! too: there `Read` and `Write` are answered only where a call has failed.
+//! too: there `Read` and `Write` are answered only where a call has failed, and `Ok` only once the
+//! response was flushed.
 //!
 //! # Cost
 //!

@@ -46,7 +46,7 @@ impl From<WriteFailed> for ServeFault {
 /// Reads one request, answers it, and writes the response.
 ///
 /// Whatever is read, the response answers some request; where the reader tells its bytes, it is the
-/// request that they make.
+/// request that they make. At `Ok` the response was handed on (flushed).
 pub fn serve<S: Alter, R: Source, W: Sink>(
     alloc: Global,
     desk: &mut Desk<S>,
@@ -57,6 +57,7 @@ pub fn serve<S: Alter, R: Source, W: Sink>(
         × IfSome (R.remaining source.old) (λ input. Asks input request)
         × IsAnswered S.Store desk.old desk.new request text
         × Appends (W.contents sink.old) (W.contents sink.new) text) }
+    ensures flushed { OnOk result (IsTrue (W.flushed sink.new)) }
     ensures honest { WasHonest S.Store desk.old desk.new }
 
     // A read failed: nothing was written, and nothing arrived.
@@ -110,6 +111,7 @@ pub fn serve_one<S: Alter, R: Read, W: Write>(
 fn send_answer<W: Sink>(sink: &mut W, text: &Option<Vec<u8>>) -> Result<(), WriteFailed>
     ensures ok { OnOk result (Appends (W.contents sink.old) (W.contents sink.new)
         (text_or_memory (λ text. text.items) text.now)) }
+    ensures flushed { OnOk result (IsTrue (W.flushed sink.new)) }
     ensures err { OnErr result
         (AppendsBeginning (W.contents sink.old) (W.contents sink.new)
         (text_or_memory (λ text. text.items) text.now)) }

@@ -1,8 +1,9 @@
 //! The status report.
 
-ghost use Rattle.std.specs.Prelude.{◌≡◌, ◌++◌, ℕ, IfOk, OnOk, string_bytes, option_map};
+ghost use Rattle.std.specs.Prelude.{◌≡◌, ◌++◌, ℕ, IfOk, IfErr, OnOk, string_bytes, option_map};
 ghost use Rattle.std.specs.Fmt.{decimal};
 ghost use Rattle.esc_envelope.specs.Watermark.{watermark_text_of};
+ghost use Rattle.esc_store.specs.Faults.{IsS1OrS2};
 ghost use Rattle.esc_http.specs.StatusText.{
   number_line,
   counts_text,
@@ -21,7 +22,8 @@ use std::collections::BTreeMap;
 /// The status report: eleven lines. `S1` where the chain ends at a moment that has no text, as none
 /// of a manifest does.
 pub(crate) fn status_text(alloc: Global, status: &Status) -> Result<String, SFault>
-    ensures { IfOk result (λ text. string_bytes text ≡ status_text status.now) }
+    ensures text { IfOk result (λ text. string_bytes text ≡ status_text status.now) }
+    ensures cause { IfErr result IsS1OrS2 }
 {
     let mut text = String::new(alloc);
     push_counts(alloc, &mut text, status)?;
@@ -56,7 +58,8 @@ fn number_line(alloc: Global, name: &str, number: u64) -> Result<String, NoMemor
 }
 
 fn push_end(alloc: Global, text: &mut String, end: Option<(Place, u32)>) -> Result<(), SFault>
-    ensures { OnOk result (string_bytes text.new ≡ string_bytes text.old ++ end_line end) }
+    ensures pushed { OnOk result (string_bytes text.new ≡ string_bytes text.old ++ end_line end) }
+    ensures cause { IfErr result IsS1OrS2 }
 {
     let Some((place, resend)) = end else {
         text.push_str("end none\n")?;
@@ -68,7 +71,8 @@ fn push_end(alloc: Global, text: &mut String, end: Option<(Place, u32)>) -> Resu
 }
 
 fn end_text(alloc: Global, place: Place, resend: u32) -> Result<String, SFault>
-    ensures { IfOk result (λ line. string_bytes line ≡ end_text place resend) }
+    ensures line { IfOk result (λ line. string_bytes line ≡ end_text place resend) }
+    ensures cause { IfErr result IsS1OrS2 }
 {
     let Some(watermark) = watermark_text(alloc, place.watermark)? else {
         return Err(SFault::S1);

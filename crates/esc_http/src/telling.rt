@@ -1,8 +1,9 @@
 //! The texts of reports.
 
-ghost use Rattle.std.specs.Prelude.{◌≡◌, List, Some, IfOk};
+ghost use Rattle.std.specs.Prelude.{◌≡◌, List, Some, IfOk, IfErr};
 ghost use Rattle.std.specs.FinSet as set;
 ghost use Rattle.esc_chain.specs.Chain.{InRange};
+ghost use Rattle.esc_store.specs.Faults.{IsS1OrS2};
 ghost use Rattle.esc_desk.specs.Calls.{OkOver, Stays};
 ghost use Rattle.esc_request.specs.declared.reports.Report.TheVariants as what;
 ghost use Rattle.esc_http.specs.Reports.{IsReport};
@@ -29,6 +30,7 @@ pub fn report<S: Alter>(
     ensures stays { Stays S.Store desk.old desk.new }
     ensures text { OkOver S.Store desk.old desk.new result
         (λ e text. IsReport e report text.items) }
+    ensures cause { IfErr result IsS1OrS2 }
 {
     match report {
         Report::Status => report_status(alloc, desk),
@@ -43,6 +45,7 @@ fn report_gaps<S: Alter>(alloc: Global, desk: &mut Desk<S>) -> Result<Vec<u8>, S
     ensures stays { Stays S.Store desk.old desk.new }
     ensures text { OkOver S.Store desk.old desk.new result
         (λ e text. IsReport e what.Gaps text.items) }
+    ensures cause { IfErr result IsS1OrS2 }
 {
     let rows = desk.held(alloc)?;
     let manifest = desk.manifest();
@@ -55,6 +58,7 @@ fn report_gaps<S: Alter>(alloc: Global, desk: &mut Desk<S>) -> Result<Vec<u8>, S
 fn held_of(alloc: Global, manifest: &Manifest, rows: &[usize]) -> Result<Held, SFault>
     ensures held { IfOk result (λ held. held ≡ set.from_list rows.now) }
     ensures in_range { IfOk result (InRange manifest.now) }
+    ensures cause { IfErr result IsS1OrS2 }
 {
     let mut held = Held::new(alloc);
     for row in rows {
@@ -70,6 +74,7 @@ fn report_status<S: Alter>(alloc: Global, desk: &mut Desk<S>) -> Result<Vec<u8>,
     ensures stays { Stays S.Store desk.old desk.new }
     ensures text { OkOver S.Store desk.old desk.new result
         (λ e text. IsReport e what.Status text.items) }
+    ensures cause { IfErr result IsS1OrS2 }
 {
     let status = desk.status(alloc)?;
     Ok(status_text(alloc, &status)?.into_bytes())
@@ -80,6 +85,7 @@ fn report_links<S: Alter>(alloc: Global, desk: &mut Desk<S>) -> Result<Vec<u8>, 
     ensures stays { Stays S.Store desk.old desk.new }
     ensures text { OkOver S.Store desk.old desk.new result
         (λ e text. IsReport e what.Links text.items) }
+    ensures cause { IfErr result IsS1OrS2 }
 {
     let end = desk.end(alloc)?;
     let found = findings_at(alloc, desk, &end)?;
@@ -95,6 +101,7 @@ fn findings_at<S: Alter>(
     ensures stays { Stays S.Store desk.old desk.new }
     ensures found { OkOver S.Store desk.old desk.new result
         (λ e found. AreFoundAt e end.now found.items) }
+    ensures cause { IfErr result IsS1OrS2 }
 {
     tables_are_listed();
     match end {
@@ -109,6 +116,7 @@ fn findings<S: Alter>(alloc: Global, desk: &mut Desk<S>, end: &End) -> Result<Ve
     ensures stays { Stays S.Store desk.old desk.new }
     ensures found { OkOver S.Store desk.old desk.new result
         (λ e found. AreFoundAt e (Some end.now) found.items) }
+    ensures cause { IfErr result IsS1OrS2 }
 {
     tables_are_listed();
     let mut walk = desk.walk(alloc, None)?;
@@ -118,12 +126,14 @@ fn findings<S: Alter>(alloc: Global, desk: &mut Desk<S>, end: &End) -> Result<Ve
     }
 }
 
-// The fault that ends a report over a walk.
+// The fault that ends a report over a walk. A walk's contract doesn't say which faults there are.
 fn walk_fault(fault: StreamFault<SFault>) -> SFault
-    ensures { result ≡ walk_fault fault }
+    ensures told { result ≡ walk_fault fault }
+    ensures cause { IsS1OrS2 result }
 {
     match fault {
-        StreamFault::Source(fault) => fault,
+        StreamFault::Source(SFault::S2) => SFault::S2,
+        StreamFault::Source(SFault::S1 | SFault::S3 | SFault::S4) => SFault::S1,
         StreamFault::NoMemory => SFault::S2,
     }
 }
@@ -132,6 +142,7 @@ fn report_receipts<S: Alter>(alloc: Global, desk: &mut Desk<S>) -> Result<Vec<u8
     ensures stays { Stays S.Store desk.old desk.new }
     ensures text { OkOver S.Store desk.old desk.new result
         (λ e text. IsReport e what.Receipts text.items) }
+    ensures cause { IfErr result IsS1OrS2 }
 {
     let replies = desk.receipts(alloc)?;
     Ok(receipts_text(alloc, &replies)?)
@@ -142,6 +153,7 @@ fn report_export<S: Alter>(alloc: Global, desk: &mut Desk<S>, kind: Kind) -> Res
     ensures stays { Stays S.Store desk.old desk.new }
     ensures text { OkOver S.Store desk.old desk.new result
         (λ e text. IsReport e (what.Export kind) text.items) }
+    ensures cause { IfErr result IsS1OrS2 }
 {
     tables_are_listed();
     let mut walk = desk.walk(alloc, Some(kind))?;

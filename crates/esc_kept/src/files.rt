@@ -1,11 +1,12 @@
 //! The two files of a desk, and the desk over them.
 
-ghost use Rattle.std.specs.Prelude.{List, [], IsTrue, IfOk};
+ghost use Rattle.std.specs.Prelude.{List, [], IsTrue, IfOk, IfErr};
 ghost use Rattle.sqlite_wal.specs.Files.{outcomes, image_at};
 ghost use Rattle.sqlite_wal.specs.Reads.{AreClean};
 ghost use Rattle.sqlite_wal.specs.Recovery.{Image};
 ghost use Rattle.sqlite_trees.specs.Tree.{Trees};
 ghost use Rattle.sqlite.specs.Files.{over_files, image_of, HoldsDatabase};
+ghost use Rattle.esc_store.specs.Faults.{IsS1ToS3};
 ghost use Rattle.esc_desk.specs.Calls.{After, DeskLeaves, IsHonestDesk};
 ghost use Rattle.esc_desk.specs.Events.{EventValue};
 ghost use Rattle.esc_desk.specs.Serving.{DeskServes};
@@ -14,7 +15,7 @@ ghost use Rattle.esc_kept.specs.Images.{HoldsOneOf, ServesOneOf};
 
 use crate::opening::open_desk;
 use esc_desk::{Desk, SFault};
-use sqlite::{Connection, FileFrom, FileStore, Files, Options, Start};
+use sqlite::{Connection, Error, FileFrom, FileStore, Files, Options, Start};
 use sqlite_disk::Disk;
 use std::alloc::Global;
 
@@ -51,10 +52,11 @@ pub fn desk_of_files<D: Disk + Drop>(
         → (e doubtful : List EventValue)
         → HoldsOneOf (image_of D.Disk files) e doubtful
         → ServesOneOf over_files desk e doubtful) }
+    ensures cause { IfErr result IsS1ToS3 }
 {
     let connection = match Connection::open_files(alloc, files, options) {
         Ok(connection) => connection,
-        Err((error, _)) => return Err(SFault::from(error)),
+        Err((error, _)) => return Err(fault_of(error)),
     };
     match open_desk(alloc, connection) {
         Ok(desk) => Ok(desk),
@@ -69,14 +71,19 @@ pub fn open_desk_at<S: Start>(
     path: &str,
     start: S,
 ) -> Result<Desk<FileStore<FileFrom<S>>>, SFault>
+    ensures serves { IfOk result (λ desk. IsHonestDesk over_files desk
+        → (trees : Trees) → HoldsDatabase (image_at S.Start) trees
+        → (e : List EventValue) → IsStoreFor trees e
+        → DeskServes over_files desk e) }
     ensures found { IfOk result (λ desk. IsHonestDesk over_files desk
         → (e doubtful : List EventValue)
         → HoldsOneOf (image_at S.Start) e doubtful
         → ServesOneOf over_files desk e doubtful) }
+    ensures cause { IfErr result IsS1ToS3 }
 {
     let connection = match Connection::open_from(rt, path, false, start) {
         Ok(connection) => connection,
-        Err((error, _)) => return Err(SFault::from(error)),
+        Err((error, _)) => return Err(fault_of(error)),
     };
     match open_desk(rt.alloc(), connection) {
         Ok(desk) => Ok(desk),
@@ -93,20 +100,28 @@ pub fn reopen_desk<D: Disk + Drop>(
 ) -> Result<Desk<FileStore<D>>, SFault>
     ensures serves { IfOk result (λ again. After over_files desk again
         (λ e. DeskServes over_files again e)) }
+    ensures cause { IfErr result IsS1ToS3 }
 {
     let files = match desk.into_store().into_connection().close_files() {
         Ok(files) => files,
         Err((error, store)) => {
             drop(store.close());
-            return Err(SFault::from(error));
+            return Err(fault_of(error));
         }
     };
     let connection = match Connection::open_files(alloc, files, options) {
         Ok(connection) => connection,
-        Err((error, _)) => return Err(SFault::from(error)),
+        Err((error, _)) => return Err(fault_of(error)),
     };
     match open_desk(alloc, connection) {
         Ok(desk) => Ok(desk),
         Err((fault, _)) => Err(fault),
     }
+}
+
+// Why files can't be opened or closed.
+fn fault_of(error: Error) -> SFault
+    ensures { IsS1ToS3 result }
+{
+    SFault::from(error)
 }

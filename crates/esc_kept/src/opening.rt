@@ -1,9 +1,11 @@
 //! The desk over a connection's database.
 
-ghost use Rattle.std.specs.Prelude.{List, [], ◌∷◌, IfOk, MatchResult};
+ghost use Rattle.std.specs.Prelude.{List, [], ◌∷◌, IfOk, IfErr, MatchResult};
 ghost use Rattle.sqlite.specs.Held.{state};
 ghost use Rattle.sqlite.specs.State.{HasCleanDisk};
+ghost use Rattle.esc_store.specs.Faults.{IsS1ToS3};
 ghost use Rattle.esc_store.specs.Kept.{fresh};
+ghost use Rattle.esc_store.specs.Opening.{IsAsItWas};
 ghost use Rattle.esc_desk.specs.Calls.{DeskLeaves, IsHonestDesk, store_of};
 ghost use Rattle.esc_desk.specs.Events.{EventValue};
 ghost use Rattle.esc_desk.specs.Events.EventValue.{listed};
@@ -29,6 +31,9 @@ pub fn new_desk<S: Alter>(
         (λ desk. LeavesBlankOr S.Store connection (store_of desk).conn (fresh manifest.now))
         (λ e. LeavesBlankOr S.Store connection e.1 (fresh manifest.now)) }
     ensures left { IfOk result (λ desk. DeskLeaves S.Store desk (listed manifest.now ∷ []) []) }
+    ensures unchanged { IfErr result
+        (λ e. IsAsItWas (state S.Store connection) (state S.Store e.1)) }
+    ensures cause { IfErr result (λ e. IsS1ToS3 e.0) }
 {
     new_store_stands_for_its_manifest();
     match Store::create(alloc, connection, manifest) {
@@ -52,6 +57,9 @@ pub fn open_desk<S: Alter>(
     ensures left { IfOk result (λ desk. (e : List EventValue)
         → IsStoreFor (state S.Store connection).committed.trees e
         → DeskLeaves S.Store desk e []) }
+    ensures unchanged { IfErr result
+        (λ e. IsAsItWas (state S.Store connection) (state S.Store e.1)) }
+    ensures cause { IfErr result (λ e. IsS1ToS3 e.0) }
 {
     match Store::open(alloc, connection) {
         Ok(store) => Ok(Desk::open(store)),

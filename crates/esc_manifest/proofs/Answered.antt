@@ -17,7 +17,7 @@ pub record RowsAnswered (m : List MRow) (result : Result (List MRow) MFault) : T
   pub least : (code row : ℕ) → result ≡ Err (Refused code row) → IsLeast m code row
   pub numbers : (code row : ℕ) → result ≡ Err (Refused code row) → (1 ≤ code) × (code ≤ 13) × (row ≤ 4096)
 
--- a fault as an answer
+-- a fault as a result
 abbrev refusal : ℕ × ℕ → Result (List MRow) MFault
 refusal f = Err (Refused f.0 f.1)
 
@@ -53,7 +53,7 @@ text_in_range text result refused code row e = text_numbers text code row (text_
 
 -- ---- unions
 
--- number and row of an answer that is refused
+-- number and row of a refusal
 abbrev fault_in : Result (List MRow) (ℕ × ℕ) → ℕ × ℕ
 fault_in (Ok m) = (0, 0)
 fault_in (Err fault) = fault

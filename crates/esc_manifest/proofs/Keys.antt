@@ -1,6 +1,5 @@
--- Rows by their keys: what a collection that a loop over rows fills tells of them.
+-- Rows by their keys: what a collection that a loop over rows fills says of them.
 use Rattle.std.proofs.Common.{◌≡◌, ℕ, ◌+◌, ◌<◌, ◌≤◌, Bool, true, false, cond, List, length, get_or, None, refl, sym, ap, subst, ◌∙◌, arith, inl, inr}
-use Rattle.std.specs.Prelude.{not}
 use Rattle.std.specs.BTreeSet.{BTreeSet, contains, Updates}
 use Rattle.std.specs.Ordering.{is_eq}
 use Rattle.std.specs.declared.cmp.Ordering.{Ordering}
@@ -11,23 +10,16 @@ use Rattle.esc_manifest.specs.RowFaults.{first_against_earlier}
 use Rattle.esc_manifest.proofs.AcceptedRows.{no_earlier}
 use Rattle.esc_manifest.proofs.Least.{read_row}
 
--- no row so far stands against an earlier one, and the set has the keys of the rows so far
+-- no row so far contradicts an earlier one, and the set has the keys of the rows so far
 pub record AreApart {K : Type 0} (cmp : K → K → Ordering) (key : MRow → K) (against : MRow → MRow → Bool) (rows : List MRow) (i : ℕ) (s : BTreeSet K) : Type 0 where
   pub apart : (q k : ℕ) → q < k → k < i → against (row_at rows q) (row_at rows k) ≡ false
   pub has : (k : ℕ) → k < i → contains cmp s (key (row_at rows k)) ≡ true
-
-pub is_new : (there : Bool) → not there ≡ true → there ≡ false
-is_new true e = absurd cc
-is_new false e = refl
 
 either : (b : Bool) → cond b true true ≡ true
 either true = refl
 either false = refl
 
-pub none_yet : {K : Type 0} (cmp : K → K → Ordering) (key : MRow → K) (against : MRow → MRow → Bool) (rows : List MRow) (s : BTreeSet K) → AreApart cmp key against rows 0 s
-none_yet cmp key against rows s = record { apart = λ q k before lt. absurd (omega arith); has = λ k lt. absurd (omega arith) }
-
--- one more row, whose key was new: where rows that stand against each other have one key
+-- one more row, whose key was new: where rows that contradict each other have one key
 pub one_more : {K : Type 0} (cmp : K → K → Ordering) (key : MRow → K) (against : MRow → MRow → Bool)
     → ((q r : MRow) → against q r ≡ true → key q ≡ key r) → ((k : K) → is_eq (cmp k k) ≡ true)
     → (rows : List MRow) (i : ℕ) (row : MRow) (own_key : K) (s n : BTreeSet K) → i < length rows → row ≡ get_or rows i row

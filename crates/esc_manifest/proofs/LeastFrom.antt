@@ -3,6 +3,7 @@ use Rattle.std.proofs.Common.{◌≡◌, ◌⊎◌, ℕ, zero, suc, ◌+◌, ◌
 use Rattle.std.specs.Prelude.{position, if◌then◌else◌}
 use Rattle.std.proofs.lemmas.Bool.{cases_lt}
 use Rattle.std.proofs.lemmas.List.Quantifiers.{position-Some}
+use Rattle.std.proofs.lemmas.Option.{same_Some}
 use Rattle.esc_manifest.specs.RowFaults.{or_else, least, fault_or}
 use Rattle.esc_manifest.specs.Manifest.{index_or}
 use Rattle.esc_manifest.specs.LeastFault.{IsLeastOf}
@@ -44,13 +45,10 @@ pub record AtLeastRow (stands : ℕ → ℕ → Type 0) (code : ℕ) (o : Option
   pub none : o ≡ None → (s : ℕ) → stands code s → ⊥
   pub some : (row : ℕ) → o ≡ Some row → stands code row × ((s : ℕ) → stands code s → row ≤ s)
 
-same_pair : (a b : ℕ × ℕ) → ◌≡◌ {A = Option (ℕ × ℕ)} (Some a) (Some b) → a ≡ b
-same_pair a b e = cc
-
 pub found : (stands : ℕ → ℕ → Type 0) (low code row : ℕ) → stands code row → ((k s : ℕ) → low ≤ k → stands k s → (code < k) ⊎ ((code ≡ k) × (row ≤ s))) → LeastFrom stands low (Some (code, row))
 found stands low code row here all = record {
   none = λ e. absurd cc;
-  some = λ c r e. subst (λ (p : ℕ × ℕ). stands p.0 p.1 × ((k s : ℕ) → low ≤ k → stands k s → (p.0 < k) ⊎ ((p.0 ≡ k) × (p.1 ≤ s)))) (same_pair (code, row) (c, r) e) (here, all);
+  some = λ c r e. subst (λ (p : ℕ × ℕ). stands p.0 p.1 × ((k s : ℕ) → low ≤ k → stands k s → (p.0 < k) ⊎ ((p.0 ≡ k) × (p.1 ≤ s)))) (same_Some (code, row) (c, r) e) (here, all);
 }
 
 -- one number, and those from the next one on
@@ -82,7 +80,7 @@ step stands code high (Some row) next lt gap here later =
       | inr even ↦ let same : k ≡ code = omega arith in inr (omega arith, first s (subst (λ (x : ℕ). stands x s) same there))
     ])
 
--- faults from a lesser number on, where none stands between
+-- faults from a lesser number on, where none is between
 pub lower : (stands : ℕ → ℕ → Type 0) (low high : ℕ) (o : Option (ℕ × ℕ)) → ((k s : ℕ) → low ≤ k → k < high → stands k s → ⊥) → LeastFrom stands high o → LeastFrom stands low o
 lower stands low high o gap later = record {
   none = λ e k s le there. elim (cases_lt k high) [ inl below ↦ gap k s le below there | inr above ↦ later.none e k s above there ];

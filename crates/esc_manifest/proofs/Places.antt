@@ -1,4 +1,4 @@
--- A map from ids to places that a loop over rows fills, and what it tells of the rows.
+-- A map from ids to places that a loop over rows fills, and what it says of the rows.
 use Rattle.std.proofs.Common.{◌≡◌, ℕ, ◌+◌, ◌<◌, Bool, true, false, cond, List, length, get_or, Option, Some, None, refl, sym, ap, ◌∙◌, arith, inl, inr}
 use Rattle.std.specs.Prelude.{ℤ, not, ◌&&◌, int_lt}
 use Rattle.std.specs.BTreeMap.{BTreeMap}
@@ -51,7 +51,7 @@ place_put m i row key p s n inside is own here alone put known r lt = elim (case
     at : row ≡ row_at m i
     at = read_row m i row inside is
 
--- ---- what such a map tells
+-- ---- what such a map says
 
 some_is : (a b : Place) → ◌≡◌ {A = Option Place} (Some a) (Some b) → a ≡ b
 some_is a b e = cc

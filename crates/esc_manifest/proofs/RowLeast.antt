@@ -1,4 +1,4 @@
--- The fault that rows have is the least that stands.
+-- The fault that is returned of rows is their least.
 use Rattle.std.proofs.Common.{◌≡◌, ◌⊎◌, ℕ, ◌<◌, ◌≤◌, false, List, length, Option, Some, None, refl, sym, subst, arith, inl, inr}
 use Rattle.std.specs.Prelude.{◌==◌, nat_lt, position}
 use Rattle.std.proofs.lemmas.Bool.{cases_Bool, cases_lt}

@@ -1,4 +1,4 @@
--- The fault that a text has is the least that stands.
+-- The fault that is returned of a text is its least.
 use Rattle.std.proofs.Common.{◌≡◌, ◌⊎◌, ℕ, suc, ◌+◌, ◌-◌, ◌<◌, ◌≤◌, Bool, true, false, List, [], ◌∷◌, length, map, Option, Some, None, Err, refl, sym, ap, subst, ◌∙◌, arith, inl, inr}
 use Rattle.std.specs.Prelude.{◌==◌, nat_lt, position, if◌then◌else◌}
 use Rattle.std.proofs.lemmas.Bool.{cases_Bool, cases_lt}
@@ -35,7 +35,7 @@ high_number fields k lt =
     let e9 : (k == 9) ≡ false = grind (arith, nat_tests) in
     rw (e4, e5, e6, e7, e8, e9) refl
 
--- M4 and on stand at records below the heading alone
+-- M4 and on are at records below the heading alone
 not_above : (text : List ℕ) (code s : ℕ) → 3 < code → StandsAbove text code s → ⊥
 not_above text code s over (inl one) = absurd (omega (arith, one.0))
 not_above text code s over (inr (inl two)) = absurd (omega (arith, two.0))

@@ -56,7 +56,7 @@ is_listed m r = list_any (λ q. same_row q r) m
 abbrev pub new_rows : List MRow → List MRow → List MRow
 new_rows m more = filter (λ r. not (is_listed m r)) more
 
--- the union: the rows, and behind them those of `more` that aren't listed yet
+-- the union: the rows, and after them those of `more` that aren't listed yet
 abbrev pub extended : List MRow → List MRow → List MRow
 extended m more = m ++ new_rows m more
 
@@ -77,16 +77,16 @@ abbrev pub row_or_whole : Option ℕ → ℕ
 row_or_whole None = 0
 row_or_whole (Some index) = suc index
 
--- the row of `more` that a fault of the union is told at: the least that isn't listed yet and has
--- it (as `more` is accepted by itself, each of these faults is against a row of m)
+-- the row of `more` that a fault of the union is reported at: the least that isn't listed yet and
+-- has it (as `more` is accepted by itself, each of these faults is against a row of m)
 abbrev pub blamed : ℕ → List MRow → List MRow → ℕ
 blamed code m more = row_or_whole (position (λ r. not (is_listed m r) && is_blamed code m r) more)
 
--- the union, or the number of its fault and the row of `more` that it is told at
+-- the union, or the number of its fault and the row of `more` that it is reported at
 abbrev pub union_or : List MRow → List MRow → Option (ℕ × ℕ) → Result (List MRow) (ℕ × ℕ)
 union_or m more None = Ok (extended m more)
 union_or m more (Some fault) = Err (fault.0, blamed fault.0 m more)
 
--- an accepted manifest and more rows: the union, or the least fault that stands in it
+-- an accepted manifest and more rows: the union, or the least fault that it has
 unfoldable pub extension : List MRow → List MRow → Result (List MRow) (ℕ × ℕ)
 extension m more = union_or m more (rows_fault (extended m more))

@@ -1,4 +1,4 @@
--- The least fault of rows, of a text and of an extension: which faults stand, and at which rows
+-- The least fault of rows, of a text and of an extension: which faults there are, and at which rows
 -- (this project's profile).
 use Rattle.std.specs.Prelude.{
   ◌≡◌,
@@ -51,7 +51,7 @@ use Rattle.esc_manifest.specs.RowFaults.{
 }
 use Rattle.esc_manifest.specs.Rows.{row_at}
 
--- of faults, each a number with a row: this one stands, and no lesser number, nor the same number
+-- of faults, each a number with a row: this one is there, and no lesser number, nor the same number
 -- at a lesser row
 abbrev pub IsLeastOf : (ℕ → ℕ → Type 0) → ℕ → ℕ → Type 0
 IsLeastOf stands code row =
@@ -71,7 +71,7 @@ has_fault m code r =
     else if code == 13 then list_any (λ q. same_digest q (row_at m r)) (take r m)
     else false
 
--- a fault of rows stands: M1 of the whole, at row 0, or another one at a row, counted from 1
+-- a fault of rows: M1 of the whole, at row 0, or another one at a row, counted from 1
 abbrev pub Stands : List MRow → ℕ → ℕ → Type 0
 Stands m code row =
     ((code ≡ 1) × (row ≡ 0) × (most_rows < length m))
@@ -81,7 +81,7 @@ Stands m code row =
 abbrev pub IsLeast : List MRow → ℕ → ℕ → Type 0
 IsLeast m = IsLeastOf (Stands m)
 
--- the records of a text that stand below the heading
+-- the records of a text below the heading
 abbrev pub records_below : List ℕ → List (List (List ℕ))
 records_below text = drop 1 (records_of text)
 
@@ -100,7 +100,7 @@ is_faulty fields code =
     else if code == 9 then lacks_digest fields
     else false
 
--- a fault stands in the whole of a text: M1; in its heading: M3; or in any record: M2, where the
+-- a fault of the whole of a text: M1; of its heading: M3; or in any record: M2, where the
 -- heading is row 0
 abbrev pub StandsAbove : List ℕ → ℕ → ℕ → Type 0
 StandsAbove text code row =
@@ -110,14 +110,14 @@ StandsAbove text code row =
     × (has_other_length (record_at (records_of text) row) ≡ true))
     ⊎ ((code ≡ 3) × (row ≡ 0) × (lacks_heading (records_of text) ≡ true))
 
--- a fault of a text's bytes or records stands: so, or at a record below the heading, counted from 1
+-- a fault of a text's bytes or records: so, or at a record below the heading, counted from 1
 abbrev pub StandsInText : List ℕ → ℕ → ℕ → Type 0
 StandsInText text code row =
     StandsAbove text code row
     ⊎ ((r : ℕ) × (r < length (records_below text)) × (row ≡ suc r)
     × (is_faulty (record_at (records_below text) r) code ≡ true))
 
--- the least fault of a text: of its bytes and records; or, where none of those stands, so that each
+-- the least fault of a text: of its bytes and records; or, where it has none of those, so that each
 -- record below the heading writes a row, of these rows
 abbrev pub IsLeastInText : List ℕ → ℕ → ℕ → Type 0
 IsLeastInText text code row =
@@ -125,7 +125,7 @@ IsLeastInText text code row =
     ⊎ (((k s : ℕ) → StandsInText text k s → ⊥)
     × (m : List MRow) × (map row_of (records_below text) ≡ map Some m) × IsLeast m code row)
 
--- the least fault of the union of m and more, told at the row of `more` that is blamed
+-- the least fault of the union of m and more, reported at the row of `more` that is blamed
 abbrev pub IsLeastOfUnion : List MRow → List MRow → ℕ → ℕ → Type 0
 IsLeastOfUnion m more code row =
     (s : ℕ) × IsLeast (extended m more) code s × (row ≡ blamed code m more)

@@ -1,6 +1,6 @@
-//! The first rows that stand against others. Keys that are looked up in sorted collections tell
-//! quickly that there is no such row, as in each manifest that is accepted; else, and where memory
-//! is refused, each row is compared with each.
+//! The first rows that contradict others. Look-ups in sorted collections show quickly that there is
+//! no such row, as in each manifest that is accepted; else, and out of memory, each row is compared
+//! with each.
 
 ghost use Rattle.std.specs.Prelude.{◌≡◌, ◌<◌, length, not, IfOk, IfSome, Some, None, true};
 ghost use Rattle.std.specs.List.{list_all};
@@ -58,7 +58,7 @@ fn have_own_digests(alloc: Global, rows: &[MRow]) -> Result<bool, NoMemory>
     Ok(true)
 }
 
-// Whether an id stood in no place before, or in this one.
+// Whether an id was in no place before, or in this one.
 fn is_own(before: Option<Place>, place: Place) -> bool
     ensures { result ≡ true → (other : Place) → before ≡ Some other → other ≡ place }
 {
@@ -68,7 +68,7 @@ fn is_own(before: Option<Place>, place: Place) -> bool
     }
 }
 
-// The place of each id, if no id stands in two.
+// The place of each id, if no id is in two.
 fn own_places(alloc: Global, rows: &[MRow]) -> Result<Option<BTreeMap<&str, Place>>, NoMemory>
     ensures { IfOk result (λ o. IfSome o (HavePlaces rows.now)) }
 {
@@ -139,7 +139,7 @@ pub(crate) fn repeated_digest(alloc: Global, rows: &[MRow]) -> Option<usize>
     }
 }
 
-/// The place of each id, if no id stands in two, and if memory suffices.
+/// The place of each id, if no id is in two, and if memory suffices.
 pub(crate) fn places_of_ids(alloc: Global, rows: &[MRow]) -> Option<BTreeMap<&str, Place>>
     ensures { IfSome result (HavePlaces rows.now) }
 {
@@ -149,7 +149,7 @@ pub(crate) fn places_of_ids(alloc: Global, rows: &[MRow]) -> Option<BTreeMap<&st
     }
 }
 
-/// The least row whose id stands in another place too.
+/// The least row whose id is in another place too.
 pub(crate) fn id_in_two_places(
     places: &Option<BTreeMap<&str, Place>>,
     rows: &[MRow],

@@ -78,7 +78,7 @@ fn copied(alloc: Global, rows: &[MRow]) -> Result<Vec<MRow>, NoMemory>
     Ok(copies)
 }
 
-// The rows, and behind them those of `more` that aren't listed yet.
+// The rows, and after them those of `more` that aren't listed yet.
 fn union_of(alloc: Global, rows: &[MRow], more: &[MRow]) -> Result<Vec<MRow>, NoMemory>
     ensures { IfOk result (λ union. union.items ≡ extended rows.now more.now) }
 {
@@ -99,7 +99,7 @@ fn is_named_late(rows: &[MRow], row: &MRow) -> bool
     rows.iter().any(|q| follows_later(row, q))
 }
 
-// Whether a row that isn't listed yet stands against one of these rows by the fault of a number.
+// Whether a row that isn't listed yet contradicts one of these rows, by the fault of a number.
 fn is_blamed(code: u8, rows: &[MRow], row: &MRow) -> bool
     ensures { result ≡ is_blamed code rows.now row.now }
 {
@@ -122,7 +122,7 @@ fn first_blamed(code: u8, rows: &[MRow], more: &[MRow]) -> Option<usize>
         .position(|row| !is_listed(rows, row) && is_blamed(code, rows, row))
 }
 
-// The row of `more` that the fault of a number is told at, from 1; 0 is the whole.
+// The row of `more` that the fault of a number is reported at, from 1; 0 is the whole.
 fn blamed(code: u8, rows: &[MRow], more: &[MRow]) -> u32
     requires few { length more.now ≤ 4096 }
     ensures blamed { result ≡ blamed code rows.now more.now }
@@ -157,11 +157,11 @@ impl Manifest {
         }
     }
 
-    /// This manifest, and behind its rows those of another one that aren't equal to one of them in
+    /// This manifest, and after its rows those of another one that aren't equal to one of them in
     /// all six values, in their order. Refuses with the least of M1 (more than 4,096 rows, row 0)
-    /// and M10 to M13 that stands in the union. The row is the least of `more`, counted from 1 as
-    /// it stands there, that isn't listed yet and repeats or contradicts another; for M12 the least
-    /// that is a faulty Differential or whose id a faulty Differential of this manifest names.
+    /// and M10 to M13 that the union has. The row is the least of `more`, counted from 1 in `more`,
+    /// that isn't listed yet and repeats or contradicts another; for M12 the least that is a faulty
+    /// Differential or whose id a faulty Differential of this manifest names.
     pub fn extend(&self, alloc: Global, more: &Manifest) -> Result<Manifest, MFault>
         ensures accepted { IfOk result (λ m. extension self.now more.now ≡ Ok m) }
         ensures union { IfOk result (λ m. m ≡ extended self.now more.now) }

@@ -11,41 +11,51 @@
 //! them. `Manifest::extend` gives the `Manifest` of one manifest's rows and the rows of another one
 //! that it doesn't list yet, where an operator releases the manifest in parts.
 //!
+//! ```text
+//! let manifest = read_manifest(alloc, bytes)?;
+//! if let Some(row) = manifest.row_by_digest(&digest) {
+//!     // manifest.rows()[row] is the deposit whose bundle has this SHA-256
+//! }
+//! ```
+//!
 //! A fault has a number from M1 to M13 and a row, counted from 1; row 0 is the heading or the whole
 //! file:
 //!
 //! - M1: more than 4,096 rows, or more than 4,194,304 bytes (row 0);
-//! - M2: a record has not six fields; M3: the heading is missing or another (row 0);
+//! - M2: a record does not have six fields; M3: the heading is missing or another (row 0);
 //! - M4: an id is not 1 to 64 of `A-Z a-z 0-9 . _ -`, or a prevId is neither empty nor of that
 //!   form;
 //! - M5: the type is not `FULL`, `INCR` or `DIFF`; M6: the watermark is no moment of its form;
 //! - M7: a `DIFF` has no prevId; M8: resend is neither empty, which is 0, nor 1 to 6 digits;
 //! - M9: the digest is not 64 hexadecimal digits, of either case;
-//! - M10: place and resend stand twice; M11: an id stands in two places;
+//! - M10: a place occurs twice with one resend; M11: an id is in two places;
 //! - M12: the prevId of a `DIFF` names a listed row whose watermark isn't earlier than its own;
-//! M13: a digest stands   twice.
+//! - M13: a digest occurs twice.
 //!
-//! Of the faults that stand anywhere in a text the one of least number is answered, at the least
-//! row that has it; the row of M10, M11 and M13 is the least that repeats or contradicts an earlier
-//! one. A fault of two manifests' union is told at the row of the second one that isn't listed yet
-//! and stands against the first.
+//! Of all faults of a text the one of least number is returned, at the least row that has it; the
+//! row of M10, M11 and M13 is the least that repeats or contradicts an earlier one. A fault of the
+//! union of two manifests is reported at the row of the second one that isn't listed yet and
+//! contradicts the first.
 //!
 //! # What the contracts mean
 //!
 //! `specs/Manifest.antt` and `specs/RowFaults.antt` say for each number which records and rows have
-//! that fault, and `specs/LeastFault.antt` which fault is the least: no other that stands has a
-//! lesser number, nor the same number at a lesser row (`IsLeastInText`, `IsLeast`). `read_manifest`
-//! and `from_rows` refuse with exactly that one, but for want of memory in the former.
+//! that fault, and `specs/LeastFault.antt` which fault is the least: no other fault of the text has
+//! a lesser number, nor the same number at a lesser row (`IsLeastInText`, `IsLeast`).
+//! `read_manifest` and `from_rows` refuse with exactly that one; out of memory, `read_manifest`
+//! returns `MFault::NoMemory`.
 //! `manifest_of` and `rows_fault` are the same as functions; by a law they give the least fault.
 //! What the rows of an accepted manifest are is the one fact `IsAccepted` of `specs/Accepted.antt`,
-//! which each `Manifest` carries and `Manifest::rows` gives on; by a law it holds of exactly the
+//! which each `Manifest` carries and `Manifest::rows` returns; by a law it holds of exactly the
 //! rows without a fault. `specs/Extension.antt` has the union of two manifests, or its fault:
-//! `Manifest::extend` answers exactly that, and `IsLeastOfUnion` is its fault by what stands.
+//! `Manifest::extend` returns exactly that, and `IsLeastOfUnion` says which fault it is, by the
+//! faults that the union has.
 //!
 //! # Time
 //!
 //! Rows are tested by sets and a map of their keys, so that an accepted manifest takes time n log
-//! n; each row is compared with each only where there is a fault, or no memory for the keys.
+//! n; each row is compared with each only where there is a fault, or where the keys can't be
+//! allocated.
 #![tactic(auto)]
 
 mod apart;

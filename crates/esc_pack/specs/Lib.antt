@@ -1,3 +1,5 @@
+pub mod Bundling
+pub mod GivenRows
 pub mod Listing
 pub mod Release
 pub mod Written

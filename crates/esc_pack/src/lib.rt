@@ -2,6 +2,13 @@
 //!
 //! # In and out
 //!
+//! `bundle_of_files` takes a description, which is an envelope (`esc_envelope`), and the bytes of
+//! the CSV files that an agent sent for each table that it declares, and gives their bundle
+//! (`esc_bundle`): the description as it is, and for each table a section with the rows of its
+//! files, one file after the other, without their headings where they have such. It refuses a
+//! description that is no envelope, files that aren't as it says, and what is no bundle or no
+//! deposit then.
+//!
 //! `manifest_of_bundles` takes the bytes of bundles (`esc_bundle`) and gives the text of their
 //! release manifest (`esc_manifest`): the heading `id,type,watermark,prevId,resend,sha256`, and a
 //! line for each bundle, with what its deposit says of itself and the SHA-256 of its bytes. The
@@ -21,15 +28,26 @@
 //!
 //! # What the contracts mean
 //!
+//! `specs/GivenRows.antt` says which rows files have, and `specs/Bundling.antt` what their bundle
+//! is (`IsBundleOf`): its sections, and that `read_deposit` reads each table as just these rows,
+//! and the bundle as the deposit that they make.
+//!
 //! `specs/Release.antt` says what the rows of bundles are (`IsRelease`), `specs/Written.antt` what
 //! their text is, and `specs/Listing.antt` puts them together: a text that is given is the text of
 //! those rows, and `read_manifest` reads it as exactly those rows (`IsManifestOf`); a refusal is
 //! one that stands (`IsRefused`), or that of memory, of which a contract says nothing.
 #![tactic(auto)]
 
+mod bundle;
+mod bundle_fault;
 mod fault;
+mod given;
 mod manifest;
+mod table_text;
 mod written;
 
+pub use bundle::bundle_of_files;
+pub use bundle_fault::BundleFault;
 pub use fault::ReleaseFault;
+pub use given::TableFiles;
 pub use manifest::manifest_of_bundles;

@@ -4,14 +4,15 @@ use Rattle.std.specs.Prelude.{nat_lt, ◌&&◌, Result, Ok, Err, IfOk, IfSome, I
 use Rattle.esc_bundle.specs.declared.fault.NoMemory.{NoMemory}
 use Rattle.std.specs.List.{AllByRecursion, list_all, flat_map}
 use Rattle.std.specs.Str.{is_utf8}
-use Rattle.std.proofs.lemmas.Bool.{cases_Bool}
+use Rattle.std.proofs.lemmas.Bool.{cases_Bool, and_parts}
 use Rattle.std.proofs.lemmas.Bool.Decides.{nat_tests}
 use Rattle.std.proofs.lemmas.List.{append-nil}
 use Rattle.std.proofs.lemmas.Str.{is_utf8-from_IsUtf8}
+use Rattle.std.proofs.lemmas.Option.{same_Some}
 use Rattle.esc_tables.specs.ObjectValue.{RowValue, ObjectValue}
 use Rattle.esc_record.specs.Record.{number_bytes, row_bytes, object_bytes, rows_of, is_small, is_small_cell, is_small_row, is_small_object, record_of, IsCellOfTexts, IsRowOfTexts, IsOfTexts}
 use Rattle.esc_record.specs.Reading.{◌>>=◌, cut, number_at, many, row_at, of_rows, object_of}
-use Rattle.esc_record.proofs.Pieces.{AreBytes, IsGoodCell, IsGoodRow, bind_some, some_same, and_true, number_again, number_takes, many_again, many_takes, row_again, row_takes}
+use Rattle.esc_record.proofs.Pieces.{AreBytes, IsGoodCell, IsGoodRow, bind_some, number_again, number_takes, many_again, many_takes, row_again, row_takes}
 
 -- ---- which rows are good
 
@@ -22,8 +23,8 @@ record Passes (is_text : List ℕ → Bool) (r : RowValue) : Type 0 where
 good_cells : (is_text : List ℕ → Bool) (cs : List (List ℕ × List ℕ)) → list_all is_small_cell cs ≡ true → AllByRecursion (λ (c : List ℕ × List ℕ). (is_text c.0 ≡ true) × (is_text c.1 ≡ true)) cs → AllByRecursion (IsGoodCell is_text) cs
 good_cells is_text [] small pass = tt
 good_cells is_text (c ∷ cs) small pass =
-    let a = and_true (is_small_cell c) (list_all is_small_cell cs) small in
-    let b = and_true (is_small (length c.0)) (is_small (length c.1)) a.0 in
+    let a = and_parts (is_small_cell c) (list_all is_small_cell cs) small in
+    let b = and_parts (is_small (length c.0)) (is_small (length c.1)) a.0 in
     let field : length c.0 < 2 ^ 32 = let h = b.0 in grind (arith, nat_tests) in
     let value : length c.1 < 2 ^ 32 = let h = b.1 in grind (arith, nat_tests) in
     (((field, pass.0.0), (value, pass.0.1)), good_cells is_text cs a.1 pass.1)
@@ -31,9 +32,9 @@ good_cells is_text (c ∷ cs) small pass =
 good_rows : (is_text : List ℕ → Bool) (rs : List RowValue) → list_all is_small_row rs ≡ true → AllByRecursion (Passes is_text) rs → AllByRecursion (IsGoodRow is_text) rs
 good_rows is_text [] small pass = tt
 good_rows is_text (r ∷ rs) small pass =
-    let a = and_true (is_small_row r) (list_all is_small_row rs) small in
-    let b = and_true (is_small (length r.table) && is_small (length r.cells)) (list_all is_small_cell r.cells) a.0 in
-    let d = and_true (is_small (length r.table)) (is_small (length r.cells)) b.0 in
+    let a = and_parts (is_small_row r) (list_all is_small_row rs) small in
+    let b = and_parts (is_small (length r.table) && is_small (length r.cells)) (list_all is_small_cell r.cells) a.0 in
+    let d = and_parts (is_small (length r.table)) (is_small (length r.cells)) b.0 in
     let table : length r.table < 2 ^ 32 = let h = d.0 in grind (arith, nat_tests) in
     let few : length r.cells < 2 ^ 32 = let h = d.1 in grind (arith, nat_tests) in
     (record { table = (table, pass.0.table); few = few; cells = good_cells is_text r.cells b.1 pass.0.cells }, good_rows is_text rs a.1 pass.1)
@@ -81,7 +82,7 @@ rows_at is_text bytes = number_at bytes >>= (λ n. many (row_at is_text) n.0 n.1
 rows_again : (is_text : List ℕ → Bool) (o : ObjectValue) (more : List ℕ) → is_small_object o ≡ true → AllByRecursion (Passes is_text) (rows_of o) → rows_at is_text (object_bytes o ++ more) ≡ Some (rows_of o, more)
 unfolding rows_at
 rows_again is_text o more small pass =
-    let a = and_true (is_small (length (rows_of o))) (list_all is_small_row (rows_of o)) small in
+    let a = and_parts (is_small (length (rows_of o))) (list_all is_small_row (rows_of o)) small in
     let few : length (rows_of o) < 2 ^ 32 = let h = a.0 in grind (arith, nat_tests) in
     let rows = flat_map row_bytes (rows_of o) in
     let e : object_bytes o ++ more ≡ number_bytes (length (rows_of o)) ++ (rows ++ more) = append_assoc (number_bytes (length (rows_of o))) rows more in
@@ -95,7 +96,7 @@ record IsRecord (o : ObjectValue) (bytes : List ℕ) : Type 0 where
 record_is : (o : ObjectValue) (bytes : List ℕ) → record_of o ≡ Some bytes → IsRecord o bytes
 unfolding record_of
 record_is o bytes h = elim (cases_Bool (is_small_object o)) [
-  | inl small ↦ record { small = small; is = some_same _ _ (rw small at h) }
+  | inl small ↦ record { small = small; is = same_Some _ _ (rw small at h) }
   | inr large ↦ let none : None ≡ Some bytes = rw large at h in absurd cc
 ]
 
@@ -111,7 +112,7 @@ alone o p bytes more ho hp =
     let second : rows_at any_text (bytes ++ more) ≡ Some (rows_of p, []) = ap (rows_at any_text) (sym b.is ∙ sym (append-nil (object_bytes p))) ∙ rows_again any_text p [] b.small (all_pass (rows_of p)) in
     let both : List RowValue × List ℕ = (rows_of o, more) in
     let other : List RowValue × List ℕ = (rows_of p, []) in
-    let e : both ≡ other = some_same _ _ (sym first ∙ second) in
+    let e : both ≡ other = same_Some _ _ (sym first ∙ second) in
     (ap (λ q. q.1) e, object_is o p (ap (λ q. q.0) e))
 
 -- the record of an object of texts is read as that object
@@ -133,7 +134,7 @@ nothing_left (x ∷ r) p h =
 
 of_rows_is : (rows : List RowValue) (o : ObjectValue) → of_rows is_utf8 rows ≡ Some o → rows ≡ rows_of o
 of_rows_is [] o h = absurd cc
-of_rows_is (r ∷ rs) o h = ap rows_of (some_same _ _ h)
+of_rows_is (r ∷ rs) o h = ap rows_of (same_Some _ _ h)
 
 -- what is read as an object is its record
 pub object_takes : (bytes : List ℕ) (o : ObjectValue) → AreBytes bytes → object_of is_utf8 bytes ≡ Some o → record_of o ≡ Some bytes

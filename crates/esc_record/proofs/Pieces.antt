@@ -1,6 +1,6 @@
 -- The pieces of a record: what is read is its text, and its text is read, whatever follows.
 use Rattle.std.proofs.Common.{◌≡◌, ℕ, zero, suc, ◌+◌, ◌^◌, ◌<◌, ◌≤◌, Bool, true, false, List, [], ◌∷◌, ◌++◌, length, take, drop, get_or, Option, None, Some, refl, sym, ap, subst, ◌∙◌, arith, append_assoc, inl, inr}
-use Rattle.std.specs.Prelude.{nat_lt, ◌&&◌, if◌then◌else◌}
+use Rattle.std.specs.Prelude.{nat_lt, if◌then◌else◌}
 use Rattle.std.specs.List.{AllByRecursion, flat_map}
 use Rattle.std.specs.Int.{from_be_bytes, to_be_bytes, w32}
 use Rattle.std.proofs.lemmas.Bool.{cases_Bool, cases_lt}
@@ -8,6 +8,7 @@ use Rattle.std.proofs.lemmas.Bool.Decides.{nat_tests}
 use Rattle.std.proofs.lemmas.List.{get_or-drop, get_or-take, get_or_past, length-take, take_at, drop_at, take-append-drop, length-append, length-take-le}
 use Rattle.std.proofs.lemmas.List.Concat.{flat_map-cons}
 use Rattle.std.proofs.lemmas.Nat.{be_bytes_4, from_be_bytes-to_be_bytes_4}
+use Rattle.std.proofs.lemmas.Option.{same_Some}
 use Rattle.esc_tables.specs.ObjectValue.{RowValue}
 use Rattle.esc_record.specs.Record.{number_bytes, text_bytes, cell_bytes, row_bytes}
 use Rattle.esc_record.specs.Reading.{◌>>=◌, cut, number_at, many, text_at, cell_at, row_at}
@@ -29,9 +30,6 @@ pub record Took {A : Type 0} (text : A → List ℕ) (Good : A → Type 0) (byte
 abbrev pub Takes : {A : Type 0} → (List ℕ → Option (A × List ℕ)) → (A → List ℕ) → (A → Type 0) → Type 0
 Takes {A} one text Good = (bytes : List ℕ) (p : A × List ℕ) → AreBytes bytes → one bytes ≡ Some p → Took text Good bytes p
 
-pub some_same : {A : Type 0} (a b : A) → Some a ≡ Some b → a ≡ b
-some_same a b h = cc
-
 pub record Bound {A B : Type 0} (o : Option A) (f : A → Option B) (y : B) : Type 0 where
   pub it : A
   pub was : o ≡ Some it
@@ -40,10 +38,6 @@ pub record Bound {A B : Type 0} (o : Option A) (f : A → Option B) (y : B) : Ty
 pub bind_some : {A B : Type 0} (o : Option A) (f : A → Option B) (y : B) → (o >>= f) ≡ Some y → Bound o f y
 bind_some None f y h = absurd cc
 bind_some (Some x) f y h = record { it = x; was = refl; goes = h }
-
-pub and_true : (a b : Bool) → (a && b) ≡ true → (a ≡ true) × (b ≡ true)
-and_true true b h = (refl, h)
-and_true false b h = absurd cc
 
 bytes_drop : (n : ℕ) (bytes : List ℕ) → AreBytes bytes → AreBytes (drop n bytes)
 bytes_drop n bytes are i = rw get_or-drop (are (n + i))
@@ -66,7 +60,7 @@ cut_takes n bytes p h = elim (cases_Bool (nat_lt (length bytes) n)) [
   | inl short ↦ let none : None ≡ Some p = rw short at h in absurd cc
   | inr long ↦ (
       let enough : n ≤ length bytes = grind (arith, nat_tests) in
-      let e : (take n bytes, drop n bytes) ≡ p = some_same _ _ (rw long at h) in
+      let e : (take n bytes, drop n bytes) ≡ p = same_Some _ _ (rw long at h) in
       subst (IsCut n bytes) e (record { whole = sym (take-append-drop n bytes); size = length-take-le n bytes enough; front = refl; back = refl }))
 ]
 
@@ -90,7 +84,7 @@ unfolding number_bytes
 number_takes bytes p are h =
     let b = bind_some (cut 4 bytes) (λ q. Some (from_be_bytes w32 q.0, q.1)) p h in
     let k = cut_takes 4 bytes b.it b.was in
-    let e : (from_be_bytes w32 b.it.0, b.it.1) ≡ p = some_same _ _ b.goes in
+    let e : (from_be_bytes w32 b.it.0, b.it.1) ≡ p = same_Some _ _ b.goes in
     let four : AreBytes b.it.0 = rw k.front (short_bytes 4 bytes are) in
     subst (Took number_bytes (λ n. n < 2 ^ 32) bytes) e (record {
       is = k.whole ∙ ap (λ front. front ++ b.it.1) (sym (be_bytes_4 b.it.0 _ k.size four refl));
@@ -117,7 +111,7 @@ pub many_takes : {A : Type 0} (one : List ℕ → Option (A × List ℕ)) (text 
     → (n : ℕ) (bytes : List ℕ) (p : List A × List ℕ) → AreBytes bytes → many one n bytes ≡ Some p → TookMany text Good n bytes p
 many_takes {A} one text Good takes zero bytes p are h =
     let none : List A × List ℕ = ([], bytes) in
-    let e : none ≡ p = some_same _ _ h in
+    let e : none ≡ p = same_Some _ _ h in
     subst (TookMany text Good 0 bytes) e (record { is = refl; size = refl; good = tt; rest = are })
 many_takes {A} one text Good takes (suc n) bytes p are h =
     let a = bind_some (one bytes) (λ x. many one n x.1 >>= (λ xs. Some (x.0 ∷ xs.0, xs.1))) p h in
@@ -125,7 +119,7 @@ many_takes {A} one text Good takes (suc n) bytes p are h =
     let first = takes bytes a.it are a.was in
     let others = many_takes one text Good takes n a.it.1 b.it first.rest b.was in
     let both : List A × List ℕ = (a.it.0 ∷ b.it.0, b.it.1) in
-    let e : both ≡ p = some_same _ _ b.goes in
+    let e : both ≡ p = same_Some _ _ b.goes in
     subst (TookMany text Good (suc n) bytes) e (record {
       is = first.is ∙ (ap (λ t. text a.it.0 ++ t) others.is ∙ (sym (append_assoc (text a.it.0) (flat_map text b.it.0) b.it.1) ∙ ap (λ t. t ++ b.it.1) (sym (flat_map-cons text a.it.0 b.it.0))));
       size = ap suc others.size;
@@ -151,7 +145,7 @@ text_takes is_text bytes p are h =
     let k = cut_takes a.it.0 a.it.1 b.it b.was in
     elim (cases_Bool (is_text b.it.0)) [
       | inl good ↦ (
-          let e : b.it ≡ p = some_same _ _ (rw good at b.goes) in
+          let e : b.it ≡ p = same_Some _ _ (rw good at b.goes) in
           subst (Took text_bytes (IsGoodText is_text) bytes) e (record {
             is = n.is ∙ (ap (λ m. number_bytes m ++ a.it.1) (sym k.size) ∙ (ap (λ t. number_bytes (length b.it.0) ++ t) k.whole ∙ sym (append_assoc (number_bytes (length b.it.0)) b.it.0 b.it.1)));
             good = (rw k.size n.good, good);
@@ -177,7 +171,7 @@ cell_takes is_text bytes p are h =
     let f = text_takes is_text bytes a.it are a.was in
     let v = text_takes is_text a.it.1 b.it f.rest b.was in
     let both : (List ℕ × List ℕ) × List ℕ = ((a.it.0, b.it.0), b.it.1) in
-    let e : both ≡ p = some_same _ _ b.goes in
+    let e : both ≡ p = same_Some _ _ b.goes in
     subst (Took cell_bytes (IsGoodCell is_text) bytes) e (record {
       is = f.is ∙ (ap (λ t. text_bytes a.it.0 ++ t) v.is ∙ sym (append_assoc (text_bytes a.it.0) (text_bytes b.it.0) b.it.1));
       good = (f.good, v.good);
@@ -208,7 +202,7 @@ row_takes is_text bytes p are h =
     let cs = many_takes (cell_at is_text) cell_bytes (IsGoodCell is_text) (cell_takes is_text) b.it.0 b.it.1 c.it n.rest c.was in
     let row : RowValue = record { table = a.it.0; cells = c.it.0 } in
     let whole : RowValue × List ℕ = (row, c.it.1) in
-    let e : whole ≡ p = some_same _ _ c.goes in
+    let e : whole ≡ p = same_Some _ _ c.goes in
     let cells = flat_map cell_bytes c.it.0 in
     subst (Took row_bytes (IsGoodRow is_text) bytes) e (record {
       is = t.is ∙ (ap (λ x. text_bytes a.it.0 ++ x) (n.is ∙ (ap (λ m. number_bytes m ++ b.it.1) (sym cs.size) ∙ (ap (λ x. number_bytes (length c.it.0) ++ x) cs.is ∙ sym (append_assoc (number_bytes (length c.it.0)) cells c.it.1)))) ∙ sym (append_assoc (text_bytes a.it.0) (number_bytes (length c.it.0) ++ cells) c.it.1));

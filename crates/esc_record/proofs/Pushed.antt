@@ -7,7 +7,7 @@ use Rattle.std.proofs.lemmas.List.Concat.{flat_map-cons}
 use Rattle.std.proofs.lemmas.Grind.{flat_map-append}
 use Rattle.std.proofs.lemmas.Option.{get_or_from_slice_get, slice_get_within}
 
--- the first i of these fit and were written behind the old bytes
+-- the first i of these fit and were written after the old bytes
 pub record IsPushed {X : Type 0} (fits : X → Bool) (text : X → List ℕ) (xs : List X) (old : List ℕ) (i : ℕ) (new : List ℕ) : Type 0 where
   pub small : list_all fits (take i xs) ≡ true
   pub bytes : new ≡ old ++ flat_map text (take i xs)

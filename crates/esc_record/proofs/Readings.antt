@@ -2,7 +2,7 @@
 use Rattle.std.proofs.Common.{◌≡◌, ℕ, ◌+◌, ◌-◌, ◌<◌, ◌≤◌, suc, List, [], ◌∷◌, ◌++◌, Option, None, Some, option_map, refl, sym, ap, ◌∙◌, arith, append_assoc}
 use Rattle.esc_record.specs.Reading.{◌>>=◌, many}
 
--- what was read stands before what is read next
+-- what was read is before what is read next
 abbrev pub behind_done : {A : Type 0} → List A → List A × List ℕ → List A × List ℕ
 behind_done done p = (done ++ p.0, p.1)
 

@@ -24,7 +24,7 @@ abbrev pub ◌>>=◌ : {A B : Type 0} → Option A → (A → Option B) → Opti
 None >>= f = None
 (Some x) >>= f = f x
 
--- the first n bytes and the rest, if there are so many
+-- the first n bytes and the rest, if there are n
 abbrev pub cut : ℕ → List ℕ → Option (List ℕ × List ℕ)
 cut n bytes = if nat_lt (length bytes) n then None else Some (take n bytes, drop n bytes)
 

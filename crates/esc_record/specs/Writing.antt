@@ -2,7 +2,7 @@
 use Rattle.std.specs.Prelude.{◌≡◌, ℕ, Bool, true, List, ◌++◌, Result, IfOk}
 use Rattle.esc_bundle.specs.declared.fault.NoMemory.{NoMemory}
 
--- it answers whether the thing fits, and has then put its bytes behind the others
+-- it returns whether the thing fits, and has then put its bytes after the others
 abbrev pub Pushes : Bool → List ℕ → List ℕ → List ℕ → Result Bool NoMemory → Type 0
 Pushes fits bytes old new result
     = IfOk result (λ answer. (answer ≡ fits) × (answer ≡ true → new ≡ old ++ bytes))

@@ -13,7 +13,7 @@
 //!   needs more than four bytes.
 //! - [`read_record`] takes bytes and returns the object whose record they are, or `None` where they
 //!   are the record of none.
-//! - Both return `NoMemory` where memory is refused.
+//! - Both return `NoMemory` out of memory.
 //!
 //! ```text
 //! let record = to_record(alloc, &object)?;
@@ -29,9 +29,10 @@
 //! exactly what it gives. What `read_record` finds has these bytes as its record, and where it
 //! finds nothing no object of texts has them.
 //!
-//! `no_record_begins_another`, a law, says that no record begins another, so records may stand side
-//! by side, and that each record is the record of one object. `read_objects_have_records`, another,
-//! says that each object of a deposit that was read from a body has a record.
+//! `no_record_begins_another`, a law, says that no record is a proper beginning of another, so that
+//! records may follow one another, and that each record is the record of one object.
+//! `read_objects_have_records`, another, says that each object of a deposit that was read from a
+//! body has a record.
 //!
 //! # Cost
 //!

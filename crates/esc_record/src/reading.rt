@@ -39,7 +39,7 @@ fn number_at(bytes: &[u8]) -> Option<(u32, &[u8])>
     Some((u32::from_be_bytes(*number), rest))
 }
 
-// The first bytes, so many, and the rest.
+// The first n bytes, and the rest.
 fn cut(count: usize, bytes: &[u8]) -> Option<(&[u8], &[u8])>
     ensures { option_map (λ p. (p.0.now, p.1.now)) result ≡ cut count bytes.now }
 {
@@ -81,7 +81,7 @@ fn cell_at(bytes: &[u8]) -> Option<((&str, &str), &[u8])>
     Some(((field, text), rest))
 }
 
-// So many cells, and the rest.
+// n cells, and the rest.
 fn cells_at(
     alloc: Global,
     count: u32,
@@ -122,7 +122,7 @@ fn row_at(alloc: Global, bytes: &[u8]) -> Result<Option<(Row, &[u8])>, NoMemory>
     Ok(Some((row, rest)))
 }
 
-// So many rows, and the rest.
+// n rows, and the rest.
 fn rows_at(alloc: Global, count: u32, bytes: &[u8]) -> Result<Option<(Vec<Row>, &[u8])>, NoMemory>
     ensures { IfOk result (λ found. option_map (λ p. (p.0.items, p.1.now)) found
         ≡ many (row_at is_utf8) count bytes.now) }

@@ -25,7 +25,7 @@ use std::alloc::Global;
 /// allocation.
 const USUAL_LENGTH: usize = 256;
 
-// Each of these answers whether the lengths and counts fit; where one doesn't, what was pushed is
+// Each of these returns whether the lengths and counts fit; where one doesn't, what was pushed is
 // of no use.
 
 #[tactic(auto, unfolding(crate::specs::Record::number_bytes))]

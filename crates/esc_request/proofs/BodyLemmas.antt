@@ -1,22 +1,9 @@
 -- A buffer whose front was there before the rest was read.
-use Rattle.std.proofs.Common.{◌≡◌, ℕ, ◌≤◌, ◌<◌, List, ◌++◌, length, take, refl, sym, ◌∙◌, ap, arith, le_refl, inl, inr, min, Option, Some, None, IfSome}
-use Rattle.std.specs.Io.KnownBytes.{Consumes, IsAtEnd, prepend_known}
-use Rattle.std.proofs.KnownBytes.{Consumes-whole}
+use Rattle.std.proofs.Common.{◌≡◌, ℕ, ◌≤◌, List, ◌++◌, length, take, sym, ◌∙◌, ap, arith, le_refl, inl, inr, min, Option, Some, None, IfSome}
+use Rattle.std.specs.Io.KnownBytes.{Consumes, prepend_known}
 use Rattle.std.proofs.lemmas.List.{length-take-le, length-take, length-append, take-append-le, take-take}
 use Rattle.std.proofs.lemmas.Bool.{cases_lt}
 use Rattle.std.proofs.Math.Seq.{take-append_seam, take-length}
-
--- what was there is read from what was there and the rest
-pub prepended : (rest : Option (List ℕ)) (front : List ℕ) → Consumes (prepend_known front rest) rest front
-prepended None front = tt
-prepended (Some bytes) front = refl
-
--- an input that ended before the buffer was full is shorter than the buffer
-pub cut_short : (before after : Option (List ℕ)) (buffer : List ℕ) (at size : ℕ) → Consumes before after (take at buffer) → IsAtEnd after → at ≤ length buffer → at < size
-    → IfSome before (λ input. length input < size)
-cut_short before after buffer at size took ended within short =
-    let long : length (take at buffer) < size = omega (arith, length-take-le at buffer within) in
-    Consumes-whole before after (take at buffer) (λ input. length input < size) took ended long
 
 -- the first bytes of an input don't depend on how much of its front was kept, as long as it is enough
 same_front : (front rest : List ℕ) (here size : ℕ) → here ≡ min (length front) size → take size (take here front ++ rest) ≡ take size (front ++ rest)

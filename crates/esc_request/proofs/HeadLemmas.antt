@@ -27,7 +27,7 @@ of_front None after front P took holds = tt
 of_front (Some all) None front P took holds = absurd took
 of_front (Some all) (Some rest) front P took holds = subst P (sym took) (holds rest)
 
--- what was read into the part of a buffer behind the filled front makes that front longer
+-- what was read into the part of a buffer after the filled front makes that front longer
 pub taken_more : (first second third : Option (List ℕ)) (filled count : ℕ) (buffer part : List ℕ) (k : ℕ) → filled ≤ length buffer → count ≤ length part
     → Consumes first second (take filled buffer) → Consumes second third (take count part) → Consumes first third (take (filled + count) (put_mid filled k buffer part))
 taken_more first second third filled count buffer part k within fits before read =

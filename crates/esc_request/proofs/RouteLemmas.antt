@@ -92,7 +92,7 @@ module _ {K : Type 0} where
   skip_all rs [] = refl
   skip_all rs (b ∷ path) = skip_all rs path
 
-  -- where a parameter goes on that nothing follows: behind all of the path, if that is one segment
+  -- where a parameter goes on that nothing follows: after all of the path, if that is one segment
   abbrev behind : K → Bool → ℕ → ℕ × RowsOf K
   behind k slash size = cond slash (0, []) (size, ([], k) ∷ [])
 
@@ -188,7 +188,7 @@ Goes q y = found_in (step y (step 47 rows)) (47 ∷ y ∷ q) q ≡ route_of (47 
 abbrev Begins : List ℕ → ℕ → Type 0
 Begins p x = found_in (step x rows) (x ∷ p) p ≡ route_of (x ∷ p)
 
--- by the byte behind the slash
+-- by the byte after the slash
 second_byte : (z : ℕ) (q : List ℕ) → found_in (step 47 rows) (47 ∷ z ∷ q) (z ∷ q) ≡ route_of (47 ∷ z ∷ q)
 second_byte z q =
     ap (option_and_then (λ (r : RouteOf Target). way_to r.value (47 ∷ z ∷ q))) (by_byte (step 47 rows) z q refl refl)
@@ -242,7 +242,7 @@ pub none_leads : (rs : RowsOf (RouteOf Target)) (path : List ℕ) → rs ≡ row
 none_leads rs path is found =
     sym (ap (option_and_then (λ (x : RouteOf Target). way_to x.value path)) found) ∙ ap (λ (x : RowsOf (RouteOf Target)). found_in x path path) is ∙ leads path
 
--- what `strip_prefix` answers at a text
+-- what `strip_prefix` returns at a text
 pub strip_is : (front text : List ℕ) (o : Option (Bor (List ℕ))) → MatchOption o (FindsTextPrefix front text None) (λ x. StripsPrefix (FindsTextPrefix front) text x.now) → option_map (λ x. x.now) o ≡ strip front text
 strip_is front text None none =
     let misses : starts_with nat_eq text front ≡ false = sym (starts_text false front text none) in

@@ -56,11 +56,11 @@ refusal_response BadNumber = plain (codes "400 Bad Request") (codes "N1\n")
 refusal_response LengthRequired = plain (codes "411 Length Required") (codes "length required\n")
 refusal_response TooLarge = plain (codes "413 Content Too Large") (codes "too large\n")
 
--- there is no answer now
+-- there is no result now
 abbrev pub unavailable : List ℕ → List ℕ
 unavailable words = plain (codes "503 Service Unavailable") words
 
--- want of memory
+-- out of memory
 abbrev pub out_of_memory : List ℕ
 out_of_memory = unavailable (codes "S2\n")
 

@@ -10,7 +10,7 @@ use Rattle.esc_request.specs.declared.route.Target.TheVariants.{Arrivals, Export
 abbrev pub fixed : List ℕ → Target → List ℕ × RouteOf Target
 fixed path target = (path, record { pattern = path; text = path; names = []; value = target })
 
--- the row of a path that ends in a parameter, whose name stands in the text at this place, in
+-- the row of a path that ends in a parameter, whose name is in the text at this place, in
 -- braces
 abbrev pub ending : List ℕ → List ℕ → ℕ × ℕ → Target → List ℕ × RouteOf Target
 ending front text place target = (

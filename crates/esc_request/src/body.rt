@@ -53,7 +53,7 @@ fn begin_body(alloc: Global, front: &[u8], here: usize, size: usize) -> Result<V
     Ok(body)
 }
 
-// Fills a buffer from a place on, and answers whether the input was long enough.
+// Fills a buffer from a place on, and returns whether the input was long enough.
 fn fill_body<R: Source>(
     source: &mut R,
     body: &mut Vec<u8>,

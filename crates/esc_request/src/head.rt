@@ -15,7 +15,7 @@ pub const MOST_HEAD_BYTES: usize = 8192;
 /// The most header lines of a head.
 pub const MOST_LINES: usize = 32;
 
-/// Where a head stands in the front of a buffer.
+/// Where a head is in the front of a buffer.
 #[derive(Clone, Copy, Debug)]
 pub struct FoundHead {
     pub spans: RequestSpans,
@@ -23,7 +23,7 @@ pub struct FoundHead {
     pub filled: usize,
 }
 
-/// Reads until the head of a request is whole, or none can come of what was read.
+/// Reads until the head of a request is whole, or what was read can't begin one.
 pub fn read_head<R: Source>(
     source: &mut R,
     buffer: &mut [u8],

@@ -5,7 +5,7 @@
 //!
 //! | Piece | What it does |
 //! |---|---|
-//! | [`Source`], [`Sink`] | readers and writers that tell that a call has failed; each reader and writer of std is one that doesn't tell |
+//! | [`Source`], [`Sink`] | readers and writers that report a failed call; those of std do not |
 //! | [`read_head`] | reads the head, of at most 8,192 bytes and 32 header lines, in whatever pieces it comes |
 //! | [`router`], [`route_of`] | where a path leads: to the arrival with this number, or to a [`Report`] |
 //! | [`body_length`] | how long the body is, by the header lines |
@@ -13,18 +13,18 @@
 //! | [`response`] | the text of a response; [`refusal_response`], [`report_response`] and [`out_of_memory`] those of one kind |
 //! | [`send`] | writes a text to its end and flushes |
 //!
-//! In which order these are asked, which refusal stands first, and what a desk answers, is
-//! `esc_http`'s.
+//! `esc_http` decides in which order these are called, which refusal comes first, and what a desk
+//! responds.
 //!
 //! # What is promised
 //!
 //! A head is what the grammar of `httparse` has as one (`specs/Head.antt`): where [`read_head`]
 //! finds none, no beginning of the input is one. The routes that `matchit` finds are those of a
 //! plain definition by the path's text (`specs/Route.antt`). A body's length is a function of the
-//! header lines (`specs/BodyLength.antt`), and a body the bytes that stand behind the head, or it
+//! header lines (`specs/BodyLength.antt`), and a body is the bytes after the head, or it
 //! is cut (`specs/Body.antt`). A response is one text (`specs/Response.antt`). Where a write failed
-//! a beginning of the text was written (`specs/Sent.antt`). A failure is answered only where a call
-//! of the source or the sink has failed; want of memory only where memory is taken.
+//! a beginning of the text was written (`specs/Sent.antt`). A failure is returned only where a call
+//! of the source or the sink has failed; out of memory only where a call allocates.
 //!
 //! # Cost
 //!

@@ -1,4 +1,4 @@
-//! The texts of responses. Each function answers `None` for want of memory.
+//! The texts of responses. Each function returns `None` out of memory.
 
 ghost use Rattle.std.specs.Prelude.{◌≡◌, IfOk, IfSome, string_bytes};
 ghost use Rattle.esc_request.specs.Response.{
@@ -14,7 +14,7 @@ use crate::refusal::Refusal;
 use crate::reports::Report;
 use std::alloc::{AllocError, Global};
 
-/// The response to want of memory. Takes none.
+/// The out-of-memory response. Doesn't allocate.
 pub fn out_of_memory() -> &'static [u8]
     ensures { result.now ≡ out_of_memory }
 {

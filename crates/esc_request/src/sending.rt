@@ -9,6 +9,7 @@ use crate::streams::{Sink, WriteFailed};
 /// Writes a text to its end and flushes. At `Err` a beginning of it was written.
 pub fn send<W: Sink>(sink: &mut W, text: &[u8]) -> Result<(), WriteFailed>
     ensures ok { OnOk result (Appends (W.contents sink.old) (W.contents sink.new) text.now) }
+    ensures flushed { OnOk result (IsTrue (W.flushed sink.new)) }
     ensures err { OnErr result
         (AppendsBeginning (W.contents sink.old) (W.contents sink.new) text.now) }
     ensures failed { OnErr result (IsTrue (W.failed sink.new)) }

@@ -1,8 +1,8 @@
 //! What requests are read from and responses are written to.
 //!
 //! A contract over a reader of std can't say that a read failed. So the code here is written over
-//! two traits of its own, which have a word for it, and every reader and writer of std is one of
-//! them that doesn't tell.
+//! two traits of its own, which have a word for it, and every reader and writer of std has them
+//! without reporting a failure.
 
 ghost use Rattle.std.specs.Prelude.{
   ◌≡◌,
@@ -16,6 +16,7 @@ ghost use Rattle.std.specs.Prelude.{
   true,
   IfOk,
   IsTrue,
+  OnOk,
   OnErr,
 };
 ghost use Rattle.std.specs.Io.KnownBytes.{ReadConsumes, WriteAppends, Keeps};
@@ -37,7 +38,7 @@ pub trait Source {
     // whether a read has failed
     ghost failed: { Self → Bool };
 
-    /// Reads some bytes to the front of a buffer, and answers how many: none where the bytes are at
+    /// Reads some bytes to the front of a buffer, and returns how many: none where the bytes are at
     /// their end, or the buffer has no room.
     fn read_some(&mut self, buffer: &mut [u8]) -> Result<usize, ReadFailed>
         ensures bound { IfOk result (λ n. n ≤ length buffer.new) }
@@ -51,8 +52,10 @@ pub trait Sink {
     ghost contents: { Self → Option (List ℕ) };
     // whether a write or a flush has failed
     ghost failed: { Self → Bool };
+    // whether all that was written was handed on
+    ghost flushed: { Self → Bool };
 
-    /// Writes some bytes of the front of these, and answers how many: one at least, where there is
+    /// Writes some bytes of the front of these, and returns how many: one at least, where there is
     /// one.
     fn write_some(&mut self, bytes: &[u8]) -> Result<usize, WriteFailed>
         ensures bound { IfOk result (λ n. n ≤ length bytes.now) }
@@ -63,10 +66,11 @@ pub trait Sink {
     /// Hands on what was written.
     fn flush(&mut self) -> Result<(), WriteFailed>
         ensures bytes { Keeps (contents self.old) (contents self.new) }
+        ensures flushed { OnOk result (IsTrue (flushed self.new)) }
         ensures err { OnErr result (IsTrue (failed self.new)) };
 }
 
-// A reader of std doesn't tell whether a read has failed.
+// A reader of std doesn't report whether a read has failed.
 impl<R: Read> Source for R {
     ghost remaining = { λ r. R.remaining r };
 
@@ -80,12 +84,14 @@ impl<R: Read> Source for R {
     }
 }
 
-// A writer of std doesn't tell whether a write has failed. One that takes no byte of some has
-// failed.
+// A writer of std doesn't report whether a write has failed, or what was handed on. One that takes
+// no byte of some has failed.
 impl<W: Write> Sink for W {
     ghost contents = { λ w. W.contents w };
 
     ghost failed = { λ _. true };
+
+    ghost flushed = { λ _. true };
 
     fn write_some(&mut self, bytes: &[u8]) -> Result<usize, WriteFailed> {
         match self.write(bytes) {

@@ -1,4 +1,4 @@
--- The seven tables of a store of version 1, as their CREATE texts define them.
+-- The nine tables of a store of version 2, as their CREATE texts define them.
 use Rattle.std.specs.List.{list_any}
 use Rattle.std.specs.Prelude.{
   ℕ,
@@ -113,6 +113,12 @@ object_tree = 9
 abbrev pub undo_tree : ℕ
 undo_tree = 11
 
+abbrev pub parked_tree : ℕ
+parked_tree = 13
+
+abbrev pub moment_tree : ℕ
+moment_tree = 15
+
 abbrev pub info_table : Table
 info_table = stored_table (codes "info") 0 (optional (codes "id") Integer
     ∷ required (codes "version") Integer ∷ []) (Some 0) (0 ∷ []) [] (first_is_one ∷ []) []
@@ -154,6 +160,14 @@ undo_table =
     ∷ required (codes "key") Any ∷ optional (codes "record") Any ∷ [])
     None (1 ∷ 2 ∷ 3 ∷ []) ((1 ∷ 2 ∷ 3 ∷ []) ∷ []) [] []
 
+abbrev pub parked_table : Table
+parked_table = stored_table (codes "parked") 13 (optional (codes "digest") Any
+    ∷ required (codes "body") Any ∷ []) None (1 ∷ []) ((1 ∷ []) ∷ []) [] []
+
+abbrev pub moment_table : Table
+moment_table = stored_table (codes "moment") 15 (optional (codes "id") Integer
+    ∷ required (codes "watermark") Integer ∷ []) (Some 0) (0 ∷ []) [] (first_is_one ∷ []) []
+
 -- the index that SQLite makes for a UNIQUE key
 abbrev pub automatic : List ℕ → ℕ → ℕ → List ℕ → Index
 automatic name tree table columns
@@ -184,13 +198,16 @@ object_keys = automatic (codes "sqlite_autoindex_object_1") 10 9 (1 ∷ 2 ∷ []
 abbrev pub undo_keys : Index
 undo_keys = automatic (codes "sqlite_autoindex_undo_1") 12 11 (1 ∷ 2 ∷ 3 ∷ [])
 
+abbrev pub parked_keys : Index
+parked_keys = automatic (codes "sqlite_autoindex_parked_1") 14 13 (1 ∷ [])
+
 -- the schema of a store
 abbrev pub store_schema : Schema
 store_schema = record {
   tables = info_table ∷ listed_table ∷ receipt_table ∷ held_table ∷ step_table ∷ object_table
-      ∷ undo_table ∷ [];
+      ∷ undo_table ∷ parked_table ∷ moment_table ∷ [];
   indexes = listed_digests ∷ listed_places ∷ receipt_numbers ∷ step_rows ∷ object_keys ∷ undo_keys
-      ∷ [];
+      ∷ parked_keys ∷ [];
   views = [];
 }
 

@@ -11,6 +11,8 @@ use Rattle.esc_rows.specs.Schema.{
   step_table,
   object_table,
   undo_table,
+  parked_table,
+  moment_table,
 }
 use Rattle.esc_rows.specs.Rows.{
   ListedRow,
@@ -19,18 +21,24 @@ use Rattle.esc_rows.specs.Rows.{
   StepRow,
   ObjectRow,
   UndoRow,
+  ParkedRow,
+  MomentRow,
   listed_number,
   receipt_number,
   held_number,
   step_number,
   object_number,
   undo_number,
+  parked_number,
+  moment_number,
   listed_columns,
   receipt_columns,
   held_columns,
   step_columns,
   object_columns,
   undo_columns,
+  parked_columns,
+  moment_columns,
 }
 
 pub data StoreTable : Type 0 where
@@ -40,6 +48,8 @@ pub data StoreTable : Type 0 where
   Steps : StoreTable
   Objects : StoreTable
   Undo : StoreTable
+  Parked : StoreTable
+  Moment : StoreTable
 
 -- its place in the schema, from 0
 abbrev pub place_of : StoreTable → ℕ
@@ -49,6 +59,8 @@ place_of Held = 3
 place_of Steps = 4
 place_of Objects = 5
 place_of Undo = 6
+place_of Parked = 7
+place_of Moment = 8
 
 abbrev pub schema_table : StoreTable → Table
 schema_table Listed = listed_table
@@ -57,6 +69,8 @@ schema_table Held = held_table
 schema_table Steps = step_table
 schema_table Objects = object_table
 schema_table Undo = undo_table
+schema_table Parked = parked_table
+schema_table Moment = moment_table
 
 -- the number of its tree
 abbrev pub tree_of : StoreTable → ℕ
@@ -70,6 +84,8 @@ RowOf Held = HeldRow
 RowOf Steps = StepRow
 RowOf Objects = ObjectRow
 RowOf Undo = UndoRow
+RowOf Parked = ParkedRow
+RowOf Moment = MomentRow
 
 -- the rowid, by which it is in order
 abbrev pub row_number : (t : StoreTable) → RowOf t → ℤ
@@ -79,6 +95,8 @@ row_number Held = held_number
 row_number Steps = step_number
 row_number Objects = object_number
 row_number Undo = undo_number
+row_number Parked = parked_number
+row_number Moment = moment_number
 
 abbrev pub row_columns : (t : StoreTable) → RowOf t → Row
 row_columns Listed = listed_columns
@@ -87,6 +105,8 @@ row_columns Held = held_columns
 row_columns Steps = step_columns
 row_columns Objects = object_columns
 row_columns Undo = undo_columns
+row_columns Parked = parked_columns
+row_columns Moment = moment_columns
 
 -- a row as its tree has it: the rowid, and then the columns
 abbrev pub stored_row : (t : StoreTable) → RowOf t → Row

@@ -1,12 +1,11 @@
 -- From rows of tables to replies and steps.
-use Rattle.std.proofs.Common.{◌≡◌, ℕ, zero, suc, ◌+◌, ◌<◌, ◌≤◌, Bool, true, false, List, [], ◌∷◌, ◌++◌, length, take, get_or, map, Option, None, Some, refl, sym, ap, subst, ◌∙◌, arith, inl, inr}
-use Rattle.std.specs.Prelude.{◌&&◌, if◌then◌else◌, bytes_eq, option_map}
+use Rattle.std.proofs.Common.{◌≡◌, ℕ, zero, suc, ◌+◌, ◌<◌, List, [], ◌∷◌, ◌++◌, length, take, get_or, map, None, Some, refl, sym, ap, ◌∙◌, arith, inl, inr}
 use Rattle.std.proofs.lemmas.Bool.{cases_Bool}
 use Rattle.std.proofs.lemmas.List.{length-map, length-take-le, get_or-map, take_more, map-append}
 use Rattle.esc_manifest.specs.declared.row.MRow.{MRow}
 use Rattle.esc_apply.specs.declared.front.Step.{Step}
 use Rattle.esc_rows.specs.Rows.{ReceiptRow, StepRow}
-use Rattle.esc_rows.specs.Changes.{receipt_of, is_receipt_of}
+use Rattle.esc_rows.specs.Changes.{receipt_of}
 use Rattle.esc_rows.specs.declared.receipt.Receipt.{Receipt}
 use Rattle.esc_rows.specs.declared.step.ChainStep.{ChainStep}
 use Rattle.esc_rows.specs.Entries.{step_row}

@@ -1,18 +1,18 @@
 -- The beginning and the ends of a change.
-use Rattle.std.proofs.Common.{◌≡◌, ◌⊎◌, inl, inr, Bool, true, false, List, refl, sym, ap, subst, ◌∙◌, arith}
+use Rattle.std.proofs.Common.{◌≡◌, inl, inr, true, false, List, sym, ap, subst, ◌∙◌, arith}
 use Rattle.std.specs.Prelude.{IsTrue, Result, Ok, Err, IfOk, OnOk, OnErr, IsErr}
 use Rattle.std.proofs.lemmas.Bool.{cases_Bool}
 use Rattle.sqlite_trees.specs.Tree.{Trees}
 use Rattle.sqlite.specs.Effect.{Database}
 use Rattle.sqlite.specs.State.{State, HasCleanDisk, Survives, KeepsCommit, Shows}
-use Rattle.sqlite.proofs.StateLemmas.{survives_then, survives_weaker}
+use Rattle.sqlite.proofs.StateLemmas.{survives_weaker}
 use Rattle.esc_manifest.specs.declared.row.MRow.{MRow}
 use Rattle.esc_apply.specs.Registry.{State as Tables}
 use Rattle.esc_rows.specs.Content.{content_in}
 use Rattle.esc_store.specs.Kept.{Kept, with_registry}
 use Rattle.esc_store.specs.TypedRows.{IsBooks, IsRegistry}
-use Rattle.esc_store.specs.Tables.{IsKept, IsStore, IsStoreDatabase, HoldsTables}
-use Rattle.esc_store.specs.Standing.{IsAtRest, IsStanding, IsBegun, IsMade, IsUnderWay, IsGivenUp}
+use Rattle.esc_store.specs.Tables.{IsStore, IsStoreDatabase, HoldsTables}
+use Rattle.esc_store.specs.Standing.{IsAtRest, IsStanding, IsBegun, IsMade, IsUnderWay}
 
 -- ---- results
 
@@ -48,7 +48,7 @@ both db k s tables books registry = record {
   schema = tables.schema_is;
   kept = record {
     tables = tables.store;
-    books = record { listed = books.listed; receipts = books.receipts; held = books.held; steps = books.steps };
+    books = record { listed = books.listed; receipts = books.receipts; held = books.held; parked = books.parked; moment = books.moment; steps = books.steps };
     registry = registry;
   };
 }

@@ -1,18 +1,23 @@
 -- What the calls of a change as a registry keep, and what they make.
-use Rattle.std.proofs.Common.{◌≡◌, refl, sym, subst, ◌∙◌, Option, Some, None}
+use Rattle.std.proofs.Common.{◌≡◌, refl, sym, subst}
 use Rattle.std.specs.Prelude.{Result, Ok, Err, OnOk}
 use Rattle.sqlite_trees.specs.declared.store.Store.{Ghosts}
-use Rattle.sqlite.specs.Held.{state}
-use Rattle.sqlite.specs.State.{HasCleanDisk}
-use Rattle.esc_manifest.specs.declared.row.MRow.{MRow}
+use Rattle.sqlite.specs.Effect.{Database}
+use Rattle.sqlite.specs.Held.{Held, state}
 use Rattle.esc_apply.specs.Registry.{State as Tables}
 use Rattle.esc_rows.specs.Content.{Content}
+use Rattle.esc_rows.specs.Part.{IsPart}
 use Rattle.esc_store.specs.declared.store.Store.{Store}
 use Rattle.esc_store.specs.declared.change.Change.{Change}
 use Rattle.esc_store.specs.Kept.{Kept}
 use Rattle.esc_store.specs.TypedRows.{IsBooks, IsRegistry}
-use Rattle.esc_store.specs.Standing.{IsBegun, IsMade, IsUnderWay, IsStep, BeganIn, RestIn, HoldsIn, GoesOn, Follows}
-use Rattle.esc_store.proofs.Parts.{Turns, begun_on, made_on, made_kept, under_way_on}
+use Rattle.esc_store.specs.Standing.{IsBegun, IsMade, Settles, IsStep, BeganIn, RestIn, HoldsIn, GoesOn, Follows}
+use Rattle.esc_store.proofs.Parts.{Turns, step_is, step_turns, begun_on, made_on, made_kept, under_way_on}
+
+-- a statement, settled, and what it makes of what the tables hold
+pub turned : {S : Type 0} (g : Ghosts S) (old : Store S) (conn : Held S) {new : Store S} {X D E : Type 0} {outcome : Result X D} {result : Result X E} {Made : Database → Database → Type 0} (R : Content → Content → Type 0) → Settles g (record old { conn = conn }) new outcome result
+    → (Made (state g old.conn).now (state g new.conn).now → Turns R (state g old.conn).now (state g new.conn).now) → IsPart (state g old.conn) (state g conn) Made outcome → IsStep (state g old.conn) (state g new.conn) (Turns R) result
+turned g old conn {new} {result = result} {Made} R settled turns part = step_turns (state g old.conn) (state g new.conn) Made (Turns R) result turns (step_is g old conn settled Made part)
 
 module _ {S : Type 0} (g : Ghosts S) {X E : Type 0} (old new : Store S) (R : Content → Content → Type 0) (r : Result X E) (manifest : new.manifest ≡ old.manifest)
     (step : IsStep (state g old.conn) (state g new.conn) (Turns R) r) where

@@ -25,7 +25,7 @@ empty_registry : (m : List MRow) → IsRegistry (fresh_rows (listed_from 0 m)) e
 empty_registry m = record { objects = λ n text. sym (nothing_there n text); images = λ p n text. sym (nothing_kept n text); recorded = λ q. tt; noted = λ p q x is. let no : ⊥ = cc in absurd no }
 
 empty_books : (m : List MRow) → IsBooks (fresh_rows (listed_from 0 m)) (fresh m)
-empty_books m = record { listed = refl; receipts = refl; held = λ row. refl; steps = refl }
+empty_books m = record { listed = refl; receipts = refl; held = λ row. refl; parked = λ digest. refl; moment = refl; steps = refl }
 
 pub fresh_database : (db : Database) (m : List MRow) → HoldsContent db (fresh_rows (listed_from 0 m)) → IsStoreDatabase db (fresh m)
 fresh_database db m holds =

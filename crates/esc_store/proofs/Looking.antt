@@ -1,12 +1,10 @@
 -- What a read within a change leaves as it was, and what it says.
-use Rattle.std.proofs.Common.{◌≡◌, List, Bool, true, false, refl, sym, ap, subst, ◌∙◌}
-use Rattle.std.specs.Prelude.{IsTrue, Result, Ok, Err, IfOk, IfErr, OnOk, OnErr}
-use Rattle.std.proofs.lemmas.Bool.{cases_Bool}
-use Rattle.std.proofs.Common.{inl, inr}
+use Rattle.std.proofs.Common.{◌≡◌, List, true, refl, sym, subst, ◌∙◌}
+use Rattle.std.specs.Prelude.{Result, Ok, Err, IfOk, IfErr, OnErr}
 use Rattle.sqlite_trees.specs.declared.store.Store.{Ghosts}
 use Rattle.sqlite.specs.Effect.{Database}
 use Rattle.sqlite.specs.Held.{state}
-use Rattle.sqlite.specs.State.{State, HasCleanDisk, KeepsCommit, Shows, IsUnchanged}
+use Rattle.sqlite.specs.State.{State, HasCleanDisk, Shows}
 use Rattle.esc_manifest.specs.declared.row.MRow.{MRow}
 use Rattle.esc_apply.specs.Registry.{State as Tables}
 use Rattle.esc_rows.specs.Content.{Content, content_in}
@@ -16,91 +14,74 @@ use Rattle.esc_store.specs.declared.change.Change.{Change}
 use Rattle.esc_store.specs.Kept.{Kept}
 use Rattle.esc_store.specs.TypedRows.{IsBooks, IsRegistry}
 use Rattle.esc_store.specs.Tables.{IsStoreDatabase, HoldsTables}
-use Rattle.esc_store.specs.Standing.{IsBegun, IsMade, IsUnderWay, IsLook, BeganIn, RestIn, HoldsIn, GoesOn, Follows}
-use Rattle.esc_store.proofs.Ends.{at_ok, at_said, was_clean, begun_committed}
+use Rattle.esc_store.specs.Standing.{IsBegun, IsMade, IsUnderWay, IsLook, BeganIn, RestIn, HoldsIn, Follows}
+use Rattle.esc_store.proofs.Ends.{at_said, was_clean, begun_committed}
 use Rattle.esc_store.proofs.Parts.{not_both}
 
-module _ {X E : Type 0} (old new : State) (P : Content → X → Type 0) (r : Result X E) (on : OnOk r (old.in_transaction ≡ true)) (look : IsLook old new (Tells P) r) where
+module _ {X E : Type 0} (old new : State) (P : Content → X → Type 0) (r : Result X E) (look : IsLook old new (Tells P) r) where
   clean_before : HasCleanDisk new → HasCleanDisk old
   clean_before = was_clean old new (λ trees. ⊥) look.survives
 
-  record Seen (x : X) : Type 0 where
-    says : P (content_in old.now.trees) x
-    shown : Shows old new old.now old.committed old.in_transaction
-
-  seen : (x : X) → r ≡ Ok x → HasCleanDisk new → HoldsTables old.now → Seen x
-  seen x is clean tables = let s = at_said r x _ is (look.said clean tables.schema_is) in record { says = s.0 (content_in old.now.trees) tables; shown = s.1.0 }
+  shown : (x : X) → r ≡ Ok x → HasCleanDisk new → Shows old new old.now old.committed old.in_transaction
+  shown x is clean = (at_said r x _ is (look.said clean)).1.0
 
   bad : {Q : Type 0} (e : E) → r ≡ Err e → OnErr r Q → Q
   bad e is h = rw is at h
 
-  -- in a transaction
-  begun_while_on : (m : List MRow) (k : Kept) → IsBegun old m k → old.in_transaction ≡ true → IsBegun new m k
-  begun_while_on m k begun was_on = elim r as (λ y. r ≡ y → IsBegun new m k) [
+  begun_look : (m : List MRow) (k : Kept) → IsBegun old m k → IsBegun new m k
+  begun_look m k begun = elim r as (λ y. r ≡ y → IsBegun new m k) [
     | Ok x ↦ λ is. record {
       listed = begun.listed;
-      on = λ clean on. let was = begun.on (clean_before clean) was_on in let it = (seen x is clean was.2).shown in (it.is_open, subst (λ db. IsStoreDatabase db k) (sym it.committed_is) was.1, subst HoldsTables (sym it.now_is) was.2);
-      off = λ clean off up. let was = begun.on (clean_before clean) was_on in absurd (not_both new.in_transaction ((seen x is clean was.2).shown.mode ∙ was_on) off);
+      on = λ clean on. let it = shown x is clean in let was = begun.on (clean_before clean) (sym it.mode ∙ on) in (it.is_open, subst (λ db. IsStoreDatabase db k) (sym it.committed_is) was.1, subst HoldsTables (sym it.now_is) was.2);
+      off = λ clean off up. let it = shown x is clean in let was = begun.off (clean_before clean) (sym it.mode ∙ off) it.was_open in (subst (λ db. IsStoreDatabase db k) (sym it.committed_is) was.0, it.now_is ∙ (was.1 ∙ sym it.committed_is));
     }
     | Err e ↦ λ is. record {
       listed = begun.listed;
       on = λ clean on. absurd (not_both new.in_transaction on (bad e is (look.failed clean)).0);
-      off = λ clean off up. let was = begun.on (clean_before clean) was_on in (subst (λ db. IsStoreDatabase db k) (sym ((look.kept clean was.2.schema_is).committed up)) was.1, (bad e is (look.failed clean)).1 up);
+      off = λ clean off up. let kept = look.kept clean in (subst (λ db. IsStoreDatabase db k) (sym (kept.committed up)) (begun_committed old m k begun (clean_before clean) (kept.was_open up)), (bad e is (look.failed clean)).1 up);
     }
   ] refl
 
-  made_while_on : (m : List MRow) (before k : Kept) → IsMade old m before k → old.in_transaction ≡ true → IsMade new m before k
-  made_while_on m before k made was_on = record {
-    begun = begun_while_on m before made.begun was_on;
-    listed = made.listed;
-    books = λ clean on. books_of clean on;
-  } where
+  made_look : (m : List MRow) (before k : Kept) → IsMade old m before k → IsMade new m before k
+  made_look m before k made = record { begun = begun_look m before made.begun; listed = made.listed; books = λ clean on. books_of clean on } where
     books_of : HasCleanDisk new → new.in_transaction ≡ true → IsBooks (content_in new.now.trees) k
     books_of clean on = elim r as (λ y. r ≡ y → IsBooks (content_in new.now.trees) k) [
-      | Ok x ↦ λ is. let was = made.begun.on (clean_before clean) was_on in subst (λ (db : Database). IsBooks (content_in db.trees) k) (sym (seen x is clean was.2).shown.now_is) (made.books (clean_before clean) was_on)
+      | Ok x ↦ λ is. let it = shown x is clean in subst (λ (db : Database). IsBooks (content_in db.trees) k) (sym it.now_is) (made.books (clean_before clean) (sym it.mode ∙ on))
       | Err e ↦ λ is. absurd (not_both new.in_transaction on (bad e is (look.failed clean)).0)
     ] refl
 
   pub under_way_seen : (s : Tables) (x : X) → r ≡ Ok x → HasCleanDisk new → IsUnderWay old s → IsUnderWay new s
   under_way_seen s x is clean goes =
-      let it = (seen x is clean goes.tables_are).shown in
+      let it = shown x is clean in
       record { is_open = it.is_open; in_transaction = it.mode ∙ goes.in_transaction; tables_are = subst HoldsTables (sym it.now_is) goes.tables_are; registry = subst (λ (db : Database). IsRegistry (content_in db.trees) s) (sym it.now_is) goes.registry }
 
   pub said_seen : (s : Tables) (x : X) → r ≡ Ok x → HasCleanDisk new → IsUnderWay old s → P (content_in old.now.trees) x
-  said_seen s x is clean goes = (seen x is clean goes.tables_are).says
+  said_seen s x is clean goes = (at_said r x _ is (look.said clean)).0 (content_in old.now.trees) goes.tables_are
 
-module _ {S : Type 0} (g : Ghosts S) {X E : Type 0} (old new : Store S) (P : Content → X → Type 0) (r : Result X E) (manifest : new.manifest ≡ old.manifest)
-    (on : OnOk r (old.conn.in_transaction ≡ true)) (off : old.conn.in_transaction ≡ false → new ≡ old) (look : IsLook (state g old.conn) (state g new.conn) (Tells P) r) where
+module _ {S : Type 0} (g : Ghosts S) {X E : Type 0} (old new : Store S) {P : Content → X → Type 0} (r : Result X E) (manifest : new.manifest ≡ old.manifest) (look : IsLook (state g old.conn) (state g new.conn) (Tells P) r) where
   began_look : (k : Kept) → BeganIn g old k → BeganIn g new k
   unfolding BeganIn
-  began_look k begun = elim (cases_Bool old.conn.in_transaction) [
-    | inl was_on ↦ subst (λ m. IsBegun (state g new.conn) m k) (sym manifest) (begun_while_on (state g old.conn) (state g new.conn) P r on look old.manifest k begun was_on)
-    | inr was_off ↦ subst (λ (s : Store S). IsBegun (state g s.conn) s.manifest k) (sym (off was_off)) begun
-  ]
+  began_look k begun = subst (λ m. IsBegun (state g new.conn) m k) (sym manifest) (begun_look (state g old.conn) (state g new.conn) P r look old.manifest k begun)
 
   rest_look : (before k : Kept) → RestIn g old before k → RestIn g new before k
   unfolding RestIn
-  rest_look before k made = elim (cases_Bool old.conn.in_transaction) [
-    | inl was_on ↦ subst (λ m. IsMade (state g new.conn) m before k) (sym manifest) (made_while_on (state g old.conn) (state g new.conn) P r on look old.manifest before k made was_on)
-    | inr was_off ↦ subst (λ (s : Store S). IsMade (state g s.conn) s.manifest before k) (sym (off was_off)) made
-  ]
+  rest_look before k made = subst (λ m. IsMade (state g new.conn) m before k) (sym manifest) (made_look (state g old.conn) (state g new.conn) P r look old.manifest before k made)
 
   pub holds_look : (s : Tables) (x : X) → r ≡ Ok x → HoldsIn g old s → HoldsIn g new s
   unfolding HoldsIn
-  holds_look s x is goes clean = under_way_seen (state g old.conn) (state g new.conn) P r on look s x is clean (goes (clean_before (state g old.conn) (state g new.conn) P r on look clean))
+  holds_look s x is goes clean = under_way_seen (state g old.conn) (state g new.conn) P r look s x is clean (goes (clean_before (state g old.conn) (state g new.conn) P r look clean))
 
   pub says_look : (s : Tables) (x : X) → r ≡ Ok x → HasCleanDisk (state g new.conn) → HoldsIn g old s → (c : Content) × IsRegistry c s × P c x
   unfolding HoldsIn
   says_look s x is clean goes =
-      let was = goes (clean_before (state g old.conn) (state g new.conn) P r on look clean) in
-      (content_in (state g old.conn).now.trees, was.registry, said_seen (state g old.conn) (state g new.conn) P r on look s x is clean was)
+      let was = goes (clean_before (state g old.conn) (state g new.conn) P r look clean) in
+      (content_in (state g old.conn).now.trees, was.registry, said_seen (state g old.conn) (state g new.conn) P r look s x is clean was)
 
-pub follows_look : {S : Type 0} (g : Ghosts S) {X E : Type 0} (old new : Change S) (P : Content → X → Type 0) (r : Result X E) → new.store.ghost_name ≡ old.store.ghost_name → new.store.now.manifest ≡ old.store.now.manifest
-    → new.store.now.writes ≡ old.store.now.writes → OnOk r (old.store.now.conn.in_transaction ≡ true) → (old.store.now.conn.in_transaction ≡ false → new.store.now ≡ old.store.now)
+pub follows_look : {S : Type 0} (g : Ghosts S) {X E : Type 0} (old new : Change S) {P : Content → X → Type 0} (r : Result X E) → new.store.ghost_name ≡ old.store.ghost_name → new.store.now.manifest ≡ old.store.now.manifest → new.store.now.writes ≡ old.store.now.writes
     → IsLook (state g old.store.now.conn) (state g new.store.now.conn) (Tells P) r → Follows g old new
-follows_look g old new P r same manifest writes on off look = record {
-  goes_on = record { same_reference = same; manifest = manifest; writes = writes; survives = look.survives; began = began_look g old.store.now new.store.now P r manifest on off look };
-  rest = rest_look g old.store.now new.store.now P r manifest on off look;
+follows_look g old new r same manifest writes look = record {
+  goes_on = record { same_reference = same; manifest = manifest; writes = writes; survives = look.survives; began = began_look g old.store.now new.store.now r manifest look };
+  rest = rest_look g old.store.now new.store.now r manifest look;
 }
 
 -- what follows from a result, of its value

@@ -28,16 +28,13 @@ int_is : (version : Option ℤ) (n : ℤ) → option_map Int version ≡ Some (I
 int_is None n is = let no : ⊥ = cc in absurd no
 int_is (Some v) n is = let e : v ≡ n = cc in ap Some e
 
--- and its version is 1
-pub version_told : (s : State) (version : Option ℤ) (k : Kept) → s.now ≡ s.committed → s.now.schema ≡ store_schema → TellsVersion s.now version → IsStore s.committed.trees k → version ≡ Some (pos 1)
+-- and its version is 2
+pub version_told : (s : State) (version : Option ℤ) (k : Kept) → s.now ≡ s.committed → s.now.schema ≡ store_schema → TellsVersion s.now version → IsStore s.committed.trees k → version ≡ Some (pos 2)
 unfolding IsStore
 version_told s version k same schema tells stored =
     let info : s.now.trees info_tree ≡ info_row ∷ [] = ap (λ (db : Database). db.trees info_tree) same ∙ stored.tables.rows.info in
     let one : length (s.now.trees info_tree) ≤ 1 = subst (λ (rows : List Row). length rows ≤ 1) (sym info) (omega arith) in
-    int_is version (pos 1) (tells schema one ∙ ap (λ (rows : List Row). option_map (λ (r : Row). column r 2) (slice_get rows 0)) info)
-
-pub is_of_version : (db : Database) (version : Option ℤ) → db.schema ≡ store_schema → TellsVersion db version → version ≡ Some (pos 1) → IsOfVersion db
-is_of_version db version schema tells is = record { schema = schema; version = λ one. sym (tells schema one) ∙ ap (option_map Int) is }
+    int_is version (pos 2) (tells schema one ∙ ap (λ (rows : List Row). option_map (λ (r : Row). column r 2) (slice_get rows 0)) info)
 
 pub is_off : (b on : Bool) → b ≡ not on → IsTrue b → on ≡ false
 is_off b false e t = refl
@@ -50,17 +47,6 @@ as_it_was old new settled kept ended same = record {
   committed = λ clean up. (kept clean).committed up;
   now = λ clean up. same clean up ∙ ((kept clean).committed up ∙ sym (settled.1 ((kept clean).was_open up)));
 }
-
-pub unmoved : (s : State) → IsAsItWas s s
-unmoved s = record { in_transaction = λ clean. refl; committed = λ clean up. refl; now = λ clean up. refl }
-
--- reads one after another
-pub unchanged_then : (a b c : State) → IsUnchanged a b → IsUnchanged b c → IsUnchanged a c
-unchanged_then a b c p q = (
-  record { was_open = p.0.was_open; is_open = q.0.is_open; now_is = q.0.now_is ∙ p.0.now_is; committed_is = q.0.committed_is ∙ p.0.committed_is; mode = q.0.mode ∙ p.0.mode },
-  record { changes = q.1.changes ∙ p.1.changes; last_rowid = q.1.last_rowid ∙ p.1.last_rowid },
-  q.2 ∙ p.2,
-)
 
 -- what was read is what the store was
 pub opened : (old new : State) (m : List MRow) (k : Kept) → Survives old new (λ trees. ⊥) → IsUnchanged old new → (IsStoreDatabase old.now k → m ≡ k.listed) → RestsAt old k → HasCleanDisk new → IsStanding new m k

@@ -1,79 +1,58 @@
 -- What a part of a change does to what the change has made.
-use Rattle.std.proofs.Common.{◌≡◌, ◌⊎◌, inl, inr, Bool, true, false, List, refl, sym, ap, subst, ◌∙◌, arith}
-use Rattle.std.specs.Prelude.{IsTrue, Result, Ok, Err, IfOk, OnOk, OnErr, IsErr}
-use Rattle.std.proofs.lemmas.Bool.{cases_Bool}
+use Rattle.std.proofs.Common.{◌≡◌, Bool, true, false, List, refl, sym, subst, ◌∙◌}
+use Rattle.std.specs.Prelude.{IsTrue, Result, Ok, Err, IfOk, OnErr, IsErr}
 use Rattle.sqlite_trees.specs.declared.store.Store.{Ghosts}
-use Rattle.sqlite_trees.specs.Tree.{Trees}
 use Rattle.sqlite.specs.Effect.{Database}
 use Rattle.sqlite.specs.Held.{Held, state}
-use Rattle.sqlite.specs.State.{State, HasCleanDisk, Survives, KeepsCommit, Shows, IsUnchanged}
+use Rattle.sqlite.specs.State.{State, HasCleanDisk, Survives, KeepsCommit}
 use Rattle.sqlite.proofs.StateLemmas.{survives_then}
 use Rattle.esc_manifest.specs.declared.row.MRow.{MRow}
 use Rattle.esc_apply.specs.Registry.{State as Tables}
-use Rattle.esc_rows.specs.Schema.{store_schema}
 use Rattle.esc_rows.specs.Content.{Content, content_in, HoldsContent}
 use Rattle.esc_rows.specs.ContentIs.{content_is}
 use Rattle.esc_rows.specs.Part.{IsPart, IsRead}
 use Rattle.esc_store.specs.declared.store.Store.{Store}
 use Rattle.esc_store.specs.Kept.{Kept}
 use Rattle.esc_store.specs.TypedRows.{IsBooks, IsRegistry}
-use Rattle.esc_store.specs.Tables.{IsKept, IsStore, IsStoreDatabase, HoldsTables}
-use Rattle.esc_store.specs.Standing.{IsAtRest, IsStanding, IsBegun, IsMade, IsUnderWay, IsGivenUp, IsStep, IsLook}
-use Rattle.esc_store.proofs.Standings.{survives_same}
-use Rattle.esc_store.proofs.Ends.{at_ok, at_said, at_err, was_clean, keeps_then, tables_of, begun_committed}
-
-keeps_same : (s : State) → KeepsCommit s s
-keeps_same s = record { was_open = λ up. up; committed = λ up. refl }
+use Rattle.esc_store.specs.Tables.{IsStoreDatabase, HoldsTables}
+use Rattle.esc_store.specs.Standing.{IsBegun, IsMade, IsUnderWay, IsGivenUp, Settles, IsStep, IsLook}
+use Rattle.esc_store.proofs.Ends.{at_ok, at_said, was_clean, keeps_then, begun_committed}
 
 pub not_both : (b : Bool) → b ≡ true → b ≡ false → ⊥
 not_both b is_on is_off = let e : true ≡ false = sym is_on ∙ is_off in cc
 
 -- ---- from statements to steps
 
--- no transaction is on, and nothing is done
-pub step_off : {X E : Type 0} (s : State) (Made : Database → Database → Type 0) (e : E) → (s.in_transaction ≡ false) × (IsTrue s.is_open → s.now ≡ s.committed) → IsStep {X = X} s s Made (Err e)
-step_off s Made e off = record { survives = survives_same s (λ trees. ⊥); kept = λ clean. keeps_same s; made = λ clean. tt; failed = λ clean. off }
+module _ {S : Type 0} (g : Ghosts S) (old : Store S) (conn : Held S) {new : Store S} {X D E : Type 0} {outcome : Result X D} {result : Result X E} (settled : Settles g (record old { conn = conn }) new outcome result) where
+  after : IsGivenUp (state g conn) (state g new.conn) → Survives (state g old.conn) (state g conn) (λ trees. ⊥) → Survives (state g old.conn) (state g new.conn) (λ trees. ⊥)
+  after up survives = survives_then (state g old.conn) (state g conn) (state g new.conn) (λ trees. ⊥) (λ trees. ⊥) (λ trees. ⊥) (λ _ db none. none) (λ _ db none. none) survives up.survives
 
-pub look_off : {X E : Type 0} (s : State) (Says : Database → X → Type 0) (e : E) → (s.in_transaction ≡ false) × (IsTrue s.is_open → s.now ≡ s.committed) → IsLook s s Says (Err e)
-look_off s Says e off = record { survives = survives_same s (λ trees. ⊥); autocommit = λ clean h. h; kept = λ clean schema. keeps_same s; said = λ clean schema. tt; failed = λ clean. off }
+  keeps_after : IsGivenUp (state g conn) (state g new.conn) → (HasCleanDisk (state g conn) → KeepsCommit (state g old.conn) (state g conn)) → HasCleanDisk (state g new.conn) → KeepsCommit (state g old.conn) (state g new.conn)
+  keeps_after up kept clean = keeps_then (state g old.conn) (state g conn) (state g new.conn) (kept (was_clean (state g conn) (state g new.conn) (λ trees. ⊥) up.survives clean)) (up.kept clean)
 
-module _ {S : Type 0} (g : Ghosts S) (old : Held S) (mid new : Store S) {X D E : Type 0} (outcome : Result X D) (result : Result X E)
-    (survives : Survives (state g mid.conn) (state g new.conn) (λ trees. ⊥)) (ok : IfOk result (λ x. (outcome ≡ Ok x) × (new ≡ mid))) (err : OnErr result (IsErr outcome × IsGivenUp (state g mid.conn) (state g new.conn))) where
   -- a statement within the transaction, settled
-  pub step_is : (Made : Database → Database → Type 0) → old.in_transaction ≡ true → IsPart (state g old) (state g mid.conn) Made outcome → IsStep (state g old) (state g new.conn) Made result
-  step_is Made on part = elim result as (λ r. IfOk r (λ x. (outcome ≡ Ok x) × (new ≡ mid)) → OnErr r (IsErr outcome × IsGivenUp (state g mid.conn) (state g new.conn)) → IsStep (state g old) (state g new.conn) Made r) [
-    | Ok x ↦ λ ok err. subst (λ (s : Store S). IsStep {X = X} {E = E} (state g old) (state g s.conn) Made (Ok x)) (sym ok.1) (record {
+  pub step_is : (Made : Database → Database → Type 0) → IsPart (state g old.conn) (state g conn) Made outcome → IsStep (state g old.conn) (state g new.conn) Made result
+  step_is Made part = elim result as (λ r. IfOk r (λ x. (outcome ≡ Ok x) × (new ≡ record old { conn = conn })) → OnErr r (IsErr outcome × IsGivenUp (state g conn) (state g new.conn)) → IsStep (state g old.conn) (state g new.conn) Made r) [
+    | Ok x ↦ λ ok err. subst (λ (s : Store S). IsStep {X = X} {E = E} (state g old.conn) (state g s.conn) Made (Ok x)) (sym ok.1) (record {
       survives = part.survives;
       kept = part.kept;
-      made = λ clean. let m = at_ok outcome x _ ok.0 (part.made clean) in (on, m.0, m.1, m.2);
+      made = λ clean. let m = at_ok outcome x _ ok.0 (part.made clean) in (at_ok outcome x _ ok.0 part.within, m.0, m.1, m.2);
       failed = λ clean. tt;
     })
-    | Err e ↦ λ ok err. record {
-      survives = survives_then (state g old) (state g mid.conn) (state g new.conn) (λ trees. ⊥) (λ trees. ⊥) (λ trees. ⊥) (λ _ db none. none) (λ _ db none. none) part.survives err.1.survives;
-      kept = λ clean. keeps_then (state g old) (state g mid.conn) (state g new.conn) (part.kept (was_clean (state g mid.conn) (state g new.conn) (λ trees. ⊥) err.1.survives clean)) (err.1.kept clean);
-      made = λ clean. tt;
-      failed = λ clean. (err.1.ended clean, err.1.settled clean);
-    }
-  ] ok err
+    | Err e ↦ λ ok err. record { survives = after err.1 part.survives; kept = keeps_after err.1 part.kept; made = λ clean. tt; failed = λ clean. (err.1.ended clean, err.1.settled clean) }
+  ] settled.ok settled.err
 
   -- a read, settled
-  pub look_is : (Says : Database → X → Type 0) → IsRead (state g old) (state g mid.conn) Says outcome → IsLook (state g old) (state g new.conn) Says result
-  look_is Says read = elim result as (λ r. IfOk r (λ x. (outcome ≡ Ok x) × (new ≡ mid)) → OnErr r (IsErr outcome × IsGivenUp (state g mid.conn) (state g new.conn)) → IsLook (state g old) (state g new.conn) Says r) [
-    | Ok x ↦ λ ok err. subst (λ (s : Store S). IsLook {X = X} {E = E} (state g old) (state g s.conn) Says (Ok x)) (sym ok.1) (record {
+  pub look_is : (Says : Database → X → Type 0) → IsRead (state g old.conn) (state g conn) Says outcome → IsLook (state g old.conn) (state g new.conn) Says result
+  look_is Says read = elim result as (λ r. IfOk r (λ x. (outcome ≡ Ok x) × (new ≡ record old { conn = conn })) → OnErr r (IsErr outcome × IsGivenUp (state g conn) (state g new.conn)) → IsLook (state g old.conn) (state g new.conn) Says r) [
+    | Ok x ↦ λ ok err. subst (λ (s : Store S). IsLook {X = X} {E = E} (state g old.conn) (state g s.conn) Says (Ok x)) (sym ok.1) (record {
       survives = read.survives;
-      autocommit = λ clean off. read.autocommit off;
       kept = read.kept;
-      said = λ clean schema. at_said outcome x _ ok.0 (read.said clean schema);
+      said = λ clean. at_said outcome x _ ok.0 (read.said clean);
       failed = λ clean. tt;
     })
-    | Err e ↦ λ ok err. record {
-      survives = survives_then (state g old) (state g mid.conn) (state g new.conn) (λ trees. ⊥) (λ trees. ⊥) (λ trees. ⊥) (λ _ db none. none) (λ _ db none. none) read.survives err.1.survives;
-      autocommit = λ clean off. err.1.ended clean;
-      kept = λ clean schema. keeps_then (state g old) (state g mid.conn) (state g new.conn) (read.kept (was_clean (state g mid.conn) (state g new.conn) (λ trees. ⊥) err.1.survives clean) schema) (err.1.kept clean);
-      said = λ clean schema. tt;
-      failed = λ clean. (err.1.ended clean, err.1.settled clean);
-    }
-  ] ok err
+    | Err e ↦ λ ok err. record { survives = after err.1 read.survives; kept = keeps_after err.1 read.kept; said = λ clean. tt; failed = λ clean. (err.1.ended clean, err.1.settled clean) }
+  ] settled.ok settled.err
 
 -- ---- a step
 

@@ -1,6 +1,6 @@
 -- What the statements on objects and before-images do to tables and before-images by keys.
-use Rattle.std.proofs.Common.{◌≡◌, ◌⊎◌, inl, inr, ℕ, Bool, true, false, List, [], ◌∷◌, Option, None, Some, refl, sym, ap, subst, ◌∙◌, arith}
-use Rattle.std.specs.Prelude.{◌==◌, ◌&&◌, if◌then◌else◌, bytes_eq, option_map, IsSome, IfSome, is_some}
+use Rattle.std.proofs.Common.{◌≡◌, inl, inr, ℕ, Bool, true, false, List, [], Option, None, Some, refl, sym, ap, subst, ◌∙◌, arith}
+use Rattle.std.specs.Prelude.{◌==◌, ◌&&◌, if◌then◌else◌, bytes_eq, option_map, IsSome, IfSome}
 use Rattle.std.specs.Option.{option_and_then}
 use Rattle.std.proofs.lemmas.Bool.{cases_Bool, eqb-true}
 use Rattle.std.proofs.lemmas.Bool.Decides.{nat_tests}
@@ -14,15 +14,14 @@ use Rattle.esc_tables.specs.ObjectValue.{ObjectValue}
 use Rattle.esc_record.specs.Record.{record_of}
 use Rattle.esc_record.proofs.Objects.{alone}
 use Rattle.std.proofs.lemmas.List.{append-nil}
-use Rattle.esc_apply.specs.Registry.{State, Befores, empty, nothing, with_key, with_step, written, noted, taken}
+use Rattle.esc_apply.specs.Registry.{State, Befores, empty, nothing, with_key, written, noted, taken}
 use Rattle.esc_apply.specs.Registry.{Content as Objects}
 use Rattle.esc_apply.proofs.Keys.{key_itself, same_key}
-use Rattle.esc_rows.specs.Rows.{ObjectRow, UndoRow}
+use Rattle.esc_rows.specs.Rows.{ObjectRow}
 use Rattle.esc_rows.specs.Content.{Content, content_in, HoldsContent, object_at, image_at, is_same_key, is_same_image}
 use Rattle.esc_rows.specs.Changes.{PutsObject, RemovesObject, without_objects, PutsImage, RemovesImages, without_undo, Becomes}
 use Rattle.esc_store.specs.Kept.{Kept}
 use Rattle.esc_store.specs.TypedRows.{kind_at, at_key, record_at, image_kept, IsBooks, IsRegistry}
-use Rattle.esc_store.specs.Tables.{HoldsTables}
 use Rattle.esc_store.proofs.Parts.{Turns, becomes}
 
 -- ---- kinds by number
@@ -67,12 +66,6 @@ rank_one a b h = some_kind a b (sym (kind_back a) ∙ (ap kind_at h ∙ kind_bac
 and_true : (a b : Bool) → (a && b) ≡ true → (a ≡ true) × (b ≡ true)
 and_true true b h = (refl, h)
 and_true false b h = absurd cc
-
-if_true : {X : Type 0} (b : Bool) (x y : X) → b ≡ true → (if b then x else y) ≡ x
-if_true b x y h = rw h refl
-
-if_false : {X : Type 0} (b : Bool) (x y : X) → b ≡ false → (if b then x else y) ≡ y
-if_false b x y h = rw h refl
 
 no_kind : (k : KeyName) (n : ℕ) (text : List ℕ) → kind_at n ≡ None → is_same_key (kind_rank k.kind) k.text n text ≡ false
 no_kind k n text none = elim (cases_Bool (kind_rank k.kind == n)) [
@@ -147,7 +140,7 @@ pub remove_turns : (kind : ℕ) (key : List ℕ) (old new : Database) → Remove
 remove_turns kind key old new made = turned kind key None old new made
 
 pub books_objects : (k : Kept) (c c' : Content) → c' ≡ record c { objects = c'.objects } → IsBooks c k → IsBooks c' k
-books_objects k c c' only books = subst (λ x. IsBooks x k) (sym only) (record { listed = books.listed; receipts = books.receipts; held = books.held; steps = books.steps })
+books_objects k c c' only books = subst (λ x. IsBooks x k) (sym only) (record { listed = books.listed; receipts = books.receipts; held = books.held; parked = books.parked; moment = books.moment; steps = books.steps })
 
 pub set_registry : (s : State) (k : KeyName) (o : Option ObjectValue) (w : Option (List ℕ)) (c c' : Content) → option_and_then record_of o ≡ w → IfSome o (λ x. IsSome (record_of x)) → SetsObject (kind_rank k.kind) k.text w c c' → IsRegistry c s → IsRegistry c' (written s k o)
 set_registry s k o w c c' bytes has set it = record {
@@ -167,7 +160,7 @@ pub record SetsImages (step : ℕ) (g : ℕ → List ℕ → Option (Option (Lis
   pub map_is : (p n : ℕ) (text : List ℕ) → image_at p n text c'.undo ≡ (if step == p then g n text else image_at p n text c.undo)
 
 pub books_images : (k : Kept) (c c' : Content) → c' ≡ record c { undo = c'.undo } → IsBooks c k → IsBooks c' k
-books_images k c c' only books = subst (λ x. IsBooks x k) (sym only) (record { listed = books.listed; receipts = books.receipts; held = books.held; steps = books.steps })
+books_images k c c' only books = subst (λ x. IsBooks x k) (sym only) (record { listed = books.listed; receipts = books.receipts; held = books.held; parked = books.parked; moment = books.moment; steps = books.steps })
 
 pub record PutsOneImage (step kind : ℕ) (key : List ℕ) (before : Option (List ℕ)) (c c' : Content) : Type 0 where
   pub only : c' ≡ record c { undo = c'.undo }
@@ -178,10 +171,6 @@ image_turns step kind key before old new made tables =
     let m = made (content_in old.trees) tables in
     let b = becomes new (record (content_in old.trees) { undo = m.0 }) m.1 in
     (b.0, subst (PutsOneImage step kind key before (content_in old.trees)) (sym b.1) (record { only = refl; map_is = m.3 }))
-
-split_if : {X : Type 0} (a b : Bool) (x y : X) → (if a && b then x else y) ≡ (if a then (if b then x else y) else y)
-split_if true b x y = refl
-split_if false b x y = refl
 
 some_inner : {X : Type 0} (a b : X) → Some a ≡ Some b → a ≡ b
 some_inner a b h = cc
@@ -252,10 +241,10 @@ pub undo_turns : (old new : Database) → Becomes without_undo old new → Turns
 undo_turns old new made tables = let b = becomes new (without_undo (content_in old.trees)) (made (content_in old.trees) tables) in (b.0, record { is = b.1 })
 
 pub books_no_objects : (k : Kept) (c c' : Content) → DropsObjects c c' → IsBooks c k → IsBooks c' k
-books_no_objects k c c' drops books = subst (λ x. IsBooks x k) (sym drops.is) (record { listed = books.listed; receipts = books.receipts; held = books.held; steps = books.steps })
+books_no_objects k c c' drops books = subst (λ x. IsBooks x k) (sym drops.is) (record { listed = books.listed; receipts = books.receipts; held = books.held; parked = books.parked; moment = books.moment; steps = books.steps })
 
 pub books_no_undo : (k : Kept) (c c' : Content) → DropsUndo c c' → IsBooks c k → IsBooks c' k
-books_no_undo k c c' drops books = subst (λ x. IsBooks x k) (sym drops.is) (record { listed = books.listed; receipts = books.receipts; held = books.held; steps = books.steps })
+books_no_undo k c c' drops books = subst (λ x. IsBooks x k) (sym drops.is) (record { listed = books.listed; receipts = books.receipts; held = books.held; parked = books.parked; moment = books.moment; steps = books.steps })
 
 pub nothing_there : (n : ℕ) (text : List ℕ) → record_at (λ q. None) n text ≡ None
 nothing_there n text = by_kind (kind_at n) where

@@ -1,15 +1,14 @@
 -- What parts do to rows, receipts, bodies and steps.
-use Rattle.std.proofs.Common.{◌≡◌, ◌⊎◌, inl, inr, ℕ, zero, suc, take, get_or, ◌+◌, ◌<◌, ◌≤◌, ltb, Bool, true, false, filter, List, [], ◌∷◌, ◌++◌, length, map, Option, None, Some, refl, sym, ap, subst, ◌∙◌, arith}
-use Rattle.std.specs.Prelude.{IsTrue, Result, Ok, Err, IfOk, OnOk, OnErr, pos, ◌<ℤ◌, ℤ, ◌==◌, if◌then◌else◌, option_map}
+use Rattle.std.proofs.Common.{◌≡◌, ℕ, zero, suc, take, get_or, ◌+◌, ◌<◌, ◌≤◌, ltb, Bool, true, false, filter, List, [], ◌∷◌, ◌++◌, length, map, Some, refl, sym, ap, subst, ◌∙◌, arith}
+use Rattle.std.specs.Prelude.{IsTrue, Result, Ok, Err, OnOk, pos, ◌<ℤ◌, ℤ, ◌==◌, if◌then◌else◌, option_map}
 use Rattle.std.specs.List.{AllByRecursion}
 use Rattle.std.proofs.lemmas.Int.{ints}
 use Rattle.std.proofs.lemmas.List.{length-map, length-take-le, get_or-map, take_more, take_more_same, take_all}
-use Rattle.sqlite_trees.specs.Tree.{Trees}
 use Rattle.esc_rows.specs.declared.step.ChainStep.{ChainStep}
 use Rattle.esc_apply.specs.declared.front.Step.{Step}
 use Rattle.esc_rows.specs.Entries.{step_row}
 use Rattle.sqlite.specs.Effect.{Database}
-use Rattle.sqlite.specs.State.{State, HasCleanDisk, Survives, KeepsCommit, Shows, IsUnchanged}
+use Rattle.sqlite.specs.State.{State, HasCleanDisk}
 use Rattle.sqlite.proofs.StateLemmas.{survives_then}
 use Rattle.sqlite_keyed.specs.Keyed.{IsKeyedBy, get_by, insert_by}
 use Rattle.sqlite_keyed.proofs.KeyedLemmas.{same_int, lt_from_Less}
@@ -24,13 +23,12 @@ use Rattle.esc_rows.specs.Rows.{ReceiptRow, StepRow, HeldRow, receipt_number, he
 use Rattle.esc_rows.specs.Content.{Content, content_in, HoldsContent}
 use Rattle.esc_rows.specs.Changes.{Tells, AddsReceipt, AddsStep, HoldsBody, Becomes, steps_before, last_number, body_of}
 use Rattle.esc_apply.specs.Registry.{State as Tables}
-use Rattle.esc_store.specs.Kept.{Kept, with_receipt, with_body, with_steps, body_put}
+use Rattle.esc_store.specs.Kept.{Kept, with_receipt, with_body, with_steps}
 use Rattle.esc_store.specs.ReplyValue.{ReceiptValue}
 use Rattle.esc_store.specs.TypedRows.{IsBooks, IsRegistry, receipt_row, receipts_from, steps_from}
-use Rattle.esc_store.specs.Tables.{HoldsTables}
 use Rattle.esc_store.specs.Steps.{next_number, with_next_receipt, AddsNext, with_step_rows, SetsSteps, SetsFront}
-use Rattle.esc_store.specs.Standing.{IsStep, IsSure, RestIn}
-use Rattle.esc_store.proofs.Ends.{at_ok, at_said, was_clean, keeps_then}
+use Rattle.esc_store.specs.Standing.{IsStep, IsLook, RestIn}
+use Rattle.esc_store.proofs.Ends.{at_said, was_clean, keeps_then}
 use Rattle.esc_store.proofs.Parts.{Turns, becomes}
 use Rattle.esc_store.proofs.Reading.{counted}
 use Rattle.sqlite_trees.specs.declared.store.Store.{Ghosts}
@@ -56,25 +54,25 @@ below_next (r ∷ (s ∷ rs)) n keyed is =
     (omega arith, others)
 
 -- after the last receipt's number was read, the next receipt is added
-pub step_next : {Y Z D E : Type 0} (old mid new : State) (r : Result ℕ D) (last : ℕ) (v : ReceiptValue) (row : ReceiptRow) (y : Y) (z : Z) → old.in_transaction ≡ true → IsSure old mid (Tells (λ c (found : ℕ). found ≡ last_number c.receipts)) r → r ≡ Ok last
+pub step_next : {Y Z D E : Type 0} (old mid new : State) (r : Result ℕ D) (last : ℕ) (v : ReceiptValue) (row : ReceiptRow) (y : Y) (z : Z) → old.in_transaction ≡ true → IsLook old mid (Tells (λ c (found : ℕ). found ≡ last_number c.receipts)) r → r ≡ Ok last
     → row ≡ receipt_row (last + 1) v → IsStep {X = Y} {E = E} mid new (AddsReceipt row) (Ok y) → IsStep {X = Z} {E = E} old new (AddsNext v) (Ok z)
-step_next old mid new r last v row y z on sure is row_is step = record {
-  survives = survives_then old mid new (λ trees. ⊥) (λ trees. ⊥) (λ trees. ⊥) (λ _ db none. none) (λ _ db none. none) sure.survives step.survives;
-  kept = λ clean. keeps_then old mid new (sure.kept (was_clean mid new (λ trees. ⊥) step.survives clean)) (step.kept clean);
+step_next old mid new r last v row y z on look is row_is step = record {
+  survives = survives_then old mid new (λ trees. ⊥) (λ trees. ⊥) (λ trees. ⊥) (λ _ db none. none) (λ _ db none. none) look.survives step.survives;
+  kept = λ clean. keeps_then old mid new (look.kept (was_clean mid new (λ trees. ⊥) step.survives clean)) (step.kept clean);
   made = λ clean. let m = step.made clean in (on, adds clean m.1, m.2, m.3);
   failed = λ clean. tt;
 } where
   adds : HasCleanDisk new → AddsReceipt row mid.now new.now → AddsNext v old.now new.now
   adds clean added c h =
-      let s = at_said r last _ is (sure.said (was_clean mid new (λ trees. ⊥) step.survives clean)) in
+      let s = at_said r last _ is (look.said (was_clean mid new (λ trees. ⊥) step.survives clean)) in
       let there : HoldsContent mid.now c = subst (λ db. HoldsContent db c) (sym s.1.0.now_is) h in
       let next : row ≡ receipt_row (next_number c) v = row_is ∙ ap (λ n. receipt_row (n + 1) v) (s.0 c h) in
       subst (λ (x : ReceiptRow). HoldsContent new.now (record c { receipts = c.receipts ++ x ∷ [] })) next
       (added c there (subst (λ (x : ReceiptRow). AllByRecursion (λ (y : ReceiptRow). y.receipt < x.receipt) c.receipts) (sym next) (below_next c.receipts (next_number c) (h.store.ordered Receipts) refl)))
 
 -- the number that was read, of the tables before
-pub last_told : {D : Type 0} (old mid : State) (r : Result ℕ D) (last : ℕ) → IsSure old mid (Tells (λ c (found : ℕ). found ≡ last_number c.receipts)) r → r ≡ Ok last → HasCleanDisk mid → (c : Content) → HoldsContent old.now c → last ≡ last_number c.receipts
-last_told old mid r last sure is clean c h = (at_said r last _ is (sure.said clean)).0 c h
+pub last_told : {D : Type 0} (old mid : State) (r : Result ℕ D) (last : ℕ) → IsLook old mid (Tells (λ c (found : ℕ). found ≡ last_number c.receipts)) r → r ≡ Ok last → HasCleanDisk mid → (c : Content) → HoldsContent old.now c → last ≡ last_number c.receipts
+last_told old mid r last look is clean c h = (at_said r last _ is (look.said clean)).0 c h
 
 -- what a change of the content turns into
 pub record Becoming (change : Content → Content) (c c' : Content) : Type 0 where
@@ -92,6 +90,8 @@ books_receipt k r c c' turn books = subst (λ x. IsBooks x (with_receipt k r)) (
   listed = books.listed;
   receipts = ap (λ (rs : List ReceiptRow). rs ++ receipt_row (last_number rs + 1) r ∷ []) books.receipts ∙ sym (receipts_push 1 k.receipts r _ (ap (λ n. n + 1) (sym (counted k.receipts))));
   held = books.held;
+  parked = books.parked;
+  moment = books.moment;
   steps = books.steps;
 })
 
@@ -148,6 +148,8 @@ books_held k h row body c c' row_is body_is turn books = subst (λ x. IsBooks x 
   listed = books.listed;
   receipts = books.receipts;
   held = λ n. body_in h c.held n ∙ rw (row_is, body_is) (ap (λ o. if n == row then Some body else o) (books.held n));
+  parked = books.parked;
+  moment = books.moment;
   steps = books.steps;
 })
 
@@ -157,7 +159,7 @@ registry_held s h c c' turn it = subst (λ x. IsRegistry x s) (sym turn.is) (rec
 -- ---- steps
 
 pub books_steps : (k : Kept) (rows : List ℕ) (c c' : Content) → Becoming (with_step_rows rows) c c' → IsBooks c k → IsBooks c' (with_steps k rows)
-books_steps k rows c c' turn books = subst (λ x. IsBooks x (with_steps k rows)) (sym turn.is) (record { listed = books.listed; receipts = books.receipts; held = books.held; steps = refl })
+books_steps k rows c c' turn books = subst (λ x. IsBooks x (with_steps k rows)) (sym turn.is) (record { listed = books.listed; receipts = books.receipts; held = books.held; parked = books.parked; moment = books.moment; steps = refl })
 
 pub registry_steps : (s : Tables) (rows : List ℕ) (c c' : Content) → Becoming (with_step_rows rows) c c' → IsRegistry c s → IsRegistry c' s
 registry_steps s rows c c' turn it = subst (λ x. IsRegistry x s) (sym turn.is) (record { objects = it.objects; images = it.images; recorded = it.recorded; noted = it.noted })
@@ -194,36 +196,36 @@ front_before (s ∷ ss) (suc n) d up lt =
     let above : s.pos < (get_or ss n d).pos = less_pos s.pos (get_or ss n d).pos (all_get (λ (x : StepRow). step_number s <ℤ step_number x) ss n d up.0 (omega arith)) in
     rw (lt-ltb s.pos (get_or ss n d).pos above) (ap (λ l. s ∷ l) (front_before ss n d up.1 (omega arith)))
 
-module _ {Y D : Type 0} (show : Y → List StepRow) (old mid : State) (r : Result Y D) (y : Y) (rows : List ℕ) (front : ℕ) (on : old.in_transaction ≡ true) (sure : IsSure old mid (Tells (λ c y. show y ≡ c.steps)) r) (is : r ≡ Ok y)
+module _ {Y D : Type 0} (show : Y → List StepRow) (old mid : State) (r : Result Y D) (y : Y) (rows : List ℕ) (front : ℕ) (on : old.in_transaction ≡ true) (look : IsLook old mid (Tells (λ c y. show y ≡ c.steps)) r) (is : r ≡ Ok y)
     (same : take front (show y) ≡ take front (steps_from 1 rows)) where
   still : HasCleanDisk mid → (c : Content) → HoldsContent old.now c → HoldsContent mid.now c
-  still clean c h = subst (λ db. HoldsContent db c) (sym (at_said r y _ is (sure.said clean)).1.0.now_is) h
+  still clean c h = subst (λ db. HoldsContent db c) (sym (at_said r y _ is (look.said clean)).1.0.now_is) h
 
   -- all the steps are in front
   pub front_whole : length (show y) ≤ front → {E : Type 0} → IsStep {E = E} old mid (SetsFront {E = E} rows (Ok front)) (Ok front)
   front_whole whole = record {
-    survives = sure.survives;
-    kept = sure.kept;
-    made = λ clean. let shown = (at_said r y _ is (sure.said clean)).1.0 in (on, sets clean, shown.mode ∙ on, shown.is_open);
+    survives = look.survives;
+    kept = look.kept;
+    made = λ clean. let shown = (at_said r y _ is (look.said clean)).1.0 in (on, sets clean, shown.mode ∙ on, shown.is_open);
     failed = λ clean. tt;
   } where
     sets : HasCleanDisk mid → SetsSteps (take front rows) old.now mid.now
     sets clean c h =
-        let e : c.steps ≡ steps_from 1 (take front rows) = sym ((at_said r y _ is (sure.said clean)).0 c h) ∙ (sym (take_all front (show y) whole) ∙ (same ∙ take_steps front 1 rows)) in
+        let e : c.steps ≡ steps_from 1 (take front rows) = sym ((at_said r y _ is (look.said clean)).0 c h) ∙ (sym (take_all front (show y) whole) ∙ (same ∙ take_steps front 1 rows)) in
         subst (λ (ss : List StepRow). HoldsContent mid.now (record c { steps = ss })) e (still clean c h)
 
   -- those past the front are taken away
   module _ {W E : Type 0} (new : State) (at : ℕ) (d : StepRow) (within : front < length (show y)) (at_is : at ≡ (get_or (show y) front d).pos) where
     pub front_cut : (w : W) → IsStep {X = W} {E = E} mid new (Becomes (steps_before at)) (Ok w) → IsStep {E = E} old new (SetsFront {E = E} rows (Ok front)) (Ok front)
     front_cut w step = record {
-      survives = survives_then old mid new (λ trees. ⊥) (λ trees. ⊥) (λ trees. ⊥) (λ _ db none. none) (λ _ db none. none) sure.survives step.survives;
-      kept = λ clean. keeps_then old mid new (sure.kept (was_clean mid new (λ trees. ⊥) step.survives clean)) (step.kept clean);
+      survives = survives_then old mid new (λ trees. ⊥) (λ trees. ⊥) (λ trees. ⊥) (λ _ db none. none) (λ _ db none. none) look.survives step.survives;
+      kept = λ clean. keeps_then old mid new (look.kept (was_clean mid new (λ trees. ⊥) step.survives clean)) (step.kept clean);
       made = λ clean. let m = step.made clean in (on, sets (was_clean mid new (λ trees. ⊥) step.survives clean) m.1, m.2, m.3);
       failed = λ clean. tt;
     } where
       sets : HasCleanDisk mid → Becomes (steps_before at) mid.now new.now → SetsSteps (take front rows) old.now new.now
       sets clean cut c h =
-          let shown : show y ≡ c.steps = (at_said r y _ is (sure.said clean)).0 c h in
+          let shown : show y ≡ c.steps = (at_said r y _ is (look.said clean)).0 c h in
           let up : IsKeyedBy step_number (show y) = subst (IsKeyedBy step_number) (sym shown) (h.store.ordered Steps) in
           let e : filter (λ (s : StepRow). ltb s.pos at) c.steps ≡ steps_from 1 (take front rows) =
           ap (filter (λ (s : StepRow). ltb s.pos at)) (sym shown)

@@ -2,8 +2,8 @@
 use Rattle.std.specs.Prelude.{
   ◌≡◌,
   ℕ,
+  ℤ,
   ◌<◌,
-  Bool,
   ◌==◌,
   if◌then◌else◌,
   List,
@@ -37,11 +37,14 @@ use Rattle.esc_store.specs.declared.reply.Verdict.TheVariants.{A1}
 use Rattle.esc_store.specs.ReplyValue.{ReceiptValue, ReplyValue, replies_from, reply_alike}
 
 -- the manifest's rows, a receipt for each distinct arrival in order, the bodies of held rows, the
--- rows of the chain in order, and its tables with their before-images
+-- bodies that no row lists by their digests, the moment that is set, the rows of the chain in
+-- order, and its tables with their before-images
 pub record Kept : Type 0 where
   pub listed : List MRow
   pub receipts : List ReceiptValue
   pub bodies : ℕ → Option (List ℕ)
+  pub parked : List ℕ → Option (List ℕ)
+  pub moment : Option ℤ
   pub steps : List ℕ
   pub registry : State
 
@@ -51,19 +54,15 @@ fresh listed = record {
   listed = listed;
   receipts = [];
   bodies = λ row. None;
+  parked = λ digest. None;
+  moment = None;
   steps = [];
   registry = empty;
 }
 
 -- with one receipt more
 abbrev pub with_receipt : Kept → ReceiptValue → Kept
-with_receipt k r = record {
-  listed = k.listed;
-  receipts = k.receipts ++ r ∷ [];
-  bodies = k.bodies;
-  steps = k.steps;
-  registry = k.registry;
-}
+with_receipt k r = record k { receipts = k.receipts ++ r ∷ [] }
 
 -- bodies with one more, or another at this row
 abbrev pub body_put : (ℕ → Option (List ℕ)) → ℕ → List ℕ → ℕ → Option (List ℕ)
@@ -71,33 +70,15 @@ body_put bodies row body n = if n == row then Some body else bodies n
 
 -- with the body of a row
 abbrev pub with_body : Kept → ℕ → List ℕ → Kept
-with_body k row body = record {
-  listed = k.listed;
-  receipts = k.receipts;
-  bodies = body_put k.bodies row body;
-  steps = k.steps;
-  registry = k.registry;
-}
+with_body k row body = record k { bodies = body_put k.bodies row body }
 
 -- with another chain
 abbrev pub with_steps : Kept → List ℕ → Kept
-with_steps k steps = record {
-  listed = k.listed;
-  receipts = k.receipts;
-  bodies = k.bodies;
-  steps = steps;
-  registry = k.registry;
-}
+with_steps k steps = record k { steps = steps }
 
 -- with other tables and before-images
 abbrev pub with_registry : Kept → State → Kept
-with_registry k s = record {
-  listed = k.listed;
-  receipts = k.receipts;
-  bodies = k.bodies;
-  steps = k.steps;
-  registry = s;
-}
+with_registry k s = record k { registry = s }
 
 -- the replies of all receipts
 abbrev pub kept_replies : Kept → List ReplyValue

@@ -1,5 +1,5 @@
 -- What a store stands for, and a change of it while it is on.
-use Rattle.std.specs.Prelude.{◌≡◌, Bool, true, false, IsTrue, List, Result, IfOk, OnOk, OnErr}
+use Rattle.std.specs.Prelude.{◌≡◌, true, false, IsTrue, List, Result, Ok, IfOk, OnOk, OnErr, IsErr}
 use Rattle.sqlite_trees.specs.declared.store.Store.{Ghosts}
 use Rattle.sqlite_trees.specs.Tree.{Trees}
 use Rattle.sqlite.specs.Effect.{Database}
@@ -7,7 +7,6 @@ use Rattle.sqlite.specs.Held.{Held, state}
 use Rattle.sqlite.specs.State.{State, HasCleanDisk, Survives, KeepsCommit, IsUnchanged}
 use Rattle.esc_manifest.specs.declared.row.MRow.{MRow}
 use Rattle.esc_apply.specs.Registry.{State as Tables}
-use Rattle.esc_rows.specs.Schema.{store_schema}
 use Rattle.esc_rows.specs.Content.{Content, IsInOrder, content_in}
 use Rattle.esc_rows.specs.Changes.{Tells}
 use Rattle.esc_store.specs.declared.store.Store.{Store}
@@ -150,21 +149,8 @@ pub record IsStep {X E : Type 0} (old new : State) (Made : Database → Database
   pub failed : HasCleanDisk new
       → OnErr result ((new.in_transaction ≡ false) × (IsTrue new.is_open → new.now ≡ new.committed))
 
--- a read of a database of the store's schema: where it succeeds nothing has changed, and where it
--- fails no transaction is on
+-- a read: where it succeeds nothing has changed, and where it fails no transaction is on
 pub record IsLook {X E : Type 0} (old new : State) (Says : Database → X → Type 0)
-    (result : Result X E) : Type 0 where
-  pub survives : Survives old new (λ trees. ⊥)
-  pub autocommit : HasCleanDisk new → old.in_transaction ≡ false → new.in_transaction ≡ false
-  pub kept : HasCleanDisk new → old.now.schema ≡ store_schema → KeepsCommit old new
-  pub said : HasCleanDisk new → old.now.schema ≡ store_schema
-      → IfOk result (λ x. Says old.now x × IsUnchanged old new)
-  pub failed : HasCleanDisk new
-      → OnErr result ((new.in_transaction ≡ false) × (IsTrue new.is_open → new.now ≡ new.committed))
-
--- a read of a database that was found to have the store's schema: where it succeeds nothing has
--- changed, and where it fails no transaction is on
-pub record IsSure {X E : Type 0} (old new : State) (Says : Database → X → Type 0)
     (result : Result X E) : Type 0 where
   pub survives : Survives old new (λ trees. ⊥)
   pub kept : HasCleanDisk new → KeepsCommit old new
@@ -173,11 +159,19 @@ pub record IsSure {X E : Type 0} (old new : State) (Says : Database → X → Ty
       → OnErr result ((new.in_transaction ≡ false) × (IsTrue new.is_open → new.now ≡ new.committed))
 
 -- the same of a store, whose manifest and count of writes are as they were
-pub record IsCheckedRead {S X E : Type 0} (g : Ghosts S) (old new : Store S) (Says : Content → X
+pub record IsStoreRead {S X E : Type 0} (g : Ghosts S) (old new : Store S) (Says : Content → X
     → Type 0) (result : Result X E) : Type 0 where
   pub manifest : new.manifest ≡ old.manifest
   pub writes : new.writes ≡ old.writes
-  pub sure : IsSure (state g old.conn) (state g new.conn) (Tells Says) result
+  pub look : IsLook (state g old.conn) (state g new.conn) (Tells Says) result
+
+-- the outcome of a statement is settled: where it failed, what is on is given up
+pub record Settles {S X D E : Type 0} (g : Ghosts S) (old new : Store S) (outcome : Result X D)
+    (result : Result X E) : Type 0 where
+  pub survives : LeavesNoMore g old.conn new.conn
+  pub ok : IfOk result (λ x. (outcome ≡ Ok x) × (new ≡ old))
+  pub err : OnErr result
+      (IsErr outcome × IsGivenUp (state g old.conn) (state g new.conn))
 
 -- rows that hold what a store keeps, of which this is said
 pub record IsTold (k : Kept) (Says : Content → Type 0) : Type 0 where

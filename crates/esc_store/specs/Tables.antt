@@ -1,4 +1,4 @@
--- The seven tables of a store.
+-- The nine tables of a store.
 use Rattle.std.specs.Prelude.{◌≡◌, ◌≤◌, pos, length, slice_get, Some, option_map}
 use Rattle.sqlite_value.specs.declared.value.Value.TheVariants.{Int}
 use Rattle.sqlite_value.specs.Order.{Row, column}
@@ -10,7 +10,7 @@ use Rattle.esc_rows.specs.Content.{IsStore as HasTables}
 use Rattle.esc_store.specs.Kept.{Kept}
 use Rattle.esc_store.specs.TypedRows.{IsBooks, IsRegistry}
 
--- trees are the seven tables of version 1, in order and sound, and hold exactly this
+-- trees are the nine tables of version 2, in order and sound, and hold exactly this
 pub record IsKept (trees : Trees) (k : Kept) : Type 0 where
   pub tables : HasTables trees (content_in trees)
   pub books : IsBooks (content_in trees) k
@@ -29,12 +29,12 @@ pub record IsStoreDatabase (db : Database) (k : Kept) : Type 0 where
   pub schema : db.schema ≡ store_schema
   pub kept : IsKept db.trees k
 
--- a database has the seven tables, and the row that tells a version tells 1; the tables let there
+-- a database has the nine tables, and the row that tells a version tells 2; the tables let there
 -- be one such row at most
 pub record IsOfVersion (db : Database) : Type 0 where
   pub schema : db.schema ≡ store_schema
   pub version : length (db.trees info_tree) ≤ 1
-      → option_map (λ (r : Row). column r 2) (slice_get (db.trees info_tree) 0) ≡ Some (Int (pos 1))
+      → option_map (λ (r : Row). column r 2) (slice_get (db.trees info_tree) 0) ≡ Some (Int (pos 2))
 
 -- a database without any table, index or view
 abbrev pub IsBlank : Database → Type 0

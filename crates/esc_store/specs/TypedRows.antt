@@ -1,23 +1,5 @@
 -- How what a store keeps stands in the rows of its tables (this project's profile).
-use Rattle.std.specs.Prelude.{
-  ◌≡◌,
-  ℕ,
-  suc,
-  ◌==◌,
-  Bool,
-  true,
-  false,
-  if◌then◌else◌,
-  List,
-  [],
-  ◌∷◌,
-  Option,
-  None,
-  Some,
-  IsSome,
-  IfSome,
-  option_map,
-}
+use Rattle.std.specs.Prelude.{◌≡◌, ℕ, suc, ◌==◌, Bool, if◌then◌else◌, List, [], ◌∷◌, Option, None, Some, IsSome, IfSome, option_map}
 use Rattle.std.specs.Option.{option_and_then}
 use Rattle.esc_envelope.specs.declared.kind.Kind.{Kind}
 use Rattle.esc_envelope.specs.declared.kind.Kind.TheVariants.{
@@ -28,7 +10,6 @@ use Rattle.esc_envelope.specs.declared.kind.Kind.TheVariants.{
   Idn,
   Nndn,
 }
-use Rattle.esc_envelope.specs.Kinds.{kind_rank}
 use Rattle.esc_envelope.specs.Place.{rank}
 use Rattle.esc_manifest.specs.declared.row.MRow.{MRow}
 use Rattle.esc_tables.specs.KeyName.{KeyName}
@@ -37,7 +18,7 @@ use Rattle.esc_record.specs.Record.{record_of}
 use Rattle.esc_apply.specs.Registry.{State, Befores}
 use Rattle.esc_apply.specs.Registry.{Content as Objects}
 use Rattle.esc_rows.specs.Rows.{ListedRow, ReceiptRow, StepRow}
-use Rattle.esc_rows.specs.Content.{Content, object_at, image_at}
+use Rattle.esc_rows.specs.Content.{Content, object_at, image_at, parked_at, moment_of}
 use Rattle.esc_rows.specs.Changes.{body_of}
 use Rattle.esc_store.specs.declared.reply.Verdict.{Verdict}
 use Rattle.esc_store.specs.declared.reply.Verdict.TheVariants.{A1, A2, A3, A4}
@@ -117,11 +98,13 @@ record_at content n text = option_and_then record_of (at_key content n text)
 abbrev pub image_kept : Befores → ℕ → List ℕ → Option (Option (List ℕ))
 image_kept before n text = option_map (λ o. option_and_then record_of o) (at_key before n text)
 
--- the rows, receipts, bodies and chain
+-- the rows, receipts, bodies, moment and chain
 pub record IsBooks (c : Content) (k : Kept) : Type 0 where
   pub listed : c.listed ≡ listed_from 0 k.listed
   pub receipts : c.receipts ≡ receipts_from 1 k.receipts
   pub held : (row : ℕ) → body_of row c.held ≡ k.bodies row
+  pub parked : (digest : List ℕ) → parked_at digest c.parked ≡ k.parked digest
+  pub moment : moment_of c.moment ≡ k.moment
   pub steps : c.steps ≡ steps_from 1 k.steps
 
 -- the objects and before-images: of each key its record, and nothing else

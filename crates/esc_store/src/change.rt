@@ -43,6 +43,7 @@ use crate::fault::SFault;
 use crate::reply::Receipt;
 use crate::store::Store;
 use esc_apply::Step;
+use esc_rows::held::insert_held;
 use esc_rows::step::ChainStep;
 use sqlite::Alter;
 
@@ -100,7 +101,8 @@ impl<'a, S: Alter> Change<'a, S> {
             → HoldsNow S.Store self.new s) }
         ensures cause { IfErr result IsS1OrS2 }
     {
-        self.store.hold_here(row, body)
+        let done = insert_held(&mut self.store.conn, row, body);
+        self.store.settle(done)
     }
 
     /// Makes these the steps of the chain, each of a row of its own that is held. `S1`, `S2`.

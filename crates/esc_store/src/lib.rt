@@ -3,7 +3,7 @@
 //! # What it is for
 //!
 //! A store keeps a manifest's rows, a receipt for each distinct arrival, the bodies of held rows,
-//! the chain, its tables and the before-images of its steps. It keeps them in the seven tables of
+//! the chain, its tables and the before-images of its steps. It keeps them in the nine tables of
 //! `esc_rows`. The desk above decides what is kept; no SQL and no row of a table is seen there.
 //!
 //! # What goes in and out
@@ -17,7 +17,7 @@
 //! | `store`, `founding`, `opening` | a store, how it is made, and how one is found |
 //! | `reads` | what a store answers of itself |
 //! | `change`, `books`, `registry`, `records` | a change: its receipt, body and chain, and its objects |
-//! | `statements` | a write, a read in a change, and a checked read: one call of `esc_rows` each |
+//! | `statements` | a write or a read of the tables: one call of `esc_rows` each |
 //! | `codec` | what the tables keep, as their rows and bytes, and back |
 //!
 //! # An example

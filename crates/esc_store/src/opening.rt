@@ -35,7 +35,7 @@ fn test_version<S: Alter>(conn: &mut Connection<S>) -> Result<(), SFault>
     if !has_tables(conn) {
         return Err(SFault::S3);
     }
-    if find_version(conn)? != Some(1) {
+    if find_version(conn)? != Some(2) {
         return Err(SFault::S3);
     }
     Ok(())

@@ -14,7 +14,8 @@ ghost use Rattle.esc_store.specs.Standing.{HoldsNow, Follows};
 use crate::change::Change;
 use crate::codec::object::kind_number;
 use crate::fault::SFault;
-use esc_rows::undo::StoredImage;
+use esc_rows::object::{clear_objects, delete_object, find_object, put_object};
+use esc_rows::undo::{StoredImage, clear_undo, delete_undo, insert_undo, select_undo};
 use esc_tables::Key;
 use sqlite::Alter;
 use std::alloc::Global;
@@ -29,7 +30,8 @@ impl<'a, S: Alter> Change<'a, S> {
             → (option_map (λ b. b.items) found ≡ option_and_then record_of (s.content k.now))
             × IfSome (s.content k.now) (λ x. IsSome (record_of x)) × HoldsNow S.Store self.new s) }
     {
-        self.store.find_here(kind_number(k.kind), k.text.as_bytes())
+        let found = find_object(&mut self.store.conn, kind_number(k.kind), k.text.as_bytes());
+        self.store.settle(found)
     }
 
     // Writes a record at a key.
@@ -40,8 +42,13 @@ impl<'a, S: Alter> Change<'a, S> {
             → record_of o ≡ Some bytes.now
             → HoldsNow S.Store self.old s → HoldsNow S.Store self.new (written s k.now (Some o))) }
     {
-        self.store
-            .put_here(kind_number(k.kind), k.text.as_bytes(), bytes)
+        let done = put_object(
+            &mut self.store.conn,
+            kind_number(k.kind),
+            k.text.as_bytes(),
+            bytes,
+        );
+        self.store.settle(done)
     }
 
     // Takes the record at a key away.
@@ -51,8 +58,8 @@ impl<'a, S: Alter> Change<'a, S> {
         ensures written { OnOk result ((s : State) → HoldsNow S.Store self.old s
             → HoldsNow S.Store self.new (written s k.now None)) }
     {
-        self.store
-            .remove_here(kind_number(k.kind), k.text.as_bytes())
+        let done = delete_object(&mut self.store.conn, kind_number(k.kind), k.text.as_bytes());
+        self.store.settle(done)
     }
 
     // Notes the record that stood at a key before a step, or that none did.
@@ -69,8 +76,14 @@ impl<'a, S: Alter> Change<'a, S> {
             → IfSome o (λ x. IsSome (record_of x)) → HoldsNow S.Store self.old s
             → HoldsNow S.Store self.new (noted s step k.now o)) }
     {
-        self.store
-            .note_here(step, kind_number(k.kind), k.text.as_bytes(), before)
+        let done = insert_undo(
+            &mut self.store.conn,
+            step,
+            kind_number(k.kind),
+            k.text.as_bytes(),
+            before,
+        );
+        self.store.settle(done)
     }
 
     // What was noted of a step.
@@ -85,7 +98,8 @@ impl<'a, S: Alter> Change<'a, S> {
             → (s : State) → HoldsNow S.Store self.old s
             → AreNotes step s (map image_of found.items) × HoldsNow S.Store self.new s) }
     {
-        self.store.notes_here(alloc, step)
+        let found = select_undo(alloc, &mut self.store.conn, step);
+        self.store.settle(found)
     }
 
     // Forgets what was noted of a step.
@@ -95,7 +109,8 @@ impl<'a, S: Alter> Change<'a, S> {
         ensures taken { OnOk result ((s : State) → HoldsNow S.Store self.old s
             → HoldsNow S.Store self.new (taken s step)) }
     {
-        self.store.forget_here(step)
+        let done = delete_undo(&mut self.store.conn, step);
+        self.store.settle(done)
     }
 
     // Takes all records away.
@@ -105,7 +120,8 @@ impl<'a, S: Alter> Change<'a, S> {
         ensures cleared { OnOk result ((s : State) → HoldsNow S.Store self.old s
             → HoldsNow S.Store self.new (record { content = empty.content; undo = s.undo })) }
     {
-        self.store.clear_objects_here()
+        let done = clear_objects(&mut self.store.conn);
+        self.store.settle(done)
     }
 
     // Forgets what was noted of all steps.
@@ -116,6 +132,7 @@ impl<'a, S: Alter> Change<'a, S> {
             → HoldsNow S.Store self.old (record { content = empty.content; undo = s.undo })
             → HoldsNow S.Store self.new empty) }
     {
-        self.store.clear_undo_here()
+        let done = clear_undo(&mut self.store.conn);
+        self.store.settle(done)
     }
 }

@@ -15,7 +15,6 @@ ghost use Rattle.std.specs.Prelude.{
 };
 ghost use Rattle.std.specs.Borrow.{sem, RestsIfErr};
 ghost use Rattle.sqlite.specs.Held.{state};
-ghost use Rattle.esc_rows.specs.Schema.{store_schema};
 ghost use Rattle.esc_store.specs.Faults.{IsS1OrS2, IsS1ToS3};
 ghost use Rattle.esc_store.specs.Opening.{IsAsItWas};
 ghost use Rattle.esc_store.specs.Kept.{Kept, fresh, with_registry};
@@ -35,6 +34,7 @@ ghost use Rattle.esc_store.specs.Standing.{
   LeavesNoMore,
   IsHonest,
   IsGivenUp,
+  Settles,
 };
 ghost use Rattle.sqlite.specs.State.{HasCleanDisk};
 
@@ -44,12 +44,11 @@ use crate::fault::SFault;
 use crate::founding::{found_here, give_up_in};
 use crate::opening::find_manifest;
 use esc_manifest::Manifest;
-use esc_rows::shape::is_store_schema;
 use esc_rows::transaction::{begin_in, commit_in};
 use sqlite::{Alter, Connection, Error};
 use std::alloc::Global;
 
-/// A store: a database of seven tables. Contracts see what it *stands for*: the rows of its
+/// A store: a database of nine tables. Contracts see what it *stands for*: the rows of its
 /// manifest, a receipt for each distinct arrival, the bodies of the held rows, and the chain with
 /// its tables and before-images.
 #[derive(Drop)]
@@ -249,11 +248,7 @@ impl<S: Alter> Store<S> {
     pub(crate) fn settle<T>(&mut self, outcome: Result<T, Error>) -> Result<T, SFault>
         ensures manifest { self.new.manifest ≡ self.old.manifest }
         ensures writes { self.new.writes ≡ self.old.writes }
-        ensures survives { LeavesNoMore S.Store self.old.conn self.new.conn }
-        ensures ok { IfOk result (λ x. (outcome ≡ Ok x) × (self.new ≡ self.old)) }
-        ensures err { OnErr result
-            (IsErr outcome × IsGivenUp (state S.Store self.old.conn)
-            (state S.Store self.new.conn)) }
+        ensures settled { Settles S.Store self.old self.new outcome result }
         ensures cause { IfErr result IsS1OrS2 }
     {
         match outcome {
@@ -263,24 +258,6 @@ impl<S: Alter> Store<S> {
                 Err(SFault::from(error))
             }
         }
-    }
-
-    // Whether the database has the store's schema. A store that was opened has it as long as the
-    // connection is open; the test is what a proof learns it from. Else what is on is given up.
-    pub(crate) fn sound(&mut self) -> Result<(), SFault>
-        ensures manifest { self.new.manifest ≡ self.old.manifest }
-        ensures writes { self.new.writes ≡ self.old.writes }
-        ensures ok { OnOk result ((self.new ≡ self.old)
-            × ((state S.Store self.old.conn).now.schema ≡ store_schema)) }
-        ensures err { OnErr result
-            (IsGivenUp (state S.Store self.old.conn) (state S.Store self.new.conn)) }
-        ensures cause { IfErr result (λ fault. fault ≡ SFault.S1) }
-    {
-        if is_store_schema(self.conn.schema()) {
-            return Ok(());
-        }
-        self.give_up();
-        Err(SFault::S1)
     }
 
     // Whether a transaction is on: after a failure it is given up, and a change goes on no more.

@@ -4,6 +4,8 @@ use Rattle.std.specs.Prelude.{Ok, Err, All}
 use Rattle.std.specs.List.{list_all}
 use Rattle.std.proofs.lemmas.List.Folds.{list_all-append}
 use Rattle.std.proofs.lemmas.List.Elements.{All-nil, All-cons}
+use Rattle.std.proofs.lemmas.Bool.{and_parts}
+use Rattle.std.proofs.Math.Seq.{take-length}
 use Rattle.esc_bundle.specs.Bundle.{Named, view, views}
 use Rattle.esc_bundle.specs.declared.section.Section.{Section}
 use Rattle.esc_bundle.specs.Frame.{frame}
@@ -13,7 +15,6 @@ use Rattle.esc_tables.specs.DepositValue.{DepositValue}
 use Rattle.esc_tables.specs.TableRow.{TableRow, are_filed, table_rows, rows_in, is_whole, key_of}
 use Rattle.esc_tables.specs.Objects.{objects_of, orphans_of}
 use Rattle.esc_tables.specs.Reading.{tables_of, check_rows, deposit_of, deposit_in, parent_rows, child_rows, sections_deposit, reading}
-use Rattle.esc_tables.proofs.FieldFacts.{both}
 use Rattle.esc_tables.proofs.SurveyFacts.{all_in_each}
 
 -- ---- the rows that passed are whole, table by table
@@ -31,12 +32,12 @@ AreWhole files tables = All (λ t. list_all is_whole (table_rows files t) ≡ tr
 
 all_from : {X : Type 0} (test : X → Bool) (xs : List X) → list_all test xs ≡ true → All (λ x. test x ≡ true) xs
 all_from test [] h = All-nil (λ x. test x ≡ true)
-all_from test (x ∷ xs) h = let parts = both (test x) (list_all test xs) h in All-cons (λ y. test y ≡ true) x xs parts.0 (all_from test xs parts.1)
+all_from test (x ∷ xs) h = let parts = and_parts (test x) (list_all test xs) h in All-cons (λ y. test y ≡ true) x xs parts.0 (all_from test xs parts.1)
 
 pub whole_tables : (files : List Named) (e : EnvelopeValue) → list_all is_whole (rows_in files (tables_of e)) ≡ true → AreWhole files e.contents × AreWhole files e.deletes
 whole_tables files e whole =
     let each : list_all (λ t. list_all is_whole (table_rows files t)) (e.contents ++ e.deletes) ≡ true = sym (all_in_each is_whole (table_rows files) (e.contents ++ e.deletes)) ∙ whole in
-    let parts = both (list_all (λ t. list_all is_whole (table_rows files t)) e.contents) (list_all (λ t. list_all is_whole (table_rows files t)) e.deletes) (sym (list_all-append (λ t. list_all is_whole (table_rows files t)) e.contents e.deletes) ∙ each) in
+    let parts = and_parts (list_all (λ t. list_all is_whole (table_rows files t)) e.contents) (list_all (λ t. list_all is_whole (table_rows files t)) e.deletes) (sym (list_all-append (λ t. list_all is_whole (table_rows files t)) e.contents e.deletes) ∙ each) in
     (all_from (λ t. list_all is_whole (table_rows files t)) e.contents parts.0, all_from (λ t. list_all is_whole (table_rows files t)) e.deletes parts.1)
 
 -- ---- the tests in order
@@ -72,10 +73,6 @@ pub made_of : (files : List Named) (e : EnvelopeValue) (d : DepositValue) → d.
 unfolding deposit_of
 made_of files e d header counts deletes contents orphans = λ i. record { header = header i; counts = counts i; deletes = deletes i; contents = contents i; orphans = orphans i }
 
-take_whole : {X : Type 0} (xs : List X) → take (length xs) xs ≡ xs
-take_whole [] = refl
-take_whole {X = X} (x ∷ xs) = ap (λ (ys : List X). x ∷ ys) (take_whole xs)
-
 abbrev no_section : Section
 no_section = record { name = record { ref_ptr = (0, 0); now = [] }; bytes = record { ref_ptr = (0, 0); now = [] } }
 
@@ -90,7 +87,7 @@ first_and_rest : (ss : List Section) → 1 ≤ length ss → views ss ≡ first_
 first_and_rest [] some = absurd (omega arith)
 first_and_rest (s ∷ ss) some =
     let others : length (s ∷ ss) - 1 ≡ length ss = omega arith in
-    ap (λ (us : List Section). view s ∷ views us) (sym (ap (λ (n : ℕ). take n ss) others ∙ take_whole ss))
+    ap (λ (us : List Section). view s ∷ views us) (sym (ap (λ (n : ℕ). take n ss) others ∙ take-length ss))
 
 pub framed_as : (body : List ℕ) (items now : List Section) → frame body ≡ Ok (views items) → now ≡ items → 1 ≤ length now → frame body ≡ Ok (first_of now ∷ rest_of now)
 framed_as body items now framed same some = framed ∙ ap (λ (ss : List Section). Ok (views ss)) (sym same) ∙ ap (λ (ns : List Named). Ok ns) (first_and_rest now some)

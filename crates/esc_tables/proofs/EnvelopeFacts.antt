@@ -42,7 +42,7 @@ envelope_heads body d h = let step = steps_of (frame body) sections_deposit d h 
 same_heads : (e f : EnvelopeValue) (d : DepositValue) → e ≡ f → Heads f d → Heads e d
 same_heads e f d same heads = (ap (λ (x : EnvelopeValue). x.header) same ∙ heads.0, ap (λ (x : EnvelopeValue). x.counts) same ∙ heads.1)
 
--- what answers with the envelope of a body answers with that of its deposit, if it is one
+-- what returns the envelope of a body returns that of its deposit, if it is one
 pub heads_deposit : (body : List ℕ) (r : Result EnvelopeValue Fault) → IfOk r (λ e. bundled_envelope body ≡ Ok e) → IfErr r (λ e. (n : ℕ) → e ≡ Refused n → bundled_envelope body ≡ Err n)
     → (d : DepositValue) → reading body ≡ Ok d → MatchResult r (λ e. (e.header ≡ d.header) × (e.counts ≡ d.counts)) (λ e. e ≡ NoMemory)
 heads_deposit body (Ok e) told refused d read =

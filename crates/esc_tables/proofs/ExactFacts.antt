@@ -16,6 +16,7 @@ use Rattle.esc_tables.specs.Reading.{tables_of, check_rows, check, deposit_of, d
 use Rattle.esc_tables.specs.DepositOf.{all_rows, Makes, IsDepositOf, Stands, IsLeast, IsRefusedAt, IsRefused}
 use Rattle.esc_tables.proofs.ObjectFacts.{same_objects, objects_found, objects_sorted}
 use Rattle.esc_tables.proofs.DepositFacts.{made_of, told_8, told_rows, told_deposit, same_reading, no_frame, no_envelope}
+use Rattle.esc_tables.proofs.SurveyFacts.{told_9}
 
 -- ---- one deposit is made
 
@@ -119,7 +120,7 @@ reads exact body d is =
 pub reading_exact : FrameIsExact → (body : List ℕ) (d : DepositValue) → (reading body ≡ Ok d) ↔ IsDepositOf body d
 reading_exact exact body d = (is_deposit exact body d, reads exact body d)
 
--- ---- one refusal stands first
+-- ---- one refusal comes first
 
 abbrev NoneStands : List Named → EnvelopeValue → Type 0
 NoneStands files e = (m : ℕ) → Stands files e m → ⊥
@@ -130,10 +131,6 @@ Told files e = ((deposit_in files e ≡ Ok (deposit_of files e)) × NoneStands f
 -- a test that passes and fails
 never : {P : Type 0} (b : Bool) → b ≡ true → b ≡ false → P
 never b passed failed = absurd cc
-
-broken_rows : (rows : List TableRow) → list_all is_whole rows ≡ false → check_rows rows ≡ Err 9
-unfolding check_rows
-broken_rows rows broken = rw broken refl
 
 nameless_rows : (rows : List TableRow) → list_all is_whole rows ≡ true → list_all has_key rows ≡ false → check_rows rows ≡ Err 10
 unfolding check_rows
@@ -195,7 +192,7 @@ told_keys files e filed whole = elim (cases_Bool (list_all has_key (all_rows fil
 told_whole : (files : List Named) (e : EnvelopeValue) → are_filed files (tables_of e) ≡ true → Told files e
 told_whole files e filed = elim (cases_Bool (list_all is_whole (all_rows files e))) [
   | inl whole ↦ told_keys files e filed whole
-  | inr broken ↦ inr (9, told_rows files e 9 filed (broken_rows (all_rows files e) broken), (inr (inl (refl, broken)), below_9 files e filed))
+  | inr broken ↦ inr (9, told_rows files e 9 filed (told_9 (all_rows files e) broken), (inr (inl (refl, broken)), below_9 files e filed))
 ]
 
 told : (files : List Named) (e : EnvelopeValue) → Told files e

@@ -1,16 +1,10 @@
 -- The fields of a row, and its cells.
-use Rattle.std.proofs.Common.{◌≡◌, ℕ, zero, suc, Bool, true, false, List, [], ◌∷◌, map, Some, None, slice_get, length, refl, ap, arith}
-use Rattle.std.specs.Prelude.{◌&&◌}
+use Rattle.std.proofs.Common.{◌≡◌, ℕ, zero, suc, List, [], ◌∷◌, map, Some, None, slice_get, length, refl, ap, arith}
 use Rattle.std.specs.List.{zip}
 use Rattle.std.proofs.lemmas.Slice.Zip.{length-zip}
 use Rattle.csv.specs.Records.{field_at}
 
-pub both : (a b : Bool) → (a && b) ≡ true → (a ≡ true) × (b ≡ true)
-both true true h = (refl, refl)
-both true false h = absurd cc
-both false b h = absurd cc
-
--- the cell at a place: field and text, if both are there
+-- the cell at a place: field and text, if and_parts are there
 pub cell_is : (names texts : List (List ℕ)) (i : ℕ) (f t : List ℕ) → Some f ≡ field_at names i → Some t ≡ field_at texts i → slice_get (zip names texts) i ≡ Some (f, t)
 unfolding field_at
 cell_is [] texts i f t n x = absurd cc

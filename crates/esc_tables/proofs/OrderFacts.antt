@@ -2,11 +2,11 @@
 use Rattle.std.proofs.Common.{◌≡◌, ◌∙◌, ℕ, zero, suc, ◌+◌, ◌<◌, ◌≤◌, Bool, false, cond, List, [], ◌∷◌, ◌++◌, length, map, filter, take, get_or, refl, sym, ap, inl, inr, arith, subst, add-one}
 use Rattle.std.specs.Borrow.{Bor}
 use Rattle.std.specs.Prelude.{not, unwrap_or, nat_lt, All}
-use Rattle.std.specs.List.{insert, position, position_or_len, prefix_len, fold}
+use Rattle.std.specs.List.{insert, position, position_or_len, fold}
 use Rattle.std.proofs.lemmas.Bool.{cases_Bool}
 use Rattle.std.proofs.lemmas.Bool.Decides.{nat_tests}
 use Rattle.std.proofs.lemmas.List.Elements.{All-nil, All-cons, All-tail, All-filter, filter-append}
-use Rattle.std.proofs.lemmas.List.Sums.{fold_push}
+use Rattle.std.proofs.lemmas.List.Sums.{fold_push, prefix_len-le-length}
 use Rattle.esc_envelope.specs.EnvelopeValue.{TableValue}
 use Rattle.esc_tables.specs.Reading.{is_before, placed, by_name}
 
@@ -15,20 +15,16 @@ one_and n = omega arith
 
 -- ---- the place of a table
 
-prefix_fits : {X : Type 0} (p : X → Bool) (xs : List X) → prefix_len p xs ≤ length xs
-prefix_fits p [] = omega arith
-prefix_fits p (x ∷ xs) = elim (cases_Bool (p x)) [ inl e ↦ let h = prefix_fits p xs in rw e (omega arith) | inr e ↦ rw e (omega arith) ]
-
 pub place_or_end : {X : Type 0} (p : X → Bool) (xs : List X) → unwrap_or (position p xs) (length xs) ≡ position_or_len p xs
 place_or_end p xs =
-    let fits : position_or_len p xs ≤ length xs = prefix_fits (λ x. not (p x)) xs in
+    let fits : position_or_len p xs ≤ length xs = prefix_len-le-length (λ x. not (p x)) xs in
     elim (cases_Bool (nat_lt (position_or_len p xs) (length xs))) [
       | inl e ↦ rw e refl
       | inr e ↦ let ge : length xs ≤ position_or_len p xs = grind (arith, nat_tests) in rw e (omega arith)
     ]
 
 pub place_fits : {X : Type 0} (p : X → Bool) (xs : List X) → unwrap_or (position p xs) (length xs) ≤ length xs
-place_fits p xs = rw (place_or_end p xs) (prefix_fits (λ x. not (p x)) xs)
+place_fits p xs = rw (place_or_end p xs) (prefix_len-le-length (λ x. not (p x)) xs)
 
 abbrev pub pointed : Bor TableValue → TableValue
 pointed t = t.now

@@ -1,8 +1,8 @@
 -- Sections of a bundle, with and without where they lie in memory.
 use Rattle.std.proofs.Common.{◌≡◌, ◌∙◌, ℕ, Bool, List, [], ◌∷◌, map, Option, Some, None, refl, sym, ap, inl, inr}
-use Rattle.std.specs.Prelude.{option_map, ◌||◌}
+use Rattle.std.specs.Prelude.{option_map}
 use Rattle.std.specs.Option.{option_map_or}
-use Rattle.std.specs.List.{find, list_any}
+use Rattle.std.specs.List.{find}
 use Rattle.std.specs.Str.{bytes_eq}
 use Rattle.std.proofs.lemmas.Bool.{cases_Bool}
 use Rattle.esc_bundle.specs.declared.section.Section.{Section}
@@ -12,10 +12,6 @@ use Rattle.esc_tables.specs.TableRow.{bytes_named}
 pub find_map : {A B : Type 0} (f : A → B) (test : B → Bool) (xs : List A) → find test (map f xs) ≡ option_map f (find (λ x. test (f x)) xs)
 find_map f test [] = refl
 find_map f test (x ∷ xs) = elim (cases_Bool (test (f x))) [ inl e ↦ rw e refl | inr e ↦ rw e (find_map f test xs) ]
-
-pub any_map : {A B : Type 0} (f : A → B) (test : B → Bool) (xs : List A) → list_any test (map f xs) ≡ list_any (λ x. test (f x)) xs
-any_map f test [] = refl
-any_map f test (x ∷ xs) = ap (λ (b : Bool). test (f x) || b) (any_map f test xs)
 
 seen : (o : Option Section) → option_map_or (λ s. s.bytes) (option_map view o) [] ≡ option_map_or (λ s. s.bytes.now) o []
 seen None = refl

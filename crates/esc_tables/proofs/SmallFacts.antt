@@ -1,12 +1,12 @@
 -- The objects of a deposit are small: their rows are rows of its tables.
-use Rattle.std.proofs.Common.{◌≡◌, ℕ, ◌+◌, ◌≤◌, Bool, true, List, [], ◌∷◌, ◌++◌, length, map, filter, sym, subst, arith, inl, inr}
+use Rattle.std.proofs.Common.{◌≡◌, ℕ, ◌≤◌, Bool, true, List, [], ◌∷◌, ◌++◌, length, map, filter, sym, subst, arith, inl, inr}
 use Rattle.std.specs.Prelude.{Ok, All, not, ◌&&◌, nat_lt, nat_le, ◌↔◌}
 use Rattle.std.specs.List.{AllByRecursion, list_all, fold, zip}
 use Rattle.std.specs.Str.{bytes_eq}
 use Rattle.std.specs.FinMap.Entries.{put, by_order}
 use Rattle.std.specs.declared.cmp.Ordering.{Ordering}
 use Rattle.std.specs.declared.cmp.Ordering.TheVariants.{Less, Equal, Greater}
-use Rattle.std.proofs.lemmas.Bool.{cases_Bool}
+use Rattle.std.proofs.lemmas.Bool.{cases_Bool, and_parts}
 use Rattle.std.proofs.lemmas.Bool.Decides.{nat_tests}
 use Rattle.std.proofs.lemmas.List.{length-map}
 use Rattle.std.proofs.lemmas.List.Elements.{All-from_recursion, recursion_from_All, All-tail, All-filter}
@@ -26,7 +26,6 @@ use Rattle.esc_tables.specs.Reading.{by_name, deposit_of, deposit_in, sections_d
 use Rattle.esc_tables.specs.SmallObject.{IsSmallRow, IsSmallObject}
 use Rattle.esc_tables.specs.TableRow.{TableRow, in_table, bytes_named, table_rows, rows_in, row_of, keyed}
 use Rattle.esc_tables.proofs.ExactFacts.{Parts, parts_of, steps_of, right_rows}
-use Rattle.esc_tables.proofs.FieldFacts.{both}
 use Rattle.esc_tables.proofs.ObjectFacts.{putting}
 use Rattle.esc_tables.proofs.OrderFacts.{by_name_all}
 use Rattle.esc_tables.proofs.SizeFacts.{fewer_tables, same_length, few_contents}
@@ -72,21 +71,21 @@ IsSmallCell c = (length c.0 ≤ 64) × (length c.1 ≤ limit)
 
 name_small : (name : List ℕ) → is_name name ≡ true → length name ≤ 64
 name_small name is =
-    let sized = both (nat_lt 0 (length name) && nat_le (length name) 64) (list_all is_name_byte name) is in
-    let few = (both (nat_lt 0 (length name)) (nat_le (length name) 64) sized.0).1 in
+    let sized = and_parts (nat_lt 0 (length name) && nat_le (length name) 64) (list_all is_name_byte name) is in
+    let few = (and_parts (nat_lt 0 (length name)) (nat_le (length name) 64) sized.0).1 in
     grind (arith, nat_tests)
 
 id_small : (name : List ℕ) → is_id name ≡ true → length name ≤ 64
 id_small name is =
-    let sized = both (nat_lt 0 (length name) && nat_le (length name) 64) (list_all is_id_byte name) is in
-    let few = (both (nat_lt 0 (length name)) (nat_le (length name) 64) sized.0).1 in
+    let sized = and_parts (nat_lt 0 (length name) && nat_le (length name) 64) (list_all is_id_byte name) is in
+    let few = (and_parts (nat_lt 0 (length name)) (nat_le (length name) 64) sized.0).1 in
     grind (arith, nat_tests)
 
 cells_small : (fields texts : List (List ℕ)) → list_all is_id fields ≡ true → All (λ f. length f ≤ limit) texts → AllByRecursion IsSmallCell (zip fields texts)
 cells_small [] texts ids short = tt
 cells_small (f ∷ fs) [] ids short = tt
 cells_small (f ∷ fs) (t ∷ ts) ids short =
-    let parts = both (is_id f) (list_all is_id fs) ids in
+    let parts = and_parts (is_id f) (list_all is_id fs) ids in
     ((id_small f parts.0, short 0 t (omega arith)), cells_small fs ts parts.1 (All-tail (λ f. length f ≤ limit) t ts short))
 
 few_cells : (fields texts : List (List ℕ)) → length (zip fields texts) ≤ length fields

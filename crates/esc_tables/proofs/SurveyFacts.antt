@@ -1,12 +1,13 @@
--- What a pass over all rows tells of them.
+-- What a pass over all rows says of them.
 use Rattle.std.proofs.Common.{◌≡◌, ◌∙◌, ℕ, ◌+◌, ◌<◌, ◌≤◌, Bool, true, false, cond, List, [], ◌∷◌, ◌++◌, length, get_or, min, refl, sym, ap, inl, inr, arith}
 use Rattle.std.specs.Prelude.{not, ◌&&◌, nat_le, Ok, Err}
 use Rattle.std.specs.List.{list_all, flat_map, fold}
-use Rattle.std.proofs.lemmas.Bool.{cases_Bool}
+use Rattle.std.proofs.lemmas.Bool.{cases_Bool, not-true, not-false}
 use Rattle.std.proofs.lemmas.Bool.Decides.{nat_tests}
 use Rattle.std.proofs.lemmas.List.Folds.{list_all-append, list_all_at}
 use Rattle.std.proofs.lemmas.List.Sums.{fold-append}
 use Rattle.std.proofs.lemmas.Grind.{flat_map-append}
+use Rattle.std.proofs.Math.Bool.{and_assoc}
 use Rattle.esc_bundle.specs.Bundle.{Named}
 use Rattle.esc_envelope.specs.EnvelopeValue.{TableValue}
 use Rattle.esc_tables.specs.declared.survey.Survey.{Survey}
@@ -28,13 +29,9 @@ and_true : (b : Bool) → b ≡ (b && true)
 and_true true = refl
 and_true false = refl
 
-and_and : (a b c : Bool) → ((a && b) && c) ≡ (a && (b && c))
-and_and true b c = refl
-and_and false b c = refl
-
 keys_seen : (s : Survey) (rows : List TableRow) → (fold noted s rows).has_keys ≡ (s.has_keys && list_all has_key rows)
 keys_seen s [] = and_true s.has_keys
-keys_seen s (r ∷ rows) = keys_seen (noted s r) rows ∙ and_and s.has_keys (has_key r) (list_all has_key rows)
+keys_seen s (r ∷ rows) = keys_seen (noted s r) rows ∙ and_assoc s.has_keys (has_key r) (list_all has_key rows)
 
 one_more : (n len : ℕ) → n ≤ 100_001 → (cond (nat_le n 100_000) (n + 1) n ≤ 100_001) × (min (cond (nat_le n 100_000) (n + 1) n + len) 100_001 ≡ min (n + (1 + len)) 100_001)
 one_more n len h = elim (cases_Bool (nat_le n 100_000)) [
@@ -67,33 +64,25 @@ broken_first files contents deletes first = rw (flat_map-append, list_all-append
 pub broken_then : (files : List Named) (contents deletes : List TableValue) → list_all is_whole (rows_in files contents) ≡ true → list_all is_whole (rows_in files deletes) ≡ false → list_all is_whole (rows_in files (contents ++ deletes)) ≡ false
 broken_then files contents deletes first then = rw (flat_map-append, list_all-append, first, then) refl
 
-is_false : (b : Bool) → not b ≡ true → b ≡ false
-is_false true h = absurd cc
-is_false false h = refl
-
-is_true : (b : Bool) → not b ≡ false → b ≡ true
-is_true true h = refl
-is_true false h = absurd cc
-
--- the fault that stands
+-- the fault that applies
 pub told_9 : (rows : List TableRow) → list_all is_whole rows ≡ false → check_rows rows ≡ Err 9
 unfolding check_rows
 told_9 rows broken = rw broken refl
 
 pub told_10 : (rows : List TableRow) (s : Survey) → list_all is_whole rows ≡ true → SeenOf rows s → not s.has_keys ≡ true → check_rows rows ≡ Err 10
 unfolding check_rows
-told_10 rows s whole seen keyless = rw (whole, ← seen.0, is_false s.has_keys keyless) refl
+told_10 rows s whole seen keyless = rw (whole, ← seen.0, not-true s.has_keys keyless) refl
 
 pub told_11 : (rows : List TableRow) (s : Survey) → list_all is_whole rows ≡ true → SeenOf rows s → not s.has_keys ≡ false → 100_000 < s.rows → check_rows rows ≡ Err 11
 unfolding check_rows
 told_11 rows s whole seen keys many =
     let over : 100_000 < length rows = omega (arith, seen.1, many) in
     let test : nat_le (length rows) 100_000 ≡ false = grind (arith, nat_tests) in
-    rw (whole, ← seen.0, is_true s.has_keys keys, test) refl
+    rw (whole, ← seen.0, not-false s.has_keys keys, test) refl
 
 pub told_right : (rows : List TableRow) (s : Survey) → list_all is_whole rows ≡ true → SeenOf rows s → not s.has_keys ≡ false → s.rows ≤ 100_000 → check_rows rows ≡ Ok tt
 unfolding check_rows
 told_right rows s whole seen keys few =
     let within : length rows ≤ 100_000 = omega (arith, seen.1, few) in
     let test : nat_le (length rows) 100_000 ≡ true = grind (arith, nat_tests) in
-    rw (whole, ← seen.0, is_true s.has_keys keys, test) refl
+    rw (whole, ← seen.0, not-false s.has_keys keys, test) refl

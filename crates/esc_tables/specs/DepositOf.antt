@@ -1,4 +1,4 @@
--- What it is for a body to be a deposit, and which refusal stands (RFC 8909, section 2, and this
+-- What it is for a body to be a deposit, and which refusal applies (RFC 8909, section 2, and this
 -- project's profile).
 use Rattle.std.specs.Prelude.{
   ◌≡◌,
@@ -55,7 +55,7 @@ pub record IsDepositOf (body : List ℕ) (d : DepositValue) : Type 0 where
   pub few : length (all_rows files envelope) ≤ most_rows
   pub made : Makes files envelope d
 
--- the refusal of this number stands, of those that the files have
+-- the refusal of this number applies, of those that the files have
 abbrev pub Stands : List Named → EnvelopeValue → ℕ → Type 0
 Stands files e n =
     ((n ≡ 8) × (are_filed files (tables_of e) ≡ false))
@@ -63,7 +63,7 @@ Stands files e n =
     ⊎ ((n ≡ 10) × (list_all has_key (all_rows files e) ≡ false))
     ⊎ ((n ≡ 11) × (most_rows < length (all_rows files e)))
 
--- it stands, and no lesser one does
+-- it applies, and no lesser one does
 abbrev pub IsLeast : List Named → EnvelopeValue → ℕ → Type 0
 IsLeast files e n = Stands files e n × ((m : ℕ) → Stands files e m → n ≤ m)
 

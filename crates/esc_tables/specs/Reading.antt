@@ -59,7 +59,7 @@ tables_of e = e.contents ++ e.deletes
 abbrev pub is_before : TableValue → TableValue → Bool
 is_before t u = is_lt (slice_cmp nat_cmp t.name u.name)
 
--- a table put behind those whose names are not after its own
+-- a table inserted after those whose names are not after its own
 abbrev pub placed : List TableValue → TableValue → List TableValue
 placed [] t = t ∷ []
 placed (u ∷ us) t = if is_before t u then t ∷ u ∷ us else u ∷ placed us t
@@ -95,7 +95,7 @@ check_rows rows = do
   named ← check (list_all has_key rows) 10
   check (nat_le (length rows) most_rows) 11
 
--- 8 is a declared file that is no section behind the envelope, or such a section that is not
+-- 8 is a declared file that is no section after the envelope, or such a section that is not
 -- declared once
 unfoldable pub deposit_in : List Named → EnvelopeValue → Result DepositValue ℕ
 deposit_in files e = do

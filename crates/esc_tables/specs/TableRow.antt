@@ -102,7 +102,7 @@ key_of r = key_named r.table.kind (key_field r)
 abbrev pub heading_of : TableValue → HeadingValue
 heading_of t = record { name = t.name; fields = t.fields }
 
--- the cells: each field with its text as it stands in the file
+-- the cells: each field with its text as it is in the file
 abbrev pub row_of : TableRow → RowValue
 row_of r = record { table = r.table.name; cells = zip r.table.fields r.fields }
 

@@ -10,7 +10,7 @@ use std::marker::Model;
 #[derive(Debug, Drop)]
 pub struct Deposit {
     pub header: Header,
-    /// How many objects of a kind the registry had at the watermark, where the deposit tells.
+    /// How many objects of a kind the registry had at the watermark, where the deposit says.
     pub counts: BTreeMap<Kind, u64>,
     /// The keys of the delete rows, in the order of declarations and rows.
     pub deletes: Vec<Key>,

@@ -54,7 +54,7 @@ fn push_child(object: &mut Object, row: Row) -> Result<(), NoMemory>
     }
 }
 
-// Adds a child row to the object of its key, and answers whether there is one.
+// Adds a child row to the object of its key, and returns whether there is one.
 fn add_child(objects: &mut BTreeMap<Key, Object>, key: &Key, row: Row) -> Result<bool, NoMemory>
     ensures added { OnOk result ((k : KeyName) → get key_cmp objects.new k
         ≡ (if key_eq k key.now then option_map (with_child row)

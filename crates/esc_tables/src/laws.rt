@@ -1,7 +1,7 @@
 //! What the definitions say together.
 //!
-//! The functions here do nothing. Each stands for the law that its contract says: a caller who
-//! needs the law calls it.
+//! The functions here do nothing. Each has a law as its contract: a caller who needs the law calls
+//! it.
 
 ghost use Rattle.std.specs.Prelude.{◌≡◌, ◌↔◌, ◌+◌, ◌≤◌, List, ℕ, All, length, Ok, Err};
 ghost use Rattle.std.specs.List.Sorted.{IsPermutation, IsSortedBy};
@@ -16,7 +16,7 @@ use esc_csv::fields_are_no_longer_than_the_text;
 use esc_envelope::{declared_tables_have_their_forms, envelope_refusals_are_5_to_7};
 
 /// The function `reading` of a body's bytes gives exactly what the relations say: the one deposit
-/// that the body is, or the least refusal that stands.
+/// that the body is, or the least refusal that applies.
 pub fn reading_is_exact()
     ensures deposit { (body : List ℕ) (d : DepositValue)
         → (reading body ≡ Ok d) ↔ IsDepositOf body d }
@@ -56,8 +56,8 @@ pub fn read_deposits_are_small()
         → length d.deletes + length d.contents ≤ 100_000 }
 {}
 
-/// Tables in the order of their names are the same tables, and none comes before one that stands
-/// earlier.
+/// Tables in the order of their names are the same tables, and none comes before one that is
+/// earlier in the list.
 pub fn tables_are_in_order()
     ensures same { (tables : List TableValue) → IsPermutation tables (by_name tables) }
     ensures rising { (tables : List TableValue) → IsSortedBy is_before (by_name tables) }

@@ -63,7 +63,7 @@ fn shared(alloc: Global, name: &str, fields: StringRecord) -> Result<Rc<Heading>
 
 /// A row of a table: its cells in the declared order, each with its field's name. It has as many
 /// texts as its heading has fields. Rows that are read of one table share its heading, and a row's
-/// texts stand one behind the other in memory.
+/// texts are one after the other in memory.
 #[derive(Debug, Drop)]
 pub struct Row {
     heading: Rc<Heading>,

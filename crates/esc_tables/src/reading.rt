@@ -23,7 +23,7 @@ use esc_bundle::{Fault, NoMemory, Section, sections};
 use esc_envelope::{Envelope, read_envelope};
 use std::alloc::Global;
 
-/// A declared file is no section behind the envelope, or such a section is not declared once.
+/// A declared file is no section after the envelope, or such a section is not declared once.
 const WRONG_FILES: Fault = Fault::Refused(8);
 
 // What whole rows make.
@@ -94,7 +94,7 @@ fn read_body(alloc: Global, body: &[u8]) -> Result<Deposit, Fault>
 }
 
 /// The envelope of a bundle, or the least refusal from U1 to U7. Of the files the frame alone is
-/// read, whatever their rows have; of a body that is a deposit, header and counts are the
+/// read, and their rows are not; of a body that is a deposit, header and counts are the
 /// deposit's.
 pub fn read_bundled_envelope(alloc: Global, body: &[u8]) -> Result<Envelope, Fault>
     ensures read { IfOk result (λ e. bundled_envelope body.now ≡ Ok e) }

@@ -92,7 +92,7 @@ fn survey_tables(
 }
 
 /// Whether all rows are whole and have keys, and are not too many; else the least fault that
-/// stands.
+/// applies.
 pub fn check_rows(
     alloc: Global,
     files: &[Section<'_>],

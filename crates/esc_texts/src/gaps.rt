@@ -1,9 +1,20 @@
 //! The report of gaps.
 
-ghost use Rattle.std.specs.Prelude.{◌≡◌, ◌∷◌, [], ◌++◌, IfOk, OnOk, string_bytes, option_and_then};
+ghost use Rattle.std.specs.Prelude.{
+  ◌≡◌,
+  ◌∷◌,
+  [],
+  ◌++◌,
+  IfOk,
+  IfErr,
+  OnOk,
+  string_bytes,
+  option_and_then,
+};
 ghost use Rattle.esc_chain.specs.GapTexts.{state_text, blocker_text};
 ghost use Rattle.esc_chain.specs.PlaceText.{place_text};
 ghost use Rattle.esc_csv.specs.Lines.{line_text};
+ghost use Rattle.esc_store.specs.Faults.{IsS1OrS2};
 ghost use Rattle.esc_texts.specs.GapsText.{heading, gap_line, gap_lines_text, gaps_text};
 ghost use Rattle.esc_texts.specs.ReceiptsText.{or_empty};
 ghost use Rattle.esc_texts.specs.Words.{printed};
@@ -18,7 +29,8 @@ use std::alloc::{AllocError, Global};
 /// The report of gaps: the heading, and a line for each of these. `S1` where a place has a moment
 /// that has no text, as none of a manifest has.
 pub fn gaps_text(alloc: Global, gaps: &[GapLine]) -> Result<Vec<u8>, SFault>
-    ensures { IfOk result (λ text. text.items ≡ gaps_text gaps.now) }
+    ensures text { IfOk result (λ text. text.items ≡ gaps_text gaps.now) }
+    ensures cause { IfErr result IsS1OrS2 }
 {
     let mut lines = Lines::new(alloc);
     write_heading(&mut lines)?;
@@ -27,7 +39,8 @@ pub fn gaps_text(alloc: Global, gaps: &[GapLine]) -> Result<Vec<u8>, SFault>
 }
 
 fn write_heading(lines: &mut Lines) -> Result<(), SFault>
-    ensures { OnOk result (lines.new ≡ lines.old ++ line_text heading) }
+    ensures written { OnOk result (lines.new ≡ lines.old ++ line_text heading) }
+    ensures cause { IfErr result IsS1OrS2 }
 {
     write_fields(
         lines,
@@ -41,7 +54,8 @@ fn write_heading(lines: &mut Lines) -> Result<(), SFault>
 }
 
 fn write_lines(alloc: Global, lines: &mut Lines, gaps: &[GapLine]) -> Result<(), SFault>
-    ensures { OnOk result (lines.new ≡ lines.old ++ gap_lines_text gaps.now) }
+    ensures written { OnOk result (lines.new ≡ lines.old ++ gap_lines_text gaps.now) }
+    ensures cause { IfErr result IsS1OrS2 }
 {
     for gap in gaps {
         write_line(alloc, lines, gap)?;
@@ -50,7 +64,8 @@ fn write_lines(alloc: Global, lines: &mut Lines, gaps: &[GapLine]) -> Result<(),
 }
 
 fn write_line(alloc: Global, lines: &mut Lines, gap: &GapLine) -> Result<(), SFault>
-    ensures { OnOk result (lines.new ≡ lines.old ++ line_text (gap_line gap.now)) }
+    ensures written { OnOk result (lines.new ≡ lines.old ++ line_text (gap_line gap.now)) }
+    ensures cause { IfErr result IsS1OrS2 }
 {
     let watermark = moment_text(alloc, gap.place.watermark)?;
     let used = resend_text(alloc, gap.used)?;
@@ -69,7 +84,8 @@ fn write_line(alloc: Global, lines: &mut Lines, gap: &GapLine) -> Result<(), SFa
 }
 
 fn moment_text(alloc: Global, watermark: i64) -> Result<String, SFault>
-    ensures { IfOk result (λ text. string_bytes text ≡ printed watermark) }
+    ensures text { IfOk result (λ text. string_bytes text ≡ printed watermark) }
+    ensures cause { IfErr result IsS1OrS2 }
 {
     match watermark_text(alloc, watermark)? {
         Some(text) => Ok(text),
@@ -84,8 +100,9 @@ fn state_text(alloc: Global, state: State) -> Result<String, AllocError>
 }
 
 fn blocker_text(alloc: Global, blocker: &Option<Blocker>) -> Result<String, SFault>
-    ensures { IfOk result (λ text. string_bytes text
+    ensures text { IfOk result (λ text. string_bytes text
         ≡ or_empty (option_and_then blocker_text blocker.now)) }
+    ensures cause { IfErr result IsS1OrS2 }
 {
     match blocker {
         Some(Blocker::NotHeld(place)) => place_text(alloc, place.place()),
@@ -96,7 +113,8 @@ fn blocker_text(alloc: Global, blocker: &Option<Blocker>) -> Result<String, SFau
 }
 
 fn place_text(alloc: Global, place: Place) -> Result<String, SFault>
-    ensures { IfOk result (λ text. string_bytes text ≡ or_empty (place_text place)) }
+    ensures text { IfOk result (λ text. string_bytes text ≡ or_empty (place_text place)) }
+    ensures cause { IfErr result IsS1OrS2 }
 {
     let Some(watermark) = watermark_text(alloc, place.watermark)? else {
         return Err(SFault::S1);
@@ -114,9 +132,10 @@ fn write_fields<'x>(
     blocker: &'x [u8],
     awaited: &'x [u8],
 ) -> Result<(), SFault>
-    ensures { OnOk result (lines.new
+    ensures written { OnOk result (lines.new
         ≡ lines.old ++ line_text (watermark.now ∷ kind.now ∷ used.now ∷ state.now ∷ blocker.now
         ∷ awaited.now ∷ [])) }
+    ensures cause { IfErr result IsS1OrS2 }
 {
     lines.write(&[watermark, kind, used, state, blocker, awaited])?;
     Ok(())

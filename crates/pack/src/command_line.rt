@@ -1,5 +1,6 @@
 //! The words of the program, and what it does for them.
 
+use crate::bundle::{Bundling, write_bundle};
 use crate::files::read_bundles;
 use crate::stop::{DONE, Stop, USAGE, print, tell_stop};
 use clap::error::ErrorKind;
@@ -16,13 +17,32 @@ Example, with a folder of bundles named n1, n2 and so on:
     pack manifest deposits/n1 deposits/n2 > manifest.csv
     restore init --store desk.db --manifest manifest.csv
 
+Example, with a folder of CSV files and a description of their tables:
+
+    pack bundle --envelope envelope.json files deposits/n1
+
 Refusals go to standard error: E1 PATH (can't be read or written), E2 PATH (over 16,777,216 bytes),
 U1 to U11 with the path (the bundle is no deposit), M1, M7 and M10 to M13 with the row (no manifest
-lists these deposits; rows count from 1, in the order of places), S2 (no memory).
-Status: 0 done; 1 refused by E2, U or M; 2 other words; 3 stopped by E1 or S2.
+lists these deposits; rows count from 1, in the order of places), H1 PATH (another heading than the
+declared fields), H2 PATH (rows that begin with a byte order mark), S2 (no memory).
+Status: 0 done; 1 refused by E2, U, M or H; 2 other words; 3 stopped by E1 or S2.
 ";
 
 const MANIFEST: &str = "Prints the release manifest of these bundles, in the order of places";
+
+const BUNDLE: &str =
+    "Writes the bundle of a folder's CSV files, whose tables a description declares";
+
+const DESCRIPTION: &str = "\
+The description is the bundle's envelope, with two more members that a table may have: \"from\", an
+array of the names of its files in DIR, whose rows follow each other (without it the one that
+\"file\" names); and \"heading\", true where each of them begins with a row of the fields' names,
+which is dropped:
+
+    {\"id\":\"F1\",\"type\":\"FULL\",\"watermark\":\"2024-03-03T00:00:00Z\",\"contents\":[
+    {\"name\":\"contact\",\"kind\":\"contact\",\"role\":\"parent\",\"key\":\"id\",\"fields\":[\"id\",\"clID\"],
+    \"file\":\"c.csv\",\"from\":[\"Contacts_1.csv\",\"Contacts_2.csv\"],\"heading\":true}]}
+";
 
 fn manifest_command<'a>(alloc: Global) -> Result<Command<'a>, AllocError> {
     let bundles = Arg::new(alloc, "bundle")
@@ -33,6 +53,28 @@ fn manifest_command<'a>(alloc: Global) -> Result<Command<'a>, AllocError> {
     Command::new(alloc, "manifest").about(MANIFEST).arg(bundles)
 }
 
+fn bundle_command<'a>(alloc: Global) -> Result<Command<'a>, AllocError> {
+    let envelope = Arg::new(alloc, "envelope")
+        .long("envelope")
+        .value_name("FILE")
+        .required(true)
+        .help("The description of the tables");
+    let folder = Arg::new(alloc, "folder")
+        .value_name("DIR")
+        .required(true)
+        .help("The folder of the files");
+    let target = Arg::new(alloc, "target")
+        .value_name("OUT")
+        .required(true)
+        .help("Where the bundle is written; nothing may be there");
+    Command::new(alloc, "bundle")
+        .about(BUNDLE)
+        .after_help(DESCRIPTION)
+        .arg(envelope)?
+        .arg(folder)?
+        .arg(target)
+}
+
 fn command_line<'a>(alloc: Global) -> Result<Command<'a>, AllocError> {
     Command::new(alloc, "pack")
         .version("1")
@@ -40,7 +82,8 @@ fn command_line<'a>(alloc: Global) -> Result<Command<'a>, AllocError> {
         .after_help(DETAILS)
         .subcommand_required(true)
         .arg_required_else_help(true)
-        .subcommand(manifest_command(alloc)?)
+        .subcommand(manifest_command(alloc)?)?
+        .subcommand(bundle_command(alloc)?)
 }
 
 fn matches_of<'a>(alloc: Global, words: &'a [String]) -> Result<ArgMatches<'a>, Error> {
@@ -73,10 +116,25 @@ fn answer(rt: &HostRuntime, matches: &ArgMatches<'_>) -> Result<Vec<u8>, Stop> {
     let Some((_, given)) = matches.subcommand() else {
         return Ok(Vec::new(rt.alloc()));
     };
+    if let Some(words) = bundling_of(given) {
+        write_bundle(rt, words)?;
+    }
     match given.get_strs("bundle") {
         Some(paths) => manifest(rt, paths),
         None => Ok(Vec::new(rt.alloc())),
     }
+}
+
+// The words of `bundle`, where it is that command.
+fn bundling_of<'a>(given: &ArgMatches<'a>) -> Option<Bundling<'a>> {
+    let envelope = given.get_str("envelope")?;
+    let folder = given.get_str("folder")?;
+    let target = given.get_str("target")?;
+    Some(Bundling {
+        envelope,
+        folder,
+        target,
+    })
 }
 
 // `manifest BUNDLE..`: the release manifest of the bundles at these paths.

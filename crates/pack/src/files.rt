@@ -2,7 +2,7 @@
 
 use crate::stop::Stop;
 use std::fs::{self, File};
-use std::io::{Error, ErrorKind, Read};
+use std::io::{Error, ErrorKind, Read, Write};
 
 /// The most bytes of a bundle.
 const MOST_BYTES: u64 = 16_777_216;
@@ -16,7 +16,8 @@ pub fn read_bundles(rt: &HostRuntime, paths: &[&str]) -> Result<Vec<Vec<u8>>, St
     Ok(bundles)
 }
 
-fn read_bundle(rt: &HostRuntime, path: &str) -> Result<Vec<u8>, Stop> {
+/// The bytes of a plain file of at most 16,777,216 bytes.
+pub fn read_bundle(rt: &HostRuntime, path: &str) -> Result<Vec<u8>, Stop> {
     match front_of(rt, path) {
         Ok(bytes) if bytes.len() as u64 > MOST_BYTES => Err(Stop::too_large(rt, path)),
         Ok(bytes) => Ok(bytes),
@@ -34,4 +35,35 @@ fn front_of(rt: &HostRuntime, path: &str) -> Result<Vec<u8>, Error> {
     let file = File::open(rt, path)?;
     file.take(MOST_BYTES + 1).read_to_end(&mut bytes)?;
     Ok(bytes)
+}
+
+/// Writes a new file: beside its place first, and from there to its place in one step, so that
+/// there is the whole of it or nothing. `E1` where something is at its place.
+pub fn place_file(rt: &HostRuntime, path: &str, bytes: &[u8]) -> Result<(), Stop> {
+    let beside = format!(in rt.alloc(); "{path}.part")?;
+    match put_file(rt, beside.as_str(), path, bytes) {
+        Ok(()) => Ok(()),
+        Err(error) => Err(Stop::unreadable(rt, path, &error)),
+    }
+}
+
+fn put_file(rt: &HostRuntime, beside: &str, path: &str, bytes: &[u8]) -> Result<(), Error> {
+    if fs::symlink_metadata(rt, path).is_ok() {
+        return Err(Error::from(ErrorKind::AlreadyExists));
+    }
+    let mut file = File::create_new(rt, beside)?;
+    let written = write_whole(&mut file, bytes);
+    let placed = match written {
+        Ok(()) => fs::rename(rt, beside, path),
+        Err(error) => Err(error),
+    };
+    if placed.is_err() {
+        let _ = fs::remove_file(rt, beside);
+    }
+    placed
+}
+
+fn write_whole(file: &mut File, bytes: &[u8]) -> Result<(), Error> {
+    file.write_all(bytes)?;
+    file.sync_all()
 }

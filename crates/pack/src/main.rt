@@ -2,6 +2,8 @@
 //!
 //! - `pack manifest BUNDLE..` prints the release manifest of these bundle files, in the order of
 //!   places ([`esc_pack::manifest_of_bundles`], whose contract says what it prints).
+//! - `pack bundle --envelope FILE DIR OUT` writes the bundle of the files of DIR, whose tables FILE
+//!   declares ([`esc_pack::bundle_of_files`], whose contract says what is read of it).
 //! - `pack --version`, `pack --help`.
 //!
 //! Refusals go to standard error, and no manifest is printed then: `E1 PATH` for a file that can't
@@ -13,8 +15,10 @@
 //! By proof: that no call is unsafe and that each ends, whatever the words and files are.
 #![tactic(auto)]
 
+mod bundle;
 mod command_line;
 mod files;
+mod sources;
 mod stop;
 
 use command_line::run_words;

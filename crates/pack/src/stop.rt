@@ -27,6 +27,12 @@ pub enum Stop {
     Unread { code: u8, path: String },
     /// No manifest lists the deposits, by the refusal of this number at this row.
     Unlisted { code: u8, row: u32 },
+    /// A file with a heading begins with another row than the names of the declared fields.
+    Heading(String),
+    /// A row of a file has another number of fields than declared.
+    Row { path: String, row: usize },
+    /// The rows of a table begin with a byte order mark, of which this is the first file.
+    Marked(String),
     /// Memory was refused.
     NoMemory,
 }
@@ -62,7 +68,12 @@ impl Stop {
     /// The program's status.
     pub fn status(&self) -> u8 {
         match self {
-            Stop::TooLarge(_) | Stop::Unread { .. } | Stop::Unlisted { .. } => REFUSED,
+            Stop::TooLarge(_)
+            | Stop::Unread { .. }
+            | Stop::Unlisted { .. }
+            | Stop::Heading(_)
+            | Stop::Row { .. }
+            | Stop::Marked(_) => REFUSED,
             Stop::Unreadable(_) | Stop::NoMemory => STOPPED,
         }
     }
@@ -75,6 +86,9 @@ impl fmt::Display for Stop {
             Stop::TooLarge(path) => write!(f, "E2 {path}"),
             Stop::Unread { code, path } => write!(f, "U{code} {path}"),
             Stop::Unlisted { code, row } => write!(f, "M{code} row {row}"),
+            Stop::Heading(path) => write!(f, "H1 {path}"),
+            Stop::Row { path, row } => write!(f, "U9 {path} row {row}"),
+            Stop::Marked(path) => write!(f, "H2 {path}"),
             Stop::NoMemory => f.write_str("S2"),
         }
     }

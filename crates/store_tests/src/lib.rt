@@ -1,4 +1,4 @@
-//! Tests of what a desk stands on: the seven tables of the database (`esc_rows`) and the store
+//! Tests of what a desk stands on: the nine tables of the database (`esc_rows`) and the store
 //! (`esc_store`).
 //!
 //! They stand in a crate of their own, since a crate with tests is proved twice, with them and

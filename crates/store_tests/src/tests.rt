@@ -1,6 +1,7 @@
 //! Databases and stores.
 
 mod database;
+mod parking;
 mod store;
 
 use std::process::Abort;

@@ -1,22 +1,25 @@
 //! The worked rows over a desk: replies, receipts, held rows, tables, chains, before-images and
 //! numbers.
 
-use super::bodies::{Body, bytes_of, line_of};
-use super::rows::{
-    BACKWARDS, COUNTED, DOMAIN_A, DOMAIN_B, FORWARD, IMAGE_OF_A, NO_ARRIVALS, R1, RESENT, Row,
-    TAKEN_D2, TAKEN_F1, Taken, rows,
-};
-use super::seen::{tell_desk, tell_images, tell_replies_of, tell_row, tell_tables, tell_taken};
-use super::shown::{tell_counts, tell_lines, tell_reply, tell_status, text_of};
-use super::{
-    arrive, assert_text, close, desk_after, desk_of, open, take_row, tell_arrival, writes,
-};
+use super::assert_text;
 use esc_desk::{Arrival, Desk, End, Outcome, Reply, number};
 use sqlite::{Alter, Connection, Error, params};
 use std::alloc::Global;
 use std::fmt::Write;
 use std::process::Abort;
 use std::test::Fail;
+use worked_rows::bodies::{Body, bytes_of, line_of};
+use worked_rows::desks::{
+    arrive, close, desk_after, desk_of, open, take_row, tell_arrival, writes,
+};
+use worked_rows::rows::{
+    BACKWARDS, COUNTED, DOMAIN_A, DOMAIN_B, FORWARD, IMAGE_OF_A, NO_ARRIVALS, R1, RESENT, Row,
+    TAKEN_D2, TAKEN_F1, Taken, rows,
+};
+use worked_rows::seen::{
+    tell_desk, tell_images, tell_replies_of, tell_row, tell_tables, tell_taken,
+};
+use worked_rows::shown::{tell_counts, tell_lines, tell_reply, tell_status, text_of};
 
 // What is seen of a row's arrivals, and of the desk that took them.
 fn seen<S: Alter + Drop>(

@@ -1,9 +1,6 @@
 //! Walks over the tables of a desk.
 
-use super::bodies::Body;
-use super::rows::{FORWARD, R1, TAKEN_D2, TAKEN_F1, rows};
-use super::shown::{tell_object, text_of};
-use super::{arrive, assert_text, desk_after, desk_of, tell_arrival, writes};
+use super::assert_text;
 use esc_apply::Objects;
 use esc_desk::{Desk, Walk};
 use esc_envelope::Kind;
@@ -14,6 +11,10 @@ use std::collections::BTreeMap;
 use std::fmt::Write;
 use std::process::Abort;
 use std::test::Fail;
+use worked_rows::bodies::Body;
+use worked_rows::desks::{arrive, desk_after, desk_of, tell_arrival, writes};
+use worked_rows::rows::{FORWARD, R1, TAKEN_D2, TAKEN_F1, rows};
+use worked_rows::shown::{tell_object, text_of};
 
 // What is walked over: all kinds, and each alone.
 const WALKS: [Option<Kind>; 7] = [

@@ -179,6 +179,13 @@ const STORES: Scene = Scene {
             "",
             "S3\n",
         ),
+        (
+            "take --store stores/first.db stores/nowhere",
+            3,
+            "",
+            "S3\n",
+        ),
+        ("report --store stores/first.db receipts", 3, "", "S3\n"),
         ("report --store stores/seventh.db receipts", 3, "", "S3\n"),
         ("export --store stores/seventh.db host", 3, "", "S3\n"),
         // Nor does a store take the place of anything.
@@ -293,6 +300,14 @@ fn change_file(rt: &HostRuntime, path: &str, change: &str) -> Result<(), Error> 
     connection.close()
 }
 
+/// The store that is turned into one of version 1: its tables are the first seven.
+const FIRST: Row<'static> = (
+    "init --store stores/first.db --manifest stores/listed.csv",
+    0,
+    "listed 2\n",
+    "",
+);
+
 /// The store whose version is changed.
 const SEVENTH: Row<'static> = (
     "init --store stores/seventh.db --manifest stores/listed.csv",
@@ -308,6 +323,12 @@ fn stores_are_refused(rt: HostRuntime) -> Result<(), Fail> {
         &rt,
         "stores/others.db",
         "CREATE TABLE note (id INTEGER PRIMARY KEY)",
+    )?;
+    check(&rt, &rt, FIRST)?;
+    change_file(
+        &rt,
+        "stores/first.db",
+        "DROP TABLE moment; DROP TABLE parked; UPDATE info SET version = 1",
     )?;
     check(&rt, &rt, SEVENTH)?;
     change_file(&rt, "stores/seventh.db", "UPDATE info SET version = 7")?;

@@ -1,14 +1,16 @@
-//! Words that are no command, and help.
+//! Words that are no command, help and the version.
 
 use super::words_of;
 use esc_commands::run_words;
 use std::test::Fail;
 
 /// Words that are no command. No file is looked at for them: there is neither store nor manifest.
-const OTHER_WORDS: [&str; 34] = [
+const OTHER_WORDS: [&str; 36] = [
     "",
     "desk",
-    "--version",
+    "version",
+    "--version=2",
+    "take --version",
     "init",
     "init --store e.db",
     "init --manifest absent.csv",
@@ -55,8 +57,11 @@ fn other_words_are_refused(rt: HostRuntime) -> Result<(), Fail> {
     Ok(())
 }
 
-/// Words that ask for help, and what it tells among others.
-const HELP: [(&str, &str); 9] = [
+/// Words that ask for help or the version, and what is told among others.
+const HELP: [(&str, &str); 12] = [
+    ("--version", "restore 1 (store version 2)\n"),
+    ("-V", "restore 1 (store version 2)\n"),
+    ("--help", "-V, --version"),
     ("--help", "restore take --store desk.db deposits"),
     ("-h", "id,type,watermark,prevId,resend,sha256"),
     ("help", "Status: 0 done"),

@@ -25,12 +25,12 @@ enum Deed {
 
 const NEW: &str = "unused";
 
-const STORE: &str = "a store of version 1";
+const STORE: &str = "a store of version 2";
 
 const OTHER: &str = "other tables";
 
 // Deeds, each with what the database is after it.
-const DATABASES: [(&str, &[(Deed, &str)]); 4] = [
+const DATABASES: [(&str, &[(Deed, &str)]); 5] = [
     ("a new store", &[(Nothing, NEW), (Make, STORE)]),
     (
         "another version",
@@ -38,6 +38,15 @@ const DATABASES: [(&str, &[(Deed, &str)]); 4] = [
             (Make, STORE),
             (Run("UPDATE info SET version = 7"), "a store of version 7"),
             (Run("DELETE FROM info"), "a store of no version"),
+        ],
+    ),
+    (
+        "the first seven tables",
+        &[
+            (Make, STORE),
+            (Run("UPDATE info SET version = 1"), "a store of version 1"),
+            (Run("DROP TABLE moment"), OTHER),
+            (Run("DROP TABLE parked"), OTHER),
         ],
     ),
     (

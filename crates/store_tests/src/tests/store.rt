@@ -220,7 +220,7 @@ enum Deed {
 }
 
 // Deeds in a new database, each with its fault.
-const DATABASES: [(&str, &[(Deed, Option<SFault>)]); 3] = [
+const DATABASES: [(&str, &[(Deed, Option<SFault>)]); 4] = [
     (
         "another version",
         &[
@@ -229,8 +229,20 @@ const DATABASES: [(&str, &[(Deed, Option<SFault>)]); 3] = [
             (Make, Some(SFault::S3)),
             (Run("UPDATE info SET version = 7"), None),
             (Open, Some(SFault::S3)),
-            (Run("UPDATE info SET version = 1"), None),
+            (Run("UPDATE info SET version = 2"), None),
             (Open, None),
+        ],
+    ),
+    (
+        "a store of version 1",
+        &[
+            (Make, None),
+            (Run("UPDATE info SET version = 1"), None),
+            (Open, Some(SFault::S3)),
+            (Run("DROP TABLE moment"), None),
+            (Run("DROP TABLE parked"), None),
+            (Open, Some(SFault::S3)),
+            (Make, Some(SFault::S3)),
         ],
     ),
     (

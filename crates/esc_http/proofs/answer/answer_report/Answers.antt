@@ -1,6 +1,6 @@
 use Rattle.std.proofs.Common.{inl, inr, sym, subst}
 use Rattle.esc_http.specs.Reports.{IsReport}
-use Rattle.esc_http.proofs.AnswerLemmas.{text_is, fault_is}
+use Rattle.esc_http.proofs.AnswerLemmas.{text_is, fault_told}
 use Rattle.esc_http.proofs.answer.answer_report.Goals as goal
 
 pub returns-in-Ok-clause-answers : goal.returns-in-Ok-clause-answers
@@ -14,4 +14,4 @@ returns-in-Ok-clause-answers g c = (
 )
 
 pub returns-in-Err-clause-answers : goal.returns-in-Err-clause-answers
-returns-in-Err-clause-answers g c = (inr c.report.ensures.stays, inr (fault_is _ c.in-Err.fault c.fault_response.result c.fault_response.ensures))
+returns-in-Err-clause-answers g c = (inr c.report.ensures.stays, inr (fault_told _ c.in-Err.fault c.fault_response.result c.in-Err.ensures.cause c.fault_response.ensures))

@@ -13,5 +13,6 @@ returns-in-Ok-clause-text g c = λ clean e serves.
     record {
       entries = entries.0;
       tables = entries.1;
+      order = entries.2;
       is = c.in-Ok.ensures.text at_end _ lists ∙ export_of_kind c.args.kind entries.0;
     }

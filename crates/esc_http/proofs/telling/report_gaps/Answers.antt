@@ -21,4 +21,4 @@ returns-clause-text g c = λ clean e serves.
       lines = lines;
       gaps = subst (λ (h : Rows). AreGapLines (union e) h lines) held (subst (λ (x : List MRow). AreGapLines x c.in_ok-held.held lines) listed c.in_ok-lines.ensures);
       is = is ∙ ap gaps_text c.deref-2.ensures.value;
-    }) c.gaps_text.ensures
+    }) c.gaps_text.ensures.text

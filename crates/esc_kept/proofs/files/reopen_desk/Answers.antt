@@ -14,4 +14,5 @@ returns-in-Ok-open_desk g c = record {
       let same = finds_again c.into_connection.result c.in-Ok-open_files.connection c.in-Ok.files c.in-Ok.ensures.copied found in
       let stored = kept_trees over_files c.into_connection.result was.kept (c.into_connection.ensures.holds was.kept was.stands) copied.was_clean copied.was_open in
       c.in-Ok-open_desk.ensures.serves honest e (record { kept = was.kept; store = subst (λ t. IsStore t was.kept) (sym same) stored; stands_for = was.stands_for });
+  cause = tt;
 }

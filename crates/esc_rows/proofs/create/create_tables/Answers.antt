@@ -19,7 +19,7 @@ loop-at-preserved g c =
 
 pub returns : goal.returns
 returns g c =
-    let all : c.loop-at.at ≡ 7 = omega (arith, c.loop-at-test.false, c.loop-at.auto.at-end) in
+    let all : c.loop-at.at ≡ 9 = omega (arith, c.loop-at-test.false, c.loop-at.auto.at-end) in
     record {
       part = subst (λ n. IsPart {X = Unit {0}} {E = Error} (state g.S.Store c.args.conn.now) (state g.S.Store c.loop-at.conn) (Builds no_schema (schema_of n)) (Ok tt)) all c.loop-at.invariant;
     }

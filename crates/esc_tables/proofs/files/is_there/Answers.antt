@@ -2,10 +2,10 @@ use Rattle.std.proofs.Common.{sym, ◌∙◌, ap, List, ℕ}
 use Rattle.std.specs.List.{list_any}
 use Rattle.std.specs.Str.{bytes_eq}
 use Rattle.esc_bundle.specs.Bundle.{view}
+use Rattle.esc_bundle.specs.ListLaws.{list_any_map}
 use Rattle.esc_envelope.specs.EnvelopeValue.{TableValue}
-use Rattle.esc_tables.proofs.SectionFacts.{any_map}
 use Rattle.esc_tables.proofs.files.is_there.Goals as goal
 
 pub returns : goal.returns
 returns c = c.is_among.ensures ∙ ap (λ (name : List ℕ). list_any (λ s. bytes_eq s.name.now name) c.args.files.now) (c.as_str.ensures.value ∙ ap (λ (t : TableValue). t.file) c.table.view_is)
-    ∙ sym (any_map view (λ s. bytes_eq s.name c.args.table.now.file) c.args.files.now)
+    ∙ sym (list_any_map (λ s. bytes_eq s.name c.args.table.now.file) view c.args.files.now)

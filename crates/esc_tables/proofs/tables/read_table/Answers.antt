@@ -2,11 +2,11 @@ use Rattle.std.proofs.Common.{◌≡◌, ℕ, Bool, true, List, [], ◌∷◌, �
 use Rattle.std.specs.Prelude.{MatchBool}
 use Rattle.std.specs.List.{list_all}
 use Rattle.std.proofs.lemmas.List.{append_assoc}
+use Rattle.std.proofs.lemmas.Bool.{and_parts}
 use Rattle.esc_envelope.specs.EnvelopeValue.{TableValue}
 use Rattle.esc_tables.specs.KeyName.{KeyName}
 use Rattle.esc_tables.specs.ObjectValue.{RowValue}
 use Rattle.esc_tables.specs.TableRow.{in_table, is_whole, keyed}
-use Rattle.esc_tables.proofs.FieldFacts.{both}
 use Rattle.esc_tables.proofs.tables.read_table.Goals as goal
 
 pub loop-row-preserved : goal.loop-row-preserved
@@ -23,5 +23,5 @@ loop-row-preserved c =
           ∙ append_assoc found (keyed (in_table t fields) ∷ []) (map keyed (map (in_table t) more))
           ∙ ap (λ (rs : List (List (List ℕ))). found ++ map keyed (map (in_table t) rs)) (sym rows)
           ∙ c.loop-row.invariant.read;
-      whole = (both (is_whole (in_table t fields)) (list_all is_whole (map (in_table t) more)) (subst (λ (rs : List (List (List ℕ))). list_all is_whole (map (in_table t) rs) ≡ true) rows c.loop-row.invariant.whole)).1;
+      whole = (and_parts (is_whole (in_table t fields)) (list_all is_whole (map (in_table t) more)) (subst (λ (rs : List (List (List ℕ))). list_all is_whole (map (in_table t) rs) ≡ true) rows c.loop-row.invariant.whole)).1;
     }

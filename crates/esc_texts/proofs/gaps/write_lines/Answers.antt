@@ -6,8 +6,8 @@ use Rattle.esc_texts.proofs.gaps.write_lines.Goals as goal
 
 pub loop-gap-preserved : goal.loop-gap-preserved
 loop-gap-preserved c =
-    written _ _ _ _ _ _ (gap_lines_more c.args.gaps.now c.loop-gap.gap-index c.gap-item.result c.loop-gap-test.true c.gap-item.is) c.loop-gap.invariant c.in_ok-write_line.ensures
+    written _ _ _ _ _ _ (gap_lines_more c.args.gaps.now c.loop-gap.gap-index c.gap-item.result c.loop-gap-test.true c.gap-item.is) c.loop-gap.invariant c.in_ok-write_line.ensures.written
 
-pub returns : goal.returns
-returns c =
+pub returns-clause-written : goal.returns-clause-written
+returns-clause-written c =
     sym (append-nil _) ∙ ap (λ (gaps : List _). c.loop-gap.lines ++ gap_lines_text gaps) (sym (drop_all _ _ c.loop-gap-test.false)) ∙ c.loop-gap.invariant

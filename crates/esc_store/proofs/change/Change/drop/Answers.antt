@@ -1,4 +1,4 @@
-use Rattle.std.proofs.Common.{◌≡◌, ◌∙◌}
+use Rattle.std.proofs.Common.{◌∙◌}
 use Rattle.sqlite.specs.Held.{state}
 use Rattle.esc_store.specs.Standing.{BeganIn, Stands}
 use Rattle.esc_store.proofs.Ends.{given_up, begun_committed}

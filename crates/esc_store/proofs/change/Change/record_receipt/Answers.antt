@@ -1,5 +1,4 @@
-use Rattle.std.proofs.Common.{◌≡◌, ◌∙◌, ◌+◌, ap, refl, sym, arith}
-use Rattle.std.specs.Prelude.{OnOk}
+use Rattle.std.proofs.Common.{◌∙◌, ◌+◌, ap, refl, arith}
 use Rattle.sqlite.specs.Held.{state}
 use Rattle.esc_rows.specs.Content.{content_in}
 use Rattle.esc_store.specs.Steps.{with_next_receipt}

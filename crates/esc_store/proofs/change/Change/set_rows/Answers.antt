@@ -1,9 +1,8 @@
-use Rattle.std.proofs.Common.{◌≡◌, refl, map}
+use Rattle.std.proofs.Common.{refl, map}
 use Rattle.sqlite.specs.Held.{state}
-use Rattle.esc_rows.specs.Entries.{held_row, step_row}
 use Rattle.esc_store.specs.Steps.{with_step_rows}
 use Rattle.esc_store.proofs.Parts.{step_turns}
-use Rattle.esc_store.proofs.RowSteps.{Becoming, become_turns, with_held_row, held_turns, books_held, registry_held, books_steps, registry_steps}
+use Rattle.esc_store.proofs.RowSteps.{Becoming, become_turns, books_steps, registry_steps}
 use Rattle.esc_store.proofs.Following.{on_ok, goes_step, made_step, holds_step}
 use Rattle.esc_store.proofs.change.Change.set_rows.Goals as goal
 

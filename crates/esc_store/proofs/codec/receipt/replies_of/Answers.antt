@@ -1,4 +1,4 @@
-use Rattle.std.proofs.Common.{◌≡◌, ◌∙◌, sym, ap, arith, take, length, ◌≤◌}
+use Rattle.std.proofs.Common.{◌∙◌, ap, arith}
 use Rattle.std.proofs.lemmas.List.{take_all}
 use Rattle.esc_rows.specs.Entries.{receipt_row}
 use Rattle.esc_store.specs.ReplyValue.{replies_from}

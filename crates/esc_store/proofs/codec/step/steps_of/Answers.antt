@@ -1,4 +1,4 @@
-use Rattle.std.proofs.Common.{◌≡◌, ◌∙◌, sym, ap, arith, take, map, length, ◌≤◌}
+use Rattle.std.proofs.Common.{◌∙◌, ap, arith, map}
 use Rattle.std.proofs.lemmas.List.{take_all}
 use Rattle.esc_store.specs.Kept.{step_at}
 use Rattle.esc_store.proofs.Decoding.{one_step}

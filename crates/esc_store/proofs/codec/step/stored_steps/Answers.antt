@@ -1,4 +1,4 @@
-use Rattle.std.proofs.Common.{◌≡◌, ◌∙◌, ◌∷◌, [], map, ap}
+use Rattle.std.proofs.Common.{◌∙◌, map, ap}
 use Rattle.std.proofs.lemmas.List.{map-append}
 use Rattle.esc_rows.specs.Entries.{step_row}
 use Rattle.esc_store.proofs.RowSteps.{steps_stored}

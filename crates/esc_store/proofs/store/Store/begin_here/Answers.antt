@@ -1,28 +1,28 @@
-use Rattle.std.proofs.Common.{◌≡◌, ◌∙◌}
+use Rattle.std.proofs.Common.{◌∙◌}
 use Rattle.sqlite.specs.Held.{state}
 use Rattle.sqlite.proofs.StateLemmas.{survives_then}
 use Rattle.esc_store.specs.Standing.{Stands, BeganIn, RestIn, HoldsIn}
-use Rattle.esc_store.proofs.Ends.{ok_goes, err_goes, at_ok, at_err, began, made, under_way, given_up, keeps_then, was_clean}
+use Rattle.esc_store.proofs.Ends.{ok_goes, err_goes, at_ok, began, made, under_way, given_up, keeps_then, was_clean}
 use Rattle.esc_store.proofs.store.Store.begin_here.Goals as goal
 
 pub returns-clause-began : goal.returns-clause-began
 unfolding Stands BeganIn
-returns-clause-began g c = ok_goes c.settle.result _ _ c.settle.ensures.ok (λ x p k stands. rw p.1
+returns-clause-began g c = ok_goes c.settle.result _ _ c.settle.ensures.settled.ok (λ x p k stands. rw p.1
     (began (state g.S.Store c.args.self.now.conn) (state g.S.Store c.begin_in-begun.new.conn) _ k c.begin_in-begun.ensures.survives (λ clean. (at_ok c.begin_in-begun.result x _ p.0 (c.begin_in-begun.ensures.begun clean)).0) stands))
 
 pub returns-clause-rest : goal.returns-clause-rest
 unfolding Stands RestIn
-returns-clause-rest g c = ok_goes c.settle.result _ _ c.settle.ensures.ok (λ x p k stands. rw p.1
+returns-clause-rest g c = ok_goes c.settle.result _ _ c.settle.ensures.settled.ok (λ x p k stands. rw p.1
     (made (state g.S.Store c.args.self.now.conn) (state g.S.Store c.begin_in-begun.new.conn) _ k c.begin_in-begun.ensures.survives (λ clean. (at_ok c.begin_in-begun.result x _ p.0 (c.begin_in-begun.ensures.begun clean)).0) stands))
 
 pub returns-clause-holds : goal.returns-clause-holds
 unfolding Stands HoldsIn
-returns-clause-holds g c = ok_goes c.settle.result _ _ c.settle.ensures.ok (λ x p k stands. rw p.1
+returns-clause-holds g c = ok_goes c.settle.result _ _ c.settle.ensures.settled.ok (λ x p k stands. rw p.1
     (under_way (state g.S.Store c.args.self.now.conn) (state g.S.Store c.begin_in-begun.new.conn) _ k c.begin_in-begun.ensures.survives (λ clean. (at_ok c.begin_in-begun.result x _ p.0 (c.begin_in-begun.ensures.begun clean)).0) stands))
 
 pub returns-clause-stands : goal.returns-clause-stands
 unfolding Stands
-returns-clause-stands g c = err_goes c.settle.result _ _ c.settle.ensures.err (λ p k stands.
+returns-clause-stands g c = err_goes c.settle.result _ _ c.settle.ensures.settled.err (λ p k stands.
     let old = state g.S.Store c.args.self.now.conn in
     let mid = state g.S.Store c.begin_in-begun.new.conn in
     let new = state g.S.Store c.settle.new.self.conn in

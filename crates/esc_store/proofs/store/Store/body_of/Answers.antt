@@ -1,4 +1,4 @@
-use Rattle.std.proofs.Common.{◌≡◌, ◌∙◌, ap}
+use Rattle.std.proofs.Common.{◌∙◌, ap}
 use Rattle.esc_store.proofs.Looking.{if_ok}
 use Rattle.esc_store.proofs.Sure.{told_at}
 use Rattle.esc_store.proofs.store.Store.body_of.Goals as goal

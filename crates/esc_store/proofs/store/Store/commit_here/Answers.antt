@@ -1,4 +1,4 @@
-use Rattle.std.proofs.Common.{◌≡◌, ◌∙◌, subst, sym}
+use Rattle.std.proofs.Common.{◌≡◌, ◌∙◌}
 use Rattle.sqlite_trees.specs.Tree.{Trees}
 use Rattle.sqlite.specs.Held.{state}
 use Rattle.sqlite.proofs.StateLemmas.{survives_then}
@@ -9,13 +9,13 @@ use Rattle.esc_store.proofs.store.Store.commit_here.Goals as goal
 
 pub returns-clause-committed : goal.returns-clause-committed
 unfolding Stands RestIn HoldsIn
-returns-clause-committed g c = ok_goes c.settle.result _ _ c.settle.ensures.ok (λ x p before k s rest holds. rw p.1
+returns-clause-committed g c = ok_goes c.settle.result _ _ c.settle.ensures.settled.ok (λ x p before k s rest holds. rw p.1
     (committed (state g.S.Store c.args.self.now.conn) (state g.S.Store c.commit_in-committed.new.conn) _ before k s rest holds _ c.commit_in-committed.ensures.survives
     (λ clean. at_ok c.commit_in-committed.result x _ p.0 (c.commit_in-committed.ensures.committed clean))))
 
 pub returns-clause-left : goal.returns-clause-left
 unfolding LeavesOnly RestIn HoldsIn
-returns-clause-left g c = ok_goes c.settle.result _ _ c.settle.ensures.ok (λ x p before k s rest holds. rw p.1
+returns-clause-left g c = ok_goes c.settle.result _ _ c.settle.ensures.settled.ok (λ x p before k s rest holds. rw p.1
     (left (state g.S.Store c.args.self.now.conn) (state g.S.Store c.commit_in-committed.new.conn) _ before k s rest holds _ c.commit_in-committed.ensures.survives
     (λ clean. at_ok c.commit_in-committed.result x _ p.0 (c.commit_in-committed.ensures.committed clean)) c.commit_in-committed.ensures.only))
 
@@ -26,11 +26,11 @@ returns-clause-crash g c = λ before k s rest holds.
     let mid = state g.S.Store c.commit_in-committed.new.conn in
     let new = state g.S.Store c.settle.new.self.conn in
     survives_then old mid new (λ trees. IsStore trees k) (λ trees. ⊥) (λ trees. IsStore trees k) (λ _ db is. is) (λ _ db none. absurd none)
-    (crash old mid _ before k s rest holds c.commit_in-committed.ensures.survives) c.settle.ensures.survives
+    (crash old mid _ before k s rest holds c.commit_in-committed.ensures.survives) c.settle.ensures.settled.survives
 
 pub returns-clause-kept : goal.returns-clause-kept
 unfolding Stands BeganIn
-returns-clause-kept g c = err_goes c.settle.result _ _ c.settle.ensures.err (λ p before begun.
+returns-clause-kept g c = err_goes c.settle.result _ _ c.settle.ensures.settled.err (λ p before begun.
     let old = state g.S.Store c.args.self.now.conn in
     let mid = state g.S.Store c.commit_in-committed.new.conn in
     let new = state g.S.Store c.settle.new.self.conn in

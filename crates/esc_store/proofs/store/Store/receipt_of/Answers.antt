@@ -1,5 +1,3 @@
-use Rattle.std.proofs.Common.{◌≡◌}
-use Rattle.esc_store.specs.Kept.{kept_reply}
 use Rattle.esc_store.proofs.Reading.{if_goes, found_reply}
 use Rattle.esc_store.proofs.Sure.{told_of}
 use Rattle.esc_store.proofs.store.Store.receipt_of.Goals as goal

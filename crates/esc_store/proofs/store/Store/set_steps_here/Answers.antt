@@ -1,4 +1,4 @@
-use Rattle.std.proofs.Common.{◌≡◌, ◌∙◌, ◌+◌, ◌++◌, ◌∷◌, [], List, ℕ, subst, sym, ap, take, get_or, map, arith, Ok, length, ◌≤◌}
+use Rattle.std.proofs.Common.{◌∙◌, List, ℕ, subst, sym, take, get_or, arith, Ok}
 use Rattle.sqlite.specs.Held.{state}
 use Rattle.std.proofs.lemmas.List.{take_more, take_all}
 use Rattle.esc_store.specs.declared.fault.SFault.{SFault}

@@ -1,0 +1,33 @@
+-- Laws of kinds: kinds of one rank are one kind.
+use Rattle.std.proofs.Common.{◌≡◌, ◌∙◌, ℕ, zero, suc, refl, sym, ap}
+use Rattle.esc_envelope.specs.declared.kind.Kind.{Kind}
+use Rattle.esc_envelope.specs.declared.kind.Kind.TheVariants.{
+  Registrar,
+  Contact,
+  Host,
+  Domain,
+  Idn,
+  Nndn,
+}
+use Rattle.esc_envelope.specs.Kinds.{kind_rank}
+
+-- the kind of a rank
+abbrev kind_at : ℕ → Kind
+kind_at zero = Registrar
+kind_at (suc zero) = Contact
+kind_at (suc (suc zero)) = Host
+kind_at (suc (suc (suc zero))) = Domain
+kind_at (suc (suc (suc (suc zero)))) = Idn
+kind_at (suc (suc (suc (suc (suc n))))) = Nndn
+
+kind_back : (k : Kind) → kind_at (kind_rank k) ≡ k
+kind_back Registrar = refl
+kind_back Contact = refl
+kind_back Host = refl
+kind_back Domain = refl
+kind_back Idn = refl
+kind_back Nndn = refl
+
+-- kinds of one rank are one kind
+pub one_kind : (a b : Kind) → kind_rank a ≡ kind_rank b → a ≡ b
+one_kind a b e = sym (kind_back a) ∙ ap kind_at e ∙ kind_back b

@@ -1,0 +1,36 @@
+-- The bundle of a description and of an agent's files (this project's profile).
+use Rattle.std.specs.Prelude.{◌≡◌, ℕ, List, ◌∷◌, length, map, Ok}
+use Rattle.std.specs.List.{zip}
+use Rattle.esc_bundle.specs.Bundle.{Named, IsBundle, envelope_name}
+use Rattle.esc_csv.specs.Lines.{text_of}
+use Rattle.esc_envelope.specs.EnvelopeValue.{TableValue, EnvelopeValue}
+use Rattle.esc_envelope.specs.Envelope.{envelope_of}
+use Rattle.esc_tables.specs.TableRow.{table_rows, in_table}
+use Rattle.esc_tables.specs.Reading.{tables_of, deposit_of, reading}
+use Rattle.esc_pack.specs.GivenRows.{GivenTable, given_rows}
+
+-- the section of a table: the text of the rows that its files have
+abbrev pub section_of : TableValue × GivenTable → Named
+section_of p = record { name = p.0.file; bytes = text_of (given_rows p.1) }
+
+-- the sections of tables, each with its files
+abbrev pub sections_of : List TableValue → List GivenTable → List Named
+sections_of tables given = map section_of (zip tables given)
+
+-- the first section
+abbrev pub description_section : List ℕ → Named
+description_section description = record { name = envelope_name; bytes = description }
+
+-- the body is the bundle of this description and of these files, in the order in which it declares
+-- its tables, and what is read of it is what their rows make
+pub record IsBundleOf (description : List ℕ) (given : List GivenTable) (body : List ℕ)
+    : Type 0 where
+  pub envelope : EnvelopeValue
+  pub told : envelope_of description ≡ Ok envelope
+  pub matched : length given ≡ length (tables_of envelope)
+  pub bundle : IsBundle body
+      (description_section description ∷ sections_of (tables_of envelope) given)
+  pub rows : map (table_rows (sections_of (tables_of envelope) given)) (tables_of envelope)
+      ≡ map (λ p. map (in_table p.0) (given_rows p.1)) (zip (tables_of envelope) given)
+  pub read : reading body
+      ≡ Ok (deposit_of (sections_of (tables_of envelope) given) envelope)

@@ -1,0 +1,38 @@
+-- The rows that an agent's files have for a declared table (this project's profile of RFC 9022's
+-- CSV model).
+use Rattle.std.specs.Prelude.{
+  ◌≡◌,
+  ℕ,
+  List,
+  Bool,
+  length,
+  drop,
+  ◌==◌,
+  ◌&&◌,
+  nat_lt,
+  if◌then◌else◌,
+}
+use Rattle.std.specs.List.{flat_map}
+use Rattle.esc_csv.specs.Lines.{Line, text_of}
+use Rattle.esc_csv.specs.Records.{records_of}
+
+-- the files of a table, and whether each begins with a heading row
+pub record GivenTable : Type 0 where
+  pub has_heading : Bool
+  pub files : List (List ℕ)
+
+-- the rows of a file: its records, but for the heading
+abbrev pub file_rows : Bool → List ℕ → List Line
+file_rows has_heading text = if has_heading then drop 1 (records_of text) else records_of text
+
+-- the rows of a table's files, one file after the other
+abbrev pub given_rows : GivenTable → List Line
+given_rows t = flat_map (file_rows t.has_heading) t.files
+
+-- whether a row has so many fields, and some
+abbrev pub has_width : ℕ → Line → Bool
+has_width n line = (length line == n) && nat_lt 0 n
+
+-- the text of these rows is read as just these rows
+abbrev pub IsReadBack : GivenTable → Type 0
+IsReadBack t = records_of (text_of (given_rows t)) ≡ given_rows t

@@ -1,0 +1,94 @@
+//! Why no bundle is made of an agent's files.
+
+ghost use Rattle.std.specs.Prelude.{◌≡◌};
+ghost use Rattle.esc_pack.specs.declared.bundle_fault.BundleFault.TheVariants.{
+  NoMemory as no_memory,
+};
+
+use esc_bundle::{Fault, NoMemory};
+use std::alloc::{AllocError, AllocFailed};
+use std::error::Error;
+use std::fmt;
+
+/// Why files have no bundle. Tables count from 0 in the order of the description, contents before
+/// deletes, the files of a table from 0, and the rows of a file from 1, after its heading.
+#[derive(Clone, Copy, Debug, PartialEq, Eq)]
+pub enum BundleFault {
+    /// The refusal with this number: U5 to U7 of the description, U1 to U4 of the frame, U8 to U11
+    /// of the rows.
+    Refused {
+        code: u8,
+    },
+    /// There are files for another number of tables than the description declares.
+    Unmatched,
+    /// A file with a heading begins with another row than the names of the declared fields.
+    Heading {
+        table: usize,
+        file: usize,
+    },
+    /// A row has another number of fields than its table declares.
+    Row {
+        table: usize,
+        file: usize,
+        row: usize,
+    },
+    /// The rows of a table begin with a byte order mark, which a reader would drop.
+    Marked {
+        table: usize,
+    },
+    /// Memory was refused.
+    NoMemory,
+}
+
+impl fmt::Display for BundleFault {
+    fn fmt<W: fmt::Write>(&self, f: &mut fmt::Formatter<W>) -> fmt::Result {
+        match *self {
+            BundleFault::Refused { code } => write!(f, "U{code}"),
+            BundleFault::Unmatched => f.write_str("other tables than declared"),
+            BundleFault::Heading { table, file } => write!(
+                f,
+                "heading of table {table} file {file}"
+            ),
+            BundleFault::Row { table, file, row } => {
+                write!(f, "U9 table {table} file {file} row {row}")
+            }
+            BundleFault::Marked { table } => write!(f, "byte order mark in table {table}"),
+            BundleFault::NoMemory => f.write_str("out of memory"),
+        }
+    }
+}
+
+impl Error for BundleFault {}
+
+impl From<NoMemory> for BundleFault {
+    ghost from_gives = { λ _ e. e ≡ no_memory };
+
+    fn from(_error: NoMemory) -> BundleFault {
+        BundleFault::NoMemory
+    }
+}
+
+impl From<AllocError> for BundleFault {
+    ghost from_gives = { λ _ e. e ≡ no_memory };
+
+    fn from(_error: AllocError) -> BundleFault {
+        BundleFault::NoMemory
+    }
+}
+
+impl<T: Drop> From<AllocFailed<T>> for BundleFault {
+    ghost from_gives = { λ _ e. e ≡ no_memory };
+
+    fn from(_error: AllocFailed<T>) -> BundleFault {
+        BundleFault::NoMemory
+    }
+}
+
+impl From<Fault> for BundleFault {
+    fn from(fault: Fault) -> BundleFault {
+        match fault {
+            Fault::Refused(code) => BundleFault::Refused { code },
+            Fault::NoMemory => BundleFault::NoMemory,
+        }
+    }
+}

@@ -1,0 +1,188 @@
+//! The rows of an agent's files as one text.
+
+ghost use Rattle.std.specs.Prelude.{
+  ◌≡◌,
+  ◌++◌,
+  ◌∷◌,
+  ◌<◌,
+  map,
+  length,
+  true,
+  false,
+  IfOk,
+  OnOk,
+  string_bytes,
+};
+ghost use Rattle.std.specs.List.{list_all, flat_map};
+ghost use Rattle.csv.specs.Reading.{is_bom};
+ghost use Rattle.esc_csv.specs.Lines.{line_text, text_of};
+ghost use Rattle.esc_csv.specs.Records.{records_of, IsUnmarked};
+ghost use Rattle.esc_pack.specs.GivenRows.{file_rows, given_rows, has_width, IsReadBack};
+
+use crate::bundle_fault::BundleFault;
+use crate::given::TableFiles;
+use esc_bundle::NoMemory;
+use esc_csv::{Lines, Record, Records, written_lines_read_back};
+use esc_envelope::Table;
+use std::alloc::Global;
+
+/// Where a file stands: its table among those declared, and its place among that table's files.
+#[derive(Clone, Copy)]
+struct FilePlace {
+    table: usize,
+    file: usize,
+}
+
+// The fields of a record.
+fn fields_of(alloc: Global, line: &Record) -> Result<Vec<&[u8]>, NoMemory>
+    ensures { IfOk result (λ fields. map (λ f. f.now) fields.items ≡ line.now) }
+{
+    let mut fields = Vec::new(alloc);
+    for place in 0..line.len() {
+        fields.push(line.field(place))?;
+    }
+    Ok(fields)
+}
+
+// Writes a record as a line.
+fn write_record(alloc: Global, lines: &mut Lines, line: &Record) -> Result<(), NoMemory>
+    ensures { OnOk result (lines.new ≡ lines.old ++ line_text line.now) }
+{
+    let fields = fields_of(alloc, line)?;
+    lines.write(&fields)
+}
+
+// Writes the rows that are left, each of which has so many fields.
+fn write_rows(
+    alloc: Global,
+    lines: &mut Lines,
+    rows: &mut Records<'_>,
+    width: usize,
+    place: FilePlace,
+) -> Result<(), BundleFault>
+    requires { 0 < width }
+    ensures written { OnOk result (lines.new ≡ lines.old ++ text_of rows.old) }
+    ensures whole { OnOk result (list_all (has_width width) rows.old ≡ true) }
+{
+    let FilePlace { table, file } = place;
+    let mut record = Record::new(alloc);
+    let mut row: usize = 0;
+    while rows.next(&mut record)? {
+        row = row.saturating_add(1);
+        if record.len() != width {
+            return Err(BundleFault::Row { table, file, row });
+        }
+        write_record(alloc, lines, &record)?;
+    }
+    Ok(())
+}
+
+// Whether a record has just these texts.
+fn is_heading(line: &Record, fields: &[String]) -> bool
+    ensures { result ≡ true → line.now ≡ map string_bytes fields.now }
+{
+    if line.len() != fields.len() {
+        return false;
+    }
+    for (place, field) in fields.iter().enumerate() {
+        if line.field(place) != field.as_bytes() {
+            return false;
+        }
+    }
+    true
+}
+
+// Reads a heading of these fields, and returns whether there was one.
+fn skip_heading(alloc: Global, rows: &mut Records<'_>, fields: &[String]) -> Result<bool, NoMemory>
+    ensures { IfOk result (λ is. is ≡ true
+        → rows.old ≡ map string_bytes fields.now ∷ rows.new) }
+{
+    let mut record = Record::new(alloc);
+    if !rows.next(&mut record)? {
+        return Ok(false);
+    }
+    Ok(is_heading(&record, fields))
+}
+
+// Writes the rows of a file.
+fn write_file(
+    alloc: Global,
+    lines: &mut Lines,
+    table: &Table,
+    has_heading: bool,
+    file: &[u8],
+    place: FilePlace,
+) -> Result<(), BundleFault>
+    ensures written { OnOk result (lines.new
+        ≡ lines.old ++ text_of (file_rows has_heading file.now)) }
+    ensures whole { OnOk result (list_all (has_width (length table.now.fields))
+        (file_rows has_heading file.now) ≡ true) }
+{
+    let mut rows = Records::of(alloc, file);
+    if has_heading && !skip_heading(alloc, &mut rows, &table.fields)? {
+        return Err(BundleFault::Heading {
+            table: place.table,
+            file: place.file,
+        });
+    }
+    write_rows(alloc, lines, &mut rows, table.fields.len(), place)
+}
+
+// Writes the rows of files, one after the other.
+fn write_files(
+    alloc: Global,
+    lines: &mut Lines,
+    table: &Table,
+    given: &TableFiles<'_>,
+    number: usize,
+) -> Result<(), BundleFault>
+    ensures written { OnOk result (lines.new ≡ lines.old ++ text_of (given_rows given.now)) }
+    ensures whole { OnOk result (list_all (has_width (length table.now.fields))
+        (given_rows given.now) ≡ true) }
+{
+    for (at, file) in given.files.iter().enumerate() {
+        let place = FilePlace {
+            table: number,
+            file: at,
+        };
+        write_file(alloc, lines, table, given.has_heading, file, place)?;
+    }
+    Ok(())
+}
+
+// Whether these are the bytes of a byte order mark.
+fn is_mark(first: u8, second: u8, third: u8) -> bool
+    ensures { result ≡ is_bom first second third }
+{
+    first == 0xEF && second == 0xBB && third == 0xBF
+}
+
+// Whether a text begins with a byte order mark.
+fn is_marked(text: &[u8]) -> bool
+    ensures { result ≡ false → IsUnmarked text.now }
+{
+    if text.len() < 3 {
+        return false;
+    }
+    is_mark(text[0], text[1], text[2])
+}
+
+/// The rows of a table's files as a text, which is read as just these rows.
+pub(crate) fn table_text(
+    alloc: Global,
+    table: &Table,
+    given: &TableFiles<'_>,
+    number: usize,
+) -> Result<Vec<u8>, BundleFault>
+    ensures text { IfOk result (λ text. text.items ≡ text_of (given_rows given.now)) }
+    ensures read { OnOk result (IsReadBack given.now) }
+{
+    written_lines_read_back();
+    let mut lines = Lines::new(alloc);
+    write_files(alloc, &mut lines, table, given, number)?;
+    let text = lines.into_text()?;
+    if is_marked(&text) {
+        return Err(BundleFault::Marked { table: number });
+    }
+    Ok(text)
+}

@@ -1,0 +1,10 @@
+//! Stops at the calls of a file.
+
+mod stops;
+
+use std::process::Abort;
+
+// One assertion for all texts: so each test that compares is short.
+fn assert_text(rt: &impl Abort, name: &str, found: &str, expected: &str) {
+    assert_eq!(rt; found, expected, "{name}");
+}

@@ -1,0 +1,365 @@
+//! A stop at each call of a file, and the store opened again.
+//!
+//! For every k, one of the two files fails each call past the k-th, while a store is made and the
+//! arrivals of a worked row come. What a crash then leaves is opened again: all that was written,
+//! or what was synced alone. The store has the receipts that were answered and at most one more,
+//! and all arrivals sent again have the row's replies and leave its tables.
+
+use super::assert_text;
+use esc_desk::{Desk, SFault, number};
+use esc_kept::{files_of, new_desk, open_desk};
+use esc_manifest::Manifest;
+use sqlite::{Alter, Connection, FileStore, Files, Options};
+use sqlite_disk::{Crash, Disk, Fuse, Memory};
+use std::alloc::Global;
+use std::process::Abort;
+use std::test::Fail;
+use worked_rows::bodies::{bytes_of, manifest_of};
+use worked_rows::desks::arrive;
+use worked_rows::rows::{IMAGE_OF_A, RESENT, Row, Taken};
+use worked_rows::seen::{tell_desk, tell_images, tell_receipts, tell_row};
+use worked_rows::shown::{tell_lines, tell_reply};
+
+/// A file in memory that fails every call after so many.
+type Cut = Fuse<Memory>;
+
+// More calls than a run makes.
+const MOST_CALLS: u64 = 400;
+
+// What stood before each step of the row's chain: step, kind, key and record.
+const IMAGES: [&str; 6] = [
+    "1 0 R1 none",
+    "1 1 C1 none",
+    "1 3 a.example none",
+    "2 3 b.example none",
+    "2 3 c.example none",
+    IMAGE_OF_A,
+];
+
+fn connect<D: Disk + Drop>(
+    alloc: Global,
+    files: Files<D>,
+) -> Result<Connection<FileStore<D>>, Files<D>> {
+    if !files.may_be_used() {
+        return Err(files);
+    }
+    match Connection::open_files(alloc, files, Options::new(7)) {
+        Ok(connection) => Ok(connection),
+        Err((_, left)) => Err(left.into_files()),
+    }
+}
+
+fn close<D: Disk + Drop>(connection: Connection<FileStore<D>>) -> Files<D> {
+    connection.into_store().close()
+}
+
+fn make<S: Alter + Drop>(
+    alloc: Global,
+    connection: Connection<S>,
+    manifest: &Manifest,
+) -> Result<Desk<S>, Connection<S>> {
+    match new_desk(alloc, connection, manifest) {
+        Ok(desk) => Ok(desk),
+        Err((_, connection)) => Err(connection),
+    }
+}
+
+// A desk over a new store in the files, or the files.
+fn begin<D: Disk + Drop>(
+    alloc: Global,
+    files: Files<D>,
+    manifest: &Manifest,
+) -> Result<Desk<FileStore<D>>, Files<D>> {
+    match make(alloc, connect(alloc, files)?, manifest) {
+        Ok(desk) => Ok(desk),
+        Err(connection) => Err(close(connection)),
+    }
+}
+
+fn takes<S: Alter + Drop>(alloc: Global, desk: &mut Desk<S>, taken: &Taken) -> Result<bool, Fail> {
+    let number = number(taken.number)?;
+    let bytes = bytes_of(alloc, taken.body)?;
+    Ok(desk.arrive(alloc, &number, bytes.as_slice()).is_ok())
+}
+
+// Takes a row's arrivals up to the first that is refused: how many were answered.
+fn count_answered<S: Alter + Drop>(
+    alloc: Global,
+    desk: &mut Desk<S>,
+    row: &Row,
+) -> Result<usize, Fail> {
+    let mut answered = 0usize;
+    for taken in row.taken {
+        if !takes(alloc, desk, taken)? {
+            break;
+        }
+        answered = answered.saturating_add(1);
+    }
+    Ok(answered)
+}
+
+fn left_of<D: Disk + Drop>(desk: Desk<FileStore<D>>) -> Files<D> {
+    files_of(desk)
+}
+
+fn left_after<D: Disk + Drop>(
+    alloc: Global,
+    mut desk: Desk<FileStore<D>>,
+    row: &Row,
+) -> Result<(Option<usize>, Files<D>), Fail> {
+    let answered = count_answered(alloc, &mut desk, row)?;
+    Ok((Some(answered), left_of(desk)))
+}
+
+// Makes a store in the files, and takes a row's arrivals up to the first that is refused: how many
+// were answered, and the files. There is no count where there is no store.
+fn run_until_stopped<D: Disk + Drop>(
+    alloc: Global,
+    files: Files<D>,
+    manifest: &Manifest,
+    row: &Row,
+) -> Result<(Option<usize>, Files<D>), Fail> {
+    match begin(alloc, files, manifest) {
+        Ok(desk) => left_after(alloc, desk, row),
+        Err(files) => Ok((None, files)),
+    }
+}
+
+// The desk over a database, or the connection where it has no tables.
+fn find<S: Alter + Drop>(
+    alloc: Global,
+    connection: Connection<S>,
+) -> Result<Result<Desk<S>, Connection<S>>, Fail> {
+    match open_desk(alloc, connection) {
+        Ok(desk) => Ok(Ok(desk)),
+        Err((SFault::S3, connection)) => Ok(Err(connection)),
+        Err((fault, _)) => Err(Fail::new(fault)),
+    }
+}
+
+fn make_anew<S: Alter + Drop>(
+    alloc: Global,
+    connection: Connection<S>,
+    manifest: &Manifest,
+) -> Result<Desk<S>, Fail> {
+    match make(alloc, connection, manifest) {
+        Ok(desk) => Ok(desk),
+        Err(_) => Err(Fail::new("no store is made")),
+    }
+}
+
+// The desk over a database, or one that is made anew where it has no tables: and whether there was
+// a store.
+fn find_or_make<S: Alter + Drop>(
+    alloc: Global,
+    connection: Connection<S>,
+    manifest: &Manifest,
+) -> Result<(bool, Desk<S>), Fail> {
+    match find(alloc, connection)? {
+        Ok(desk) => Ok((true, desk)),
+        Err(connection) => Ok((false, make_anew(alloc, connection, manifest)?)),
+    }
+}
+
+// Sends a row's arrivals again.
+fn tell_sent_again<S: Alter + Drop>(
+    alloc: Global,
+    text: &mut String,
+    desk: &mut Desk<S>,
+    row: &Row,
+) -> Result<(), Fail> {
+    for taken in row.taken {
+        let (reply, _) = arrive(alloc, desk, taken.number, taken.body)?;
+        tell_reply(text, &reply)?;
+        text.push_str("\n")?;
+    }
+    Ok(())
+}
+
+// What a desk has once a row's arrivals came again: their replies, receipts, held rows, tables,
+// chain and before-images.
+fn sent_again<S: Alter + Drop>(
+    alloc: Global,
+    mut desk: Desk<S>,
+    row: &Row,
+) -> Result<String, Fail> {
+    let mut text = String::new(alloc);
+    tell_sent_again(alloc, &mut text, &mut desk, row)?;
+    let mut connection = tell_desk(alloc, &mut text, desk)?;
+    tell_images(&mut text, &mut connection)?;
+    Ok(text)
+}
+
+fn receipts<S: Alter + Drop>(alloc: Global, desk: &mut Desk<S>) -> Result<String, Fail> {
+    let mut text = String::new(alloc);
+    tell_receipts(alloc, &mut text, desk)?;
+    Ok(text)
+}
+
+/// What the next open finds after a stop.
+#[derive(Drop)]
+struct Found {
+    /// Whether there was a store.
+    is_store: bool,
+    /// The receipts.
+    kept: String,
+    /// What the desk has once the row's arrivals came again.
+    after: String,
+}
+
+fn found_over<S: Alter + Drop>(
+    alloc: Global,
+    connection: Connection<S>,
+    manifest: &Manifest,
+    row: &Row,
+) -> Result<Found, Fail> {
+    let (is_store, mut desk) = find_or_make(alloc, connection, manifest)?;
+    let kept = receipts(alloc, &mut desk)?;
+    let after = sent_again(alloc, desk, row)?;
+    Ok(Found {
+        is_store,
+        kept,
+        after,
+    })
+}
+
+fn found_in<D: Disk + Drop>(
+    alloc: Global,
+    files: Files<D>,
+    manifest: &Manifest,
+    row: &Row,
+) -> Result<Found, Fail> {
+    match connect(alloc, files) {
+        Ok(connection) => found_over(alloc, connection, manifest, row),
+        Err(_) => Err(Fail::new("the files do not open")),
+    }
+}
+
+// What a row says of a desk that its arrivals came to again. Each of them has a reply of its own.
+fn said_again(alloc: Global, row: &Row) -> Result<String, Fail> {
+    let mut text = String::new(alloc);
+    tell_first_replies(&mut text, row, row.taken.len())?;
+    tell_row(alloc, &mut text, row)?;
+    tell_lines(&mut text, &IMAGES)?;
+    Ok(text)
+}
+
+fn tell_first_replies(text: &mut String, row: &Row, count: usize) -> Result<(), Fail> {
+    for taken in row.taken.iter().take(count) {
+        tell_lines(text, &[taken.reply])?;
+    }
+    Ok(())
+}
+
+// Whether these are the receipts of a row's first arrivals, so many of them.
+fn are_first(alloc: Global, kept: &str, row: &Row, count: usize) -> Result<bool, Fail> {
+    let mut text = String::new(alloc);
+    tell_first_replies(&mut text, row, count)?;
+    Ok(text.as_str() == kept)
+}
+
+// Whether a store was found that has the receipts that were answered, and at most one more; where
+// there was none to begin with, no receipt.
+fn is_kept(alloc: Global, found: &Found, answered: Option<usize>, row: &Row) -> Result<bool, Fail> {
+    let kept = found.kept.as_str();
+    match answered {
+        None => Ok(kept.is_empty()),
+        Some(count) => Ok(
+            found.is_store
+                && (are_first(alloc, kept, row, count)?
+                    || are_first(alloc, kept, row, count.saturating_add(1))?),
+        ),
+    }
+}
+
+// The file as it was written, all of it synced.
+fn synced(alloc: Global, file: &Cut) -> Result<Cut, Fail> {
+    let mut copy = Memory::new(alloc);
+    copy.write_at(0, file.inner().bytes())?;
+    copy.sync()?;
+    Ok(Fuse::new(copy, u64::MAX))
+}
+
+fn written(alloc: Global, files: &Files<Cut>) -> Result<Files<Cut>, Fail> {
+    Ok(Files {
+        log: synced(alloc, &files.log)?,
+        db: synced(alloc, &files.db)?,
+    })
+}
+
+fn crashed(mut files: Files<Cut>) -> Files<Cut> {
+    files.log.crash();
+    files.db.crash();
+    files
+}
+
+// Empty files, of which one fails after so many calls.
+fn cut_files(alloc: Global, of_the_log: bool, calls: u64) -> Files<Cut> {
+    let (log_calls, db_calls) = if of_the_log {
+        (calls, u64::MAX)
+    } else {
+        (u64::MAX, calls)
+    };
+    Files {
+        log: Fuse::new(Memory::new(alloc), log_calls),
+        db: Fuse::new(Memory::new(alloc), db_calls),
+    }
+}
+
+// Stops after so many calls of one file, and opens what a crash leaves: all that was written, or
+// what was synced. Answers how many arrivals were answered, if a store was made, and what was found
+// of either.
+fn found_after(
+    alloc: Global,
+    files: Files<Cut>,
+    manifest: &Manifest,
+    row: &Row,
+) -> Result<(Option<usize>, [Found; 2]), Fail> {
+    let (answered, files) = run_until_stopped(alloc, files, manifest, row)?;
+    let written = written(alloc, &files)?;
+    let of_all = found_in(alloc, written, manifest, row)?;
+    let of_synced = found_in(alloc, crashed(files), manifest, row)?;
+    Ok((answered, [of_all, of_synced]))
+}
+
+// What is found after a stop. Answers whether nothing was stopped.
+fn assert_stop(
+    rt: &impl Abort,
+    alloc: Global,
+    files: Files<Cut>,
+    manifest: &Manifest,
+    row: &Row,
+    calls: u64,
+) -> Result<bool, Fail> {
+    let said = said_again(alloc, row)?;
+    let (answered, found) = found_after(alloc, files, manifest, row)?;
+    for found in &found {
+        let is_kept = is_kept(alloc, found, answered, row)?;
+        assert!(rt; is_kept, "{calls}: {}", found.kept);
+        assert_text(rt, "sent again", found.after.as_str(), said.as_str());
+    }
+    Ok(answered == Some(row.taken.len()))
+}
+
+// From no call up to a run that nothing stops.
+fn assert_stops(rt: &impl Abort, alloc: Global, of_the_log: bool, row: &Row) -> Result<(), Fail> {
+    let manifest = manifest_of(alloc, row.listed)?;
+    for calls in 0..MOST_CALLS {
+        let files = cut_files(alloc, of_the_log, calls);
+        if assert_stop(rt, alloc, files, &manifest, row, calls)? {
+            assert!(rt; calls > 0, "nothing was stopped");
+            return Ok(());
+        }
+    }
+    Err(Fail::new("no run ended"))
+}
+
+#[test]
+fn a_stop_at_each_call_of_the_log(rt: HostRuntime) -> Result<(), Fail> {
+    assert_stops(&rt, rt.alloc(), true, &RESENT)
+}
+
+#[test]
+fn a_stop_at_each_call_of_the_database_file(rt: HostRuntime) -> Result<(), Fail> {
+    assert_stops(&rt, rt.alloc(), false, &RESENT)
+}

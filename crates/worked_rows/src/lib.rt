@@ -1,0 +1,30 @@
+//! The worked rows of a desk: bodies, which of them arrive in which order, and what is to be seen
+//! of the desk then. For the crates that test a desk.
+//!
+//! | Module | What it does |
+//! |---|---|
+//! | `bodies` | the bodies, and the manifests that list them |
+//! | `rows` | the rows |
+//! | `desks` | desks over databases, and what arrives at them |
+//! | `seen` | what is seen of a desk, and what a row says of it |
+//! | `shown` | replies, objects and numbers as texts |
+//!
+//! What is seen of a desk is told in texts, and a test compares texts. The functions that call a
+//! desk have no clause: so the proof of one that calls them does not carry what each call says of
+//! the store. They are proved here once, for all crates that test with them.
+//!
+//! # Example
+//!
+//! ```text
+//! for row in rows() {
+//!     let mut desk = desk_after(alloc, Connection::open_in_memory(alloc)?, row)?;
+//!     // the desk took the row's arrivals: what it holds is what the row says
+//! }
+//! ```
+#![tactic(auto)]
+
+pub mod bodies;
+pub mod desks;
+pub mod rows;
+pub mod seen;
+pub mod shown;
