@@ -6,6 +6,7 @@ mod envelope;
 mod extension;
 mod lying;
 mod manifest;
+mod packing;
 mod record;
 mod shown;
 mod tables;
