@@ -15,3 +15,4 @@ pub mod Standings
 pub mod Sure
 pub mod Paging
 pub mod ReceiptRows
+pub mod Parking

@@ -17,8 +17,12 @@ use Rattle.std.specs.Prelude.{
   Some,
   IsSome,
   ◌↔◌,
+  bytes_eq,
 }
 use Rattle.std.specs.List.{Contains, Any}
+use Rattle.std.specs.Ordering.{nat_cmp}
+use Rattle.std.specs.declared.cmp.Ordering.TheVariants.{Less}
+use Rattle.std.specs.Cmp.Lexicographic.{slice_cmp}
 use Rattle.esc_envelope.specs.declared.kind.Kind.{Kind}
 use Rattle.esc_envelope.specs.declared.kind.Kind.TheVariants.{
   Registrar,
@@ -72,6 +76,19 @@ body_put bodies row body n = if n == row then Some body else bodies n
 abbrev pub with_body : Kept → ℕ → List ℕ → Kept
 with_body k row body = record k { bodies = body_put k.bodies row body }
 
+-- parked bodies with another one, or none, under this digest
+abbrev pub parked_put : (List ℕ → Option (List ℕ)) → List ℕ → Option (List ℕ) → List ℕ
+    → Option (List ℕ)
+parked_put parked digest body d = if bytes_eq digest d then body else parked d
+
+-- with a parked body, or with none, under a digest
+abbrev pub with_parked : Kept → List ℕ → Option (List ℕ) → Kept
+with_parked k digest body = record k { parked = parked_put k.parked digest body }
+
+-- with another moment, or with none
+abbrev pub with_moment : Kept → Option ℤ → Kept
+with_moment k moment = record k { moment = moment }
+
 -- with another chain
 abbrev pub with_steps : Kept → List ℕ → Kept
 with_steps k steps = record k { steps = steps }
@@ -109,6 +126,16 @@ IsRising (n ∷ ns) = All (λ m. n < m) ns × IsRising ns
 pub record AreHeld (bodies : ℕ → Option (List ℕ)) (rows : List ℕ) : Type 0 where
   pub rising : IsRising rows
   pub each : (row : ℕ) → Contains rows row ↔ IsSome (bodies row)
+
+-- texts in the order of their bytes, each once
+abbrev pub AreRisingTexts : List (List ℕ) → Type 0
+AreRisingTexts [] = Unit {0}
+AreRisingTexts (t ∷ ts) = All (λ u. slice_cmp nat_cmp t u ≡ Less) ts × AreRisingTexts ts
+
+-- these are the digests under which a body is parked, in the order of their bytes
+pub record AreParked (parked : List ℕ → Option (List ℕ)) (digests : List (List ℕ)) : Type 0 where
+  pub rising : AreRisingTexts digests
+  pub each : (digest : List ℕ) → Contains digests digest ↔ IsSome (parked digest)
 
 -- a receipt says that the deposit of this row is held
 abbrev pub SaysHeld : ℕ → ReceiptValue → Type 0

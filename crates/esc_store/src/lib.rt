@@ -3,8 +3,9 @@
 //! # What it is for
 //!
 //! A store keeps a manifest's rows, a receipt for each distinct arrival, the bodies of held rows,
-//! the chain, its tables and the before-images of its steps. It keeps them in the nine tables of
-//! `esc_rows`. The desk above decides what is kept; no SQL and no row of a table is seen there.
+//! bodies that no row lists, the moment up to which the chain goes, the chain, its tables and the
+//! before-images of its steps. It keeps them in the nine tables of `esc_rows`. The desk above
+//! decides what is kept; no SQL and no row of a table is seen there.
 //!
 //! # What goes in and out
 //!
@@ -17,6 +18,7 @@
 //! | `store`, `founding`, `opening` | a store, how it is made, and how one is found |
 //! | `reads` | what a store answers of itself |
 //! | `change`, `books`, `registry`, `records` | a change: its receipt, body and chain, and its objects |
+//! | `parked`, `moment` | parked bodies and the moment: what a store returns, and parts of a change |
 //! | `statements` | a write or a read of the tables: one call of `esc_rows` each |
 //! | `codec` | what the tables keep, as their rows and bytes, and back |
 //!
@@ -58,8 +60,10 @@ mod counts;
 mod fault;
 mod form;
 mod founding;
+mod moment;
 mod numbers;
 mod opening;
+mod parked;
 mod reads;
 mod records;
 mod registry;

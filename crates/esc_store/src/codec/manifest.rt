@@ -113,7 +113,7 @@ fn copied_manifest(alloc: Global, manifest: &Manifest) -> Result<Manifest, SFaul
 }
 
 // The digest that bytes are.
-fn digest_of(bytes: &[u8]) -> Result<[u8; 32], SFault>
+pub(crate) fn digest_of(bytes: &[u8]) -> Result<[u8; 32], SFault>
     ensures digest { IfOk result (λ digest. digest ≡ bytes.now) }
     ensures cause { IfErr result (λ fault. fault ≡ SFault.S1) }
 {

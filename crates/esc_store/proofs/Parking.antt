@@ -1,0 +1,130 @@
+-- What parts of a change do to parked bodies and to the moment.
+use Rattle.std.proofs.Common.{◌≡◌, ℕ, ℤ, Bool, true, List, [], ◌∷◌, Option, None, Some, refl, sym, ap, subst, ◌∙◌, arith}
+use Rattle.std.specs.Prelude.{Result, Ok, OnOk, IsSome, ◌↔◌, if◌then◌else◌, bytes_eq}
+use Rattle.std.specs.List.{Contains}
+use Rattle.std.specs.Ordering.{nat_cmp}
+use Rattle.std.specs.declared.cmp.Ordering.TheVariants.{Less}
+use Rattle.std.specs.Cmp.Lexicographic.{slice_cmp}
+use Rattle.std.proofs.lemmas.List.Elements.{All-from_recursion}
+use Rattle.sqlite_trees.specs.declared.store.Store.{Ghosts}
+use Rattle.sqlite_trees.specs.Tree.{IsAscending}
+use Rattle.sqlite.specs.Effect.{Database}
+use Rattle.sqlite.specs.Held.{state}
+use Rattle.sqlite.specs.State.{State, HasCleanDisk}
+use Rattle.sqlite.proofs.StateLemmas.{survives_then}
+use Rattle.esc_apply.specs.Registry.{State as Tables}
+use Rattle.esc_rows.specs.Content.{Content, content_in, HoldsContent, parked_at}
+use Rattle.esc_rows.specs.Changes.{Tells}
+use Rattle.esc_rows.specs.Parked.{PutsParked, RemovesParked, ListsParked, SetsMoment, without_moment, moment_row}
+use Rattle.esc_store.specs.declared.store.Store.{Store}
+use Rattle.esc_store.specs.declared.change.Change.{Change}
+use Rattle.esc_store.specs.Kept.{Kept, with_parked, with_moment, AreRisingTexts, AreParked}
+use Rattle.esc_store.specs.TypedRows.{IsBooks, IsRegistry}
+use Rattle.esc_store.specs.Standing.{IsStep, IsLook, IsHonest, RestIn, GoesOn, Follows}
+use Rattle.esc_store.proofs.Ends.{at_ok, at_said, was_clean}
+use Rattle.esc_store.proofs.Parts.{Turns, becomes}
+use Rattle.esc_store.proofs.Standings.{survives_same}
+use Rattle.esc_store.proofs.RowSteps.{Becoming}
+
+-- under this digest there is this body, or none, and all else is as it was
+pub record SetsParked (digest : List ℕ) (w : Option (List ℕ)) (c c' : Content) : Type 0 where
+  pub only : c' ≡ record c { parked = c'.parked }
+  pub map_is : (d : List ℕ) → parked_at d c'.parked ≡ (if bytes_eq digest d then w else parked_at d c.parked)
+
+pub park_turns : (digest body : List ℕ) (old new : Database) → PutsParked digest body old new → Turns (SetsParked digest (Some body)) old new
+park_turns digest body old new made tables =
+    let m = made (content_in old.trees) tables in
+    let b = becomes new (record (content_in old.trees) { parked = m.0 }) m.1 in
+    (b.0, subst (SetsParked digest (Some body) (content_in old.trees)) (sym b.1) (record { only = refl; map_is = m.3 }))
+
+pub unpark_turns : (digest : List ℕ) (old new : Database) → RemovesParked digest old new → Turns (SetsParked digest None) old new
+unpark_turns digest old new made tables =
+    let m = made (content_in old.trees) tables in
+    let b = becomes new (record (content_in old.trees) { parked = m.0 }) m.1 in
+    (b.0, subst (SetsParked digest None (content_in old.trees)) (sym b.1) (record { only = refl; map_is = m.2 }))
+
+pub books_parked : (k : Kept) (digest : List ℕ) (w : Option (List ℕ)) (c c' : Content) → SetsParked digest w c c' → IsBooks c k → IsBooks c' (with_parked k digest w)
+books_parked k digest w c c' set books = subst (λ x. IsBooks x (with_parked k digest w)) (sym set.only) (record {
+  listed = books.listed;
+  receipts = books.receipts;
+  held = books.held;
+  parked = λ d. set.map_is d ∙ ap (λ o. if bytes_eq digest d then w else o) (books.parked d);
+  moment = books.moment;
+  steps = books.steps;
+})
+
+pub registry_parked : (s : Tables) (digest : List ℕ) (w : Option (List ℕ)) (c c' : Content) → SetsParked digest w c c' → IsRegistry c s → IsRegistry c' s
+registry_parked s digest w c c' set it = subst (λ x. IsRegistry x s) (sym set.only) (record { objects = it.objects; images = it.images; recorded = it.recorded; noted = it.noted })
+
+-- what is put was not there before
+pub was_free : {S X E : Type 0} (g : Ghosts S) (old new : Store S) (digest body : List ℕ) (r : Result X E) (x : X) → r ≡ Ok x → IsStep (state g old.conn) (state g new.conn) (PutsParked digest body) r → HasCleanDisk (state g new.conn)
+    → (before k : Kept) → RestIn g old before k → k.parked digest ≡ None
+unfolding RestIn
+was_free g old new digest body r x is step clean before k made =
+    let m = at_ok r x _ is (step.made clean) in
+    let was = was_clean (state g old.conn) (state g new.conn) (λ trees. ⊥) step.survives clean in
+    let tables = (made.begun.on was m.0).2 in
+    sym ((made.books was m.0).parked digest) ∙ (m.1 (content_in (state g old.conn).now.trees) tables).2
+
+-- ---- the digests
+
+rising_texts : (ds : List (List ℕ)) → IsAscending (λ a b. slice_cmp nat_cmp a b ≡ Less) ds → AreRisingTexts ds
+rising_texts [] up = tt
+rising_texts (d ∷ ds) up = (All-from_recursion (λ e. slice_cmp nat_cmp d e ≡ Less) ds up.0, rising_texts ds up.1)
+
+pub are_parked : (k : Kept) (c : Content) (found : List (List ℕ)) → IsBooks c k → ListsParked c found → AreParked k.parked found
+are_parked k c found books lists = record {
+  rising = rising_texts found lists.rising;
+  each = λ d. subst (λ (o : Option (List ℕ)). Contains found d ↔ IsSome o) (books.parked d) (lists.each d);
+}
+
+-- ---- the moment
+
+pub books_no_moment : (k : Kept) (c c' : Content) → Becoming without_moment c c' → IsBooks c k → IsBooks c' (with_moment k None)
+books_no_moment k c c' turn books = subst (λ x. IsBooks x (with_moment k None)) (sym turn.is) (record { listed = books.listed; receipts = books.receipts; held = books.held; parked = books.parked; moment = refl; steps = books.steps })
+
+pub registry_no_moment : (s : Tables) (c c' : Content) → Becoming without_moment c c' → IsRegistry c s → IsRegistry c' s
+registry_no_moment s c c' turn it = subst (λ x. IsRegistry x s) (sym turn.is) (record { objects = it.objects; images = it.images; recorded = it.recorded; noted = it.noted })
+
+abbrev pub with_moment_row : ℤ → Content → Content
+with_moment_row w c = record c { moment = moment_row w ∷ [] }
+
+pub moment_turns : (v w : ℤ) → v ≡ w → (old new : Database) → SetsMoment v old new → Turns (Becoming (with_moment_row w)) old new
+moment_turns v w is old new made tables =
+    let b = becomes new (with_moment_row w (content_in old.trees)) (subst (λ x. HoldsContent new (with_moment_row x (content_in old.trees))) is (made (content_in old.trees) tables).0) in
+    (b.0, record { is = b.1 })
+
+pub books_moment : (k : Kept) (w : ℤ) (c c' : Content) → Becoming (with_moment_row w) c c' → IsBooks c k → IsBooks c' (with_moment k (Some w))
+books_moment k w c c' turn books = subst (λ x. IsBooks x (with_moment k (Some w))) (sym turn.is) (record { listed = books.listed; receipts = books.receipts; held = books.held; parked = books.parked; moment = refl; steps = books.steps })
+
+pub registry_moment : (s : Tables) (w : ℤ) (c c' : Content) → Becoming (with_moment_row w) c c' → IsRegistry c s → IsRegistry c' s
+registry_moment s w c c' turn it = subst (λ x. IsRegistry x s) (sym turn.is) (record { objects = it.objects; images = it.images; recorded = it.recorded; noted = it.noted })
+
+-- ---- one part after another
+
+pub goes_then : {S : Type 0} {g : Ghosts S} {a b c : Change S} → GoesOn g a b → GoesOn g b c → GoesOn g a c
+goes_then p q = record {
+  same_reference = q.same_reference ∙ p.same_reference;
+  manifest = q.manifest ∙ p.manifest;
+  writes = q.writes ∙ p.writes;
+  survives = survives_then _ _ _ _ _ _ (λ _ db none. none) (λ _ db none. none) p.survives q.survives;
+  began = λ k h. q.began k (p.began k h);
+}
+
+-- a change's disk was clean before a part of it
+pub honest_before : {S : Type 0} {g : Ghosts S} {a b : Change S} → GoesOn g a b → IsHonest g b.store.now → IsHonest g a.store.now
+honest_before p clean = omega (arith, p.survives.clean, clean)
+
+-- nothing was called
+pub follows_same : {S : Type 0} (g : Ghosts S) (c : Change S) → Follows g c c
+follows_same g c = record { goes_on = record { same_reference = refl; manifest = refl; writes = refl; survives = survives_same _ _; began = λ k h. h }; rest = λ before k h. h }
+
+-- what a read in a change found is what the change keeps
+pub found_parked : {S X E : Type 0} (g : Ghosts S) (old new : Store S) (digest : List ℕ) (view : X → Option (List ℕ)) (r : Result X E) (x : X) → r ≡ Ok x → old.conn.in_transaction ≡ true
+    → IsLook (state g old.conn) (state g new.conn) (Tells (λ c found. view found ≡ parked_at digest c.parked)) r → HasCleanDisk (state g new.conn) → (before k : Kept) → RestIn g old before k → view x ≡ k.parked digest
+unfolding RestIn
+found_parked g old new digest view r x is on look clean before k made =
+    let was = was_clean (state g old.conn) (state g new.conn) (λ trees. ⊥) look.survives clean in
+    let tables = (made.begun.on was on).2 in
+    let s = at_said r x _ is (look.said clean) in
+    s.0 (content_in (state g old.conn).now.trees) tables ∙ (made.books was on).parked digest

@@ -1,0 +1,93 @@
+//! The moment up to which the chain goes: what a store returns of it, and how a change sets it.
+
+ghost use Rattle.std.specs.Prelude.{◌≡◌, Some, None, IfOk, IfErr, OnOk};
+ghost use Rattle.esc_apply.specs.Registry.{State};
+ghost use Rattle.esc_rows.specs.Content.{moment_of};
+ghost use Rattle.esc_store.specs.Faults.{IsS1OrS2};
+ghost use Rattle.esc_store.specs.Kept.{Kept, with_moment};
+ghost use Rattle.esc_store.specs.Standing.{
+  Stands,
+  Rest,
+  HoldsNow,
+  GoesOn,
+  IsAsBefore,
+  IsHonest,
+  IsStoreRead,
+};
+
+use crate::change::Change;
+use crate::fault::SFault;
+use crate::store::Store;
+use esc_rows::moment::{clear_moment, find_moment, insert_moment};
+use sqlite::Alter;
+
+impl<S: Alter> Store<S> {
+    // The moment that is set.
+    fn moment_here(&mut self) -> Result<Option<i64>, SFault>
+        ensures read { IsStoreRead S.Store self.old self.new
+            (λ c found. found ≡ moment_of c.moment) result }
+        ensures cause { IfErr result IsS1OrS2 }
+    {
+        let found = find_moment(&mut self.conn);
+        self.settle(found)
+    }
+
+    /// The moment that is set, if one is. `S1`, `S2`.
+    #[tactic(auto, using(crate::proofs::Sure::as_before))]
+    pub fn moment(&mut self) -> Result<Option<i64>, SFault>
+        ensures same { IsAsBefore S.Store self.old self.new }
+        ensures moment { IsHonest S.Store self.new → (k : Kept) → Stands S.Store self.old k
+            → IfOk result (λ moment. moment ≡ k.moment) }
+        ensures cause { IfErr result IsS1OrS2 }
+    {
+        self.moment_here()
+    }
+}
+
+impl<'a, S: Alter> Change<'a, S> {
+    /// Sets this moment, or none. `S1`, `S2`.
+    #[tactic(auto, using(crate::proofs::Parking::goes_then))]
+    pub fn set_moment(&mut self, moment: Option<i64>) -> Result<(), SFault>
+        ensures goes_on { GoesOn S.Store self.old self.new }
+        ensures count { self.new.count ≡ self.old.count }
+        ensures set { OnOk result ((before k : Kept) → Rest S.Store self.old before k
+            → Rest S.Store self.new before (with_moment k moment)) }
+        ensures holds { OnOk result ((s : State) → HoldsNow S.Store self.old s
+            → HoldsNow S.Store self.new s) }
+        ensures cause { IfErr result IsS1OrS2 }
+    {
+        self.clear_moment()?;
+        match moment {
+            Some(moment) => self.put_moment(moment),
+            None => Ok(()),
+        }
+    }
+
+    // Sets no moment.
+    fn clear_moment(&mut self) -> Result<(), SFault>
+        ensures goes_on { GoesOn S.Store self.old self.new }
+        ensures count { self.new.count ≡ self.old.count }
+        ensures cleared { OnOk result ((before k : Kept) → Rest S.Store self.old before k
+            → Rest S.Store self.new before (with_moment k None)) }
+        ensures holds { OnOk result ((s : State) → HoldsNow S.Store self.old s
+            → HoldsNow S.Store self.new s) }
+        ensures cause { IfErr result IsS1OrS2 }
+    {
+        let done = clear_moment(&mut self.store.conn);
+        self.store.settle(done)
+    }
+
+    // Sets a moment, where none is set.
+    fn put_moment(&mut self, moment: i64) -> Result<(), SFault>
+        ensures goes_on { GoesOn S.Store self.old self.new }
+        ensures count { self.new.count ≡ self.old.count }
+        ensures put { OnOk result ((before k : Kept) → Rest S.Store self.old before k
+            → Rest S.Store self.new before (with_moment k (Some moment))) }
+        ensures holds { OnOk result ((s : State) → HoldsNow S.Store self.old s
+            → HoldsNow S.Store self.new s) }
+        ensures cause { IfErr result IsS1OrS2 }
+    {
+        let done = insert_moment(&mut self.store.conn, moment);
+        self.store.settle(done)
+    }
+}

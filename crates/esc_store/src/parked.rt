@@ -1,0 +1,167 @@
+//! Parked bodies, which no row lists: what a store returns of them, and what a change does to them.
+
+ghost use Rattle.std.specs.Prelude.{
+  ◌≡◌,
+  ℕ,
+  List,
+  Some,
+  None,
+  map,
+  option_map,
+  IfOk,
+  IfErr,
+  OnOk,
+};
+ghost use Rattle.esc_apply.specs.Registry.{State};
+ghost use Rattle.esc_rows.specs.Content.{parked_at};
+ghost use Rattle.esc_rows.specs.Parked.{ListsParked};
+ghost use Rattle.esc_store.specs.Faults.{IsS1OrS2};
+ghost use Rattle.esc_store.specs.Kept.{Kept, AreParked, with_body, with_parked};
+ghost use Rattle.esc_store.specs.Standing.{
+  Stands,
+  Rest,
+  HoldsNow,
+  GoesOn,
+  Follows,
+  IsAsBefore,
+  IsHonest,
+  IsStoreRead,
+};
+
+use crate::change::Change;
+use crate::codec::manifest::digest_of;
+use crate::fault::SFault;
+use crate::store::Store;
+use esc_rows::parked::{delete_parked, find_parked, insert_parked, parked_digests};
+use sqlite::Alter;
+use std::alloc::Global;
+
+impl<S: Alter> Store<S> {
+    // The body that is parked under a digest.
+    fn parked_here(&mut self, digest: &[u8]) -> Result<Option<Vec<u8>>, SFault>
+        ensures read { IsStoreRead S.Store self.old self.new
+            (λ c found. option_map (λ b. b.items) found ≡ parked_at digest.now c.parked) result }
+        ensures cause { IfErr result IsS1OrS2 }
+    {
+        let found = find_parked(&mut self.conn, digest);
+        self.settle(found)
+    }
+
+    // The digests of the parked bodies.
+    fn digests_here(&mut self, alloc: Global) -> Result<Vec<Vec<u8>>, SFault>
+        ensures read { IsStoreRead S.Store self.old self.new
+            (λ c found. ListsParked c (map (λ d. d.items) found.items)) result }
+        ensures cause { IfErr result IsS1OrS2 }
+    {
+        let found = parked_digests(alloc, &mut self.conn);
+        self.settle(found)
+    }
+
+    /// The body that is parked under a digest, if one is. `S1`, `S2`.
+    #[tactic(auto, using(crate::proofs::Sure::as_before))]
+    pub fn parked_body(&mut self, digest: &[u8; 32]) -> Result<Option<Vec<u8>>, SFault>
+        ensures same { IsAsBefore S.Store self.old self.new }
+        ensures found { IsHonest S.Store self.new → (k : Kept) → Stands S.Store self.old k
+            → IfOk result (λ body. option_map (λ b. b.items) body ≡ k.parked digest.now) }
+        ensures cause { IfErr result IsS1OrS2 }
+    {
+        self.parked_here(digest)
+    }
+
+    /// The digests of the parked bodies, in the order of their bytes. No body is read. `S1`, `S2`.
+    #[tactic(auto, using(crate::proofs::Sure::as_before))]
+    pub fn parked(&mut self, alloc: Global) -> Result<Vec<[u8; 32]>, SFault>
+        ensures same { IsAsBefore S.Store self.old self.new }
+        ensures digests { IsHonest S.Store self.new → (k : Kept) → Stands S.Store self.old k
+            → IfOk result (λ digests. AreParked k.parked digests.items) }
+        ensures cause { IfErr result IsS1OrS2 }
+    {
+        let stored = self.digests_here(alloc)?;
+        digests_of(alloc, stored.as_slice())
+    }
+}
+
+impl<'a, S: Alter> Change<'a, S> {
+    /// Parks a body under its digest, under which none is parked. `S1`, `S2`.
+    pub fn park(&mut self, digest: &[u8; 32], body: &[u8]) -> Result<(), SFault>
+        ensures goes_on { GoesOn S.Store self.old self.new }
+        ensures count { self.new.count ≡ self.old.count }
+        ensures parked { OnOk result ((before k : Kept) → Rest S.Store self.old before k
+            → Rest S.Store self.new before (with_parked k digest.now (Some body.now))) }
+        ensures free { OnOk result (IsHonest S.Store self.new.store.now → (before k : Kept)
+            → Rest S.Store self.old before k → k.parked digest.now ≡ None) }
+        ensures holds { OnOk result ((s : State) → HoldsNow S.Store self.old s
+            → HoldsNow S.Store self.new s) }
+        ensures cause { IfErr result IsS1OrS2 }
+    {
+        let done = insert_parked(&mut self.store.conn, digest, body);
+        self.store.settle(done)
+    }
+
+    /// Parks no body under this digest any more. `S1`, `S2`.
+    pub fn unpark(&mut self, digest: &[u8; 32]) -> Result<(), SFault>
+        ensures goes_on { GoesOn S.Store self.old self.new }
+        ensures count { self.new.count ≡ self.old.count }
+        ensures dropped { OnOk result ((before k : Kept) → Rest S.Store self.old before k
+            → Rest S.Store self.new before (with_parked k digest.now None)) }
+        ensures holds { OnOk result ((s : State) → HoldsNow S.Store self.old s
+            → HoldsNow S.Store self.new s) }
+        ensures cause { IfErr result IsS1OrS2 }
+    {
+        let done = delete_parked(&mut self.store.conn, digest);
+        self.store.settle(done)
+    }
+
+    // The body that is parked under a digest, if one is.
+    fn find_parked(&mut self, digest: &[u8; 32]) -> Result<Option<Vec<u8>>, SFault>
+        ensures count { self.new.count ≡ self.old.count }
+        ensures follows { Follows S.Store self.old self.new }
+        ensures found { IfOk result (λ found. IsHonest S.Store self.new.store.now
+            → (before k : Kept) → Rest S.Store self.old before k
+            → option_map (λ b. b.items) found ≡ k.parked digest.now) }
+        ensures holds { OnOk result ((s : State) → HoldsNow S.Store self.old s
+            → HoldsNow S.Store self.new s) }
+        ensures cause { IfErr result IsS1OrS2 }
+    {
+        match self.store.goes_on() {
+            Ok(()) => {}
+            Err(fault) => return Err(fault),
+        }
+        let found = find_parked(&mut self.store.conn, digest);
+        self.store.settle(found)
+    }
+
+    /// Holds the body that is parked under a digest as that of a listed row, of which no body is
+    /// held, and parks it no more. `S1`, also where none is parked under it; `S2`.
+    #[tactic(auto, using(crate::proofs::Parking::goes_then))]
+    pub fn adopt(&mut self, row: usize, digest: &[u8; 32]) -> Result<(), SFault>
+        ensures goes_on { GoesOn S.Store self.old self.new }
+        ensures count { self.new.count ≡ self.old.count }
+        ensures adopted { OnOk result (IsHonest S.Store self.new.store.now
+            → (before k : Kept) → k.bodies row ≡ None → Rest S.Store self.old before k
+            → (body : List ℕ) × (k.parked digest.now ≡ Some body)
+            × Rest S.Store self.new before (with_parked (with_body k row body) digest.now None)) }
+        ensures holds { OnOk result ((s : State) → HoldsNow S.Store self.old s
+            → HoldsNow S.Store self.new s) }
+        ensures cause { IfErr result IsS1OrS2 }
+    {
+        let found = self.find_parked(digest)?;
+        let Some(body) = found else {
+            return Err(SFault::S1);
+        };
+        self.hold(row, body.as_slice())?;
+        self.unpark(digest)
+    }
+}
+
+// Bytes as digests.
+fn digests_of(alloc: Global, stored: &[Vec<u8>]) -> Result<Vec<[u8; 32]>, SFault>
+    ensures digests { IfOk result (λ digests. digests.items ≡ map (λ d. d.items) stored.now) }
+    ensures cause { IfErr result IsS1OrS2 }
+{
+    let mut digests = Vec::new(alloc);
+    for bytes in stored {
+        digests.push(digest_of(bytes.as_slice())?)?;
+    }
+    Ok(digests)
+}
