@@ -301,7 +301,7 @@ fn change_file(rt: &HostRuntime, path: &str, change: &str) -> Result<(), Error> 
 }
 
 /// The store that is turned into one of version 1: its tables are the first seven.
-const FIRST: Row<'static> = (
+const FIRST_VERSION: Row<'static> = (
     "init --store stores/first.db --manifest stores/listed.csv",
     0,
     "listed 2\n",
@@ -324,7 +324,7 @@ fn stores_are_refused(rt: HostRuntime) -> Result<(), Fail> {
         "stores/others.db",
         "CREATE TABLE note (id INTEGER PRIMARY KEY)",
     )?;
-    check(&rt, &rt, FIRST)?;
+    check(&rt, &rt, FIRST_VERSION)?;
     change_file(
         &rt,
         "stores/first.db",
