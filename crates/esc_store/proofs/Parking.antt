@@ -1,6 +1,6 @@
 -- What parts of a change do to parked bodies and to the moment.
-use Rattle.std.proofs.Common.{◌≡◌, ℕ, ℤ, Bool, true, List, [], ◌∷◌, Option, None, Some, refl, sym, ap, subst, ◌∙◌, arith}
-use Rattle.std.specs.Prelude.{Result, Ok, OnOk, IsSome, ◌↔◌, if◌then◌else◌, bytes_eq}
+use Rattle.std.proofs.Common.{◌≡◌, ℕ, ℤ, true, List, [], ◌∷◌, Option, None, Some, refl, sym, ap, subst, ◌∙◌}
+use Rattle.std.specs.Prelude.{Result, Ok, IsSome, ◌↔◌, if◌then◌else◌, bytes_eq}
 use Rattle.std.specs.List.{Contains}
 use Rattle.std.specs.Ordering.{nat_cmp}
 use Rattle.std.specs.declared.cmp.Ordering.TheVariants.{Less}
@@ -10,7 +10,7 @@ use Rattle.sqlite_trees.specs.declared.store.Store.{Ghosts}
 use Rattle.sqlite_trees.specs.Tree.{IsAscending}
 use Rattle.sqlite.specs.Effect.{Database}
 use Rattle.sqlite.specs.Held.{state}
-use Rattle.sqlite.specs.State.{State, HasCleanDisk}
+use Rattle.sqlite.specs.State.{HasCleanDisk}
 use Rattle.sqlite.proofs.StateLemmas.{survives_then}
 use Rattle.esc_apply.specs.Registry.{State as Tables}
 use Rattle.esc_rows.specs.Content.{Content, content_in, HoldsContent, parked_at}
@@ -20,7 +20,7 @@ use Rattle.esc_store.specs.declared.store.Store.{Store}
 use Rattle.esc_store.specs.declared.change.Change.{Change}
 use Rattle.esc_store.specs.Kept.{Kept, with_parked, with_moment, AreRisingTexts, AreParked}
 use Rattle.esc_store.specs.TypedRows.{IsBooks, IsRegistry}
-use Rattle.esc_store.specs.Standing.{IsStep, IsLook, IsHonest, RestIn, GoesOn, Follows}
+use Rattle.esc_store.specs.Standing.{IsStep, IsLook, RestIn, GoesOn, Follows}
 use Rattle.esc_store.proofs.Ends.{at_ok, at_said, was_clean}
 use Rattle.esc_store.proofs.Parts.{Turns, becomes}
 use Rattle.esc_store.proofs.Standings.{survives_same}
@@ -110,10 +110,6 @@ goes_then p q = record {
   survives = survives_then _ _ _ _ _ _ (λ _ db none. none) (λ _ db none. none) p.survives q.survives;
   began = λ k h. q.began k (p.began k h);
 }
-
--- a change's disk was clean before a part of it
-pub honest_before : {S : Type 0} {g : Ghosts S} {a b : Change S} → GoesOn g a b → IsHonest g b.store.now → IsHonest g a.store.now
-honest_before p clean = omega (arith, p.survives.clean, clean)
 
 -- nothing was called
 pub follows_same : {S : Type 0} (g : Ghosts S) (c : Change S) → Follows g c c
