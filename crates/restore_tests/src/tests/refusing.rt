@@ -179,12 +179,7 @@ const STORES: Scene = Scene {
             "",
             "S3\n",
         ),
-        (
-            "take --store stores/first.db stores/nowhere",
-            3,
-            "",
-            "S3\n",
-        ),
+        ("take --store stores/first.db stores/nowhere", 3, "", "S3\n"),
         ("report --store stores/first.db receipts", 3, "", "S3\n"),
         ("report --store stores/seventh.db receipts", 3, "", "S3\n"),
         ("export --store stores/seventh.db host", 3, "", "S3\n"),
