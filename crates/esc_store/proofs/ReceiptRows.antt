@@ -12,7 +12,7 @@ use Rattle.esc_rows.specs.Rows.{ReceiptRow}
 use Rattle.esc_rows.specs.Content.{Content}
 use Rattle.esc_rows.specs.Changes.{is_of_verdict, ListsRows}
 use Rattle.esc_store.specs.declared.reply.Verdict.{Verdict}
-use Rattle.esc_store.specs.declared.reply.Verdict.TheVariants.{A1, A2, A3, A4}
+use Rattle.esc_store.specs.declared.reply.Verdict.TheVariants.{A1, A2, A3, A4, A5}
 use Rattle.esc_store.specs.Decoded.{AreOnce}
 use Rattle.esc_store.specs.Kept.{Kept, IsRising, SaysHeld, AreHeldBy}
 use Rattle.esc_store.specs.ReplyValue.{ReceiptValue}
@@ -76,6 +76,7 @@ is_a1 A1 is = refl
 is_a1 A2 is = absurd (true≢false (sym is))
 is_a1 (A3 n) is = absurd (true≢false (sym is))
 is_a1 A4 is = absurd (true≢false (sym is))
+is_a1 A5 is = absurd (true≢false (sym is))
 
 said : (row n : ℕ) (rs : List ReceiptValue) → Contains (rows_from n rs) (Some row) → Any (SaysHeld row) rs
 said row n [] there = absurd (omega (arith, there.1))

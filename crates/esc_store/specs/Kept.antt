@@ -4,6 +4,7 @@ use Rattle.std.specs.Prelude.{
   ℕ,
   ℤ,
   ◌<◌,
+  ◌≤◌,
   ◌==◌,
   if◌then◌else◌,
   List,
@@ -11,6 +12,7 @@ use Rattle.std.specs.Prelude.{
   ◌∷◌,
   ◌++◌,
   map,
+  length,
   All,
   Option,
   None,
@@ -136,6 +138,12 @@ AreRisingTexts (t ∷ ts) = All (λ u. slice_cmp nat_cmp t u ≡ Less) ts × Are
 pub record AreParked (parked : List ℕ → Option (List ℕ)) (digests : List (List ℕ)) : Type 0 where
   pub rising : AreRisingTexts digests
   pub each : (digest : List ℕ) → Contains digests digest ↔ IsSome (parked digest)
+
+-- 1,024 bodies or more are parked
+pub record IsFull (parked : List ℕ → Option (List ℕ)) : Type 0 where
+  pub digests : List (List ℕ)
+  pub are : AreParked parked digests
+  pub many : 1_024 ≤ length digests
 
 -- a receipt says that the deposit of this row is held
 abbrev pub SaysHeld : ℕ → ReceiptValue → Type 0

@@ -21,7 +21,7 @@ use Rattle.esc_rows.specs.Rows.{ListedRow, ReceiptRow, StepRow}
 use Rattle.esc_rows.specs.Content.{Content, object_at, image_at, parked_at, moment_of}
 use Rattle.esc_rows.specs.Changes.{body_of}
 use Rattle.esc_store.specs.declared.reply.Verdict.{Verdict}
-use Rattle.esc_store.specs.declared.reply.Verdict.TheVariants.{A1, A2, A3, A4}
+use Rattle.esc_store.specs.declared.reply.Verdict.TheVariants.{A1, A2, A3, A4, A5}
 use Rattle.esc_store.specs.ReplyValue.{ReceiptValue}
 use Rattle.esc_store.specs.Kept.{Kept}
 
@@ -41,12 +41,13 @@ abbrev pub listed_from : ℕ → List MRow → List ListedRow
 listed_from n [] = []
 listed_from n (r ∷ rs) = listed_row n r ∷ listed_from (suc n) rs
 
--- A1 to A4 as 1 to 4
+-- A1 to A5 as 1 to 5
 abbrev pub verdict_number : Verdict → ℕ
 verdict_number A1 = 1
 verdict_number A2 = 2
 verdict_number (A3 n) = 3
 verdict_number A4 = 4
+verdict_number A5 = 5
 
 -- the number of the refusal of a body that doesn't read
 abbrev pub fault_number : Verdict → Option ℕ
@@ -54,6 +55,7 @@ fault_number A1 = None
 fault_number A2 = None
 fault_number (A3 n) = Some n
 fault_number A4 = None
+fault_number A5 = None
 
 abbrev pub bit : Bool → ℕ
 bit b = if b then 1 else 0

@@ -20,6 +20,8 @@ pub enum SFault {
     S3,
     /// The store has 1,000,000,000 receipts.
     S4,
+    /// 1,024 bodies are parked.
+    S5,
 }
 
 impl fmt::Display for SFault {
@@ -29,6 +31,7 @@ impl fmt::Display for SFault {
             SFault::S2 => "S2",
             SFault::S3 => "S3",
             SFault::S4 => "S4",
+            SFault::S5 => "S5",
         })
     }
 }

@@ -11,7 +11,8 @@
 //!
 //! In: a connection over a disk of any kind (`S: Alter`), a manifest, and the parts of a change.
 //! Out: replies, bodies, steps and objects as the desk's values, or an `SFault`: `S1` the database
-//! failed, `S2` out of memory, `S3` no store of this version, `S4` no room for a receipt.
+//! failed, `S2` out of memory, `S3` no store of this version, `S4` no room for a receipt. `S5`, no
+//! room for a parked body, is for the desk above, which counts them.
 //!
 //! | Module | What it has |
 //! |---|---|
@@ -50,7 +51,8 @@
 //!   for what it stood for.
 //! - What a crash leaves is in `LeavesOnly`, `LeavesOr` and `LeavesNoMore`.
 //! - Each clause `cause` says which faults a call returns: `S3` comes of `create` and `open` alone,
-//!   and `S4` of `record_receipt` alone, where the store has 1,000,000,000 receipts.
+//!   and `S4` of `record_receipt` alone, where the store has 1,000,000,000 receipts. No call of the
+//!   store returns `S5`, and `park` parks any number of bodies.
 #![tactic(auto, using(sqlite::proofs::StateLemmas::survives_weaker, sqlite::proofs::StateLemmas::survives_then))]
 
 mod books;
@@ -76,5 +78,6 @@ pub use change::Change;
 pub use fault::SFault;
 pub use form::number;
 pub use numbers::{N1, Number};
+pub use parked::MOST_PARKED;
 pub use reply::{Receipt, Reply, Verdict};
 pub use store::Store;

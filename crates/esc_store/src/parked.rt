@@ -36,6 +36,9 @@ use esc_rows::parked::{delete_parked, find_parked, insert_parked, parked_digests
 use sqlite::Alter;
 use std::alloc::Global;
 
+/// The most parked bodies.
+pub const MOST_PARKED: usize = 1024;
+
 impl<S: Alter> Store<S> {
     // The body that is parked under a digest.
     fn parked_here(&mut self, digest: &[u8]) -> Result<Option<Vec<u8>>, SFault>

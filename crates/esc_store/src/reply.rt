@@ -11,12 +11,14 @@ use std::marker::Model;
 pub enum Verdict {
     /// The deposit is held.
     A1,
-    /// The body isn't listed.
+    /// The body isn't listed, and isn't kept.
     A2,
     /// No deposit reads from the body: the refusal of this number, from U1 to U11.
     A3(u8),
     /// The deposit says another id, place, resend or previous id than the manifest.
     A4,
+    /// The body isn't listed, and is parked until a manifest lists it.
+    A5,
 }
 
 /// The reply to an arrival.

@@ -69,6 +69,7 @@ pub(crate) fn verdict_number(verdict: Verdict) -> u32
         Verdict::A2 => 2,
         Verdict::A3(_) => 3,
         Verdict::A4 => 4,
+        Verdict::A5 => 5,
     }
 }
 
@@ -122,6 +123,7 @@ fn verdict_of(number: u32, fault: Option<u32>) -> Result<Verdict, SFault>
         (1, None) => Ok(Verdict::A1),
         (2, None) => Ok(Verdict::A2),
         (4, None) => Ok(Verdict::A4),
+        (5, None) => Ok(Verdict::A5),
         (3, Some(fault)) => match u8::try_from(fault) {
             Ok(fault) => Ok(Verdict::A3(fault)),
             Err(_) => Err(SFault::S1),
