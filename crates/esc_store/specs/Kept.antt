@@ -20,6 +20,10 @@ use Rattle.std.specs.Prelude.{
   IsSome,
   ◌↔◌,
   bytes_eq,
+  filter,
+  Bool,
+  true,
+  false,
 }
 use Rattle.std.specs.List.{Contains, Any}
 use Rattle.std.specs.Ordering.{nat_cmp}
@@ -39,7 +43,8 @@ use Rattle.esc_manifest.specs.declared.row.MRow.{MRow}
 use Rattle.esc_manifest.specs.Rows.{place_at, resend_at}
 use Rattle.esc_apply.specs.declared.front.Step.{Step}
 use Rattle.esc_apply.specs.Registry.{State, Content, empty, HasSize}
-use Rattle.esc_store.specs.declared.reply.Verdict.TheVariants.{A1}
+use Rattle.esc_store.specs.declared.reply.Verdict.{Verdict}
+use Rattle.esc_store.specs.declared.reply.Verdict.TheVariants.{A1, A2, A3, A4, A5}
 use Rattle.esc_store.specs.ReplyValue.{ReceiptValue, ReplyValue, replies_from, reply_alike}
 
 -- the manifest's rows, a receipt for each distinct arrival in order, the bodies of held rows, the
@@ -153,6 +158,19 @@ SaysHeld row r = (r.verdict ≡ A1) × (r.row ≡ Some row)
 pub record AreHeldBy (receipts : List ReceiptValue) (rows : List ℕ) : Type 0 where
   pub rising : IsRising rows
   pub each : (row : ℕ) → Contains rows row ↔ Any (SaysHeld row) receipts
+
+-- the verdict of a body that no row listed, and that was parked
+abbrev pub is_unlisted : Verdict → Bool
+is_unlisted A1 = false
+is_unlisted A2 = false
+is_unlisted (A3 n) = false
+is_unlisted A4 = false
+is_unlisted A5 = true
+
+-- the digests of the receipts of this verdict, in their order, each as often as they have it
+abbrev pub unlisted_in : List ReceiptValue → List (List ℕ)
+unlisted_in rs = map (λ (r : ReceiptValue). r.digest)
+    (filter (λ (r : ReceiptValue). is_unlisted r.verdict) rs)
 
 -- the objects of one kind
 abbrev pub of_kind : Kind → Content → Content

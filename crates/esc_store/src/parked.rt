@@ -158,7 +158,7 @@ impl<'a, S: Alter> Change<'a, S> {
 }
 
 // Bytes as digests.
-fn digests_of(alloc: Global, stored: &[Vec<u8>]) -> Result<Vec<[u8; 32]>, SFault>
+pub(crate) fn digests_of(alloc: Global, stored: &[Vec<u8>]) -> Result<Vec<[u8; 32]>, SFault>
     ensures digests { IfOk result (λ digests. digests.items ≡ map (λ d. d.items) stored.now) }
     ensures cause { IfErr result IsS1OrS2 }
 {

@@ -9,6 +9,7 @@ ghost use Rattle.esc_store.specs.Kept.{
   kept_reply,
   kept_chain,
   AreHeldBy,
+  unlisted_in,
   AreCounts,
 };
 ghost use Rattle.esc_store.specs.Pages.{IsPage};
@@ -21,6 +22,7 @@ use crate::codec::step::steps_of;
 use crate::counts::counts_of;
 use crate::fault::SFault;
 use crate::numbers::Number;
+use crate::parked::digests_of;
 use crate::reply::{Reply, Verdict};
 use crate::store::Store;
 use esc_apply::Step;
@@ -96,6 +98,19 @@ impl<S: Alter> Store<S> {
     {
         let rows = self.rows_here(alloc, verdict_number(Verdict::A1))?;
         distinct_indices_of(alloc, rows.as_slice())
+    }
+
+    /// The digests of the bodies of which a receipt says that no row listed them and that they are
+    /// parked (`A5`), in the order of receipts, with repeats. No body is read. `S1`, `S2`.
+    #[tactic(auto, using(crate::proofs::Sure::as_before))]
+    pub fn unlisted_digests(&mut self, alloc: Global) -> Result<Vec<[u8; 32]>, SFault>
+        ensures same { IsAsBefore S.Store self.old self.new }
+        ensures digests { IsHonest S.Store self.new → (k : Kept) → Stands S.Store self.old k
+            → IfOk result (λ digests. digests.items ≡ unlisted_in k.receipts) }
+        ensures cause { IfErr result IsS1OrS2 }
+    {
+        let stored = self.verdict_digests_here(alloc, verdict_number(Verdict::A5))?;
+        digests_of(alloc, stored.as_slice())
     }
 
     /// The steps of the chain, in order. `S1`, `S2`.

@@ -12,6 +12,7 @@ ghost use Rattle.esc_rows.specs.Changes.{
   ListsFrom,
   ListsKinds,
   ListsRows,
+  verdict_digests,
   last_number,
   receipt_of,
   body_of,
@@ -26,7 +27,8 @@ use esc_rows::held::find_body;
 use esc_rows::object::{StoredObject, all_objects, object_kinds};
 use esc_rows::page::objects_from;
 use esc_rows::receipt::{
-    Receipt, all_receipts, find_receipt, insert_receipt, last_receipt, rows_of_verdict,
+    Receipt, all_receipts, digests_of_verdict, find_receipt, insert_receipt, last_receipt,
+    rows_of_verdict,
 };
 use esc_rows::step::{ChainStep, all_steps, clear_steps_from, insert_step};
 use sqlite::Alter;
@@ -101,6 +103,20 @@ impl<S: Alter> Store<S> {
         ensures cause { IfErr result IsS1OrS2 }
     {
         let found = rows_of_verdict(alloc, &mut self.conn, verdict);
+        self.settle(found)
+    }
+
+    // The digests of the receipts of a verdict.
+    pub(crate) fn verdict_digests_here(
+        &mut self,
+        alloc: Global,
+        verdict: u32,
+    ) -> Result<Vec<Vec<u8>>, SFault>
+        ensures read { IsStoreRead S.Store self.old self.new
+            (λ c found. map (λ d. d.items) found.items ≡ verdict_digests verdict c.receipts) result }
+        ensures cause { IfErr result IsS1OrS2 }
+    {
+        let found = digests_of_verdict(alloc, &mut self.conn, verdict);
         self.settle(found)
     }
 

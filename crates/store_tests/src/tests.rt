@@ -2,6 +2,7 @@
 
 mod database;
 mod parking;
+mod receipts;
 mod store;
 
 use std::process::Abort;
