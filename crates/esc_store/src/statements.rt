@@ -113,7 +113,8 @@ impl<S: Alter> Store<S> {
         verdict: u32,
     ) -> Result<Vec<Vec<u8>>, SFault>
         ensures read { IsStoreRead S.Store self.old self.new
-            (λ c found. map (λ d. d.items) found.items ≡ verdict_digests verdict c.receipts) result }
+            (λ c found. map (λ d. d.items) found.items ≡ verdict_digests verdict c.receipts)
+            result }
         ensures cause { IfErr result IsS1OrS2 }
     {
         let found = digests_of_verdict(alloc, &mut self.conn, verdict);
