@@ -15,7 +15,7 @@ use Rattle.esc_tables.specs.Reading.{reading}
 use Rattle.esc_manifest.specs.declared.row.MRow.{MRow}
 use Rattle.esc_manifest.specs.Extension.{extended}
 use Rattle.esc_store.specs.declared.fault.SFault.{SFault}
-use Rattle.esc_store.specs.declared.fault.SFault.TheVariants.{S1, S2, S3, S4}
+use Rattle.esc_store.specs.declared.fault.SFault.TheVariants.{S1, S2, S3, S4, S5}
 use Rattle.esc_store.specs.declared.change.Change.{Change}
 use Rattle.esc_store.specs.Faults.{IsS1OrS2}
 use Rattle.esc_store.specs.Kept.{Kept}
@@ -103,12 +103,14 @@ one_with trees e doubtful a S1 one = inr one
 one_with trees e doubtful a S2 one = inr one
 one_with trees e doubtful a S3 one = inr one
 one_with trees e doubtful a S4 one = one
+one_with trees e doubtful a S5 one = inr one
 
 one_more : (trees : Trees) (e doubtful : List EventValue) (a : ArrivalValue) (f : SFault) → f ≢ S4 → IsStoreFor trees (e ++ arrived a ∷ []) → IsStoreForOneOf trees e (doubtful_with f a doubtful)
 one_more trees e doubtful a S1 other stands = inl stands
 one_more trees e doubtful a S2 other stands = inl stands
 one_more trees e doubtful a S3 other stands = inl stands
 one_more trees e doubtful a S4 other stands = absurd (other refl)
+one_more trees e doubtful a S5 other stands = inl stands
 
 -- ---- calls
 

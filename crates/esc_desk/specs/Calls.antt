@@ -5,7 +5,7 @@ use Rattle.sqlite_trees.specs.declared.store.Store.{Ghosts}
 use Rattle.esc_tables.specs.Reading.{reading}
 use Rattle.esc_apply.specs.declared.moves.Work.{Work}
 use Rattle.esc_store.specs.declared.fault.SFault.{SFault}
-use Rattle.esc_store.specs.declared.fault.SFault.TheVariants.{S1, S2, S3, S4}
+use Rattle.esc_store.specs.declared.fault.SFault.TheVariants.{S1, S2, S3, S4, S5}
 use Rattle.esc_store.specs.declared.store.Store.{Store}
 use Rattle.esc_store.specs.ReplyValue.{ReplyValue}
 use Rattle.esc_store.specs.Standing.{IsHonest, IsAsBefore}
@@ -103,6 +103,7 @@ IsCause e a S1 = Unit {0}
 IsCause e a S2 = Unit {0}
 IsCause e a S3 = ⊥
 IsCause e a S4 = HasNoRoom e a
+IsCause e a S5 = ⊥
 
 -- an arrival like none before it: there was room for its receipt
 abbrev pub HadRoom : List EventValue → ArrivalValue → Type 0

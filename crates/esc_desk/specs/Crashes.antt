@@ -24,7 +24,7 @@ use Rattle.sqlite.specs.Held.{Held, state}
 use Rattle.sqlite.specs.State.{HasCleanDisk, Survives}
 use Rattle.esc_tables.specs.Reading.{reading}
 use Rattle.esc_store.specs.declared.fault.SFault.{SFault}
-use Rattle.esc_store.specs.declared.fault.SFault.TheVariants.{S1, S2, S3, S4}
+use Rattle.esc_store.specs.declared.fault.SFault.TheVariants.{S1, S2, S3, S4, S5}
 use Rattle.esc_store.specs.Kept.{Kept}
 use Rattle.esc_store.specs.ReplyValue.{ReplyValue}
 use Rattle.esc_store.specs.Tables.{IsStore}
@@ -70,6 +70,7 @@ doubtful_with S1 a doubtful = arrived a ∷ doubtful
 doubtful_with S2 a doubtful = arrived a ∷ doubtful
 doubtful_with S3 a doubtful = arrived a ∷ doubtful
 doubtful_with S4 a doubtful = doubtful
+doubtful_with S5 a doubtful = arrived a ∷ doubtful
 
 -- what a crash leaves after an arrival that was answered: the events with it, or with it and one
 -- that is still in doubt

@@ -226,7 +226,7 @@ fn store_fault(fault: SFault) -> SFault
 {
     match fault {
         SFault::S2 => SFault::S2,
-        SFault::S1 | SFault::S3 | SFault::S4 => SFault::S1,
+        SFault::S1 | SFault::S3 | SFault::S4 | SFault::S5 => SFault::S1,
     }
 }
 

@@ -7,7 +7,7 @@ use Rattle.httparse.specs.Grammar.{RequestHead}
 use Rattle.httparse.proofs.GrammarLemmas.{ReadsRequest-append}
 use Rattle.esc_store.specs.declared.fault.SFault.{SFault}
 use Rattle.esc_store.specs.declared.fault.SFault.TheVariants.{S2}
-use Rattle.esc_store.specs.Faults.{IsS1OrS2, IsS1OrS2OrS4}
+use Rattle.esc_store.specs.Faults.{IsS1OrS2, IsS1OrS2OrS4OrS5}
 use Rattle.esc_desk.specs.declared.desk.Desk.{Desk}
 use Rattle.esc_desk.specs.ArrivalValue.{ArrivalValue}
 use Rattle.esc_desk.specs.Calls.{After, ServesStill, IsCause}
@@ -80,16 +80,16 @@ some_request None plan = (refused BadRequest, tt)
 some_request (Some rest) plan = (with_body plan rest, refl)
 
 -- why an arrival was lost, or want of memory
-pub loss_told : {S A : Type 0} (g : Ghosts S) (old new : Desk S) (a : ArrivalValue) (view : A → List ℕ) (fault : SFault) (o : Option A) → ServesStill g old new → IsS1OrS2OrS4 fault → After g old new (λ e. IsCause e a fault)
+pub loss_told : {S A : Type 0} (g : Ghosts S) (old new : Desk S) (a : ArrivalValue) (view : A → List ℕ) (fault : SFault) (o : Option A) → ServesStill g old new → IsS1OrS2OrS4OrS5 fault → After g old new (λ e. IsCause e a fault)
     → IfSome o (λ text. view text ≡ fault_response fault) → LosesArrival g old new a (text_or_memory view o)
-loss_told g old new a view fault None kept one cause is = record { kept = kept; fault = S2; is_one = inr (inr refl); cause = λ clean e serves. tt; told = refl }
+loss_told g old new a view fault None kept one cause is = record { kept = kept; fault = S2; is_one = inr (inr (inr refl)); cause = λ clean e serves. tt; told = refl }
 loss_told g old new a view fault (Some text) kept one cause is = record { kept = kept; fault = fault; is_one = one; cause = cause; told = is }
 
 module _ {S : Type 0} (g : Ghosts S) (desk : Desk S) where
   -- want of memory answers each request
   pub memory_answers : (request : Request) → IsAnswered g desk desk request out_of_memory
   memory_answers (refused refusal) = (refl, inr refl)
-  memory_answers (arrives a) = inr (record { kept = λ e serves. serves; fault = S2; is_one = inr (inr refl); cause = λ clean e serves. tt; told = refl })
+  memory_answers (arrives a) = inr (record { kept = λ e serves. serves; fault = S2; is_one = inr (inr (inr refl)); cause = λ clean e serves. tt; told = refl })
   memory_answers (wants report) = (inl refl, inr (record { fault = S2; cause = inr refl; told = refl }))
 
   -- so it does whatever the input is

@@ -15,7 +15,7 @@ use Rattle.std.specs.Prelude.{
 use Rattle.sqlite_trees.specs.declared.store.Store.{Ghosts}
 use Rattle.httparse.specs.Grammar.{RequestHead}
 use Rattle.esc_store.specs.declared.fault.SFault.{SFault}
-use Rattle.esc_store.specs.Faults.{IsS1OrS2, IsS1OrS2OrS4}
+use Rattle.esc_store.specs.Faults.{IsS1OrS2, IsS1OrS2OrS4OrS5}
 use Rattle.esc_store.specs.ReplyValue.{ReplyValue}
 use Rattle.esc_desk.specs.declared.desk.Desk.{Desk}
 use Rattle.esc_desk.specs.ArrivalValue.{ArrivalValue, an_arrival}
@@ -81,11 +81,12 @@ module _ {S : Type 0} (g : Ghosts S) (old new : Desk S) where
   IsTaken a text = After g old new (λ e. TakesArrival a e text)
 
   -- the arrival was lost: the desk serves what it served, and the text tells why. That is S4 only
-  -- where the arrival is like none before it and there is no room for its receipt
+  -- where the arrival is like none before it and there is no room for its receipt, and S5 only
+  -- where there is no room for its body
   pub record LosesArrival (a : ArrivalValue) (text : List ℕ) : Type 0 where
     pub kept : ServesStill g old new
     pub fault : SFault
-    pub is_one : IsS1OrS2OrS4 fault
+    pub is_one : IsS1OrS2OrS4OrS5 fault
     pub cause : After g old new (λ e. IsCause e a fault)
     pub told : text ≡ fault_response fault
 

@@ -1,9 +1,9 @@
 -- The responses that tell what the desk answers (this project's profile).
 use Rattle.std.specs.Prelude.{ℕ, List, [], codes}
 use Rattle.esc_store.specs.declared.fault.SFault.{SFault}
-use Rattle.esc_store.specs.declared.fault.SFault.TheVariants.{S1, S2, S3, S4}
+use Rattle.esc_store.specs.declared.fault.SFault.TheVariants.{S1, S2, S3, S4, S5}
 use Rattle.esc_store.specs.declared.reply.Verdict.{Verdict}
-use Rattle.esc_store.specs.declared.reply.Verdict.TheVariants.{A1, A2, A3, A4}
+use Rattle.esc_store.specs.declared.reply.Verdict.TheVariants.{A1, A2, A3, A4, A5}
 use Rattle.esc_store.specs.ReplyValue.{ReplyValue}
 use Rattle.esc_request.specs.Response.{response, unavailable}
 use Rattle.esc_texts.specs.ReplyText.{reply_text}
@@ -14,13 +14,15 @@ fault_response S1 = unavailable (codes "S1\n")
 fault_response S2 = unavailable (codes "S2\n")
 fault_response S3 = unavailable (codes "S1\n")
 fault_response S4 = unavailable (codes "S4\n")
+fault_response S5 = unavailable (codes "S5\n")
 
--- held, or refused by its verdict
+-- held, parked, or refused by its verdict
 abbrev pub reply_status : Verdict → List ℕ
 reply_status A1 = codes "200 OK"
 reply_status A2 = codes "422 Unprocessable Content"
 reply_status (A3 n) = codes "422 Unprocessable Content"
 reply_status A4 = codes "422 Unprocessable Content"
+reply_status A5 = codes "202 Accepted"
 
 -- the reply to an arrival
 abbrev pub reply_response : ReplyValue → List ℕ

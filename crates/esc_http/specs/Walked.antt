@@ -5,7 +5,7 @@ use Rattle.esc_check.specs.FindingValue.{FindingValue}
 use Rattle.esc_check.specs.declared.stream.StreamFault.{StreamFault}
 use Rattle.esc_check.specs.declared.stream.StreamFault.TheVariants.{Source, NoMemory}
 use Rattle.esc_store.specs.declared.fault.SFault.{SFault}
-use Rattle.esc_store.specs.declared.fault.SFault.TheVariants.{S1, S2, S3, S4}
+use Rattle.esc_store.specs.declared.fault.SFault.TheVariants.{S1, S2, S3, S4, S5}
 use Rattle.esc_desk.specs.declared.status.End.{End}
 use Rattle.esc_desk.specs.Events.{EventValue}
 use Rattle.esc_desk.specs.Reads.{AreTables}
@@ -22,4 +22,5 @@ walk_fault (Source S1) = S1
 walk_fault (Source S2) = S2
 walk_fault (Source S3) = S1
 walk_fault (Source S4) = S1
+walk_fault (Source S5) = S1
 walk_fault NoMemory = S2

@@ -14,11 +14,11 @@
 //! | there is one Content-Length, of digits alone | 400 |
 //! | it is at most 16,777,216 | 413 |
 //! | so many bytes follow the head; else it is no arrival | 400 |
-//! | the desk takes the arrival, or makes the report | 503 with `S1`, `S2` or, of an arrival, `S4` |
+//! | the desk takes the arrival, or makes the report | 503 with `S1`, `S2` or, of an arrival, `S4` or `S5` |
 //!
-//! An arrival that was taken is answered with its reply as JSON, 200 where the deposit is held and
-//! 422 where it isn't; a report with 200 and its text. Want of memory is 503 with `S2`, whatever
-//! would be answered else.
+//! An arrival that was taken is answered with its reply as JSON, 200 where the deposit is held, 202
+//! where its body is parked, and 422 for another verdict; a report with 200 and its text. Want of
+//! memory is 503 with `S2`, whatever would be answered else.
 //!
 //! What needs no desk stands below: the head, the route, the body and the bytes of a response in
 //! `esc_request`, the texts that replies, gaps and findings are told in in `esc_texts`.

@@ -16,6 +16,7 @@ pub(crate) fn fault_response(alloc: Global, fault: SFault) -> Option<Vec<u8>>
         SFault::S1 | SFault::S3 => b"S1\n",
         SFault::S2 => b"S2\n",
         SFault::S4 => b"S4\n",
+        SFault::S5 => b"S5\n",
     };
     response(alloc, "503 Service Unavailable", "text/plain", "", words)
 }
@@ -39,6 +40,7 @@ fn reply_status(verdict: Verdict) -> &'static str
 {
     match verdict {
         Verdict::A1 => "200 OK",
+        Verdict::A5 => "202 Accepted",
         Verdict::A2 | Verdict::A3(_) | Verdict::A4 => "422 Unprocessable Content",
     }
 }

@@ -133,7 +133,7 @@ fn walk_fault(fault: StreamFault<SFault>) -> SFault
 {
     match fault {
         StreamFault::Source(SFault::S2) => SFault::S2,
-        StreamFault::Source(SFault::S1 | SFault::S3 | SFault::S4) => SFault::S1,
+        StreamFault::Source(SFault::S1 | SFault::S3 | SFault::S4 | SFault::S5) => SFault::S1,
         StreamFault::NoMemory => SFault::S2,
     }
 }

@@ -4,13 +4,14 @@ use Rattle.std.specs.Fmt.{decimal}
 use Rattle.std.specs.Option.{unwrap_or}
 use Rattle.esc_envelope.specs.Watermark.{watermark_text_of}
 use Rattle.esc_store.specs.declared.reply.Verdict.{Verdict}
-use Rattle.esc_store.specs.declared.reply.Verdict.TheVariants.{A1, A2, A3, A4}
+use Rattle.esc_store.specs.declared.reply.Verdict.TheVariants.{A1, A2, A3, A4, A5}
 
 abbrev pub verdict_word : Verdict → List ℕ
 verdict_word A1 = codes "A1"
 verdict_word A2 = codes "A2"
 verdict_word (A3 n) = codes "A3"
 verdict_word A4 = codes "A4"
+verdict_word A5 = codes "A5"
 
 -- whether a row was held before
 abbrev pub copy_word : Bool → List ℕ
@@ -23,6 +24,7 @@ fault_of A1 = None
 fault_of A2 = None
 fault_of (A3 n) = Some (codes "U" ++ decimal n)
 fault_of A4 = None
+fault_of A5 = None
 
 -- a watermark as it is printed
 abbrev pub printed : ℤ → List ℕ

@@ -16,6 +16,7 @@ pub(crate) fn verdict_word(verdict: Verdict) -> &'static str
         Verdict::A2 => "A2",
         Verdict::A3(_) => "A3",
         Verdict::A4 => "A4",
+        Verdict::A5 => "A5",
     }
 }
 
@@ -32,6 +33,6 @@ pub(crate) fn fault_of(alloc: Global, verdict: Verdict) -> Result<Option<String>
 {
     match verdict {
         Verdict::A3(fault) => Ok(Some(format!(in alloc; "U{fault}")?)),
-        Verdict::A1 | Verdict::A2 | Verdict::A4 => Ok(None),
+        Verdict::A1 | Verdict::A2 | Verdict::A4 | Verdict::A5 => Ok(None),
     }
 }

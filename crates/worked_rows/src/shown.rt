@@ -38,6 +38,7 @@ fn tell_verdict(text: &mut String, verdict: Verdict) -> Result<(), Fail> {
         Verdict::A2 => text.push_str("A2,")?,
         Verdict::A3(fault) => write!(text, "A3,U{fault}")?,
         Verdict::A4 => text.push_str("A4,")?,
+        Verdict::A5 => text.push_str("A5,")?,
     }
     Ok(())
 }

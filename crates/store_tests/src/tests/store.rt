@@ -211,6 +211,46 @@ fn a_store_is_found_again(rt: HostRuntime) -> Result<(), Fail> {
     Ok(())
 }
 
+// The verdicts, each with a number for its receipt.
+const VERDICTS: [(&str, Verdict); 5] = [
+    ("n1", Verdict::A1),
+    ("n2", Verdict::A2),
+    ("n3", Verdict::A3(11)),
+    ("n4", Verdict::A4),
+    ("n5", Verdict::A5),
+];
+
+fn record<S: Alter>(store: &mut Store<S>, number: &str, verdict: Verdict) -> Result<(), SFault> {
+    let mut change = store.begin()?;
+    change.record_receipt(&Receipt {
+        number,
+        digest: [1; 32],
+        verdict,
+        row: None,
+        again: None,
+        orphans: None,
+    })?;
+    change.commit()
+}
+
+#[test]
+fn each_verdict_is_read_back(rt: HostRuntime) -> Result<(), Fail> {
+    let alloc = rt.alloc();
+    let mut store = new_store(alloc, Connection::open_in_memory(alloc)?)?;
+    for (number, verdict) in VERDICTS {
+        record(&mut store, number, verdict)?;
+    }
+    let mut text = String::new(alloc);
+    tell_receipts(alloc, &mut text, &mut store)?;
+    assert_text(
+        &rt,
+        "verdicts",
+        text.as_str(),
+        "; 5 receipts; 1 n1 A1; 2 n2 A2; 3 n3 A3(11); 4 n4 A4; 5 n5 A5",
+    );
+    Ok(())
+}
+
 /// What is done to a database.
 #[derive(Clone, Copy)]
 enum Deed {
