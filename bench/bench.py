@@ -100,7 +100,7 @@ def over_a_socket():
 
 
 def spent(process):
-    """The processor time of a running process, in milliseconds."""
+    """The processor time of a running process, in milliseconds, by the clock that Linux has for each (clock_getcpuclockid)."""
     return time.clock_gettime((~process.pid << 3) | 2) * 1000
 
 
