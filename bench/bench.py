@@ -5,15 +5,18 @@ Makes a large release (seeded: every run has the same bytes) and runs the progra
 of a late revision, of an Incremental and of repeats, each report and two exports of what they made, and a desk of its own on
 a socket of this machine, to which small Differentials are PUT and which is asked for reports. Prints for each task its time
 and its peak memory; where the task is mostly SQL also the ratio to the same SQL statements alone, run by the C library in
-the same run (`raw.py`); for requests how many there were in a second, and at last the peak memory of the desk that served
-them. It needs python3 alone, and the program, which `./sample` builds: `./sample >/dev/null && bench/bench.py`. Times of a
-busy machine say little; the ratios say more."""
+the same run (`raw.py`); for requests how many there were in a second, and the peak memory of the desk that served them. At
+last a chain of 4,095 tiny Differentials is taken in order: all processor time, and that of an arrival where so many rows are
+held, with the ratio to one where 100 are. It needs python3 alone, and the program, which `./sample` builds:
+`./sample >/dev/null && bench/bench.py`. With --only chain that chain alone is taken. Times of a busy machine say little; the
+ratios say more."""
 import argparse, http.client, os, re, shutil, socket, subprocess, sys, tempfile, time
 
 HERE = os.path.dirname(os.path.abspath(__file__))
 arguments = argparse.ArgumentParser(description=__doc__)
 arguments.add_argument('--restore', default=os.path.join(HERE, '..', 'crates', 'restore', 'out', 'restore'))
 arguments.add_argument('--keep', help='a folder to work in, which is kept')
+arguments.add_argument('--only', choices=['chain'], help='this task alone')
 given = arguments.parse_args()
 work = given.keep or tempfile.mkdtemp(prefix='restore-bench-')
 release = os.path.join(work, 'release')
@@ -96,6 +99,35 @@ def over_a_socket():
     print(f'{"the desk that served them":44} {"":12} {usage.ru_maxrss / 1024:6.0f} MB', flush=True)
 
 
+def spent(process):
+    """The processor time of a running process, in milliseconds, by the clock that Linux has for each (clock_getcpuclockid)."""
+    return time.clock_gettime((~process.pid << 3) | 2) * 1000
+
+
+def along_a_chain():
+    """Takes tiny Differentials in their order: what they all take, and an arrival where so many rows are held."""
+    chain = os.path.join(release, 'chain')
+    store = fresh('chain', os.path.join(chain, 'manifest.csv'))
+    run('take', '--store', store, os.path.join(chain, 'full'))
+    # How many rows are held, and of how many arrivals from there on the mean is told.
+    windows = {10: 10, 100: 50, 1000: 50, 4000: 50}
+    clock = dict.fromkeys({at for held, count in windows.items() for at in (held, held + count)})
+    words = ['take', '--store', store, os.path.join(chain, 'diffs')]
+    process = subprocess.Popen([given.restore, *words], stdout=subprocess.PIPE)
+    process.stdout.readline()
+    for held, _ in enumerate(process.stdout, 2):
+        if held in clock:
+            clock[held] = spent(process)
+    _, status, usage = os.wait4(process.pid, 0)
+    if status != 0:
+        sys.exit(f'bench: {" ".join(words)}: status {os.waitstatus_to_exitcode(status)}, wanted 0')
+    each = {held: (clock[held + count] - clock[held]) / count for held, count in windows.items()}
+    total = (usage.ru_utime + usage.ru_stime) * 1000
+    tell('4095 tiny Differentials in a chain, processor', total, usage.ru_maxrss / 1024)
+    for held, took in each.items():
+        print(f'{f"an arrival of one where {held} rows are held":44} {took:9.2f} ms {took / each[100]:10.2f} x that at 100', flush=True)
+
+
 def take(task, store, folder, want=0, compare=False):
     took, memory = run('take', '--store', store, os.path.join(release, folder), want=want)
     tell(task, took, memory, took / raw(store) if compare else None)
@@ -103,6 +135,8 @@ def take(task, store, folder, want=0, compare=False):
 
 def main():
     subprocess.run([sys.executable, os.path.join(HERE, 'release.py'), release], check=True)
+    if given.only == 'chain':
+        return along_a_chain()
     manifest = os.path.join(release, 'manifest.csv')
     for rows in (12_500, 25_000, 50_000, 100_000):
         store = fresh(f'growth-{rows}', os.path.join(release, 'growth', f'{rows}.csv'))
@@ -122,8 +156,9 @@ def main():
     for kind in ('domain', 'contact'):
         tell(f'export of {kind}', *run('export', '--store', store, kind))
     over_a_socket()
-    if not given.keep:
-        shutil.rmtree(work)
+    along_a_chain()
 
 
 main()
+if not given.keep:
+    shutil.rmtree(work)

@@ -28,7 +28,7 @@ def run(*words):
 
 def made_release():
     """The deposits of a Full of 3,000 rows and 30 Differentials in one folder, by their order."""
-    small = ('--rows', '3000', '--diffs', '30', '--touch', '60', '--growth', '1000', '--again', '1', '--puts', '1')
+    small = ('--rows', '3000', '--diffs', '30', '--touch', '60', '--growth', '1000', '--again', '1', '--puts', '1', '--chain', '1')
     subprocess.run([sys.executable, os.path.join(HERE, 'release.py'), os.path.join(work, 'release'), *small], check=True, stdout=subprocess.DEVNULL)
     os.mkdir(folder)
     shutil.copy(os.path.join(work, 'release', 'full', 'f1'), os.path.join(folder, 'a-f1'))

@@ -1,5 +1,6 @@
 //! Databases and stores.
 
+mod chains;
 mod database;
 mod parking;
 mod receipts;
