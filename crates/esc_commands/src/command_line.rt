@@ -80,7 +80,7 @@ Example, with a folder of bundles named n1, n2 and so on:
 
 Refusals go to standard error, one a line: E1 PATH (can't be read, listed or written), E2 NAME (over 16,777,216 bytes),
 N1 NAME (the name is no number of an arrival), M1 to M13 with the row (the manifest), S1 (the store failed), S2 (no
-memory), S3 (no store, or a used database), S4 (the store is full), S5 (1,024 bodies are parked).
+memory), S3 (no store, or a used database), S4 (the store is full).
 Status: 0 done; 1 the manifest is refused, or a file was not taken as a listed deposit; 2 other words; 3 stopped by S or E1.
 ";
 
@@ -99,8 +99,7 @@ const REPORTS_TOLD: &str = "\
 status    how many deposits are listed and held, the chain's length and end, and how many objects of each kind there are
 gaps      for each listed place: missing, blocked (and by what), in the chain or beside it, and which resend is awaited
 links     what breaks a rule in the tables: links to absent objects, counts, statuses and dates
-receipts  a line for each distinct arrival, with its verdict: A1 held, A2 not listed, A3 unreadable, A4 differs,
-          A5 not listed and parked
+receipts  a line for each distinct arrival, with its verdict: A1 held, A2 not listed, A3 unreadable, A4 differs
 ";
 
 /// The argument of every command.

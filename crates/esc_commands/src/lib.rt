@@ -30,9 +30,9 @@
 //! # Order of refusals
 //!
 //! The first of these that fails is told: the words (status 2), the manifest (`M1` to `M13`, status
-//! 1, or `E1` where it can't be read), the store (`S1` to `S5`, or `E1` where its file can't be
+//! 1, or `E1` where it can't be read), the store (`S1` to `S4`, or `E1` where its file can't be
 //! read and written), the folder or the port (`E1`), then file by file (`N1`, `E1`, `E2`, and the
-//! verdict of the receipt, status 1). `S1` to `S5` and `E1` stop a command with status 3; what was
+//! verdict of the receipt, status 1). `S1` to `S4` and `E1` stop a command with status 3; what was
 //! answered before stays. A report is printed once the store is closed.
 //!
 //! # What is promised
