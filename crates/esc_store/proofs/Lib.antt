@@ -16,3 +16,4 @@ pub mod Sure
 pub mod Paging
 pub mod ReceiptRows
 pub mod Parking
+pub mod Lists

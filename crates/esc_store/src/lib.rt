@@ -19,6 +19,7 @@
 //! | `reads` | what a store answers of itself |
 //! | `change`, `books`, `registry`, `records` | a change: its receipt, body and chain, and its objects |
 //! | `parked`, `moment` | parked bodies and the moment: what a store returns, and parts of a change |
+//! | `listing` | a change: the rows that an amended manifest adds |
 //! | `statements` | a write or a read of the tables: one call of `esc_rows` each |
 //! | `codec` | what the tables keep, as their rows and bytes, and back |
 //!
@@ -60,6 +61,7 @@ mod counts;
 mod fault;
 mod form;
 mod founding;
+mod listing;
 mod moment;
 mod numbers;
 mod opening;

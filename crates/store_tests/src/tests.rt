@@ -1,6 +1,7 @@
 //! Databases and stores.
 
 mod database;
+mod listing;
 mod parking;
 mod store;
 
