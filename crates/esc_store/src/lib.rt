@@ -47,6 +47,7 @@
 //!   a function of each k that the store stood for.
 //! - A change that was begun on a store of k has `Began`: nothing is committed. `Rest` says what it
 //!   has made of rows, receipts, bodies and chain, and `HoldsNow` what of tables and before-images.
+//!   `listed_by` are the rows of its manifest, which the store has once the change is committed.
 //!   `commit` turns both into `Stands`; at `Err`, and where a change is dropped, the store stands
 //!   for what it stood for.
 //! - What a crash leaves is in `LeavesOnly`, `LeavesOr` and `LeavesNoMore`.

@@ -35,7 +35,7 @@ enum Deed {
     Open,
 }
 
-// Deeds, each with the rows that the store lists then: id, revision and the last byte of the digest.
+// Deeds, each with the rows that the store lists then: id, revision, last byte of the digest.
 const DEEDS: [(Deed, &str); 8] = [
     (Abandon(SECOND), "F1 0 1;"),
     (Open, "F1 0 1;"),
