@@ -75,33 +75,46 @@ def home_of(folder, file, name):
     return file
 
 
+def instance_of(folder, file, name, given):
+    """What a check calls the type of an impl that leaves type parameters to their defaults: these given ones stand in its name, and
+    its methods have the path of their own file. None where none is left to a default."""
+    with open(f'{folder}/{home_of(folder, file, name)}') as text:
+        declared = re.search(rf'^(?:pub(?:\([a-z]+\))? )?(?:struct|enum) {name}<(.*?)> ?[{{(;]', text.read(), re.M)
+    own = [it for it in given.split(',') if not it.strip().startswith("'")]
+    if declared and '=' in declared[1] and len(given.split(',')) < len(declared[1].split(',')):
+        return '+'.join([name, *(it.strip() for it in own)])
+    return None
+
+
 def function_at(crate, folder, file, text, at):
     """The function of a .rt file in which a place stands; None where it stands in none."""
     if not file.startswith('src/') or not file.endswith('.rt'):
         return None
     found, block = None, ''
     for line in text[:text.index('\n', at)].split('\n'):
-        header = re.match(r'(?:unsafe )?impl\b(?:<.*?>)? ?(?:(.*) for )?(?:&(?:mut )?)?(\w+)|(?:pub(?:\([a-z]+\))? )?trait (\w+)', line)
+        header = re.match(r'(?:unsafe )?impl\b(?:<.*?>)? ?(?:(.*) for )?(?:&(?:mut )?)?(\w+)(?:<(.*)>)?|(?:pub(?:\([a-z]+\))? )?trait (\w+)', line)
         item = re.match(r'( *)(?:pub(?:\([a-z]+\))? )?(?:const )?fn (\w+)', line)
         if header:
-            block, is_trait = header[2] or header[3], bool(header[1] or header[3])
+            block, is_trait, given = header[2] or header[4], bool(header[1] or header[4]), header[3] or ''
         elif item:
-            found = (item[2], block if item[1] else '', bool(item[1]) and is_trait)
+            found = (item[2], block if item[1] else '', bool(item[1]) and is_trait, given if item[1] else '')
         elif line.startswith('}'):
             block, found = '', None
         elif line and not line[0].isspace() and not line.startswith(('{', '//', '#', ')', 'where')):
             found = None
     if not found:
         return None
-    name, block, is_trait = found
+    name, block, is_trait, given = found
+    instance = instance_of(folder, file, block, given) if block and not is_trait else None
     # A method has the path of its type, wherever it is written.
-    home = home_of(folder, file, block) if block and not is_trait else file
+    home = home_of(folder, file, block) if block and not is_trait and not instance else file
+    block = instance or block
     module = '::'.join([crate, *module_of(home)])
     if is_trait:
         return Function(module, re.compile(rf'fn {module}::{block}\w*::{name}\b'))
     inner = f'{block}::{name}' if block else name
-    closure = rf'{block}::fn::{name}' if block else rf'fn::{name}'
-    return Function(f'{module}::{inner}', re.compile(rf'fn {module}::(?:{inner}|(?:{closure}|fn::{inner})::\S+):'))
+    path, closure = re.escape(inner), re.escape(f'{block}::fn::{name}' if block else f'fn::{name}')
+    return Function(f'{module}::{inner}', re.compile(rf'fn {module}::(?:{path}|(?:{closure}|fn::{path})::\S+):'))
 
 
 def read_edit(crate, folder, path):

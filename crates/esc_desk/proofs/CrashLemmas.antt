@@ -16,11 +16,10 @@ use Rattle.esc_manifest.specs.declared.row.MRow.{MRow}
 use Rattle.esc_manifest.specs.Extension.{extended}
 use Rattle.esc_store.specs.declared.fault.SFault.{SFault}
 use Rattle.esc_store.specs.declared.fault.SFault.TheVariants.{S1, S2, S3, S4, S5}
-use Rattle.esc_store.specs.declared.change.Change.{Change}
 use Rattle.esc_store.specs.Faults.{IsS1OrS2}
 use Rattle.esc_store.specs.Kept.{Kept}
 use Rattle.esc_store.specs.declared.store.Store.{Store}
-use Rattle.esc_store.specs.Standing.{IsHonest, HoldsNow, HoldsIn, LeavesOr, LeavesOnly}
+use Rattle.esc_store.specs.Standing.{ChangeOf, IsHonest, HoldsNow, HoldsIn, LeavesOr, LeavesOnly}
 use Rattle.esc_apply.specs.Registry.{State as Tables}
 use Rattle.esc_store.specs.ReplyValue.{ReplyValue}
 use Rattle.esc_store.specs.Tables.{IsStore}
@@ -174,7 +173,7 @@ module _ {S : Type 0} (g : Ghosts S) where
       not_full (Err f) (inl is) = λ full. let never : ⊥ = cc in never
       not_full (Err f) (inr is) = λ full. let never : ⊥ = cc in never
 
-  pub holds_when : (change : Change S) (tables : Tables) → (IsHonest g change.store.now → HoldsNow g change tables) → HoldsNow g change tables
+  pub holds_when : (change : ChangeOf S) (tables : Tables) → (IsHonest g change.store.now → HoldsNow g change tables) → HoldsNow g change tables
   unfolding HoldsIn
   holds_when change tables h clean = h clean clean
 

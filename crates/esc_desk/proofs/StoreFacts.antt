@@ -6,9 +6,8 @@ use Rattle.sqlite.specs.State.{State, HasCleanDisk, Survives}
 use Rattle.sqlite.proofs.StateLemmas.{survives_then}
 use Rattle.esc_tables.specs.Reading.{reading}
 use Rattle.esc_store.specs.declared.store.Store.{Store}
-use Rattle.esc_store.specs.declared.change.Change.{Change}
 use Rattle.esc_store.specs.Kept.{AreHeld}
-use Rattle.esc_store.specs.Standing.{IsHonest, IsAsBefore, GoesOn}
+use Rattle.esc_store.specs.Standing.{ChangeOf, IsHonest, IsAsBefore, GoesOn}
 use Rattle.esc_desk.specs.declared.desk.Desk.{Desk}
 use Rattle.esc_desk.specs.Calls.{Stays}
 use Rattle.esc_desk.specs.Events.{EventValue}
@@ -42,10 +41,11 @@ pub still_stays : {S : Type 0} (g : Ghosts S) (old new : Desk S) → IsAsBefore 
 still_stays g old new same known = record { same = same; serves = still_serves g old new same known }
 
 -- a change goes on, and then goes on again
-pub goes_then : {S : Type 0} (g : Ghosts S) (a b c : Change S) → GoesOn g a b → GoesOn g b c → GoesOn g a c
+pub goes_then : {S : Type 0} (g : Ghosts S) (a b c : ChangeOf S) → GoesOn g a b → GoesOn g b c → GoesOn g a c
 goes_then g a b c p q = record {
   same_reference = q.same_reference ∙ p.same_reference;
   manifest = q.manifest ∙ p.manifest;
+  listed = q.listed ∙ p.listed;
   writes = q.writes ∙ p.writes;
   survives = survives_then _ _ _ _ _ _ (λ _ db none. none) (λ _ db none. none) p.survives q.survives;
   began = λ k h. q.began k (p.began k h);

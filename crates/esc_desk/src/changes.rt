@@ -38,7 +38,7 @@ ghost use Rattle.esc_store.specs.Standing.{Stands, IsHonest, IsAsBefore, LeavesO
 ghost use Rattle.esc_store.specs.Faults.{IsS1OrS2};
 ghost use Rattle.esc_desk.specs.Causes.{IsStoreFault, IsChangeFault};
 ghost use Rattle.esc_desk.specs.Plans.{rows_in, kept_by};
-ghost use Rattle.esc_store.specs.Standing.{Began, Rest, HoldsNow, GoesOn, Follows};
+ghost use Rattle.esc_store.specs.Standing.{Began, Rest, HoldsNow, GoesOn, Follows, listed_by};
 ghost use Rattle.esc_desk.specs.Filled.{IsFilled};
 ghost use Rattle.esc_desk.specs.Crashes.{AddsStore};
 
@@ -232,7 +232,9 @@ fn store_fault(fault: SFault) -> SFault
 
 // Makes a change whole.
 fn commit_filled<S: Alter>(change: Change<'_, S>) -> Result<(), SFault>
-    ensures manifest { change.exit.0.now.manifest ≡ change.entry.store.now.manifest }
+    ensures manifest { OnOk result (change.exit.0.now.manifest ≡ listed_by change.entry) }
+    ensures unlisted { OnErr result
+        (change.exit.0.now.manifest ≡ change.entry.store.now.manifest) }
     ensures honest { IsHonest S.Store change.exit.0.now
         → IsHonest S.Store change.entry.store.now }
     ensures written { OnOk result (change.exit.0.now.writes

@@ -12,7 +12,7 @@ use Rattle.esc_rows.specs.Content.{content_in}
 use Rattle.esc_store.specs.Kept.{Kept, with_registry}
 use Rattle.esc_store.specs.TypedRows.{IsBooks, IsRegistry}
 use Rattle.esc_store.specs.Tables.{IsStore, IsStoreDatabase, HoldsTables}
-use Rattle.esc_store.specs.Standing.{IsAtRest, IsStanding, IsBegun, IsMade, IsUnderWay}
+use Rattle.esc_store.specs.Standing.{IsAtRest, RestsAt, IsStanding, IsBegun, IsMade, IsUnderWay}
 
 -- ---- results
 
@@ -66,7 +66,7 @@ module _ (old new : State) (m : List MRow) (k : Kept) (survives : Survives old n
     off = λ clean mode. let no : true ≡ false = sym (shown clean).mode ∙ mode in let none : ⊥ = cc in absurd none;
   }
 
-  pub made : IsMade new m k k
+  pub made : IsMade new m m k k
   made = record {
     begun = began;
     listed = stands.listed;
@@ -98,7 +98,7 @@ given_up old new m k C survives kept ended settled listed held = record {
 pub keeps_then : (a b c : State) → KeepsCommit a b → KeepsCommit b c → KeepsCommit a c
 keeps_then a b c p q = record { was_open = λ up. p.was_open (q.was_open up); committed = λ up. q.committed up ∙ p.committed (q.was_open up) }
 
-module _ (old new : State) (m : List MRow) (before k : Kept) (s : Tables) (made : IsMade old m before (with_registry k s)) (goes : HasCleanDisk old → IsUnderWay old k.registry) where
+module _ (old new : State) (m rows : List MRow) (before k : Kept) (s : Tables) (made : IsMade old m rows before (with_registry k s)) (goes : HasCleanDisk old → IsUnderWay old k.registry) where
   -- what a change holds is a store
   pub whole : HasCleanDisk old → IsStoreDatabase old.now k
   whole clean = both old.now k s (goes clean).tables_are (made.books clean (goes clean).in_transaction) (goes clean).registry
@@ -107,14 +107,11 @@ module _ (old new : State) (m : List MRow) (before k : Kept) (s : Tables) (made 
   unfolding IsStore
   whole_trees clean = (whole clean).kept
 
-  pub committed : (C : Trees → Type 0) → Survives old new C → (HasCleanDisk new → Shows old new old.now old.now false) → IsStanding new m k
-  committed C survives shown = record {
-    listed = made.listed;
-    rests = λ clean up. record {
-      kept = subst (λ db. IsStoreDatabase db k) (sym (shown clean).committed_is) (whole (was_clean old new C survives clean));
-      same = (shown clean).now_is ∙ sym (shown clean).committed_is;
-      autocommit = (shown clean).mode;
-    };
+  pub committed : (C : Trees → Type 0) → Survives old new C → (HasCleanDisk new → Shows old new old.now old.now false) → RestsAt new k
+  committed C survives shown clean up = record {
+    kept = subst (λ db. IsStoreDatabase db k) (sym (shown clean).committed_is) (whole (was_clean old new C survives clean));
+    same = (shown clean).now_is ∙ sym (shown clean).committed_is;
+    autocommit = (shown clean).mode;
   }
 
   pub crash : Survives old new (λ trees. trees ≡ old.now.trees) → Survives old new (λ trees. IsStore trees k)

@@ -17,3 +17,4 @@ pub mod Paging
 pub mod ReceiptRows
 pub mod Parking
 pub mod Unlisted
+pub mod Lists

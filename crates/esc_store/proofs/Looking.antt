@@ -1,6 +1,7 @@
 -- What a read within a change leaves as it was, and what it says.
-use Rattle.std.proofs.Common.{◌≡◌, List, true, refl, sym, subst, ◌∙◌}
+use Rattle.std.proofs.Common.{◌≡◌, List, Option, true, refl, sym, subst, ◌∙◌}
 use Rattle.std.specs.Prelude.{Result, Ok, Err, IfOk, IfErr, OnErr}
+use Rattle.std.specs.Option.{unwrap_or}
 use Rattle.sqlite_trees.specs.declared.store.Store.{Ghosts}
 use Rattle.sqlite.specs.Effect.{Database}
 use Rattle.sqlite.specs.Held.{state}
@@ -10,11 +11,10 @@ use Rattle.esc_apply.specs.Registry.{State as Tables}
 use Rattle.esc_rows.specs.Content.{Content, content_in}
 use Rattle.esc_rows.specs.Changes.{Tells}
 use Rattle.esc_store.specs.declared.store.Store.{Store}
-use Rattle.esc_store.specs.declared.change.Change.{Change}
 use Rattle.esc_store.specs.Kept.{Kept}
 use Rattle.esc_store.specs.TypedRows.{IsBooks, IsRegistry}
 use Rattle.esc_store.specs.Tables.{IsStoreDatabase, HoldsTables}
-use Rattle.esc_store.specs.Standing.{IsBegun, IsMade, IsUnderWay, IsLook, BeganIn, RestIn, HoldsIn, Follows}
+use Rattle.esc_store.specs.Standing.{ChangeOf, IsBegun, IsMade, IsUnderWay, IsLook, BeganIn, RestIn, HoldsIn, Follows}
 use Rattle.esc_store.proofs.Ends.{at_said, was_clean, begun_committed}
 use Rattle.esc_store.proofs.Parts.{not_both}
 
@@ -42,8 +42,8 @@ module _ {X E : Type 0} (old new : State) (P : Content → X → Type 0) (r : Re
     }
   ] refl
 
-  made_look : (m : List MRow) (before k : Kept) → IsMade old m before k → IsMade new m before k
-  made_look m before k made = record { begun = begun_look m before made.begun; listed = made.listed; books = λ clean on. books_of clean on } where
+  made_look : (m rows : List MRow) (before k : Kept) → IsMade old m rows before k → IsMade new m rows before k
+  made_look m rows before k made = record { begun = begun_look m before made.begun; listed = made.listed; books = λ clean on. books_of clean on } where
     books_of : HasCleanDisk new → new.in_transaction ≡ true → IsBooks (content_in new.now.trees) k
     books_of clean on = elim r as (λ y. r ≡ y → IsBooks (content_in new.now.trees) k) [
       | Ok x ↦ λ is. let it = shown x is clean in subst (λ (db : Database). IsBooks (content_in db.trees) k) (sym it.now_is) (made.books (clean_before clean) (sym it.mode ∙ on))
@@ -63,9 +63,9 @@ module _ {S : Type 0} (g : Ghosts S) {X E : Type 0} (old new : Store S) {P : Con
   unfolding BeganIn
   began_look k begun = subst (λ m. IsBegun (state g new.conn) m k) (sym manifest) (begun_look (state g old.conn) (state g new.conn) P r look old.manifest k begun)
 
-  rest_look : (before k : Kept) → RestIn g old before k → RestIn g new before k
+  rest_look : (listing : Option (List MRow)) (before k : Kept) → RestIn g old listing before k → RestIn g new listing before k
   unfolding RestIn
-  rest_look before k made = subst (λ m. IsMade (state g new.conn) m before k) (sym manifest) (made_look (state g old.conn) (state g new.conn) P r look old.manifest before k made)
+  rest_look listing before k made = subst (λ m. IsMade (state g new.conn) m (unwrap_or listing m) before k) (sym manifest) (made_look (state g old.conn) (state g new.conn) P r look old.manifest (unwrap_or listing old.manifest) before k made)
 
   pub holds_look : (s : Tables) (x : X) → r ≡ Ok x → HoldsIn g old s → HoldsIn g new s
   unfolding HoldsIn
@@ -77,11 +77,11 @@ module _ {S : Type 0} (g : Ghosts S) {X E : Type 0} (old new : Store S) {P : Con
       let was = goes (clean_before (state g old.conn) (state g new.conn) P r look clean) in
       (content_in (state g old.conn).now.trees, was.registry, said_seen (state g old.conn) (state g new.conn) P r look s x is clean was)
 
-pub follows_look : {S : Type 0} (g : Ghosts S) {X E : Type 0} (old new : Change S) {P : Content → X → Type 0} (r : Result X E) → new.store.ghost_name ≡ old.store.ghost_name → new.store.now.manifest ≡ old.store.now.manifest → new.store.now.writes ≡ old.store.now.writes
+pub follows_look : {S : Type 0} (g : Ghosts S) {X E : Type 0} (old new : ChangeOf S) {P : Content → X → Type 0} (r : Result X E) → new.store.ghost_name ≡ old.store.ghost_name → new.listing ≡ old.listing → new.store.now.manifest ≡ old.store.now.manifest → new.store.now.writes ≡ old.store.now.writes
     → IsLook (state g old.store.now.conn) (state g new.store.now.conn) (Tells P) r → Follows g old new
-follows_look g old new r same manifest writes look = record {
-  goes_on = record { same_reference = same; manifest = manifest; writes = writes; survives = look.survives; began = began_look g old.store.now new.store.now r manifest look };
-  rest = rest_look g old.store.now new.store.now r manifest look;
+follows_look g old new r same listing manifest writes look = record {
+  goes_on = record { same_reference = same; manifest = manifest; listed = rw (listing, manifest) refl; writes = writes; survives = look.survives; began = began_look g old.store.now new.store.now r manifest look };
+  rest = λ before k h. subst (λ l. RestIn g new.store.now l before k) (sym listing) (rest_look g old.store.now new.store.now r manifest look old.listing before k h);
 }
 
 -- what follows from a result, of its value

@@ -31,7 +31,7 @@ listed_length n (r ∷ rs) = ap suc (listed_length (suc n) rs)
 pub listed_size : (ss : List Listed) (rs : List MRow) → map stored_row ss ≡ listed_from 0 rs → length ss ≡ length rs
 listed_size ss rs e = sym (length-map ss stored_row) ∙ (ap length e ∙ listed_length 0 rs)
 
-listed_push : (n : ℕ) (rs : List MRow) (r : MRow) (m : ℕ) → length rs + n ≡ m → listed_from n (rs ++ (r ∷ [])) ≡ listed_from n rs ++ (listed_row m r ∷ [])
+pub listed_push : (n : ℕ) (rs : List MRow) (r : MRow) (m : ℕ) → length rs + n ≡ m → listed_from n (rs ++ (r ∷ [])) ≡ listed_from n rs ++ (listed_row m r ∷ [])
 listed_push n [] r m is = let e : n ≡ m = omega (arith, is) in rw e refl
 listed_push n (x ∷ rs) r m is = ap (λ l. listed_row n x ∷ l) (listed_push (suc n) rs r m (omega (arith, is)))
 
@@ -41,13 +41,20 @@ one_stored rs ss i d s so_far below is =
     map-append stored_row ss (s ∷ []) ∙ (ap (λ l. l ++ (stored_row s ∷ [])) so_far ∙ (ap (λ x. listed_from 0 (take i rs) ++ (x ∷ [])) is
     ∙ (sym (listed_push 0 (take i rs) (get_or rs i d) i taken) ∙ ap (listed_from 0) (sym (take_more rs i d below)))))
 
+-- the stored form of a row at its place
+pub stored_get : (ss : List Listed) (rs : List MRow) (i : ℕ) (d : Listed) → map stored_row ss ≡ listed_from 0 rs → i < length ss → stored_row (get_or ss i d) ≡ listed_row i (get_or rs i no_row)
+stored_get ss rs i d e lt =
+    let size = listed_size ss rs e in
+    let place : 0 + i ≡ i = omega arith in
+    sym (get_or-map stored_row ss i d (stored_row d) lt) ∙ (ap (λ (xs : List ListedRow). get_or xs i (stored_row d)) e
+    ∙ (listed_get 0 rs i (stored_row d) (omega arith) ∙ ap (λ n. listed_row n (get_or rs i no_row)) place))
+
 pub one_row : (ss : List Listed) (rs : List MRow) (i : ℕ) (d : Listed) (rows : List MRow) (row : MRow) → map stored_row ss ≡ listed_from 0 rs → i < length ss → rows ≡ take i rs
     → ((n : ℕ) (r : MRow) → stored_row (get_or ss i d) ≡ listed_row n r → row ≡ r) → rows ++ (row ∷ []) ≡ take (i + 1) rs
 one_row ss rs i d rows row e lt so_far is =
     let size = listed_size ss rs e in
     let below : i < length rs = omega arith in
-    let there : stored_row (get_or ss i d) ≡ listed_row (0 + i) (get_or rs i no_row) = sym (get_or-map stored_row ss i d (stored_row d) lt) ∙ (ap (λ (xs : List ListedRow). get_or xs i (stored_row d)) e ∙ listed_get 0 rs i (stored_row d) below) in
-    ap (λ l. l ++ (row ∷ [])) so_far ∙ (ap (λ x. take i rs ++ (x ∷ [])) (is (0 + i) (get_or rs i no_row) there) ∙ sym (take_more rs i no_row below))
+    ap (λ l. l ++ (row ∷ [])) so_far ∙ (ap (λ x. take i rs ++ (x ∷ [])) (is i (get_or rs i no_row) (stored_get ss rs i d e lt)) ∙ sym (take_more rs i no_row below))
 
 above : (n m : ℕ) (rs : List MRow) → n < m → AllByRecursion (λ (x : ListedRow). pos n <ℤ listed_number x) (listed_from m rs)
 above n m [] lt = tt

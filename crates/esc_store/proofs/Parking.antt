@@ -12,15 +12,15 @@ use Rattle.sqlite.specs.Effect.{Database}
 use Rattle.sqlite.specs.Held.{state}
 use Rattle.sqlite.specs.State.{HasCleanDisk}
 use Rattle.sqlite.proofs.StateLemmas.{survives_then}
+use Rattle.esc_manifest.specs.declared.row.MRow.{MRow}
 use Rattle.esc_apply.specs.Registry.{State as Tables}
 use Rattle.esc_rows.specs.Content.{Content, content_in, HoldsContent, parked_at}
 use Rattle.esc_rows.specs.Changes.{Tells}
 use Rattle.esc_rows.specs.Parked.{PutsParked, RemovesParked, ListsParked, SetsMoment, without_moment, moment_row}
 use Rattle.esc_store.specs.declared.store.Store.{Store}
-use Rattle.esc_store.specs.declared.change.Change.{Change}
 use Rattle.esc_store.specs.Kept.{Kept, with_parked, with_moment, AreRisingTexts, AreParked}
 use Rattle.esc_store.specs.TypedRows.{IsBooks, IsRegistry}
-use Rattle.esc_store.specs.Standing.{IsStep, IsLook, RestIn, GoesOn, Follows}
+use Rattle.esc_store.specs.Standing.{ChangeOf, IsStep, IsLook, RestIn, GoesOn, Follows}
 use Rattle.esc_store.proofs.Ends.{at_ok, at_said, was_clean}
 use Rattle.esc_store.proofs.Parts.{Turns, becomes}
 use Rattle.esc_store.proofs.Standings.{survives_same}
@@ -58,9 +58,9 @@ registry_parked s digest w c c' set it = subst (λ x. IsRegistry x s) (sym set.o
 
 -- what is put was not there before
 pub was_free : {S X E : Type 0} (g : Ghosts S) (old new : Store S) (digest body : List ℕ) (r : Result X E) (x : X) → r ≡ Ok x → IsStep (state g old.conn) (state g new.conn) (PutsParked digest body) r → HasCleanDisk (state g new.conn)
-    → (before k : Kept) → RestIn g old before k → k.parked digest ≡ None
+    → (listing : Option (List MRow)) (before k : Kept) → RestIn g old listing before k → k.parked digest ≡ None
 unfolding RestIn
-was_free g old new digest body r x is step clean before k made =
+was_free g old new digest body r x is step clean listing before k made =
     let m = at_ok r x _ is (step.made clean) in
     let was = was_clean (state g old.conn) (state g new.conn) (λ trees. ⊥) step.survives clean in
     let tables = (made.begun.on was m.0).2 in
@@ -102,24 +102,25 @@ registry_moment s w c c' turn it = subst (λ x. IsRegistry x s) (sym turn.is) (r
 
 -- ---- one part after another
 
-pub goes_then : {S : Type 0} {g : Ghosts S} {a b c : Change S} → GoesOn g a b → GoesOn g b c → GoesOn g a c
+pub goes_then : {S : Type 0} {g : Ghosts S} {a b c : ChangeOf S} → GoesOn g a b → GoesOn g b c → GoesOn g a c
 goes_then p q = record {
   same_reference = q.same_reference ∙ p.same_reference;
   manifest = q.manifest ∙ p.manifest;
+  listed = q.listed ∙ p.listed;
   writes = q.writes ∙ p.writes;
   survives = survives_then _ _ _ _ _ _ (λ _ db none. none) (λ _ db none. none) p.survives q.survives;
   began = λ k h. q.began k (p.began k h);
 }
 
 -- nothing was called
-pub follows_same : {S : Type 0} (g : Ghosts S) (c : Change S) → Follows g c c
-follows_same g c = record { goes_on = record { same_reference = refl; manifest = refl; writes = refl; survives = survives_same _ _; began = λ k h. h }; rest = λ before k h. h }
+pub follows_same : {S : Type 0} (g : Ghosts S) (c : ChangeOf S) → Follows g c c
+follows_same g c = record { goes_on = record { same_reference = refl; manifest = refl; listed = refl; writes = refl; survives = survives_same _ _; began = λ k h. h }; rest = λ before k h. h }
 
 -- what a read in a change found is what the change keeps
 pub found_parked : {S X E : Type 0} (g : Ghosts S) (old new : Store S) (digest : List ℕ) (view : X → Option (List ℕ)) (r : Result X E) (x : X) → r ≡ Ok x → old.conn.in_transaction ≡ true
-    → IsLook (state g old.conn) (state g new.conn) (Tells (λ c found. view found ≡ parked_at digest c.parked)) r → HasCleanDisk (state g new.conn) → (before k : Kept) → RestIn g old before k → view x ≡ k.parked digest
+    → IsLook (state g old.conn) (state g new.conn) (Tells (λ c found. view found ≡ parked_at digest c.parked)) r → HasCleanDisk (state g new.conn) → (listing : Option (List MRow)) (before k : Kept) → RestIn g old listing before k → view x ≡ k.parked digest
 unfolding RestIn
-found_parked g old new digest view r x is on look clean before k made =
+found_parked g old new digest view r x is on look clean listing before k made =
     let was = was_clean (state g old.conn) (state g new.conn) (λ trees. ⊥) look.survives clean in
     let tables = (made.begun.on was on).2 in
     let s = at_said r x _ is (look.said clean) in

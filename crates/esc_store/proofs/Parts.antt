@@ -97,16 +97,16 @@ module _ {X E : Type 0} (old new : State) (R : Content → Content → Type 0) (
     at_bad : {P : Type 0} (e : E) → r ≡ Err e → OnErr r P → P
     at_bad e is h = rw is at h
 
-  pub made_on : (m : List MRow) (before k k' : Kept) (x : X) → r ≡ Ok x → k'.listed ≡ k.listed → ((c c' : Content) → R c c' → IsBooks c k → IsBooks c' k') → IsMade old m before k → IsMade new m before k'
-  made_on m before k k' x is same turn made = record {
+  pub made_on : (m rows rows' : List MRow) (before k k' : Kept) (x : X) → r ≡ Ok x → (rows ≡ k.listed → rows' ≡ k'.listed) → ((c c' : Content) → R c c' → IsBooks c k → IsBooks c' k') → IsMade old m rows before k → IsMade new m rows' before k'
+  made_on m rows rows' before k k' x is listed turn made = record {
     begun = begun_on m before made.begun;
-    listed = made.listed ∙ sym same;
+    listed = listed made.listed;
     books = λ clean on. let it = made_of x is clean in let was = made.begun.on (clean_before clean) it.was_on in turn _ _ (it.turns was.2).1 (made.books (clean_before clean) it.was_on);
   }
 
-  pub made_kept : (m : List MRow) (before k : Kept) → ((c c' : Content) → R c c' → IsBooks c k → IsBooks c' k) → IsMade old m before k → IsMade new m before k
-  made_kept m before k turn made = elim r as (λ x. r ≡ x → IsMade new m before k) [
-    | Ok x ↦ λ is. made_on m before k k x is refl turn made
+  pub made_kept : (m rows : List MRow) (before k : Kept) → ((c c' : Content) → R c c' → IsBooks c k → IsBooks c' k) → IsMade old m rows before k → IsMade new m rows before k
+  made_kept m rows before k turn made = elim r as (λ x. r ≡ x → IsMade new m rows before k) [
+    | Ok x ↦ λ is. made_on m rows rows before k k x is (λ h. h) turn made
     | Err e ↦ λ is. record {
       begun = begun_on m before made.begun;
       listed = made.listed;

@@ -1,9 +1,10 @@
 -- What parts do to rows, receipts, bodies and steps.
-use Rattle.std.proofs.Common.{◌≡◌, ℕ, zero, suc, take, get_or, ◌+◌, ◌<◌, ◌≤◌, ltb, Bool, true, false, filter, List, [], ◌∷◌, ◌++◌, length, map, Some, refl, sym, ap, subst, ◌∙◌, arith}
+use Rattle.std.proofs.Common.{◌≡◌, ℕ, zero, suc, take, get_or, ◌+◌, ◌<◌, ◌≤◌, ltb, Bool, true, false, filter, List, Option, [], ◌∷◌, ◌++◌, length, map, Some, refl, sym, ap, subst, ◌∙◌, arith}
 use Rattle.std.specs.Prelude.{IsTrue, Result, Ok, Err, OnOk, pos, ◌<ℤ◌, ℤ, ◌==◌, if◌then◌else◌, option_map}
 use Rattle.std.specs.List.{AllByRecursion}
 use Rattle.std.proofs.lemmas.Int.{ints}
 use Rattle.std.proofs.lemmas.List.{length-map, length-take-le, get_or-map, take_more, take_more_same, take_all}
+use Rattle.esc_manifest.specs.declared.row.MRow.{MRow}
 use Rattle.esc_rows.specs.declared.step.ChainStep.{ChainStep}
 use Rattle.esc_apply.specs.declared.front.Step.{Step}
 use Rattle.esc_rows.specs.Entries.{step_row}
@@ -99,10 +100,10 @@ pub registry_receipt : (s : Tables) (r : ReceiptValue) (c c' : Content) → Beco
 registry_receipt s r c c' turn it = subst (λ x. IsRegistry x s) (sym turn.is) (record { objects = it.objects; images = it.images; recorded = it.recorded; noted = it.noted })
 
 -- the receipts of what a change has made
-pub receipts_made : {S : Type 0} (g : Ghosts S) (store : Store S) (before k : Kept) → HasCleanDisk (state g store.conn) → (state g store.conn).in_transaction ≡ true → RestIn g store before k
+pub receipts_made : {S : Type 0} (g : Ghosts S) (store : Store S) (listing : Option (List MRow)) (before k : Kept) → HasCleanDisk (state g store.conn) → (state g store.conn).in_transaction ≡ true → RestIn g store listing before k
     → HoldsContent (state g store.conn).now (content_in (state g store.conn).now.trees) × (last_number (content_in (state g store.conn).now.trees).receipts ≡ length k.receipts)
 unfolding RestIn
-receipts_made g store before k clean on made = ((made.begun.on clean on).2, ap last_number (made.books clean on).receipts ∙ counted k.receipts)
+receipts_made g store listing before k clean on made = ((made.begun.on clean on).2, ap last_number (made.books clean on).receipts ∙ counted k.receipts)
 
 -- ---- bodies
 

@@ -71,6 +71,10 @@ fresh listed = record {
   registry = empty;
 }
 
+-- with other rows of the manifest
+abbrev pub with_listed : Kept → List MRow → Kept
+with_listed k rows = record k { listed = rows }
+
 -- with one receipt more
 abbrev pub with_receipt : Kept → ReceiptValue → Kept
 with_receipt k r = record k { receipts = k.receipts ++ r ∷ [] }

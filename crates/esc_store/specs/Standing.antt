@@ -1,5 +1,19 @@
 -- What a store stands for, and a change of it while it is on.
-use Rattle.std.specs.Prelude.{◌≡◌, true, false, IsTrue, List, Result, Ok, IfOk, OnOk, OnErr, IsErr}
+use Rattle.std.specs.Prelude.{
+  ◌≡◌,
+  true,
+  false,
+  IsTrue,
+  List,
+  Option,
+  Result,
+  Ok,
+  IfOk,
+  OnOk,
+  OnErr,
+  IsErr,
+}
+use Rattle.std.specs.Option.{unwrap_or}
 use Rattle.sqlite_trees.specs.declared.store.Store.{Ghosts}
 use Rattle.sqlite_trees.specs.Tree.{Trees}
 use Rattle.sqlite.specs.Effect.{Database}
@@ -73,15 +87,17 @@ pub record IsBegun (s : State) (manifest : List MRow) (k : Kept) : Type 0 where
 unfoldable pub BeganIn : {S : Type 0} → Ghosts S → Store S → Kept → Type 0
 BeganIn g store k = IsBegun (state g store.conn) store.manifest k
 
-pub record IsMade (s : State) (manifest : List MRow) (before k : Kept) : Type 0 where
+pub record IsMade (s : State) (manifest rows : List MRow) (before k : Kept) : Type 0 where
   pub begun : IsBegun s manifest before
-  pub listed : manifest ≡ k.listed
+  pub listed : rows ≡ k.listed
   pub books : HasCleanDisk s → s.in_transaction ≡ true → IsBooks (content_in s.now.trees) k
 
--- a change that was begun on a store of `before` has made this of its rows, receipts, bodies and
--- chain
-unfoldable pub RestIn : {S : Type 0} → Ghosts S → Store S → Kept → Kept → Type 0
-RestIn g store before k = IsMade (state g store.conn) store.manifest before k
+-- a change that was begun on a store of `before`, and that lists these rows in place of the store's
+-- if it lists any, has made this of its rows, receipts, bodies and chain
+unfoldable pub RestIn : {S : Type 0} → Ghosts S → Store S → Option (List MRow) → Kept → Kept
+    → Type 0
+RestIn g store listing before k =
+    IsMade (state g store.conn) store.manifest (unwrap_or listing store.manifest) before k
 
 pub record IsUnderWay (s : State) (tables : Tables) : Type 0 where
   pub is_open : IsTrue s.is_open
@@ -93,17 +109,26 @@ pub record IsUnderWay (s : State) (tables : Tables) : Type 0 where
 unfoldable pub HoldsIn : {S : Type 0} → Ghosts S → Store S → Tables → Type 0
 HoldsIn g store tables = HasCleanDisk (state g store.conn) → IsUnderWay (state g store.conn) tables
 
+-- a change of a store, which lists rows or none
+abbrev pub ChangeOf : Type 0 → Type 0
+ChangeOf S = Change S (Option (List MRow))
+
+-- the rows that the store has once the change is committed: those that the change lists, or else
+-- the store's own
+abbrev pub listed_by : {S : Type 0} → ChangeOf S → List MRow
+listed_by change = unwrap_or change.listing change.store.now.manifest
+
 -- a change was begun on a store that stood for k, and nothing of it is committed yet
-abbrev pub Began : {S : Type 0} → Ghosts S → Change S → Kept → Type 0
+abbrev pub Began : {S L : Type 0} → Ghosts S → Change S L → Kept → Type 0
 Began g change k = BeganIn g change.store.now k
 
 -- a change that was begun on a store of `before` has made this of its rows, receipts, bodies and
 -- chain; this says nothing of k's registry
-abbrev pub Rest : {S : Type 0} → Ghosts S → Change S → Kept → Kept → Type 0
-Rest g change before k = RestIn g change.store.now before k
+abbrev pub Rest : {S : Type 0} → Ghosts S → ChangeOf S → Kept → Kept → Type 0
+Rest g change before k = RestIn g change.store.now change.listing before k
 
 -- a change goes on, and has made this of its tables and before-images
-abbrev pub HoldsNow : {S : Type 0} → Ghosts S → Change S → Tables → Type 0
+abbrev pub HoldsNow : {S : Type 0} → Ghosts S → ChangeOf S → Tables → Type 0
 HoldsNow g change tables = HoldsIn g change.store.now tables
 
 -- ---- from one call to the next
@@ -115,17 +140,26 @@ pub record IsAsBefore {S : Type 0} (g : Ghosts S) (old new : Store S) : Type 0 w
   pub survives : LeavesNoMore g old.conn new.conn
   pub stands : (k : Kept) → Stands g old k → Stands g new k
 
--- what a part of a change leaves as it was, whatever it answers: nothing is committed
-pub record GoesOn {S : Type 0} (g : Ghosts S) (old new : Change S) : Type 0 where
+-- what each part of a change leaves as it was, whatever it answers: nothing is committed
+pub record IsUncommitted {S : Type 0} (g : Ghosts S) (old new : ChangeOf S) : Type 0 where
   pub same_reference : new.store.ghost_name ≡ old.store.ghost_name
   pub manifest : new.store.now.manifest ≡ old.store.now.manifest
   pub writes : new.store.now.writes ≡ old.store.now.writes
   pub survives : LeavesNoMore g old.store.now.conn new.store.now.conn
   pub began : (k : Kept) → Began g old k → Began g new k
 
+-- the same, of a part that lists no rows
+pub record GoesOn {S : Type 0} (g : Ghosts S) (old new : ChangeOf S) : Type 0 where
+  pub same_reference : new.store.ghost_name ≡ old.store.ghost_name
+  pub manifest : new.store.now.manifest ≡ old.store.now.manifest
+  pub listed : listed_by new ≡ listed_by old
+  pub writes : new.store.now.writes ≡ old.store.now.writes
+  pub survives : LeavesNoMore g old.store.now.conn new.store.now.conn
+  pub began : (k : Kept) → Began g old k → Began g new k
+
 -- what the calls of a change as a registry leave as it was, whatever they answer: nothing is
 -- committed, and the rows, receipts, bodies and chain are as they were
-pub record Follows {S : Type 0} (g : Ghosts S) (old new : Change S) : Type 0 where
+pub record Follows {S : Type 0} (g : Ghosts S) (old new : ChangeOf S) : Type 0 where
   pub goes_on : GoesOn g old new
   pub rest : (before k : Kept) → Rest g old before k → Rest g new before k
 

@@ -35,6 +35,7 @@ ghost use Rattle.esc_store.specs.Standing.{
   LeavesOr,
   LeavesNoMore,
   IsHonest,
+  listed_by,
 };
 
 use crate::codec::small;
@@ -43,15 +44,19 @@ use crate::fault::SFault;
 use crate::reply::Receipt;
 use crate::store::Store;
 use esc_apply::Step;
+use esc_manifest::Manifest;
 use esc_rows::held::insert_held;
 use esc_rows::step::ChainStep;
 use sqlite::Alter;
 
 /// A change of a store: one transaction. It is made whole by `commit`, and leaves all as before
 /// where it is dropped.
-pub struct Change<'a, S: Alter> {
+// What owns memory stands under a type parameter, so that contracts see what is left behind the
+// reference in the end.
+pub struct Change<'a, S: Alter, L = Option<Manifest>> {
     pub(crate) store: &'a mut Store<S>,
     pub(crate) count: u64,
+    pub(crate) listing: L,
 }
 
 impl<'a, S: Alter> Change<'a, S> {
@@ -136,7 +141,9 @@ impl<'a, S: Alter> Change<'a, S> {
 
     /// Makes the whole change at once. At `Err` nothing is changed: `S1`, `S2`.
     pub fn commit(self) -> Result<(), SFault>
-        ensures manifest { self.exit.0.now.manifest ≡ self.entry.store.now.manifest }
+        ensures manifest { OnOk result (self.exit.0.now.manifest ≡ listed_by self.entry) }
+        ensures unlisted { OnErr result
+            (self.exit.0.now.manifest ≡ self.entry.store.now.manifest) }
         ensures honest { HasCleanDisk (state S.Store self.exit.0.now.conn)
             → HasCleanDisk (state S.Store self.entry.store.now.conn) }
         ensures written { OnOk result (self.exit.0.now.writes
@@ -156,14 +163,19 @@ impl<'a, S: Alter> Change<'a, S> {
             → HoldsNow S.Store self.entry k.registry → LeavesOnly S.Store self.exit.0.now k) }
         ensures cause { IfErr result IsS1OrS2 }
     {
-        let Change { store, count } = self;
+        let Change {
+            store,
+            count,
+            listing,
+        } = self;
         store.commit_here()?;
         store.writes = store.writes.saturating_add(count);
+        store.take_over(listing);
         Ok(())
     }
 }
 
-impl<S: Alter> Drop for Change<'_, S> {
+impl<S: Alter, L: Drop> Drop for Change<'_, S, L> {
     fn drop(self)
         ensures manifest { self.exit.0.now.manifest ≡ self.entry.store.now.manifest }
         ensures writes { self.exit.0.now.writes ≡ self.entry.store.now.writes }
@@ -171,7 +183,11 @@ impl<S: Alter> Drop for Change<'_, S> {
             → Stands S.Store self.exit.0.now before }
         ensures survives { LeavesNoMore S.Store self.entry.store.now.conn self.exit.0.now.conn }
     {
-        let Change { store, count: _ } = self;
+        let Change {
+            store,
+            count: _,
+            listing: _,
+        } = self;
         store.give_up();
     }
 }

@@ -20,6 +20,7 @@
 //! | `reads` | what a store answers of itself |
 //! | `change`, `books`, `registry`, `records` | a change: its receipt, body and chain, and its objects |
 //! | `parked`, `moment` | parked bodies and the moment: what a store returns, and parts of a change |
+//! | `listing` | a change: the rows that an amended manifest adds |
 //! | `statements` | a write or a read of the tables: one call of `esc_rows` each |
 //! | `codec` | what the tables keep, as their rows and bytes, and back |
 //!
@@ -47,6 +48,7 @@
 //!   a function of each k that the store stood for.
 //! - A change that was begun on a store of k has `Began`: nothing is committed. `Rest` says what it
 //!   has made of rows, receipts, bodies and chain, and `HoldsNow` what of tables and before-images.
+//!   `listed_by` are the rows of its manifest, which the store has once the change is committed.
 //!   `commit` turns both into `Stands`; at `Err`, and where a change is dropped, the store stands
 //!   for what it stood for.
 //! - What a crash leaves is in `LeavesOnly`, `LeavesOr` and `LeavesNoMore`.
@@ -62,6 +64,7 @@ mod counts;
 mod fault;
 mod form;
 mod founding;
+mod listing;
 mod moment;
 mod numbers;
 mod opening;

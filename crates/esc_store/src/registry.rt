@@ -89,6 +89,7 @@ impl<'a, S: Alter> Registry for Change<'a, S> {
       goes_on = record {
         same_reference = refl;
         manifest = refl;
+        listed = refl;
         writes = refl;
         survives = record {
           clean = Prim.omega arith;
@@ -107,6 +108,7 @@ impl<'a, S: Alter> Registry for Change<'a, S> {
       goes_on = record {
         same_reference = q.goes_on.same_reference ∙ p.goes_on.same_reference;
         manifest = q.goes_on.manifest ∙ p.goes_on.manifest;
+        listed = q.goes_on.listed ∙ p.goes_on.listed;
         writes = q.goes_on.writes ∙ p.goes_on.writes;
         survives = survives_then _ _ _ _ _ _ (λ _ db none. none)
             (λ _ db none. none) p.goes_on.survives q.goes_on.survives;

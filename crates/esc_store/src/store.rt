@@ -5,6 +5,9 @@ ghost use Rattle.std.specs.Prelude.{
   true,
   false,
   Ok,
+  None,
+  List,
+  Option,
   IsErr,
   IsTrue,
   IfOk,
@@ -14,8 +17,10 @@ ghost use Rattle.std.specs.Prelude.{
   MatchResult,
 };
 ghost use Rattle.std.specs.Borrow.{sem, RestsIfErr};
+ghost use Rattle.std.specs.Option.{unwrap_or};
 ghost use Rattle.sqlite.specs.Held.{state};
 ghost use Rattle.esc_store.specs.Faults.{IsS1OrS2, IsS1ToS3};
+ghost use Rattle.esc_manifest.specs.declared.row.MRow.{MRow};
 ghost use Rattle.esc_store.specs.Opening.{IsAsItWas};
 ghost use Rattle.esc_store.specs.Kept.{Kept, fresh, with_registry};
 ghost use Rattle.esc_apply.specs.Registry.{State};
@@ -35,6 +40,7 @@ ghost use Rattle.esc_store.specs.Standing.{
   IsHonest,
   IsGivenUp,
   Settles,
+  listed_by,
 };
 ghost use Rattle.sqlite.specs.State.{HasCleanDisk};
 
@@ -148,7 +154,8 @@ impl<S: Alter> Store<S> {
         self.conn
     }
 
-    /// The manifest that the store was made with. Takes no memory.
+    /// The manifest: the rows that the store was made with, and those that were listed since. Takes
+    /// no memory.
     pub fn manifest(&self) -> &Manifest
         ensures manifest { result.now ≡ self.now.manifest }
         ensures kept { (k : Kept) → Stands S.Store self.now k → result.now ≡ k.listed }
@@ -177,6 +184,7 @@ impl<S: Alter> Store<S> {
         ensures writes { IfOk result (λ change. change.store.now.writes ≡ self.old.writes) }
         ensures manifest { IfOk result (λ change. change.store.now.manifest
             ≡ self.old.manifest) }
+        ensures listed { IfOk result (λ change. listed_by change ≡ self.old.manifest) }
         ensures began { IfOk result (λ change. (k : Kept) → Stands S.Store self.old k
             → Began S.Store change k) }
         ensures rest { IfOk result (λ change. (k : Kept) → Stands S.Store self.old k
@@ -191,6 +199,7 @@ impl<S: Alter> Store<S> {
         Ok(Change {
             store: self,
             count: 0,
+            listing: None,
         })
     }
 
@@ -204,7 +213,7 @@ impl<S: Alter> Store<S> {
         ensures began { OnOk result ((k : Kept) → Stands S.Store self.old k
             → BeganIn S.Store self.new k) }
         ensures rest { OnOk result ((k : Kept) → Stands S.Store self.old k
-            → RestIn S.Store self.new k k) }
+            → RestIn S.Store self.new None k k) }
         ensures holds { OnOk result ((k : Kept) → Stands S.Store self.old k
             → HoldsIn S.Store self.new k.registry) }
         ensures cause { IfErr result IsS1OrS2 }
@@ -218,21 +227,30 @@ impl<S: Alter> Store<S> {
         ensures manifest { self.new.manifest ≡ self.old.manifest }
         ensures writes { self.new.writes ≡ self.old.writes }
         ensures honest { IsHonest S.Store self.new → IsHonest S.Store self.old }
-        ensures committed { OnOk result ((before k : Kept) (s : State)
-            → RestIn S.Store self.old before (with_registry k s)
-            → HoldsIn S.Store self.old k.registry → Stands S.Store self.new k) }
+        ensures committed { OnOk result ((listing : Option (List MRow)) (before k : Kept)
+            (s : State) → RestIn S.Store self.old listing before (with_registry k s)
+            → HoldsIn S.Store self.old k.registry → HoldsKept S.Store self.new.conn k) }
         ensures kept { OnErr result ((before : Kept) → BeganIn S.Store self.old before
             → Stands S.Store self.new before) }
-        ensures crash { (before k : Kept) (s : State)
-            → RestIn S.Store self.old before (with_registry k s)
+        ensures crash { (listing : Option (List MRow)) (before k : Kept) (s : State)
+            → RestIn S.Store self.old listing before (with_registry k s)
             → HoldsIn S.Store self.old k.registry → LeavesOr S.Store self.old.conn self.new.conn k }
-        ensures left { OnOk result ((before k : Kept) (s : State)
-            → RestIn S.Store self.old before (with_registry k s)
+        ensures left { OnOk result ((listing : Option (List MRow)) (before k : Kept) (s : State)
+            → RestIn S.Store self.old listing before (with_registry k s)
             → HoldsIn S.Store self.old k.registry → LeavesOnly S.Store self.new k) }
         ensures cause { IfErr result IsS1OrS2 }
     {
         let committed = commit_in(&mut self.conn);
         self.settle(committed)
+    }
+
+    // Takes over the rows that a change listed, if it listed any.
+    pub(crate) fn take_over(&mut self, listing: Option<Manifest>)
+        ensures { self.new ≡ record self.old { manifest = unwrap_or listing self.old.manifest } }
+    {
+        if let Some(union) = listing {
+            self.manifest = union;
+        }
     }
 
     // Gives up what a failure left of a transaction.

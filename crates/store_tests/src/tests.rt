@@ -2,6 +2,7 @@
 
 mod chains;
 mod database;
+mod listing;
 mod parking;
 mod receipts;
 mod store;

@@ -68,7 +68,7 @@ fn stored_listed(alloc: Global, number: usize, row: &MRow) -> Result<Listed, SFa
 }
 
 // The rows of a manifest as their table keeps them.
-fn stored_manifest(alloc: Global, rows: &[MRow]) -> Result<Vec<Listed>, SFault>
+pub(crate) fn stored_manifest(alloc: Global, rows: &[MRow]) -> Result<Vec<Listed>, SFault>
     ensures rows { IfOk result (λ stored. map stored_row stored.items ≡ listed_from 0 rows.now) }
     ensures cause { IfErr result (λ fault. (fault ≡ SFault.S1) ⊎ (fault ≡ SFault.S2)) }
 {

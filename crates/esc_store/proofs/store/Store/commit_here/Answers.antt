@@ -3,30 +3,30 @@ use Rattle.sqlite_trees.specs.Tree.{Trees}
 use Rattle.sqlite.specs.Held.{state}
 use Rattle.sqlite.proofs.StateLemmas.{survives_then}
 use Rattle.esc_store.specs.Tables.{IsStore}
-use Rattle.esc_store.specs.Standing.{Stands, BeganIn, RestIn, HoldsIn, LeavesOr, LeavesOnly}
+use Rattle.esc_store.specs.Standing.{Stands, HoldsKept, BeganIn, RestIn, HoldsIn, LeavesOr, LeavesOnly}
 use Rattle.esc_store.proofs.Ends.{ok_goes, err_goes, at_ok, at_err, committed, crash, left, given_up, keeps_then, was_clean, begun_committed}
 use Rattle.esc_store.proofs.store.Store.commit_here.Goals as goal
 
 pub returns-clause-committed : goal.returns-clause-committed
-unfolding Stands RestIn HoldsIn
-returns-clause-committed g c = ok_goes c.settle.result _ _ c.settle.ensures.settled.ok (λ x p before k s rest holds. rw p.1
-    (committed (state g.S.Store c.args.self.now.conn) (state g.S.Store c.commit_in-committed.new.conn) _ before k s rest holds _ c.commit_in-committed.ensures.survives
+unfolding HoldsKept RestIn HoldsIn
+returns-clause-committed g c = ok_goes c.settle.result _ _ c.settle.ensures.settled.ok (λ x p listing before k s rest holds. rw p.1
+    (committed (state g.S.Store c.args.self.now.conn) (state g.S.Store c.commit_in-committed.new.conn) _ _ before k s rest holds _ c.commit_in-committed.ensures.survives
     (λ clean. at_ok c.commit_in-committed.result x _ p.0 (c.commit_in-committed.ensures.committed clean))))
 
 pub returns-clause-left : goal.returns-clause-left
 unfolding LeavesOnly RestIn HoldsIn
-returns-clause-left g c = ok_goes c.settle.result _ _ c.settle.ensures.settled.ok (λ x p before k s rest holds. rw p.1
-    (left (state g.S.Store c.args.self.now.conn) (state g.S.Store c.commit_in-committed.new.conn) _ before k s rest holds _ c.commit_in-committed.ensures.survives
+returns-clause-left g c = ok_goes c.settle.result _ _ c.settle.ensures.settled.ok (λ x p listing before k s rest holds. rw p.1
+    (left (state g.S.Store c.args.self.now.conn) (state g.S.Store c.commit_in-committed.new.conn) _ _ before k s rest holds _ c.commit_in-committed.ensures.survives
     (λ clean. at_ok c.commit_in-committed.result x _ p.0 (c.commit_in-committed.ensures.committed clean)) c.commit_in-committed.ensures.only))
 
 pub returns-clause-crash : goal.returns-clause-crash
 unfolding LeavesOr RestIn HoldsIn
-returns-clause-crash g c = λ before k s rest holds.
+returns-clause-crash g c = λ listing before k s rest holds.
     let old = state g.S.Store c.args.self.now.conn in
     let mid = state g.S.Store c.commit_in-committed.new.conn in
     let new = state g.S.Store c.settle.new.self.conn in
     survives_then old mid new (λ trees. IsStore trees k) (λ trees. ⊥) (λ trees. IsStore trees k) (λ _ db is. is) (λ _ db none. absurd none)
-    (crash old mid _ before k s rest holds c.commit_in-committed.ensures.survives) c.settle.ensures.settled.survives
+    (crash old mid _ _ before k s rest holds c.commit_in-committed.ensures.survives) c.settle.ensures.settled.survives
 
 pub returns-clause-kept : goal.returns-clause-kept
 unfolding Stands BeganIn

@@ -1,0 +1,56 @@
+-- What a part of a change does that lists rows.
+use Rattle.std.proofs.Common.{◌≡◌, ℕ, suc, ◌+◌, ◌≤◌, List, [], ◌∷◌, ◌++◌, length, Option, Some, refl, sym, subst, ◌∙◌, arith}
+use Rattle.std.specs.Prelude.{pos, ◌<ℤ◌}
+use Rattle.std.specs.List.{AllByRecursion}
+use Rattle.std.specs.Option.{unwrap_or}
+use Rattle.std.proofs.lemmas.Int.{ints}
+use Rattle.sqlite_keyed.specs.Keyed.{insert_by}
+use Rattle.esc_manifest.specs.declared.row.MRow.{MRow}
+use Rattle.esc_apply.specs.Registry.{State as Tables}
+use Rattle.esc_rows.specs.Rows.{ListedRow, listed_number}
+use Rattle.esc_rows.specs.Content.{Content}
+use Rattle.esc_rows.specs.Changes.{with_listed_row}
+use Rattle.esc_rows.proofs.NumberLemmas.{insert_last}
+use Rattle.esc_store.specs.Kept.{Kept, with_listed}
+use Rattle.esc_store.specs.TypedRows.{IsBooks, IsRegistry, listed_row, listed_from}
+use Rattle.sqlite_trees.specs.declared.store.Store.{Ghosts}
+use Rattle.esc_store.specs.declared.store.Store.{Store}
+use Rattle.esc_store.specs.Standing.{ChangeOf, RestIn, IsUncommitted, GoesOn}
+use Rattle.esc_store.proofs.Standings.{survives_same}
+use Rattle.esc_store.proofs.Manifests.{listed_push}
+use Rattle.esc_store.proofs.RowSteps.{Becoming}
+
+-- rows are below one behind them
+all_below : (n m : ℕ) (rs : List MRow) → length rs + n ≤ m → AllByRecursion (λ (x : ListedRow). listed_number x <ℤ pos m) (listed_from n rs)
+all_below n m [] h = tt
+all_below n m (r ∷ rs) h = (omega (arith, ints, h), all_below (suc n) m rs (omega (arith, h)))
+
+-- the next row, put in its place
+listed_put : (rs : List MRow) (r : MRow) → insert_by listed_number (listed_from 0 rs) (listed_row (length rs) r) ≡ listed_from 0 (rs ++ r ∷ [])
+listed_put rs r = insert_last listed_number (listed_from 0 rs) (listed_row (length rs) r) (all_below 0 (length rs) rs (omega arith)) ∙ sym (listed_push 0 rs r (length rs) (omega arith))
+
+pub books_listed : (k : Kept) (row : ListedRow) (r : MRow) (c c' : Content) → row ≡ listed_row (length k.listed) r → Becoming (with_listed_row row) c c' → IsBooks c k → IsBooks c' (with_listed k (k.listed ++ r ∷ []))
+books_listed k row r c c' row_is turn books = subst (λ x. IsBooks x (with_listed k (k.listed ++ r ∷ []))) (sym turn.is) (record {
+  listed = rw (row_is, books.listed) (listed_put k.listed r);
+  receipts = books.receipts;
+  held = books.held;
+  parked = books.parked;
+  moment = books.moment;
+  steps = books.steps;
+})
+
+pub registry_listed : (s : Tables) (row : ListedRow) (c c' : Content) → Becoming (with_listed_row row) c c' → IsRegistry c s → IsRegistry c' s
+registry_listed s row c c' turn it = subst (λ x. IsRegistry x s) (sym turn.is) (record { objects = it.objects; images = it.images; recorded = it.recorded; noted = it.noted })
+
+-- nothing was called
+pub unchanged : {S : Type 0} {g : Ghosts S} {a : ChangeOf S} → IsUncommitted g a a
+unchanged = record { same_reference = refl; manifest = refl; writes = refl; survives = survives_same _ _; began = λ k h. h }
+
+-- a part that lists no rows, as one that may
+pub uncommitted : {S : Type 0} {g : Ghosts S} {a b : ChangeOf S} → GoesOn g a b → IsUncommitted g a b
+uncommitted goes = record { same_reference = goes.same_reference; manifest = goes.manifest; writes = goes.writes; survives = goes.survives; began = goes.began }
+
+-- what a change lists, told of what it keeps
+pub as_listed : {S : Type 0} (g : Ghosts S) (store : Store S) (listing : Option (List MRow)) (before k : Kept) → RestIn g store listing before k → (unwrap_or listing store.manifest ≡ k.listed) × RestIn g store (Some k.listed) before k
+unfolding RestIn
+as_listed g store listing before k rest = (rest.listed, record { begun = rest.begun; listed = refl; books = rest.books })

@@ -1,0 +1,15 @@
+use Rattle.std.proofs.Common.{◌∙◌, ap}
+use Rattle.std.specs.Option.{unwrap_or}
+use Rattle.esc_store.specs.Standing.{Stands, HoldsKept, RestIn, LeavesOnly}
+use Rattle.esc_store.proofs.change.Change+S.commit.Goals as goal
+
+pub returns-clause-committed : goal.returns-clause-committed
+unfolding Stands HoldsKept RestIn
+returns-clause-committed g c = λ before k s rest holds. rw c.take_over.ensures (record {
+  listed = ap (unwrap_or c.args.self.listing) c.commit_here.ensures.manifest ∙ rest.listed;
+  rests = c.in_ok-commit_here.ensures.committed c.args.self.listing before k s rest holds;
+})
+
+pub returns-clause-left : goal.returns-clause-left
+unfolding LeavesOnly
+returns-clause-left g c = λ before k s rest holds. rw c.take_over.ensures (c.in_ok-commit_here.ensures.left c.args.self.listing before k s rest holds)

@@ -1,0 +1,109 @@
+//! The rows that a change lists: those that an amended manifest adds.
+
+ghost use Rattle.std.specs.Prelude.{
+  ◌≡◌,
+  ◌∷◌,
+  ◌++◌,
+  [],
+  List,
+  Some,
+  length,
+  map,
+  take,
+  IfErr,
+  OnOk,
+  OnErr,
+};
+ghost use Rattle.esc_manifest.specs.declared.row.MRow.{MRow};
+ghost use Rattle.esc_apply.specs.Registry.{State};
+ghost use Rattle.esc_rows.specs.Entries.{listed_row as stored_row};
+ghost use Rattle.esc_store.specs.Faults.{IsS1OrS2};
+ghost use Rattle.esc_store.specs.Kept.{Kept, with_listed};
+ghost use Rattle.esc_store.specs.TypedRows.{listed_row, listed_from};
+ghost use Rattle.esc_store.specs.Standing.{
+  RestIn,
+  Rest,
+  HoldsNow,
+  IsUncommitted,
+  GoesOn,
+  listed_by,
+};
+
+use crate::change::Change;
+use crate::codec::manifest::stored_manifest;
+use crate::fault::SFault;
+use esc_manifest::Manifest;
+use esc_rows::listed::{Listed, insert_listed};
+use sqlite::Alter;
+
+impl<'a, S: Alter> Change<'a, S> {
+    /// Lists the rows of a union, which begins with those that are listed. It is the store's
+    /// manifest once the change is committed. At `Err` what is listed is as it was: `S1`, `S2`.
+    #[tactic(auto, using(crate::proofs::Lists::unchanged, crate::proofs::Lists::uncommitted))]
+    pub fn list(&mut self, union: Manifest) -> Result<(), SFault>
+        requires begins { take (length (listed_by self.now)) union ≡ listed_by self.now }
+        ensures goes_on { IsUncommitted S.Store self.old self.new }
+        ensures count { self.new.count ≡ self.old.count }
+        ensures listed { OnOk result ((before k : Kept) → Rest S.Store self.old before k
+            → Rest S.Store self.new before (with_listed k union)) }
+        ensures manifest { OnOk result (listed_by self.new ≡ union) }
+        ensures unlisted { OnErr result (listed_by self.new ≡ listed_by self.old) }
+        ensures holds { OnOk result ((s : State) → HoldsNow S.Store self.old s
+            → HoldsNow S.Store self.new s) }
+        ensures cause { IfErr result IsS1OrS2 }
+    {
+        let rows = stored_manifest(self.store.alloc, union.rows())?;
+        let from = self.listed_len();
+        self.list_rows(rows.as_slice(), from)?;
+        self.listing = Some(union);
+        Ok(())
+    }
+
+    // How many rows are listed.
+    fn listed_len(&self) -> usize
+        ensures { result ≡ length (listed_by self.now) }
+    {
+        match &self.listing {
+            Some(union) => union.rows().len(),
+            None => self.store.manifest.rows().len(),
+        }
+    }
+
+    // Puts the rows of a union from a place on into their table, which has those before it.
+    #[tactic(auto, using(crate::proofs::Parking::goes_then))]
+    fn list_rows(&mut self, rows: &[Listed], from: usize) -> Result<(), SFault>
+        ensures goes_on { GoesOn S.Store self.old self.new }
+        ensures listing { self.new.listing ≡ self.old.listing }
+        ensures count { self.new.count ≡ self.old.count }
+        ensures listed { OnOk result ((before k : Kept) (union : List MRow)
+            → map stored_row rows.now ≡ listed_from 0 union → take from union ≡ k.listed
+            → RestIn S.Store self.old.store.now (Some k.listed) before k
+            → RestIn S.Store self.new.store.now (Some union) before (with_listed k union)) }
+        ensures holds { OnOk result ((s : State) → HoldsNow S.Store self.old s
+            → HoldsNow S.Store self.new s) }
+        ensures cause { IfErr result IsS1OrS2 }
+    {
+        for at in from..rows.len() {
+            self.list_row(&rows[at])?;
+        }
+        Ok(())
+    }
+
+    // Puts a row into its table, which has those before it.
+    fn list_row(&mut self, row: &Listed) -> Result<(), SFault>
+        ensures goes_on { GoesOn S.Store self.old self.new }
+        ensures listing { self.new.listing ≡ self.old.listing }
+        ensures count { self.new.count ≡ self.old.count }
+        ensures listed { OnOk result ((before k : Kept) (r : MRow)
+            → stored_row row.now ≡ listed_row (length k.listed) r
+            → RestIn S.Store self.old.store.now (Some k.listed) before k
+            → RestIn S.Store self.new.store.now (Some (k.listed ++ r ∷ [])) before
+            (with_listed k (k.listed ++ r ∷ []))) }
+        ensures holds { OnOk result ((s : State) → HoldsNow S.Store self.old s
+            → HoldsNow S.Store self.new s) }
+        ensures cause { IfErr result IsS1OrS2 }
+    {
+        let done = insert_listed(&mut self.store.conn, row);
+        self.store.settle(done)
+    }
+}
