@@ -1,0 +1,201 @@
+-- The books after one more arrival.
+use Rattle.std.proofs.Common.{◌≡◌, ◌⊎◌, inl, inr, ℕ, Bool, true, false, cond, ◌==◌, List, [], ◌∷◌, ◌++◌, Option, Some, None, IsSome, is_some, refl, sym, ap, subst, ◌∙◌, true≢false}
+use Rattle.std.specs.List.{list_any}
+use Rattle.std.specs.Str.{bytes_eq}
+use Rattle.std.specs.FinSet as set
+use Rattle.std.specs.Ordering.{nat_cmp, eq_by_cmp}
+use Rattle.std.specs.Cmp.{nat_cmp_total, eq_by_cmp_equiv}
+use Rattle.std.specs.Cmp.Lexicographic.{bytes_decides}
+use Rattle.std.proofs.lemmas.Map.Views.{list_any-from_Contains, Contains-from_any}
+use Rattle.sha2.specs.Sha256.{sha256}
+use Rattle.esc_tables.specs.DepositValue.{DepositValue}
+use Rattle.esc_tables.specs.Reading.{reading}
+use Rattle.esc_store.specs.Kept.{Kept, SaysHeld, AreHeldBy, body_put, parked_put, with_receipt}
+use Rattle.esc_store.specs.ReplyValue.{ReplyValue, ReceiptValue, reply_alike}
+use Rattle.esc_events.specs.declared.finding.Finding.{Finding}
+use Rattle.esc_events.specs.declared.finding.Finding.TheVariants.{Unlisted, Holding}
+use Rattle.esc_events.specs.declared.known.Known.{Known}
+use Rattle.esc_events.specs.declared.parking.Parking.{Parking}
+use Rattle.esc_events.specs.declared.parking.Parking.TheVariants.{Needless, Free, Crowded}
+use Rattle.esc_events.specs.ArrivalValue.{ArrivalValue}
+use Rattle.esc_events.specs.Events.{EventValue, Coming, union, coming, comings}
+use Rattle.esc_events.specs.Events.EventValue.{arrived}
+use Rattle.esc_events.specs.Finding.{finding, held_row, row_of}
+use Rattle.esc_events.specs.Notes.{noted_by, held_by}
+use Rattle.esc_events.specs.Parks.{IsParking}
+use Rattle.esc_events.specs.Receipts.{holds_row, holds, holds_any, is_among, distinct, receipt_by, receipt_for, receipts_after}
+use Rattle.esc_events.specs.Stands.{holds_by, held_body, parked_body, IsApart, AreBooks}
+use Rattle.esc_events.specs.Taking.{IsNew}
+use Rattle.esc_events.proofs.HeldReceipts.{holds_from_says, any_holds, any_says}
+use Rattle.esc_events.proofs.HeldRows.{same_test, same_self, same_number, is_row_of, listed_row, unlisted_row}
+use Rattle.esc_events.proofs.OneArrival.{old_body, new_body, old_parked, new_parked, repeated, books_with}
+use Rattle.esc_events.proofs.Searches.{same_answer}
+
+-- ---- the receipt
+
+same_bool : (a b : Bool) → (a ≡ true → b ≡ true) → (b ≡ true → a ≡ true) → a ≡ b
+same_bool true true f g = refl
+same_bool true false f g = absurd (true≢false (sym (f refl)))
+same_bool false true f g = absurd (true≢false (sym (g refl)))
+same_bool false false f g = refl
+
+exact : (x y : ℕ) → eq_by_cmp nat_cmp x y ≡ true → x ≡ y
+exact x y e = sym (same_number y x (sym (same_test y x) ∙ e))
+
+-- the rows that receipts say are held are those that the arrivals before held
+told_before : (before : List Coming) (rows : List ℕ) → AreHeldBy (receipts_after sha256 reading [] before) rows → (row : Option ℕ) → is_among rows row ≡ holds_any sha256 reading before row
+told_before before rows told None = refl
+told_before before rows told (Some r) = sym (set.contains-from_list_nat rows r) ∙ set.contains-from_list nat_cmp_total rows r ∙ same_bool _ _ there back
+  where
+    there : list_any (eq_by_cmp nat_cmp r) rows ≡ true → list_any (holds sha256 reading r) before ≡ true
+    there any = any_holds sha256 reading r [] before ((told.each r).0 (Contains-from_any exact r rows any))
+
+    back : list_any (holds sha256 reading r) before ≡ true → list_any (eq_by_cmp nat_cmp r) rows ≡ true
+    back any = list_any-from_Contains (eq_by_cmp_equiv nat_cmp_total) r rows ((told.each r).1 (any_says sha256 reading r [] before any))
+
+pub new_receipt : (e : List EventValue) (a : ArrivalValue) (k : Kept) (found : Finding) (known : Known) (receipt : ReceiptValue) → IsNew e a k found known receipt
+    → receipt ≡ receipt_for sha256 reading (distinct sha256 reading (comings e)) (coming (union e) a)
+new_receipt e a k found known receipt is =
+    is.receipt_is
+    ∙ ap (λ (f : Finding). receipt_by a.number (sha256 a.body) f (is_among known.told.items (held_row f))) is.found_is
+    ∙ ap (receipt_by a.number (sha256 a.body) (finding sha256 reading (union e) a.body))
+    (told_before (distinct sha256 reading (comings e)) known.told.items (subst (λ (rs : List ReceiptValue). AreHeldBy rs known.told.items) is.stood.books.receipts is.known_is.told) (held_row (finding sha256 reading (union e) a.body)))
+
+-- what the receipt says is held was found to be held
+says_found : (e : List EventValue) (a : ArrivalValue) (k : Kept) (found : Finding) (known : Known) (receipt : ReceiptValue) → IsNew e a k found known receipt
+    → (r : ℕ) → SaysHeld r receipt → held_row found ≡ Some r
+says_found e a k found known receipt is r says =
+    is_row_of r (held_row found) (holds_from_says r a.number (sha256 a.body) found (is_among known.told.items (held_row found)) (subst (SaysHeld r) is.receipt_is says))
+
+-- the row that the body holds was found
+held_found : (e : List EventValue) (a : ArrivalValue) (found : Finding) → found ≡ finding sha256 reading (union e) a.body → (r : ℕ) → holds_by sha256 reading (union e) r (coming (union e) a) ≡ true → held_row found ≡ Some r
+held_found e a found is r holds = ap held_row is ∙ is_row_of r (held_row (finding sha256 reading (union e) a.body)) holds
+
+-- a body that a row lists is parked under no digest
+none_parked : (e : List EventValue) (a : ArrivalValue) (found : Finding) → found ≡ finding sha256 reading (union e) a.body → (found ≡ Unlisted → ⊥)
+    → (d : List ℕ) → sha256 a.body ≡ d → is_some (row_of (union e) d) ≡ false → ⊥
+none_parked e a found is listed d same none =
+    true≢false (sym (listed_row (union e) (row_of (union e) (sha256 a.body)) (reading a.body) (λ unlisted. listed (is ∙ unlisted))) ∙ ap (λ (x : List ℕ). is_some (row_of (union e) x)) same ∙ none)
+
+-- no body is kept: a row lists it, and it is not the deposit of a row of which no body is held
+pub books_noted : (e : List EventValue) (a : ArrivalValue) (k : Kept) (found : Finding) (known : Known) (receipt : ReceiptValue) → IsNew e a k found known receipt
+    → (found ≡ Unlisted → ⊥) → ((q : ℕ) → held_row found ≡ Some q → IsSome (k.bodies q)) → AreBooks sha256 reading (e ++ arrived a ∷ []) (with_receipt k receipt)
+books_noted e a k found known receipt is listed there =
+    books_with sha256 reading e k a is.stood.books is.none receipt (new_receipt e a k found known receipt is) k.bodies k.parked
+    (λ apart r. old_body sha256 reading e k a is.stood.books apart r (λ holds. there r (held_found e a found is.found_is r holds)))
+    (λ apart d. old_parked sha256 reading e k a is.stood.books apart d (λ same none. absurd (none_parked e a found is.found_is listed d same none)))
+    (λ r body at. inl at)
+    (λ d body at. inl at)
+    by_receipt
+  where
+    by_receipt : (r : ℕ) → IsSome (k.bodies r) ⊎ SaysHeld r receipt → IsSome (k.bodies r)
+    by_receipt r (inl some) = some
+    by_receipt r (inr says) = there r (says_found e a k found known receipt is r says)
+
+-- no row lists the body: it is parked, unless it is already
+pub books_parked : (e : List EventValue) (a : ArrivalValue) (k : Kept) (known : Known) (receipt : ReceiptValue) → IsNew e a k Unlisted known receipt
+    → (parking : Parking) → IsParking k.parked (sha256 a.body) parking → (parking ≡ Crowded → ⊥) → AreBooks sha256 reading (e ++ arrived a ∷ []) (noted_by receipt parking a.body k)
+books_parked e a k known receipt is parking at free = by_parking parking at free
+  where
+    digest_is : receipt.digest ≡ sha256 a.body
+    digest_is = ap (λ (r : ReceiptValue). r.digest) is.receipt_is
+
+    held_none : {X : Type 0} → (r : ℕ) → held_row Unlisted ≡ Some r → X
+    held_none r held = absurd (true≢false (sym (ap is_some held)))
+
+    bodies_are : IsApart sha256 reading (e ++ arrived a ∷ []) → (r : ℕ) → k.bodies r ≡ held_body sha256 reading (e ++ arrived a ∷ []) r
+    bodies_are apart r = old_body sha256 reading e k a is.stood.books apart r (λ holds. held_none r (held_found e a Unlisted is.found_is r holds))
+
+    by_receipt : (r : ℕ) → IsSome (k.bodies r) ⊎ SaysHeld r receipt → IsSome (k.bodies r)
+    by_receipt r (inl some) = some
+    by_receipt r (inr says) = held_none r (says_found e a k Unlisted known receipt is r says)
+
+    unlisted : row_of (union e) (sha256 a.body) ≡ None
+    unlisted = unlisted_row (union e) (row_of (union e) (sha256 a.body)) (reading a.body) (sym is.found_is)
+
+    -- with its body
+    parked_are : k.parked (sha256 a.body) ≡ None → IsApart sha256 reading (e ++ arrived a ∷ []) → (d : List ℕ) → parked_put k.parked receipt.digest (Some a.body) d ≡ parked_body sha256 reading (e ++ arrived a ∷ []) d
+    parked_are nothing apart d = by_test (bytes_eq receipt.digest d) refl
+      where
+        by_test : (b : Bool) → bytes_eq receipt.digest d ≡ b → cond b (Some a.body) (k.parked d) ≡ parked_body sha256 reading (e ++ arrived a ∷ []) d
+        by_test true same =
+            let digest : sha256 a.body ≡ d = sym digest_is ∙ (bytes_decides receipt.digest d).0 same in
+            new_parked sha256 reading e k a is.stood.books apart d digest
+            (subst (λ (x : List ℕ). row_of (union e) x ≡ None) digest unlisted)
+            (subst (λ (x : List ℕ). k.parked x ≡ None) digest nothing)
+        by_test false other = old_parked sha256 reading e k a is.stood.books apart d (λ same none. absurd (true≢false (sym ((bytes_decides receipt.digest d).1 (digest_is ∙ same)) ∙ other)))
+
+    waits : (d body : List ℕ) → parked_put k.parked receipt.digest (Some a.body) d ≡ Some body → (k.parked d ≡ Some body) ⊎ ((sha256 a.body ≡ d) × (a.body ≡ body))
+    waits d body put = by_test (bytes_eq receipt.digest d) refl put
+      where
+        by_test : (b : Bool) → bytes_eq receipt.digest d ≡ b → cond b (Some a.body) (k.parked d) ≡ Some body → (k.parked d ≡ Some body) ⊎ ((sha256 a.body ≡ d) × (a.body ≡ body))
+        by_test true same put = inr (sym digest_is ∙ (bytes_decides receipt.digest d).0 same, same_answer put)
+        by_test false other put = inl put
+
+    by_parking : (parking : Parking) → IsParking k.parked (sha256 a.body) parking → (parking ≡ Crowded → ⊥) → AreBooks sha256 reading (e ++ arrived a ∷ []) (noted_by receipt parking a.body k)
+    by_parking Needless some free =
+        books_with sha256 reading e k a is.stood.books is.none receipt (new_receipt e a k Unlisted known receipt is) k.bodies k.parked
+        bodies_are
+        (λ apart d. old_parked sha256 reading e k a is.stood.books apart d (λ same none. subst (λ (x : List ℕ). IsSome (k.parked x)) same some))
+        (λ r body at. inl at)
+        (λ d body at. inl at)
+        by_receipt
+    by_parking Free at free =
+        books_with sha256 reading e k a is.stood.books is.none receipt (new_receipt e a k Unlisted known receipt is) k.bodies (parked_put k.parked receipt.digest (Some a.body))
+        bodies_are
+        (parked_are at.0)
+        (λ r body at. inl at)
+        waits
+        by_receipt
+    by_parking Crowded at free = absurd (free refl)
+
+-- the body is the deposit of a row of which none is held
+pub books_held : (e : List EventValue) (a : ArrivalValue) (k : Kept) (row : ℕ) (d : DepositValue) (known : Known) (receipt : ReceiptValue) → IsNew e a k (Holding row d) known receipt
+    → k.bodies row ≡ None → AreBooks sha256 reading (e ++ arrived a ∷ []) (held_by receipt row a.body k)
+books_held e a k row d known receipt is none =
+    books_with sha256 reading e k a is.stood.books is.none receipt (new_receipt e a k (Holding row d) known receipt is) (body_put k.bodies row a.body) k.parked
+    bodies_are
+    (λ apart g. old_parked sha256 reading e k a is.stood.books apart g (λ same none. absurd (none_parked e a (Holding row d) is.found_is not_unlisted g same none)))
+    comes
+    (λ d body at. inl at)
+    told
+  where
+    not_unlisted : Holding row d ≡ Unlisted → ⊥
+    not_unlisted same = true≢false (ap (λ (f : Finding). is_some (held_row f)) same)
+
+    holds_it : (r : ℕ) → row ≡ r → holds_by sha256 reading (union e) r (coming (union e) a) ≡ true
+    holds_it r same = ap (holds_row r) (sym is.found_is) ∙ ap (λ (q : ℕ). q == r) same ∙ same_self r
+
+    bodies_are : IsApart sha256 reading (e ++ arrived a ∷ []) → (r : ℕ) → body_put k.bodies row a.body r ≡ held_body sha256 reading (e ++ arrived a ∷ []) r
+    bodies_are apart r = by_test (r == row) refl
+      where
+        by_test : (b : Bool) → (r == row) ≡ b → cond b (Some a.body) (k.bodies r) ≡ held_body sha256 reading (e ++ arrived a ∷ []) r
+        by_test true same =
+            let at : r ≡ row = same_number r row same in
+            new_body sha256 reading e k a is.stood.books apart r (ap k.bodies at ∙ none) (holds_it r (sym at))
+        by_test false other = old_body sha256 reading e k a is.stood.books apart r (λ holds. absurd (true≢false (sym (again (same_answer (held_found e a (Holding row d) is.found_is r holds))) ∙ other)))
+          where
+            again : row ≡ r → (r == row) ≡ true
+            again same = ap (λ (q : ℕ). r == q) same ∙ same_self r
+
+    comes : (r : ℕ) (body : List ℕ) → body_put k.bodies row a.body r ≡ Some body → (k.bodies r ≡ Some body) ⊎ ((holds_by sha256 reading (union e) r (coming (union e) a) ≡ true) × (a.body ≡ body))
+    comes r body put = by_test (r == row) refl put
+      where
+        by_test : (b : Bool) → (r == row) ≡ b → cond b (Some a.body) (k.bodies r) ≡ Some body → (k.bodies r ≡ Some body) ⊎ ((holds_by sha256 reading (union e) r (coming (union e) a) ≡ true) × (a.body ≡ body))
+        by_test true same put = inr (holds_it r (sym (same_number r row same)), same_answer put)
+        by_test false other put = inl put
+
+    still : (b : Bool) (o : Option (List ℕ)) → IsSome o → IsSome (cond b (Some a.body) o)
+    still true o some = refl
+    still false o some = some
+
+    told : (r : ℕ) → IsSome (k.bodies r) ⊎ SaysHeld r receipt → IsSome (body_put k.bodies row a.body r)
+    told r (inl some) = still (r == row) (k.bodies r) some
+    told r (inr says) =
+        let same : row ≡ r = same_answer (says_found e a k (Holding row d) known receipt is r says) in
+        ap (λ b. is_some (cond b (Some a.body) (k.bodies r))) (ap (λ (q : ℕ). r == q) same ∙ same_self r)
+
+-- an arrival like an earlier one changes nothing
+pub books_repeated : (e : List EventValue) (a : ArrivalValue) (k : Kept) → AreBooks sha256 reading e k → (r : ReplyValue)
+    → reply_alike (union e) 1 a.number (sha256 a.body) k.receipts ≡ Some r → AreBooks sha256 reading (e ++ arrived a ∷ []) k
+books_repeated e a k books r told = repeated sha256 reading e k a books r told

@@ -1,0 +1,65 @@
+-- The common front of two chains of one manifest is their common beginning of rows.
+use Rattle.std.proofs.Common.{◌≡◌, ℕ, suc, ◌+◌, ◌<◌, Bool, true, false, cond, ◌&&◌, ◌==◌, List, [], ◌∷◌, length, map, take, refl, sym, ap₂, subst, arith, true≢false}
+use Rattle.std.specs.List.{prefix_len, zip}
+use Rattle.std.specs.Ordering.{int_eq}
+use Rattle.std.proofs.lemmas.Bool.Decides.{nat_tests, Decides-int_eq}
+use Rattle.esc_envelope.specs.declared.place.DepositType.{DepositType}
+use Rattle.esc_envelope.specs.declared.place.DepositType.TheVariants.{Diff, Incr, Full}
+use Rattle.esc_envelope.specs.Place.{rank}
+use Rattle.esc_manifest.specs.declared.row.MRow.{MRow}
+use Rattle.esc_manifest.specs.Rows.{place_at, resend_at}
+use Rattle.esc_manifest.specs.Accepted.{IsAccepted}
+use Rattle.esc_apply.specs.declared.front.Step.{Step}
+use Rattle.esc_apply.specs.Front.{same_step, common_front}
+use Rattle.esc_store.specs.Kept.{step_at}
+
+both_true : (a b : Bool) → (a && b) ≡ true → (a ≡ true) × (b ≡ true)
+both_true true true e = (refl, refl)
+both_true true false e = absurd (true≢false (sym e))
+both_true false b e = absurd (true≢false (sym e))
+
+same_kind : (a b : DepositType) → (rank a == rank b) ≡ true → a ≡ b
+same_kind Diff Diff e = refl
+same_kind Diff Incr e = absurd (true≢false (sym e))
+same_kind Diff Full e = absurd (true≢false (sym e))
+same_kind Incr Diff e = absurd (true≢false (sym e))
+same_kind Incr Incr e = refl
+same_kind Incr Full e = absurd (true≢false (sym e))
+same_kind Full Diff e = absurd (true≢false (sym e))
+same_kind Full Incr e = absurd (true≢false (sym e))
+same_kind Full Full e = refl
+
+-- these rows are the manifest's
+abbrev pub AreOf : List MRow → List ℕ → Type 0
+AreOf m [] = Unit {0}
+AreOf m (r ∷ rows) = (r < length m) × AreOf m rows
+
+more_front : (n p : ℕ) → n ≡ suc p → (q r : ℕ) (old new : List ℕ) (x : Step × Step) (z : List (Step × Step)) → q ≡ r
+    → take (length (take p z)) old ≡ take (length (take p z)) new → take (length (take n (x ∷ z))) (q ∷ old) ≡ take (length (take n (x ∷ z))) (r ∷ new)
+more_front n p e q r old new x z same rest = subst (λ (k : ℕ). take (length (take k (x ∷ z))) (q ∷ old) ≡ take (length (take k (x ∷ z))) (r ∷ new)) (sym e) (ap₂ (λ (y : ℕ) (ys : List ℕ). y ∷ ys) same rest)
+
+module _ (m : List MRow) (accepted : IsAccepted m) where
+  -- equal steps are of one row
+  one_row : (q r : ℕ) → q < length m → r < length m → same_step (step_at m q, step_at m r) ≡ true → q ≡ r
+  one_row q r q_in r_in same =
+      let watermarks = int_eq (place_at m q).watermark (place_at m r).watermark in
+      let kinds = rank (place_at m q).kind == rank (place_at m r).kind in
+      let resends = resend_at m q == resend_at m r in
+      let ends = both_true (watermarks && kinds) resends same in
+      let marks = both_true watermarks kinds ends.0 in
+      let watermark : (place_at m q).watermark ≡ (place_at m r).watermark = (Decides-int_eq (place_at m q).watermark (place_at m r).watermark).0 marks.0 in
+      let kind : (place_at m q).kind ≡ (place_at m r).kind = same_kind (place_at m q).kind (place_at m r).kind marks.1 in
+      let resend : resend_at m q ≡ resend_at m r = grind (arith, nat_tests, ends.1) in
+      accepted.one_revision q r q_in r_in (λ i. record { watermark = watermark i; kind = kind i }) resend
+
+  -- below the common front the rows are the same
+  pub same_front : (old new : List ℕ) → AreOf m old → AreOf m new → take (common_front (map (step_at m) old) (map (step_at m) new)) old ≡ take (common_front (map (step_at m) old) (map (step_at m) new)) new
+  same_front [] new old_in new_in = refl
+  same_front (q ∷ old) [] old_in new_in = refl
+  same_front (q ∷ old) (r ∷ new) old_in new_in = by_test (same_step (step_at m q, step_at m r)) refl (same_front old new old_in.1 new_in.1)
+    where
+      by_test : (b : Bool) → same_step (step_at m q, step_at m r) ≡ b
+          → take (common_front (map (step_at m) old) (map (step_at m) new)) old ≡ take (common_front (map (step_at m) old) (map (step_at m) new)) new
+          → take (length (take (cond b (1 + prefix_len same_step (zip (map (step_at m) old) (map (step_at m) new))) 0) ((step_at m q, step_at m r) ∷ zip (map (step_at m) old) (map (step_at m) new)))) (q ∷ old) ≡ take (length (take (cond b (1 + prefix_len same_step (zip (map (step_at m) old) (map (step_at m) new))) 0) ((step_at m q, step_at m r) ∷ zip (map (step_at m) old) (map (step_at m) new)))) (r ∷ new)
+      by_test true is rest = more_front (1 + prefix_len same_step (zip (map (step_at m) old) (map (step_at m) new))) (prefix_len same_step (zip (map (step_at m) old) (map (step_at m) new))) (omega arith) q r old new (step_at m q, step_at m r) (zip (map (step_at m) old) (map (step_at m) new)) (one_row q r old_in.0 new_in.0 is) rest
+      by_test false other rest = refl

@@ -1,0 +1,15 @@
+pub mod AmendedBooks
+pub mod AmendingEvents
+pub mod AmendingKept
+pub mod AmendingLemmas
+pub mod Arriving
+pub mod Distinct
+pub mod EventLemmas
+pub mod FrontLemmas
+pub mod HeldReceipts
+pub mod HeldRows
+pub mod Members
+pub mod Moving
+pub mod MovingLemmas
+pub mod OneArrival
+pub mod Searches

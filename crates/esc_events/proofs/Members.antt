@@ -1,0 +1,79 @@
+-- The arrivals of a list.
+use Rattle.std.proofs.Common.{◌≡◌, inl, inr, ℕ, Bool, true, false, cond, not, filter, ◌||◌, List, [], ◌∷◌, ◌++◌, Option, Some, None, is_some, Result, refl, sym, ap, ◌∙◌, true≢false}
+use Rattle.std.specs.List.{list_any, find}
+use Rattle.esc_tables.specs.DepositValue.{DepositValue}
+use Rattle.esc_events.specs.Events.{Coming}
+use Rattle.esc_events.specs.Receipts.{alike, distinct}
+use Rattle.esc_events.specs.Stands.{Among, body_of}
+use Rattle.esc_events.proofs.Searches.{find_some, find_none, same_answer}
+
+pub any_of : (p : Coming → Bool) (l : List Coming) (a : Coming) → Among l a → p a ≡ true → list_any p l ≡ true
+any_of p [] a among e = absurd among
+any_of p (b ∷ l) a (inl is) e = ap (λ (x : Coming). p x || list_any p l) (sym is) ∙ ap (λ t. t || list_any p l) e
+any_of p (b ∷ l) a (inr there) e = ap (λ t. p b || t) (any_of p l a there e) ∙ or_true (p b)
+  where
+    or_true : (x : Bool) → (x || true) ≡ true
+    or_true true = refl
+    or_true false = refl
+
+pub one_of : (p : Coming → Bool) (l : List Coming) → list_any p l ≡ true → (a : Coming) × Among l a × (p a ≡ true)
+one_of p [] e = absurd (true≢false (sym e))
+one_of p (b ∷ l) e = by_test (p b) refl e (one_of p l)
+  where
+    by_test : (t : Bool) → p b ≡ t → (t || list_any p l) ≡ true → (list_any p l ≡ true → (a : Coming) × Among l a × (p a ≡ true)) → (a : Coming) × Among (b ∷ l) a × (p a ≡ true)
+    by_test true is e rest = (b, inl refl, is)
+    by_test false is e rest = let x = rest e in (x.0, inr x.1, x.2)
+
+-- the first that passes is one of the list, and passes
+pub first_of : (p : Coming → Bool) (l : List Coming) (y : Coming) → find p l ≡ Some y → Among l y × (p y ≡ true)
+first_of p [] y e = absurd (cc)
+first_of p (b ∷ l) y e = by_test (p b) refl e (first_of p l y)
+  where
+    by_test : (t : Bool) → p b ≡ t → cond t (Some b) (find p l) ≡ Some y → (find p l ≡ Some y → Among l y × (p y ≡ true)) → Among (b ∷ l) y × (p y ≡ true)
+    by_test true is e rest = (inl (sym (same_answer e)), ap p (sym (same_answer e)) ∙ is)
+    by_test false is e rest = let x = rest e in (inr x.0, x.1)
+
+pub among-front : (l m : List Coming) (a : Coming) → Among l a → Among (l ++ m) a
+among-front [] m a among = absurd among
+among-front (b ∷ l) m a (inl is) = inl is
+among-front (b ∷ l) m a (inr there) = inr (among-front l m a there)
+
+pub among-last : (l : List Coming) (a : Coming) → Among (l ++ a ∷ []) a
+among-last [] a = inl refl
+among-last (b ∷ l) a = inr (among-last l a)
+
+passed_among : (p : Coming → Bool) (l : List Coming) (a : Coming) → Among (filter p l) a → Among l a
+passed_among p [] a among = among
+passed_among p (b ∷ l) a among = by_test (p b) among (passed_among p l a)
+  where
+    by_test : (t : Bool) → Among (cond t (b ∷ filter p l) (filter p l)) a → (Among (filter p l) a → Among l a) → Among (b ∷ l) a
+    by_test true (inl is) rest = inl is
+    by_test true (inr there) rest = inr (rest there)
+    by_test false there rest = inr (rest there)
+
+pub distinct_among : (digest : List ℕ → List ℕ) (reads : List ℕ → Result DepositValue ℕ) (l : List Coming) (a : Coming) → Among (distinct digest reads l) a → Among l a
+distinct_among digest reads [] a among = among
+distinct_among digest reads (b ∷ l) a (inl is) = inl is
+distinct_among digest reads (b ∷ l) a (inr there) = inr (distinct_among digest reads l a (passed_among (λ x. not (alike digest reads b x)) (distinct digest reads l) a there))
+
+-- the body of the first that passes is there exactly if one passes
+pub some_any : (p : Coming → Bool) (l : List Coming) → is_some (body_of (find p l)) ≡ true → list_any p l ≡ true
+some_any p l some = by_find (find p l) refl
+  where
+    by_find : (o : Option Coming) → find p l ≡ o → list_any p l ≡ true
+    by_find None none = absurd (true≢false (sym some ∙ ap (λ (o : Option Coming). is_some (body_of o)) none))
+    by_find (Some y) is = find_some p l y is
+
+pub any_some : (p : Coming → Bool) (l : List Coming) → list_any p l ≡ true → is_some (body_of (find p l)) ≡ true
+any_some p l any = by_find (find p l) refl
+  where
+    by_find : (o : Option Coming) → find p l ≡ o → is_some (body_of (find p l)) ≡ true
+    by_find None none = absurd (true≢false (sym any ∙ find_none p l none))
+    by_find (Some y) is = ap (λ (o : Option Coming). is_some (body_of o)) is
+
+pub no_first : (p : Coming → Bool) (l : List Coming) → body_of (find p l) ≡ None → find p l ≡ None
+no_first p l none = by_find (find p l) refl
+  where
+    by_find : (o : Option Coming) → find p l ≡ o → find p l ≡ None
+    by_find None is = is
+    by_find (Some y) is = absurd (true≢false (ap is_some (sym (ap body_of is) ∙ none)))

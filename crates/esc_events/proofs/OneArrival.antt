@@ -1,0 +1,218 @@
+-- One more arrival: the receipts, the reply, and the books of a store.
+use Rattle.std.proofs.Common.{◌≡◌, ◌⊎◌, inl, inr, ℕ, ◌+◌, Bool, true, false, cond, ◌||◌, List, [], ◌∷◌, ◌++◌, length, Option, Some, None, IsSome, is_some, Result, refl, sym, ap, ap₂, subst, ◌∙◌, true≢false}
+use Rattle.std.specs.List.{list_any, find, Any}
+use Rattle.std.specs.Str.{bytes_eq}
+use Rattle.std.specs.Cmp.Lexicographic.{bytes_decides}
+use Rattle.esc_manifest.specs.declared.row.MRow.{MRow}
+use Rattle.esc_tables.specs.DepositValue.{DepositValue}
+use Rattle.esc_store.specs.Kept.{Kept, SaysHeld, with_receipt}
+use Rattle.esc_store.specs.ReplyValue.{ReplyValue, ReceiptValue, reply_kept, is_alike, reply_alike}
+use Rattle.esc_events.specs.ArrivalValue.{ArrivalValue}
+use Rattle.esc_events.specs.Events.{EventValue, Coming, union, coming, comings}
+use Rattle.esc_events.specs.Events.EventValue.{arrived}
+use Rattle.esc_events.specs.Finding.{finding, row_of}
+use Rattle.esc_events.specs.Receipts.{holds_row, alike, distinct, receipt_for, receipts_after, receipts_of, reply_to}
+use Rattle.esc_events.specs.Stands.{Among, body_of, holds_by, has_digest, held_body, parked_body, IsApart, CameFor, CameWith, AreBooks}
+use Rattle.esc_events.proofs.EventLemmas.{union-arrived, comings-arrived, moment-arrived}
+use Rattle.esc_events.proofs.Searches.{none_alike, some_alike, alike-last, find-push-old, find-push-new}
+use Rattle.esc_events.proofs.Distinct.{alike_laws, any_alike, distinct-push, receipts-push, kept_any, both}
+use Rattle.esc_events.proofs.HeldReceipts.{split-last}
+use Rattle.esc_events.proofs.Members.{any_of, one_of, among-front, among-last, some_any, any_some, no_first}
+
+module _ (digest : List ℕ → List ℕ) (reads : List ℕ → Result DepositValue ℕ) where
+  -- whether an arrival of the list is alike, by the receipts
+  pub any_kept : (l : List Coming) (c : Coming) → list_any (alike digest reads c) l ≡ list_any (is_alike c.number (digest c.body)) (receipts_after digest reads [] (distinct digest reads l))
+  any_kept l c = any_alike digest reads l c ∙ sym (kept_any digest reads [] (distinct digest reads l) c)
+
+  -- what came for a row or with a digest by some events did so by others, where the same rows are listed and no distinct arrival is gone
+  module _ (e f : List EventValue) (rows : union f ≡ union e) (stay : (c : Coming) → Among (distinct digest reads (comings e)) c → Among (distinct digest reads (comings f)) c) where
+    pub came_by : (r : ℕ) (body : List ℕ) → CameFor digest reads e r body → CameFor digest reads f r body
+    came_by r body c = record {
+      arrival = c.arrival;
+      among = stay c.arrival c.among;
+      holds = ap (λ (m : List MRow). holds_by digest reads m r c.arrival) rows ∙ c.holds;
+      is_body = c.is_body;
+    }
+
+    pub with_by : (d body : List ℕ) → CameWith digest reads e d body → CameWith digest reads f d body
+    with_by d body c = record { arrival = c.arrival; among = stay c.arrival c.among; digest_is = c.digest_is; is_body = c.is_body }
+
+  module _ (e : List EventValue) (k : Kept) (a : ArrivalValue) (books : AreBooks digest reads e k) where
+    abbrev came : Coming
+    came = coming (union e) a
+
+    abbrev then : List EventValue
+    then = e ++ arrived a ∷ []
+
+    -- the distinct arrivals before this one, and with it
+    abbrev before : List Coming
+    before = distinct digest reads (comings e)
+
+    abbrev after : List Coming
+    after = distinct digest reads (comings then)
+
+    pushed : after ≡ cond (list_any (is_alike a.number (digest a.body)) k.receipts) before (before ++ came ∷ [])
+    pushed =
+        ap (distinct digest reads) (comings-arrived e a)
+        ∙ distinct-push digest reads (comings e) came
+        ∙ ap (λ b. cond b before (before ++ came ∷ [])) (any_kept (comings e) came ∙ ap (list_any (is_alike a.number (digest a.body))) (sym books.receipts))
+
+    -- the reply by receipts
+    reply_by : (rs : List ReceiptValue) → receipts_of digest reads then ≡ rs → reply_to digest reads then a ≡ reply_alike (union e) 1 a.number (digest a.body) rs
+    reply_by rs is = ap₂ (λ (m : List MRow) (x : List ReceiptValue). reply_alike m 1 a.number (digest a.body) x) (union-arrived e a) is
+
+    -- ---- bodies, where no two different ones have the same digest
+
+    earlier : (c : Coming) → Among (comings e) c → Among (comings then) c
+    earlier c there = subst (λ (l : List Coming). Among l c) (sym (comings-arrived e a)) (among-front (comings e) (came ∷ []) c there)
+
+    last : Among (comings then) came
+    last = subst (λ (l : List Coming). Among l came) (sym (comings-arrived e a)) (among-last (comings e) came)
+
+    pub apart-arrived : IsApart digest reads then → IsApart digest reads e
+    apart-arrived apart b c first second same = apart b c (earlier b first) (earlier c second) same
+
+    module _ (apart : IsApart digest reads then) where
+      held_then : (r : ℕ) → held_body digest reads then r ≡ body_of (find (holds_by digest reads (union e) r) (comings e ++ came ∷ []))
+      held_then r = ap₂ (λ (m : List MRow) (l : List Coming). body_of (find (holds_by digest reads m r) l)) (union-arrived e a) (comings-arrived e a)
+
+      parked_then : (d : List ℕ) → parked_body digest reads then d ≡ cond (is_some (row_of (union e) d)) None (body_of (find (has_digest digest reads d) (comings e ++ came ∷ [])))
+      parked_then d = ap₂ (λ (m : List MRow) (l : List Coming). cond (is_some (row_of m d)) None (body_of (find (has_digest digest reads d) l))) (union-arrived e a) (comings-arrived e a)
+
+      held_now : (r : ℕ) → k.bodies r ≡ body_of (find (holds_by digest reads (union e) r) (comings e))
+      held_now r = books.bodies (apart-arrived apart) r
+
+      parked_now : (d : List ℕ) → is_some (row_of (union e) d) ≡ false → k.parked d ≡ body_of (find (has_digest digest reads d) (comings e))
+      parked_now d unlisted = books.parked (apart-arrived apart) d ∙ ap (λ b. cond b None (body_of (find (has_digest digest reads d) (comings e)))) unlisted
+
+      -- a row keeps its body, unless this arrival is the first that holds it
+      pub old_body : (r : ℕ) → (holds_by digest reads (union e) r came ≡ true → IsSome (k.bodies r)) → k.bodies r ≡ held_body digest reads then r
+      old_body r old =
+          held_now r
+          ∙ ap body_of (sym (find-push-old (holds_by digest reads (union e) r) (comings e) came (λ h. some_any (holds_by digest reads (union e) r) (comings e) (sym (ap is_some (held_now r)) ∙ old h))))
+          ∙ sym (held_then r)
+
+      pub new_body : (r : ℕ) → k.bodies r ≡ None → holds_by digest reads (union e) r came ≡ true → Some a.body ≡ held_body digest reads then r
+      new_body r none holds =
+          ap body_of (sym (find-push-new (holds_by digest reads (union e) r) (comings e) came (no_first (holds_by digest reads (union e) r) (comings e) (sym (held_now r) ∙ none)) holds))
+          ∙ sym (held_then r)
+
+      -- so is the body that is parked under a digest
+      pub old_parked : (d : List ℕ) → (digest a.body ≡ d → is_some (row_of (union e) d) ≡ false → IsSome (k.parked d)) → k.parked d ≡ parked_body digest reads then d
+      old_parked d old = books.parked (apart-arrived apart) d ∙ by_row (is_some (row_of (union e) d)) refl ∙ sym (parked_then d)
+        where
+          by_row : (b : Bool) → is_some (row_of (union e) d) ≡ b → cond b None (body_of (find (has_digest digest reads d) (comings e))) ≡ cond b None (body_of (find (has_digest digest reads d) (comings e ++ came ∷ [])))
+          by_row true is = refl
+          by_row false is =
+              ap body_of (sym (find-push-old (has_digest digest reads d) (comings e) came
+              (λ h. some_any (has_digest digest reads d) (comings e) (sym (ap is_some (parked_now d is)) ∙ old ((bytes_decides (digest a.body) d).0 h) is))))
+
+      pub new_parked : (d : List ℕ) → digest a.body ≡ d → row_of (union e) d ≡ None → k.parked d ≡ None → Some a.body ≡ parked_body digest reads then d
+      new_parked d same unlisted none =
+          ap body_of (sym (find-push-new (has_digest digest reads d) (comings e) came (no_first (has_digest digest reads d) (comings e) (sym (parked_now d (ap is_some unlisted)) ∙ none)) ((bytes_decides (digest a.body) d).1 same)))
+          ∙ sym (parked_then d ∙ ap (λ (o : Option ℕ). cond (is_some o) None (body_of (find (has_digest digest reads d) (comings e ++ came ∷ [])))) unlisted)
+
+    -- ---- an arrival that is alike an earlier one changes nothing, and has that one's reply
+    module _ (y : ReplyValue) (there : reply_alike (union e) 1 a.number (digest a.body) k.receipts ≡ Some y) where
+      was : list_any (is_alike a.number (digest a.body)) k.receipts ≡ true
+      was = some_alike (union e) a.number (digest a.body) 1 k.receipts y there
+
+      pub no_more : after ≡ before
+      no_more = pushed ∙ ap (λ b. cond b before (before ++ came ∷ [])) was
+
+      -- an earlier arrival with the same body
+      same_before : IsApart digest reads then → (c : Coming) × Among (comings e) c × (c.body ≡ a.body)
+      same_before apart =
+          let x = one_of (alike digest reads came) (comings e) (any_kept (comings e) came ∙ ap (list_any (is_alike a.number (digest a.body))) (sym books.receipts) ∙ was) in
+          let like = both (bytes_eq a.number x.0.number) (bytes_eq (digest a.body) (digest x.0.body)) x.2 in
+          (x.0, x.1, apart x.0 came (earlier x.0 x.1) last (sym ((bytes_decides (digest a.body) (digest x.0.body)).0 like.1)))
+
+      pub repeated : AreBooks digest reads then k
+      repeated = record {
+        listed = books.listed ∙ sym (union-arrived e a);
+        receipts = books.receipts ∙ sym (ap (receipts_after digest reads []) no_more);
+        bodies = λ apart r. old_body apart r (held_there apart r);
+        parked = λ apart d. old_parked apart d (parked_there apart d);
+        moment = books.moment ∙ sym (moment-arrived e a);
+        came = λ r body is. came_by e then (union-arrived e a) stay r body (books.came r body is);
+        waits = λ d body is. with_by e then (union-arrived e a) stay d body (books.waits d body is);
+        told = books.told;
+      }
+        where
+          stay : (c : Coming) → Among before c → Among after c
+          stay c among = subst (λ (l : List Coming). Among l c) (sym no_more) among
+
+          held_there : IsApart digest reads then → (r : ℕ) → holds_by digest reads (union e) r came ≡ true → IsSome (k.bodies r)
+          held_there apart r holds =
+              let x = same_before apart in
+              ap is_some (held_now apart r)
+              ∙ any_some (holds_by digest reads (union e) r) (comings e) (any_of (holds_by digest reads (union e) r) (comings e) x.0 x.1 (ap (λ (b : List ℕ). holds_row r (finding digest reads (union e) b)) x.2 ∙ holds))
+
+          parked_there : IsApart digest reads then → (d : List ℕ) → digest a.body ≡ d → is_some (row_of (union e) d) ≡ false → IsSome (k.parked d)
+          parked_there apart d same unlisted =
+              let x = same_before apart in
+              ap is_some (parked_now apart d unlisted)
+              ∙ any_some (has_digest digest reads d) (comings e) (any_of (has_digest digest reads d) (comings e) x.0 x.1 ((bytes_decides (digest x.0.body) d).1 (ap digest x.2 ∙ same)))
+
+      pub repeated_reply : reply_to digest reads then a ≡ Some y
+      repeated_reply = reply_by k.receipts (ap (receipts_after digest reads []) no_more ∙ sym books.receipts) ∙ there
+
+    -- ---- an arrival that is like none before it
+    module _ (none : reply_alike (union e) 1 a.number (digest a.body) k.receipts ≡ None) where
+      pub one_more : after ≡ before ++ came ∷ []
+      one_more = pushed ∙ ap (λ b. cond b before (before ++ came ∷ [])) (none_alike (union e) a.number (digest a.body) 1 k.receipts none)
+
+      pub more_receipts : receipts_of digest reads then ≡ k.receipts ++ receipt_for digest reads before came ∷ []
+      more_receipts =
+          ap (receipts_after digest reads []) one_more
+          ∙ receipts-push digest reads [] before came
+          ∙ ap (λ (x : List ReceiptValue). x ++ receipt_for digest reads before came ∷ []) (sym books.receipts)
+
+      pub new_reply : reply_to digest reads then a ≡ Some (reply_kept (union e) (1 + length k.receipts) (receipt_for digest reads before came))
+      new_reply =
+          reply_by _ more_receipts
+          ∙ alike-last (union e) a.number (digest a.body) 1 k.receipts (receipt_for digest reads before came) none here
+        where
+          unor : (x : Bool) → (x || false) ≡ true → x ≡ true
+          unor true e = refl
+          unor false e = absurd (true≢false (sym e))
+
+          here : is_alike a.number (digest a.body) (receipt_for digest reads before came) ≡ true
+          here = unor _ (kept_any digest reads before (came ∷ []) came ∙ ap (λ b. b || false) ((alike_laws digest reads).refl came))
+
+      stay : (c : Coming) → Among before c → Among after c
+      stay c among = subst (λ (l : List Coming). Among l c) (sym one_more) (among-front before (came ∷ []) c among)
+
+      here : Among after came
+      here = subst (λ (l : List Coming). Among l came) (sym one_more) (among-last before came)
+
+      -- the books with its receipt, where bodies and parked bodies are so then: each was there before, or is this arrival's
+      pub books_with : (receipt : ReceiptValue) → receipt ≡ receipt_for digest reads before came → (bodies : ℕ → Option (List ℕ)) (parked : List ℕ → Option (List ℕ))
+          → (IsApart digest reads then → (r : ℕ) → bodies r ≡ held_body digest reads then r)
+          → (IsApart digest reads then → (d : List ℕ) → parked d ≡ parked_body digest reads then d)
+          → ((r : ℕ) (body : List ℕ) → bodies r ≡ Some body → (k.bodies r ≡ Some body) ⊎ ((holds_by digest reads (union e) r came ≡ true) × (a.body ≡ body)))
+          → ((d body : List ℕ) → parked d ≡ Some body → (k.parked d ≡ Some body) ⊎ ((digest a.body ≡ d) × (a.body ≡ body)))
+          → ((r : ℕ) → IsSome (k.bodies r) ⊎ SaysHeld r receipt → IsSome (bodies r))
+          → AreBooks digest reads then (record (with_receipt k receipt) { bodies = bodies; parked = parked })
+      books_with receipt is bodies parked bodies_are parked_are come wait tell = record {
+        listed = books.listed ∙ sym (union-arrived e a);
+        receipts = ap (λ (r : ReceiptValue). k.receipts ++ r ∷ []) is ∙ sym more_receipts;
+        bodies = bodies_are;
+        parked = parked_are;
+        moment = books.moment ∙ sym (moment-arrived e a);
+        came = λ r body at. came_for r body (come r body at);
+        waits = λ d body at. came_with d body (wait d body at);
+        told = λ r any. by_receipt r (split-last (SaysHeld r) k.receipts receipt any);
+      }
+        where
+          came_for : (r : ℕ) (body : List ℕ) → (k.bodies r ≡ Some body) ⊎ ((holds_by digest reads (union e) r came ≡ true) × (a.body ≡ body)) → CameFor digest reads then r body
+          came_for r body (inl old) = came_by e then (union-arrived e a) stay r body (books.came r body old)
+          came_for r body (inr new) = record { arrival = came; among = here; holds = ap (λ (m : List MRow). holds_by digest reads m r came) (union-arrived e a) ∙ new.0; is_body = new.1 }
+
+          came_with : (d body : List ℕ) → (k.parked d ≡ Some body) ⊎ ((digest a.body ≡ d) × (a.body ≡ body)) → CameWith digest reads then d body
+          came_with d body (inl old) = with_by e then (union-arrived e a) stay d body (books.waits d body old)
+          came_with d body (inr new) = record { arrival = came; among = here; digest_is = new.0; is_body = new.1 }
+
+          by_receipt : (r : ℕ) → Any (SaysHeld r) k.receipts ⊎ SaysHeld r receipt → IsSome (bodies r)
+          by_receipt r (inl old) = tell r (inl (books.told r old))
+          by_receipt r (inr new) = tell r (inr new)

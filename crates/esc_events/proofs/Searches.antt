@@ -1,0 +1,109 @@
+-- The first element of a list that passes a test, and the first receipt that is alike.
+use Rattle.std.proofs.Common.{◌≡◌, ℕ, suc, ◌+◌, Bool, true, false, cond, ◌||◌, List, [], ◌∷◌, ◌++◌, length, Option, Some, None, refl, sym, ap, ◌∙◌, arith, true≢false}
+use Rattle.std.specs.List.{list_any, find}
+use Rattle.esc_manifest.specs.declared.row.MRow.{MRow}
+use Rattle.esc_store.specs.ReplyValue.{ReplyValue, ReceiptValue, reply_kept, is_alike, reply_alike}
+
+pub same_answer : {X : Type 0} {x y : X} → Some x ≡ Some y → x ≡ y
+same_answer {X = X} {x = x} e = ap item e
+  where
+    item : Option X → X
+    item None = x
+    item (Some z) = z
+
+pub no_answer : {X : Type 0} {x : X} → None ≡ Some x → ⊥
+no_answer e = cc
+
+pub find_some : {X : Type 0} (p : X → Bool) (xs : List X) (y : X) → find p xs ≡ Some y → list_any p xs ≡ true
+find_some p [] y e = absurd (cc)
+find_some p (x ∷ xs) y e = by_test (p x) (find_some p xs y) e
+  where
+    by_test : (b : Bool) → (find p xs ≡ Some y → list_any p xs ≡ true) → cond b (Some x) (find p xs) ≡ Some y → (b || list_any p xs) ≡ true
+    by_test true known e = refl
+    by_test false known e = known e
+
+-- what is found passes
+pub find_passes : {X : Type 0} (p : X → Bool) (xs : List X) (y : X) → find p xs ≡ Some y → p y ≡ true
+find_passes p [] y e = absurd (no_answer e)
+find_passes p (x ∷ xs) y e = by_test (p x) refl (find_passes p xs y) e
+  where
+    by_test : (b : Bool) → p x ≡ b → (find p xs ≡ Some y → p y ≡ true) → cond b (Some x) (find p xs) ≡ Some y → p y ≡ true
+    by_test true is known e = ap p (sym (same_answer e)) ∙ is
+    by_test false other known e = known e
+
+pub find_none : {X : Type 0} (p : X → Bool) (xs : List X) → find p xs ≡ None → list_any p xs ≡ false
+find_none p [] e = refl
+find_none p (x ∷ xs) e = by_test (p x) (find_none p xs) e
+  where
+    by_test : (b : Bool) → (find p xs ≡ None → list_any p xs ≡ false) → cond b (Some x) (find p xs) ≡ None → (b || list_any p xs) ≡ false
+    by_test true known e = absurd (cc)
+    by_test false known e = known e
+
+pub find-front : {X : Type 0} (p : X → Bool) (xs ys : List X) (y : X) → find p xs ≡ Some y → find p (xs ++ ys) ≡ Some y
+find-front p [] ys y e = absurd (cc)
+find-front p (x ∷ xs) ys y e = by_test (p x) (find-front p xs ys y) e
+  where
+    by_test : (b : Bool) → (find p xs ≡ Some y → find p (xs ++ ys) ≡ Some y) → cond b (Some x) (find p xs) ≡ Some y → cond b (Some x) (find p (xs ++ ys)) ≡ Some y
+    by_test true known e = e
+    by_test false known e = known e
+
+pub find-back : {X : Type 0} (p : X → Bool) (xs ys : List X) → find p xs ≡ None → find p (xs ++ ys) ≡ find p ys
+find-back p [] ys e = refl
+find-back p (x ∷ xs) ys e = by_test (p x) (find-back p xs ys) e
+  where
+    by_test : (b : Bool) → (find p xs ≡ None → find p (xs ++ ys) ≡ find p ys) → cond b (Some x) (find p xs) ≡ None → cond b (Some x) (find p (xs ++ ys)) ≡ find p ys
+    by_test true known e = absurd (cc)
+    by_test false known e = known e
+
+-- behind a list, one more that passes adds nothing where one of the list passes
+pub find-push-old : {X : Type 0} (p : X → Bool) (xs : List X) (x : X) → (p x ≡ true → list_any p xs ≡ true) → find p (xs ++ x ∷ []) ≡ find p xs
+find-push-old {X = X} p xs x old = by_find (find p xs) refl
+  where
+    none_here : (b : Bool) → p x ≡ b → find p xs ≡ None → cond b (Some x) None ≡ None
+    none_here true is none = absurd (true≢false (sym (old is) ∙ find_none p xs none))
+    none_here false is none = refl
+
+    by_find : (o : Option X) → find p xs ≡ o → find p (xs ++ x ∷ []) ≡ find p xs
+    by_find None none = find-back p xs (x ∷ []) none ∙ none_here (p x) refl none ∙ sym none
+    by_find (Some y) is = find-front p xs (x ∷ []) y is ∙ sym is
+
+-- and is found where none does
+pub find-push-new : {X : Type 0} (p : X → Bool) (xs : List X) (x : X) → find p xs ≡ None → p x ≡ true → find p (xs ++ x ∷ []) ≡ Some x
+find-push-new p xs x none is = find-back p xs (x ∷ []) none ∙ ap (λ b. cond b (Some x) None) is
+
+module _ (m : List MRow) (number digest : List ℕ) where
+  pub none_alike : (n : ℕ) (rs : List ReceiptValue) → reply_alike m n number digest rs ≡ None → list_any (is_alike number digest) rs ≡ false
+  none_alike n [] e = refl
+  none_alike n (r ∷ rs) e = by_test (is_alike number digest r) (none_alike (suc n) rs) e
+    where
+      by_test : (b : Bool) → (reply_alike m (suc n) number digest rs ≡ None → list_any (is_alike number digest) rs ≡ false) → cond b (Some (reply_kept m n r)) (reply_alike m (suc n) number digest rs) ≡ None → (b || list_any (is_alike number digest) rs) ≡ false
+      by_test true known e = absurd (cc)
+      by_test false known e = known e
+
+  pub some_alike : (n : ℕ) (rs : List ReceiptValue) (y : ReplyValue) → reply_alike m n number digest rs ≡ Some y → list_any (is_alike number digest) rs ≡ true
+  some_alike n [] y e = absurd (cc)
+  some_alike n (r ∷ rs) y e = by_test (is_alike number digest r) (some_alike (suc n) rs y) e
+    where
+      by_test : (b : Bool) → (reply_alike m (suc n) number digest rs ≡ Some y → list_any (is_alike number digest) rs ≡ true) → cond b (Some (reply_kept m n r)) (reply_alike m (suc n) number digest rs) ≡ Some y → (b || list_any (is_alike number digest) rs) ≡ true
+      by_test true known e = refl
+      by_test false known e = known e
+
+  pub alike-front : (n : ℕ) (rs more : List ReceiptValue) (y : ReplyValue) → reply_alike m n number digest rs ≡ Some y → reply_alike m n number digest (rs ++ more) ≡ Some y
+  alike-front n [] more y e = absurd (cc)
+  alike-front n (r ∷ rs) more y e = by_test (is_alike number digest r) (alike-front (suc n) rs more y) e
+    where
+      by_test : (b : Bool) → (reply_alike m (suc n) number digest rs ≡ Some y → reply_alike m (suc n) number digest (rs ++ more) ≡ Some y) → cond b (Some (reply_kept m n r)) (reply_alike m (suc n) number digest rs) ≡ Some y → cond b (Some (reply_kept m n r)) (reply_alike m (suc n) number digest (rs ++ more)) ≡ Some y
+      by_test true known e = e
+      by_test false known e = known e
+
+  -- behind receipts that are not alike, a receipt that is
+  pub alike-last : (n : ℕ) (rs : List ReceiptValue) (r : ReceiptValue) → reply_alike m n number digest rs ≡ None → is_alike number digest r ≡ true → reply_alike m n number digest (rs ++ r ∷ []) ≡ Some (reply_kept m (n + length rs) r)
+  alike-last n [] r e is = ap (λ b. cond b (Some (reply_kept m n r)) None) is ∙ ap (λ (k : ℕ). Some (reply_kept m k r)) (omega arith)
+  alike-last n (x ∷ rs) r e is = by_test (is_alike number digest x) (λ none. alike-last (suc n) rs r none is) e
+    where
+      count : suc n + length rs ≡ n + suc (length rs)
+      count = omega arith
+
+      by_test : (b : Bool) → (reply_alike m (suc n) number digest rs ≡ None → reply_alike m (suc n) number digest (rs ++ r ∷ []) ≡ Some (reply_kept m (suc n + length rs) r)) → cond b (Some (reply_kept m n x)) (reply_alike m (suc n) number digest rs) ≡ None → cond b (Some (reply_kept m n x)) (reply_alike m (suc n) number digest (rs ++ r ∷ [])) ≡ Some (reply_kept m (n + suc (length rs)) r)
+      by_test true known e = absurd (cc)
+      by_test false known e = known e ∙ ap (λ (k : ℕ). Some (reply_kept m k r)) count

@@ -1,0 +1,90 @@
+-- The verdict on a body (this project's profile; the comparison is with what RFC 8909 has a deposit
+-- say of itself).
+use Rattle.std.specs.Prelude.{
+  ℕ,
+  Bool,
+  true,
+  false,
+  ◌&&◌,
+  ◌||◌,
+  ◌==◌,
+  not,
+  if◌then◌else◌,
+  List,
+  position,
+  Option,
+  Some,
+  None,
+  Result,
+  Ok,
+  Err,
+}
+use Rattle.std.specs.Str.{bytes_eq}
+use Rattle.std.specs.Ordering.{int_eq}
+use Rattle.esc_envelope.specs.declared.place.DepositType.{DepositType}
+use Rattle.esc_envelope.specs.declared.place.DepositType.TheVariants.{Diff, Incr, Full}
+use Rattle.esc_envelope.specs.declared.place.Place.{Place}
+use Rattle.esc_envelope.specs.Place.{rank}
+use Rattle.esc_envelope.specs.HeaderValue.{HeaderValue}
+use Rattle.esc_tables.specs.DepositValue.{DepositValue}
+use Rattle.esc_manifest.specs.declared.row.MRow.{MRow}
+use Rattle.esc_manifest.specs.Rows.{row_at}
+use Rattle.esc_events.specs.declared.finding.Finding.{Finding}
+use Rattle.esc_events.specs.declared.finding.Finding.TheVariants.{
+  Unlisted,
+  Unreadable,
+  Differing,
+  Holding,
+}
+
+-- the same watermark and the same type
+abbrev pub same_place : Place → Place → Bool
+same_place a b = int_eq a.watermark b.watermark && (rank a.kind == rank b.kind)
+
+abbrev pub same_option : Option (List ℕ) → Option (List ℕ) → Bool
+same_option None None = true
+same_option None (Some b) = false
+same_option (Some a) None = false
+same_option (Some a) (Some b) = bytes_eq a b
+
+abbrev pub is_differential : DepositType → Bool
+is_differential Diff = true
+is_differential Incr = false
+is_differential Full = false
+
+-- id, place and resend are the row's, and of a Differential the previous id too
+abbrev pub as_listed : HeaderValue → HeaderValue → Bool
+as_listed row d = bytes_eq row.id d.id
+    && (same_place row.place d.place
+    && ((row.resend == d.resend)
+    && (not (is_differential row.place.kind) || same_option row.prev d.prev)))
+
+-- the row with a digest
+abbrev pub row_of : List MRow → List ℕ → Option ℕ
+row_of m digest = position (λ row. bytes_eq row.digest digest) m
+
+-- at row r, of the deposit that reads from the body
+abbrev pub compared : List MRow → ℕ → DepositValue → Finding
+compared m r d = if as_listed (row_at m r).header d.header then Holding r d else Differing r
+
+-- at row r: the refusal, or the comparison
+abbrev pub found : List MRow → ℕ → Result DepositValue ℕ → Finding
+found m r (Ok d) = compared m r d
+found m r (Err n) = Unreadable r n
+
+abbrev pub found_at : List MRow → Option ℕ → Result DepositValue ℕ → Finding
+found_at m None reading = Unlisted
+found_at m (Some r) reading = found m r reading
+
+-- what is found of a body: no row has its digest; or at that row no deposit reads from it, or
+-- another one, or the listed one
+abbrev pub finding : (List ℕ → List ℕ) → (List ℕ → Result DepositValue ℕ) → List MRow → List ℕ
+    → Finding
+finding digest reads m body = found_at m (row_of m (digest body)) (reads body)
+
+-- the row whose deposit is held
+abbrev pub held_row : Finding → Option ℕ
+held_row Unlisted = None
+held_row (Unreadable r n) = None
+held_row (Differing r) = None
+held_row (Holding r d) = Some r

@@ -1,0 +1,15 @@
+pub mod Amended
+pub mod Apart
+pub mod ArrivalValue
+pub mod Events
+pub mod Finding
+pub mod Known
+pub mod Notes
+pub mod Parks
+pub mod Plans
+pub mod Reads
+pub mod Receipts
+pub mod Stands
+pub mod Taking
+pub mod Works
+pub mod Laws

@@ -1,0 +1,89 @@
+-- What a plan says of a move to another chain, and what is kept once it was carried out.
+use Rattle.std.specs.Prelude.{
+  ◌≡◌,
+  ℤ,
+  ℕ,
+  ◌<◌,
+  ◌-◌,
+  ◌^◌,
+  List,
+  ◌++◌,
+  Option,
+  slice_index,
+  length,
+  map,
+  take,
+  drop,
+  sum_by,
+}
+use Rattle.std.specs.FinSet as set
+use Rattle.esc_tables.specs.DepositValue.{DepositValue}
+use Rattle.esc_tables.specs.Reading.{reading}
+use Rattle.esc_manifest.specs.declared.row.MRow.{MRow}
+use Rattle.esc_manifest.specs.Accepted.{IsAccepted}
+use Rattle.esc_chain.specs.Chain.{Rows, InRange, IsLatestChainAt}
+use Rattle.esc_apply.specs.declared.front.Step.{Step}
+use Rattle.esc_apply.specs.Front.{common_front}
+use Rattle.esc_apply.specs.Images.{chain_state}
+use Rattle.esc_apply.specs.Moves.{cost}
+use Rattle.esc_apply.specs.Tables.{mention_count}
+use Rattle.esc_apply.specs.declared.moves.Work.{Work}
+use Rattle.esc_store.specs.Kept.{Kept, kept_chain, step_at, with_steps, with_registry}
+use Rattle.esc_events.specs.declared.plan.Plan.{Plan}
+use Rattle.esc_events.specs.Stands.{deposits_of}
+
+-- each of these rows is the manifest's
+abbrev pub AllInRange : List MRow → List ℕ → Type 0
+AllInRange m rows = (i : ℕ) → i < length rows → slice_index rows i < length m
+
+-- the rows of steps
+abbrev pub rows_in : List Step → List ℕ
+rows_in steps = map (λ (s : Step). s.row) steps
+
+-- the rows of a plan's new chain
+abbrev pub new_chain : Plan → List ℕ
+new_chain plan = rows_in plan.new.items
+
+-- how many steps both chains of a plan begin with
+abbrev pub front_of : Plan → ℕ
+front_of plan = common_front plan.old.items plan.new.items
+
+-- these are the steps of the latest chain of these rows of an accepted manifest up to a moment
+pub record AreLatestSteps (m : List MRow) (rows : List ℕ) (moment : Option ℤ)
+    (steps : List Step) : Type 0 where
+  pub are_steps : steps ≡ map (step_at m) (rows_in steps)
+  pub accepted : IsAccepted m
+  pub in_range : InRange m (set.from_list rows)
+  pub latest : IsLatestChainAt m (set.from_list rows) moment (rows_in steps)
+
+-- the plan goes from the chain that the store keeps to another one; its deposits are those past the
+-- common front, by these bodies
+pub record IsPlanned (k : Kept) (bodies : ℕ → Option (List ℕ)) (plan : Plan) : Type 0 where
+  pub old : plan.old.items ≡ kept_chain k
+  pub deposits : plan.deposits.items
+      ≡ deposits_of reading bodies (rows_in (drop (front_of plan) plan.new.items))
+
+-- the deposits of the new chain, where the old one is of these deposits
+abbrev pub deposits_by : Plan → List DepositValue → List DepositValue
+deposits_by plan c = take (front_of plan) c ++ plan.deposits.items
+
+-- what is kept once a plan was carried out: the plan's new chain, and the tables and before-images
+-- of that chain, where the old one is of these deposits
+abbrev pub moved_by : Plan → Kept → List DepositValue → Kept
+moved_by plan k c =
+    with_registry (with_steps k (new_chain plan)) (chain_state (deposits_by plan c))
+
+-- a plan has as many deposits as steps past the common front
+abbrev pub HasDepositsPast : Plan → Type 0
+HasDepositsPast plan = length plan.deposits.items ≡ length plan.new.items - front_of plan
+
+-- the tables and before-images that are kept are those of a plan's old chain, of these deposits
+pub record IsMovedFrom (k : Kept) (c : List DepositValue) (plan : Plan) : Type 0 where
+  pub count : length c ≡ length plan.old.items
+  pub registry : k.registry ≡ chain_state c
+
+-- this is the cost of a plan's move, where the old chain is of these deposits; unless they mention
+-- 2^64 keys
+abbrev pub IsCostOfMove : Plan → List DepositValue → Work → Type 0
+IsCostOfMove plan c work = sum_by mention_count (c ++ plan.deposits.items) < 2 ^ 64
+    → work ≡ cost c plan.old.items plan.new.items plan.deposits.items

@@ -1,0 +1,31 @@
+-- What the latest chain and its tables are after a list of events.
+use Rattle.std.specs.Prelude.{◌≡◌, ℕ, List}
+use Rattle.sha2.specs.Sha256.{sha256}
+use Rattle.esc_tables.specs.KeyName.{KeyName}
+use Rattle.esc_tables.specs.ObjectValue.{ObjectValue}
+use Rattle.esc_tables.specs.Reading.{reading}
+use Rattle.esc_chain.specs.Chain.{IsLatestChainAt}
+use Rattle.esc_apply.specs.Registry.{Content, IsEntriesOf}
+use Rattle.esc_apply.specs.Tables.{tables}
+use Rattle.esc_events.specs.Apart.{WhereApart}
+use Rattle.esc_events.specs.Events.{EventValue, union, moment_of}
+use Rattle.esc_events.specs.Stands.{deposits_of, held_rows, held_body}
+
+module _ (e : List EventValue) where
+  -- the rows of the latest chain of the held rows up to the moment that is set
+  abbrev pub IsChainOf : List ℕ → Type 0
+  IsChainOf chain =
+      IsLatestChainAt (union e) (held_rows sha256 reading e) (moment_of e) chain
+
+  -- the tables of a chain, by the bodies that are held
+  abbrev pub tables_of : List ℕ → Content
+  tables_of chain = tables (deposits_of reading (held_body sha256 reading e) chain)
+
+  -- these entries are the tables of the latest chain
+  pub record AreEntries (entries : List (KeyName × ObjectValue)) : Type 0 where
+    pub chain : List ℕ
+    pub latest : IsChainOf chain
+    pub objects : IsEntriesOf (tables_of chain) entries
+
+  abbrev pub AreTables : List (KeyName × ObjectValue) → Type 0
+  AreTables entries = WhereApart e (AreEntries entries)

@@ -1,0 +1,127 @@
+-- Distinct arrivals, and the receipts and replies that a list of events leaves (this project's
+-- profile).
+use Rattle.std.specs.Prelude.{
+  ℕ,
+  Bool,
+  true,
+  false,
+  ◌&&◌,
+  ◌==◌,
+  nat_eq,
+  not,
+  filter,
+  List,
+  [],
+  ◌∷◌,
+  ◌++◌,
+  Option,
+  Some,
+  None,
+  Result,
+}
+use Rattle.std.specs.List.{list_any}
+use Rattle.std.specs.Str.{bytes_eq}
+use Rattle.esc_tables.specs.DepositValue.{DepositValue}
+use Rattle.esc_store.specs.declared.reply.Verdict.{Verdict}
+use Rattle.esc_store.specs.declared.reply.Verdict.TheVariants.{A1, A3, A4, A5}
+use Rattle.esc_store.specs.ReplyValue.{ReplyValue, ReceiptValue, reply_alike}
+use Rattle.esc_events.specs.declared.finding.Finding.{Finding}
+use Rattle.esc_events.specs.declared.finding.Finding.TheVariants.{
+  Unlisted,
+  Unreadable,
+  Differing,
+  Holding,
+}
+use Rattle.esc_events.specs.ArrivalValue.{ArrivalValue}
+use Rattle.esc_events.specs.Events.{EventValue, Coming, union, comings}
+use Rattle.esc_events.specs.Finding.{finding, held_row}
+
+abbrev pub is_row : ℕ → Option ℕ → Bool
+is_row r None = false
+is_row r (Some q) = q == r
+
+-- a row, if any, is one of these
+abbrev pub is_among : List ℕ → Option ℕ → Bool
+is_among rows None = false
+is_among rows (Some r) = list_any (λ q. nat_eq q r) rows
+
+-- there is no row, or it is one of these
+abbrev pub is_old : List ℕ → Option ℕ → Bool
+is_old rows None = true
+is_old rows (Some r) = list_any (λ q. nat_eq q r) rows
+
+-- row r is held by what was found
+abbrev pub holds_row : ℕ → Finding → Bool
+holds_row r f = is_row r (held_row f)
+
+-- the verdict on a body that no row lists: it is parked
+abbrev pub unlisted_verdict : Verdict
+unlisted_verdict = A5
+
+-- the receipt of a body that isn't held: its verdict, and its row, if any
+abbrev pub refusal : List ℕ → List ℕ → Verdict → Option ℕ → ReceiptValue
+refusal number digest verdict row = record {
+  number = number;
+  digest = digest;
+  verdict = verdict;
+  row = row;
+  again = None;
+  orphans = None;
+}
+
+-- the receipt by what was found; whether the row was held before is told where it is held
+abbrev pub receipt_by : List ℕ → List ℕ → Finding → Bool → ReceiptValue
+receipt_by number digest Unlisted again = refusal number digest unlisted_verdict None
+receipt_by number digest (Unreadable r n) again = refusal number digest (A3 n) (Some r)
+receipt_by number digest (Differing r) again = refusal number digest A4 (Some r)
+receipt_by number digest (Holding r d) again = record {
+  number = number;
+  digest = digest;
+  verdict = A1;
+  row = Some r;
+  again = Some again;
+  orphans = Some d.orphans;
+}
+
+module _ (digest : List ℕ → List ℕ) (reads : List ℕ → Result DepositValue ℕ) where
+  -- equal in number and in the digest of the body
+  abbrev pub alike : Coming → Coming → Bool
+  alike a b = bytes_eq a.number b.number && bytes_eq (digest a.body) (digest b.body)
+
+  -- a list without each arrival that is like an earlier one: its first, and the distinct ones
+  -- behind it that aren't like that one
+  abbrev pub distinct : List Coming → List Coming
+  distinct [] = []
+  distinct (a ∷ l) = a ∷ filter (λ b. not (alike a b)) (distinct l)
+
+  -- what was found of a body when it came, by the rows that were listed then
+  abbrev pub found_then : Coming → Finding
+  found_then c = finding digest reads c.rows c.body
+
+  -- its verdict was A1, and this was its row
+  abbrev pub holds : ℕ → Coming → Bool
+  holds r c = holds_row r (found_then c)
+
+  -- a row, if any, was that of one of these with the verdict A1
+  abbrev pub holds_any : List Coming → Option ℕ → Bool
+  holds_any before None = false
+  holds_any before (Some r) = list_any (holds r) before
+
+  -- the receipt of an arrival, where `before` are the distinct arrivals before it
+  abbrev pub receipt_for : List Coming → Coming → ReceiptValue
+  receipt_for before c =
+      let again = holds_any before (held_row (found_then c)) in
+      receipt_by c.number (digest c.body) (found_then c) again
+
+  -- the receipts of distinct arrivals, where `before` stood before them
+  abbrev pub receipts_after : List Coming → List Coming → List ReceiptValue
+  receipts_after before [] = []
+  receipts_after before (c ∷ l) = receipt_for before c ∷ receipts_after (before ++ c ∷ []) l
+
+  -- the receipts that a list of events leaves; the n-th, from 1, is receipt n
+  abbrev pub receipts_of : List EventValue → List ReceiptValue
+  receipts_of e = receipts_after [] (distinct (comings e))
+
+  -- the reply to an arrival after a list of events: that of the first arrival alike it
+  abbrev pub reply_to : List EventValue → ArrivalValue → Option ReplyValue
+  reply_to e a = reply_alike (union e) 1 a.number (digest a.body) (receipts_of e)

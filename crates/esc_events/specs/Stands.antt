@@ -1,0 +1,150 @@
+-- What is held and parked after a list of events, and what a store holds that stands for it.
+use Rattle.std.specs.Prelude.{
+  ◌≡◌,
+  ◌⊎◌,
+  ℕ,
+  Bool,
+  true,
+  if◌then◌else◌,
+  List,
+  [],
+  ◌∷◌,
+  map,
+  Option,
+  Some,
+  None,
+  Result,
+  Ok,
+  Err,
+  option_map,
+  is_some,
+  IsSome,
+}
+use Rattle.std.specs.List.{find, Any}
+use Rattle.std.specs.Str.{bytes_eq}
+use Rattle.std.specs.FinSet as set
+use Rattle.esc_tables.specs.DepositValue.{DepositValue}
+use Rattle.esc_manifest.specs.declared.row.MRow.{MRow}
+use Rattle.esc_manifest.specs.Rows.{no_row}
+use Rattle.esc_chain.specs.Chain.{Rows, IsLatestChainAt}
+use Rattle.esc_apply.specs.Images.{chain_state}
+use Rattle.esc_store.specs.Kept.{Kept, SaysHeld}
+use Rattle.esc_events.specs.Events.{EventValue, Coming, union, comings, moment_of}
+use Rattle.esc_events.specs.Finding.{finding, held_row, row_of}
+use Rattle.esc_events.specs.Receipts.{holds_row, distinct, receipts_of}
+
+-- stands where no body reads: a held body always reads
+abbrev pub no_deposit : DepositValue
+no_deposit = record {
+  header = no_row.header;
+  counts = [];
+  deletes = [];
+  contents = [];
+  orphans = 0;
+}
+
+abbrev pub or_no_deposit : Result DepositValue ℕ → DepositValue
+or_no_deposit (Ok d) = d
+or_no_deposit (Err n) = no_deposit
+
+-- the deposit that reads from a body
+abbrev pub deposit_of : (List ℕ → Result DepositValue ℕ) → Option (List ℕ) → DepositValue
+deposit_of reads None = no_deposit
+deposit_of reads (Some body) = or_no_deposit (reads body)
+
+-- the deposits of rows, by the bodies that are held
+abbrev pub deposits_of : (List ℕ → Result DepositValue ℕ) → (ℕ → Option (List ℕ)) → List ℕ
+    → List DepositValue
+deposits_of reads bodies rows = map (λ r. deposit_of reads (bodies r)) rows
+
+abbrev pub with_some : Option ℕ → List ℕ → List ℕ
+with_some None rows = rows
+with_some (Some r) rows = r ∷ rows
+
+-- it is one of the list
+abbrev pub Among : {X : Type 0} → List X → X → Type 0
+Among [] a = ⊥
+Among (b ∷ l) a = (a ≡ b) ⊎ Among l a
+
+-- the body of an arrival, if there is one
+abbrev pub body_of : Option Coming → Option (List ℕ)
+body_of c = option_map (λ (c : Coming). c.body) c
+
+-- these rows are those that have a body
+abbrev pub HaveBodies : (ℕ → Option (List ℕ)) → Rows → Type 0
+HaveBodies bodies held = (r : ℕ) → set.contains held r ≡ is_some (bodies r)
+
+module _ (digest : List ℕ → List ℕ) (reads : List ℕ → Result DepositValue ℕ) where
+  -- by these listed rows, row r is held by the body that came
+  abbrev pub holds_by : List MRow → ℕ → Coming → Bool
+  holds_by m r c = holds_row r (finding digest reads m c.body)
+
+  -- the body that came has this digest
+  abbrev pub has_digest : List ℕ → Coming → Bool
+  has_digest d c = bytes_eq (digest c.body) d
+
+  -- the rows that bodies hold by the listed rows m, with repeats
+  abbrev pub rows_of : List MRow → List Coming → List ℕ
+  rows_of m [] = []
+  rows_of m (c ∷ l) = with_some (held_row (finding digest reads m c.body)) (rows_of m l)
+
+  module _ (e : List EventValue) where
+    -- the rows that are held after a list of events: each body that came is judged by all rows that
+    -- are listed in the end
+    abbrev pub held_rows : Rows
+    held_rows = set.from_list (rows_of (union e) (comings e))
+
+    -- the body that is held for a row after a list of events
+    abbrev pub held_body : ℕ → Option (List ℕ)
+    held_body r = body_of (find (holds_by (union e) r) (comings e))
+
+    -- the body that came with this digest, if no row lists it
+    abbrev pub parked_body : List ℕ → Option (List ℕ)
+    parked_body d =
+        if is_some (row_of (union e) d) then None else body_of (find (has_digest d) (comings e))
+
+    -- no two different bodies that came have the same digest
+    abbrev pub IsApart : Type 0
+    IsApart = (a b : Coming) → Among (comings e) a → Among (comings e) b
+        → digest a.body ≡ digest b.body → a.body ≡ b.body
+
+    -- the arrivals that are like none before them
+    abbrev pub first_comings : List Coming
+    first_comings = distinct digest reads (comings e)
+
+    -- this body came in an arrival like none before it, and is the deposit of row r
+    pub record CameFor (r : ℕ) (body : List ℕ) : Type 0 where
+      pub arrival : Coming
+      pub among : Among first_comings arrival
+      pub holds : holds_by (union e) r arrival ≡ true
+      pub is_body : arrival.body ≡ body
+
+    -- this body came in an arrival like none before it, and has this digest
+    pub record CameWith (d body : List ℕ) : Type 0 where
+      pub arrival : Coming
+      pub among : Among first_comings arrival
+      pub digest_is : digest arrival.body ≡ d
+      pub is_body : arrival.body ≡ body
+
+    -- what is kept but the chain and its tables: the rows that are listed, the receipts that the
+    -- arrivals leave, the bodies that are held and parked, and the moment that is set; and whatever
+    -- bodies have the same digest, each body that is held or parked did come, and each row that a
+    -- receipt says is held has a body
+    pub record AreBooks (k : Kept) : Type 0 where
+      pub listed : k.listed ≡ union e
+      pub receipts : k.receipts ≡ receipts_of digest reads e
+      pub bodies : IsApart → (r : ℕ) → k.bodies r ≡ held_body r
+      pub parked : IsApart → (d : List ℕ) → k.parked d ≡ parked_body d
+      pub moment : k.moment ≡ moment_of e
+      pub came : (r : ℕ) (body : List ℕ) → k.bodies r ≡ Some body → CameFor r body
+      pub waits : (d body : List ℕ) → k.parked d ≡ Some body → CameWith d body
+      pub told : (r : ℕ) → Any (SaysHeld r) k.receipts → IsSome (k.bodies r)
+
+    -- the store keeps these books, the rows of the latest chain of the rows that have a body up to
+    -- the moment that is set, and that chain's tables and before-images
+    pub record StandsFor (k : Kept) : Type 0 where
+      pub books : AreBooks k
+      pub held : Rows
+      pub have_bodies : HaveBodies k.bodies held
+      pub chain : IsLatestChainAt k.listed held k.moment k.steps
+      pub registry : k.registry ≡ chain_state (deposits_of reads k.bodies k.steps)

@@ -1,0 +1,25 @@
+-- What is known of an arrival that is like none before it, when the store is to take it in.
+use Rattle.std.specs.Prelude.{◌≡◌, ℕ, List, None}
+use Rattle.sha2.specs.Sha256.{sha256}
+use Rattle.esc_tables.specs.Reading.{reading}
+use Rattle.esc_store.specs.ReplyValue.{ReceiptValue, reply_alike}
+use Rattle.esc_store.specs.Kept.{Kept}
+use Rattle.esc_events.specs.declared.finding.Finding.{Finding}
+use Rattle.esc_events.specs.declared.known.Known.{Known}
+use Rattle.esc_events.specs.ArrivalValue.{ArrivalValue}
+use Rattle.esc_events.specs.Events.{EventValue, union}
+use Rattle.esc_events.specs.Finding.{finding, held_row}
+use Rattle.esc_events.specs.Receipts.{receipt_by, is_among}
+use Rattle.esc_events.specs.Known.{IsKnown}
+use Rattle.esc_events.specs.Stands.{StandsFor}
+
+-- the store stands for e, no receipt is alike, this was found of the body, this is known of the
+-- store's rows, and this is the receipt
+pub record IsNew (e : List EventValue) (a : ArrivalValue) (k : Kept) (found : Finding)
+    (known : Known) (receipt : ReceiptValue) : Type 0 where
+  pub stood : StandsFor sha256 reading e k
+  pub none : reply_alike (union e) 1 a.number (sha256 a.body) k.receipts ≡ None
+  pub found_is : found ≡ finding sha256 reading (union e) a.body
+  pub known_is : IsKnown k known
+  pub receipt_is : receipt
+      ≡ receipt_by a.number (sha256 a.body) found (is_among known.told.items (held_row found))

@@ -1,0 +1,51 @@
+//! What a list of events makes of a store, with amended manifests and moments: definitions, and
+//! what follows from them.
+//!
+//! An agent may release a manifest in parts, so that a body comes before the row that lists it; and
+//! an operator may want the registry as it was at a moment. Here is what both mean. The events are:
+//! a manifest was taken in (the first one, or an amendment, which adds the rows that aren't listed
+//! yet), an arrival was answered, a moment was set or taken back (`EventValue`, specs/Events.antt).
+//!
+//! After a list of events
+//!
+//! - the rows that are listed are those of all manifests, in the order in which they were first
+//!   listed (`union`);
+//! - each arrival that is like none before it has a receipt with the verdict that it got by the
+//!   rows that were listed when it came: `A5` where none listed its body (`receipts_of`). An
+//!   amendment leaves replies as they were;
+//! - each body that came is judged by all rows that are listed in the end: it is held as that of
+//!   the row whose deposit it is (`held_body`), and parked where no row lists it (`parked_body`);
+//! - the chain is the latest one of the held rows whose last deposit is not later than the moment
+//!   that is set (`IsChainOf`), and the tables are those of its deposits.
+//!
+//! `StandsFor` says all of this of what a store keeps. The body that is held or parked under one
+//! digest is told where no two different bodies that came have the same digest (`IsApart`); that
+//! what is held did come, and is the row's deposit, is so in any case (`came`, `waits`).
+//!
+//! # What is promised
+//!
+//! The laws say what one more event makes of a store that stands for a list: its books
+//! ([`books_after_an_arrival`], [`books_after_an_amendment`], [`books_after_a_moment`]), and its
+//! chain, its tables and the work of the move ([`chain_after_an_event`]). For example: of an
+//! amendment, `AmendedBooks` says that listing the new rows, holding the parked bodies that are
+//! their deposits and letting go the other bodies that are parked for them is all that there is to
+//! do before the chain moves.
+//!
+//! Nothing here runs. The desk (`esc_desk`) answers by its own first form of these definitions, in
+//! which a body that no row lists is not kept; it is to stand on this crate once it takes
+//! amendments.
+#![tactic(auto)]
+
+mod finding;
+mod known;
+mod laws;
+mod parking;
+mod plan;
+
+pub use finding::Finding;
+pub use known::Known;
+pub use laws::{
+    books_after_a_moment, books_after_an_amendment, books_after_an_arrival, chain_after_an_event,
+};
+pub use parking::Parking;
+pub use plan::Plan;

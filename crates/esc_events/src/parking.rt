@@ -1,0 +1,12 @@
+//! Whether a body that no row lists is parked.
+
+/// What is done with the body of an arrival whose receipt alone is kept.
+#[derive(Clone, Copy, Debug)]
+pub enum Parking {
+    /// Nothing: a row lists it, or it is parked already.
+    Needless,
+    /// It is parked.
+    Free,
+    /// It can't be parked: 1,024 others are.
+    Crowded,
+}

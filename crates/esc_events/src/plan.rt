@@ -1,0 +1,12 @@
+//! A move from one chain to another.
+
+use esc_apply::Step;
+use esc_tables::Deposit;
+
+/// The steps of both chains, and the deposits of the new ones past the common front.
+#[derive(Debug, Drop)]
+pub struct Plan {
+    pub old: Vec<Step>,
+    pub new: Vec<Step>,
+    pub deposits: Vec<Deposit>,
+}
