@@ -1,7 +1,10 @@
 -- A disk of which one call fails, by the words of `sqlite_disk`, and where it fails.
 use Rattle.std.specs.Prelude.{◌≡◌, ◌≢◌, ℕ, Bool, ◌+◌, ◌-◌, ◌==◌, ◌&&◌, not, List}
-use Rattle.std.specs.Prelude.{if◌then◌else◌, Option, None, Some, Result, IsErr}
+use Rattle.std.specs.Prelude.{if◌then◌else◌, true, false, Option, None, Some, Result, Ok, Err, IsErr}
+use Rattle.std.specs.IoError.{error_kind}
 use Rattle.std.specs.declared.io.Error.{Error}
+use Rattle.std.specs.declared.io.ErrorKind.{ErrorKind}
+use Rattle.std.specs.declared.io.ErrorKind.TheVariants.{OutOfMemory}
 use Rattle.sqlite_disk.specs.declared.Disk.{Ghosts}
 use Rattle.sqlite_disk.specs.declared.tally.Tally.{Tally}
 use Rattle.sqlite_disk.specs.Disk.{CountsFaultIf}
@@ -19,6 +22,22 @@ calls_before f = f.turn.calls_before
 abbrev pub after_call : Option ℕ → Option ℕ
 after_call None = None
 after_call (Some n) = if n == 0 then None else Some (n - 1)
+
+-- whether memory was refused to a call that was passed on
+abbrev pub wants_memory : {D : Type 0} → FlakyDisk D → Bool
+wants_memory f = f.wants_memory
+
+abbrev pub is_memory_kind : ErrorKind → Bool
+is_memory_kind OutOfMemory = true
+is_memory_kind _ = false
+
+-- an error that says that memory was refused
+abbrev pub is_no_memory : Error → Bool
+is_no_memory e = is_memory_kind (error_kind e)
+
+abbrev pub finds_no_memory : {T : Type 0} → Result T Error → Bool
+finds_no_memory (Ok x) = false
+finds_no_memory (Err e) = is_no_memory e
 
 module _ {D : Type 0} (g : Ghosts D) where
   -- what the disk below says of itself

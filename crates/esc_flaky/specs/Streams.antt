@@ -31,6 +31,10 @@ write_size w = w.piece
 abbrev pub holds_back : FailingWriter → Bool
 holds_back w = w.is_stuck
 
+-- whether a write failed for want of memory
+abbrev pub had_none : FailingWriter → Bool
+had_none w = w.wants_memory
+
 -- as many bytes as a piece has (one at least), as may pass, as there is room for, and as there are
 abbrev pub passed : ℕ → ℕ → ℕ → ℕ → ℕ
 passed piece passing room there = min (min (min (max piece 1) passing) room) there

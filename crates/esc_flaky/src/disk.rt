@@ -1,6 +1,6 @@
 //! A disk of which one call fails.
 
-ghost use Rattle.std.specs.Prelude.{◌≡◌, ◌⊎◌, ◌+◌, ◌^◌, ◌<◌, ◌≤◌, ◌&&◌, ◌↔◌, ⊤, ℕ, not};
+ghost use Rattle.std.specs.Prelude.{◌≡◌, ◌⊎◌, ◌+◌, ◌^◌, ◌<◌, ◌≤◌, ◌&&◌, ◌||◌, ◌↔◌, ⊤, ℕ, not};
 ghost use Rattle.std.specs.Prelude.{
   true,
   false,
@@ -23,9 +23,10 @@ ghost use Rattle.sqlite_disk.specs.Refusal.{finds_no_room};
 ghost use Rattle.esc_flaky.specs.Failing.{inner_of, calls_before, after_call, FailsWhereTold};
 ghost use Rattle.esc_flaky.specs.Failing.{seen, may_leave, is_usable, faults, tally_of, is_clean};
 ghost use Rattle.esc_flaky.specs.Failing.{key_of, is_fair, is_rotten, is_mixing};
+ghost use Rattle.esc_flaky.specs.Failing.{wants_memory, is_no_memory, finds_no_memory};
 
 use sqlite_disk::{Disk, Tally};
-use std::io;
+use std::io::{self, ErrorKind};
 
 /// A disk that passes calls on to another, but for one, which fails.
 #[derive(Drop)]
@@ -34,6 +35,8 @@ pub struct FlakyDisk<D: Disk> {
     turn: Turn,
     /// Whether the call that failed was a sync.
     sync_refused: bool,
+    /// Whether memory was refused to a call of the disk below.
+    wants_memory: bool,
 }
 
 // When a call fails.
@@ -51,6 +54,7 @@ impl<D: Disk> FlakyDisk<D> {
     pub fn new(inner: D, calls: u64) -> FlakyDisk<D>
         ensures inner { inner_of result ≡ inner }
         ensures calls { calls_before result ≡ Some calls }
+        ensures memory { wants_memory result ≡ false }
     {
         FlakyDisk {
             inner,
@@ -59,6 +63,7 @@ impl<D: Disk> FlakyDisk<D> {
                 refused: 0,
             },
             sync_refused: false,
+            wants_memory: false,
         }
     }
 
@@ -66,6 +71,7 @@ impl<D: Disk> FlakyDisk<D> {
     pub fn sound(inner: D) -> FlakyDisk<D>
         ensures inner { inner_of result ≡ inner }
         ensures calls { calls_before result ≡ None }
+        ensures memory { wants_memory result ≡ false }
     {
         FlakyDisk {
             inner,
@@ -74,6 +80,7 @@ impl<D: Disk> FlakyDisk<D> {
                 refused: 0,
             },
             sync_refused: false,
+            wants_memory: false,
         }
     }
 
@@ -84,12 +91,39 @@ impl<D: Disk> FlakyDisk<D> {
         self.turn.calls_before.is_none()
     }
 
+    /// Whether memory was refused to a call that was passed on: to a file in memory, a fault that
+    /// nobody told it to have.
+    pub fn wants_memory(&self) -> bool
+        ensures { result ≡ wants_memory self.now }
+    {
+        self.wants_memory
+    }
+
+    // Notes whether memory was refused to a call that was passed on.
+    fn note(&mut self, done: &io::Result<()>)
+        ensures { self.new ≡ record self.old {
+          wants_memory = wants_memory self.old || finds_no_memory done.now;
+        } }
+    {
+        if let Err(error) = done
+            && is_no_memory(error)
+        {
+            self.wants_memory = true;
+        }
+    }
+
     /// The disk that calls are passed on to.
     pub fn into_inner(self) -> D
         ensures { result ≡ inner_of self }
     {
         self.inner
     }
+}
+
+fn is_no_memory(error: &io::Error) -> bool
+    ensures { result ≡ is_no_memory error.now }
+{
+    matches!(error.kind(), ErrorKind::OutOfMemory)
 }
 
 impl Turn {
@@ -99,6 +133,7 @@ impl Turn {
         ensures next { self.new.calls_before ≡ after_call self.old.calls_before }
         ensures faults { CountsFault result self.old.refused self.new.refused }
         ensures kind { finds_no_room result ≡ false }
+        ensures memory { finds_no_memory result ≡ false }
     {
         match self.calls_before {
             None => Ok(()),
@@ -247,9 +282,13 @@ impl<D: Disk> Disk for FlakyDisk<D> {
             → Follows (Mixed at bytes.now) (may_leave D.Disk self.old) (may_leave D.Disk self.new) }
         ensures crash { Follows (Torn at (length bytes.now))
             (may_leave D.Disk self.old) (may_leave D.Disk self.new) }
+        ensures memory { wants_memory self.new
+            ≡ (wants_memory self.old || finds_no_memory result) }
     {
         self.turn.pass()?;
-        self.inner.write_at(at, bytes)
+        let done = self.inner.write_at(at, bytes);
+        self.note(&done);
+        done
     }
 
     fn set_len(&mut self, len: usize) -> io::Result<()>
@@ -265,9 +304,13 @@ impl<D: Disk> Disk for FlakyDisk<D> {
         ensures key { key_of D.Disk self.new ≡ key_of D.Disk self.old }
         ensures usable { IsTrue (is_usable D.Disk self.new) }
         ensures crash { Follows (Cut len) (may_leave D.Disk self.old) (may_leave D.Disk self.new) }
+        ensures memory { wants_memory self.new
+            ≡ (wants_memory self.old || finds_no_memory result) }
     {
         self.turn.pass()?;
-        self.inner.set_len(len)
+        let done = self.inner.set_len(len);
+        self.note(&done);
+        done
     }
 
     fn sync(&mut self) -> io::Result<()>
@@ -285,11 +328,15 @@ impl<D: Disk> Disk for FlakyDisk<D> {
         ensures usable { is_usable D.Disk self.new ≡ is_ok result }
         ensures crash { (c : List ℕ) → may_leave D.Disk self.new c
             → may_leave D.Disk self.old c }
+        ensures memory { wants_memory self.new
+            ≡ (wants_memory self.old || finds_no_memory result) }
     {
         if let Err(error) = self.turn.pass() {
             self.sync_refused = true;
             return Err(error);
         }
-        self.inner.sync()
+        let done = self.inner.sync();
+        self.note(&done);
+        done
     }
 }

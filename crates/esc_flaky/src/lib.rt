@@ -37,6 +37,9 @@
 //! only where that one does; and the one that is to fail is one call nearer, or has come. A
 //! `FlakyDisk` is a `Disk` as any other, so what is proved over every disk holds over it.
 //!
+//! Where memory is refused, a disk below in memory fails, and so does a write: nobody told them to,
+//! so a test asks `wants_memory` before it takes what came of it for an answer.
+//!
 //! A read fails exactly if no byte may pass any more, and else gives as many bytes as it was told,
 //! as there is room for and as are left. A write likewise, but that it also fails where memory is
 //! refused. A flush fails exactly if it was told to.

@@ -1,11 +1,13 @@
 //! A reader and a writer that fail from some byte on.
 
-ghost use Rattle.std.specs.Prelude.{◌≡◌, ◌⊎◌, ◌↔◌, ◌-◌, [], true, Some, length, IsErr, IfOk, IfErr};
+ghost use Rattle.std.specs.Prelude.{◌≡◌, ◌⊎◌, ◌↔◌, ◌-◌, ◌||◌, [], true, false, Some, length};
+ghost use Rattle.std.specs.Prelude.{IsErr, IfOk, IfErr};
 ghost use Rattle.std.specs.Io.{ReadsAtMost, WritesAtMost};
 ghost use Rattle.std.specs.Io.KnownBytes.{ReadConsumes, WriteAppends, Keeps};
 ghost use Rattle.std.specs.IoError.{error_kind};
 ghost use Rattle.esc_flaky.specs.Streams.{unread, readable, read_size, passed};
-ghost use Rattle.esc_flaky.specs.Streams.{written, writable, write_size, holds_back};
+ghost use Rattle.esc_flaky.specs.Streams.{written, writable, write_size, holds_back, had_none};
+ghost use Rattle.esc_flaky.specs.Failing.{finds_no_memory};
 
 use std::alloc::Global;
 use std::io::{self, ErrorKind, Read, Write};
@@ -69,6 +71,7 @@ pub struct FailingWriter {
     piece: usize,
     passing: usize,
     is_stuck: bool,
+    wants_memory: bool,
 }
 
 impl FailingWriter {
@@ -79,13 +82,22 @@ impl FailingWriter {
         ensures piece { write_size result ≡ piece }
         ensures passing { writable result ≡ passing }
         ensures stuck { holds_back result ≡ is_stuck }
+        ensures memory { had_none result ≡ false }
     {
         FailingWriter {
             text: Vec::new(alloc),
             piece,
             passing,
             is_stuck,
+            wants_memory: false,
         }
+    }
+
+    /// Whether a write failed for want of memory, which nobody told it to.
+    pub fn wants_memory(&self) -> bool
+        ensures { result ≡ had_none self.now }
+    {
+        self.wants_memory
     }
 
     /// What was written.
@@ -111,12 +123,14 @@ impl Write for FailingWriter {
         ensures passing { IfOk result (λ n. writable self.new ≡ writable self.old - n) }
         ensures piece { write_size self.new ≡ write_size self.old }
         ensures stuck { holds_back self.new ≡ holds_back self.old }
+        ensures memory { had_none self.new ≡ (had_none self.old || finds_no_memory result) }
     {
         if self.passing == 0 {
             return Err(io::Error::from(ErrorKind::BrokenPipe));
         }
         let count = self.piece.max(1).min(self.passing).min(buf.len());
         if self.text.extend_from_slice(&buf[..count]).is_err() {
+            self.wants_memory = true;
             return Err(io::Error::from(ErrorKind::OutOfMemory));
         }
         self.passing -= count;

@@ -294,8 +294,10 @@ fn push_found(text: &mut String, alloc: Global, calls: u32) -> Result<(), NoMemo
     let counts = BTreeMap::new(alloc);
     match verify_from(alloc, &mut front_within(alloc, calls)?, 0, &counts) {
         Ok(found) => text.push_str(shown(alloc, &found)?.as_str())?,
-        Err(StreamFault::Source(Stopped)) => text.push_str("stopped\n")?,
-        Err(StreamFault::NoMemory) => return Err(NoMemory),
+        Err(StreamFault::Source(Stopped::Here)) => text.push_str("stopped\n")?,
+        Err(StreamFault::Source(Stopped::NoMemory) | StreamFault::NoMemory) => {
+            return Err(NoMemory);
+        }
     }
     Ok(())
 }
@@ -304,8 +306,10 @@ fn push_found(text: &mut String, alloc: Global, calls: u32) -> Result<(), NoMemo
 fn push_exported(text: &mut String, alloc: Global, calls: u32) -> Result<(), NoMemory> {
     match export_from(alloc, &mut front_within(alloc, calls)?, Kind::Registrar) {
         Ok(bytes) => text.push_str(text_of(alloc, bytes)?.as_str())?,
-        Err(StreamFault::Source(Stopped)) => text.push_str("stopped\n")?,
-        Err(StreamFault::NoMemory) => return Err(NoMemory),
+        Err(StreamFault::Source(Stopped::Here)) => text.push_str("stopped\n")?,
+        Err(StreamFault::Source(Stopped::NoMemory) | StreamFault::NoMemory) => {
+            return Err(NoMemory);
+        }
     }
     Ok(())
 }

@@ -257,12 +257,12 @@ a.B_9- true
 a b false
 ";
 
-// The number of the refusal, 0 for an envelope, 255 for want of memory.
-fn answer(alloc: Global, json: &[u8]) -> u8 {
+// The number of the refusal, 0 for an envelope.
+fn answer(alloc: Global, json: &[u8]) -> Result<u8, NoMemory> {
     match read_envelope(alloc, json) {
-        Ok(_) => 0,
-        Err(Fault::Refused(number)) => number,
-        Err(Fault::NoMemory) => 255,
+        Ok(_) => Ok(0),
+        Err(Fault::Refused(number)) => Ok(number),
+        Err(Fault::NoMemory) => Err(NoMemory),
     }
 }
 
@@ -273,11 +273,9 @@ fn with_header(alloc: Global, members: &str) -> Result<String, NoMemory> {
 }
 
 // The answer to members behind a right header.
-fn answer_to_members(alloc: Global, members: &str) -> u8 {
-    match with_header(alloc, members) {
-        Ok(json) => answer(alloc, json.as_bytes()),
-        Err(NoMemory) => 255,
-    }
+fn answer_to_members(alloc: Global, members: &str) -> Result<u8, NoMemory> {
+    let json = with_header(alloc, members)?;
+    answer(alloc, json.as_bytes())
 }
 
 // Id, type, watermark, previous id and resend of a header.
@@ -368,11 +366,9 @@ fn with_fields(alloc: Global, count: u8) -> Result<String, NoMemory> {
 }
 
 // The answer to a table of so many fields more than one.
-fn answer_to_fields(alloc: Global, count: u8) -> u8 {
-    match with_fields(alloc, count) {
-        Ok(members) => answer_to_members(alloc, &members),
-        Err(NoMemory) => 255,
-    }
+fn answer_to_fields(alloc: Global, count: u8) -> Result<u8, NoMemory> {
+    let members = with_fields(alloc, count)?;
+    answer_to_members(alloc, &members)
 }
 
 // A line for each pair of places: whether the first stands before the second, and whether it is up
@@ -443,7 +439,7 @@ fn each_member(rt: HostRuntime) {
     for (members, number) in &MEMBERS {
         assert_eq!(rt;
             answer_to_members(rt.alloc(), members),
-            *number,
+            Ok(*number),
             "{members}"
         );
     }
@@ -452,14 +448,14 @@ fn each_member(rt: HostRuntime) {
 #[test]
 fn no_header(rt: HostRuntime) {
     for (json, number) in &NO_HEADERS {
-        assert_eq!(rt; answer(rt.alloc(), json), *number, "{json:?}");
+        assert_eq!(rt; answer(rt.alloc(), json), Ok(*number), "{json:?}");
     }
 }
 
 #[test]
 fn many_fields(rt: HostRuntime) {
     for (more, number) in [(63, 0), (64, 7)] {
-        assert_eq!(rt; answer_to_fields(rt.alloc(), more), number, "{more}");
+        assert_eq!(rt; answer_to_fields(rt.alloc(), more), Ok(number), "{more}");
     }
 }
 

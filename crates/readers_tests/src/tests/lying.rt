@@ -1,7 +1,7 @@
 //! Bodies that are cut or lie of their lengths: how both readers answer them.
 
 use super::bundle::{FRONT, joined};
-use esc_bundle::{Fault, sections};
+use esc_bundle::{Fault, NoMemory, sections};
 use esc_tables::read_deposit;
 use std::alloc::Global;
 
@@ -37,52 +37,51 @@ static BACKS: [(&[u8], [u8; 2]); 18] = [
     (b"c.csv 8\nC1,R1,x\n\nend\n", [0, 9]),
 ];
 
-// The number of a refusal, 0 where there is none, 255 for want of memory.
-fn number<T: Drop>(answer: Result<T, Fault>) -> u8 {
+// The number of a refusal, 0 where there is none.
+fn number<T: Drop>(answer: Result<T, Fault>) -> Result<u8, NoMemory> {
     match answer {
-        Ok(_) => 0,
-        Err(Fault::Refused(number)) => number,
-        Err(Fault::NoMemory) => 255,
+        Ok(_) => Ok(0),
+        Err(Fault::Refused(number)) => Ok(number),
+        Err(Fault::NoMemory) => Err(NoMemory),
     }
 }
 
-fn deposit_number(alloc: Global, body: &[u8]) -> u8 {
+fn deposit_number(alloc: Global, body: &[u8]) -> Result<u8, NoMemory> {
     number(read_deposit(alloc, body))
 }
 
-fn numbers(alloc: Global, body: &[u8]) -> [u8; 2] {
-    [number(sections(alloc, body)), deposit_number(alloc, body)]
-}
-
 // The numbers of the sample with another back.
-fn numbers_of(alloc: Global, back: &[u8]) -> [u8; 2] {
-    match joined(alloc, FRONT, back) {
-        Ok(body) => numbers(alloc, body.as_slice()),
-        Err(_) => [255, 255],
-    }
+fn numbers_of(alloc: Global, back: &[u8]) -> Result<[u8; 2], NoMemory> {
+    let body = joined(alloc, FRONT, back)?;
+    let of_sections = number(sections(alloc, body.as_slice()))?;
+    Ok([of_sections, deposit_number(alloc, body.as_slice())?])
 }
 
 #[test]
 fn bodies_that_lie(rt: HostRuntime) {
     for (back, expected) in &BACKS {
-        assert_eq!(rt; numbers_of(rt.alloc(), back), *expected, "{back:?}");
+        assert_eq!(rt; numbers_of(rt.alloc(), back), Ok(*expected), "{back:?}");
     }
 }
 
 // How many beginnings of a body are refused as a deposit for their frame.
-fn count_refused(alloc: Global, body: &[u8]) -> usize {
-    (0..body.len())
-        .filter(|len| deposit_number(alloc, &body[..*len]) == 1)
-        .count()
+fn count_refused(alloc: Global, body: &[u8]) -> Result<usize, NoMemory> {
+    let mut count = 0usize;
+    for len in 0..body.len() {
+        if deposit_number(alloc, &body[..len])? == 1 {
+            count = count.saturating_add(1);
+        }
+    }
+    Ok(count)
 }
 
 // How many bytes the sample has, and how many of its beginnings are refused.
-fn beginnings(alloc: Global) -> Option<(usize, usize)> {
-    let body = joined(alloc, FRONT, BACK).ok()?;
-    Some((body.len(), count_refused(alloc, body.as_slice())))
+fn beginnings(alloc: Global) -> Result<(usize, usize), NoMemory> {
+    let body = joined(alloc, FRONT, BACK)?;
+    Ok((body.len(), count_refused(alloc, body.as_slice())?))
 }
 
 #[test]
 fn no_beginning_of_the_sample_is_a_deposit(rt: HostRuntime) {
-    assert_eq!(rt; beginnings(rt.alloc()), Some((228, 228)));
+    assert_eq!(rt; beginnings(rt.alloc()), Ok((228, 228)));
 }

@@ -438,8 +438,11 @@ fn count_refused(rt: &impl Abort, alloc: Global) -> u32 {
 }
 
 #[test]
-fn deposits_and_envelopes_are_read(rt: HostRuntime) {
-    assert_eq!(rt; count_refused(&rt, rt.alloc()), 0);
+fn deposits_and_envelopes_are_read(rt: HostRuntime) -> Result<(), NoMemory> {
+    match count_refused(&rt, rt.alloc()) {
+        0 => Ok(()),
+        _ => Err(NoMemory),
+    }
 }
 
 #[test]

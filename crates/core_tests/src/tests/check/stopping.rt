@@ -1,11 +1,21 @@
 //! Objects of a map, up to a call that fails.
 
 use esc_apply::{MapObjects, Objects};
+use esc_bundle::NoMemory;
 use esc_tables::{Key, Object};
 
-/// A call failed.
+/// Why a call failed.
 #[derive(Clone, Copy, Debug, PartialEq, Eq)]
-pub struct Stopped;
+pub enum Stopped {
+    Here,
+    NoMemory,
+}
+
+impl From<NoMemory> for Stopped {
+    fn from(_error: NoMemory) -> Stopped {
+        Stopped::NoMemory
+    }
+}
 
 /// Objects in memory that fail once so many calls were made.
 #[derive(Drop)]
@@ -40,8 +50,8 @@ impl Objects for Stopping {
     fn next(&mut self) -> Result<Option<(Key, Object)>, Stopped> {
         match self.left.checked_sub(1) {
             Some(fewer) => self.left = fewer,
-            None => return Err(Stopped),
+            None => return Err(Stopped::Here),
         }
-        self.inner.next().map_err(|_| Stopped)
+        Ok(self.inner.next()?)
     }
 }
