@@ -127,11 +127,7 @@ fn served<S: Alter>(
     Ok((fault, written(writer)?))
 }
 
-fn serve_all<S: Alter>(
-    alloc: Global,
-    desk: &mut Desk<S>,
-    wires: &[Wire<'_>],
-) -> Result<(), Fail> {
+fn serve_all<S: Alter>(alloc: Global, desk: &mut Desk<S>, wires: &[Wire<'_>]) -> Result<(), Fail> {
     for wire in wires {
         served(alloc, desk, wire)?;
     }
