@@ -63,7 +63,7 @@ fn opened_again<S: Alter + Drop>(alloc: Global, store: Store<S>) -> Result<Store
 }
 
 // Lists the rows of a manifest that aren't listed yet, in a change that is committed or dropped.
-#[tactic(auto, using(std::proofs::Math::Seq::take-append_seam))]
+#[tactic(auto, using(crate::proofs::Unions::begins))]
 fn list<S: Alter>(
     alloc: Global,
     store: &mut Store<S>,
