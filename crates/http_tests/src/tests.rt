@@ -6,7 +6,7 @@ mod lying;
 mod routes;
 mod sweeps;
 
-use esc_desk::{Desk, SFault};
+use esc_desk::Desk;
 use esc_flaky::{FailingReader, FailingWriter};
 use esc_http::{Report, ServeFault, receipt_line, receipts_heading, report, serve_one};
 use esc_manifest::{Manifest, read_manifest};
@@ -14,7 +14,6 @@ use esc_store::Store;
 use sqlite::{Alter, Connection, MemStore};
 use std::alloc::Global;
 use std::process::Abort;
-use std::test::Fail;
 
 const LISTED: &[u8] = b"id,type,watermark,prevId,resend,sha256
 F1,FULL,2024-03-03T00:00:00Z,,,1d41f5eeb08831b6a8f6956b591cf4d4a358e3df4c4601a65b3528460d54055c
@@ -80,39 +79,16 @@ const STATUS_ASKED: Wire<'static> = Wire {
 };
 
 // A manifest that lists the sample.
-fn manifest(alloc: Global) -> Result<Manifest, Fail> {
-    Ok(read_manifest(alloc, LISTED)?)
+fn manifest(alloc: Global) -> Option<Manifest> {
+    read_manifest(alloc, LISTED).ok()
 }
 
 // A desk over a new store in memory that lists the sample.
-fn desk(alloc: Global) -> Result<Desk<MemStore>, Fail> {
+fn desk(alloc: Global) -> Option<Desk<MemStore>> {
     let manifest = manifest(alloc)?;
-    let conn = Connection::open_in_memory(alloc)?;
-    match Store::create(alloc, conn, &manifest) {
-        Ok(store) => Ok(Desk::open(store)),
-        Err((fault, _)) => Err(Fail::new(fault)),
-    }
-}
-
-/// The response where memory is refused. No test waits for it.
-const WITHOUT_MEMORY: &[u8] =
-    b"HTTP/1.1 503 Service Unavailable\r\nContent-Type: text/plain\r\nContent-Length: 3\r\nConnection: close\r\n\r\nS2\n";
-
-// Whether a text is that response, or a beginning of it that no response but a 503 has.
-fn tells_want_of_memory(text: &[u8]) -> bool {
-    text.len() > b"HTTP/1.1 ".len() && WITHOUT_MEMORY.starts_with(text)
-}
-
-// What was written, unless it tells that memory was refused, or the writer had none.
-fn written(writer: FailingWriter) -> Result<Vec<u8>, Fail> {
-    if writer.wants_memory() {
-        return Err(Fail::new("a writer: OutOfMemory"));
-    }
-    let text = writer.into_text();
-    if tells_want_of_memory(text.as_slice()) {
-        return Err(Fail::new("503 S2"));
-    }
-    Ok(text)
+    let conn = Connection::open_in_memory(alloc).ok()?;
+    let store = Store::create(alloc, conn, &manifest).ok()?;
+    Some(Desk::open(store))
 }
 
 // What is answered and written.
@@ -120,22 +96,21 @@ fn served<S: Alter>(
     alloc: Global,
     desk: &mut Desk<S>,
     wire: &Wire<'_>,
-) -> Result<(Option<ServeFault>, Vec<u8>), Fail> {
+) -> (Option<ServeFault>, Vec<u8>) {
     let mut reader = FailingReader::new(wire.input, wire.step, wire.readable);
     let mut writer = FailingWriter::new(alloc, wire.step, wire.writable, wire.is_stuck);
     let fault = serve_one(alloc, desk, &mut reader, &mut writer).err();
-    Ok((fault, written(writer)?))
+    (fault, writer.into_text())
 }
 
-fn serve_all<S: Alter>(alloc: Global, desk: &mut Desk<S>, wires: &[Wire<'_>]) -> Result<(), Fail> {
+fn serve_all<S: Alter>(alloc: Global, desk: &mut Desk<S>, wires: &[Wire<'_>]) {
     for wire in wires {
-        served(alloc, desk, wire)?;
+        served(alloc, desk, wire);
     }
-    Ok(())
 }
 
-fn count_receipts<S: Alter>(alloc: Global, desk: &mut Desk<S>) -> Result<usize, SFault> {
-    Ok(desk.receipts(alloc)?.len())
+fn count_receipts<S: Alter>(alloc: Global, desk: &mut Desk<S>) -> Option<usize> {
+    Some(desk.receipts(alloc).ok()?.len())
 }
 
 /// What came of a request: why the response did not go out whole, what of it did, and how many
@@ -152,11 +127,11 @@ fn told_of<S: Alter>(
     desk: &mut Desk<S>,
     before: &[Wire<'_>],
     wire: &Wire<'_>,
-) -> Result<Outcome, Fail> {
-    serve_all(alloc, desk, before)?;
-    let (fault, text) = served(alloc, desk, wire)?;
+) -> Option<Outcome> {
+    serve_all(alloc, desk, before);
+    let (fault, text) = served(alloc, desk, wire);
     let receipts = count_receipts(alloc, desk)?;
-    Ok(Outcome {
+    Some(Outcome {
         fault,
         text,
         receipts,
@@ -164,36 +139,48 @@ fn told_of<S: Alter>(
 }
 
 // What comes of a request to a new desk after others.
-fn told(alloc: Global, before: &[Wire<'_>], wire: &Wire<'_>) -> Result<Outcome, Fail> {
+fn told(alloc: Global, before: &[Wire<'_>], wire: &Wire<'_>) -> Option<Outcome> {
     let mut desk = desk(alloc)?;
     told_of(alloc, &mut desk, before, wire)
 }
 
 fn assert_told(
     rt: &impl Abort,
-    found: Outcome,
+    found: Option<Outcome>,
     fault: Option<ServeFault>,
     text: &[u8],
     receipts: usize,
 ) {
-    assert_eq!(rt;
-        (found.fault, found.text.as_slice(), found.receipts),
-        (fault, text, receipts)
-    );
+    match found {
+        Some(found) => assert_eq!(rt;
+            (found.fault, found.text.as_slice(), found.receipts),
+            (fault, text, receipts)
+        ),
+        None => panic!(rt; "no desk"),
+    }
 }
 
 // Whether a response went out whole, and begins and ends with these.
-fn assert_framed(rt: &impl Abort, found: Outcome, front: &[u8], back: &[u8], receipts: usize) {
-    assert_eq!(rt;
-        (
-            found.fault,
-            found.text.starts_with(front),
-            found.text.ends_with(back),
-            found.receipts
+fn assert_framed(
+    rt: &impl Abort,
+    found: Option<Outcome>,
+    front: &[u8],
+    back: &[u8],
+    receipts: usize,
+) {
+    match found {
+        Some(found) => assert_eq!(rt;
+            (
+                found.fault,
+                found.text.starts_with(front),
+                found.text.ends_with(back),
+                found.receipts
+            ),
+            (None, true, true, receipts),
+            "{front:?} {back:?}"
         ),
-        (None, true, true, receipts),
-        "{front:?} {back:?}"
-    );
+        None => panic!(rt; "no desk"),
+    }
 }
 
 /// Requests that come before, a request, why its response does not go out whole, what of it does,
@@ -268,14 +255,13 @@ static ANSWERS: [(
 ];
 
 #[test]
-fn answers(rt: HostRuntime) -> Result<(), Fail> {
+fn answers(rt: HostRuntime) {
     for (before, wire, fault, text, receipts) in &ANSWERS {
         for step in [1, 7, 100_000] {
-            let found = told(rt.alloc(), before, &Wire { step, ..*wire })?;
+            let found = told(rt.alloc(), before, &Wire { step, ..*wire });
             assert_told(&rt, found, *fault, text, *receipts);
         }
     }
-    Ok(())
 }
 
 /// Requests, each with the line that the response begins with and the text that it ends with.
@@ -394,7 +380,7 @@ static REPORTS: [(&[u8], &[u8]); 4] = [
 ];
 
 #[test]
-fn refusals_in_their_order(rt: HostRuntime) -> Result<(), Fail> {
+fn refusals_in_their_order(rt: HostRuntime) {
     for (input, front, back) in &REFUSED {
         for step in [1, 100_000] {
             let found = told(
@@ -405,49 +391,46 @@ fn refusals_in_their_order(rt: HostRuntime) -> Result<(), Fail> {
                     step,
                     ..OPEN
                 },
-            )?;
+            );
             assert_framed(&rt, found, front, back, 0);
         }
     }
-    Ok(())
 }
 
 #[test]
-fn reports_are_told(rt: HostRuntime) -> Result<(), Fail> {
+fn reports_are_told(rt: HostRuntime) {
     for (input, back) in &REPORTS {
-        let found = told(rt.alloc(), &[SAMPLE], &Wire { input, ..OPEN })?;
+        let found = told(rt.alloc(), &[SAMPLE], &Wire { input, ..OPEN });
         assert_framed(&rt, found, b"HTTP/1.1 200 OK\r\n", back, 1);
     }
-    Ok(())
 }
 
 // The heading of the receipts with the line of each.
-fn lines_of_receipts<S: Alter>(alloc: Global, desk: &mut Desk<S>) -> Result<Vec<u8>, Fail> {
-    let mut whole = receipts_heading(alloc)?;
-    for reply in &desk.receipts(alloc)? {
-        let line = receipt_line(alloc, reply)?;
-        whole.extend_from_slice(&line)?;
+fn lines_of_receipts<S: Alter>(alloc: Global, desk: &mut Desk<S>) -> Option<Vec<u8>> {
+    let mut whole = receipts_heading(alloc).ok()?;
+    for reply in &desk.receipts(alloc).ok()? {
+        let line = receipt_line(alloc, reply).ok()?;
+        whole.extend_from_slice(&line).ok()?;
     }
-    Ok(whole)
+    Some(whole)
 }
 
 // The report on the receipts of a desk that took the sample, and the same by lines.
-fn both_forms<S: Alter>(alloc: Global, desk: &mut Desk<S>) -> Result<(Vec<u8>, Vec<u8>), Fail> {
-    served(alloc, desk, &SAMPLE)?;
-    let whole = report(alloc, desk, Report::Receipts)?;
+fn both_forms<S: Alter>(alloc: Global, desk: &mut Desk<S>) -> Option<(Vec<u8>, Vec<u8>)> {
+    served(alloc, desk, &SAMPLE);
+    let whole = report(alloc, desk, Report::Receipts).ok()?;
     let lines = lines_of_receipts(alloc, desk)?;
-    Ok((whole, lines))
+    Some((whole, lines))
 }
 
 // Whether both forms are equal, and how many receipts there are.
-fn are_equal_forms(alloc: Global) -> Result<(bool, usize), Fail> {
+fn are_equal_forms(alloc: Global) -> Option<(bool, usize)> {
     let mut desk = desk(alloc)?;
     let (whole, lines) = both_forms(alloc, &mut desk)?;
-    Ok((whole == lines, count_receipts(alloc, &mut desk)?))
+    Some((whole == lines, count_receipts(alloc, &mut desk)?))
 }
 
 #[test]
-fn a_line_of_the_receipts(rt: HostRuntime) -> Result<(), Fail> {
-    assert_eq!(rt; are_equal_forms(rt.alloc())?, (true, 1));
-    Ok(())
+fn a_line_of_the_receipts(rt: HostRuntime) {
+    assert_eq!(rt; are_equal_forms(rt.alloc()), Some((true, 1)));
 }

@@ -33,26 +33,6 @@ struct Scene {
     rows: &'static [Row<'static>],
 }
 
-/// More bytes than a run writes to a stream.
-const ROOM: usize = 16_384;
-
-// A stream in memory that has room from the start: so no write to it wants more.
-fn new_text(rt: &HostRuntime) -> Result<Vec<u8>, Fail> {
-    Ok(Vec::with_capacity(rt.alloc(), ROOM)?)
-}
-
-/// The response where memory is refused. No test waits for it.
-const WITHOUT_MEMORY: &[u8] =
-    b"HTTP/1.1 503 Service Unavailable\r\nContent-Type: text/plain\r\nContent-Length: 3\r\nConnection: close\r\n\r\nS2\n";
-
-// Ends a test that has that response, or a beginning of it that no response but a 503 has.
-fn check_memory(text: &[u8]) -> Result<(), Fail> {
-    if text.len() > b"HTTP/1.1 ".len() && WITHOUT_MEMORY.starts_with(text) {
-        return Err(Fail::new("503 S2"));
-    }
-    Ok(())
-}
-
 // Makes the files of a scene, whatever an earlier run left there.
 fn set_up(rt: &HostRuntime, scene: &Scene) -> Result<(), Fail> {
     let _ = fs::remove_dir_all(rt, scene.folder);
@@ -106,8 +86,8 @@ fn check(
     row: Row<'_>,
 ) -> Result<(), Fail> {
     let words = words_of(rt, row.0)?;
-    let mut said = new_text(rt)?;
-    let mut told = new_text(rt)?;
+    let mut said: Vec<u8> = Vec::new(rt.alloc());
+    let mut told: Vec<u8> = Vec::new(rt.alloc());
     let status = run_words(rt, handles, &words, &mut said, &mut told);
     compare(handles, row, status, &said, &told)
 }

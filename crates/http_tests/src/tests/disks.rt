@@ -44,8 +44,8 @@ pub(crate) fn inner<D: Disk + Drop>(files: Files<FlakyDisk<D>>) -> Files<D> {
     }
 }
 
-/// The same, as files of which a call may be told to fail again.
-pub(crate) fn sound<D: Disk + Drop>(files: Files<D>) -> Files<FlakyDisk<D>> {
+fn sound<D: Disk + Drop>(files: Files<FlakyDisk<D>>) -> Files<FlakyDisk<D>> {
+    let files = inner(files);
     Files {
         log: FlakyDisk::sound(files.log),
         db: FlakyDisk::sound(files.db),
@@ -57,20 +57,6 @@ pub(crate) fn new_files(alloc: Global) -> Files<Memory> {
     Files {
         log: Memory::new(alloc),
         db: Memory::new(alloc),
-    }
-}
-
-// Whether a file in memory wanted more of it. Then a call failed that was not to.
-fn want_memory<D: Disk + Drop>(files: &Files<FlakyDisk<D>>) -> bool {
-    files.log.wants_memory() || files.db.wants_memory()
-}
-
-// Why files of which no call is to fail are refused.
-fn refusal<D: Disk + Drop>(fault: SFault, files: Files<FlakyDisk<D>>) -> Fail {
-    if want_memory(&files) {
-        Fail::new("a file in memory: OutOfMemory")
-    } else {
-        Fail::new(format_args!("sound files: {fault}"))
     }
 }
 
@@ -94,14 +80,14 @@ pub(crate) const PLENTY: Room = Room {
     log_pages: 1_000,
 };
 
-/// A connection, or the fault and the files.
+/// A connection, or the files, where a call of theirs fails.
 pub(crate) fn connect<D: Disk + Drop>(
     alloc: Global,
     files: Files<D>,
     room: Room,
-) -> Result<Connection<FileStore<D>>, (SFault, Files<D>)> {
+) -> Result<Connection<FileStore<D>>, Files<D>> {
     if !files.may_be_used() {
-        return Err((SFault::S1, files));
+        return Err(files);
     }
     let options = Options {
         cache_pages: room.cache_pages,
@@ -110,17 +96,12 @@ pub(crate) fn connect<D: Disk + Drop>(
     };
     match Connection::open_files(alloc, files, options) {
         Ok(connection) => Ok(connection),
-        Err((error, left)) => Err((SFault::from(error), left.into_files())),
+        Err((_, left)) => Err(left.into_files()),
     }
 }
 
-/// A desk's files, unless one in memory wanted more of it.
-pub(crate) fn close<D: Disk + Drop>(desk: FlakyDesk<D>) -> Result<Files<FlakyDisk<D>>, Fail> {
-    let files = disconnect(desk.into_store().into_connection());
-    if want_memory(&files) {
-        return Err(Fail::new("a file in memory: OutOfMemory"));
-    }
-    Ok(files)
+pub(crate) fn close<D: Disk + Drop>(desk: Desk<FileStore<D>>) -> Files<D> {
+    disconnect(desk.into_store().into_connection())
 }
 
 fn disconnect<D: Disk + Drop>(connection: Connection<FileStore<D>>) -> Files<D> {
@@ -186,26 +167,10 @@ pub(crate) fn reopen<D: Disk + Drop>(
     room: Room,
     manifest: &Manifest,
 ) -> Result<FlakyDesk<D>, Fail> {
-    match connect(alloc, sound(inner(files)), room) {
-        Ok(connection) => match open_or_create(alloc, connection, manifest)? {
-            Ok(desk) => Ok(desk),
-            Err(connection) => Err(refusal(SFault::S1, disconnect(connection))),
-        },
-        Err((fault, files)) => Err(refusal(fault, files)),
+    match connect(alloc, sound(files), room) {
+        Ok(connection) => sound_desk(alloc, connection, manifest),
+        Err(_) => Err(Fail::new("sound files do not open")),
     }
-}
-
-// The same, where a call may have failed that was to.
-fn reopen_refused<D: Disk + Drop>(
-    alloc: Global,
-    files: Files<FlakyDisk<D>>,
-    room: Room,
-    manifest: &Manifest,
-) -> Result<FlakyDesk<D>, Fail> {
-    if want_memory(&files) {
-        return Err(refusal(SFault::S1, files));
-    }
-    reopen(alloc, files, room, manifest)
 }
 
 /// The desk over these files, in which a store is made if there is none. Where it is refused that
@@ -219,9 +184,8 @@ pub(crate) fn begin<D: Disk + Drop>(
     match connect(alloc, files, room) {
         Ok(connection) => match open_twice(alloc, connection, manifest)? {
             Ok(desk) => Ok(desk),
-            Err(connection) => reopen_refused(alloc, disconnect(connection), room, manifest),
+            Err(connection) => reopen(alloc, disconnect(connection), room, manifest),
         },
-        Err((SFault::S1, files)) => reopen_refused(alloc, files, room, manifest),
-        Err((fault, files)) => Err(refusal(fault, files)),
+        Err(files) => reopen(alloc, files, room, manifest),
     }
 }

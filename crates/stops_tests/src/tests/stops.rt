@@ -39,13 +39,13 @@ const IMAGES: [&str; 6] = [
 fn connect<D: Disk + Drop>(
     alloc: Global,
     files: Files<D>,
-) -> Result<Connection<FileStore<D>>, (SFault, Files<D>)> {
+) -> Result<Connection<FileStore<D>>, Files<D>> {
     if !files.may_be_used() {
-        return Err((SFault::S1, files));
+        return Err(files);
     }
     match Connection::open_files(alloc, files, Options::new(7)) {
         Ok(connection) => Ok(connection),
-        Err((error, left)) => Err((SFault::from(error), left.into_files())),
+        Err((_, left)) => Err(left.into_files()),
     }
 }
 
@@ -57,34 +57,29 @@ fn make<S: Alter + Drop>(
     alloc: Global,
     connection: Connection<S>,
     manifest: &Manifest,
-) -> Result<Desk<S>, (SFault, Connection<S>)> {
+) -> Result<Desk<S>, Connection<S>> {
     match new_desk(alloc, connection, manifest) {
         Ok(desk) => Ok(desk),
-        Err(refused) => Err(refused),
+        Err((_, connection)) => Err(connection),
     }
 }
 
-// A desk over a new store in the files, or the fault and the files.
+// A desk over a new store in the files, or the files.
 fn begin<D: Disk + Drop>(
     alloc: Global,
     files: Files<D>,
     manifest: &Manifest,
-) -> Result<Desk<FileStore<D>>, (SFault, Files<D>)> {
+) -> Result<Desk<FileStore<D>>, Files<D>> {
     match make(alloc, connect(alloc, files)?, manifest) {
         Ok(desk) => Ok(desk),
-        Err((fault, connection)) => Err((fault, close(connection))),
+        Err(connection) => Err(close(connection)),
     }
 }
 
-// Takes an arrival. Whether it is answered: a file that fails refuses it by `S1` alone.
 fn takes<S: Alter + Drop>(alloc: Global, desk: &mut Desk<S>, taken: &Taken) -> Result<bool, Fail> {
     let number = number(taken.number)?;
     let bytes = bytes_of(alloc, taken.body)?;
-    match desk.arrive(alloc, &number, bytes.as_slice()) {
-        Ok(_) => Ok(true),
-        Err(SFault::S1) => Ok(false),
-        Err(fault) => Err(Fail::new(fault)),
-    }
+    Ok(desk.arrive(alloc, &number, bytes.as_slice()).is_ok())
 }
 
 // Takes a row's arrivals up to the first that is refused: how many were answered.
@@ -126,8 +121,7 @@ fn run_until_stopped<D: Disk + Drop>(
 ) -> Result<(Option<usize>, Files<D>), Fail> {
     match begin(alloc, files, manifest) {
         Ok(desk) => left_after(alloc, desk, row),
-        Err((SFault::S1, files)) => Ok((None, files)),
-        Err((fault, _)) => Err(Fail::new(fault)),
+        Err(files) => Ok((None, files)),
     }
 }
 
@@ -150,7 +144,7 @@ fn make_anew<S: Alter + Drop>(
 ) -> Result<Desk<S>, Fail> {
     match make(alloc, connection, manifest) {
         Ok(desk) => Ok(desk),
-        Err((fault, _)) => Err(Fail::new(fault)),
+        Err(_) => Err(Fail::new("no store is made")),
     }
 }
 
@@ -237,7 +231,7 @@ fn found_in<D: Disk + Drop>(
 ) -> Result<Found, Fail> {
     match connect(alloc, files) {
         Ok(connection) => found_over(alloc, connection, manifest, row),
-        Err((fault, _)) => Err(Fail::new(fault)),
+        Err(_) => Err(Fail::new("the files do not open")),
     }
 }
 
