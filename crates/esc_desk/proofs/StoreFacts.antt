@@ -1,17 +1,14 @@
 -- What follows of a store from one call to the next.
 use Rattle.std.proofs.Common.{◌≡◌, List, IfSome, sym, subst, ◌∙◌, arith}
-use Rattle.sha2.specs.Sha256.{sha256}
 use Rattle.sqlite_trees.specs.declared.store.Store.{Ghosts}
 use Rattle.sqlite.specs.State.{State, HasCleanDisk, Survives}
 use Rattle.sqlite.proofs.StateLemmas.{survives_then}
-use Rattle.esc_tables.specs.Reading.{reading}
 use Rattle.esc_store.specs.declared.store.Store.{Store}
-use Rattle.esc_store.specs.Kept.{AreHeld}
 use Rattle.esc_store.specs.Standing.{ChangeOf, IsHonest, IsAsBefore, GoesOn}
 use Rattle.esc_desk.specs.declared.desk.Desk.{Desk}
 use Rattle.esc_desk.specs.Calls.{Stays}
-use Rattle.esc_desk.specs.Events.{EventValue}
-use Rattle.esc_desk.specs.Stands.{held_body}
+use Rattle.esc_events.specs.Events.{EventValue}
+use Rattle.esc_events.specs.Known.{IsKnown}
 use Rattle.esc_desk.specs.Serving.{DeskServes}
 
 -- an honest store was honest before
@@ -33,7 +30,7 @@ still_serves g old new same known e served =
     let serves = served.serves in
     record {
       serves = record { kept = serves.kept; stands = same.stands serves.kept serves.stands; stands_for = serves.stands_for };
-      remembers = subst (λ rows. IfSome rows (λ held. AreHeld (held_body sha256 reading e) held.items)) (sym known) served.remembers;
+      remembers = subst (λ known. IfSome known (IsKnown serves.kept)) (sym known) served.remembers;
     }
 
 -- the same in one word

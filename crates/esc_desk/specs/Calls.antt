@@ -11,12 +11,23 @@ use Rattle.esc_store.specs.ReplyValue.{ReplyValue}
 use Rattle.esc_store.specs.Standing.{IsHonest, IsAsBefore}
 use Rattle.esc_desk.specs.declared.desk.Desk.{Desk}
 use Rattle.esc_desk.specs.declared.running.Outcome.{Outcome}
-use Rattle.esc_desk.specs.ArrivalValue.{ArrivalValue}
-use Rattle.esc_desk.specs.Crashes.{CrashLeaves, LeavesTaken, LeavesOutcome, doubtful_after}
-use Rattle.esc_desk.specs.Events.{EventValue}
-use Rattle.esc_desk.specs.Receipts.{receipts_of, reply_to}
+use Rattle.esc_events.specs.ArrivalValue.{ArrivalValue}
+use Rattle.esc_desk.specs.Crashes.{
+  CrashLeaves,
+  LeavesTaken,
+  LeavesMade,
+  LeavesOutcome,
+  doubtful_after,
+}
+use Rattle.esc_events.specs.Events.{EventValue, union}
+use Rattle.esc_events.specs.Receipts.{receipts_of, reply_to}
 use Rattle.esc_desk.specs.Running.{answered}
-use Rattle.esc_desk.specs.Serving.{Serves, DeskServes, no_work}
+use Rattle.esc_desk.specs.Serving.{Serves, DeskServes}
+use Rattle.esc_events.specs.Apart.{WhereApart}
+use Rattle.esc_events.specs.Finding.{row_of}
+use Rattle.esc_events.specs.Stands.{parked_body}
+use Rattle.esc_events.specs.Works.{no_work}
+use Rattle.esc_store.specs.Kept.{IsFull}
 
 -- ---- a desk
 
@@ -96,19 +107,40 @@ abbrev pub HasNoRoom : List EventValue → ArrivalValue → Type 0
 HasNoRoom e a = (reply_to sha256 reading e a ≡ None)
     × (1_000_000_000 ≤ length (receipts_of sha256 reading e))
 
--- why an arrival may be lost: the database failed (S1), memory was refused (S2), or there is no
--- room for its receipt (S4)
+-- the body of an arrival is to be parked: it is like none before it, no row lists the body, and it
+-- isn't parked
+pub record IsToBeParked (e : List EventValue) (a : ArrivalValue) : Type 0 where
+  pub like_none : reply_to sha256 reading e a ≡ None
+  pub unlisted : row_of (union e) (sha256 a.body) ≡ None
+  pub not_parked : parked_body sha256 reading e (sha256 a.body) ≡ None
+
+-- there is no place to park the body of an arrival: 1,024 others are parked
+pub record HasNoPlace (e : List EventValue) (a : ArrivalValue) : Type 0 where
+  pub to_be_parked : IsToBeParked e a
+  pub full : IsFull (parked_body sha256 reading e)
+
+-- why an arrival may be lost: the database failed (S1), memory was refused (S2), there is no room
+-- for its receipt (S4), or no place to park its body (S5)
 abbrev pub IsCause : List EventValue → ArrivalValue → SFault → Type 0
 IsCause e a S1 = Unit {0}
 IsCause e a S2 = Unit {0}
 IsCause e a S3 = ⊥
 IsCause e a S4 = HasNoRoom e a
-IsCause e a S5 = ⊥
+IsCause e a S5 = WhereApart e (HasNoPlace e a)
 
 -- an arrival like none before it: there was room for its receipt
 abbrev pub HadRoom : List EventValue → ArrivalValue → Type 0
 HadRoom e a = reply_to sha256 reading e a ≡ None
     → length (receipts_of sha256 reading e) < 1_000_000_000
+
+-- there was a place to park its body, if it was to be parked
+abbrev pub HadPlace : List EventValue → ArrivalValue → Type 0
+HadPlace e a = WhereApart e (HasNoPlace e a → ⊥)
+
+-- what a crash leaves after an event that changes a table, by its answer
+abbrev pub DeskLeavesMade : {S X : Type 0} → Ghosts S → Desk S → List EventValue → List EventValue
+    → EventValue → Result X SFault → Type 0
+DeskLeavesMade g desk e doubtful x result = LeavesMade g desk.store.conn e doubtful x result
 
 -- what a crash leaves after an arrival, by its answer
 abbrev pub DeskLeavesTaken : {S X : Type 0} → Ghosts S → Desk S → List EventValue → List EventValue

@@ -2,20 +2,20 @@
 use Rattle.std.specs.Prelude.{◌≡◌, ℕ, ◌+◌, List, [], ◌∷◌, ◌++◌, sum_by}
 use Rattle.esc_apply.specs.declared.moves.Work.{Work}
 use Rattle.esc_apply.specs.Registry.{saturated}
-use Rattle.esc_store.specs.Faults.{IsS1OrS2OrS4}
+use Rattle.esc_store.specs.Faults.{IsS1OrS2OrS4OrS5}
 use Rattle.esc_desk.specs.declared.running.Outcome.{Outcome}
 use Rattle.esc_desk.specs.declared.running.Outcome.TheVariants.{Done, Lost}
-use Rattle.esc_desk.specs.ArrivalValue.{ArrivalValue}
+use Rattle.esc_events.specs.ArrivalValue.{ArrivalValue}
 use Rattle.esc_desk.specs.Calls.{IsCause}
-use Rattle.esc_desk.specs.Events.{EventValue}
-use Rattle.esc_desk.specs.Events.EventValue.{arrived}
+use Rattle.esc_events.specs.Events.{EventValue}
+use Rattle.esc_events.specs.Events.EventValue.{arrived}
 use Rattle.esc_desk.specs.Running.{answered}
-use Rattle.esc_desk.specs.Works.{IsWorkOf}
+use Rattle.esc_events.specs.Works.{IsWorkOf}
 
--- it was not lost, or by S1, S2 or S4
+-- it was not lost, or by S1, S2, S4 or S5
 abbrev pub IsOutcome : Outcome → Type 0
 IsOutcome (Done r) = Unit {0}
-IsOutcome (Lost f) = IsS1OrS2OrS4 f
+IsOutcome (Lost f) = IsS1OrS2OrS4OrS5 f
 
 -- an arrival after these events was not lost, or there was this cause
 abbrev pub IsOutcomeOf : List EventValue → ArrivalValue → Outcome → Type 0

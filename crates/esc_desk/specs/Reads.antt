@@ -13,21 +13,18 @@ use Rattle.std.specs.Prelude.{
   slice_get,
 }
 use Rattle.sha2.specs.Sha256.{sha256}
-use Rattle.esc_tables.specs.KeyName.{KeyName}
-use Rattle.esc_tables.specs.ObjectValue.{ObjectValue}
 use Rattle.esc_tables.specs.DepositValue.{DepositValue}
 use Rattle.esc_tables.specs.Reading.{reading}
-use Rattle.esc_chain.specs.Chain.{IsLatestChain}
 use Rattle.esc_apply.specs.declared.front.Step.{Step}
-use Rattle.esc_apply.specs.Registry.{Content, IsEntriesOf}
-use Rattle.esc_apply.specs.Tables.{tables}
-use Rattle.esc_store.specs.Kept.{step_at, AreHeld, AreCounts}
+use Rattle.esc_store.specs.Kept.{step_at, AreHeld, AreParked, AreCounts}
 use Rattle.esc_store.specs.ReplyValue.{ReplyValue, replies_from}
+use Rattle.esc_events.specs.Apart.{WhereApart}
+use Rattle.esc_events.specs.Events.{EventValue, union}
+use Rattle.esc_events.specs.Reads.{IsChainOf, tables_of}
+use Rattle.esc_events.specs.Receipts.{receipts_of}
+use Rattle.esc_events.specs.Stands.{deposit_of, held_body, parked_body}
 use Rattle.esc_desk.specs.declared.status.Status.{Status}
 use Rattle.esc_desk.specs.declared.status.End.{End}
-use Rattle.esc_desk.specs.Events.{EventValue, union}
-use Rattle.esc_desk.specs.Receipts.{receipts_of}
-use Rattle.esc_desk.specs.Stands.{deposit_of, deposits_of, held_rows, held_body}
 
 -- the last element, if any
 abbrev pub last : {X : Type 0} → List X → Option X
@@ -43,19 +40,13 @@ module _ (e : List EventValue) where
   abbrev pub replies_of : List ReplyValue
   replies_of = replies_from (union e) 1 (receipts_of sha256 reading e)
 
-  -- the rows of the latest chain of the held rows
-  abbrev pub IsChainOf : List ℕ → Type 0
-  IsChainOf chain = IsLatestChain (union e) (held_rows sha256 reading e) chain
+  -- these are the rows of which a body is held, rising
+  abbrev pub AreHeldRows : List ℕ → Type 0
+  AreHeldRows rows = WhereApart e (AreHeld (held_body sha256 reading e) rows)
 
-  -- the tables of a chain, by the bodies that are held
-  abbrev pub tables_of : List ℕ → Content
-  tables_of chain = tables (deposits_of reading (held_body sha256 reading e) chain)
-
-  -- these entries are the tables of the latest chain
-  pub record AreTables (entries : List (KeyName × ObjectValue)) : Type 0 where
-    pub chain : List ℕ
-    pub latest : IsChainOf chain
-    pub objects : IsEntriesOf (tables_of chain) entries
+  -- these are the digests of the parked bodies, in the order of their bytes
+  abbrev pub AreParkedDigests : List (List ℕ) → Type 0
+  AreParkedDigests digests = WhereApart e (AreParked (parked_body sha256 reading e) digests)
 
   -- the last row of a chain says this; nothing is said by no row
   abbrev pub IsEndAt : Option ℕ → Option End → Type 0
@@ -65,21 +56,28 @@ module _ (e : List EventValue) where
   IsEndAt (Some row) (Some end) = SaysEnd (deposit_of reading (held_body sha256 reading e row)) end
 
   -- this is what the last deposit of the latest chain says
-  pub record IsEnd (end : Option End) : Type 0 where
+  pub record IsEndOfChain (end : Option End) : Type 0 where
     pub chain : List ℕ
-    pub latest : IsChainOf chain
+    pub latest : IsChainOf e chain
     pub says : IsEndAt (last chain) end
 
-  -- the numbers are those of the listed and the held rows, the receipts, the chain and its tables
-  pub record IsStatus (status : Status) : Type 0 where
+  abbrev pub IsEnd : Option End → Type 0
+  IsEnd end = WhereApart e (IsEndOfChain end)
+
+  -- the numbers are those of the held rows, the latest chain and its tables
+  pub record AreCountsOf (status : Status) : Type 0 where
     pub rows : List ℕ
     pub are_held : AreHeld (held_body sha256 reading e) rows
     pub chain : List ℕ
-    pub latest : IsChainOf chain
-    pub listed_count : status.listed ≡ length (union e)
+    pub latest : IsChainOf e chain
     pub held_count : status.held ≡ length rows
-    pub receipt_count : status.receipts ≡ length (receipts_of sha256 reading e)
     pub step_count : status.chain ≡ length chain
     pub end_is : status.end
         ≡ option_map (λ (s : Step). (s.place, s.resend)) (last (map (step_at (union e)) chain))
-    pub objects_are : AreCounts (tables_of chain) status.objects.entries
+    pub objects_are : AreCounts (tables_of e chain) status.objects.entries
+
+  -- and those of the listed rows and the receipts
+  pub record IsStatus (status : Status) : Type 0 where
+    pub listed_count : status.listed ≡ length (union e)
+    pub receipt_count : status.receipts ≡ length (receipts_of sha256 reading e)
+    pub counts : WhereApart e (AreCountsOf status)

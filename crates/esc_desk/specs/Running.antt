@@ -6,10 +6,10 @@ use Rattle.esc_tables.specs.Reading.{reading}
 use Rattle.esc_desk.specs.declared.desk.Desk.{Desk}
 use Rattle.esc_desk.specs.declared.running.Outcome.{Outcome}
 use Rattle.esc_desk.specs.declared.running.Outcome.TheVariants.{Done, Lost}
-use Rattle.esc_desk.specs.ArrivalValue.{ArrivalValue}
-use Rattle.esc_desk.specs.Events.{EventValue}
-use Rattle.esc_desk.specs.Events.EventValue.{arrived}
-use Rattle.esc_desk.specs.Receipts.{reply_to}
+use Rattle.esc_events.specs.ArrivalValue.{ArrivalValue}
+use Rattle.esc_events.specs.Events.{EventValue}
+use Rattle.esc_events.specs.Events.EventValue.{arrived}
+use Rattle.esc_events.specs.Receipts.{reply_to}
 use Rattle.esc_desk.specs.Serving.{DeskServes, Answers}
 
 -- there is one outcome for each arrival, and each reply is that of its arrival, where e are all

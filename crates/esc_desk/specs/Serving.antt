@@ -1,19 +1,19 @@
 -- A desk that stands for a list of events, and what its calls answer.
-use Rattle.std.specs.Prelude.{false, ◌≡◌, List, [], ◌∷◌, ◌++◌, Some, IfSome}
+use Rattle.std.specs.Prelude.{◌≡◌, List, [], ◌∷◌, ◌++◌, Some, IfSome}
 use Rattle.sha2.specs.Sha256.{sha256}
 use Rattle.sqlite_trees.specs.declared.store.Store.{Ghosts}
 use Rattle.esc_tables.specs.Reading.{reading}
-use Rattle.esc_apply.specs.declared.moves.Work.{Work}
 use Rattle.esc_store.specs.declared.store.Store.{Store}
 use Rattle.esc_store.specs.ReplyValue.{ReplyValue}
-use Rattle.esc_store.specs.Kept.{Kept, AreHeld}
+use Rattle.esc_store.specs.Kept.{Kept}
 use Rattle.esc_store.specs.Standing.{Stands}
-use Rattle.esc_desk.specs.ArrivalValue.{ArrivalValue}
-use Rattle.esc_desk.specs.Events.{EventValue}
-use Rattle.esc_desk.specs.Events.EventValue.{arrived}
-use Rattle.esc_desk.specs.Receipts.{reply_to}
+use Rattle.esc_events.specs.ArrivalValue.{ArrivalValue}
+use Rattle.esc_events.specs.Events.{EventValue}
+use Rattle.esc_events.specs.Events.EventValue.{arrived}
+use Rattle.esc_events.specs.Known.{IsKnown}
+use Rattle.esc_events.specs.Receipts.{reply_to}
+use Rattle.esc_events.specs.Stands.{StandsFor}
 use Rattle.esc_desk.specs.declared.desk.Desk.{Desk}
-use Rattle.esc_desk.specs.Stands.{held_body, StandsFor}
 
 -- a store stands for this list of events
 pub record Serves {S : Type 0} (g : Ghosts S) (store : Store S) (e : List EventValue) : Type 0 where
@@ -21,19 +21,15 @@ pub record Serves {S : Type 0} (g : Ghosts S) (store : Store S) (e : List EventV
   pub stands : Stands g store kept
   pub stands_for : StandsFor sha256 reading e kept
 
--- a desk's store stands for this list of events, and the rows that the desk remembers, if any, are
--- those of which a body is held then
+-- a desk's store stands for this list of events, and what the desk remembers of its rows, if
+-- anything, is so
 pub record DeskServes {S : Type 0} (g : Ghosts S) (desk : Desk S)
     (e : List EventValue) : Type 0 where
   pub serves : Serves g desk.store e
-  pub remembers : IfSome desk.known (λ rows. AreHeld (held_body sha256 reading e) rows.items)
+  pub remembers : IfSome desk.known (IsKnown serves.kept)
 
 -- after an arrival that was answered the desk serves the list with it, and the answer is its reply
 pub record Answers {S : Type 0} (g : Ghosts S) (desk : Desk S) (e : List EventValue)
     (a : ArrivalValue) (reply : ReplyValue) : Type 0 where
   pub serves : DeskServes g desk (e ++ arrived a ∷ [])
   pub told : reply_to sha256 reading (e ++ arrived a ∷ []) a ≡ Some reply
-
--- nothing is done
-abbrev pub no_work : Work
-no_work = record { cleared = false; undone = 0; applied = 0; writes = 0 }

@@ -30,9 +30,10 @@ use Rattle.esc_store.specs.Kept.{Kept}
 use Rattle.esc_store.specs.Standing.{Stands, IsAsBefore}
 use Rattle.esc_desk.specs.declared.walk.Pages.{Pages}
 use Rattle.esc_desk.specs.declared.walk.Walk.{Walk}
-use Rattle.esc_desk.specs.Events.{EventValue}
+use Rattle.esc_events.specs.Apart.{WhereApart}
+use Rattle.esc_events.specs.Events.{EventValue}
+use Rattle.esc_events.specs.Reads.{AreEntries}
 use Rattle.esc_desk.specs.declared.desk.Desk.{Desk}
-use Rattle.esc_desk.specs.Reads.{AreTables}
 use Rattle.esc_desk.specs.Serving.{DeskServes}
 
 -- the entries of one kind, or all
@@ -87,14 +88,14 @@ HasFailed walk = walk.pages.has_failed ≡ true
 -- a walk is still to give the objects of the tables after these events, of one kind or all
 abbrev pub ListsTables : {S : Type 0} → Ghosts S → Walk S Pages → Option Kind → List EventValue
     → Type 0
-ListsTables g walk kind e = (es : List Entry) → AreTables e es → InOrder es
-    → Lists g walk (of_kinds kind es)
+ListsTables g walk kind e = WhereApart e ((es : List Entry) → AreEntries e es → InOrder es
+    → Lists g walk (of_kinds kind es))
 
 -- the same of pages that stand before the first object
 abbrev pub ListsPages : {S : Type 0} → Ghosts S → Store S → Pages → Option Kind → List EventValue
     → Type 0
-ListsPages g store pages kind e = (es : List Entry) → AreTables e es → InOrder es
-    → AreToCome g store pages (of_kinds kind es)
+ListsPages g store pages kind e = WhereApart e ((es : List Entry) → AreEntries e es → InOrder es
+    → AreToCome g store pages (of_kinds kind es))
 
 -- what a walk leaves as it was, whatever its calls answer
 pub record Follows {S : Type 0} (g : Ghosts S) (old new : Walk S Pages) : Type 0 where

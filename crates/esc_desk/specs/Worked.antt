@@ -4,10 +4,10 @@ use Rattle.esc_envelope.specs.declared.place.DepositType.TheVariants.{Full}
 use Rattle.esc_envelope.specs.HeaderValue.{HeaderValue}
 use Rattle.esc_tables.specs.DepositValue.{DepositValue}
 use Rattle.esc_manifest.specs.declared.row.MRow.{MRow}
-use Rattle.esc_store.specs.declared.reply.Verdict.TheVariants.{A1, A2}
+use Rattle.esc_store.specs.declared.reply.Verdict.TheVariants.{A1, A5}
 use Rattle.esc_store.specs.ReplyValue.{ReplyValue}
-use Rattle.esc_desk.specs.ArrivalValue.{ArrivalValue, an_arrival}
-use Rattle.esc_desk.specs.Events.{EventValue, Coming, coming, manifest_then}
+use Rattle.esc_events.specs.ArrivalValue.{ArrivalValue, an_arrival}
+use Rattle.esc_events.specs.Events.{EventValue, Coming, coming, manifest_then}
 
 -- a body is its own digest
 abbrev pub itself : List ℕ → List ℕ
@@ -57,7 +57,7 @@ abbrev pub unlisted_reply : ℕ → List ℕ → ReplyValue
 unlisted_reply n number = record {
   receipt = n;
   number = number;
-  verdict = A2;
+  verdict = A5;
   id = None;
   resend = None;
   again = None;

@@ -11,7 +11,7 @@ pub struct Arrival<'a> {
 }
 
 impl<'a> Model for Arrival<'a> {
-    ghost use Rattle.esc_desk.specs.ArrivalValue.{ArrivalValue};
+    ghost use Rattle.esc_events.specs.ArrivalValue.{ArrivalValue};
 
     ghost Value = { ArrivalValue };
 

@@ -1,4 +1,4 @@
-//! What a new arrival changes in the store, whole or not at all.
+//! What an event changes in the store, whole or not at all.
 
 ghost use Rattle.std.specs.Prelude.{
   ◌≡◌,
@@ -7,93 +7,125 @@ ghost use Rattle.std.specs.Prelude.{
   ◌≤◌,
   ◌-◌,
   ◌++◌,
-  ◌∷◌,
-  [],
   ℕ,
+  ℤ,
   List,
-  Ok,
+  Option,
   None,
   length,
-  map,
   take,
-  min,
   ◌^◌,
   sum_by,
   IfOk,
   IfErr,
-  IfSome,
   OnOk,
   OnErr,
 };
 ghost use Rattle.esc_tables.specs.DepositValue.{DepositValue};
-ghost use Rattle.esc_tables.specs.Reading.{reading};
 ghost use Rattle.esc_manifest.specs.declared.row.MRow.{MRow};
-ghost use Rattle.esc_apply.specs.Registry.{State, saturated};
+ghost use Rattle.esc_apply.specs.Registry.{saturated};
 ghost use Rattle.esc_apply.specs.Tables.{mention_count};
 ghost use Rattle.esc_apply.specs.Moves.{cost};
 ghost use Rattle.esc_apply.specs.Images.{chain_state};
 ghost use Rattle.esc_apply.specs.Front.{common_front};
-ghost use Rattle.esc_store.specs.Kept.{Kept, with_receipt, with_body, with_steps, with_registry};
-ghost use Rattle.esc_store.specs.Standing.{Stands, IsHonest, IsAsBefore, LeavesOnly};
+ghost use Rattle.esc_store.specs.Kept.{Kept, with_moment};
+ghost use Rattle.esc_store.specs.Standing.{
+  Stands,
+  IsHonest,
+  LeavesOnly,
+  Began,
+  Rest,
+  HoldsNow,
+  GoesOn,
+  Follows,
+  listed_by,
+};
 ghost use Rattle.esc_store.specs.Faults.{IsS1OrS2};
-ghost use Rattle.esc_desk.specs.Causes.{IsStoreFault, IsChangeFault};
-ghost use Rattle.esc_desk.specs.Plans.{rows_in, kept_by};
-ghost use Rattle.esc_store.specs.Standing.{Began, Rest, HoldsNow, GoesOn, Follows, listed_by};
-ghost use Rattle.esc_desk.specs.Filled.{IsFilled};
+ghost use Rattle.esc_events.specs.declared.parking.Parking.TheVariants.{Crowded};
+ghost use Rattle.esc_events.specs.Notes.{noted_by, held_by};
+ghost use Rattle.esc_events.specs.Plans.{HasDepositsPast, IsMovedFrom, IsCostOfMove, moved_by};
+ghost use Rattle.esc_desk.specs.Causes.{
+  IsStoreFault,
+  IsChangeFault,
+  IsNoteFault,
+  IsNoteChangeFault,
+};
 ghost use Rattle.esc_desk.specs.Crashes.{AddsStore};
+ghost use Rattle.esc_desk.specs.Filled.{IsFilled};
 
-use crate::plan::Plan;
 use esc_apply::{Step, Work, move_chain};
+use esc_events::{Parking, Plan};
 use esc_store::{Change, Receipt, SFault, Store};
 use esc_tables::Deposit;
 use sqlite::Alter;
 use std::alloc::Global;
 
-// Keeps a receipt alone, and returns its number.
+/// Keeps a receipt, and its body where that is to be parked; returns the receipt's number. `S4`
+/// comes before `S5`.
 #[tactic(auto, using(crate::proofs::StoreFacts::clean_before))]
 pub(crate) fn note_receipt<S: Alter>(
     store: &mut Store<S>,
     receipt: &Receipt<'_>,
+    parking: Parking,
+    body: &[u8],
 ) -> Result<u64, SFault>
     ensures manifest { store.new.manifest ≡ store.old.manifest }
     ensures honest { IsHonest S.Store store.new → IsHonest S.Store store.old }
     ensures counted { OnOk result (store.new.writes ≡ saturated store.old.writes) }
     ensures uncounted { OnErr result (store.new.writes ≡ store.old.writes) }
     ensures recorded { OnOk result (IsHonest S.Store store.new → (k : Kept)
-        → Stands S.Store store.old k → Stands S.Store store.new (with_receipt k receipt.now)) }
+        → Stands S.Store store.old k
+        → Stands S.Store store.new (noted_by receipt.now parking body.now k)) }
     ensures numbered { IfOk result (λ n. IsHonest S.Store store.new → (k : Kept)
         → Stands S.Store store.old k → n ≡ length k.receipts + 1) }
     ensures room { IfOk result (λ n. n ≤ 1_000_000_000) }
-    ensures left { OnOk result ((k : Kept)
-        → Stands S.Store store.old k → LeavesOnly S.Store store.new (with_receipt k receipt.now)) }
+    ensures place { OnOk result (parking ≡ Crowded → ⊥) }
+    ensures left { OnOk result ((k : Kept) → Stands S.Store store.old k
+        → LeavesOnly S.Store store.new (noted_by receipt.now parking body.now k)) }
     ensures crash { (k : Kept) → Stands S.Store store.old k
-        → AddsStore S.Store store.old.conn store.new.conn result (with_receipt k receipt.now) }
+        → AddsStore S.Store store.old.conn store.new.conn result
+        (noted_by receipt.now parking body.now k) }
     ensures kept { OnErr result ((k : Kept) → Stands S.Store store.old k
         → Stands S.Store store.new k) }
-    ensures cause { IfErr result (IsStoreFault S.Store store.old store.new) }
+    ensures cause { IfErr result (IsNoteFault S.Store store.old store.new parking) }
 {
     let mut change = store.begin()?;
-    let number = note_in(&mut change, receipt)?;
+    let number = fill_note(&mut change, receipt, parking, body)?;
     commit_filled(change)?;
     Ok(number)
 }
 
-fn note_in<S: Alter>(change: &mut Change<'_, S>, receipt: &Receipt<'_>) -> Result<u64, SFault>
+// Makes all of a note but its commit.
+#[tactic(auto, using(crate::proofs::StoreFacts::goes_then))]
+fn fill_note<S: Alter>(
+    change: &mut Change<'_, S>,
+    receipt: &Receipt<'_>,
+    parking: Parking,
+    body: &[u8],
+) -> Result<u64, SFault>
     ensures goes_on { GoesOn S.Store change.old change.new }
     ensures count { change.new.count ≡ change.old.count }
     ensures filled { OnOk result ((k : Kept)
         → Rest S.Store change.old k k → HoldsNow S.Store change.old k.registry
-        → IsFilled S.Store change.new k (with_receipt k receipt.now)) }
+        → IsFilled S.Store change.new k (noted_by receipt.now parking body.now k)) }
     ensures numbered { IfOk result (λ n. IsHonest S.Store change.new.store.now
         → (before k : Kept)
         → Rest S.Store change.old before k → n ≡ length k.receipts + 1) }
     ensures room { IfOk result (λ n. n ≤ 1_000_000_000) }
-    ensures cause { IfErr result (IsChangeFault S.Store change.old change.new) }
+    ensures place { OnOk result (parking ≡ Crowded → ⊥) }
+    ensures cause { IfErr result (IsNoteChangeFault S.Store change.old change.new parking) }
 {
-    change.record_receipt(receipt)
+    let number = change.record_receipt(receipt)?;
+    match parking {
+        Parking::Needless => {}
+        Parking::Free => change.park(&receipt.digest, body)?,
+        Parking::Crowded => return Err(SFault::S5),
+    }
+    Ok(number)
 }
 
-// Keeps a receipt and a body, and moves the chain. The result is the receipt's number and the work.
+/// Keeps a receipt and the body of a row, and moves the chain. Returns the receipt's number and the
+/// work.
 #[tactic(auto, using(crate::proofs::StoreFacts::clean_before))]
 pub(crate) fn hold_deposit<S: Alter>(
     store: &mut Store<S>,
@@ -105,32 +137,26 @@ pub(crate) fn hold_deposit<S: Alter>(
 ) -> Result<(u64, Work), SFault>
     requires few_old { length plan.now.old.items ≤ 4096 }
     requires few_new { length plan.now.new.items ≤ 4096 }
-    requires deposits { length plan.now.deposits.items
-        ≡ length plan.now.new.items - common_front plan.now.old.items plan.now.new.items }
+    requires deposits { HasDepositsPast plan.now }
     ensures manifest { store.new.manifest ≡ store.old.manifest }
     ensures honest { IsHonest S.Store store.new → IsHonest S.Store store.old }
     ensures held { OnOk result (IsHonest S.Store store.new → (k : Kept) (c : List DepositValue)
-        → k.bodies row ≡ None
-        → length c ≡ length plan.now.old.items
-        → Stands S.Store store.old (with_registry k (chain_state c))
-        → Stands S.Store store.new (kept_by plan.now receipt.now row body.now k c)) }
+        → k.bodies row ≡ None → IsMovedFrom k c plan.now → Stands S.Store store.old k
+        → Stands S.Store store.new (moved_by plan.now (held_by receipt.now row body.now k) c)) }
     ensures left { OnOk result ((k : Kept) (c : List DepositValue)
-        → k.bodies row ≡ None → length c ≡ length plan.now.old.items
-        → Stands S.Store store.old (with_registry k (chain_state c))
-        → LeavesOnly S.Store store.new (kept_by plan.now receipt.now row body.now k c)) }
+        → k.bodies row ≡ None → IsMovedFrom k c plan.now → Stands S.Store store.old k
+        → LeavesOnly S.Store store.new
+        (moved_by plan.now (held_by receipt.now row body.now k) c)) }
     ensures crash { (k : Kept) (c : List DepositValue)
-        → k.bodies row ≡ None → length c ≡ length plan.now.old.items
-        → Stands S.Store store.old (with_registry k (chain_state c))
+        → k.bodies row ≡ None → IsMovedFrom k c plan.now → Stands S.Store store.old k
         → AddsStore S.Store store.old.conn store.new.conn result
-        (kept_by plan.now receipt.now row body.now k c) }
+        (moved_by plan.now (held_by receipt.now row body.now k) c) }
     ensures numbered { IfOk result (λ p. IsHonest S.Store store.new → (k : Kept)
         → Stands S.Store store.old k → p.0 ≡ length k.receipts + 1) }
     ensures room { IfOk result (λ p. p.0 ≤ 1_000_000_000) }
     ensures worked { IfOk result (λ p. IsHonest S.Store store.new
-        → (k : Kept) (c : List DepositValue) → length c ≡ length plan.now.old.items
-        → Stands S.Store store.old (with_registry k (chain_state c))
-        → sum_by mention_count (c ++ plan.now.deposits.items) < 2 ^ 64
-        → p.1 ≡ cost c plan.now.old.items plan.now.new.items plan.now.deposits.items) }
+        → (k : Kept) (c : List DepositValue) → IsMovedFrom k c plan.now
+        → Stands S.Store store.old k → IsCostOfMove plan.now c p.1) }
     ensures counted { IfOk result (λ p. store.new.writes
         ≡ saturated (store.old.writes + p.1.writes)) }
     ensures uncounted { OnErr result (store.new.writes ≡ store.old.writes) }
@@ -139,14 +165,14 @@ pub(crate) fn hold_deposit<S: Alter>(
     ensures cause { IfErr result (IsStoreFault S.Store store.old store.new) }
 {
     let mut change = store.begin()?;
-    let filled = fill_change(&mut change, alloc, receipt, row, body, plan)?;
+    let filled = fill_deposit(&mut change, alloc, receipt, row, body, plan)?;
     commit_filled(change)?;
     Ok(filled)
 }
 
-// Makes all of a change but its commit.
+// Makes all of a deposit's change but its commit.
 #[tactic(auto, using(crate::proofs::StoreFacts::goes_then))]
-fn fill_change<S: Alter>(
+fn fill_deposit<S: Alter>(
     change: &mut Change<'_, S>,
     alloc: Global,
     receipt: &Receipt<'_>,
@@ -156,35 +182,56 @@ fn fill_change<S: Alter>(
 ) -> Result<(u64, Work), SFault>
     requires few_old { length plan.now.old.items ≤ 4096 }
     requires few_new { length plan.now.new.items ≤ 4096 }
-    requires deposits { length plan.now.deposits.items
-        ≡ length plan.now.new.items - common_front plan.now.old.items plan.now.new.items }
+    requires deposits { HasDepositsPast plan.now }
     ensures goes_on { GoesOn S.Store change.old change.new }
-    ensures filled { OnOk result ((k : Kept) (c : List DepositValue)
-        → k.bodies row ≡ None
-        → length c ≡ length plan.now.old.items
-        → Began S.Store change.old (with_registry k (chain_state c))
-        → Rest S.Store change.old (with_registry k (chain_state c))
-        (with_registry k (chain_state c)) → HoldsNow S.Store change.old (chain_state c)
-        → IsFilled S.Store change.new (with_registry k (chain_state c))
-        (kept_by plan.now receipt.now row body.now k c)) }
+    ensures filled { OnOk result (IsHonest S.Store change.new.store.now
+        → (k : Kept) (c : List DepositValue)
+        → k.bodies row ≡ None → IsMovedFrom k c plan.now
+        → Rest S.Store change.old k k → HoldsNow S.Store change.old k.registry
+        → IsFilled S.Store change.new k
+        (moved_by plan.now (held_by receipt.now row body.now k) c)) }
     ensures numbered { IfOk result (λ p. IsHonest S.Store change.new.store.now
         → (before k : Kept)
         → Rest S.Store change.old before k → p.0 ≡ length k.receipts + 1) }
     ensures room { IfOk result (λ p. p.0 ≤ 1_000_000_000) }
     ensures worked { IfOk result (λ p. IsHonest S.Store change.new.store.now
-        → (c : List DepositValue) → length c ≡ length plan.now.old.items
-        → HoldsNow S.Store change.old (chain_state c)
-        → sum_by mention_count (c ++ plan.now.deposits.items) < 2 ^ 64
-        → p.1 ≡ cost c plan.now.old.items plan.now.new.items plan.now.deposits.items) }
+        → (k : Kept) (c : List DepositValue) → IsMovedFrom k c plan.now
+        → HoldsNow S.Store change.old k.registry → IsCostOfMove plan.now c p.1) }
     ensures counted { IfOk result (λ p. saturated change.new.count
         ≡ saturated (saturated change.old.count + p.1.writes)) }
     ensures cause { IfErr result (IsChangeFault S.Store change.old change.new) }
 {
     let number = change.record_receipt(receipt)?;
     change.hold(row, body)?;
+    let work = move_in(change, alloc, plan)?;
+    Ok((number, work))
+}
+
+/// Moves the tables of a change by a plan, and sets its new chain.
+#[tactic(auto, using(crate::proofs::StoreFacts::goes_then))]
+pub(crate) fn move_in<S: Alter>(
+    change: &mut Change<'_, S>,
+    alloc: Global,
+    plan: &Plan,
+) -> Result<Work, SFault>
+    requires few_old { length plan.now.old.items ≤ 4096 }
+    requires few_new { length plan.now.new.items ≤ 4096 }
+    requires deposits { HasDepositsPast plan.now }
+    ensures goes_on { GoesOn S.Store change.old change.new }
+    ensures filled { OnOk result ((before k made : Kept) (c : List DepositValue)
+        → IsMovedFrom k c plan.now → Rest S.Store change.old before made
+        → HoldsNow S.Store change.old k.registry
+        → IsFilled S.Store change.new before (moved_by plan.now made c)) }
+    ensures worked { IfOk result (λ work. IsHonest S.Store change.new.store.now
+        → (k : Kept) (c : List DepositValue) → IsMovedFrom k c plan.now
+        → HoldsNow S.Store change.old k.registry → IsCostOfMove plan.now c work) }
+    ensures counted { IfOk result (λ work. saturated change.new.count
+        ≡ saturated (saturated change.old.count + work.writes)) }
+    ensures cause { IfErr result IsS1OrS2 }
+{
     let work = move_here(change, alloc, &plan.old, &plan.new, &plan.deposits)?;
     change.set_chain(&plan.new)?;
-    Ok((number, work))
+    Ok(work)
 }
 
 // Moves the tables from one chain to the other. A registry's fault is one of the store.
@@ -230,8 +277,8 @@ fn store_fault(fault: SFault) -> SFault
     }
 }
 
-// Makes a change whole.
-fn commit_filled<S: Alter>(change: Change<'_, S>) -> Result<(), SFault>
+/// Makes a change whole.
+pub(crate) fn commit_filled<S: Alter>(change: Change<'_, S>) -> Result<(), SFault>
     ensures manifest { OnOk result (change.exit.0.now.manifest ≡ listed_by change.entry) }
     ensures unlisted { OnErr result
         (change.exit.0.now.manifest ≡ change.entry.store.now.manifest) }

@@ -24,17 +24,20 @@ ghost use Rattle.std.specs.Prelude.{
 ghost use Rattle.sha2.specs.Sha256.{sha256};
 ghost use Rattle.esc_tables.specs.Reading.{reading};
 ghost use Rattle.esc_apply.specs.Registry.{saturated};
-ghost use Rattle.esc_store.specs.Faults.{IsS1OrS2, IsS1OrS2OrS4};
-ghost use Rattle.esc_store.specs.Kept.{Kept, AreHeld};
+ghost use Rattle.esc_store.specs.Faults.{IsS1OrS2, IsS1OrS2OrS4OrS5};
+ghost use Rattle.esc_store.specs.Kept.{Kept};
 ghost use Rattle.esc_store.specs.ReplyValue.{reply_alike};
 ghost use Rattle.esc_store.specs.Standing.{Stands, IsHonest, IsAsBefore, LeavesOnly};
-ghost use Rattle.esc_desk.specs.Causes.{IsStoreFault};
-ghost use Rattle.esc_desk.specs.Finding.{held_row};
-ghost use Rattle.esc_desk.specs.Receipts.{is_among, is_old};
-ghost use Rattle.esc_desk.specs.Stands.{StandsFor};
-ghost use Rattle.esc_desk.specs.Taking.{IsNew};
-ghost use Rattle.esc_desk.specs.declared.finding.Finding.TheVariants.{Holding};
-ghost use Rattle.esc_desk.specs.ArrivalValue.{an_arrival};
+ghost use Rattle.esc_events.specs.declared.finding.Finding.{Finding};
+ghost use Rattle.esc_events.specs.declared.finding.Finding.TheVariants.{Unlisted, Holding};
+ghost use Rattle.esc_events.specs.ArrivalValue.{an_arrival};
+ghost use Rattle.esc_events.specs.Events.{EventValue, union};
+ghost use Rattle.esc_events.specs.Events.EventValue.{arrived};
+ghost use Rattle.esc_events.specs.Finding.{held_row, row_of};
+ghost use Rattle.esc_events.specs.Known.{IsKnown};
+ghost use Rattle.esc_events.specs.Stands.{StandsFor};
+ghost use Rattle.esc_events.specs.Taking.{IsNew};
+ghost use Rattle.esc_events.specs.Works.{IsWorkOf, IsIdle};
 ghost use Rattle.esc_desk.specs.Calls.{
   store_of,
   writes_of,
@@ -47,37 +50,39 @@ ghost use Rattle.esc_desk.specs.Calls.{
   ServesStill,
   RepeatsReply,
   HadRoom,
+  HadPlace,
   IsCause,
 };
-ghost use Rattle.esc_desk.specs.Events.{EventValue, union};
-ghost use Rattle.esc_desk.specs.Events.EventValue.{arrived};
-ghost use Rattle.esc_desk.specs.Serving.{Serves, DeskServes, Answers, no_work};
-ghost use Rattle.esc_desk.specs.Works.{IsWorkOf, AddsNoRow, IsKept, IsTaken, IsTakenIn};
+ghost use Rattle.esc_desk.specs.Causes.{IsCrowded, IsStoreFault, IsArrivalFault};
 ghost use Rattle.esc_desk.specs.Crashes.{AddsStoreFor};
+ghost use Rattle.esc_desk.specs.Serving.{Serves, DeskServes, Answers};
+ghost use Rattle.esc_desk.specs.Takings.{IsKept, IsTaken, IsTakenIn};
 
 use crate::changes::{hold_deposit, note_receipt};
-use crate::finding::{Finding, find, held_row};
-use crate::held::insert_row;
-use crate::plan::plan_move;
-use crate::receipt::{is_among, is_old, receipt_by, reply_of};
+use crate::finding::{find, held_row};
+use crate::knowing::{insert_row, known_of};
+use crate::parking::parking_of;
+use crate::plan::{Source, latest_steps, plan_move};
+use crate::receipt::{is_among, receipt_by, reply_of};
 use esc_apply::{Work, read_deposits_mention_few};
-use esc_chain::latest_chain_rows_are_held;
+use esc_chain::latest_chain_at_rows_are_held;
+use esc_events::{Finding, Known, Parking};
 use esc_store::{Number, Receipt, Reply, SFault, Store};
 use esc_tables::Deposit;
 use sha2::{Digest, Sha256};
 use sqlite::Alter;
 use std::alloc::Global;
 
-/// A desk over a store. It remembers the rows of which a body is held, so that an arrival needn't
-/// ask for them.
+/// A desk over a store. It remembers what is known of the store's rows, so that an arrival needn't
+/// ask for it.
 #[derive(Drop)]
 pub struct Desk<S: Alter> {
     pub(crate) store: Store<S>,
-    // Rising; `None` until the store was asked, and after an arrival that was refused.
-    pub(crate) known: Option<Vec<usize>>,
+    // `None` until the store was asked, and after an event that was refused.
+    pub(crate) known: Option<Known>,
 }
 
-const NO_WORK: Work = Work {
+pub(crate) const NO_WORK: Work = Work {
     cleared: false,
     undone: 0,
     applied: 0,
@@ -109,10 +114,12 @@ impl<S: Alter> Desk<S> {
     /// Takes an arrival: the reply, and the work of the move that it made. One alike an earlier one
     /// has the first one's reply and makes no work; of any other the work is exactly the cost of
     /// going from the latest chain before it to the latest chain with it, which is none where it
-    /// adds no row to those that are held. [`Desk::writes`] grows by the work's writes. At `Err`
-    /// nothing has changed: `S1`, `S2`, or `S4` where the store has 1,000,000,000 receipts: then no
-    /// arrival is taken in that is like none before it. A crash leaves what was answered; after
-    /// `S1` or `S2` it may leave the arrival taken in.
+    /// adds no row to those that are held. A body that no row lists is parked. [`Desk::writes`]
+    /// grows by the work's writes.
+    ///
+    /// At `Err` nothing has changed: `S1`, `S2`, `S4` where the store has 1,000,000,000 receipts and
+    /// the arrival is like none before it, or `S5` where its body would be parked and 1,024 others
+    /// are. A crash leaves what was answered; after `S1` or `S2` it may leave the arrival taken in.
     #[tactic(auto, using(crate::proofs::StoreFacts::was_honest))]
     pub fn arrive(
         &mut self,
@@ -127,10 +134,12 @@ impl<S: Alter> Desk<S> {
         ensures worked { OkAfter S.Store self.old self.new result
             (λ e p. IsWorkOf e (arrived (an_arrival number.now body.now)) p.1) }
         ensures idle { OkAfter S.Store self.old self.new result
-            (λ e p. AddsNoRow e (arrived (an_arrival number.now body.now)) → p.1 ≡ no_work) }
+            (λ e p. IsIdle e (arrived (an_arrival number.now body.now)) p.1) }
         ensures room { OkAfter S.Store self.old self.new result
             (λ e _. HadRoom e (an_arrival number.now body.now)) }
-        ensures cause { IfErr result IsS1OrS2OrS4 }
+        ensures place { OkAfter S.Store self.old self.new result
+            (λ e _. HadPlace e (an_arrival number.now body.now)) }
+        ensures cause { IfErr result IsS1OrS2OrS4OrS5 }
         ensures full { After S.Store self.old self.new
             (λ e. IfErr result (IsCause e (an_arrival number.now body.now))) }
         ensures counted { IfOk result
@@ -152,7 +161,7 @@ impl<S: Alter> Desk<S> {
     }
 
     // Takes in an arrival for which no receipt is kept. What is remembered is forgotten first, and
-    // is only remembered again once the arrival was taken in, with its row if that was not held.
+    // is only remembered again once the arrival was taken in.
     #[tactic(auto, using(crate::proofs::StoreFacts::was_honest))]
     fn take_new(
         &mut self,
@@ -164,12 +173,14 @@ impl<S: Alter> Desk<S> {
         requires { digest ≡ sha256 body.now }
         ensures answered { IsHonest S.Store self.new.store → (e : List EventValue) (k : Kept)
             → Stands S.Store self.old.store k → StandsFor sha256 reading e k
-            → IfSome self.old.known (λ rows. AreHeld k.bodies rows.items)
+            → IfSome self.old.known (IsKnown k)
             → reply_alike (union e) 1 number.now digest k.receipts ≡ None
             → IfOk result (λ p. IsTakenIn S.Store self.new e
             (an_arrival number.now body.now) p.0 p.1) }
         ensures room { IsHonest S.Store self.new.store → (k : Kept)
             → Stands S.Store self.old.store k → OnOk result (length k.receipts < 1_000_000_000) }
+        ensures place { IsHonest S.Store self.new.store → (k : Kept)
+            → Stands S.Store self.old.store k → OnOk result (IsCrowded k digest → ⊥) }
         ensures counted { IfOk result (λ p. self.new.store.writes
             ≡ saturated (self.old.store.writes + p.1.writes)) }
         ensures uncounted { OnErr result (self.new.store.writes ≡ self.old.store.writes) }
@@ -179,39 +190,39 @@ impl<S: Alter> Desk<S> {
         ensures crash { IsHonest S.Store self.new.store
             → (e : List EventValue) (k : Kept)
             → Stands S.Store self.old.store k → StandsFor sha256 reading e k
-            → IfSome self.old.known (λ rows. AreHeld k.bodies rows.items)
+            → IfSome self.old.known (IsKnown k)
             → reply_alike (union e) 1 number.now digest k.receipts ≡ None
             → AddsStoreFor S.Store self.old.store.conn self.new.store.conn result
             (e ++ arrived (an_arrival number.now body.now) ∷ []) }
         ensures honest { IsHonest S.Store self.new.store → IsHonest S.Store self.old.store }
-        ensures cause { IfErr result (IsStoreFault S.Store self.old.store self.new.store) }
+        ensures cause { IfErr result
+            (IsArrivalFault S.Store self.old.store self.new.store digest) }
     {
-        let mut held = self.take_held(alloc)?;
-        let taken = take_in(&mut self.store, alloc, number, digest, body, &mut held)?;
-        self.known = Some(held);
+        let mut known = self.take_known(alloc)?;
+        let taken = take_in(&mut self.store, alloc, number, digest, body, &mut known)?;
+        self.known = Some(known);
         Ok(taken)
     }
 
-    // The rows that are held: those that were remembered, which are forgotten, or else those that
-    // the store's receipts hold.
-    fn take_held(&mut self, alloc: Global) -> Result<Vec<usize>, SFault>
+    /// What is known of the store's rows: what was remembered, which is forgotten, or else what the
+    /// store tells.
+    pub(crate) fn take_known(&mut self, alloc: Global) -> Result<Known, SFault>
         ensures same { IsAsBefore S.Store self.old.store self.new.store }
         ensures forgotten { self.new.known ≡ None }
-        ensures rows { IsHonest S.Store self.new.store → (e : List EventValue) (k : Kept)
+        ensures known { IsHonest S.Store self.new.store → (e : List EventValue) (k : Kept)
             → Stands S.Store self.old.store k → StandsFor sha256 reading e k
-            → IfSome self.old.known (λ rows. AreHeld k.bodies rows.items)
-            → IfOk result (λ rows. AreHeld k.bodies rows.items) }
+            → IfSome self.old.known (IsKnown k) → IfOk result (IsKnown k) }
         ensures cause { IfErr result IsS1OrS2 }
     {
         match self.known.take() {
-            Some(rows) => Ok(rows),
-            None => self.store.held_by_receipts(alloc),
+            Some(known) => Ok(known),
+            None => known_of(&mut self.store, alloc),
         }
     }
 }
 
-// Takes in an arrival for which no receipt is kept, where these rows are held, and has them be
-// those held with it.
+// Takes in an arrival for which no receipt is kept, where this is known of the store's rows, and
+// has it be what is known with the arrival. What it is after an `Err` says nothing.
 #[tactic(auto, using(crate::proofs::StoreFacts::was_honest))]
 fn take_in<S: Alter>(
     store: &mut Store<S>,
@@ -219,124 +230,218 @@ fn take_in<S: Alter>(
     number: &Number<'_>,
     digest: [u8; 32],
     body: &[u8],
-    held: &mut Vec<usize>,
+    known: &mut Known,
 ) -> Result<(Reply, Work), SFault>
     requires { digest ≡ sha256 body.now }
     ensures answered { IsHonest S.Store store.new → (e : List EventValue) (k : Kept)
-        → Stands S.Store store.old k → StandsFor sha256 reading e k
-        → AreHeld k.bodies held.old.items
+        → Stands S.Store store.old k → StandsFor sha256 reading e k → IsKnown k known.old
         → reply_alike (union e) 1 number.now digest k.receipts ≡ None
         → IfOk result (λ p. IsTaken S.Store store.new e (an_arrival number.now body.now)
-        held.new.items p.0 p.1) }
+        known.new p.0 p.1) }
     ensures room { IsHonest S.Store store.new → (k : Kept) → Stands S.Store store.old k
         → OnOk result (length k.receipts < 1_000_000_000) }
+    ensures place { IsHonest S.Store store.new → (k : Kept) → Stands S.Store store.old k
+        → OnOk result (IsCrowded k digest → ⊥) }
     ensures counted { IfOk result (λ p. store.new.writes
         ≡ saturated (store.old.writes + p.1.writes)) }
     ensures uncounted { OnErr result (store.new.writes ≡ store.old.writes) }
     ensures lost { OnErr result ((k : Kept) → Stands S.Store store.old k
         → Stands S.Store store.new k) }
     ensures crash { IsHonest S.Store store.new → (e : List EventValue) (k : Kept)
-        → Stands S.Store store.old k → StandsFor sha256 reading e k
-        → AreHeld k.bodies held.old.items
+        → Stands S.Store store.old k → StandsFor sha256 reading e k → IsKnown k known.old
         → reply_alike (union e) 1 number.now digest k.receipts ≡ None
         → AddsStoreFor S.Store store.old.conn store.new.conn result
         (e ++ arrived (an_arrival number.now body.now) ∷ []) }
     ensures honest { IsHonest S.Store store.new → IsHonest S.Store store.old }
-    ensures cause { IfErr result (IsStoreFault S.Store store.old store.new) }
+    ensures cause { IfErr result (IsArrivalFault S.Store store.old store.new digest) }
 {
     let found = find(alloc, store.manifest(), &digest, body)?;
-    let again = is_among(held, held_row(&found));
+    let again = is_among(&known.told, held_row(&found));
     let receipt = receipt_by(number, digest, &found, again);
     let mut reply = reply_of(alloc, store.manifest().rows(), &receipt)?;
-    let kept = keep(store, alloc, &receipt, held, found, body)?;
+    let kept = keep(store, alloc, &receipt, known, found, body)?;
     reply.receipt = kept.0;
     Ok((reply, kept.1))
 }
 
-// Keeps the receipt of a new arrival, and the deposit that was found if its row was not held; that
-// is one of the held rows then. What these are after an `Err` says nothing. The result is the
-// receipt's number and the work.
+// Keeps the receipt of a new arrival, and its body where it is to be held or parked. The result is
+// the receipt's number and the work.
 fn keep<S: Alter>(
     store: &mut Store<S>,
     alloc: Global,
     receipt: &Receipt<'_>,
-    held: &mut Vec<usize>,
+    known: &mut Known,
     found: Finding,
     body: &[u8],
 ) -> Result<(u64, Work), SFault>
-    requires { IfSome (held_row found) (λ r. r < length store.old.manifest) }
+    ensures manifest { store.new.manifest ≡ store.old.manifest }
     ensures lost { OnErr result ((k : Kept) → Stands S.Store store.old k
         → Stands S.Store store.new k) }
     ensures kept { IfOk result (λ p. IsHonest S.Store store.new
         → (e : List EventValue) (n : List ℕ) (k : Kept) → Stands S.Store store.old k
-        → IsNew e (an_arrival n body.now) k found held.old.items receipt.now
-        → IsKept S.Store store.new e (an_arrival n body.now) held.new.items p.1) }
+        → IsNew e (an_arrival n body.now) k found known.old receipt.now
+        → IsKept S.Store store.new e (an_arrival n body.now) known.new p.1) }
+    ensures numbered { IfOk result (λ p. IsHonest S.Store store.new → (k : Kept)
+        → Stands S.Store store.old k → p.0 ≡ length k.receipts + 1) }
+    ensures room { IfOk result (λ p. p.0 ≤ 1_000_000_000) }
+    ensures place { IsHonest S.Store store.new → (k : Kept) → Stands S.Store store.old k
+        → found ≡ Unlisted → OnOk result (IsCrowded k receipt.now.digest → ⊥) }
+    ensures crash { IsHonest S.Store store.new
+        → (e : List EventValue) (n : List ℕ) (k : Kept)
+        → Stands S.Store store.old k
+        → IsNew e (an_arrival n body.now) k found known.old receipt.now
+        → AddsStoreFor S.Store store.old.conn store.new.conn result
+        (e ++ arrived (an_arrival n body.now) ∷ []) }
+    ensures counted { IfOk result (λ p. store.new.writes
+        ≡ saturated (store.old.writes + p.1.writes)) }
+    ensures uncounted { OnErr result (store.new.writes ≡ store.old.writes) }
+    ensures honest { IsHonest S.Store store.new → IsHonest S.Store store.old }
+    ensures cause { IfErr result (IsKeepFault S.Store store.old store.new found
+        receipt.now.digest) }
+{
+    match found {
+        Finding::Unlisted => keep_parked(store, alloc, receipt, known, body),
+        Finding::Unreadable(..) | Finding::Differing(_) => {
+            let number = note_receipt(store, receipt, Parking::Needless, body)?;
+            Ok((number, NO_WORK))
+        }
+        Finding::Holding(row, deposit) => {
+            keep_held(store, alloc, receipt, known, row, deposit, body)
+        }
+    }
+}
+
+ghost use Rattle.esc_desk.specs.Causes.{IsKeepFault, IsParkFault};
+
+// Keeps the receipt of a new arrival whose body no row lists, and the body where it is to be
+// parked.
+#[tactic(auto, using(crate::proofs::StoreFacts::was_honest))]
+fn keep_parked<S: Alter>(
+    store: &mut Store<S>,
+    alloc: Global,
+    receipt: &Receipt<'_>,
+    known: &mut Known,
+    body: &[u8],
+) -> Result<(u64, Work), SFault>
+    ensures manifest { store.new.manifest ≡ store.old.manifest }
+    ensures lost { OnErr result ((k : Kept) → Stands S.Store store.old k
+        → Stands S.Store store.new k) }
+    ensures kept { IfOk result (λ p. IsHonest S.Store store.new
+        → (e : List EventValue) (n : List ℕ) (k : Kept) → Stands S.Store store.old k
+        → IsNew e (an_arrival n body.now) k Unlisted known.old receipt.now
+        → IsKept S.Store store.new e (an_arrival n body.now) known.new p.1) }
+    ensures numbered { IfOk result (λ p. IsHonest S.Store store.new → (k : Kept)
+        → Stands S.Store store.old k → p.0 ≡ length k.receipts + 1) }
+    ensures room { IfOk result (λ p. p.0 ≤ 1_000_000_000) }
+    ensures place { IsHonest S.Store store.new → (k : Kept) → Stands S.Store store.old k
+        → OnOk result (IsCrowded k receipt.now.digest → ⊥) }
+    ensures crash { IsHonest S.Store store.new
+        → (e : List EventValue) (n : List ℕ) (k : Kept)
+        → Stands S.Store store.old k
+        → IsNew e (an_arrival n body.now) k Unlisted known.old receipt.now
+        → AddsStoreFor S.Store store.old.conn store.new.conn result
+        (e ++ arrived (an_arrival n body.now) ∷ []) }
+    ensures counted { IfOk result (λ p. store.new.writes
+        ≡ saturated (store.old.writes + p.1.writes)) }
+    ensures uncounted { OnErr result (store.new.writes ≡ store.old.writes) }
+    ensures honest { IsHonest S.Store store.new → IsHonest S.Store store.old }
+    ensures cause { IfErr result (IsParkFault S.Store store.old store.new receipt.now.digest) }
+{
+    let _ = known;
+    let parking = parking_of(store, alloc, &receipt.digest)?;
+    let number = note_receipt(store, receipt, parking, body)?;
+    Ok((number, NO_WORK))
+}
+
+// Keeps the receipt of a new arrival with the deposit of a row, and the deposit if no body is held
+// of the row.
+#[tactic(auto, using(crate::proofs::StoreFacts::was_honest))]
+fn keep_held<S: Alter>(
+    store: &mut Store<S>,
+    alloc: Global,
+    receipt: &Receipt<'_>,
+    known: &mut Known,
+    row: usize,
+    deposit: Deposit,
+    body: &[u8],
+) -> Result<(u64, Work), SFault>
+    ensures manifest { store.new.manifest ≡ store.old.manifest }
+    ensures lost { OnErr result ((k : Kept) → Stands S.Store store.old k
+        → Stands S.Store store.new k) }
+    ensures kept { IfOk result (λ p. IsHonest S.Store store.new
+        → (e : List EventValue) (n : List ℕ) (k : Kept) → Stands S.Store store.old k
+        → IsNew e (an_arrival n body.now) k (Holding row deposit) known.old receipt.now
+        → IsKept S.Store store.new e (an_arrival n body.now) known.new p.1) }
     ensures numbered { IfOk result (λ p. IsHonest S.Store store.new → (k : Kept)
         → Stands S.Store store.old k → p.0 ≡ length k.receipts + 1) }
     ensures room { IfOk result (λ p. p.0 ≤ 1_000_000_000) }
     ensures crash { IsHonest S.Store store.new
         → (e : List EventValue) (n : List ℕ) (k : Kept)
         → Stands S.Store store.old k
-        → IsNew e (an_arrival n body.now) k found held.old.items receipt.now
+        → IsNew e (an_arrival n body.now) k (Holding row deposit) known.old receipt.now
         → AddsStoreFor S.Store store.old.conn store.new.conn result
         (e ++ arrived (an_arrival n body.now) ∷ []) }
-    ensures idle { IfOk result (λ p. is_old held.old.items (held_row found) ≡ true
-        → p.1 ≡ no_work) }
     ensures counted { IfOk result (λ p. store.new.writes
         ≡ saturated (store.old.writes + p.1.writes)) }
     ensures uncounted { OnErr result (store.new.writes ≡ store.old.writes) }
     ensures honest { IsHonest S.Store store.new → IsHonest S.Store store.old }
     ensures cause { IfErr result (IsStoreFault S.Store store.old store.new) }
 {
-    if is_old(held, held_row(&found)) {
-        return Ok((note_receipt(store, receipt)?, NO_WORK));
+    insert_row(&mut known.told, row)?;
+    if known.held.contains(&row) {
+        let number = note_receipt(store, receipt, Parking::Needless, body)?;
+        return Ok((number, NO_WORK));
     }
-    match found {
-        Finding::Holding(row, deposit) => {
-            keep_deposit(store, alloc, receipt, held, row, deposit, body)
-        }
-        Finding::Unlisted | Finding::Unreadable(..) | Finding::Differing(_) => unreachable!(),
-    }
+    insert_row(&mut known.held, row)?;
+    keep_deposit(store, alloc, receipt, &known.held, row, deposit, body)
 }
 
-// Keeps the receipt and the deposit of a row that was not held. The row is put in its place before
-// anything changes in the store, so that nothing fails for want of memory once the change is made.
+// Keeps the receipt and the deposit of a row of which no body was held, where these rows are held
+// with it. The row was put in its place before anything changes in the store, so that nothing fails
+// for want of memory once the change is made.
 #[tactic(auto, using(crate::proofs::StoreFacts::was_honest))]
 fn keep_deposit<S: Alter>(
     store: &mut Store<S>,
     alloc: Global,
     receipt: &Receipt<'_>,
-    held: &mut Vec<usize>,
+    held: &[usize],
     row: usize,
     deposit: Deposit,
     body: &[u8],
 ) -> Result<(u64, Work), SFault>
-    requires { row < length store.old.manifest }
+    ensures manifest { store.new.manifest ≡ store.old.manifest }
     ensures lost { OnErr result ((k : Kept) → Stands S.Store store.old k
         → Stands S.Store store.new k) }
-    ensures crash { IsHonest S.Store store.new
-        → (e : List EventValue) (n : List ℕ) (k : Kept)
-        → Stands S.Store store.old k → is_among held.old.items (Some row) ≡ false
-        → IsNew e (an_arrival n body.now) k (Holding row deposit) held.old.items receipt.now
-        → AddsStoreFor S.Store store.old.conn store.new.conn result
-        (e ++ arrived (an_arrival n body.now) ∷ []) }
     ensures kept { IfOk result (λ p. IsHonest S.Store store.new
-        → (e : List EventValue) (n : List ℕ) (k : Kept) → Stands S.Store store.old k
-        → is_among held.old.items (Some row) ≡ false
-        → IsNew e (an_arrival n body.now) k (Holding row deposit) held.old.items receipt.now
-        → IsKept S.Store store.new e (an_arrival n body.now) held.new.items p.1) }
+        → (e : List EventValue) (n : List ℕ) (k : Kept) (known : Known)
+        → Stands S.Store store.old k → k.bodies row ≡ None
+        → IsNew e (an_arrival n body.now) k (Holding row deposit) known receipt.now
+        → AreHeld (body_put k.bodies row body.now) held.now
+        → IsHeldNow S.Store store.new e (an_arrival n body.now) k row receipt.now p.1) }
     ensures numbered { IfOk result (λ p. IsHonest S.Store store.new → (k : Kept)
         → Stands S.Store store.old k → p.0 ≡ length k.receipts + 1) }
     ensures room { IfOk result (λ p. p.0 ≤ 1_000_000_000) }
+    ensures crash { IsHonest S.Store store.new
+        → (e : List EventValue) (n : List ℕ) (k : Kept) (known : Known)
+        → Stands S.Store store.old k → k.bodies row ≡ None
+        → IsNew e (an_arrival n body.now) k (Holding row deposit) known receipt.now
+        → AreHeld (body_put k.bodies row body.now) held.now
+        → AddsStoreFor S.Store store.old.conn store.new.conn result
+        (e ++ arrived (an_arrival n body.now) ∷ []) }
     ensures counted { IfOk result (λ p. store.new.writes
         ≡ saturated (store.old.writes + p.1.writes)) }
     ensures uncounted { OnErr result (store.new.writes ≡ store.old.writes) }
     ensures honest { IsHonest S.Store store.new → IsHonest S.Store store.old }
     ensures cause { IfErr result (IsStoreFault S.Store store.old store.new) }
 {
-    latest_chain_rows_are_held();
+    latest_chain_at_rows_are_held();
     read_deposits_mention_few();
-    let plan = plan_move(store, alloc, held, row, deposit)?;
-    insert_row(held, row)?;
+    let moment = store.moment()?;
+    let new = latest_steps(alloc, store.manifest(), held, moment)?;
+    let plan = plan_move(store, alloc, new, Source::Arrived(row, Some(deposit)))?;
     hold_deposit(store, alloc, receipt, row, body, &plan)
 }
+
+ghost use Rattle.esc_store.specs.Kept.{AreHeld, body_put};
+ghost use Rattle.esc_events.specs.declared.known.Known.{Known};
+ghost use Rattle.esc_desk.specs.Takings.{IsHeldNow};

@@ -5,7 +5,7 @@ ghost use Rattle.std.specs.Option.{option_map};
 ghost use Rattle.std.specs.Str.{bytes_eq};
 ghost use Rattle.sha2.specs.Sha256.{sha256};
 ghost use Rattle.esc_tables.specs.Reading.{reading};
-ghost use Rattle.esc_desk.specs.Finding.{
+ghost use Rattle.esc_events.specs.Finding.{
   as_listed,
   same_option,
   same_place,
@@ -16,22 +16,10 @@ ghost use Rattle.esc_desk.specs.Finding.{
 
 use esc_bundle::{Fault, NoMemory};
 use esc_envelope::{DepositType, Header, Place};
+use esc_events::Finding;
 use esc_manifest::{MRow, Manifest};
 use esc_tables::{Deposit, read_deposit};
 use std::alloc::Global;
-
-/// What is found of a body.
-#[derive(Debug, Drop)]
-pub(crate) enum Finding {
-    /// No row has its digest.
-    Unlisted,
-    /// At this row; no deposit reads from it, by the refusal with this number.
-    Unreadable(usize, u8),
-    /// At this row, but it is another deposit than the row tells.
-    Differing(usize),
-    /// It is the deposit of this row.
-    Holding(usize, Deposit),
-}
 
 /// What is found of a body with this digest.
 pub(crate) fn find(
@@ -54,7 +42,8 @@ pub(crate) fn find(
     }
 }
 
-fn compare(rows: &[MRow], row: usize, deposit: Deposit) -> Finding
+/// A deposit that reads from a body, compared with what this row tells of it.
+pub(crate) fn compare(rows: &[MRow], row: usize, deposit: Deposit) -> Finding
     requires { row < length rows.now }
     ensures compared { result ≡ compared rows.now row deposit }
     ensures row { IfSome (held_row result) (λ r. r < length rows.now) }

@@ -8,11 +8,12 @@ ghost use Rattle.sha2.specs.Sha256.{sha256};
 ghost use Rattle.esc_tables.specs.Reading.{reading};
 ghost use Rattle.esc_manifest.specs.declared.row.MRow.{MRow};
 ghost use Rattle.esc_store.specs.Kept.{fresh};
-ghost use Rattle.esc_desk.specs.ArrivalValue.{ArrivalValue};
-ghost use Rattle.esc_desk.specs.Events.{union, comings, arrivals, manifest_then};
-ghost use Rattle.esc_desk.specs.Events.EventValue.{listed};
-ghost use Rattle.esc_desk.specs.Receipts.{distinct, reply_to};
-ghost use Rattle.esc_desk.specs.Stands.{StandsFor};
+ghost use Rattle.esc_events.specs.ArrivalValue.{ArrivalValue};
+ghost use Rattle.esc_events.specs.Events.{union, comings, arrivals, manifest_then};
+ghost use Rattle.esc_events.specs.Events.EventValue.{listed};
+ghost use Rattle.esc_events.specs.Receipts.{distinct, reply_to};
+ghost use Rattle.esc_events.specs.Stands.{StandsFor};
+ghost use Rattle.esc_desk.specs.Laws.{TablesAreOfEvents, AreLeftByArrivals, SameHeldSameKept};
 ghost use Rattle.esc_desk.specs.Worked.{
   itself,
   reads_full,
@@ -24,16 +25,8 @@ ghost use Rattle.esc_desk.specs.Worked.{
   listed_then,
   came,
 };
-ghost use Rattle.esc_desk.specs.AllArrivals.{
-  RowsAreOfAll,
-  BodiesAreOfAll,
-  TablesAreOfAll,
-  IsListedAtOnce,
-  IsForManifestAndArrivals,
-};
-ghost use Rattle.esc_desk.specs.SameHeld.{SameHeldSameKept};
 
-use esc_chain::latest_chain_is_one;
+use esc_chain::latest_chain_at_is_one;
 
 /// What a new store keeps stands for its manifest alone, so a desk over a new store serves that one
 /// event.
@@ -42,34 +35,30 @@ pub fn new_store_stands_for_its_manifest()
 {}
 
 /// What a store holds that stands for a manifest and arrivals after it, said without events: the
-/// manifest's rows, the receipts and bodies that the arrivals leave, the latest chain of the held
-/// deposits, and its tables.
+/// manifest's rows, the receipts of the distinct arrivals, the latest chain of the rows that any
+/// arrival holds, and its tables.
 pub fn stands_for_manifest_and_arrivals()
-    ensures stands_for { IsForManifestAndArrivals }
+    ensures left { AreLeftByArrivals }
     ensures rows { (m : List MRow) (l : List ArrivalValue) → union (manifest_then m l) ≡ m }
     ensures arrivals { (m : List MRow) (l : List ArrivalValue)
         → arrivals (manifest_then m l) ≡ l }
-    ensures at_once { (m : List MRow) (l : List ArrivalValue)
-        → IsListedAtOnce (manifest_then m l) }
 {}
 
-/// The definitions go by the first of the arrivals that are alike. Where no two different bodies of
-/// the list have the same digest, and no row was listed between two arrivals, the rows that are
-/// held are those of all arrivals with the verdict `A1`, the body of a held row is that of each
-/// arrival that holds it, and the tables are those of the latest chain of all these rows.
-pub fn held_as_arrived()
-    ensures rows { RowsAreOfAll }
-    ensures bodies { BodiesAreOfAll }
-    ensures tables { TablesAreOfAll }
+/// A store that stands for a list of events has the tables of the latest chain, up to the moment
+/// that is set, of the rows that are held by all arrivals. It has the premise that no two different
+/// bodies that came have the same digest.
+pub fn tables_are_of_events()
+    ensures { TablesAreOfEvents }
 {}
 
-/// Two lists of events by which the same rows are listed and held leave the same chain, tables and
-/// before-images, in whatever order, however often and under whatever numbers the deposits came.
-/// It has the premise that no two different bodies of the two lists have the same digest.
+/// Two lists of events by which the same rows are listed and held and the same moment is set leave
+/// the same chain, tables and before-images, in whatever order, however often and under whatever
+/// numbers the deposits came. It has the premise that no two different bodies of the two lists have
+/// the same digest.
 pub fn same_held_same_kept()
     ensures { SameHeldSameKept }
 {
-    latest_chain_is_one();
+    latest_chain_at_is_one();
 }
 
 /// The definitions at some lists of arrivals: a repeat has the first reply, the same body under

@@ -76,12 +76,16 @@
 //! in between.
 #![tactic(auto)]
 
+mod amendment;
 mod arrival;
 mod changes;
 mod desk;
 mod finding;
-mod held;
+mod judging;
+mod knowing;
 mod laws;
+mod moment;
+mod parking;
 mod plan;
 mod reads;
 mod receipt;
@@ -89,12 +93,13 @@ mod running;
 mod status;
 mod walk;
 
+pub use amendment::AmendFault;
 pub use arrival::Arrival;
 pub use desk::Desk;
 pub use esc_store::{N1, Number, Reply, SFault, Verdict, number};
 pub use laws::{
-    held_as_arrived, new_store_stands_for_its_manifest, same_held_same_kept,
-    stands_for_manifest_and_arrivals, worked_replies,
+    new_store_stands_for_its_manifest, same_held_same_kept, stands_for_manifest_and_arrivals,
+    tables_are_of_events, worked_replies,
 };
 pub use running::Outcome;
 pub use status::{End, Status};

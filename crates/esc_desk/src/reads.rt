@@ -6,15 +6,24 @@ ghost use Rattle.esc_tables.specs.DepositValue.{DepositValue};
 ghost use Rattle.esc_tables.specs.Reading.{reading};
 ghost use Rattle.esc_apply.specs.declared.front.Step.{Step};
 ghost use Rattle.esc_store.specs.Faults.{IsS1OrS2};
-ghost use Rattle.esc_store.specs.Kept.{Kept, AreHeld};
+ghost use Rattle.esc_store.specs.Kept.{Kept};
 ghost use Rattle.esc_store.specs.Standing.{Stands, IsHonest, IsAsBefore};
 ghost use Rattle.esc_desk.specs.Calls.{store_of, writes_of, OkOver, Stays};
-ghost use Rattle.esc_desk.specs.Events.{EventValue, union};
-ghost use Rattle.esc_desk.specs.Stands.{held_body};
+ghost use Rattle.esc_events.specs.Events.{EventValue, union, moment_of};
+ghost use Rattle.esc_events.specs.Reads.{AreTables};
 ghost use Rattle.esc_desk.specs.Serving.{Serves};
-ghost use Rattle.esc_desk.specs.Reads.{last, replies_of, AreTables, SaysEnd, IsEnd, IsStatus};
+ghost use Rattle.esc_desk.specs.Reads.{
+  last,
+  replies_of,
+  AreHeldRows,
+  AreParkedDigests,
+  SaysEnd,
+  IsEnd,
+  IsStatus,
+};
 
 use crate::desk::Desk;
+use crate::knowing::known_of;
 use crate::status::{End, Status};
 use esc_apply::Step;
 use esc_bundle::Fault;
@@ -54,15 +63,40 @@ impl<S: Alter> Desk<S> {
         self.store.receipts(alloc)
     }
 
-    /// The rows of the manifest of which a body is held, from 0, rising. `S1`, `S2`.
+    /// The rows of the manifest of which a body is held, from 0, rising. A body is read for each row
+    /// that was adopted from the parked ones. `S1`, `S2`.
     #[tactic(auto, using(crate::proofs::StoreFacts::still_stays))]
     pub fn held(&mut self, alloc: Global) -> Result<Vec<usize>, SFault>
         ensures stays { Stays S.Store self.old self.new }
         ensures rows { OkOver S.Store self.old self.new result
-            (λ e rows. AreHeld (held_body sha256 reading e) rows.items) }
+            (λ e rows. AreHeldRows e rows.items) }
         ensures cause { IfErr result IsS1OrS2 }
     {
-        self.store.held_by_receipts(alloc)
+        let known = known_of(&mut self.store, alloc)?;
+        Ok(known.held)
+    }
+
+    /// The digests of the bodies that no row lists, in the order of their bytes. `S1`, `S2`.
+    #[tactic(auto, using(crate::proofs::StoreFacts::still_stays))]
+    pub fn parked(&mut self, alloc: Global) -> Result<Vec<[u8; 32]>, SFault>
+        ensures stays { Stays S.Store self.old self.new }
+        ensures digests { OkOver S.Store self.old self.new result
+            (λ e digests. AreParkedDigests e digests.items) }
+        ensures cause { IfErr result IsS1OrS2 }
+    {
+        self.store.parked(alloc)
+    }
+
+    /// The moment as of which the registry is rebuilt, in nanoseconds since 1970-01-01T00:00:00Z,
+    /// if one is set. `S1`, `S2`.
+    #[tactic(auto, using(crate::proofs::StoreFacts::still_stays))]
+    pub fn moment(&mut self) -> Result<Option<i64>, SFault>
+        ensures stays { Stays S.Store self.old self.new }
+        ensures moment { OkOver S.Store self.old self.new result
+            (λ e moment. moment ≡ moment_of e) }
+        ensures cause { IfErr result IsS1OrS2 }
+    {
+        self.store.moment()
     }
 
     /// The objects of the latest chain's tables. `S1`, `S2`.
@@ -104,11 +138,11 @@ impl<S: Alter> Desk<S> {
         ensures cause { IfErr result IsS1OrS2 }
     {
         let receipts = self.store.receipt_count()?;
-        let held = self.store.held_by_receipts(alloc)?;
+        let known = known_of(&mut self.store, alloc)?;
         let steps = self.store.chain(alloc)?;
         let objects = self.store.counts_by_kind(alloc)?;
         let listed = self.store.manifest().rows().len();
-        Ok(status_of(listed, receipts, &held, &steps, objects))
+        Ok(status_of(listed, receipts, &known.held, &steps, objects))
     }
 }
 

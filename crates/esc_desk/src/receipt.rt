@@ -2,11 +2,11 @@
 
 ghost use Rattle.std.specs.Prelude.{◌≡◌, ◌<◌, length, IfOk, IfSome};
 ghost use Rattle.esc_store.specs.ReplyValue.{reply_kept};
-ghost use Rattle.esc_desk.specs.Finding.{held_row};
-ghost use Rattle.esc_desk.specs.Receipts.{receipt_by, is_among, is_old};
+ghost use Rattle.esc_events.specs.Finding.{held_row};
+ghost use Rattle.esc_events.specs.Receipts.{receipt_by, is_among};
 
-use crate::finding::Finding;
 use esc_bundle::NoMemory;
+use esc_events::Finding;
 use esc_manifest::MRow;
 use esc_store::{Number, Receipt, Reply, Verdict};
 use std::alloc::Global;
@@ -21,7 +21,7 @@ pub(crate) fn receipt_by<'a>(
     ensures { result ≡ receipt_by number.now digest finding.now again }
 {
     let (verdict, row, again, orphans) = match finding {
-        Finding::Unlisted => (Verdict::A2, None, None, None),
+        Finding::Unlisted => (Verdict::A5, None, None, None),
         Finding::Unreadable(row, fault) => (Verdict::A3(*fault), Some(*row), None, None),
         Finding::Differing(row) => (Verdict::A4, Some(*row), None, None),
         Finding::Holding(row, deposit) => (
@@ -76,15 +76,5 @@ pub(crate) fn is_among(rows: &[usize], row: Option<usize>) -> bool
     match row {
         Some(row) => rows.contains(&row),
         None => false,
-    }
-}
-
-/// Whether holding this row, if any, where these rows are held, holds nothing new.
-pub(crate) fn is_old(rows: &[usize], row: Option<usize>) -> bool
-    ensures { result ≡ is_old rows.now row }
-{
-    match row {
-        Some(row) => rows.contains(&row),
-        None => true,
     }
 }

@@ -44,7 +44,8 @@ impl<S: Alter> Desk<S> {
     /// revision; and arrivals alike in number and body get one receipt and the first one's reply.
     /// Where the desk served a list of events before, it serves that list followed by the answered
     /// arrivals, so runs compose. There is an outcome for each arrival. One is lost by `S1` or
-    /// `S2`, or by `S4` where it is like none before it and the store has 1,000,000,000 receipts.
+    /// `S2`, by `S4` where it is like none before it and the store has 1,000,000,000 receipts, or by
+    /// `S5` where its body would be parked and 1,024 others are.
     /// [`Desk::writes`] grows by the writes of the work of each answered arrival. `NoMemory` is
     /// returned before the first arrival.
     pub fn run(&mut self, alloc: Global, arrivals: &[Arrival<'_>]) -> Result<Vec<Outcome>, NoMemory>

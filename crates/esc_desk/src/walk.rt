@@ -24,7 +24,7 @@ ghost use Rattle.esc_desk.specs.Calls.{Over, OkOver, Rests};
 
 use crate::desk::Desk;
 use esc_apply::Objects;
-use esc_chain::latest_chain_is_one;
+use esc_chain::latest_chain_at_is_one;
 use esc_envelope::Kind;
 use esc_store::SFault;
 use esc_tables::{Key, Object};
@@ -83,7 +83,7 @@ impl<S: Alter> Desk<S> {
             (λ e pages. ListsPages S.Store self.new.store pages kind e) }
         ensures cause { IfErr result IsS1OrS2 }
     {
-        latest_chain_is_one();
+        latest_chain_at_is_one();
         let _rows = self.store.manifest().rows();
         let mut pages = first_place(alloc, kind);
         self.fill(&mut pages)?;

@@ -1,0 +1,112 @@
+-- What a desk answers to an amendment.
+use Rattle.std.specs.Prelude.{
+  ◌≡◌,
+  ◌≢◌,
+  ◌⊎◌,
+  ◌==◌,
+  All,
+  None,
+  ℕ,
+  List,
+  [],
+  ◌∷◌,
+  ◌++◌,
+  length,
+  Result,
+  Ok,
+  Err,
+  MatchResult,
+  if◌then◌else◌,
+}
+use Rattle.sqlite_trees.specs.declared.store.Store.{Ghosts}
+use Rattle.esc_manifest.specs.declared.fault.MFault.{MFault}
+use Rattle.esc_manifest.specs.declared.fault.MFault.TheVariants.{Refused as RefusedRow, NoMemory}
+use Rattle.esc_manifest.specs.declared.row.MRow.{MRow}
+use Rattle.esc_manifest.specs.Extension.{new_rows, extended, extension}
+use Rattle.esc_manifest.specs.Manifest.{manifest_of}
+use Rattle.esc_apply.specs.declared.moves.Work.{Work}
+use Rattle.esc_store.specs.Faults.{IsS1OrS2}
+use Rattle.esc_store.specs.Kept.{Kept}
+use Rattle.esc_events.specs.Events.{EventValue, union}
+use Rattle.esc_events.specs.Events.EventValue.{listed}
+use Rattle.esc_events.specs.Works.{IsWorkOf, no_work}
+use Rattle.esc_desk.specs.declared.amendment.AmendFault.{AmendFault}
+use Rattle.esc_desk.specs.declared.amendment.AmendFault.TheVariants.{M, Store as OfStore}
+use Rattle.esc_desk.specs.declared.desk.Desk.{Desk}
+use Rattle.esc_desk.specs.declared.judging.Judged.{Judged}
+use Rattle.esc_desk.specs.Crashes.{CrashLeaves, LeavesRefused}
+use Rattle.esc_desk.specs.Serving.{DeskServes}
+use Rattle.esc_desk.specs.Sources.{AreJudged}
+
+-- the rows of a manifest, or none where a text is none
+abbrev pub rows_read : Result (List MRow) (ℕ × ℕ) → List MRow
+rows_read (Ok rows) = rows
+rows_read (Err fault) = []
+
+-- the event that a text is as an amendment
+abbrev pub amendment_of : List ℕ → EventValue
+amendment_of text = listed (rows_read (manifest_of text))
+
+-- a text reads as an accepted manifest, and so is the union with it, which has so many rows more;
+-- the desk serves the events with it, and this was the work: none where no row is more
+pub record IsAmended {S : Type 0} (g : Ghosts S) (desk : Desk S) (e : List EventValue)
+    (text : List ℕ) (count : ℕ) (work : Work) : Type 0 where
+  pub rows : List MRow
+  pub read : manifest_of text ≡ Ok rows
+  pub accepted : extension (union e) rows ≡ Ok (extended (union e) rows)
+  pub count_is : count ≡ length (new_rows (union e) rows)
+  pub serves : DeskServes g desk (e ++ listed rows ∷ [])
+  pub works : IsWorkOf e (listed rows) work
+  pub idle : count ≡ 0 → work ≡ no_work
+
+-- a text is no accepted manifest, or it is and the union of these rows with it is none, by this
+-- refusal at this row
+abbrev pub IsRefusedUnion : List MRow → List ℕ → ℕ → ℕ → Type 0
+IsRefusedUnion m text code row = (manifest_of text ≡ Err (code, row))
+    ⊎ ((rows : List MRow) × (manifest_of text ≡ Ok rows)
+    × (extension m rows ≡ Err (code, row)))
+
+-- why an amendment isn't taken in: its text is refused, the database failed (S1), or memory was
+-- refused (S2)
+abbrev pub IsAmendCause : List EventValue → List ℕ → AmendFault → Type 0
+IsAmendCause e text (M (RefusedRow code row)) = IsRefusedUnion (union e) text code row
+IsAmendCause e text (M NoMemory) = ⊥
+IsAmendCause e text (OfStore fault) = IsS1OrS2 fault
+
+-- what a crash leaves after an amendment that wasn't taken in: after S1 or S2 it may be
+abbrev pub LeavesUnamended : {S : Type 0} → Ghosts S → Desk S → List EventValue → List EventValue
+    → List ℕ → AmendFault → Type 0
+LeavesUnamended g desk e doubtful text (M fault) = CrashLeaves g desk.store.conn e doubtful
+LeavesUnamended g desk e doubtful text (OfStore fault) =
+    LeavesRefused g desk.store.conn e doubtful (amendment_of text) fault
+
+-- what a crash leaves after an amendment, by its answer: where no row was added, what was in doubt
+-- still is
+abbrev pub DeskLeavesAmended : {S : Type 0} → Ghosts S → Desk S → List EventValue
+    → List EventValue → List ℕ → Result (ℕ × Work) AmendFault → Type 0
+DeskLeavesAmended g desk e doubtful text result =
+    MatchResult result
+    (λ p. CrashLeaves g desk.store.conn (e ++ amendment_of text ∷ [])
+    (if p.0 == 0 then doubtful else []))
+    (LeavesUnamended g desk e doubtful text)
+
+-- ---- how it is made
+
+-- the union of these rows and those of a text
+pub record IsUnionWith (m : List MRow) (text : List ℕ) (united : List MRow) : Type 0 where
+  pub rows : List MRow
+  pub read : manifest_of text ≡ Ok rows
+  pub accepted : extension m rows ≡ Ok united
+  pub is_union : united ≡ extended m rows
+
+-- no body is held of these rows, and each is there once
+abbrev pub AreApartRows : Kept → List ℕ → Type 0
+AreApartRows k [] = Unit {0}
+AreApartRows k (r ∷ rows) = (k.bodies r ≡ None) × (All (λ q. r ≢ q) rows) × AreApartRows k rows
+
+-- a union is that of the rows that are kept and more, and this is judged of the bodies that are
+-- parked for the new ones, of which none is held
+pub record IsAmendmentOf (k : Kept) (more united : List MRow) (told : Judged) : Type 0 where
+  pub is_union : united ≡ extended k.listed more
+  pub are_judged : AreJudged united k.parked (length k.listed) told
+  pub apart : AreApartRows k told.adopted.items

@@ -1,0 +1,78 @@
+-- What follows of lists of events, by the definitions alone.
+use Rattle.std.specs.Prelude.{◌≡◌, ◌↔◌, ℕ, List, [], map, is_some}
+use Rattle.std.specs.FinSet as set
+use Rattle.sha2.specs.Sha256.{sha256}
+use Rattle.esc_tables.specs.Reading.{reading}
+use Rattle.esc_manifest.specs.declared.row.MRow.{MRow}
+use Rattle.esc_manifest.specs.Accepted.{IsAccepted}
+use Rattle.esc_chain.specs.Chain.{IsLatestChain}
+use Rattle.esc_apply.specs.Images.{chain_state}
+use Rattle.esc_store.specs.Kept.{Kept}
+use Rattle.esc_events.specs.Apart.{WhereApart}
+use Rattle.esc_events.specs.ArrivalValue.{ArrivalValue}
+use Rattle.esc_events.specs.Events.{EventValue, Coming, union, coming, comings, moment_of, manifest_then}
+use Rattle.esc_events.specs.Receipts.{distinct, receipts_after}
+use Rattle.esc_events.specs.Stands.{
+  Among,
+  deposits_of,
+  rows_of,
+  held_rows,
+  held_body,
+  StandsFor,
+}
+use Rattle.esc_events.specs.Reads.{IsChainOf, tables_of}
+
+-- a store that stands for these events has the tables of the latest chain
+pub record HoldsTablesOf (e : List EventValue) (k : Kept) : Type 0 where
+  pub latest : IsChainOf e k.steps
+  pub content : k.registry.content ≡ tables_of e k.steps
+
+abbrev pub TablesAreOfEvents : Type 0
+TablesAreOfEvents = (e : List EventValue) (k : Kept) → StandsFor sha256 reading e k
+    → WhereApart e (HoldsTablesOf e k)
+
+-- ---- a manifest, and then arrivals
+
+-- the arrivals as they came, where these rows were listed before
+abbrev pub came_with : List MRow → List ArrivalValue → List Coming
+came_with m l = map (coming m) l
+
+-- what a manifest and arrivals leave: the rows, the receipts of the distinct arrivals, the latest
+-- chain of the rows that any arrival holds, and that chain's tables and before-images
+pub record IsLeftByArrivals (m : List MRow) (l : List ArrivalValue) (k : Kept) : Type 0 where
+  pub listed : k.listed ≡ m
+  pub receipts : k.receipts
+      ≡ receipts_after sha256 reading [] (distinct sha256 reading (came_with m l))
+  pub chain : IsLatestChain m (set.from_list (rows_of sha256 reading m (came_with m l))) k.steps
+  pub registry : k.registry
+      ≡ chain_state (deposits_of reading (held_body sha256 reading (manifest_then m l)) k.steps)
+
+abbrev pub AreLeftByArrivals : Type 0
+AreLeftByArrivals = (m : List MRow) (l : List ArrivalValue) (k : Kept)
+    → StandsFor sha256 reading (manifest_then m l) k
+    → WhereApart (manifest_then m l) (IsLeftByArrivals m l k)
+
+-- ---- two lists
+
+-- the same rows are listed, the same are held, the same moment is set, and no two different bodies,
+-- one of either list, have the same digest
+pub record HoldTheSame (e f : List EventValue) : Type 0 where
+  pub listed : union e ≡ union f
+  pub held : held_rows sha256 reading e ≡ held_rows sha256 reading f
+  pub moment : moment_of e ≡ moment_of f
+  pub apart : (a b : Coming) → Among (comings e) a → Among (comings f) b
+      → sha256 a.body ≡ sha256 b.body → a.body ≡ b.body
+
+-- two stores keep the same, but for the receipts and the parked bodies: the rows, the bodies, the
+-- chain, its tables and its before-images
+pub record KeepTheSame (k l : Kept) : Type 0 where
+  pub listed : k.listed ≡ l.listed
+  pub bodies : (r : ℕ) → k.bodies r ≡ l.bodies r
+  pub steps : k.steps ≡ l.steps
+  pub registry : k.registry ≡ l.registry
+
+-- in whatever order, however often and under whatever numbers the same deposits came
+abbrev pub SameHeldSameKept : Type 0
+SameHeldSameKept = (e f : List EventValue) (k l : Kept) → IsAccepted (union e) → HoldTheSame e f
+    → WhereApart e (WhereApart f (StandsFor sha256 reading e k → StandsFor sha256 reading f l
+    → KeepTheSame k l))

@@ -1,0 +1,65 @@
+-- Where the deposits of a plan are read from, and what is judged of parked bodies.
+use Rattle.std.specs.Prelude.{◌≡◌, ◌==◌, ℕ, true, false, List, [], ◌∷◌, Option, Some, None, Ok, IfSome, is_some}
+use Rattle.esc_tables.specs.DepositValue.{DepositValue}
+use Rattle.esc_tables.specs.Reading.{reading}
+use Rattle.esc_manifest.specs.declared.row.MRow.{MRow}
+use Rattle.esc_store.specs.Kept.{Kept}
+use Rattle.esc_events.specs.declared.finding.Finding.{Finding}
+use Rattle.esc_events.specs.declared.finding.Finding.TheVariants.{
+  Unlisted,
+  Unreadable,
+  Differing,
+  Holding,
+}
+use Rattle.esc_events.specs.Amended.{judged, parked_for, is_adopted, amended_bodies, adopted_rows, dropped_rows}
+use Rattle.esc_desk.specs.declared.judging.Judgement.{Judgement}
+use Rattle.esc_desk.specs.declared.judging.Judgement.TheVariants.{Absent, Dropped, Adopted}
+use Rattle.esc_desk.specs.declared.judging.Judged.{Judged}
+use Rattle.esc_desk.specs.declared.plan.Source.{Source}
+use Rattle.esc_desk.specs.declared.plan.Source.TheVariants.{Kept as FromKept, Arrived, Listed}
+
+-- a deposit at hand, if it still is, reads from this body
+abbrev pub IsGiven : Option DepositValue → Option (List ℕ) → Type 0
+IsGiven given body = IfSome given (λ d. (text : List ℕ) × (body ≡ Some text) × (reading text ≡ Ok d))
+
+-- a source gives the deposits of these bodies, where a store keeps k: of the bodies that it holds;
+-- of one row a deposit that is at hand; or of new rows the parked bodies that are their deposits
+abbrev pub IsSource : Source → Kept → (ℕ → Option (List ℕ)) → Type 0
+IsSource FromKept k bodies = (r : ℕ) → bodies r ≡ k.bodies r
+IsSource (Arrived row given) k bodies = IsGiven given (bodies row)
+    × ((r : ℕ) → (r == row) ≡ false → bodies r ≡ k.bodies r)
+IsSource (Listed rows from) k bodies = (r : ℕ)
+    → bodies r ≡ amended_bodies rows.now k.parked from k.bodies r
+
+-- what is judged of the body that is parked for a row, if one is
+abbrev pub IsJudgement : List MRow → (List ℕ → Option (List ℕ)) → ℕ → Judgement → Type 0
+IsJudgement rows parked row Absent = parked_for rows parked row ≡ None
+IsJudgement rows parked row Dropped = (is_some (parked_for rows parked row) ≡ true)
+    × (is_adopted rows parked row ≡ false)
+IsJudgement rows parked row (Adopted d) = (text : List ℕ)
+    × (judged rows row (parked_for rows parked row) ≡ Some text) × (reading text ≡ Ok d)
+
+-- of the rows from this one on, those of which the parked body is the deposit, and those of which
+-- it isn't
+pub record AreJudged (rows : List MRow) (parked : List ℕ → Option (List ℕ)) (from : ℕ)
+    (told : Judged) : Type 0 where
+  pub adopted : told.adopted.items ≡ adopted_rows rows parked from
+  pub dropped : told.dropped.items ≡ dropped_rows rows parked from
+
+-- the row, where its parked body is its deposit; and where that isn't
+abbrev pub adopted_by : Judgement → ℕ → List ℕ
+adopted_by Absent row = []
+adopted_by Dropped row = []
+adopted_by (Adopted d) row = row ∷ []
+
+abbrev pub dropped_by : Judgement → ℕ → List ℕ
+dropped_by Absent row = []
+dropped_by Dropped row = row ∷ []
+dropped_by (Adopted d) row = []
+
+-- what is judged of a parked body of which this is found
+abbrev pub judgement_of : Finding → Judgement
+judgement_of Unlisted = Dropped
+judgement_of (Unreadable r n) = Dropped
+judgement_of (Differing r) = Dropped
+judgement_of (Holding r d) = Adopted d

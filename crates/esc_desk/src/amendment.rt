@@ -1,0 +1,351 @@
+//! Amendments: manifests that list more rows.
+
+ghost use Rattle.std.specs.Prelude.{
+  ◌≡◌,
+  ◌+◌,
+  ◌≤◌,
+  ◌++◌,
+  ◌∷◌,
+  [],
+  ℕ,
+  List,
+  None,
+  IfSome,
+  length,
+  take,
+  IfOk,
+  IfErr,
+  OnOk,
+  OnErr,
+};
+ghost use Rattle.sha2.specs.Sha256.{sha256};
+ghost use Rattle.esc_tables.specs.DepositValue.{DepositValue};
+ghost use Rattle.esc_tables.specs.Reading.{reading};
+ghost use Rattle.esc_manifest.specs.declared.row.MRow.{MRow};
+ghost use Rattle.esc_manifest.specs.Extension.{extended};
+ghost use Rattle.esc_manifest.specs.Rows.{row_at};
+ghost use Rattle.esc_apply.specs.Registry.{saturated, State};
+ghost use Rattle.esc_store.specs.Faults.{IsS1OrS2};
+ghost use Rattle.esc_store.specs.Kept.{Kept};
+ghost use Rattle.esc_store.specs.Standing.{
+  Stands,
+  IsHonest,
+  LeavesOnly,
+  Rest,
+  HoldsNow,
+  GoesOn,
+  IsUncommitted,
+  listed_by,
+};
+ghost use Rattle.esc_events.specs.declared.known.Known.{Known};
+ghost use Rattle.esc_events.specs.Amended.{
+  with_adopted,
+  with_all_adopted,
+  with_all_dropped,
+  amended_kept,
+};
+ghost use Rattle.esc_events.specs.Events.{EventValue, union as union_of};
+ghost use Rattle.esc_events.specs.Events.EventValue.{listed};
+ghost use Rattle.esc_events.specs.Known.{IsKnown};
+ghost use Rattle.esc_events.specs.Plans.{HasDepositsPast, IsMovedFrom, IsCostOfMove, moved_by};
+ghost use Rattle.esc_events.specs.Stands.{StandsFor};
+ghost use Rattle.esc_desk.specs.Amendments.{IsAmended, IsAmendCause, DeskLeavesAmended};
+ghost use Rattle.esc_desk.specs.Calls.{
+  writes_of,
+  After,
+  OkAfter,
+  CrashAfter,
+  WasHonest,
+  ServesStill,
+};
+ghost use Rattle.esc_desk.specs.Crashes.{AddsStore, AddsStoreFor};
+ghost use Rattle.esc_desk.specs.Filled.{IsFilled};
+ghost use Rattle.esc_desk.specs.Sources.{AreJudged};
+ghost use Rattle.esc_desk.specs.Takings.{IsMade, IsListedNow};
+
+use crate::changes::{commit_filled, move_in};
+use crate::desk::{Desk, NO_WORK};
+use crate::judging::{Judged, judge_rows};
+use crate::plan::{Source, latest_steps, plan_move};
+use esc_apply::{Work, read_deposits_mention_few};
+use esc_bundle::NoMemory;
+use esc_chain::latest_chain_at_rows_are_held;
+use esc_events::{Known, Plan};
+use esc_manifest::{MFault, MRow, Manifest, read_manifest};
+use esc_store::{Change, SFault, Store};
+use sqlite::Alter;
+use std::alloc::Global;
+use std::fmt;
+
+/// Why an amendment isn't taken in.
+#[derive(Clone, Copy, Debug, PartialEq, Eq)]
+pub enum AmendFault {
+    /// The text is no accepted manifest, or the union with it is none.
+    M(MFault),
+    /// The store failed, or memory was refused.
+    Store(SFault),
+}
+
+impl fmt::Display for AmendFault {
+    fn fmt<W: fmt::Write>(&self, f: &mut fmt::Formatter<W>) -> fmt::Result {
+        match *self {
+            AmendFault::M(fault) => fault.fmt(f),
+            AmendFault::Store(fault) => fault.fmt(f),
+        }
+    }
+}
+
+impl std::error::Error for AmendFault {}
+
+impl<S: Alter> Desk<S> {
+    /// Takes in an amendment: a manifest, of which the rows that aren't listed yet are from now on.
+    /// A body that is parked for a new row is held where it is the row's deposit, and is parked no
+    /// more in any case; replies that were given stay as they were. Returns how many rows are new,
+    /// and the work of the chain's move. At `Err` nothing has changed: the refusal of the text or
+    /// of the union (M1 to M13), `S1`, `S2`. A crash leaves an amendment that was taken in; after
+    /// `S1` or `S2` it may leave this one so.
+    pub fn amend(&mut self, alloc: Global, text: &[u8]) -> Result<(usize, Work), AmendFault>
+        ensures amended { OkAfter S.Store self.old self.new result
+            (λ e p. IsAmended S.Store self.new e text.now p.0 p.1) }
+        ensures cause { After S.Store self.old self.new
+            (λ e. IfErr result (IsAmendCause e text.now)) }
+        ensures counted { IfOk result
+            (λ p. writes_of self.new ≡ saturated (writes_of self.old + p.1.writes)) }
+        ensures uncounted { OnErr result (writes_of self.new ≡ writes_of self.old) }
+        ensures honest { WasHonest S.Store self.old self.new }
+        ensures lost { OnErr result (ServesStill S.Store self.old self.new) }
+        ensures crash { CrashAfter S.Store self.old
+            (λ e doubtful. DeskLeavesAmended S.Store self.new e doubtful text.now result) }
+    {
+        // A proof knows that a count is below 2^64 where the body reads it.
+        let _writes = self.store.writes();
+        let union = match self.union_with(alloc, text) {
+            Ok(union) => union,
+            Err(MFault::NoMemory) => return Err(AmendFault::Store(SFault::S2)),
+            Err(fault) => return Err(AmendFault::M(fault)),
+        };
+        let added = union.rows().len() - self.store.manifest().rows().len();
+        if added == 0 {
+            return Ok((0, NO_WORK));
+        }
+        match self.list_more(alloc, union) {
+            Ok(work) => Ok((added, work)),
+            Err(fault) => Err(AmendFault::Store(fault)),
+        }
+    }
+
+    // The union of the rows that are listed and those of a text.
+    fn union_with(&self, alloc: Global, text: &[u8]) -> Result<Manifest, MFault>
+        ensures united { IfOk result (IsUnionWith self.now.store.manifest text.now) }
+        ensures refused { (code row : ℕ) → result ≡ Err (MFault.Refused code row)
+            → IsRefusedUnion self.now.store.manifest text.now code row }
+    {
+        let more = read_manifest(alloc, text)?;
+        self.store.manifest().extend(alloc, &more)
+    }
+
+    // Lists the rows of a union. What is remembered is forgotten first, and is only remembered
+    // again once the rows are listed.
+    #[tactic(auto, using(crate::proofs::StoreFacts::was_honest))]
+    fn list_more(&mut self, alloc: Global, union: Manifest) -> Result<Work, SFault>
+        requires begins { take (length self.old.store.manifest) union ≡ self.old.store.manifest }
+        ensures made { IsHonest S.Store self.new.store → (e : List EventValue) (k : Kept)
+            (more : List MRow) → Stands S.Store self.old.store k → StandsFor sha256 reading e k
+            → IfSome self.old.known (IsKnown k) → union ≡ extended (union_of e) more
+            → IfOk result (IsMade S.Store self.new e (listed more)) }
+        ensures counted { IfOk result (λ work. self.new.store.writes
+            ≡ saturated (self.old.store.writes + work.writes)) }
+        ensures uncounted { OnErr result (self.new.store.writes ≡ self.old.store.writes) }
+        ensures lost { OnErr result ((k : Kept) → Stands S.Store self.old.store k
+            → Stands S.Store self.new.store k) }
+        ensures forgotten { OnErr result (self.new.known ≡ None) }
+        ensures crash { IsHonest S.Store self.new.store → (e : List EventValue) (k : Kept)
+            (more : List MRow) → Stands S.Store self.old.store k → StandsFor sha256 reading e k
+            → IfSome self.old.known (IsKnown k) → union ≡ extended (union_of e) more
+            → AddsStoreFor S.Store self.old.store.conn self.new.store.conn result
+            (e ++ listed more ∷ []) }
+        ensures honest { IsHonest S.Store self.new.store → IsHonest S.Store self.old.store }
+        ensures cause { IfErr result IsS1OrS2 }
+    {
+        let mut known = self.take_known(alloc)?;
+        let work = list_in(&mut self.store, alloc, union, &mut known)?;
+        self.known = Some(known);
+        Ok(work)
+    }
+}
+
+ghost use Rattle.std.specs.Prelude.{Err};
+ghost use Rattle.esc_manifest.specs.declared.fault.MFault.TheVariants as MFault;
+ghost use Rattle.esc_desk.specs.Amendments.{IsUnionWith, IsRefusedUnion};
+
+// Lists the rows of a union in a store of whose rows this is known, and has it be what is known
+// then. What it is after an `Err` says nothing.
+#[tactic(auto, using(crate::proofs::StoreFacts::was_honest))]
+fn list_in<S: Alter>(
+    store: &mut Store<S>,
+    alloc: Global,
+    union: Manifest,
+    known: &mut Known,
+) -> Result<Work, SFault>
+    requires begins { take (length store.old.manifest) union ≡ store.old.manifest }
+    ensures listed { IsHonest S.Store store.new → (e : List EventValue) (k : Kept)
+        (more : List MRow) → Stands S.Store store.old k → StandsFor sha256 reading e k
+        → IsKnown k known.old → union ≡ extended (union_of e) more
+        → IfOk result (IsListedNow S.Store store.new e more known.new) }
+    ensures counted { IfOk result (λ work. store.new.writes
+        ≡ saturated (store.old.writes + work.writes)) }
+    ensures uncounted { OnErr result (store.new.writes ≡ store.old.writes) }
+    ensures lost { OnErr result ((k : Kept) → Stands S.Store store.old k
+        → Stands S.Store store.new k) }
+    ensures crash { IsHonest S.Store store.new → (e : List EventValue) (k : Kept)
+        (more : List MRow) → Stands S.Store store.old k → StandsFor sha256 reading e k
+        → IsKnown k known.old → union ≡ extended (union_of e) more
+        → AddsStoreFor S.Store store.old.conn store.new.conn result (e ++ listed more ∷ []) }
+    ensures honest { IsHonest S.Store store.new → IsHonest S.Store store.old }
+    ensures cause { IfErr result IsS1OrS2 }
+{
+    latest_chain_at_rows_are_held();
+    read_deposits_mention_few();
+    let from = store.manifest().rows().len();
+    let judged = judge_rows(store, alloc, union.rows(), from)?;
+    append_rows(&mut known.held, &judged.adopted)?;
+    let moment = store.moment()?;
+    let new = latest_steps(alloc, &union, &known.held, moment)?;
+    let plan = plan_move(store, alloc, new, Source::Listed(union.rows(), from))?;
+    list_rows(store, alloc, union, &judged, &plan)
+}
+
+// Puts rows behind others.
+fn append_rows(rows: &mut Vec<usize>, more: &[usize]) -> Result<(), NoMemory>
+    ensures { OnOk result (rows.new.items ≡ rows.old.items ++ more.now) }
+{
+    for row in more {
+        rows.push(*row)?;
+    }
+    Ok(())
+}
+
+// Lists the rows of a union, with the bodies that are parked for them as they were judged, and
+// moves the chain.
+#[tactic(auto, using(crate::proofs::StoreFacts::clean_before))]
+fn list_rows<S: Alter>(
+    store: &mut Store<S>,
+    alloc: Global,
+    union: Manifest,
+    judged: &Judged,
+    plan: &Plan,
+) -> Result<Work, SFault>
+    requires begins { take (length store.old.manifest) union ≡ store.old.manifest }
+    requires few_old { length plan.now.old.items ≤ 4096 }
+    requires few_new { length plan.now.new.items ≤ 4096 }
+    requires deposits { HasDepositsPast plan.now }
+    ensures honest { IsHonest S.Store store.new → IsHonest S.Store store.old }
+    ensures listed { OnOk result (IsHonest S.Store store.new → (k : Kept) (c : List DepositValue)
+        (more : List MRow) → IsAmendmentOf k more union judged.now → IsMovedFrom k c plan.now
+        → Stands S.Store store.old k
+        → Stands S.Store store.new (moved_by plan.now (amended_kept k more) c)) }
+    ensures left { OnOk result (IsHonest S.Store store.new → (k : Kept) (c : List DepositValue)
+        (more : List MRow) → IsAmendmentOf k more union judged.now → IsMovedFrom k c plan.now
+        → Stands S.Store store.old k
+        → LeavesOnly S.Store store.new (moved_by plan.now (amended_kept k more) c)) }
+    ensures crash { IsHonest S.Store store.new → (k : Kept) (c : List DepositValue)
+        (more : List MRow) → IsAmendmentOf k more union judged.now → IsMovedFrom k c plan.now
+        → Stands S.Store store.old k → AddsStore S.Store store.old.conn store.new.conn result
+        (moved_by plan.now (amended_kept k more) c) }
+    ensures worked { IfOk result (λ work. IsHonest S.Store store.new
+        → (k : Kept) (c : List DepositValue) → IsMovedFrom k c plan.now
+        → Stands S.Store store.old k → IsCostOfMove plan.now c work) }
+    ensures counted { IfOk result (λ work. store.new.writes
+        ≡ saturated (store.old.writes + work.writes)) }
+    ensures uncounted { OnErr result (store.new.writes ≡ store.old.writes) }
+    ensures kept { OnErr result ((k : Kept) → Stands S.Store store.old k
+        → Stands S.Store store.new k) }
+    ensures cause { IfErr result IsS1OrS2 }
+{
+    let mut change = store.begin()?;
+    let work = fill_listing(&mut change, alloc, union, judged, plan)?;
+    commit_filled(change)?;
+    Ok(work)
+}
+
+ghost use Rattle.esc_desk.specs.Amendments.{IsAmendmentOf};
+
+// Makes all of an amendment's change but its commit.
+fn fill_listing<S: Alter>(
+    change: &mut Change<'_, S>,
+    alloc: Global,
+    union: Manifest,
+    judged: &Judged,
+    plan: &Plan,
+) -> Result<Work, SFault>
+    requires begins { take (length (listed_by change.now)) union ≡ listed_by change.now }
+    requires few_old { length plan.now.old.items ≤ 4096 }
+    requires few_new { length plan.now.new.items ≤ 4096 }
+    requires deposits { HasDepositsPast plan.now }
+    ensures goes_on { IsUncommitted S.Store change.old change.new }
+    ensures filled { OnOk result (IsHonest S.Store change.new.store.now → (k : Kept)
+        (c : List DepositValue) (more : List MRow)
+        → IsAmendmentOf k more union judged.now → IsMovedFrom k c plan.now
+        → Rest S.Store change.old k k → HoldsNow S.Store change.old k.registry
+        → IsFilled S.Store change.new k (moved_by plan.now (amended_kept k more) c)) }
+    ensures worked { IfOk result (λ work. IsHonest S.Store change.new.store.now
+        → (k : Kept) (c : List DepositValue) → IsMovedFrom k c plan.now
+        → HoldsNow S.Store change.old k.registry → IsCostOfMove plan.now c work) }
+    ensures counted { IfOk result (λ work. saturated change.new.count
+        ≡ saturated (saturated change.old.count + work.writes)) }
+    ensures cause { IfErr result IsS1OrS2 }
+{
+    adopt_rows(change, union.rows(), &judged.adopted)?;
+    drop_rows(change, union.rows(), &judged.dropped)?;
+    change.list(union)?;
+    move_in(change, alloc, plan)
+}
+
+// Holds the bodies that are parked for these of the rows.
+fn adopt_rows<S: Alter>(
+    change: &mut Change<'_, S>,
+    rows: &[MRow],
+    adopted: &[usize],
+) -> Result<(), SFault>
+    ensures goes_on { GoesOn S.Store change.old change.new }
+    ensures count { change.new.count ≡ change.old.count }
+    ensures adopted { OnOk result (IsHonest S.Store change.new.store.now → (before k : Kept)
+        → AreApartRows k adopted.now → Rest S.Store change.old before k
+        → Rest S.Store change.new before (with_all_adopted rows.now k adopted.now)) }
+    ensures holds { OnOk result ((s : State) → HoldsNow S.Store change.old s
+        → HoldsNow S.Store change.new s) }
+    ensures cause { IfErr result IsS1OrS2 }
+{
+    for row in adopted {
+        let Some(listed) = rows.get(*row) else {
+            return Err(SFault::S1);
+        };
+        change.adopt(*row, &listed.digest)?;
+    }
+    Ok(())
+}
+
+ghost use Rattle.esc_desk.specs.Amendments.{AreApartRows};
+
+// Lets the bodies go that are parked for these of the rows.
+fn drop_rows<S: Alter>(
+    change: &mut Change<'_, S>,
+    rows: &[MRow],
+    dropped: &[usize],
+) -> Result<(), SFault>
+    ensures goes_on { GoesOn S.Store change.old change.new }
+    ensures count { change.new.count ≡ change.old.count }
+    ensures dropped { OnOk result ((before k : Kept) → Rest S.Store change.old before k
+        → Rest S.Store change.new before (with_all_dropped rows.now k dropped.now)) }
+    ensures holds { OnOk result ((s : State) → HoldsNow S.Store change.old s
+        → HoldsNow S.Store change.new s) }
+    ensures cause { IfErr result IsS1OrS2 }
+{
+    for row in dropped {
+        let Some(listed) = rows.get(*row) else {
+            return Err(SFault::S1);
+        };
+        change.unpark(&listed.digest)?;
+    }
+    Ok(())
+}

@@ -1,0 +1,110 @@
+//! What becomes of the bodies that are parked for rows that are new.
+
+ghost use Rattle.std.specs.Prelude.{◌≡◌, ◌<◌, ◌≤◌, ◌++◌, List, length, IfOk, IfErr, OnOk};
+ghost use Rattle.esc_store.specs.Faults.{IsS1OrS2};
+ghost use Rattle.esc_store.specs.Kept.{Kept};
+ghost use Rattle.esc_store.specs.Standing.{Stands, IsHonest, IsAsBefore};
+ghost use Rattle.esc_desk.specs.Sources.{IsJudgement, AreJudged, adopted_by, dropped_by};
+
+use crate::finding::compare;
+use esc_bundle::{Fault, NoMemory};
+use esc_events::Finding;
+use esc_manifest::MRow;
+use esc_store::{SFault, Store};
+use esc_tables::{Deposit, read_deposit};
+use sqlite::Alter;
+use std::alloc::Global;
+
+/// What is judged of the body that is parked under the digest of a row.
+#[derive(Debug, Drop)]
+pub(crate) enum Judgement {
+    /// There is none.
+    Absent,
+    /// It isn't the deposit of the row.
+    Dropped,
+    /// It is the deposit of the row.
+    Adopted(Deposit),
+}
+
+/// Of new rows, those of which the parked body is the deposit, and those of which it isn't; both
+/// rise.
+#[derive(Debug, Drop)]
+pub(crate) struct Judged {
+    pub(crate) adopted: Vec<usize>,
+    pub(crate) dropped: Vec<usize>,
+}
+
+impl Judged {
+    // Puts a row behind the others, by what was judged of it.
+    fn take(&mut self, row: usize, judgement: Judgement) -> Result<(), NoMemory>
+        ensures adopted { OnOk result (self.new.adopted.items
+            ≡ self.old.adopted.items ++ adopted_by judgement row) }
+        ensures dropped { OnOk result (self.new.dropped.items
+            ≡ self.old.dropped.items ++ dropped_by judgement row) }
+    {
+        match judgement {
+            Judgement::Absent => Ok(()),
+            Judgement::Dropped => Ok(self.dropped.push(row)?),
+            Judgement::Adopted(_) => Ok(self.adopted.push(row)?),
+        }
+    }
+}
+
+/// Judges the bodies that are parked for the rows from this one on.
+pub(crate) fn judge_rows<S: Alter>(
+    store: &mut Store<S>,
+    alloc: Global,
+    rows: &[MRow],
+    from: usize,
+) -> Result<Judged, SFault>
+    requires { from ≤ length rows.now }
+    ensures same { IsAsBefore S.Store store.old store.new }
+    ensures judged { IsHonest S.Store store.new → (k : Kept) → Stands S.Store store.old k
+        → IfOk result (AreJudged rows.now k.parked from) }
+    ensures cause { IfErr result IsS1OrS2 }
+{
+    let mut judged = Judged {
+        adopted: Vec::new(alloc),
+        dropped: Vec::new(alloc),
+    };
+    for row in from..rows.len() {
+        let judgement = judge(store, alloc, rows, row)?;
+        judged.take(row, judgement)?;
+    }
+    Ok(judged)
+}
+
+/// Judges the body that is parked for a row.
+pub(crate) fn judge<S: Alter>(
+    store: &mut Store<S>,
+    alloc: Global,
+    rows: &[MRow],
+    row: usize,
+) -> Result<Judgement, SFault>
+    requires { row < length rows.now }
+    ensures same { IsAsBefore S.Store store.old store.new }
+    ensures judged { IsHonest S.Store store.new → (k : Kept) → Stands S.Store store.old k
+        → IfOk result (IsJudgement rows.now k.parked row) }
+    ensures cause { IfErr result IsS1OrS2 }
+{
+    let Some(body) = store.parked_body(&rows[row].digest)? else {
+        return Ok(Judgement::Absent);
+    };
+    match read_deposit(alloc, &body) {
+        Ok(deposit) => Ok(judgement_of(compare(rows, row, deposit))),
+        Err(Fault::Refused(_)) => Ok(Judgement::Dropped),
+        Err(Fault::NoMemory) => Err(SFault::S2),
+    }
+}
+
+// What is judged of a body of which this was found.
+fn judgement_of(finding: Finding) -> Judgement
+    ensures { result ≡ judgement_of finding }
+{
+    match finding {
+        Finding::Holding(_, deposit) => Judgement::Adopted(deposit),
+        Finding::Unlisted | Finding::Unreadable(..) | Finding::Differing(_) => Judgement::Dropped,
+    }
+}
+
+ghost use Rattle.esc_desk.specs.Sources.{judgement_of};

@@ -1,0 +1,89 @@
+//! Which rows a store holds: what a desk remembers, so that an arrival needn't ask for them.
+
+ghost use Rattle.std.specs.Prelude.{◌≡◌, ℕ, List, IfOk, IfErr, OnOk};
+ghost use Rattle.sha2.specs.Sha256.{sha256};
+ghost use Rattle.esc_tables.specs.Reading.{reading};
+ghost use Rattle.esc_store.specs.Faults.{IsS1OrS2};
+ghost use Rattle.esc_store.specs.Kept.{Kept, IsRising, AreHeldBy, unlisted_in};
+ghost use Rattle.esc_store.specs.Standing.{Stands, IsHonest, IsAsBefore};
+ghost use Rattle.esc_events.specs.Events.{EventValue};
+ghost use Rattle.esc_events.specs.Known.{IsKnown};
+ghost use Rattle.esc_events.specs.Stands.{StandsFor};
+ghost use Rattle.esc_desk.specs.Knowing.{IsInserted, AreFound};
+
+use esc_bundle::NoMemory;
+use esc_events::Known;
+use esc_store::{SFault, Store};
+use sqlite::Alter;
+use std::alloc::Global;
+
+/// What is known of a store's rows by its receipts and look-ups. A body is read for each row that
+/// was adopted from the parked ones; no other is.
+pub(crate) fn known_of<S: Alter>(store: &mut Store<S>, alloc: Global) -> Result<Known, SFault>
+    ensures same { IsAsBefore S.Store store.old store.new }
+    ensures known { IsHonest S.Store store.new → (e : List EventValue) (k : Kept)
+        → Stands S.Store store.old k → StandsFor sha256 reading e k
+        → IfOk result (IsKnown k) }
+    ensures cause { IfErr result IsS1OrS2 }
+{
+    let told = store.held_by_receipts(alloc)?;
+    let digests = store.unlisted_digests(alloc)?;
+    let held = held_of(store, alloc, &told, &digests)?;
+    Ok(Known { held, told })
+}
+
+/// The rows of which a body is held: those that receipts tell, and of the rows that list these
+/// digests those that have one.
+pub(crate) fn held_of<S: Alter>(
+    store: &mut Store<S>,
+    alloc: Global,
+    told: &[usize],
+    digests: &[[u8; 32]],
+) -> Result<Vec<usize>, SFault>
+    ensures same { IsAsBefore S.Store store.old store.new }
+    ensures found { IsHonest S.Store store.new → (k : Kept) → Stands S.Store store.old k
+        → IsRising told.now → IfOk result (λ rows. AreFound k told.now digests.now rows.items) }
+    ensures cause { IfErr result IsS1OrS2 }
+{
+    let mut rows = Vec::from_slice(alloc, told)?;
+    for digest in digests {
+        insert_held(store, alloc, &mut rows, digest)?;
+    }
+    Ok(rows)
+}
+
+// Puts the row that lists a digest in its place among rows, if a body is held of it.
+fn insert_held<S: Alter>(
+    store: &mut Store<S>,
+    alloc: Global,
+    rows: &mut Vec<usize>,
+    digest: &[u8; 32],
+) -> Result<(), SFault>
+    ensures same { IsAsBefore S.Store store.old store.new }
+    ensures found { OnOk result (IsHonest S.Store store.new → (k : Kept)
+        → Stands S.Store store.old k → (told : List ℕ) (digests : List (List ℕ))
+        → AreFound k told digests rows.old.items
+        → AreFound k told (digests ++ digest.now ∷ []) rows.new.items) }
+    ensures cause { IfErr result IsS1OrS2 }
+{
+    let Some(row) = store.manifest().row_by_digest(digest) else {
+        return Ok(());
+    };
+    if store.body_of(alloc, row)?.is_some() {
+        insert_row(rows, row)?;
+    }
+    Ok(())
+}
+
+ghost use Rattle.std.specs.Prelude.{◌++◌, ◌∷◌, []};
+
+/// Puts a row in its place among rows that rise, if it isn't one of them.
+pub(crate) fn insert_row(rows: &mut Vec<usize>, row: usize) -> Result<(), NoMemory>
+    ensures { OnOk result (IsRising rows.old.items
+        → IsInserted rows.old.items row rows.new.items) }
+{
+    if let Err(place) = rows.binary_search(&row) {
+        rows.insert(place, row)?;
+    }
+    Ok(())
+}

@@ -1,0 +1,33 @@
+//! Whether a body that no row lists is parked.
+
+ghost use Rattle.std.specs.Prelude.{◌≡◌, IfOk, IfErr};
+ghost use Rattle.esc_store.specs.Faults.{IsS1OrS2};
+ghost use Rattle.esc_store.specs.Kept.{Kept};
+ghost use Rattle.esc_store.specs.Standing.{Stands, IsHonest, IsAsBefore};
+ghost use Rattle.esc_events.specs.Parks.{IsParking};
+
+use esc_events::Parking;
+use esc_store::{MOST_PARKED, SFault, Store};
+use sqlite::Alter;
+use std::alloc::Global;
+
+/// What is done with a body with this digest, which no row lists. No body is read.
+pub(crate) fn parking_of<S: Alter>(
+    store: &mut Store<S>,
+    alloc: Global,
+    digest: &[u8; 32],
+) -> Result<Parking, SFault>
+    ensures same { IsAsBefore S.Store store.old store.new }
+    ensures parking { IsHonest S.Store store.new → (k : Kept) → Stands S.Store store.old k
+        → IfOk result (IsParking k.parked digest.now) }
+    ensures cause { IfErr result IsS1OrS2 }
+{
+    let parked = store.parked(alloc)?;
+    if parked.contains(digest) {
+        Ok(Parking::Needless)
+    } else if parked.len() < MOST_PARKED {
+        Ok(Parking::Free)
+    } else {
+        Ok(Parking::Crowded)
+    }
+}
