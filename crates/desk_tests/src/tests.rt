@@ -1,6 +1,7 @@
 //! The worked rows over desks, and walks over them.
 
 mod desk;
+mod events;
 mod walks;
 
 use std::process::Abort;

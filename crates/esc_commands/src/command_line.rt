@@ -19,6 +19,10 @@ pub struct Invocation<'a> {
 pub enum Task<'a> {
     /// Make it, of a manifest.
     Init { manifest: &'a str },
+    /// List the rows of one more manifest.
+    Amend { manifest: &'a str },
+    /// Rebuild the registry as of a moment.
+    AsOf { moment: &'a str },
     /// Work with its desk.
     Desk(DeskTask<'a>),
 }
@@ -28,6 +32,10 @@ pub enum Task<'a> {
 pub enum DeskTask<'a> {
     /// Take a folder of deposits.
     Take { folder: &'a str },
+    /// List the rows of a manifest.
+    List { text: &'a [u8] },
+    /// Rebuild the registry as of a moment, or as of the latest.
+    Move { moment: Option<i64> },
     /// Listen on a port of 127.0.0.1, and serve so many connections.
     Serve { port: u16, count: u32 },
     /// Print a report, or the export of one kind of objects.
@@ -79,9 +87,10 @@ Example, with a folder of bundles named n1, n2 and so on:
     restore export --store desk.db domain
 
 Refusals go to standard error, one a line: E1 PATH (can't be read, listed or written), E2 NAME (over 16,777,216 bytes),
-N1 NAME (the name is no number of an arrival), M1 to M13 with the row (the manifest), S1 (the store failed), S2 (no
-memory), S3 (no store, or a used database), S4 (the store is full).
-Status: 0 done; 1 the manifest is refused, or a file was not taken as a listed deposit; 2 other words; 3 stopped by S or E1.
+E3 MOMENT (it is no watermark), N1 NAME (the name is no number of an arrival), M1 to M13 with the row (the manifest), S1 (the
+store failed), S2 (no memory), S3 (no store, or a used database), S4 (the store is full), S5 (1,024 bundles wait for a row).
+Status: 0 done; 1 the manifest or the moment is refused, or a file was not taken as a listed deposit; 2 other words; 3 stopped
+by S or E1.
 ";
 
 const ROUTES: &str = "\
@@ -95,11 +104,25 @@ A connection carries one request. PUT /arrivals/NUMBER takes its body as an arri
 A connection that fails is told on standard error (read fault, write fault), and the next one is served.
 ";
 
+const AMENDMENTS: &str = "\
+An agent may release a manifest in parts, so that a bundle comes before the row that lists it. Its receipt says A5 then, and
+the bundle is kept: it is held as soon as an amendment lists it. Receipts that were given stay as they are. A row that
+contradicts a listed one is refused (M10 to M13), and nothing is listed.
+";
+
+const MOMENTS: &str = "\
+The tables hold what the deposits up to the moment say; later ones are held, and don't count. This is for a registry that was
+corrupted before it failed: rebuild it as it was before. Deposits may still be taken, and the moment stays set. Example:
+
+    restore as-of --store desk.db 2024-03-10T00:00:00Z
+    restore as-of --store desk.db latest
+";
+
 const REPORTS_TOLD: &str = "\
 status    how many deposits are listed and held, the chain's length and end, and how many objects of each kind there are
 gaps      for each listed place: missing, blocked (and by what), in the chain or beside it, and which resend is awaited
 links     what breaks a rule in the tables: links to absent objects, counts, statuses and dates
-receipts  a line for each distinct arrival, with its verdict: A1 held, A2 not listed, A3 unreadable, A4 differs
+receipts  a line for each distinct arrival, with its verdict: A1 held, A3 unreadable, A4 differs, A5 not listed
 ";
 
 /// The argument of every command.
@@ -111,7 +134,7 @@ static STORE: Argument = Argument {
     help: "The store's file; beside it FILE-wal may stand, and belongs to it",
 };
 
-static COMMANDS: [Form; 5] = [
+static COMMANDS: [Form; 7] = [
     Form {
         name: "init",
         about: "Makes a store of a release manifest, and prints how many deposits it lists",
@@ -122,6 +145,30 @@ static COMMANDS: [Form; 5] = [
             value_name: "FILE",
             values: ValueParser::String,
             help: "The release manifest: CSV with a row for each listed deposit",
+        }],
+    },
+    Form {
+        name: "amend",
+        about: "Lists the deposits of one more manifest, and prints how many are new",
+        details: Some(AMENDMENTS),
+        arguments: &[Argument {
+            id: "manifest",
+            is_option: true,
+            value_name: "FILE",
+            values: ValueParser::String,
+            help: "A further part of the release manifest, or all of it anew; listed deposits may stand in it again",
+        }],
+    },
+    Form {
+        name: "as-of",
+        about: "Rebuilds the registry as it was at a moment, and prints where its chain ends then",
+        details: Some(MOMENTS),
+        arguments: &[Argument {
+            id: "moment",
+            is_option: false,
+            value_name: "MOMENT",
+            values: ValueParser::String,
+            help: "A watermark, as 2024-03-10T00:00:00Z, or `latest`",
         }],
     },
     Form {
@@ -255,6 +302,14 @@ fn task_named<'a>(name: &str, given: &ArgMatches<'a>) -> Option<Task<'a>> {
         "init" => {
             let manifest = given.get_str("manifest")?;
             Some(Task::Init { manifest })
+        }
+        "amend" => {
+            let manifest = given.get_str("manifest")?;
+            Some(Task::Amend { manifest })
+        }
+        "as-of" => {
+            let moment = given.get_str("moment")?;
+            Some(Task::AsOf { moment })
         }
         "take" => {
             let folder = given.get_str("folder")?;

@@ -10,8 +10,9 @@ use crate::store_file::{
 use crate::take::take_folder;
 use clap::Error;
 use clap::error::ErrorKind;
-use esc_desk::Desk;
-use esc_http::{Report, report};
+use esc_desk::{AmendFault, Desk};
+use esc_envelope::watermark;
+use esc_http::{Report, end_line, report};
 use esc_manifest::{Manifest, read_manifest};
 use sqlite::{Alter, Connection, File, FileStore};
 use std::alloc::{AllocError, Global};
@@ -114,6 +115,8 @@ where
     let Invocation { store, task } = invocation;
     let done = match task {
         Task::Init { manifest } => init(rt, net, store, manifest, out, err),
+        Task::Amend { manifest } => amend(rt, net, store, manifest, out, err),
+        Task::AsOf { moment } => as_of(rt, net, store, moment, out, err),
         Task::Desk(task) => use_store(rt, net, store, task, out, err),
     };
     match finish(rt, done, out) {
@@ -156,10 +159,65 @@ where
     })
 }
 
+// `amend --store FILE --manifest FILE`: lists the rows of one more manifest, and tells how many are
+// new. The faults that its text has by itself come before those of the store.
+fn amend<N, O, E>(
+    rt: &HostRuntime,
+    net: &N,
+    store: &str,
+    manifest: &str,
+    out: &mut O,
+    err: &mut E,
+) -> Result<Ended, Stop>
+where
+    N: Net<Listener = TcpListener, Stream = TcpStream>,
+    O: Write,
+    E: Write,
+{
+    let text = read_file(rt, manifest, MOST_MANIFEST_BYTES)?;
+    let _ = manifest_in(rt.alloc(), &text)?;
+    use_store(rt, net, store, DeskTask::List { text: &text }, out, err)
+}
+
+// `as-of --store FILE MOMENT`: rebuilds the registry as of a moment, and tells where its chain ends
+// then.
+fn as_of<N, O, E>(
+    rt: &HostRuntime,
+    net: &N,
+    store: &str,
+    moment: &str,
+    out: &mut O,
+    err: &mut E,
+) -> Result<Ended, Stop>
+where
+    N: Net<Listener = TcpListener, Stream = TcpStream>,
+    O: Write,
+    E: Write,
+{
+    let moment = moment_named(rt.alloc(), moment)?;
+    use_store(rt, net, store, DeskTask::Move { moment }, out, err)
+}
+
+// The moment that a word names; the latest is none.
+fn moment_named(alloc: Global, word: &str) -> Result<Option<i64>, Stop> {
+    if word == "latest" {
+        return Ok(None);
+    }
+    match watermark(word) {
+        Some(moment) => Ok(Some(moment)),
+        None => Err(Stop::Moment(String::from_str(alloc, word)?)),
+    }
+}
+
 // The manifest that a file has. One that is too long is refused by its first bytes.
 fn manifest_of(rt: &HostRuntime, path: &str) -> Result<Manifest, Stop> {
     let text = read_file(rt, path, MOST_MANIFEST_BYTES)?;
-    match read_manifest(rt.alloc(), &text) {
+    manifest_in(rt.alloc(), &text)
+}
+
+// The manifest that a text is.
+fn manifest_in(alloc: Global, text: &[u8]) -> Result<Manifest, Stop> {
+    match read_manifest(alloc, text) {
         Ok(manifest) => Ok(manifest),
         Err(fault) => Err(Stop::Manifest(fault)),
     }
@@ -304,6 +362,8 @@ where
                 serve_connections(rt, net, desk, port, count, out, err),
             )
         }
+        DeskTask::List { text } => list_rows(rt.alloc(), desk, text),
+        DeskTask::Move { moment } => move_to(rt.alloc(), desk, moment),
         DeskTask::Tell { report } => report_text(rt.alloc(), desk, report),
     }
 }
@@ -314,6 +374,36 @@ fn told(alloc: Global, status: Result<u8, Stop>) -> Result<Ended, Stop> {
         Ok(status) => Ok(Ended::silent(alloc, status)),
         Err(stop) => Err(stop),
     }
+}
+
+// Lists the rows of a manifest with a desk, and tells how many are new.
+fn list_rows<S: Alter>(alloc: Global, desk: &mut Desk<S>, text: &[u8]) -> Result<Ended, Stop> {
+    match desk.amend(alloc, text) {
+        Ok((count, _work)) => {
+            let line = format!(in alloc; "added {count}\n")?;
+            Ok(Ended {
+                status: DONE,
+                text: line.into_bytes(),
+            })
+        }
+        Err(AmendFault::M(fault)) => Err(Stop::Manifest(fault)),
+        Err(AmendFault::Store(fault)) => Err(Stop::Store(fault)),
+    }
+}
+
+// Rebuilds the registry as of a moment, and tells where its chain ends then.
+fn move_to<S: Alter>(
+    alloc: Global,
+    desk: &mut Desk<S>,
+    moment: Option<i64>,
+) -> Result<Ended, Stop> {
+    let _work = desk.as_of(alloc, moment)?;
+    let status = desk.status(alloc)?;
+    let line = end_line(alloc, status.end)?;
+    Ok(Ended {
+        status: DONE,
+        text: line.into_bytes(),
+    })
 }
 
 // `report --store FILE WHAT` and `export --store FILE KIND`: the text of a report.

@@ -5,8 +5,8 @@
 //! status. So a test can run it as a user does.
 //!
 //! What goes in: words, a release manifest and bundles in files, or HTTP requests on a port. What
-//! comes out: a store in a file, which the next command opens again; on standard output a count of
-//! listed rows, receipts, reports, exports or help; on standard error refusals, one a line; and the
+//! comes out: a store in a file, which the next command opens again; on standard output counts of
+//! listed rows, the end of the chain, receipts, reports, exports or help; on standard error refusals, one a line; and the
 //! status.
 //!
 //! | Module | Does |
@@ -29,16 +29,18 @@
 //!
 //! # Order of refusals
 //!
-//! The first of these that fails is told: the words (status 2), the manifest (`M1` to `M13`, status
-//! 1, or `E1` where it can't be read), the store (`S1` to `S4`, or `E1` where its file can't be
-//! read and written), the folder or the port (`E1`), then file by file (`N1`, `E1`, `E2`, and the
-//! verdict of the receipt, status 1). `S1` to `S4` and `E1` stop a command with status 3; what was
-//! answered before stays. A report is printed once the store is closed.
+//! The first of these that fails is told: the words (status 2), the moment (`E3`, status 1), the
+//! manifest (`M1` to `M13`, status 1, or `E1` where it can't be read), the store (`S1` to `S5`, or
+//! `E1` where its file can't be read and written), the union of an amendment with the listed rows
+//! (`M1`, `M10` to `M13`), the folder or the port (`E1`), then file by file (`N1`, `E1`, `E2`, and
+//! the verdict of the receipt, status 1). `S1` to `S5` and `E1` stop a command with status 3; what
+//! was answered before stays. A report is printed once the store is closed.
 //!
 //! # What is promised
 //!
 //! By proof: that no call is unsafe and that each ends, whatever the words, files and requests are.
-//! What a store stands for after each arrival is the contract of [`esc_desk::Desk::run`], what a
+//! What a store stands for after each arrival is the contract of [`esc_desk::Desk::run`], after an
+//! amendment and a moment that of [`esc_desk::Desk::amend`] and [`esc_desk::Desk::as_of`], what a
 //! request is answered is that of [`esc_http::serve_one`], how long its client is waited for that
 //! of [`esc_client::Client`], and the texts of reports are that of [`esc_http::report`]. No
 //! contract can say what a file holds or what is printed, so the texts, statuses and the order of

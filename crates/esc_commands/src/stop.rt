@@ -11,7 +11,7 @@ use std::io::Write;
 /// All went well.
 pub const DONE: u8 = 0;
 
-/// A manifest's fault, or a deposit that isn't held.
+/// A manifest's fault, a word that is no moment, or a deposit that isn't held.
 pub const REFUSED: u8 = 1;
 
 /// Other words than the program knows.
@@ -30,6 +30,8 @@ pub enum Stop {
     Unreadable(String),
     /// The manifest is refused.
     Manifest(MFault),
+    /// The word is no moment.
+    Moment(String),
     /// The store failed.
     Store(SFault),
 }
@@ -38,7 +40,7 @@ impl Stop {
     /// The program's status.
     pub fn status(&self) -> u8 {
         match self {
-            Stop::Manifest(MFault::Refused { .. }) => REFUSED,
+            Stop::Manifest(MFault::Refused { .. }) | Stop::Moment(_) => REFUSED,
             Stop::Manifest(MFault::NoMemory) | Stop::Unreadable(_) | Stop::Store(_) => STOPPED,
         }
     }
@@ -50,6 +52,7 @@ impl fmt::Display for Stop {
             Stop::Unreadable(path) => write!(f, "E1 {}", OneLine(path.as_str())),
             Stop::Manifest(MFault::NoMemory) => f.write_str("S2"),
             Stop::Manifest(fault) => write!(f, "{fault}"),
+            Stop::Moment(word) => write!(f, "E3 {}", OneLine(word.as_str())),
             Stop::Store(fault) => write!(f, "{fault}"),
         }
     }

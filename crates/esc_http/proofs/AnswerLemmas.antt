@@ -9,7 +9,7 @@ use Rattle.esc_store.specs.declared.fault.SFault.{SFault}
 use Rattle.esc_store.specs.declared.fault.SFault.TheVariants.{S2}
 use Rattle.esc_store.specs.Faults.{IsS1OrS2, IsS1OrS2OrS4OrS5}
 use Rattle.esc_desk.specs.declared.desk.Desk.{Desk}
-use Rattle.esc_desk.specs.ArrivalValue.{ArrivalValue}
+use Rattle.esc_events.specs.ArrivalValue.{ArrivalValue}
 use Rattle.esc_desk.specs.Calls.{After, ServesStill, IsCause}
 use Rattle.esc_request.specs.declared.refusal.Refusal.TheVariants.{BadRequest}
 use Rattle.esc_http.specs.declared.plan.Plan.{Plan}

@@ -8,7 +8,7 @@ use Rattle.esc_desk.specs.declared.desk.Desk.{Desk}
 use Rattle.esc_desk.specs.declared.walk.Pages.{Pages}
 use Rattle.esc_desk.specs.declared.walk.Walk.{Walk}
 use Rattle.esc_desk.specs.Calls.{Stays}
-use Rattle.esc_desk.specs.Events.{EventValue}
+use Rattle.esc_events.specs.Events.{EventValue}
 use Rattle.esc_desk.specs.Serving.{Serves}
 use Rattle.esc_desk.specs.Walking.{desk_of, Follows}
 

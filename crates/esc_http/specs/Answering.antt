@@ -18,9 +18,9 @@ use Rattle.esc_store.specs.declared.fault.SFault.{SFault}
 use Rattle.esc_store.specs.Faults.{IsS1OrS2, IsS1OrS2OrS4OrS5}
 use Rattle.esc_store.specs.ReplyValue.{ReplyValue}
 use Rattle.esc_desk.specs.declared.desk.Desk.{Desk}
-use Rattle.esc_desk.specs.ArrivalValue.{ArrivalValue, an_arrival}
-use Rattle.esc_desk.specs.Calls.{After, Over, ServesStill, Stays, HadRoom, IsCause}
-use Rattle.esc_desk.specs.Events.{EventValue}
+use Rattle.esc_events.specs.ArrivalValue.{ArrivalValue, an_arrival}
+use Rattle.esc_desk.specs.Calls.{After, Over, ServesStill, Stays, HadRoom, HadPlace, IsCause}
+use Rattle.esc_events.specs.Events.{EventValue}
 use Rattle.esc_desk.specs.Serving.{Answers}
 use Rattle.esc_request.specs.declared.reports.Report.{Report}
 use Rattle.esc_request.specs.declared.refusal.Refusal.{Refusal}
@@ -70,11 +70,13 @@ pub record TellsFault (text : List ℕ) : Type 0 where
 
 module _ {S : Type 0} (g : Ghosts S) (old new : Desk S) where
   -- the arrival was taken: the desk serves the events before and this one, and the text tells its
-  -- reply; it is like an earlier one, or there was room for one more receipt
+  -- reply; it is like an earlier one, or there was room for one more receipt, and a place to park
+  -- its body if it was to be parked
   pub record TakesArrival (a : ArrivalValue) (e : List EventValue) (text : List ℕ) : Type 0 where
     pub reply : ReplyValue
     pub answers : Answers g new e a reply
     pub room : HadRoom e a
+    pub place : HadPlace e a
     pub told : IsOrMemory (reply_response reply) text
 
   abbrev pub IsTaken : ArrivalValue → List ℕ → Type 0

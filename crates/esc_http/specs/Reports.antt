@@ -10,7 +10,7 @@ use Rattle.esc_tables.specs.ObjectValue.{ObjectValue}
 use Rattle.esc_tables.specs.Reading.{reading}
 use Rattle.esc_apply.specs.Objects.{InOrder}
 use Rattle.esc_chain.specs.declared.gap.GapLine.{GapLine}
-use Rattle.esc_chain.specs.Gap.{AreGapLines}
+use Rattle.esc_chain.specs.Gap.{AreGapLinesAt}
 use Rattle.esc_check.specs.Export.{export_text}
 use Rattle.esc_check.specs.FindingValue.{FindingValue, listing_cmp}
 use Rattle.esc_check.specs.Findings.{IsFinding}
@@ -18,9 +18,11 @@ use Rattle.esc_check.specs.Tables.{tables_of}
 use Rattle.esc_store.specs.Kept.{AreHeld}
 use Rattle.esc_desk.specs.declared.status.End.{End}
 use Rattle.esc_desk.specs.declared.status.Status.{Status as Numbers}
-use Rattle.esc_desk.specs.Events.{EventValue, union}
-use Rattle.esc_desk.specs.Reads.{replies_of, AreTables, IsEnd, IsStatus}
-use Rattle.esc_desk.specs.Stands.{held_body}
+use Rattle.esc_events.specs.Apart.{WhereApart}
+use Rattle.esc_events.specs.Events.{EventValue, union, moment_of}
+use Rattle.esc_events.specs.Reads.{AreEntries}
+use Rattle.esc_desk.specs.Reads.{replies_of, IsEndOfChain, IsStatus}
+use Rattle.esc_events.specs.Stands.{held_body}
 use Rattle.esc_request.specs.declared.reports.Report.{Report}
 use Rattle.esc_request.specs.declared.reports.Report.TheVariants.{
   Status,
@@ -53,32 +55,34 @@ module _ (e : List EventValue) where
   -- the objects of a kind in the tables of the latest chain, by key in byte order
   pub record IsExport (kind : Kind) (text : List ℕ) : Type 0 where
     pub entries : List (KeyName × ObjectValue)
-    pub tables : AreTables e entries
+    pub tables : AreEntries e entries
     pub order : InOrder entries
     pub is : text ≡ export_text kind entries
 
   -- what breaks a rule in the tables of the latest chain, by what its last deposit says
   pub record IsLinksText (text : List ℕ) : Type 0 where
     pub entries : List (KeyName × ObjectValue)
-    pub tables : AreTables e entries
+    pub tables : AreEntries e entries
     pub end : Option End
-    pub ends : IsEnd e end
+    pub ends : IsEndOfChain e end
     pub found : List FindingValue
     pub findings : AreFindings entries end found
     pub is : text ≡ links_text found
 
-  -- a line for each listed place, in their order, by the rows that are held
+  -- a line for each listed place, in their order, by the rows that are held and the moment that is
+  -- set
   pub record IsGapsText (text : List ℕ) : Type 0 where
     pub rows : List ℕ
     pub are_held : AreHeld (held_body sha256 reading e) rows
     pub lines : List GapLine
-    pub gaps : AreGapLines (union e) (set.from_list rows) lines
+    pub gaps : AreGapLinesAt (union e) (set.from_list rows) (moment_of e) lines
     pub is : text ≡ gaps_text lines
 
-  -- the text of a report
+  -- the text of a report; what it tells of bodies is so where no two different ones have the same
+  -- digest
   abbrev pub IsReport : Report → List ℕ → Type 0
   IsReport Status text = IsStatusText text
-  IsReport Gaps text = IsGapsText text
-  IsReport Links text = IsLinksText text
+  IsReport Gaps text = WhereApart e (IsGapsText text)
+  IsReport Links text = WhereApart e (IsLinksText text)
   IsReport Receipts text = text ≡ receipts_text (replies_of e)
-  IsReport (Export kind) text = IsExport kind text
+  IsReport (Export kind) text = WhereApart e (IsExport kind text)

@@ -7,14 +7,15 @@ use Rattle.esc_check.specs.declared.stream.StreamFault.TheVariants.{Source, NoMe
 use Rattle.esc_store.specs.declared.fault.SFault.{SFault}
 use Rattle.esc_store.specs.declared.fault.SFault.TheVariants.{S1, S2, S3, S4, S5}
 use Rattle.esc_desk.specs.declared.status.End.{End}
-use Rattle.esc_desk.specs.Events.{EventValue}
-use Rattle.esc_desk.specs.Reads.{AreTables}
+use Rattle.esc_events.specs.Apart.{WhereApart}
+use Rattle.esc_events.specs.Events.{EventValue}
+use Rattle.esc_events.specs.Reads.{AreEntries}
 use Rattle.esc_http.specs.Reports.{AreFindings}
 
 -- this is what breaks a rule in the tables of the latest chain, where its end says this
 abbrev pub AreFoundAt : List EventValue → Option End → List FindingValue → Type 0
-AreFoundAt e end found = (entries : List Entry) × AreTables e entries
-    × AreFindings entries end found
+AreFoundAt e end found = WhereApart e ((entries : List Entry) × AreEntries e entries
+    × AreFindings entries end found)
 
 -- the fault that ends a report over a walk: S2 where memory was refused, else S1
 abbrev pub walk_fault : StreamFault SFault → SFault

@@ -24,7 +24,7 @@
 //! `esc_request`, the texts that replies, gaps and findings are told in in `esc_texts`.
 //!
 //! [`report`] gives the text of a report, which the program prints too; [`receipts_heading`] and
-//! [`receipt_line`] are the pieces of the receipts report.
+//! [`receipt_line`] are the pieces of the receipts report, [`end_line`] is one of the status.
 //!
 //! # What is promised
 //!
@@ -59,4 +59,5 @@ mod telling;
 pub use esc_request::{ReadFailed, Report, Sink, Source, WriteFailed};
 pub use esc_texts::{receipt_line, receipts_heading};
 pub use serving::{ServeFault, serve, serve_one};
+pub use status::end_line;
 pub use telling::report;

@@ -11,7 +11,7 @@ ghost use Rattle.esc_http.specs.Walked.{AreFoundAt, walk_fault};
 
 use crate::status::status_text;
 use esc_apply::tables_are_listed;
-use esc_chain::{Held, gaps};
+use esc_chain::{Held, gaps_at};
 use esc_check::{Finding, StreamFault, export_from, verify_from};
 use esc_desk::{Desk, End, SFault};
 use esc_envelope::Kind;
@@ -41,16 +41,18 @@ pub fn report<S: Alter>(
     }
 }
 
+#[tactic(auto, using(crate::proofs::StoreFacts::stays_then))]
 fn report_gaps<S: Alter>(alloc: Global, desk: &mut Desk<S>) -> Result<Vec<u8>, SFault>
     ensures stays { Stays S.Store desk.old desk.new }
     ensures text { OkOver S.Store desk.old desk.new result
         (λ e text. IsReport e what.Gaps text.items) }
     ensures cause { IfErr result IsS1OrS2 }
 {
+    let moment = desk.moment()?;
     let rows = desk.held(alloc)?;
     let manifest = desk.manifest();
     let held = held_of(alloc, manifest, &rows)?;
-    let lines = gaps(alloc, manifest, &held)?;
+    let lines = gaps_at(alloc, manifest, &held, moment)?;
     gaps_text(alloc, &lines)
 }
 

@@ -23,7 +23,7 @@ use Rattle.esc_rows.specs.Schema.{no_schema}
 use Rattle.sqlite.specs.Effect.{Database}
 use Rattle.sqlite_catalog.specs.Listing.{IsSound}
 use Rattle.esc_kept.specs.Blank.{LeavesBlankOr}
-use Rattle.esc_desk.specs.Events.{EventValue}
+use Rattle.esc_events.specs.Events.{EventValue}
 use Rattle.esc_desk.specs.declared.desk.Desk.{Desk}
 use Rattle.esc_desk.specs.Serving.{DeskServes}
 use Rattle.esc_desk.specs.Crashes.{CrashLeaves, IsStoreForOneOf, IsStoreFor}

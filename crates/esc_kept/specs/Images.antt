@@ -5,7 +5,7 @@ use Rattle.sqlite_trees.specs.declared.store.Store.{Ghosts}
 use Rattle.sqlite_trees.specs.Tree.{Trees}
 use Rattle.sqlite.specs.Files.{HoldsDatabase}
 use Rattle.esc_desk.specs.declared.desk.Desk.{Desk}
-use Rattle.esc_desk.specs.Events.{EventValue}
+use Rattle.esc_events.specs.Events.{EventValue}
 use Rattle.esc_desk.specs.Serving.{DeskServes}
 use Rattle.esc_desk.specs.Crashes.{IsStoreForOneOf}
 

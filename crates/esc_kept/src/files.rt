@@ -8,7 +8,7 @@ ghost use Rattle.sqlite_trees.specs.Tree.{Trees};
 ghost use Rattle.sqlite.specs.Files.{over_files, image_of, HoldsDatabase};
 ghost use Rattle.esc_store.specs.Faults.{IsS1ToS3};
 ghost use Rattle.esc_desk.specs.Calls.{After, DeskLeaves, IsHonestDesk};
-ghost use Rattle.esc_desk.specs.Events.{EventValue};
+ghost use Rattle.esc_events.specs.Events.{EventValue};
 ghost use Rattle.esc_desk.specs.Serving.{DeskServes};
 ghost use Rattle.esc_desk.specs.Crashes.{IsStoreFor};
 ghost use Rattle.esc_kept.specs.Images.{HoldsOneOf, ServesOneOf};

@@ -29,12 +29,12 @@ const HELD: &[u8] =
 const PUT_OTHER: &[u8] = b"PUT /arrivals/n2 HTTP/1.0\r\nContent-Length: 3\r\n\r\nabcd";
 
 const UNLISTED: &[u8] =
-    b"HTTP/1.1 422 Unprocessable Content\r\nContent-Type: application/json\r\nContent-Length: 106\r\nConnection: close\r\n\r\n{\"copy\":null,\"fault\":null,\"id\":null,\"number\":\"n2\",\"orphans\":null,\"receipt\":1,\"resend\":null,\"verdict\":\"A2\"}";
+    b"HTTP/1.1 202 Accepted\r\nContent-Type: application/json\r\nContent-Length: 106\r\nConnection: close\r\n\r\n{\"copy\":null,\"fault\":null,\"id\":null,\"number\":\"n2\",\"orphans\":null,\"receipt\":1,\"resend\":null,\"verdict\":\"A5\"}";
 
 const GET_RECEIPTS: &[u8] = b"GET /receipts?all HTTP/1.1\r\n\r\n";
 
 const RECEIPTS: &[u8] =
-    b"HTTP/1.1 200 OK\r\nContent-Type: text/csv\r\nContent-Length: 85\r\nConnection: close\r\n\r\nreceipt,number,verdict,fault,id,resend,copy,orphans\n1,n1,A1,,F1,0,new,0\n2,n2,A2,,,,,\n";
+    b"HTTP/1.1 200 OK\r\nContent-Type: text/csv\r\nContent-Length: 85\r\nConnection: close\r\n\r\nreceipt,number,verdict,fault,id,resend,copy,orphans\n1,n1,A1,,F1,0,new,0\n2,n2,A5,,,,,\n";
 
 const GET_STATUS: &[u8] = b"GET /status HTTP/1.1\r\n\r\n";
 

@@ -297,16 +297,24 @@ pub fn line_of(alloc: Global, body: Body) -> Result<String, Fail> {
     Ok(line)
 }
 
-fn read(alloc: Global, text: &str) -> Result<Manifest, Fail> {
+/// The manifest that a text is.
+pub fn read(alloc: Global, text: &str) -> Result<Manifest, Fail> {
     Ok(read_manifest(alloc, text.as_bytes())?)
 }
 
-/// The manifest that lists these bodies.
-pub fn manifest_of(alloc: Global, bodies: &[Body]) -> Result<Manifest, Fail> {
+/// The text of a manifest that lists these bodies, and these further rows.
+pub fn manifest_text(alloc: Global, bodies: &[Body], more: &str) -> Result<String, Fail> {
     let mut text = String::from_str(alloc, "id,type,watermark,prevId,resend,sha256\n")?;
     for body in bodies {
         push_line(alloc, &mut text, *body)?;
         text.push_str("\n")?;
     }
+    text.push_str(more)?;
+    Ok(text)
+}
+
+/// The manifest that lists these bodies.
+pub fn manifest_of(alloc: Global, bodies: &[Body]) -> Result<Manifest, Fail> {
+    let text = manifest_text(alloc, bodies, "")?;
     read(alloc, text.as_str())
 }

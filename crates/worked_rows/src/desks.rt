@@ -1,10 +1,11 @@
 //! Desks over databases, and what arrives at them.
 
-use crate::bodies::{Body, bytes_of, manifest_of};
+use crate::bodies::{Body, bytes_of, manifest_of, read};
 use crate::rows::{Row, Taken};
 use crate::shown::{tell_reply, tell_work};
 use esc_apply::Work;
-use esc_desk::{Desk, Reply, number};
+use esc_desk::{AmendFault, Desk, Reply, number};
+use esc_envelope::watermark;
 use esc_manifest::Manifest;
 use esc_store::Store;
 use sqlite::{Alter, Connection};
@@ -29,6 +30,16 @@ pub fn desk_of<S: Alter + Drop>(
     listed: &[Body],
 ) -> Result<Desk<S>, Fail> {
     let manifest = manifest_of(alloc, listed)?;
+    create(alloc, conn, &manifest)
+}
+
+/// A desk over a new store of the manifest that a text is.
+pub fn desk_over<S: Alter + Drop>(
+    alloc: Global,
+    conn: Connection<S>,
+    text: &str,
+) -> Result<Desk<S>, Fail> {
+    let manifest = read(alloc, text)?;
     create(alloc, conn, &manifest)
 }
 
@@ -60,6 +71,33 @@ pub fn arrive<S: Alter + Drop>(
     let number = number(text)?;
     let bytes = bytes_of(alloc, body)?;
     Ok(desk.arrive(alloc, &number, bytes.as_slice())?)
+}
+
+/// Takes in an amendment: how many rows are new, and the work, or the refusal.
+pub fn amend<S: Alter + Drop>(
+    alloc: Global,
+    desk: &mut Desk<S>,
+    text: &str,
+) -> Result<(usize, Work), AmendFault> {
+    desk.amend(alloc, text.as_bytes())
+}
+
+/// Sets a moment, or takes it back: the work.
+pub fn set_moment<S: Alter + Drop>(
+    alloc: Global,
+    desk: &mut Desk<S>,
+    moment: Option<&str>,
+) -> Result<Work, Fail> {
+    let moment = match moment {
+        Some(text) => Some(watermark(text).ok_or("no moment")?),
+        None => None,
+    };
+    Ok(desk.as_of(alloc, moment)?)
+}
+
+/// How many bodies are parked.
+pub fn count_parked<S: Alter + Drop>(alloc: Global, desk: &mut Desk<S>) -> Result<usize, Fail> {
+    Ok(desk.parked(alloc)?.len())
 }
 
 /// Takes an arrival: its reply and its work, and how many writes the desk counted with it.

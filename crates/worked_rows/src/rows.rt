@@ -419,7 +419,7 @@ const ROWS: &[Row] = &[
             Taken {
                 number: "n2",
                 body: Abc,
-                reply: "4,n2,A2,,,,,",
+                reply: "4,n2,A5,,,,,",
                 work: NO_WORK,
             },
         ],

@@ -78,7 +78,7 @@ const ARRIVALS: [(&str, Body); 7] = [
 const HELD: &str = "A3(1), holds, 0 held
 A1, holds 3, 1 held
 A4, holds 3, 1 held
-A2, holds 3, 1 held
+A5, holds 3, 1 held
 A1, holds 2 3, 2 held
 A1, holds 2 3, 2 held
 A1, holds 2 3, 2 held

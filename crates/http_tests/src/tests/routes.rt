@@ -54,7 +54,7 @@ static ROUTES: [Exchange; 14] = [
     // The second receipt: a request before that was refused has none.
     Exchange {
         request: b"PUT /arrivals/n2 HTTP/1.0\r\nContent-Length: 3\r\n\r\nabc",
-        response: b"HTTP/1.1 422 Unprocessable Content\r\nContent-Type: application/json\r\nContent-Length: 106\r\nConnection: close\r\n\r\n{\"copy\":null,\"fault\":null,\"id\":null,\"number\":\"n2\",\"orphans\":null,\"receipt\":2,\"resend\":null,\"verdict\":\"A2\"}",
+        response: b"HTTP/1.1 202 Accepted\r\nContent-Type: application/json\r\nContent-Length: 106\r\nConnection: close\r\n\r\n{\"copy\":null,\"fault\":null,\"id\":null,\"number\":\"n2\",\"orphans\":null,\"receipt\":2,\"resend\":null,\"verdict\":\"A5\"}",
         receipts: (1, 2),
     },
     Exchange {

@@ -76,8 +76,8 @@ const RESPONSES: [&str; 9] = [
     "HTTP/1.1 200 OK\r\nContent-Type: application/json\r\nContent-Length: 101\r\nConnection: close\r\n\r\n{\"copy\":\"new\",\"fault\":null,\"id\":\"F1\",\"number\":\"n1\",\"orphans\":0,\"receipt\":1,\"resend\":0,\"verdict\":\"A1\"}",
     BAD_REQUEST,
     BAD_REQUEST,
-    "HTTP/1.1 422 Unprocessable Content\r\nContent-Type: application/json\r\nContent-Length: 106\r\nConnection: close\r\n\r\n{\"copy\":null,\"fault\":null,\"id\":null,\"number\":\"n2\",\"orphans\":null,\"receipt\":2,\"resend\":null,\"verdict\":\"A2\"}",
-    "HTTP/1.1 200 OK\r\nContent-Type: text/csv\r\nContent-Length: 85\r\nConnection: close\r\n\r\nreceipt,number,verdict,fault,id,resend,copy,orphans\n1,n1,A1,,F1,0,new,0\n2,n2,A2,,,,,\n",
+    "HTTP/1.1 202 Accepted\r\nContent-Type: application/json\r\nContent-Length: 106\r\nConnection: close\r\n\r\n{\"copy\":null,\"fault\":null,\"id\":null,\"number\":\"n2\",\"orphans\":null,\"receipt\":2,\"resend\":null,\"verdict\":\"A5\"}",
+    "HTTP/1.1 200 OK\r\nContent-Type: text/csv\r\nContent-Length: 85\r\nConnection: close\r\n\r\nreceipt,number,verdict,fault,id,resend,copy,orphans\n1,n1,A1,,F1,0,new,0\n2,n2,A5,,,,,\n",
     "HTTP/1.1 200 OK\r\nContent-Type: text/csv\r\nContent-Length: 87\r\nConnection: close\r\n\r\nkind,key,table,row,field,value\ncontact,C1,contact,0,id,C1\ncontact,C1,contact,0,clID,R1\n",
     NOT_FOUND,
     "HTTP/1.1 405 Method Not Allowed\r\nContent-Type: text/plain\r\nContent-Length: 19\r\nConnection: close\r\nAllow: PUT\r\n\r\nmethod not allowed\n",
@@ -153,7 +153,7 @@ const SERVED: Scene = Scene {
     rows: &[(
         "report --store served/a.db receipts",
         0,
-        "receipt,number,verdict,fault,id,resend,copy,orphans\n1,n1,A1,,F1,0,new,0\n2,n2,A2,,,,,\n",
+        "receipt,number,verdict,fault,id,resend,copy,orphans\n1,n1,A1,,F1,0,new,0\n2,n2,A5,,,,,\n",
         "",
     )],
 };

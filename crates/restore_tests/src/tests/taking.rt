@@ -135,7 +135,7 @@ const MIXED: Scene = Scene {
         (
             "take --store mixed/a.db mixed/long",
             1,
-            "receipt,number,verdict,fault,id,resend,copy,orphans\n2,n1,A1,,F1,0,new,0\n3,n3,A2,,,,,\n4,n4,A1,,F5,0,again,0\n",
+            "receipt,number,verdict,fault,id,resend,copy,orphans\n2,n1,A1,,F1,0,new,0\n3,n3,A5,,,,,\n4,n4,A1,,F5,0,again,0\n",
             "N1 n+5\nE2 n2\n",
         ),
     ],
@@ -193,7 +193,7 @@ receipt,number,verdict,fault,id,resend,copy,orphans
 2,n1,A4,,F1,0,,
 3,n2,A3,U1,F2,0,,
 4,n3,A3,U4,F3,0,,
-5,n4,A2,,,,,
+5,n4,A5,,,,,
 6,n5,A1,,D2,0,new,0
 ";
 
@@ -230,7 +230,7 @@ const NOT_HELD: Scene = Scene {
         (
             "take --store verdicts/a.db verdicts/unlisted",
             1,
-            "receipt,number,verdict,fault,id,resend,copy,orphans\n5,n4,A2,,,,,\n",
+            "receipt,number,verdict,fault,id,resend,copy,orphans\n5,n4,A5,,,,,\n",
             "",
         ),
         (

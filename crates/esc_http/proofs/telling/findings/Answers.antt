@@ -11,11 +11,11 @@ use Rattle.esc_http.proofs.StoreFacts.{was_honest}
 use Rattle.esc_http.proofs.telling.findings.Goals as goal
 
 pub returns-in-Ok-clause-found : goal.returns-in-Ok-clause-found
-returns-in-Ok-clause-found g c = λ clean e serves.
+returns-in-Ok-clause-found g c = λ clean e serves apart.
     let at_end : IsHonest g.S.Store c.verify_from.new.o.desk.now.store = search rules in
-    let entries = listing g.S.Store c.args.desk.now.store e c.tables_are_listed.ensures serves in
+    let entries = listing g.S.Store c.args.desk.now.store e c.tables_are_listed.ensures serves apart in
     let at_walk = was_honest g.S.Store c.in_ok-walk.walk.desk.now.store c.verify_from.new.o.desk.now.store c.in-Ok.ensures.follows.same at_end in
-    let lists = c.in_ok-walk.ensures.lists at_walk e serves entries.0 entries.1 entries.2 in
+    let lists = c.in_ok-walk.ensures.lists at_walk e serves apart entries.0 entries.1 entries.2 in
     let w = c.args.end.now.watermark in
     let fits : SFits w64 w = search rules in
     let each : (f : FindingValue) → Contains c.in-Ok.found.items f ↔ IsFinding (tables_of entries.0) w c.args.end.now.counts.entries f =

@@ -5,6 +5,6 @@ pub returns-in-Some-clause-found : goal.returns-in-Some-clause-found
 returns-in-Some-clause-found g c = rw c.in-Some.is c.findings.ensures.found
 
 pub returns-in-None-clause-found : goal.returns-in-None-clause-found
-returns-in-None-clause-found g c = λ clean e serves.
-    let entries = listing g.S.Store c.args.desk.now.store e c.tables_are_listed.ensures serves in
-    rw c.in-None.is (entries.0, entries.1, c.new.ensures.items)
+returns-in-None-clause-found g c = λ clean e serves. rw c.in-None.is (λ apart.
+    let entries = listing g.S.Store c.args.desk.now.store e c.tables_are_listed.ensures serves apart in
+    (entries.0, entries.1, c.new.ensures.items))

@@ -1,6 +1,6 @@
 use Rattle.std.proofs.Common.{[], ◌∷◌, sym, subst}
 use Rattle.esc_store.specs.Kept.{fresh}
-use Rattle.esc_desk.specs.Events.EventValue.{listed}
+use Rattle.esc_events.specs.Events.EventValue.{listed}
 use Rattle.esc_kept.specs.Blank.{LeavesBlankOr}
 use Rattle.esc_kept.proofs.Founds.{blank_or}
 use Rattle.esc_kept.proofs.opening.new_desk.Goals as goal
