@@ -95,7 +95,7 @@ by S or E1.
 
 const ROUTES: &str = "\
 A connection carries one request. PUT /arrivals/NUMBER takes its body as an arrival, and needs its Content-Length; GET /status,
-/gaps, /links, /receipts and /export/KIND give the reports. Example:
+/gaps, /links, /receipts, /parked and /export/KIND give the reports. Example:
 
     restore serve --store desk.db --port 8080 --count 1000
     curl -T deposits/n1 http://127.0.0.1:8080/arrivals/n1
@@ -123,6 +123,7 @@ status    how many deposits are listed and held, the chain's length and end, and
 gaps      for each listed place: missing, blocked (and by what), in the chain or beside it, and which resend is awaited
 links     what breaks a rule in the tables: links to absent objects, counts, statuses and dates
 receipts  a line for each distinct arrival, with its verdict: A1 held, A3 unreadable, A4 differs, A5 not listed
+parked    the SHA-256 and the length of each bundle that was taken and that no row lists
 ";
 
 /// The argument of every command.
@@ -212,8 +213,8 @@ static COMMANDS: [Form; 7] = [
             id: "report",
             is_option: false,
             value_name: "WHAT",
-            values: ValueParser::Names(&["status", "gaps", "links", "receipts"]),
-            help: "How far the desk has come, which deposits are missing, what breaks a rule, or all receipts",
+            values: ValueParser::Names(&["status", "gaps", "links", "receipts", "parked"]),
+            help: "How far the desk has come, which deposits are missing, what breaks a rule, all receipts, or the bundles that no row lists",
         }],
     },
     Form {
@@ -341,6 +342,7 @@ fn report_named(name: &str) -> Option<Report> {
         "gaps" => Some(Report::Gaps),
         "links" => Some(Report::Links),
         "receipts" => Some(Report::Receipts),
+        "parked" => Some(Report::Parked),
         _ => None,
     }
 }

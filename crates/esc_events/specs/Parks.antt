@@ -1,6 +1,7 @@
 -- Where a body that no row lists is parked.
-use Rattle.std.specs.Prelude.{◌≡◌, ℕ, List, Option, Some, None, IsSome}
-use Rattle.esc_store.specs.Kept.{Kept, IsFull, with_parked}
+use Rattle.std.specs.Prelude.{◌≡◌, ℕ, List, length, map, All, Option, Some, None, IsSome}
+use Rattle.esc_store.specs.Kept.{Kept, IsFull, AreParked, with_parked}
+use Rattle.esc_events.specs.declared.parked.ParkedBody.{ParkedBody}
 use Rattle.esc_events.specs.declared.parking.Parking.{Parking}
 use Rattle.esc_events.specs.declared.parking.Parking.TheVariants.{Needless, Free, Crowded}
 
@@ -16,3 +17,13 @@ abbrev pub with_parking : Kept → List ℕ → Parking → List ℕ → Kept
 with_parking k digest Needless body = k
 with_parking k digest Free body = with_parked k digest (Some body)
 with_parking k digest Crowded body = k
+
+-- a body of so many bytes is parked under this digest
+abbrev pub IsParkedBody : (List ℕ → Option (List ℕ)) → ParkedBody → Type 0
+IsParkedBody parked p = (body : List ℕ) × (parked p.digest ≡ Some body) × (p.bytes ≡ length body)
+
+-- these are the bodies that are parked, in the order of their digests
+pub record AreParkedBodies (parked : List ℕ → Option (List ℕ))
+    (bodies : List ParkedBody) : Type 0 where
+  pub digests : AreParked parked (map (λ (p : ParkedBody). p.digest) bodies)
+  pub each : All (IsParkedBody parked) bodies

@@ -39,6 +39,7 @@
 mod finding;
 mod known;
 mod laws;
+mod parked;
 mod parking;
 mod plan;
 
@@ -47,5 +48,6 @@ pub use known::Known;
 pub use laws::{
     books_after_a_moment, books_after_an_amendment, books_after_an_arrival, chain_after_an_event,
 };
+pub use parked::ParkedBody;
 pub use parking::Parking;
 pub use plan::Plan;

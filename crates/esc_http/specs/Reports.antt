@@ -18,21 +18,25 @@ use Rattle.esc_check.specs.Tables.{tables_of}
 use Rattle.esc_store.specs.Kept.{AreHeld}
 use Rattle.esc_desk.specs.declared.status.End.{End}
 use Rattle.esc_desk.specs.declared.status.Status.{Status as Numbers}
+use Rattle.esc_events.specs.declared.parked.ParkedBody.{ParkedBody}
 use Rattle.esc_events.specs.Apart.{WhereApart}
 use Rattle.esc_events.specs.Events.{EventValue, union, moment_of}
+use Rattle.esc_events.specs.Parks.{AreParkedBodies}
 use Rattle.esc_events.specs.Reads.{AreEntries}
 use Rattle.esc_desk.specs.Reads.{replies_of, IsEndOfChain, IsStatus}
-use Rattle.esc_events.specs.Stands.{held_body}
+use Rattle.esc_events.specs.Stands.{held_body, parked_body}
 use Rattle.esc_request.specs.declared.reports.Report.{Report}
 use Rattle.esc_request.specs.declared.reports.Report.TheVariants.{
   Status,
   Gaps,
   Links,
   Receipts,
+  Parked,
   Export,
 }
 use Rattle.esc_texts.specs.GapsText.{gaps_text}
 use Rattle.esc_texts.specs.LinksText.{links_text}
+use Rattle.esc_texts.specs.ParkedText.{parked_text}
 use Rattle.esc_texts.specs.ReceiptsText.{receipts_text}
 use Rattle.esc_http.specs.StatusText.{status_text}
 
@@ -78,6 +82,12 @@ module _ (e : List EventValue) where
     pub gaps : AreGapLinesAt (union e) (set.from_list rows) (moment_of e) lines
     pub is : text ≡ gaps_text lines
 
+  -- a line for each body that no row lists
+  pub record IsParkedText (text : List ℕ) : Type 0 where
+    pub bodies : List ParkedBody
+    pub are_parked : AreParkedBodies (parked_body sha256 reading e) bodies
+    pub is : text ≡ parked_text bodies
+
   -- the text of a report; what it tells of bodies is so where no two different ones have the same
   -- digest
   abbrev pub IsReport : Report → List ℕ → Type 0
@@ -85,4 +95,5 @@ module _ (e : List EventValue) where
   IsReport Gaps text = WhereApart e (IsGapsText text)
   IsReport Links text = WhereApart e (IsLinksText text)
   IsReport Receipts text = text ≡ receipts_text (replies_of e)
+  IsReport Parked text = WhereApart e (IsParkedText text)
   IsReport (Export kind) text = WhereApart e (IsExport kind text)

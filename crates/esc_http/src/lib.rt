@@ -7,7 +7,7 @@
 //! | Test | Response |
 //! |---|---|
 //! | the head is one of `httparse`'s grammar, of at most 8,192 bytes and 32 header lines | 400 |
-//! | the path has a route: `/arrivals/{number}`, `/status`, `/gaps`, `/links`, `/receipts`, `/export/{kind}` | 404 |
+//! | the path has a route: `/arrivals/{number}`, `/status`, `/gaps`, `/links`, `/receipts`, `/parked`, `/export/{kind}` | 404 |
 //! | the method is the route's: PUT for an arrival, GET for a report | 405, with `Allow` |
 //! | an arrival's number is 1 to 64 of `A-Z a-z 0-9 . _ -` | 400 `N1` |
 //! | there is no Transfer-Encoding, and a Content-Length | 411 |

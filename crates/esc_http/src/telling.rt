@@ -17,7 +17,7 @@ use esc_desk::{Desk, End, SFault};
 use esc_envelope::Kind;
 use esc_manifest::Manifest;
 use esc_request::Report;
-use esc_texts::{gaps_text, links_text, receipts_text};
+use esc_texts::{gaps_text, links_text, parked_text, receipts_text};
 use sqlite::Alter;
 use std::alloc::Global;
 
@@ -37,6 +37,7 @@ pub fn report<S: Alter>(
         Report::Gaps => report_gaps(alloc, desk),
         Report::Links => report_links(alloc, desk),
         Report::Receipts => report_receipts(alloc, desk),
+        Report::Parked => report_parked(alloc, desk),
         Report::Export(kind) => report_export(alloc, desk, kind),
     }
 }
@@ -148,6 +149,16 @@ fn report_receipts<S: Alter>(alloc: Global, desk: &mut Desk<S>) -> Result<Vec<u8
 {
     let replies = desk.receipts(alloc)?;
     Ok(receipts_text(alloc, &replies)?)
+}
+
+fn report_parked<S: Alter>(alloc: Global, desk: &mut Desk<S>) -> Result<Vec<u8>, SFault>
+    ensures stays { Stays S.Store desk.old desk.new }
+    ensures text { OkOver S.Store desk.old desk.new result
+        (λ e text. IsReport e what.Parked text.items) }
+    ensures cause { IfErr result IsS1OrS2 }
+{
+    let bodies = desk.parked(alloc)?;
+    Ok(parked_text(alloc, &bodies)?)
 }
 
 #[tactic(auto, using(crate::proofs::StoreFacts::walked))]

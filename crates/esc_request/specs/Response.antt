@@ -18,6 +18,7 @@ use Rattle.esc_request.specs.declared.reports.Report.TheVariants.{
   Gaps,
   Links,
   Receipts,
+  Parked,
   Export,
 }
 
@@ -70,6 +71,7 @@ report_media Status = codes "text/plain"
 report_media Gaps = codes "text/csv"
 report_media Links = codes "text/csv"
 report_media Receipts = codes "text/csv"
+report_media Parked = codes "text/csv"
 report_media (Export kind) = codes "text/csv"
 
 -- a report

@@ -28,6 +28,7 @@ use Rattle.esc_request.specs.declared.reports.Report.TheVariants.{
   Gaps,
   Links,
   Receipts,
+  Parked,
   Export,
 }
 use Rattle.esc_request.specs.declared.route.Target.{Target}
@@ -58,17 +59,18 @@ segment_after front path = option_and_then if_segment (strip front path)
 abbrev pub export_named : List ℕ → Option Leads
 export_named name = option_map (λ kind. tells (Export kind)) (kind_named name)
 
--- where a path leads: /status, /gaps, /links, /receipts, /arrivals/ and a number, /export/ and a
--- kind; nothing is decoded
+-- where a path leads: /status, /gaps, /links, /receipts, /parked, /arrivals/ and a number, /export/
+-- and a kind; nothing is decoded
 abbrev pub route_of : List ℕ → Option Leads
 route_of path =
     if bytes_eq (codes "/status") path then Some (tells Status)
     else (if bytes_eq (codes "/gaps") path then Some (tells Gaps)
     else (if bytes_eq (codes "/links") path then Some (tells Links)
     else (if bytes_eq (codes "/receipts") path then Some (tells Receipts)
+    else (if bytes_eq (codes "/parked") path then Some (tells Parked)
     else (if starts_with nat_eq path (codes "/arrivals/") then option_map arrival
     (segment_after (codes "/arrivals/") path)
-    else option_and_then export_named (segment_after (codes "/export/") path)))))
+    else option_and_then export_named (segment_after (codes "/export/") path))))))
 
 -- where a path leads that has this target
 abbrev pub way_to : Target → List ℕ → Option Leads

@@ -9,6 +9,8 @@ pub enum Report {
     Gaps,
     Links,
     Receipts,
+    /// The bodies that no row lists.
+    Parked,
     /// All objects of a kind.
     Export(Kind),
 }

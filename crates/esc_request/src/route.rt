@@ -44,6 +44,7 @@ fn add_routes(router: &mut Router<Target>) -> Result<(), InsertError>
     router.insert("/gaps", Target::Tells(Report::Gaps))?;
     router.insert("/links", Target::Tells(Report::Links))?;
     router.insert("/receipts", Target::Tells(Report::Receipts))?;
+    router.insert("/parked", Target::Tells(Report::Parked))?;
     router.insert("/export/{kind}", Target::Export)?;
     Ok(())
 }

@@ -6,7 +6,9 @@ use Rattle.esc_check.specs.FindingValue.{FindingValue}
 use Rattle.esc_csv.specs.Lines.{line_text}
 use Rattle.esc_chain.specs.declared.gap.GapLine.{GapLine}
 use Rattle.esc_texts.specs.GapsText.{gap_line, gap_lines_text}
+use Rattle.esc_events.specs.declared.parked.ParkedBody.{ParkedBody}
 use Rattle.esc_texts.specs.LinksText.{finding_line, findings_text}
+use Rattle.esc_texts.specs.ParkedText.{parked_line, parked_lines}
 use Rattle.esc_texts.specs.ReceiptsText.{receipt_line, replies_text}
 
 -- the first piece of what was left has been written
@@ -31,3 +33,7 @@ pub gap_lines_more : (gaps : List GapLine) (i : ℕ) (gap : GapLine) → i < len
     → gap_lines_text (drop i gaps) ≡ line_text (gap_line gap) ++ gap_lines_text (drop (i + 1) gaps)
 gap_lines_more gaps i gap within is =
     ap gap_lines_text (drop_more gaps i gap within ∙ ap (λ (l : GapLine). l ∷ drop (i + 1) gaps) (sym is))
+
+-- the line of the first body that is left
+pub bodies_more : (bodies : List ParkedBody) (i : ℕ) (none : ParkedBody) → i < length bodies → parked_lines (drop i bodies) ≡ line_text (parked_line (get_or bodies i none)) ++ parked_lines (drop (i + 1) bodies)
+bodies_more bodies i none within = ap parked_lines (drop_more bodies i none within)

@@ -1,5 +1,6 @@
 pub mod GapsText
 pub mod LinksText
+pub mod ParkedText
 pub mod ReceiptsText
 pub mod ReplyText
 pub mod Words

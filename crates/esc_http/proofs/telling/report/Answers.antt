@@ -6,6 +6,9 @@ returns-in-Status-clause-text g c = rw c.in-Status.is c.report_status.ensures.te
 pub returns-in-Receipts-clause-text : goal.returns-in-Receipts-clause-text
 returns-in-Receipts-clause-text g c = rw c.in-Receipts.is c.report_receipts.ensures.text
 
+pub returns-in-Parked-clause-text : goal.returns-in-Parked-clause-text
+returns-in-Parked-clause-text g c = rw c.in-Parked.is c.report_parked.ensures.text
+
 pub returns-in-Export-clause-text : goal.returns-in-Export-clause-text
 returns-in-Export-clause-text g c = rw c.in-Export.is c.report_export.ensures.text
 
