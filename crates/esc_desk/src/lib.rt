@@ -2,71 +2,79 @@
 //! often they arrive, and keeps the registry's tables.
 //!
 //! A manifest lists the deposits that there are, each with the SHA-256 of its body
-//! (`esc_manifest`). Bodies arrive under numbers that their sender gives: a body may come late,
-//! twice, never, or be another one than was listed. Each arrival gets a verdict, and the reply
-//! tells it with the number of a receipt:
+//! (`esc_manifest`); it may come in parts. Bodies arrive under numbers that their sender gives: a
+//! body may come late, twice, never, before the row that lists it, or be another one than was
+//! listed. Each arrival gets a verdict by the rows that are listed then, and the reply tells it with
+//! the number of a receipt:
 //!
-//! - `A2`: no row of the manifest has the body's digest.
+//! - `A1`: it is the deposit of the row with its digest, which is held from now on.
 //! - `A3`: the row of the digest has it, but no deposit reads from it, by the refusal U1 to U11 of
 //!   `esc_tables`.
 //! - `A4`: it is another deposit than the row says, by id, place, resend or, of a Differential,
 //!   previous id.
-//! - `A1`: it is the deposit of the row, which is held from now on.
+//! - `A5`: no row has the body's digest. It is parked, until an amendment lists it.
 //!
 //! Arrivals are *alike* if their numbers are the same and the digests of their bodies are. One
 //! alike an earlier one changes nothing, and has the first one's reply. Of any other the receipt is
-//! kept; if it holds a row that no earlier one held, its body is kept too, and the tables are moved
+//! kept; if it holds a row of which no body is held, its body is kept too, and the tables are moved
 //! from the latest chain of the rows held before (`esc_chain`) to the latest one of those held now
 //! (`esc_apply`).
 //!
-//! What goes in is a [`Store`](esc_store::Store), then arrivals: one by one to [`Desk::arrive`], or
-//! a list of them to [`Desk::run`]. What comes out are replies, the work of each move, and the
-//! reads: [`Desk::status`], [`Desk::receipts`], [`Desk::manifest`], [`Desk::held`],
-//! [`Desk::tables`], [`Desk::end`] and [`Desk::writes`]. The objects of the tables are given one at
-//! a time, too: [`Desk::walk`].
+//! What goes in is a [`Store`](esc_store::Store), then events: arrivals, one by one to
+//! [`Desk::arrive`] or a list of them to [`Desk::run`]; further manifests to [`Desk::amend`]; and
+//! the moment as of which the registry is to be rebuilt, to [`Desk::as_of`]. What comes out are
+//! replies, the work of each move, and the reads: [`Desk::status`], [`Desk::receipts`],
+//! [`Desk::manifest`], [`Desk::held`], [`Desk::parked`], [`Desk::moment`], [`Desk::tables`],
+//! [`Desk::end`] and [`Desk::writes`]. The objects of the tables are given one at a time, too:
+//! [`Desk::walk`].
 //!
 //! # What is promised
 //!
-//! For every accepted manifest and every list of arrivals, with repeats, losses and reorderings,
-//! the tables hold for each object what the last deposit that mentions it says on the latest
-//! unbroken chain of the listed deposits that arrived, each at its highest arrived revision; and
-//! arrivals alike in number and body get one receipt and the first one's reply.
+//! For every list of accepted manifests and arrivals, in any order among each other, with repeats,
+//! losses and reorderings, the tables hold for each object what the last deposit that mentions it
+//! says on the latest unbroken chain, up to the moment set last, of the listed deposits that
+//! arrived, each at its highest arrived revision; and arrivals alike in number and body get one
+//! receipt and the first one's reply.
 //!
-//! The contracts speak of lists of events (`EventValue`): a manifest was taken in, or an arrival
-//! was answered. A store serves a list of events (`Serves`) if it holds the rows that are listed,
-//! the receipts that the arrivals leave, the body of each held row, the rows of the latest chain,
-//! and that chain's tables with their before-images. A store that was just made serves its manifest
-//! alone ([`new_store_stands_for_its_manifest`]); what it means to serve a manifest and then
-//! arrivals is said without events by [`stands_for_manifest_and_arrivals`]. A desk serves what its
-//! store serves (`DeskServes`): it also remembers which rows are held, and what it remembers is so.
+//! The contracts speak of lists of events (`EventValue`, `esc_events`): a manifest was taken in, an
+//! arrival was answered, or a moment was set or taken back. A store serves a list of events
+//! (`Serves`) if it holds the rows that are listed, the receipts that the arrivals leave, the body
+//! of each held row, the bodies that no row lists, the moment, the rows of the latest chain, and
+//! that chain's tables with their before-images (`StandsFor`). A store that was just made serves
+//! its manifest alone ([`new_store_stands_for_its_manifest`]); what it means to serve a manifest and
+//! then arrivals is said without events by [`stands_for_manifest_and_arrivals`]. A desk serves what
+//! its store serves (`DeskServes`): it also remembers which rows are held, and what it remembers is
+//! so.
 //!
 //! Most clauses begin with a word of `specs/Calls.antt`, which says of which events they speak.
 //! `OkAfter` is "where the store was honest, of whatever events the desk served before the call, if
 //! it succeeded": a desk that served a list serves, after an arrival that was answered, that list
 //! with the arrival. `OkOver` is the same of a read, and `Stays` says that a call changed nothing.
-//! After an `Err` the desk serves the list as it was (`ServesStill`). What one arrival changes is
-//! one change of the store, whole or not at all, so an arrival that was refused by `S1` (the store
-//! failed), `S2` (out of memory) or `S4` (there are 1,000,000,000 receipts) is as one that never
-//! came. So runs compose, whatever came before them and however they were cut.
+//! After an `Err` the desk serves the list as it was (`ServesStill`). What one event changes is one
+//! change of the store, whole or not at all, so an arrival that was refused by `S1` (the store
+//! failed), `S2` (out of memory), `S4` (there are 1,000,000,000 receipts) or `S5` (1,024 bodies are
+//! parked) is as one that never came. So runs compose, whatever came before them and however they
+//! were cut.
 //!
-//! What was answered is kept through a crash. An arrival is *in doubt* once it was refused by `S1`
-//! or `S2`, until another changes a table: a crash may leave it taken in. The clauses `left` of
-//! [`Desk::open`] and `crash` of [`Desk::arrive`] and [`Desk::run`] say that whatever a crash
-//! leaves is a store of the events so far, or of them and one of those in doubt (`DeskLeaves`), and
-//! none is in doubt in a store that was just made or opened. `esc_kept` follows it to the next
-//! open.
+//! What was answered is kept through a crash. An event is *in doubt* once it was refused by `S1` or
+//! `S2`, until another changes a table: a crash may leave it taken in. The clauses `left` of
+//! [`Desk::open`] and `crash` of [`Desk::arrive`], [`Desk::run`], [`Desk::amend`] and
+//! [`Desk::as_of`] say that whatever a crash leaves is a store of the events so far, or of them and
+//! one of those in doubt (`DeskLeaves`), and none is in doubt in a store that was just made or
+//! opened. `esc_kept` follows it to the next open.
 //!
 //! Each clause on a store has the premise that the store was honest, which is that the disk gave
-//! back what was written to it. The definitions go by digests. That no two different bodies of the
-//! list have one digest is a premise of `held_as_arrived` alone, which says that what is held is
-//! what all the arrivals hold, and not only the first of each that are alike.
+//! back what was written to it. The definitions go by digests: what is said of the bodies that are
+//! held and parked, and so of chains, tables and works, is said where no two different bodies that
+//! came have the same digest (`WhereApart`). Replies, listed rows and the moment stand without that.
 //!
 //! # Cost
 //!
 //! An arrival alike an earlier one costs a digest and a look-up. Of another one the body is read
 //! once, and the bodies of those steps alone are read again that stand past the common front of
-//! both chains. The store is asked which rows are held at a desk's first arrival that is like none
-//! before it, and at the next one after an `Err`: its receipts tell, and no body is read.
+//! both chains. The store is asked which rows are held at a desk's first event that changes it, and
+//! at the next one after an `Err`: its receipts tell, and of each row that was adopted from the
+//! parked bodies one body is read.
 //!
 //! [`Desk::end`] reads the body of the chain's last step, and takes apart its envelope alone: no
 //! row.
