@@ -31,9 +31,7 @@
 //! their deposits and letting go the other bodies that are parked for them is all that there is to
 //! do before the chain moves.
 //!
-//! Nothing here runs. The desk (`esc_desk`) answers by its own first form of these definitions, in
-//! which a body that no row lists is not kept; it is to stand on this crate once it takes
-//! amendments.
+//! Nothing here runs. The desk (`esc_desk`) answers by these definitions.
 #![tactic(auto)]
 
 mod finding;
