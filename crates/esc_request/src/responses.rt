@@ -78,11 +78,8 @@ fn report_media(report: Report) -> &'static str
 {
     match report {
         Report::Status => "text/plain",
-        Report::Gaps
-        | Report::Links
-        | Report::Receipts
-        | Report::Parked
-        | Report::Export(_) => "text/csv",
+        Report::Gaps | Report::Links | Report::Receipts | Report::Parked | Report::Export(_) =>
+            "text/csv",
     }
 }
 

@@ -50,11 +50,7 @@ fn size_text(alloc: Global, size: u64) -> Result<String, NoMemory>
     Ok(format!(in alloc; "{size}")?)
 }
 
-fn write_fields<'x>(
-    lines: &mut Lines,
-    digest: &'x [u8],
-    size: &'x [u8],
-) -> Result<(), NoMemory>
+fn write_fields<'x>(lines: &mut Lines, digest: &'x [u8], size: &'x [u8]) -> Result<(), NoMemory>
     ensures { OnOk result (lines.new ≡ lines.old ++ line_text (digest.now ∷ size.now ∷ [])) }
 {
     lines.write(&[digest, size])

@@ -1,5 +1,6 @@
 //! The program's words, texts, streams and statuses.
 
+mod amending;
 mod bodies;
 mod exporting;
 mod refusing;

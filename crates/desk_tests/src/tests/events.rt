@@ -9,9 +9,7 @@ use std::fmt::Write;
 use std::process::Abort;
 use std::test::Fail;
 use worked_rows::bodies::{Body, manifest_text};
-use worked_rows::desks::{
-    amend, arrive, close, count_parked, desk_over, open, set_moment, writes,
-};
+use worked_rows::desks::{amend, arrive, close, count_parked, desk_over, open, set_moment, writes};
 use worked_rows::seen::tell_desk;
 use worked_rows::shown::{tell_reply, tell_work};
 

@@ -40,7 +40,7 @@ struct Exchange {
 }
 
 /// Requests to a desk one after the other. Two that read the same page stand apart.
-static ROUTES: [Exchange; 14] = [
+static ROUTES: [Exchange; 15] = [
     Exchange {
         request: PUT_SAMPLE,
         response: HELD,
@@ -106,6 +106,11 @@ static ROUTES: [Exchange; 14] = [
     Exchange {
         request: b"GET /links HTTP/1.1\r\n\r\n",
         response: b"HTTP/1.1 200 OK\r\nContent-Type: text/csv\r\nContent-Length: 64\r\nConnection: close\r\n\r\ncode,kind,key,field,value,other\nV1,contact,C1,clID,R1,registrar\n",
+        receipts: (2, 2),
+    },
+    Exchange {
+        request: b"GET /parked HTTP/1.1\r\n\r\n",
+        response: b"HTTP/1.1 200 OK\r\nContent-Type: text/csv\r\nContent-Length: 80\r\nConnection: close\r\n\r\nsha256,bytes\nba7816bf8f01cfea414140de5dae2223b00361a396177a9cb410ff61f20015ad,3\n",
         receipts: (2, 2),
     },
     Exchange {

@@ -74,7 +74,7 @@ const HELP: [(&str, &str); 12] = [
     ),
     (
         "help report",
-        "[possible values: status, gaps, links, receipts]",
+        "[possible values: status, gaps, links, receipts, parked]",
     ),
     (
         "export -h",
