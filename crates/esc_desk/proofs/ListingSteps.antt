@@ -26,11 +26,12 @@ pub record IsAdopting (n : List MRow) (k : Kept) (rows : List ℕ) (made : Kept)
   pub apart : AreApartRows made left
   pub same : with_all_adopted n made left ≡ with_all_adopted n k rows
 
-pub adopting_one : (n : List MRow) (k : Kept) (rows : List ℕ) (made : Kept) (r : ℕ) (left body : List ℕ) → IsAdopting n k rows made (r ∷ left) → made.parked (row_at n r).digest ≡ Some body
-    → IsAdopting n k rows (with_parked (with_body made r body) (row_at n r).digest None) left
-adopting_one n k rows made r left body at parked = record {
-  apart = apart_still made r (row_at n r).digest body left at.apart.1 at.apart.2;
-  same = ap (λ (o : Option (List ℕ)). with_all_adopted n (with_adopted made r (row_at n r).digest o) left) (sym parked) ∙ at.same;
+-- one more is adopted, of the body that is parked under its digest
+pub adopting_one : (n : List MRow) (k : Kept) (rows : List ℕ) (made : Kept) (r : ℕ) (left body d : List ℕ) → d ≡ (row_at n r).digest → IsAdopting n k rows made (r ∷ left) → made.parked d ≡ Some body
+    → IsAdopting n k rows (with_parked (with_body made r body) d None) left
+adopting_one n k rows made r left body d is at parked = record {
+  apart = apart_still made r d body left at.apart.1 at.apart.2;
+  same = ap (λ (o : Option (List ℕ)). with_all_adopted n (with_adopted made r d o) left) (sym parked) ∙ ap (λ (x : List ℕ). with_all_adopted n (with_adopted made r x (made.parked x)) left) is ∙ at.same;
 }
 
 -- ---- rows that are listed before or after
