@@ -1,2 +1,4 @@
+pub mod ChangeSteps
 pub mod CrashSteps
+pub mod ListingSteps
 pub mod StoreFacts

@@ -184,8 +184,7 @@ fn fill_deposit<S: Alter>(
     requires few_new { length plan.now.new.items ≤ 4096 }
     requires deposits { HasDepositsPast plan.now }
     ensures goes_on { GoesOn S.Store change.old change.new }
-    ensures filled { OnOk result (IsHonest S.Store change.new.store.now
-        → (k : Kept) (c : List DepositValue)
+    ensures filled { OnOk result ((k : Kept) (c : List DepositValue)
         → k.bodies row ≡ None → IsMovedFrom k c plan.now
         → Rest S.Store change.old k k → HoldsNow S.Store change.old k.registry
         → IsFilled S.Store change.new k
