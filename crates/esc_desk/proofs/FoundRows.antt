@@ -161,7 +161,7 @@ module _ (digest : List ℕ → List ℕ) (reads : List ℕ → Result DepositVa
     by_arrival : (r : ℕ) (body : List ℕ) → CameFor digest reads e r body → Any (SaysHeld r) k.receipts ⊎ IsOfDigests k (unlisted_in k.receipts) r
     by_arrival r body came = by_row (row_of c.rows (digest c.body)) refl
       where
-        abbrev c : Coming
+        c : Coming
         c = came.arrival
 
         front : (more : List MRow) × (union e ≡ c.rows ++ more)

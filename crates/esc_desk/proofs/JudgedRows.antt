@@ -1,5 +1,5 @@
 -- What is judged of parked bodies, row by row.
-use Rattle.std.proofs.Common.{◌≡◌, ℕ, suc, ◌+◌, ◌-◌, ◌<◌, Bool, true, false, cond, not, ◌&&◌, filter, List, [], ◌∷◌, ◌++◌, length, Option, Some, None, is_some, Ok, Err, refl, sym, ap, ◌∙◌, append_assoc, append-nil, arith}
+use Rattle.std.proofs.Common.{◌≡◌, ℕ, suc, ◌+◌, ◌-◌, ◌<◌, Bool, true, false, cond, not, ◌&&◌, filter, List, [], ◌∷◌, ◌++◌, length, Option, Some, None, is_some, Ok, refl, sym, ap, ◌∙◌, append_assoc, append-nil, arith}
 use Rattle.esc_tables.specs.DepositValue.{DepositValue}
 use Rattle.esc_tables.specs.Reading.{reading}
 use Rattle.esc_manifest.specs.declared.row.MRow.{MRow}
@@ -20,10 +20,6 @@ module _ (rows : List MRow) (parked : List ℕ → Option (List ℕ)) where
   -- a body is parked for a row, and this is found of it
   judged_by : (row : ℕ) (text : List ℕ) (f : Finding) → parked_for rows parked row ≡ Some text → found rows row (reading text) ≡ f → judged rows row (parked_for rows parked row) ≡ cond (holds_row row f) (Some text) None
   judged_by row text f there is = ap (judged rows row) there ∙ ap (λ (g : Finding). cond (holds_row row g) (Some text) None) is
-
-  -- a body that no deposit reads from
-  pub unreadable : (row n : ℕ) (text : List ℕ) → parked_for rows parked row ≡ Some text → reading text ≡ Err n → IsJudgement rows parked row Dropped
-  unreadable row n text there reads = (ap is_some there, ap is_some (judged_by row text _ there (ap (found rows row) reads)))
 
   -- a body that this deposit reads from
   pub readable : (row : ℕ) (text : List ℕ) (d : DepositValue) → parked_for rows parked row ≡ Some text → reading text ≡ Ok d → IsJudgement rows parked row (judgement_of (compared rows row d))
