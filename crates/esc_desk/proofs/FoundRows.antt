@@ -1,5 +1,5 @@
 -- The rows that receipts and look-ups tell are those of which a body is held.
-use Rattle.std.proofs.Common.{◌≡◌, ◌⊎◌, inl, inr, ℕ, zero, suc, ◌+◌, ◌<◌, Bool, true, false, cond, not, List, [], ◌∷◌, ◌++◌, length, filter, map, Option, Some, None, IsSome, is_some, Result, Ok, Err, refl, sym, ap, subst, ◌∙◌, append_assoc, append-nil, arith, true≢false}
+use Rattle.std.proofs.Common.{◌≡◌, ◌⊎◌, inl, inr, ℕ, suc, ◌+◌, ◌<◌, Bool, true, false, cond, not, List, [], ◌∷◌, ◌++◌, length, filter, map, Option, Some, None, IsSome, Result, Ok, Err, refl, sym, ap, subst, ◌∙◌, append_assoc, append-nil, arith, true≢false}
 use Rattle.std.specs.List.{Contains, Any, position_or_len}
 use Rattle.std.specs.Str.{bytes_eq}
 use Rattle.std.proofs.lemmas.Grind.{common_steps}
@@ -8,7 +8,7 @@ use Rattle.std.proofs.lemmas.List.Elements.{Contains-append_left, Contains-appen
 use Rattle.esc_tables.specs.DepositValue.{DepositValue}
 use Rattle.esc_manifest.specs.declared.row.MRow.{MRow}
 use Rattle.esc_manifest.specs.Extension.{new_rows, extended}
-use Rattle.esc_manifest.specs.Rows.{row_at, no_row}
+use Rattle.esc_manifest.specs.Rows.{no_row}
 use Rattle.esc_store.specs.Kept.{Kept, IsRising, AreHeld, AreHeldBy, SaysHeld, is_unlisted, unlisted_in}
 use Rattle.esc_store.specs.ReplyValue.{ReceiptValue}
 use Rattle.esc_events.specs.declared.finding.Finding.{Finding}

@@ -1,5 +1,5 @@
 -- Rows and steps of a plan.
-use Rattle.std.proofs.Common.{◌≡◌, ℕ, ◌+◌, ◌<◌, List, [], ◌∷◌, ◌++◌, length, map, take, drop, get_or, refl, sym, ap, ◌∙◌, append_assoc}
+use Rattle.std.proofs.Common.{◌≡◌, ℕ, ◌+◌, ◌<◌, List, [], ◌∷◌, ◌++◌, length, map, take, drop, get_or, refl, sym, ap, ◌∙◌, append_assoc, length-append}
 use Rattle.std.specs.FinSet as set
 use Rattle.std.specs.FinSet.{nat_cmp-IsAntisymmetric}
 use Rattle.std.specs.Cmp.{nat_cmp_total}
@@ -21,6 +21,10 @@ one_more_row rows i within =
 pub rows_of_steps : (m : List MRow) (rows : List ℕ) → rows_in (map (step_at m) rows) ≡ rows
 rows_of_steps m [] = refl
 rows_of_steps m (r ∷ rows) = ap (λ (l : List ℕ). r ∷ l) (rows_of_steps m rows)
+
+-- one deposit behind others
+pub one_longer : (found more : List DepositValue) (d : DepositValue) (n : ℕ) → more ≡ found ++ d ∷ [] → length found ≡ n → length more ≡ n + 1
+one_longer found more d n added count = ap length added ∙ length-append found (d ∷ []) ∙ ap (λ (k : ℕ). k + 1) count
 
 -- one more deposit, of the first step that is left
 pub one_more_deposit : (f : ℕ → DepositValue) (steps : List Step) (i : ℕ) (x : Step) (found more whole : List DepositValue) (d : DepositValue) → i < length steps → d ≡ f (get_or steps i x).row → more ≡ found ++ d ∷ []

@@ -1,4 +1,4 @@
-use Rattle.std.proofs.Common.{◌≡◌, ◌++◌, ◌≤◌, List, ℕ, length}
+use Rattle.std.proofs.Common.{◌≡◌, ◌++◌}
 use Rattle.esc_store.specs.Kept.{Kept}
 use Rattle.esc_store.specs.Standing.{Stands, IsHonest, IsAsBefore}
 use Rattle.esc_events.specs.Amended.{adopted_rows, dropped_rows}

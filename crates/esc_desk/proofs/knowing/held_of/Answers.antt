@@ -1,4 +1,4 @@
-use Rattle.std.proofs.Common.{◌++◌, ◌∷◌, [], List, ℕ, take, get_or, sym, subst}
+use Rattle.std.proofs.Common.{List, ℕ, take, sym, subst}
 use Rattle.std.proofs.lemmas.List.{take_more}
 use Rattle.esc_desk.specs.Knowing.{AreFound}
 use Rattle.esc_desk.proofs.StoreFacts.{was_honest, as_before_then}

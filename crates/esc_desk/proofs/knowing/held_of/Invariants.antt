@@ -1,4 +1,4 @@
-use Rattle.std.proofs.Common.{List, ℕ, take}
+use Rattle.std.proofs.Common.{take}
 use Rattle.esc_store.specs.Kept.{Kept, IsRising}
 use Rattle.esc_store.specs.Standing.{Stands, IsHonest, IsAsBefore}
 use Rattle.esc_desk.specs.Knowing.{AreFound}

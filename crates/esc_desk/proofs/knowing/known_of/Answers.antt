@@ -1,7 +1,7 @@
-use Rattle.std.proofs.Common.{◌≡◌, List, ℕ, ap, ap₂, sym, subst, ◌∙◌}
+use Rattle.std.proofs.Common.{List, ℕ, sym, subst}
 use Rattle.sha2.specs.Sha256.{sha256}
 use Rattle.esc_tables.specs.Reading.{reading}
-use Rattle.esc_store.specs.Kept.{AreHeldBy, IsRising, unlisted_in}
+use Rattle.esc_store.specs.Kept.{AreHeldBy, IsRising}
 use Rattle.esc_desk.specs.Knowing.{AreFound}
 use Rattle.esc_desk.proofs.FoundRows.{held_of_found}
 use Rattle.esc_desk.proofs.StoreFacts.{was_honest}

@@ -1,4 +1,4 @@
-use Rattle.std.proofs.Common.{◌≡◌, ◌<◌, length, None, rules, arith}
+use Rattle.std.proofs.Common.{◌≡◌, None, rules, arith}
 use Rattle.esc_desk.proofs.ParkedDigests.{not_full}
 use Rattle.esc_desk.proofs.parking.parking_of.Goals as goal
 

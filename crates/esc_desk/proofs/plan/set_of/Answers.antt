@@ -1,6 +1,5 @@
-use Rattle.std.proofs.Common.{◌<◌, length, List, get_or, sym, ap, subst, ◌∙◌, arith}
+use Rattle.std.proofs.Common.{get_or, ap, ◌∙◌}
 use Rattle.std.specs.FinSet as set
-use Rattle.esc_manifest.specs.declared.row.MRow.{MRow}
 use Rattle.esc_chain.specs.Chain.{Rows}
 use Rattle.esc_desk.proofs.PlanLemmas.{one_more_row}
 use Rattle.esc_desk.proofs.plan.set_of.Goals as goal
