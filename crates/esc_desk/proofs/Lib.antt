@@ -1,4 +1,9 @@
 pub mod ChangeSteps
 pub mod CrashSteps
+pub mod FoundRows
+pub mod JudgedRows
 pub mod ListingSteps
+pub mod ParkedDigests
+pub mod PlanLemmas
+pub mod Remembering
 pub mod StoreFacts

@@ -1,5 +1,20 @@
 -- Where the deposits of a plan are read from, and what is judged of parked bodies.
-use Rattle.std.specs.Prelude.{◌≡◌, ◌==◌, ℕ, true, false, List, [], ◌∷◌, Option, Some, None, Ok, IfSome, is_some}
+use Rattle.std.specs.Prelude.{
+  ◌≡◌,
+  ◌==◌,
+  ℕ,
+  true,
+  false,
+  List,
+  [],
+  ◌∷◌,
+  Option,
+  Some,
+  None,
+  Ok,
+  IfSome,
+  is_some,
+}
 use Rattle.esc_tables.specs.DepositValue.{DepositValue}
 use Rattle.esc_tables.specs.Reading.{reading}
 use Rattle.esc_manifest.specs.declared.row.MRow.{MRow}
@@ -11,7 +26,14 @@ use Rattle.esc_events.specs.declared.finding.Finding.TheVariants.{
   Differing,
   Holding,
 }
-use Rattle.esc_events.specs.Amended.{judged, parked_for, is_adopted, amended_bodies, adopted_rows, dropped_rows}
+use Rattle.esc_events.specs.Amended.{
+  judged,
+  parked_for,
+  is_adopted,
+  amended_bodies,
+  adopted_rows,
+  dropped_rows,
+}
 use Rattle.esc_desk.specs.declared.judging.Judgement.{Judgement}
 use Rattle.esc_desk.specs.declared.judging.Judgement.TheVariants.{Absent, Dropped, Adopted}
 use Rattle.esc_desk.specs.declared.judging.Judged.{Judged}
@@ -20,7 +42,8 @@ use Rattle.esc_desk.specs.declared.plan.Source.TheVariants.{Kept as FromKept, Ar
 
 -- a deposit at hand, if it still is, reads from this body
 abbrev pub IsGiven : Option DepositValue → Option (List ℕ) → Type 0
-IsGiven given body = IfSome given (λ d. (text : List ℕ) × (body ≡ Some text) × (reading text ≡ Ok d))
+IsGiven given body = IfSome given
+    (λ d. (text : List ℕ) × (body ≡ Some text) × (reading text ≡ Ok d))
 
 -- a source gives the deposits of these bodies, where a store keeps k: of the bodies that it holds;
 -- of one row a deposit that is at hand; or of new rows the parked bodies that are their deposits

@@ -1,6 +1,6 @@
 //! What becomes of the bodies that are parked for rows that are new.
 
-ghost use Rattle.std.specs.Prelude.{◌≡◌, ◌<◌, ◌≤◌, ◌++◌, List, length, IfOk, IfErr, OnOk};
+ghost use Rattle.std.specs.Prelude.{◌≡◌, ◌<◌, ◌≤◌, ◌++◌, length, IfOk, IfErr, OnOk};
 ghost use Rattle.esc_store.specs.Faults.{IsS1OrS2};
 ghost use Rattle.esc_store.specs.Kept.{Kept};
 ghost use Rattle.esc_store.specs.Standing.{Stands, IsHonest, IsAsBefore};

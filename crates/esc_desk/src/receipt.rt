@@ -2,7 +2,6 @@
 
 ghost use Rattle.std.specs.Prelude.{◌≡◌, ◌<◌, length, IfOk, IfSome};
 ghost use Rattle.esc_store.specs.ReplyValue.{reply_kept};
-ghost use Rattle.esc_events.specs.Finding.{held_row};
 ghost use Rattle.esc_events.specs.Receipts.{receipt_by, is_among};
 
 use esc_bundle::NoMemory;

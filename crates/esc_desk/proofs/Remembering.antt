@@ -1,0 +1,71 @@
+-- Rows that rise, and one row more in its place.
+use Rattle.std.proofs.Common.{◌≡◌, ◌⊎◌, inl, inr, ℕ, zero, suc, ◌<◌, ◌≤◌, List, [], ◌∷◌, length, get_or, Ok, Err, refl, sym, subst, arith}
+use Rattle.std.specs.Prelude.{slice_index_or}
+use Rattle.std.specs.List.{Contains, insert}
+use Rattle.std.specs.List.Sorted.{IsBinarySearchResult}
+use Rattle.std.specs.Ordering.{nat_cmp}
+use Rattle.std.proofs.lemmas.List.Sorted.{searched, IsPermutation-insert, IsPermutation-sym, All-permutation, Contains-permutation}
+use Rattle.std.proofs.lemmas.List.Elements.{All-cons, All-from_get_or, Contains-get_or}
+use Rattle.esc_store.specs.Kept.{IsRising}
+use Rattle.esc_desk.specs.Knowing.{IsInserted}
+
+-- ---- rising rows, by place
+
+rises : (xs : List ℕ) → IsRising xs → (i j : ℕ) → i ≤ j → j < length xs → get_or xs i 0 ≤ get_or xs j 0
+rises [] up i j le within = omega (arith, within)
+rises (x ∷ xs) up zero zero le within = omega arith
+rises (x ∷ xs) up zero (suc j) le within = omega (arith, up.0 j 0 (omega (arith, within)))
+rises (x ∷ xs) up (suc i) zero le within = omega (arith, le)
+rises (x ∷ xs) up (suc i) (suc j) le within = rises xs up.1 i j (omega (arith, le)) (omega (arith, within))
+
+-- a row between those below it and those above it
+rising_insert : (xs : List ℕ) (i y : ℕ) → IsRising xs → i ≤ length xs → ((k : ℕ) → k < i → get_or xs k 0 < y) → ((k : ℕ) → i ≤ k → k < length xs → y < get_or xs k 0) → IsRising (insert xs i y)
+rising_insert xs zero y up le below above = (All-from_get_or (λ n. y < n) xs 0 (λ k within. above k (omega arith) within), up)
+rising_insert [] (suc i) y up le below above = absurd (omega (arith, le))
+rising_insert (x ∷ xs) (suc i) y up le below above = (
+  All-permutation (λ n. x < n) (y ∷ xs) (insert xs i y) (IsPermutation-insert xs i y) (All-cons (λ n. x < n) y xs (below 0 (omega arith)) up.0),
+  rising_insert xs i y up.1 (omega (arith, le)) (λ k under. below (suc k) (omega (arith, under))) (λ k past within. above (suc k) (omega (arith, past)) (omega (arith, within))),
+)
+
+-- ---- one element more
+
+pub first_or_later : {X : Type 0} (y x : X) (xs : List X) → Contains (y ∷ xs) x → (y ≡ x) ⊎ Contains xs x
+first_or_later {X = X} y x xs there = by_place there.0 there.1 there.2
+  where
+    by_place : (k : ℕ) → k < length (y ∷ xs) → slice_index_or (y ∷ xs) k x ≡ x → (y ≡ x) ⊎ Contains xs x
+    by_place zero within is = inl is
+    by_place (suc k) within is = inr (k, omega (arith, within), is)
+
+pub later : {X : Type 0} (y x : X) (xs : List X) → Contains xs x → Contains (y ∷ xs) x
+later y x xs there = (suc there.0, omega (arith, there.1), there.2)
+
+module _ (rows : List ℕ) (row : ℕ) (up : IsRising rows) where
+  -- a row that is one of them already
+  pub there_already : (seen : List ℕ) (place : ℕ) → seen ≡ rows → IsBinarySearchResult (λ y. nat_cmp y row) seen (Ok place) → IsInserted rows row rows
+  there_already seen place same found = record { rising = up; each = λ r. (λ there. inr there, back r) }
+    where
+      here : Contains rows row
+      here =
+          let at = searched rows row (Ok place) (subst (λ (xs : List ℕ). IsBinarySearchResult (λ y. nat_cmp y row) xs (Ok place)) same found) (rises rows up) in
+          subst (Contains rows) at.1 (Contains-get_or rows place 0 at.0)
+
+      back : (r : ℕ) → (r ≡ row) ⊎ Contains rows r → Contains rows r
+      back r (inl is) = subst (Contains rows) (sym is) here
+      back r (inr there) = there
+
+  -- a row that is put in its place
+  pub put_in : (seen more : List ℕ) (place : ℕ) → seen ≡ rows → IsBinarySearchResult (λ y. nat_cmp y row) seen (Err place) → more ≡ insert rows place row → IsInserted rows row more
+  put_in seen more place same found made =
+      let at = searched rows row (Err place) (subst (λ (xs : List ℕ). IsBinarySearchResult (λ y. nat_cmp y row) xs (Err place)) same found) (rises rows up) in
+      subst (IsInserted rows row) (sym made) (record { rising = rising_insert rows place row up at.0 at.1 at.2; each = λ r. (only r, old r) })
+    where
+      only : (r : ℕ) → Contains (insert rows place row) r → (r ≡ row) ⊎ Contains rows r
+      only r there = by_first (first_or_later row r rows (Contains-permutation (insert rows place row) (row ∷ rows) r (IsPermutation-sym (row ∷ rows) (insert rows place row) (IsPermutation-insert rows place row)) there))
+        where
+          by_first : (row ≡ r) ⊎ Contains rows r → (r ≡ row) ⊎ Contains rows r
+          by_first (inl is) = inl (sym is)
+          by_first (inr behind) = inr behind
+
+      old : (r : ℕ) → (r ≡ row) ⊎ Contains rows r → Contains (insert rows place row) r
+      old r (inl is) = subst (Contains (insert rows place row)) (sym is) (Contains-permutation (row ∷ rows) (insert rows place row) row (IsPermutation-insert rows place row) (0, omega arith, refl))
+      old r (inr there) = Contains-permutation (row ∷ rows) (insert rows place row) r (IsPermutation-insert rows place row) (later row r rows there)

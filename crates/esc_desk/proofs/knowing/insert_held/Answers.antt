@@ -1,0 +1,26 @@
+use Rattle.std.proofs.Common.{◌≡◌, List, Some, None, IsSome, is_some, sym, ap, ◌∙◌, rules, true≢false}
+use Rattle.esc_manifest.specs.declared.row.MRow.{MRow}
+use Rattle.esc_events.specs.Finding.{row_of}
+use Rattle.esc_events.proofs.Searches.{same_answer, no_answer}
+use Rattle.esc_desk.proofs.FoundRows.{found_no_more, found_one_more}
+use Rattle.esc_desk.proofs.knowing.insert_held.Goals as goal
+
+-- no row lists the digest
+pub returns-in_default-clause-found : goal.returns-in_default-clause-found
+returns-in_default-clause-found g c = λ clean k stood told digests found.
+    let none : row_of k.listed c.args.digest.now ≡ None = search rules in
+    found_no_more k told digests c.args.digest.now c.args.rows.now.items found (λ r lists some. absurd (no_answer (sym none ∙ lists)))
+
+-- no body is held of the row
+pub returns-else-is_some-clause-found : goal.returns-else-is_some-clause-found
+returns-else-is_some-clause-found g c = λ clean k stood told digests found.
+    let lists : row_of k.listed c.args.digest.now ≡ Some c.in-Some.row = ap (λ (m : List MRow). row_of m c.args.digest.now) (sym (c.manifest.ensures.kept k stood)) ∙ sym c.in-Some.ensures in
+    let none : k.bodies c.in-Some.row ≡ None = search rules in
+    found_no_more k told digests c.args.digest.now c.args.rows.now.items found (λ r again some. let same : c.in-Some.row ≡ r = same_answer (sym lists ∙ again) in true≢false (sym some ∙ ap (λ q. is_some (k.bodies q)) (sym same) ∙ ap is_some none))
+
+-- a body is held of the row
+pub returns-in_ok-insert_row-clause-found : goal.returns-in_ok-insert_row-clause-found
+returns-in_ok-insert_row-clause-found g c = λ clean k stood told digests found.
+    let lists : row_of k.listed c.args.digest.now ≡ Some c.in-Some.row = ap (λ (m : List MRow). row_of m c.args.digest.now) (sym (c.manifest.ensures.kept k stood)) ∙ sym c.in-Some.ensures in
+    let some : IsSome (k.bodies c.in-Some.row) = search rules in
+    found_one_more k told digests c.args.digest.now c.args.rows.now.items found c.in-Some.row c.insert_row.new.rows.items lists some (c.in_ok-insert_row.ensures found.rising)
