@@ -1,2 +1,10 @@
+pub mod AtFirst
 pub mod CrashSteps
+pub mod EntryLists
+pub mod OutcomeLemmas
+pub mod ReadLemmas
+pub mod RunLemmas
+pub mod SameHeld
 pub mod StoreFacts
+pub mod WalkSteps
+pub mod Walks

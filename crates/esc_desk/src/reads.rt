@@ -53,7 +53,7 @@ impl<S: Alter> Desk<S> {
     }
 
     /// All replies, in the order of their receipts. `S1`, `S2`.
-    #[tactic(auto, using(crate::proofs::StoreFacts::still_stays))]
+    #[tactic(auto, using(crate::proofs::StoreFacts::still_serves))]
     pub fn receipts(&mut self, alloc: Global) -> Result<Vec<Reply>, SFault>
         ensures stays { Stays S.Store self.old self.new }
         ensures all { OkOver S.Store self.old self.new result
