@@ -4,6 +4,7 @@ use Rattle.std.specs.List.{Contains}
 use Rattle.std.proofs.lemmas.Option.{slice_get-map}
 use Rattle.std.proofs.lemmas.List.{length-map}
 use Rattle.sha2.specs.Sha256.{sha256}
+use Rattle.sqlite_trees.specs.declared.store.Store.{Ghosts}
 use Rattle.esc_tables.specs.KeyName.{KeyName}
 use Rattle.esc_tables.specs.ObjectValue.{ObjectValue}
 use Rattle.esc_tables.specs.DepositValue.{DepositValue}
@@ -13,6 +14,8 @@ use Rattle.esc_apply.specs.declared.front.Step.{Step}
 use Rattle.esc_apply.specs.Registry.{State, Content, IsEntriesOf}
 use Rattle.esc_apply.specs.Tables.{tables}
 use Rattle.esc_store.specs.Kept.{Kept, kept_replies, kept_chain, step_at, AreHeld, AreParked}
+use Rattle.esc_store.specs.declared.store.Store.{Store}
+use Rattle.esc_store.specs.Standing.{IsAsBefore}
 use Rattle.esc_store.specs.ReplyValue.{ReceiptValue, replies_from}
 use Rattle.esc_events.specs.Events.{EventValue, union}
 use Rattle.esc_events.specs.Finding.{found_at, row_of, held_row}
@@ -21,8 +24,15 @@ use Rattle.esc_events.specs.Reads.{tables_of, AreEntries, AreTables}
 use Rattle.esc_events.specs.Stands.{or_no_deposit, deposit_of, held_body, parked_body, IsApart, StandsFor}
 use Rattle.esc_events.proofs.Moving.{chain_of}
 use Rattle.esc_events.proofs.MovingLemmas.{same_deposits}
+use Rattle.esc_desk.specs.declared.desk.Desk.{Desk}
 use Rattle.esc_desk.specs.declared.status.End.{End}
+use Rattle.esc_desk.specs.Calls.{Stays}
+use Rattle.esc_desk.proofs.StoreFacts.{still_stays}
 use Rattle.esc_desk.specs.Reads.{last, replies_of, AreHeldRows, AreParkedDigests, SaysEnd, IsEndAt, IsEnd}
+
+-- a desk whose store was read, and that remembers what it did
+pub read_stays : {S : Type 0} (g : Ghosts S) (old : Desk S) (store : Store S) → IsAsBefore g old.store store → Stays g old (record { store = store; known = old.known })
+read_stays g old store same = still_stays g old (record { store = store; known = old.known }) same refl
 
 -- the last element of an image
 last_mapped : {X Y : Type 0} (f : X → Y) (xs : List X) → last (map f xs) ≡ option_map f (last xs)

@@ -20,6 +20,7 @@ use Rattle.esc_store.specs.Kept.{Kept}
 use Rattle.esc_store.specs.Standing.{Stands, IsAsBefore}
 use Rattle.esc_store.specs.Pages.{IsPage, last_text}
 use Rattle.esc_desk.specs.declared.walk.Pages.{Pages}
+use Rattle.esc_desk.specs.declared.walk.Walk.{Walk}
 use Rattle.esc_events.specs.Events.{EventValue, union, comings, moment_of}
 use Rattle.esc_events.specs.Reads.{AreEntries, tables_of}
 use Rattle.esc_events.specs.Stands.{IsApart, holds_by, held_rows}
@@ -29,8 +30,9 @@ use Rattle.esc_events.proofs.Moving.{chain_of}
 use Rattle.esc_events.proofs.MovingLemmas.{held_within}
 use Rattle.esc_desk.specs.Serving.{Serves}
 use Rattle.esc_desk.specs.Places.{first_kind, IsPlaceBehind}
-use Rattle.esc_desk.specs.Walking.{of_kinds, AreBehind, AreToCome}
+use Rattle.esc_desk.specs.Walking.{of_kinds, AreBehind, AreToCome, Follows}
 use Rattle.esc_desk.proofs.ReadLemmas.{same_content}
+use Rattle.esc_desk.proofs.StoreFacts.{still_serves}
 use Rattle.esc_desk.proofs.EntryLists.{no_first}
 use Rattle.esc_desk.proofs.Walks.{page_turned, from_the_first}
 
@@ -55,6 +57,10 @@ no_entries [] none = refl
 no_entries (e ∷ es) none = absurd (no_first e es None refl (none e.0))
 
 module _ {S : Type 0} (g : Ghosts S) where
+  -- a walk over the same desk, of which the store was read
+  pub follows : (old new : Walk S Pages) → new.desk.ghost_name ≡ old.desk.ghost_name → IsAsBefore g old.desk.now.store new.desk.now.store → new.desk.now.known ≡ old.desk.now.known → Follows g old new
+  follows old new reference same known = record { same_reference = reference; same = same; known = known; serves = still_serves g old.desk.now new.desk.now same known }
+
   -- pages that stand at the same place
   pub again : (store : Store S) (pages later : Pages) (es : List Entry) → AreToCome g store pages es → into_iter_items later.page ≡ into_iter_items pages.page → later.kind ≡ pages.kind → later.from.items ≡ pages.from.items → later.alone ≡ pages.alone → AreToCome g store later es
   again store pages later es come items kind from alone = record {

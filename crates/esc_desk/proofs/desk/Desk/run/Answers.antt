@@ -1,13 +1,30 @@
-use Rattle.std.proofs.Common.{◌≡◌, ◌+◌, ◌++◌, [], ◌∷◌, take, ap, sym, ◌∙◌, arith}
-use Rattle.std.proofs.lemmas.List.{take_more}
+use Rattle.std.proofs.Common.{rules, ◌≡◌, ◌+◌, ◌++◌, [], ◌∷◌, List, take, refl, ap, sym, subst, ◌∙◌, append-nil, arith}
+use Rattle.std.proofs.lemmas.List.{take_all, take_more}
 use Rattle.std.proofs.lemmas.Grind.{common_steps}
-use Rattle.esc_events.specs.ArrivalValue.{ArrivalValue}
-use Rattle.esc_desk.proofs.RunLemmas.{ran_more, if_clean, left_more}
 use Rattle.std.proofs.lemmas.List.Elements.{All-push}
-use Rattle.esc_desk.specs.Outcomes.{IsOutcome}
-use Rattle.esc_desk.specs.Running.{answered}
-use Rattle.esc_desk.proofs.OutcomeLemmas.{outcomes_more, worked_more}
+use Rattle.esc_events.specs.ArrivalValue.{ArrivalValue}
+use Rattle.esc_events.specs.Events.{EventValue}
+use Rattle.esc_desk.specs.Calls.{writes_of}
+use Rattle.esc_desk.specs.Crashes.{CrashLeaves}
+use Rattle.esc_desk.specs.Outcomes.{IsOutcome, AreOutcomesOf, HasWorked}
+use Rattle.esc_desk.specs.Running.{Ran, answered}
+use Rattle.esc_desk.proofs.RunLemmas.{ran_none, ran_more, if_clean, left_more}
+use Rattle.esc_desk.proofs.OutcomeLemmas.{outcomes_more, worked_none, worked_more}
 use Rattle.esc_desk.proofs.desk.Desk.run.Goals as goal
+
+pub loop-arrival-init : goal.loop-arrival-init
+loop-arrival-init g c =
+    let none = c.in_ok-outcomes.ensures.items in
+    record {
+      counted = rw none refl;
+      room = omega (arith, c.in_ok-outcomes.ensures.capacity);
+      honest = λ clean. clean;
+      ran = λ clean before served. rw none (ran_none g.S.Store c.args.self.now before served);
+      cause = rw none (search rules);
+      causes = λ clean before served. rw none tt;
+      worked = λ clean before served. rw none (worked_none before (writes_of c.args.self.now) (omega arith));
+      crash = λ before doubtful served start. subst (λ (e : List EventValue). CrashLeaves g.S.Store c.args.self.now.store.conn e doubtful) (sym (append-nil before)) start;
+    }
 
 pub loop-arrival-preserved : goal.loop-arrival-preserved
 loop-arrival-preserved g c =
@@ -36,3 +53,12 @@ loop-arrival-preserved g c =
           let left = c.loop-arrival.invariant.crash before doubtful served start in
           left_more g.S.Store c.take-outcome.new.self.store.conn before doubtful (take i all) c.loop-arrival.outcomes.items a c.take-outcome.result past.replies (c.take-outcome.ensures.crash _ _ past.serves left)));
     }
+
+pub returns-clause-ran : goal.returns-clause-ran
+returns-clause-ran g c = λ clean before served. subst (λ (xs : List ArrivalValue). Ran g.S.Store c.loop-arrival.self before xs c.loop-arrival.outcomes.items) (take_all _ _ (omega arith)) (c.loop-arrival.invariant.ran clean before served)
+
+pub returns-clause-causes : goal.returns-clause-causes
+returns-clause-causes g c = λ clean before served. subst (λ (xs : List ArrivalValue). AreOutcomesOf before xs c.loop-arrival.outcomes.items) (take_all _ _ (omega arith)) (c.loop-arrival.invariant.causes clean before served)
+
+pub returns-clause-worked : goal.returns-clause-worked
+returns-clause-worked g c = λ clean before served. subst (λ (xs : List ArrivalValue). HasWorked before xs c.loop-arrival.outcomes.items (writes_of c.args.self.now) (writes_of c.loop-arrival.self)) (take_all _ _ (omega arith)) (c.loop-arrival.invariant.worked clean before served)
