@@ -65,9 +65,9 @@ left_by_arrivals m l k stood apart = record {
   listed = stood.books.listed ∙ union_then m l;
   receipts = stood.books.receipts ∙ ap (λ (cs : List Coming). receipts_after sha256 reading [] (distinct sha256 reading cs)) (comings_then m l);
   chain =
-    subst (λ (t : Option ℤ). IsLatestChainAt m (set.from_list (rows_of sha256 reading m (came_with m l))) t k.steps) (no_moment m l)
-    (subst (λ (cs : List Coming). IsLatestChainAt m (set.from_list (rows_of sha256 reading m cs)) (moment_of (manifest_then m l)) k.steps) (comings_then m l)
-    (subst (λ (n : List MRow). IsLatestChainAt n (set.from_list (rows_of sha256 reading n (comings (manifest_then m l)))) (moment_of (manifest_then m l)) k.steps) (union_then m l)
-    (chain_of (manifest_then m l) k stood apart)));
+      subst (λ (t : Option ℤ). IsLatestChainAt m (set.from_list (rows_of sha256 reading m (came_with m l))) t k.steps) (no_moment m l)
+      (subst (λ (cs : List Coming). IsLatestChainAt m (set.from_list (rows_of sha256 reading m cs)) (moment_of (manifest_then m l)) k.steps) (comings_then m l)
+      (subst (λ (n : List MRow). IsLatestChainAt n (set.from_list (rows_of sha256 reading n (comings (manifest_then m l)))) (moment_of (manifest_then m l)) k.steps) (union_then m l)
+      (chain_of (manifest_then m l) k stood apart)));
   registry = stood.registry ∙ ap (λ (ds : List DepositValue). chain_state ds) (same_deposits k.bodies (held_body sha256 reading (manifest_then m l)) (stood.books.bodies apart) k.steps);
 }

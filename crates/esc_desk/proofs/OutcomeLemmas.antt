@@ -1,8 +1,7 @@
 -- One more outcome of a run.
-use Rattle.std.proofs.Common.{◌≡◌, ℕ, ◌+◌, ◌^◌, ◌<◌, List, [], ◌∷◌, ◌++◌, sum_by, sym, ap, subst, ◌∙◌, arith, append_assoc, append-nil}
+use Rattle.std.proofs.Common.{◌≡◌, ℕ, ◌+◌, ◌^◌, ◌<◌, List, [], ◌∷◌, ◌++◌, sym, subst, ◌∙◌, arith, append_assoc, append-nil}
 use Rattle.std.proofs.lemmas.List.Sums.{sum_by_push}
 use Rattle.esc_apply.specs.declared.moves.Work.{Work}
-use Rattle.esc_apply.specs.Registry.{saturated}
 use Rattle.esc_desk.specs.declared.running.Outcome.{Outcome}
 use Rattle.esc_desk.specs.declared.running.Outcome.TheVariants.{Done, Lost}
 use Rattle.esc_events.specs.ArrivalValue.{ArrivalValue}

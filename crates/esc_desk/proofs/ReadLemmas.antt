@@ -1,6 +1,5 @@
 -- What a store answers that stands for a list of events, in the words of these.
 use Rattle.std.proofs.Common.{◌≡◌, ℕ, ◌-◌, true, List, length, map, Option, Some, None, option_map, slice_get, IsSome, Result, Ok, Err, refl, sym, ap, ap₂, subst, ◌∙◌, true≢false}
-use Rattle.std.specs.List.{Contains}
 use Rattle.std.proofs.lemmas.Option.{slice_get-map}
 use Rattle.std.proofs.lemmas.List.{length-map}
 use Rattle.sha2.specs.Sha256.{sha256}
@@ -20,7 +19,7 @@ use Rattle.esc_store.specs.ReplyValue.{ReceiptValue, replies_from}
 use Rattle.esc_events.specs.Events.{EventValue, union}
 use Rattle.esc_events.specs.Finding.{found_at, row_of, held_row}
 use Rattle.esc_events.specs.Receipts.{is_row}
-use Rattle.esc_events.specs.Reads.{tables_of, AreEntries, AreTables}
+use Rattle.esc_events.specs.Reads.{tables_of, AreTables}
 use Rattle.esc_events.specs.Stands.{or_no_deposit, deposit_of, held_body, parked_body, IsApart, StandsFor}
 use Rattle.esc_events.proofs.Moving.{chain_of}
 use Rattle.esc_events.proofs.MovingLemmas.{same_deposits}
