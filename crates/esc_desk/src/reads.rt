@@ -1,7 +1,6 @@
 //! What a desk answers of its store.
 
 ghost use Rattle.std.specs.Prelude.{◌≡◌, ℕ, List, Ok, Some, length, option_map, IfOk, IfErr};
-ghost use Rattle.sha2.specs.Sha256.{sha256};
 ghost use Rattle.esc_tables.specs.DepositValue.{DepositValue};
 ghost use Rattle.esc_tables.specs.Reading.{reading};
 ghost use Rattle.esc_apply.specs.declared.front.Step.{Step};
