@@ -1,9 +1,17 @@
+pub mod AtFirst
 pub mod ChangeSteps
 pub mod CrashSteps
+pub mod EntryLists
 pub mod FoundRows
 pub mod JudgedRows
 pub mod ListingSteps
+pub mod OutcomeLemmas
 pub mod ParkedDigests
 pub mod PlanLemmas
+pub mod ReadLemmas
 pub mod Remembering
+pub mod RunLemmas
+pub mod SameHeld
 pub mod StoreFacts
+pub mod WalkSteps
+pub mod Walks

@@ -1,5 +1,5 @@
 -- What follows of lists of events, by the definitions alone.
-use Rattle.std.specs.Prelude.{◌≡◌, ◌↔◌, ℕ, List, [], map, is_some}
+use Rattle.std.specs.Prelude.{◌≡◌, ℕ, List, [], map}
 use Rattle.std.specs.FinSet as set
 use Rattle.sha2.specs.Sha256.{sha256}
 use Rattle.esc_tables.specs.Reading.{reading}
@@ -10,7 +10,15 @@ use Rattle.esc_apply.specs.Images.{chain_state}
 use Rattle.esc_store.specs.Kept.{Kept}
 use Rattle.esc_events.specs.Apart.{WhereApart}
 use Rattle.esc_events.specs.ArrivalValue.{ArrivalValue}
-use Rattle.esc_events.specs.Events.{EventValue, Coming, union, coming, comings, moment_of, manifest_then}
+use Rattle.esc_events.specs.Events.{
+  EventValue,
+  Coming,
+  union,
+  coming,
+  comings,
+  moment_of,
+  manifest_then,
+}
 use Rattle.esc_events.specs.Receipts.{distinct, receipts_after}
 use Rattle.esc_events.specs.Stands.{
   Among,

@@ -1,7 +1,6 @@
 //! What a desk answers of its store.
 
 ghost use Rattle.std.specs.Prelude.{◌≡◌, ℕ, List, Ok, Some, length, option_map, IfOk, IfErr};
-ghost use Rattle.sha2.specs.Sha256.{sha256};
 ghost use Rattle.esc_tables.specs.DepositValue.{DepositValue};
 ghost use Rattle.esc_tables.specs.Reading.{reading};
 ghost use Rattle.esc_apply.specs.declared.front.Step.{Step};
@@ -53,7 +52,7 @@ impl<S: Alter> Desk<S> {
     }
 
     /// All replies, in the order of their receipts. `S1`, `S2`.
-    #[tactic(auto, using(crate::proofs::StoreFacts::still_stays))]
+    #[tactic(auto, using(crate::proofs::ReadLemmas::read_stays))]
     pub fn receipts(&mut self, alloc: Global) -> Result<Vec<Reply>, SFault>
         ensures stays { Stays S.Store self.old self.new }
         ensures all { OkOver S.Store self.old self.new result
@@ -65,7 +64,7 @@ impl<S: Alter> Desk<S> {
 
     /// The rows of the manifest of which a body is held, from 0, rising. A body is read for each row
     /// that was adopted from the parked ones. `S1`, `S2`.
-    #[tactic(auto, using(crate::proofs::StoreFacts::still_stays))]
+    #[tactic(auto, using(crate::proofs::ReadLemmas::read_stays))]
     pub fn held(&mut self, alloc: Global) -> Result<Vec<usize>, SFault>
         ensures stays { Stays S.Store self.old self.new }
         ensures rows { OkOver S.Store self.old self.new result
@@ -77,7 +76,7 @@ impl<S: Alter> Desk<S> {
     }
 
     /// The digests of the bodies that no row lists, in the order of their bytes. `S1`, `S2`.
-    #[tactic(auto, using(crate::proofs::StoreFacts::still_stays))]
+    #[tactic(auto, using(crate::proofs::ReadLemmas::read_stays))]
     pub fn parked(&mut self, alloc: Global) -> Result<Vec<[u8; 32]>, SFault>
         ensures stays { Stays S.Store self.old self.new }
         ensures digests { OkOver S.Store self.old self.new result
@@ -89,7 +88,7 @@ impl<S: Alter> Desk<S> {
 
     /// The moment as of which the registry is rebuilt, in nanoseconds since 1970-01-01T00:00:00Z,
     /// if one is set. `S1`, `S2`.
-    #[tactic(auto, using(crate::proofs::StoreFacts::still_stays))]
+    #[tactic(auto, using(crate::proofs::ReadLemmas::read_stays))]
     pub fn moment(&mut self) -> Result<Option<i64>, SFault>
         ensures stays { Stays S.Store self.old self.new }
         ensures moment { OkOver S.Store self.old self.new result
@@ -100,7 +99,7 @@ impl<S: Alter> Desk<S> {
     }
 
     /// The objects of the latest chain's tables. `S1`, `S2`.
-    #[tactic(auto, using(crate::proofs::StoreFacts::still_stays))]
+    #[tactic(auto, using(crate::proofs::ReadLemmas::read_stays))]
     pub fn tables(&mut self, alloc: Global) -> Result<BTreeMap<Key, Object>, SFault>
         ensures stays { Stays S.Store self.old self.new }
         ensures objects { OkOver S.Store self.old self.new result
@@ -112,7 +111,7 @@ impl<S: Alter> Desk<S> {
 
     /// What the latest chain's last deposit says of the registry, read from its body's envelope;
     /// `None` where there is no chain. `S1`, `S2`.
-    #[tactic(auto, using(crate::proofs::StoreFacts::still_stays))]
+    #[tactic(auto, using(crate::proofs::ReadLemmas::read_stays, crate::proofs::StoreFacts::as_before_then))]
     pub fn end(&mut self, alloc: Global) -> Result<Option<End>, SFault>
         ensures stays { Stays S.Store self.old self.new }
         ensures end { OkOver S.Store self.old self.new result
@@ -130,7 +129,7 @@ impl<S: Alter> Desk<S> {
     }
 
     /// How far the desk has come. `S1`, `S2`.
-    #[tactic(auto, using(crate::proofs::StoreFacts::still_stays))]
+    #[tactic(auto, using(crate::proofs::ReadLemmas::read_stays, crate::proofs::StoreFacts::as_before_then))]
     pub fn status(&mut self, alloc: Global) -> Result<Status, SFault>
         ensures stays { Stays S.Store self.old self.new }
         ensures status { OkOver S.Store self.old self.new result

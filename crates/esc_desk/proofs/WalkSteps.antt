@@ -1,0 +1,148 @@
+-- What a walk is still to give, from call to call.
+use Rattle.std.proofs.Common.{◌≡◌, ℕ, suc, ◌-◌, slice_get, List, [], ◌∷◌, ◌++◌, length, Option, Some, None, refl, sym, ap, subst, ◌∙◌, arith}
+use Rattle.std.specs.Map.{lookup, keys_of}
+use Rattle.std.specs.Option.{is_some}
+use Rattle.std.specs.Vec.Iter.{into_iter_items, into_iter_len}
+use Rattle.std.specs.declared.vec.IntoIter.{IntoIter}
+use Rattle.std.proofs.lemmas.Map.Keys.{sorted_tail}
+use Rattle.sha2.specs.Sha256.{sha256}
+use Rattle.sqlite_trees.specs.declared.store.Store.{Ghosts}
+use Rattle.esc_envelope.specs.declared.kind.Kind.{Kind}
+use Rattle.esc_tables.specs.KeyName.{KeyName, key_cmp, key_eq}
+use Rattle.esc_tables.specs.Reading.{reading}
+use Rattle.esc_manifest.specs.Accepted.{IsAccepted}
+use Rattle.esc_chain.specs.Chain.{InRange}
+use Rattle.esc_chain.specs.Laws.{OneLatestChainAt}
+use Rattle.esc_apply.specs.Objects.{Entry, InOrder}
+use Rattle.esc_apply.specs.Registry.{Content}
+use Rattle.esc_store.specs.declared.store.Store.{Store}
+use Rattle.esc_store.specs.Kept.{Kept}
+use Rattle.esc_store.specs.Standing.{Stands, IsAsBefore}
+use Rattle.esc_store.specs.Pages.{IsPage, last_text}
+use Rattle.esc_desk.specs.declared.walk.Pages.{Pages}
+use Rattle.esc_desk.specs.declared.walk.Walk.{Walk}
+use Rattle.esc_events.specs.Events.{EventValue, union, comings, moment_of}
+use Rattle.esc_events.specs.Reads.{AreEntries, tables_of}
+use Rattle.esc_events.specs.Stands.{IsApart, holds_by, held_rows}
+use Rattle.esc_events.proofs.HeldRows.{contains_held}
+use Rattle.esc_events.proofs.Members.{one_of}
+use Rattle.esc_events.proofs.Moving.{chain_of}
+use Rattle.esc_events.proofs.MovingLemmas.{held_within}
+use Rattle.esc_desk.specs.Serving.{Serves}
+use Rattle.esc_desk.specs.Places.{first_kind, IsPlaceBehind}
+use Rattle.esc_desk.specs.Walking.{of_kinds, AreBehind, AreToCome, Follows}
+use Rattle.esc_desk.proofs.ReadLemmas.{same_content}
+use Rattle.esc_desk.proofs.StoreFacts.{still_serves}
+use Rattle.esc_desk.proofs.EntryLists.{no_first}
+use Rattle.esc_desk.proofs.Walks.{page_turned, from_the_first}
+
+-- ---- the rows that are held are listed
+
+pub held_in_range : (e : List EventValue) → InRange (union e) (held_rows sha256 reading e)
+held_in_range e r held =
+    let x = one_of (holds_by sha256 reading (union e) r) (comings e) (sym (contains_held sha256 reading (union e) (comings e) r) ∙ held) in
+    held_within sha256 reading (union e) r x.0 x.2
+
+-- ---- the page at hand
+
+empty_list : {X : Type 0} (xs : List X) → length xs ≡ 0 → xs ≡ []
+empty_list [] is = refl
+empty_list (x ∷ xs) is = absurd (omega (arith, is))
+
+pub no_items : {X Z : Type 0} (it : IntoIter X Z) → into_iter_len it ≡ 0 → into_iter_items it ≡ []
+no_items it is = empty_list (into_iter_items it) (sym it.rest.ok.0 ∙ is)
+
+no_entries : (es : List Entry) → ((q : KeyName) → lookup (key_eq q) es ≡ None) → es ≡ []
+no_entries [] none = refl
+no_entries (e ∷ es) none = absurd (no_first e es None refl (none e.0))
+
+module _ {S : Type 0} (g : Ghosts S) where
+  -- a walk over the same desk, of which the store was read
+  pub follows : (old new : Walk S Pages) → new.desk.ghost_name ≡ old.desk.ghost_name → IsAsBefore g old.desk.now.store new.desk.now.store → new.desk.now.known ≡ old.desk.now.known → Follows g old new
+  follows old new reference same known = record { same_reference = reference; same = same; known = known; serves = still_serves g old.desk.now new.desk.now same known }
+
+  -- pages that stand at the same place
+  pub again : (store : Store S) (pages later : Pages) (es : List Entry) → AreToCome g store pages es → into_iter_items later.page ≡ into_iter_items pages.page → later.kind ≡ pages.kind → later.from.items ≡ pages.from.items → later.alone ≡ pages.alone → AreToCome g store later es
+  again store pages later es come items kind from alone = record {
+    order = come.order;
+    kept = come.kept;
+    stands = come.stands;
+    behind = come.behind;
+    are_behind = rw (kind, from, alone) come.are_behind;
+    are_all = come.are_all ∙ ap (λ (xs : List Entry). xs ++ come.behind) (sym items);
+  }
+
+  -- an object was given
+  pub given : (store : Store S) (pages later : Pages) (es : List Entry) (e : Entry) → AreToCome g store pages es → into_iter_items pages.page ≡ e ∷ into_iter_items later.page → later.kind ≡ pages.kind → later.from.items ≡ pages.from.items → later.alone ≡ pages.alone
+      → (rest : List Entry) × (es ≡ e ∷ rest) × AreToCome g store later rest
+  given store pages later es e come items kind from alone =
+      let rest = into_iter_items later.page ++ come.behind in
+      let all : es ≡ e ∷ rest = come.are_all ∙ ap (λ (xs : List Entry). xs ++ come.behind) items in (
+        rest,
+        all,
+        record {
+          order = sorted_tail key_cmp e.0 (keys_of rest) (subst InOrder all come.order);
+          kept = come.kept;
+          stands = come.stands;
+          behind = come.behind;
+          are_behind = rw (kind, from, alone) come.are_behind;
+          are_all = refl;
+        },
+      )
+
+  -- none was left to give
+  pub ended : (store : Store S) (pages later : Pages) (es : List Entry) → AreToCome g store pages es → into_iter_items pages.page ≡ [] → pages.kind ≡ None → into_iter_items later.page ≡ [] → later.kind ≡ pages.kind → later.from.items ≡ pages.from.items → later.alone ≡ pages.alone
+      → (es ≡ []) × AreToCome g store later []
+  ended store pages later es come items none empty kind from alone =
+      let nothing : come.behind ≡ [] = no_entries come.behind (λ q. (rw none at come.are_behind).each q) in
+      let all : es ≡ [] = come.are_all ∙ ap (λ (xs : List Entry). xs ++ come.behind) items ∙ nothing in (
+        all,
+        record {
+          order = subst InOrder all come.order;
+          kept = come.kept;
+          stands = come.stands;
+          behind = [];
+          are_behind = rw (kind, from, alone) (subst (λ (xs : List Entry). AreBehind come.kept.registry.content pages.kind pages.from.items pages.alone xs) nothing come.are_behind);
+          are_all = ap (λ (xs : List Entry). xs ++ []) (sym empty);
+        },
+      )
+
+  -- the page at hand was used up, and the one behind it was read
+  pub turned : (old new : Store S) (pages later : Pages) (es : List Entry) (kind : Kind) (page : List Entry) → IsAsBefore g old new → AreToCome g old pages es → into_iter_items pages.page ≡ [] → pages.kind ≡ Some kind
+      → ((k : Kept) → Stands g old k → IsPage k.registry.content kind pages.from.items page) → IsPlaceBehind kind pages.alone page later.kind later.from.items → into_iter_items later.page ≡ page → later.alone ≡ pages.alone → AreToCome g new later es
+  turned old new pages later es kind page same come items is told placed at_hand alone =
+      let here : AreBehind come.kept.registry.content (Some kind) pages.from.items pages.alone come.behind = rw is at come.are_behind in
+      let x = page_turned come.kept.registry.content kind pages.from.items pages.alone page come.behind later.kind later.from.items (told come.kept come.stands) placed here in
+      record {
+        order = come.order;
+        kept = come.kept;
+        stands = same.stands come.kept come.stands;
+        behind = x.0;
+        are_behind = rw alone x.2;
+        are_all = come.are_all ∙ ap (λ (xs : List Entry). xs ++ come.behind) items ∙ x.1 ∙ ap (λ (xs : List Entry). xs ++ x.0) (sym at_hand);
+      }
+
+  -- before the first page
+  pub begins : (store : Store S) (pages : Pages) (kind : Option Kind) (e : List EventValue) (es : List Entry) → OneLatestChainAt → IsAccepted (union e) → IsApart sha256 reading e → Serves g store e → AreEntries e es → InOrder es
+      → into_iter_items pages.page ≡ [] → pages.kind ≡ Some (first_kind kind) → pages.from.items ≡ [] → pages.alone ≡ is_some kind → AreToCome g store pages (of_kinds kind es)
+  begins store pages kind e es law accepted apart serves entries order items is from alone =
+      let k = serves.kept in
+      let rows = held_rows sha256 reading e in
+      let one : entries.chain ≡ k.steps = law (union e) rows rows (moment_of e) entries.chain k.steps accepted (held_in_range e) (λ r. (λ held. held, λ held. held)) entries.latest (chain_of e k serves.stands_for apart) in
+      let same : tables_of e entries.chain ≡ k.registry.content = ap (tables_of e) one ∙ sym (same_content e k serves.stands_for apart) in
+      let are = from_the_first k.registry.content kind es order (λ q. entries.objects.each q ∙ ap (λ (f : Content). f q) same) in
+      record {
+        order = are.order;
+        kept = k;
+        stands = serves.stands;
+        behind = of_kinds kind es;
+        are_behind = rw (is, from, alone) are;
+        are_all = ap (λ (xs : List Entry). xs ++ of_kinds kind es) (sym items);
+      }
+
+-- ---- the last entry of a page
+
+pub last_found : (page : List Entry) (e : Entry) → slice_get page (length page - 1) ≡ Some e → last_text page ≡ Some e.0.text
+last_found [] e is = absurd cc
+last_found (f ∷ []) e is = let same : f ≡ e = cc in ap (λ (x : Entry). Some x.0.text) same
+last_found (f ∷ h ∷ page) e is = last_found (h ∷ page) e (ap (λ (n : ℕ). slice_get (f ∷ h ∷ page) n) (let less : suc (length (h ∷ page) - 1) ≡ length (f ∷ h ∷ page) - 1 = omega arith in less) ∙ is)
