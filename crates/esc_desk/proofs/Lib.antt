@@ -1,2 +1,5 @@
+pub mod AmendSteps
+pub mod AmendedRows
 pub mod CrashSteps
+pub mod NoRowMore
 pub mod StoreFacts
