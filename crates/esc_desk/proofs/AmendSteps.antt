@@ -1,12 +1,11 @@
 -- A manifest is taken in: from what is kept before it to what is kept after it, by a plan.
-use Rattle.std.proofs.Common.{◌≡◌, ℕ, ℤ, ◌<◌, ◌≤◌, Bool, true, cond, List, [], ◌∷◌, ◌++◌, length, nat_lt, Option, Some, None, Result, Ok, Err, IfOk, refl, sym, ap, ap₂, subst, ◌∙◌, arith, length-append}
+use Rattle.std.proofs.Common.{◌≡◌, ℕ, ℤ, ◌<◌, ◌≤◌, Bool, true, cond, List, [], ◌∷◌, ◌++◌, length, nat_lt, Option, Some, None, Result, Ok, Err, IfOk, refl, sym, ap, subst, ◌∙◌, arith, length-append}
 use Rattle.std.proofs.lemmas.Bool.Decides.{nat_tests}
 use Rattle.sha2.specs.Sha256.{sha256}
 use Rattle.sqlite_trees.specs.declared.store.Store.{Ghosts}
 use Rattle.sqlite.specs.Held.{Held, state}
 use Rattle.sqlite.specs.State.{Survives}
 use Rattle.sqlite.proofs.StateLemmas.{survives_weaker}
-use Rattle.esc_tables.specs.DepositValue.{DepositValue}
 use Rattle.esc_tables.specs.Reading.{reading}
 use Rattle.esc_manifest.specs.declared.row.MRow.{MRow}
 use Rattle.esc_manifest.specs.Rows.{row_at}
@@ -25,7 +24,6 @@ use Rattle.esc_events.specs.Amended.{judged, adopted_rows, amended_bodies, with_
 use Rattle.esc_events.specs.Events.{EventValue, union}
 use Rattle.esc_events.specs.Events.EventValue.{listed}
 use Rattle.esc_events.specs.Known.{IsKnown}
-use Rattle.esc_events.specs.Laws.{IsMove}
 use Rattle.esc_events.specs.Plans.{AreLatestSteps, IsPlanned, IsMovedFrom, IsCostOfMove, moved_by}
 use Rattle.esc_events.specs.Stands.{StandsFor, AreBooks, deposits_of}
 use Rattle.esc_events.specs.Works.{IsWorkOf, MentionsFew}

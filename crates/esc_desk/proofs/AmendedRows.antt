@@ -1,5 +1,5 @@
 -- New rows whose parked bodies are adopted: no body was held of them, each is there once, and behind the rows that had a body they are those that have one then.
-use Rattle.std.proofs.Common.{◌≡◌, ◌≢◌, ◌⊎◌, ◌↔◌, inl, inr, ℕ, zero, suc, ◌+◌, ◌-◌, ◌<◌, ◌≤◌, Bool, true, false, cond, filter, List, [], ◌∷◌, ◌++◌, length, nat_lt, Option, Some, None, is_some, IsSome, refl, sym, ap, ap₂, subst, ◌∙◌, arith, true≢false}
+use Rattle.std.proofs.Common.{◌≡◌, ◌≢◌, ◌⊎◌, inl, inr, ℕ, zero, suc, ◌+◌, ◌-◌, ◌<◌, ◌≤◌, Bool, true, false, cond, filter, List, [], ◌∷◌, ◌++◌, length, nat_lt, Option, Some, None, is_some, IsSome, refl, sym, ap, ap₂, ◌∙◌, arith, true≢false}
 use Rattle.std.specs.Prelude.{slice_index_or}
 use Rattle.std.specs.List.{All, Contains}
 use Rattle.std.proofs.lemmas.Bool.Decides.{nat_tests}
@@ -72,8 +72,7 @@ module _ (p : ℕ → Bool) where
 rises_on : (b : ℕ) (xs ys : List ℕ) → IsRising xs → IsRising ys → All (λ q. q < b) xs → All (λ q. b ≤ q) ys → IsRising (xs ++ ys)
 rises_on b [] ys up more below above = more
 rises_on b (x ∷ xs) ys up more below above =
-    let under : x < b = All-head (λ q. q < b) x xs below in
-    (
+    let under : x < b = All-head (λ q. q < b) x xs below in (
       All-append (λ q. x < q) xs ys up.0 (All-weaker (λ q. b ≤ q) (λ q. x < q) (λ q le. omega (arith, le, under)) ys above),
       rises_on b xs ys up.1 more (All-tail (λ q. q < b) x xs below) above,
     )

@@ -1,9 +1,9 @@
-use Rattle.std.proofs.Common.{◌≡◌, ℕ, ◌-◌, ◌==◌, Bool, false, cond, List, [], ◌∷◌, ◌++◌, length, Ok, Err, refl, sym, ap, ap₂, subst, ◌∙◌, arith}
+use Rattle.std.proofs.Common.{◌≡◌, ◌-◌, ◌==◌, Bool, false, cond, List, [], ◌∷◌, ◌++◌, length, Ok, Err, refl, sym, ap, ap₂, subst, ◌∙◌, arith}
 use Rattle.std.proofs.lemmas.Bool.Decides.{nat_tests}
 use Rattle.std.proofs.lemmas.Result.{IfOk-at_ok}
 use Rattle.esc_manifest.specs.declared.row.MRow.{MRow}
 use Rattle.esc_manifest.specs.declared.fault.MFault.{MFault}
-use Rattle.esc_manifest.specs.Extension.{new_rows, extended}
+use Rattle.esc_manifest.specs.Extension.{new_rows}
 use Rattle.esc_events.specs.Events.{EventValue, union}
 use Rattle.esc_events.specs.Events.EventValue.{listed}
 use Rattle.esc_store.specs.declared.fault.SFault.TheVariants.{S2}
@@ -18,8 +18,9 @@ returns-in-Err-NoMemory-clause-crash g c = λ e doubtful served left. leaves_bef
 pub returns-in-Err-Refused-clause-cause : goal.returns-in-Err-Refused-clause-cause
 returns-in-Err-Refused-clause-cause g c = λ clean e served.
     let serves = served.serves in
-    subst (λ (m : List MRow). IsRefusedUnion m c.args.text.now c.in-Err-Refused.code c.in-Err-Refused.row) (rows_of_store g.S.Store _ _ serves.stands ∙ serves.stands_for.books.listed)
-    (c.union_with.ensures.refused c.in-Err-Refused.code c.in-Err-Refused.row (c.in-Err-Refused.is ∙ ap (λ (f : MFault). Err f) c.in-Err-Refused.field-0-is))
+    let is = c.in-Err-Refused.field-0-is in
+    let first : c.args.self.now.store.manifest ≡ union e = rows_of_store g.S.Store _ _ serves.stands ∙ serves.stands_for.books.listed in
+    rw is (subst (λ (m : List MRow). IsRefusedUnion m c.args.text.now c.in-Err-Refused.code c.in-Err-Refused.row) first (c.union_with.ensures.refused c.in-Err-Refused.code c.in-Err-Refused.row (c.in-Err-Refused.is ∙ ap (λ (f : MFault). Err f) is)))
 
 pub returns-then-added-eq0-clause-amended : goal.returns-then-added-eq0-clause-amended
 returns-then-added-eq0-clause-amended g c = λ clean e served.
@@ -90,13 +91,13 @@ returns-in-Ok-list_more-clause-crash g c = λ e doubtful served left. if_clean g
     (subst (λ (x : EventValue). CrashLeaves g.S.Store c.list_more.new.self.store.conn (e ++ x ∷ []) []) (sym (amendment_is c.args.text.now u.rows u.read))
     (leaves_sure g.S.Store c.list_more.new.self.store.conn (e ++ listed u.rows ∷ []) made.left)))
 
-pub returns-in-Err-list_more-clause-crash : goal.returns-in-Err-list_more-clause-crash
-returns-in-Err-list_more-clause-crash g c = λ e doubtful served left. if_clean g.S.Store _ _ _ (λ clean.
+pub returns-in-Err-clause-crash : goal.returns-in-Err-clause-crash
+returns-in-Err-clause-crash g c = λ e doubtful served left. if_clean g.S.Store _ _ _ (λ clean.
     let serves = served.serves in
     let k = serves.kept in
     let stood = serves.stands_for in
     let first : c.manifest.result.now ≡ union e = c.manifest.ensures.kept k serves.stands ∙ stood.books.listed in
     let u = subst (λ (m : List MRow). IsUnionWith m c.args.text.now c.in-Ok.union) (sym c.manifest.ensures.manifest ∙ first) c.in-Ok.ensures.united in
-    subst (λ (x : EventValue). CrashLeaves g.S.Store c.list_more.new.self.store.conn e (doubtful_with c.in-Err-list_more.fault x doubtful)) (sym (amendment_is c.args.text.now u.rows u.read))
-    (leaves_lost g.S.Store c.args.self.now.store.conn c.list_more.new.self.store.conn e doubtful (listed u.rows) c.list_more.result c.in-Err-list_more.fault c.in-Err-list_more.is left
+    subst (λ (x : EventValue). CrashLeaves g.S.Store c.list_more.new.self.store.conn e (doubtful_with c.in-Err.fault x doubtful)) (sym (amendment_is c.args.text.now u.rows u.read))
+    (leaves_lost g.S.Store c.args.self.now.store.conn c.list_more.new.self.store.conn e doubtful (listed u.rows) c.list_more.result c.in-Err.fault c.in-Err.is left
     (c.list_more.ensures.crash clean e k u.rows serves.stands stood served.remembers u.is_union)))
