@@ -1,3 +1,5 @@
+pub mod AmendSteps
+pub mod AmendedRows
 pub mod AtFirst
 pub mod ChangeSteps
 pub mod CrashSteps
@@ -5,6 +7,7 @@ pub mod EntryLists
 pub mod FoundRows
 pub mod JudgedRows
 pub mod ListingSteps
+pub mod NoRowMore
 pub mod OutcomeLemmas
 pub mod ParkedDigests
 pub mod PlanLemmas

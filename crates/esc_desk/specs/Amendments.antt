@@ -19,7 +19,6 @@ use Rattle.std.specs.Prelude.{
   if◌then◌else◌,
 }
 use Rattle.sqlite_trees.specs.declared.store.Store.{Ghosts}
-use Rattle.esc_manifest.specs.declared.fault.MFault.{MFault}
 use Rattle.esc_manifest.specs.declared.fault.MFault.TheVariants.{Refused as RefusedRow, NoMemory}
 use Rattle.esc_manifest.specs.declared.row.MRow.{MRow}
 use Rattle.esc_manifest.specs.Extension.{new_rows, extended, extension}

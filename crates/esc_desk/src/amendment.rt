@@ -121,8 +121,10 @@ impl<S: Alter> Desk<S> {
         let _writes = self.store.writes();
         let union = match self.union_with(alloc, text) {
             Ok(union) => union,
+            Err(MFault::Refused { code, row }) => {
+                return Err(AmendFault::M(MFault::Refused { code, row }));
+            }
             Err(MFault::NoMemory) => return Err(AmendFault::Store(SFault::S2)),
-            Err(fault) => return Err(AmendFault::M(fault)),
         };
         let added = union.rows().len() - self.store.manifest().rows().len();
         if added == 0 {

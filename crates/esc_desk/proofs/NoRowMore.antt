@@ -1,0 +1,152 @@
+-- An amendment that lists no row more changes nothing, whatever one event comes behind it; and what a crash leaves after an amendment.
+use Rattle.std.proofs.Common.{◌≡◌, ◌≢◌, inl, inr, ℕ, ◌-◌, List, [], ◌∷◌, ◌++◌, length, Result, Ok, Err, refl, sym, ap, ap₂, subst, ◌∙◌, append-nil, length-append, arith}
+use Rattle.sha2.specs.Sha256.{sha256}
+use Rattle.sqlite_trees.specs.declared.store.Store.{Ghosts}
+use Rattle.sqlite_trees.specs.Tree.{Trees}
+use Rattle.sqlite.specs.Held.{Held, state}
+use Rattle.sqlite.specs.State.{HasCleanDisk}
+use Rattle.esc_tables.specs.Reading.{reading}
+use Rattle.esc_manifest.specs.declared.row.MRow.{MRow}
+use Rattle.esc_manifest.specs.Extension.{new_rows, extended}
+use Rattle.esc_manifest.specs.Manifest.{manifest_of}
+use Rattle.esc_store.specs.declared.fault.SFault.{SFault}
+use Rattle.esc_store.specs.declared.fault.SFault.TheVariants.{S1, S2, S3, S4, S5}
+use Rattle.esc_store.specs.declared.store.Store.{Store}
+use Rattle.esc_store.specs.Kept.{Kept}
+use Rattle.esc_store.specs.Standing.{Stands}
+use Rattle.esc_events.specs.Events.{EventValue, Coming, union, coming, comings, moment_of}
+use Rattle.esc_events.specs.Events.EventValue.{listed, arrived, moved}
+use Rattle.esc_events.specs.Stands.{AreBooks, StandsFor, holds_by}
+use Rattle.esc_events.specs.Works.{IsWorkOf, no_work}
+use Rattle.esc_events.proofs.AmendingEvents.{receipts_as, apart_as, held_as, parked_as, came_as, waits_as}
+use Rattle.esc_events.proofs.EventLemmas.{union-arrived, comings-arrived, moment-arrived, union-listed, comings-listed, moment-listed, union-moved, comings-moved, moment-moved}
+use Rattle.esc_events.proofs.Moving.{stands_still, no_work_of}
+use Rattle.esc_desk.specs.Amendments.{rows_read, amendment_of}
+use Rattle.esc_desk.specs.Crashes.{IsStoreFor, IsStoreForOneOf, CrashLeaves, LeavesOnlyFor, doubtful_with, IsNotFull, AddsStoreFor}
+
+-- ---- two lists of events with the same rows, arrivals and moment
+
+pub record AreAlike (e f : List EventValue) : Type 0 where
+  pub rows : union f ≡ union e
+  pub came : comings f ≡ comings e
+  pub moment : moment_of f ≡ moment_of e
+
+books_alike : (e f : List EventValue) (k : Kept) → AreAlike e f → AreBooks sha256 reading e k → AreBooks sha256 reading f k
+books_alike e f k same books = record {
+  listed = books.listed ∙ sym same.rows;
+  receipts = books.receipts ∙ sym (receipts_as sha256 e f same.came);
+  bodies = λ apart r. books.bodies (apart_as sha256 e f same.came apart) r ∙ sym (held_as sha256 e f same.came (union e) same.rows r);
+  parked = λ apart d. books.parked (apart_as sha256 e f same.came apart) d ∙ sym (parked_as sha256 e f same.came (union e) same.rows d);
+  moment = books.moment ∙ sym same.moment;
+  came = λ r body is. came_as sha256 e f same.came r r body (λ c holds. ap (λ (m : List MRow). holds_by sha256 reading m r c) same.rows ∙ holds) (books.came r body is);
+  waits = λ d body is. waits_as sha256 e f same.came d body (books.waits d body is);
+  told = books.told;
+}
+
+pub stands_alike : (e f : List EventValue) (k : Kept) → AreAlike e f → StandsFor sha256 reading e k → StandsFor sha256 reading f k
+stands_alike e f k same stood = stands_still e f k k stood (books_alike e f k same stood.books) refl refl refl refl refl
+
+-- with one more event behind both
+alike_with : (e f : List EventValue) → AreAlike e f → (x : EventValue) → AreAlike (e ++ x ∷ []) (f ++ x ∷ [])
+alike_with e f same (listed more) = record {
+  rows = union-listed f more ∙ ap (λ (m : List MRow). extended m more) same.rows ∙ sym (union-listed e more);
+  came = comings-listed f more ∙ same.came ∙ sym (comings-listed e more);
+  moment = moment-listed f more ∙ same.moment ∙ sym (moment-listed e more);
+}
+alike_with e f same (arrived a) = record {
+  rows = union-arrived f a ∙ same.rows ∙ sym (union-arrived e a);
+  came = comings-arrived f a ∙ ap₂ (λ (l : List Coming) (m : List MRow). l ++ coming m a ∷ []) same.came same.rows ∙ sym (comings-arrived e a);
+  moment = moment-arrived f a ∙ same.moment ∙ sym (moment-arrived e a);
+}
+alike_with e f same (moved t) = record {
+  rows = union-moved f t ∙ same.rows ∙ sym (union-moved e t);
+  came = comings-moved f t ∙ same.came ∙ sym (comings-moved e t);
+  moment = moment-moved f t ∙ sym (moment-moved e t);
+}
+
+store_alike : (trees : Trees) (e f : List EventValue) → AreAlike e f → IsStoreFor trees e → IsStoreFor trees f
+store_alike trees e f same one = record { kept = one.kept; store = one.store; stands_for = stands_alike e f one.kept same one.stands_for }
+
+one_alike : (trees : Trees) (e f doubtful : List EventValue) → AreAlike e f → IsStoreForOneOf trees e doubtful → IsStoreForOneOf trees f doubtful
+one_alike trees e f [] same one = store_alike trees e f same one
+one_alike trees e f (x ∷ doubtful) same (inl one) = inl (store_alike trees (e ++ x ∷ []) (f ++ x ∷ []) (alike_with e f same x) one)
+one_alike trees e f (x ∷ doubtful) same (inr more) = inr (one_alike trees e f doubtful same more)
+
+-- ---- an amendment
+
+nothing_of : (xs : List MRow) → length xs ≡ 0 → xs ≡ []
+nothing_of [] none = refl
+nothing_of (x ∷ xs) none = absurd (omega (arith, none))
+
+-- how many rows are new
+pub new_count : (m more : List MRow) → length (extended m more) - length m ≡ length (new_rows m more)
+new_count m more = omega (arith, length-append m (new_rows m more))
+
+module _ (e : List EventValue) (more : List MRow) (none : length (new_rows (union e) more) ≡ 0) where
+  pub alike_none : AreAlike e (e ++ listed more ∷ [])
+  alike_none = record {
+    rows = union-listed e more ∙ ap (λ (xs : List MRow). union e ++ xs) (nothing_of (new_rows (union e) more) none) ∙ append-nil (union e);
+    came = comings-listed e more;
+    moment = moment-listed e more;
+  }
+
+  pub stands_none : (k : Kept) → StandsFor sha256 reading e k → StandsFor sha256 reading (e ++ listed more ∷ []) k
+  stands_none k stood = stands_alike e (e ++ listed more ∷ []) k alike_none stood
+
+  pub works_none : (k : Kept) → StandsFor sha256 reading e k → IsWorkOf e (listed more) no_work
+  works_none k stood = no_work_of e (listed more) k k stood (stands_none k stood) alike_none.rows refl
+
+-- the event of a text that reads as these rows
+pub amendment_is : (text : List ℕ) (rows : List MRow) → manifest_of text ≡ Ok rows → amendment_of text ≡ listed rows
+amendment_is text rows read = ap (λ (r : Result (List MRow) (ℕ × ℕ)). listed (rows_read r)) read
+
+-- ---- what a crash leaves
+
+one_with : (trees : Trees) (e doubtful : List EventValue) (x : EventValue) (f : SFault) → IsStoreForOneOf trees e doubtful → IsStoreForOneOf trees e (doubtful_with f x doubtful)
+one_with trees e doubtful x S1 one = inr one
+one_with trees e doubtful x S2 one = inr one
+one_with trees e doubtful x S3 one = inr one
+one_with trees e doubtful x S4 one = one
+one_with trees e doubtful x S5 one = one
+
+one_more : (trees : Trees) (e doubtful : List EventValue) (x : EventValue) (f : SFault) → (f ≢ S4) × (f ≢ S5) → IsStoreFor trees (e ++ x ∷ []) → IsStoreForOneOf trees e (doubtful_with f x doubtful)
+one_more trees e doubtful x S1 other stands = inl stands
+one_more trees e doubtful x S2 other stands = inl stands
+one_more trees e doubtful x S3 other stands = inl stands
+one_more trees e doubtful x S4 other stands = absurd (other.0 refl)
+one_more trees e doubtful x S5 other stands = absurd (other.1 refl)
+
+module _ {S : Type 0} (g : Ghosts S) where
+  -- the rows of a store are those that it keeps
+  pub rows_of_store : (store : Store S) (k : Kept) → Stands g store k → store.manifest ≡ k.listed
+  unfolding Stands
+  rows_of_store store k stood = stood.listed
+
+  -- where the disk is clean is enough
+  pub if_clean : (conn : Held S) (e doubtful : List EventValue) → (HasCleanDisk (state g conn) → CrashLeaves g conn e doubtful) → CrashLeaves g conn e doubtful
+  unfolding CrashLeaves
+  if_clean conn e doubtful h clean = h clean clean
+
+  -- no row more is listed
+  pub leaves_alike : (conn : Held S) (e f doubtful : List EventValue) → AreAlike e f → CrashLeaves g conn e doubtful → CrashLeaves g conn f doubtful
+  unfolding CrashLeaves
+  leaves_alike conn e f doubtful same left clean trees may = one_alike trees e f doubtful same (left clean trees may)
+
+  -- rows were listed
+  pub leaves_sure : (conn : Held S) (e : List EventValue) → LeavesOnlyFor g conn e → CrashLeaves g conn e []
+  unfolding CrashLeaves LeavesOnlyFor
+  leaves_sure conn e only = only
+
+  -- it was refused before anything was begun
+  pub leaves_before : (conn : Held S) (e doubtful : List EventValue) (x : EventValue) (f : SFault) → CrashLeaves g conn e doubtful → CrashLeaves g conn e (doubtful_with f x doubtful)
+  unfolding CrashLeaves
+  leaves_before conn e doubtful x f left clean trees may = one_with trees e doubtful x f (left clean trees may)
+
+  -- it was refused
+  pub leaves_lost : {X : Type 0} (old new : Held S) (e doubtful : List EventValue) (x : EventValue) (result : Result X SFault) (f : SFault) → result ≡ Err f
+      → CrashLeaves g old e doubtful → AddsStoreFor g old new result (e ++ x ∷ []) → CrashLeaves g new e (doubtful_with f x doubtful)
+  unfolding CrashLeaves AddsStoreFor
+  leaves_lost old new e doubtful x result f is left s clean trees may = elim (s.crash clean trees may) [
+    | inl was ↦ one_with trees e doubtful x f (left (omega (arith, s.clean, clean)) trees was)
+    | inr made ↦ one_more trees e doubtful x f (subst IsNotFull is made.0) made.1
+  ]

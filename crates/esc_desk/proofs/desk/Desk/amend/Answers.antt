@@ -1,0 +1,103 @@
+use Rattle.std.proofs.Common.{◌≡◌, ◌-◌, ◌==◌, Bool, false, cond, List, [], ◌∷◌, ◌++◌, length, Ok, Err, refl, sym, ap, ap₂, subst, ◌∙◌, arith}
+use Rattle.std.proofs.lemmas.Bool.Decides.{nat_tests}
+use Rattle.std.proofs.lemmas.Result.{IfOk-at_ok}
+use Rattle.esc_manifest.specs.declared.row.MRow.{MRow}
+use Rattle.esc_manifest.specs.declared.fault.MFault.{MFault}
+use Rattle.esc_manifest.specs.Extension.{new_rows}
+use Rattle.esc_events.specs.Events.{EventValue, union}
+use Rattle.esc_events.specs.Events.EventValue.{listed}
+use Rattle.esc_store.specs.declared.fault.SFault.TheVariants.{S2}
+use Rattle.esc_desk.specs.Amendments.{amendment_of, IsUnionWith, IsRefusedUnion}
+use Rattle.esc_desk.specs.Crashes.{CrashLeaves, doubtful_with}
+use Rattle.esc_desk.proofs.NoRowMore.{new_count, alike_none, stands_none, works_none, amendment_is, rows_of_store, if_clean, leaves_alike, leaves_sure, leaves_before, leaves_lost}
+use Rattle.esc_desk.proofs.desk.Desk.amend.Goals as goal
+
+pub returns-in-Err-NoMemory-clause-crash : goal.returns-in-Err-NoMemory-clause-crash
+returns-in-Err-NoMemory-clause-crash g c = λ e doubtful served left. leaves_before g.S.Store _ e doubtful (amendment_of c.args.text.now) S2 left
+
+pub returns-in-Err-Refused-clause-cause : goal.returns-in-Err-Refused-clause-cause
+returns-in-Err-Refused-clause-cause g c = λ clean e served.
+    let serves = served.serves in
+    let is = c.in-Err-Refused.field-0-is in
+    let first : c.args.self.now.store.manifest ≡ union e = rows_of_store g.S.Store _ _ serves.stands ∙ serves.stands_for.books.listed in
+    rw is (subst (λ (m : List MRow). IsRefusedUnion m c.args.text.now c.in-Err-Refused.code c.in-Err-Refused.row) first (c.union_with.ensures.refused c.in-Err-Refused.code c.in-Err-Refused.row (c.in-Err-Refused.is ∙ ap (λ (f : MFault). Err f) is)))
+
+pub returns-then-added-eq0-clause-amended : goal.returns-then-added-eq0-clause-amended
+returns-then-added-eq0-clause-amended g c = λ clean e served.
+    let serves = served.serves in
+    let k = serves.kept in
+    let stood = serves.stands_for in
+    let first : c.manifest.result.now ≡ union e = c.manifest.ensures.kept k serves.stands ∙ stood.books.listed in
+    let u = subst (λ (m : List MRow). IsUnionWith m c.args.text.now c.in-Ok.union) (sym c.manifest.ensures.manifest ∙ first) c.in-Ok.ensures.united in
+    let count : length c.rows.result.now - length c.rows-2.result.now ≡ length (new_rows (union e) u.rows) =
+    ap₂ (λ (a b : List MRow). length a - length b) (c.rows.ensures.rows ∙ u.is_union) (c.rows-2.ensures.rows ∙ first) ∙ new_count (union e) u.rows in
+    let none : length (new_rows (union e) u.rows) ≡ 0 = grind (arith, nat_tests, count, c.if-added-eq0.true) in
+    record {
+      rows = u.rows;
+      read = u.read;
+      accepted = u.accepted ∙ ap (λ (m : List MRow). Ok m) u.is_union;
+      count_is = sym none;
+      serves = record {
+        serves = record { kept = k; stands = serves.stands; stands_for = stands_none e u.rows none k stood };
+        remembers = served.remembers;
+      };
+      works = works_none e u.rows none k stood;
+      idle = λ same. refl;
+    }
+
+pub returns-then-added-eq0-clause-crash : goal.returns-then-added-eq0-clause-crash
+returns-then-added-eq0-clause-crash g c = λ e doubtful served left.
+    let serves = served.serves in
+    let k = serves.kept in
+    let stood = serves.stands_for in
+    let first : c.manifest.result.now ≡ union e = c.manifest.ensures.kept k serves.stands ∙ stood.books.listed in
+    let u = subst (λ (m : List MRow). IsUnionWith m c.args.text.now c.in-Ok.union) (sym c.manifest.ensures.manifest ∙ first) c.in-Ok.ensures.united in
+    let count : length c.rows.result.now - length c.rows-2.result.now ≡ length (new_rows (union e) u.rows) =
+    ap₂ (λ (a b : List MRow). length a - length b) (c.rows.ensures.rows ∙ u.is_union) (c.rows-2.ensures.rows ∙ first) ∙ new_count (union e) u.rows in
+    let none : length (new_rows (union e) u.rows) ≡ 0 = grind (arith, nat_tests, count, c.if-added-eq0.true) in
+    subst (λ (x : EventValue). CrashLeaves g.S.Store c.args.self.now.store.conn (e ++ x ∷ []) doubtful) (sym (amendment_is c.args.text.now u.rows u.read))
+    (leaves_alike g.S.Store c.args.self.now.store.conn e (e ++ listed u.rows ∷ []) doubtful (alike_none e u.rows none) left)
+
+pub returns-in-Ok-list_more-clause-amended : goal.returns-in-Ok-list_more-clause-amended
+returns-in-Ok-list_more-clause-amended g c = λ clean e served.
+    let serves = served.serves in
+    let k = serves.kept in
+    let stood = serves.stands_for in
+    let first : c.manifest.result.now ≡ union e = c.manifest.ensures.kept k serves.stands ∙ stood.books.listed in
+    let u = subst (λ (m : List MRow). IsUnionWith m c.args.text.now c.in-Ok.union) (sym c.manifest.ensures.manifest ∙ first) c.in-Ok.ensures.united in
+    let count : length c.rows.result.now - length c.rows-2.result.now ≡ length (new_rows (union e) u.rows) =
+    ap₂ (λ (a b : List MRow). length a - length b) (c.rows.ensures.rows ∙ u.is_union) (c.rows-2.ensures.rows ∙ first) ∙ new_count (union e) u.rows in
+    let made = IfOk-at_ok _ c.in-Ok-list_more.is (c.list_more.ensures.made clean e k u.rows serves.stands stood served.remembers u.is_union) in
+    record {
+      rows = u.rows;
+      read = u.read;
+      accepted = u.accepted ∙ ap (λ (m : List MRow). Ok m) u.is_union;
+      count_is = count;
+      serves = made.serves;
+      works = made.works;
+      idle = λ none. let never : ⊥ = grind (arith, nat_tests, none, c.if-added-eq0.false) in absurd never;
+    }
+
+pub returns-in-Ok-list_more-clause-crash : goal.returns-in-Ok-list_more-clause-crash
+returns-in-Ok-list_more-clause-crash g c = λ e doubtful served left. if_clean g.S.Store _ _ _ (λ clean.
+    let serves = served.serves in
+    let k = serves.kept in
+    let stood = serves.stands_for in
+    let first : c.manifest.result.now ≡ union e = c.manifest.ensures.kept k serves.stands ∙ stood.books.listed in
+    let u = subst (λ (m : List MRow). IsUnionWith m c.args.text.now c.in-Ok.union) (sym c.manifest.ensures.manifest ∙ first) c.in-Ok.ensures.united in
+    let made = IfOk-at_ok _ c.in-Ok-list_more.is (c.list_more.ensures.made clean e k u.rows serves.stands stood served.remembers u.is_union) in
+    let some : ((length c.rows.result.now - length c.rows-2.result.now) == 0) ≡ false = grind (arith, nat_tests, c.if-added-eq0.false) in
+    subst (λ (t : Bool). CrashLeaves g.S.Store c.list_more.new.self.store.conn (e ++ amendment_of c.args.text.now ∷ []) (cond t doubtful [])) (sym some)
+    (subst (λ (x : EventValue). CrashLeaves g.S.Store c.list_more.new.self.store.conn (e ++ x ∷ []) []) (sym (amendment_is c.args.text.now u.rows u.read))
+    (leaves_sure g.S.Store c.list_more.new.self.store.conn (e ++ listed u.rows ∷ []) made.left)))
+
+pub returns-in-Err-clause-crash : goal.returns-in-Err-clause-crash
+returns-in-Err-clause-crash g c = λ e doubtful served left. if_clean g.S.Store _ _ _ (λ clean.
+    let serves = served.serves in
+    let k = serves.kept in
+    let stood = serves.stands_for in
+    let first : c.manifest.result.now ≡ union e = c.manifest.ensures.kept k serves.stands ∙ stood.books.listed in
+    let u = subst (λ (m : List MRow). IsUnionWith m c.args.text.now c.in-Ok.union) (sym c.manifest.ensures.manifest ∙ first) c.in-Ok.ensures.united in
+    subst (λ (x : EventValue). CrashLeaves g.S.Store c.list_more.new.self.store.conn e (doubtful_with c.in-Err.fault x doubtful)) (sym (amendment_is c.args.text.now u.rows u.read))
+    (leaves_lost g.S.Store c.args.self.now.store.conn c.list_more.new.self.store.conn e doubtful (listed u.rows) c.list_more.result c.in-Err.fault c.in-Err.is left
+    (c.list_more.ensures.crash clean e k u.rows serves.stands stood served.remembers u.is_union)))
