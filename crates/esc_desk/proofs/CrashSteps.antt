@@ -1,5 +1,5 @@
 -- What a crash may leave, from one call of the store to the next.
-use Rattle.std.proofs.Common.{◌≡◌, ◌≢◌, ◌×◌, inl, inr, Result, Ok, Err, refl, arith}
+use Rattle.std.proofs.Common.{◌≡◌, ◌≢◌, inl, inr, Result, Ok, Err, refl, arith}
 use Rattle.std.specs.Prelude.{IfOk, IfErr, OnOk}
 use Rattle.sqlite_trees.specs.declared.store.Store.{Ghosts}
 use Rattle.sqlite_trees.specs.Tree.{Trees}

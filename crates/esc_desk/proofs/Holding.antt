@@ -3,13 +3,15 @@ use Rattle.std.proofs.Common.{◌≡◌, ℕ, ℤ, Bool, true, false, cond, ◌=
 use Rattle.std.specs.Prelude.{is_some}
 use Rattle.sha2.specs.Sha256.{sha256}
 use Rattle.sqlite_trees.specs.declared.store.Store.{Ghosts}
+use Rattle.sqlite.specs.Held.{Held}
 use Rattle.esc_tables.specs.DepositValue.{DepositValue}
 use Rattle.esc_tables.specs.Reading.{reading}
 use Rattle.esc_manifest.specs.declared.row.MRow.{MRow}
+use Rattle.esc_store.specs.declared.fault.SFault.{SFault}
 use Rattle.esc_store.specs.declared.store.Store.{Store}
 use Rattle.esc_store.specs.Kept.{Kept, AreHeld, AreHeldBy, body_put, with_receipt}
 use Rattle.esc_store.specs.ReplyValue.{ReceiptValue}
-use Rattle.esc_store.specs.Standing.{Stands, LeavesOnly}
+use Rattle.esc_store.specs.Standing.{Stands, LeavesOnly, LeavesNoMore}
 use Rattle.esc_events.specs.declared.finding.Finding.{Finding}
 use Rattle.esc_events.specs.declared.finding.Finding.TheVariants.{Unlisted, Unreadable, Differing, Holding}
 use Rattle.esc_events.specs.declared.known.Known.{Known}
@@ -33,9 +35,10 @@ use Rattle.esc_events.proofs.HeldRows.{same_number}
 use Rattle.esc_events.proofs.Moving.{stands_still, no_work_of}
 use Rattle.esc_events.proofs.Searches.{no_answer}
 use Rattle.esc_desk.specs.declared.plan.Source.TheVariants.{Arrived}
+use Rattle.esc_desk.specs.Crashes.{AddsStore, AddsStoreFor}
 use Rattle.esc_desk.specs.Sources.{IsSource}
 use Rattle.esc_desk.specs.Takings.{IsKept}
-use Rattle.esc_desk.proofs.CrashLemmas.{leaves_for}
+use Rattle.esc_desk.proofs.CrashLemmas.{leaves_for, adds_none, adds_for}
 use Rattle.esc_desk.proofs.KnownRows.{told_same, says_none, put_at}
 
 -- ---- a receipt alone, or with a parked body
@@ -66,6 +69,13 @@ module _ (e : List EventValue) (a : ArrivalValue) (k : Kept) (known : Known) (re
       by_parking Needless at free = stands_still e (e ++ arrived a ∷ []) k (noted_by receipt Needless a.body k) is.stood (books_parked e a k known receipt is Needless at free) refl refl refl refl refl
       by_parking Free at free = stands_still e (e ++ arrived a ∷ []) k (noted_by receipt Free a.body k) is.stood (books_parked e a k known receipt is Free at free) refl refl refl refl refl
       by_parking Crowded at free = absurd (free refl)
+
+  -- what a crash may leave: where there is no place for the body, nothing was added
+  pub adds_parked : {S X : Type 0} (g : Ghosts S) (old new : Held S) (result : Result X SFault) (parking : Parking) → IsParking k.parked receipt.digest parking
+      → (parking ≡ Crowded → LeavesNoMore g old new) → AddsStore g old new result (noted_by receipt parking a.body k) → AddsStoreFor g old new result (e ++ arrived a ∷ [])
+  adds_parked g old new result Needless at none adds = adds_for g old new result _ _ (stands_parked Needless at (λ full. let never : ⊥ = cc in never)) adds
+  adds_parked g old new result Free at none adds = adds_for g old new result _ _ (stands_parked Free at (λ full. let never : ⊥ = cc in never)) adds
+  adds_parked g old new result Crowded at none adds = adds_none g old new result _ (none refl)
 
 steps_noted : (receipt : ReceiptValue) (parking : Parking) (body : List ℕ) (k : Kept) → (noted_by receipt parking body k).steps ≡ k.steps
 steps_noted receipt Needless body k = refl
