@@ -33,6 +33,12 @@ pub faults_then : (f : SFault) (A B P Q : Type 0) → (A → B) → (P → Q) �
 faults_then f A B P Q place room (inl crowded) = inl (crowded.0, place crowded.1)
 faults_then f A B P Q place room (inr other) = inr (fault_then f P Q room other)
 
+-- of a body that no row lists, S5 has a reason
+pub faults_of : (f : SFault) (U A B P : Type 0) → (U → A → B) → (U × (((f ≡ S5) × A) ⊎ P)) ⊎ P → ((f ≡ S5) × B) ⊎ P
+faults_of f U A B P h (inl (unlisted, inl crowded)) = inl (crowded.0, h unlisted crowded.1)
+faults_of f U A B P h (inl (unlisted, inr other)) = inr other
+faults_of f U A B P h (inr other) = inr other
+
 pub one_of_four : (f : SFault) (A P : Type 0) → ((f ≡ S5) × A) ⊎ (IsS1OrS2 f ⊎ ((f ≡ S4) × P)) → IsS1OrS2OrS4OrS5 f
 one_of_four f A P (inl crowded) = inl crowded.0
 one_of_four f A P (inr (inl is)) = inr (inr is)
@@ -58,10 +64,10 @@ still_full p q same full = record {
 
 module _ (e : List EventValue) (a : ArrivalValue) (k : Kept) (books : AreBooks sha256 reading e k) where
   pub crowded_of : IsApart sha256 reading e → HasNoPlace e a → IsCrowded k (sha256 a.body)
-  crowded_of apart no = record {
-    unlisted = ap (λ (m : List MRow). row_of m (sha256 a.body)) books.listed ∙ no.to_be_parked.unlisted;
-    not_parked = books.parked apart (sha256 a.body) ∙ no.to_be_parked.not_parked;
-    full = still_full (parked_body sha256 reading e) k.parked (λ d. sym (books.parked apart d)) no.full;
+  crowded_of apart full = record {
+    unlisted = ap (λ (m : List MRow). row_of m (sha256 a.body)) books.listed ∙ full.to_be_parked.unlisted;
+    not_parked = books.parked apart (sha256 a.body) ∙ full.to_be_parked.not_parked;
+    full = still_full (parked_body sha256 reading e) k.parked (λ d. sym (books.parked apart d)) full.full;
   }
 
   pub no_place_of : reply_to sha256 reading e a ≡ None → IsCrowded k (sha256 a.body) → WhereApart e (HasNoPlace e a)

@@ -1,13 +1,17 @@
 -- What a store stands for once an arrival like none before it was noted, and the move where its deposit is held.
 use Rattle.std.proofs.Common.{◌≡◌, ℕ, ℤ, Bool, true, false, cond, ◌==◌, List, [], ◌∷◌, ◌++◌, Option, Some, None, IsSome, Result, Ok, Err, refl, sym, ap, subst, ◌∙◌, append-nil, true≢false}
-use Rattle.std.specs.Prelude.{is_some}
+use Rattle.std.specs.Prelude.{is_some, IfSome, ◌<◌, length}
+use Rattle.std.specs.Str.{bytes_eq}
+use Rattle.std.proofs.lemmas.List.Quantifiers.{position-Some}
 use Rattle.sha2.specs.Sha256.{sha256}
 use Rattle.sqlite_trees.specs.declared.store.Store.{Ghosts}
 use Rattle.sqlite.specs.Held.{Held}
 use Rattle.esc_tables.specs.DepositValue.{DepositValue}
 use Rattle.esc_tables.specs.Reading.{reading}
 use Rattle.esc_manifest.specs.declared.row.MRow.{MRow}
+use Rattle.esc_apply.specs.declared.moves.Work.{Work}
 use Rattle.esc_store.specs.declared.fault.SFault.{SFault}
+use Rattle.esc_manifest.specs.Rows.{no_row, row_at}
 use Rattle.esc_store.specs.declared.store.Store.{Store}
 use Rattle.esc_store.specs.Kept.{Kept, AreHeld, AreHeldBy, body_put, with_receipt}
 use Rattle.esc_store.specs.ReplyValue.{ReceiptValue}
@@ -21,10 +25,11 @@ use Rattle.esc_events.specs.declared.plan.Plan.{Plan}
 use Rattle.esc_events.specs.ArrivalValue.{ArrivalValue}
 use Rattle.esc_events.specs.Events.{EventValue, union}
 use Rattle.esc_events.specs.Events.EventValue.{arrived}
-use Rattle.esc_events.specs.Finding.{finding, found_at, row_of, held_row}
+use Rattle.esc_events.specs.Finding.{as_listed, finding, found_at, row_of, held_row}
 use Rattle.esc_events.specs.Laws.{IsMove}
 use Rattle.esc_events.specs.Notes.{noted_by, held_by}
 use Rattle.esc_events.specs.Parks.{IsParking}
+use Rattle.esc_events.specs.Receipts.{receipt_by}
 use Rattle.esc_events.specs.Plans.{AreLatestSteps, IsPlanned}
 use Rattle.esc_events.specs.Stands.{StandsFor}
 use Rattle.esc_events.specs.Taking.{IsNew}
@@ -37,9 +42,10 @@ use Rattle.esc_events.proofs.Searches.{no_answer}
 use Rattle.esc_desk.specs.declared.plan.Source.TheVariants.{Arrived}
 use Rattle.esc_desk.specs.Crashes.{AddsStore, AddsStoreFor}
 use Rattle.esc_desk.specs.Sources.{IsSource}
-use Rattle.esc_desk.specs.Takings.{IsKept}
+use Rattle.esc_desk.specs.Knowing.{IsInserted}
+use Rattle.esc_desk.specs.Takings.{IsKept, IsHeldNow}
 use Rattle.esc_desk.proofs.CrashLemmas.{leaves_for, adds_none, adds_for}
-use Rattle.esc_desk.proofs.KnownRows.{told_same, says_none, put_at}
+use Rattle.esc_desk.proofs.KnownRows.{told_more, told_same, says_row, says_only, says_none, put_at}
 
 -- ---- a receipt alone, or with a parked body
 
@@ -115,6 +121,27 @@ told_still e a k found known receipt is none =
     subst (λ (r : ReceiptValue). AreHeldBy (k.receipts ++ r ∷ []) known.told.items) (sym is.receipt_is)
     (told_same k.receipts _ known.told.items is.known_is.told (says_none a.number (sha256 a.body) found _ none))
 
+-- where it says so of a row, that row is one of them
+pub told_held : (e : List EventValue) (a : ArrivalValue) (k : Kept) (row : ℕ) (d : DepositValue) (known : Known) (receipt : ReceiptValue) → IsNew e a k (Holding row d) known receipt
+    → (more : List ℕ) → IsInserted known.told.items row more → AreHeldBy (k.receipts ++ receipt ∷ []) more
+told_held e a k row d known receipt is more inserted =
+    subst (λ (r : ReceiptValue). AreHeldBy (k.receipts ++ r ∷ []) more) (sym is.receipt_is)
+    (told_more k.receipts _ known.told.items more row is.known_is.told inserted (says_row a.number (sha256 a.body) row d _) (says_only a.number (sha256 a.body) row d _))
+
+-- a deposit is held, where this is known of the rows then
+pub kept_held : {S : Type 0} (g : Ghosts S) (store : Store S) (e : List EventValue) (a : ArrivalValue) (k : Kept) (row : ℕ) (receipt : ReceiptValue) (work : Work) (now : Known)
+    → IsHeldNow g store e a k row receipt work → AreHeld (body_put k.bodies row a.body) now.held.items → AreHeldBy (k.receipts ++ receipt ∷ []) now.told.items → IsKept g store e a now work
+kept_held g store e a k row receipt work now made held told = record {
+  serves = made.serves;
+  knows = record {
+    held = subst (λ (b : ℕ → Option (List ℕ)). AreHeld b now.held.items) (sym made.bodies) held;
+    told = subst (λ (rs : List ReceiptValue). AreHeldBy rs now.told.items) (sym made.receipts) told;
+  };
+  works = made.works;
+  idle = made.idle;
+  left = made.left;
+}
+
 -- ---- a deposit is held
 
 abbrev deposit_in : Finding → DepositValue → DepositValue
@@ -161,3 +188,25 @@ module _ (e : List EventValue) (a : ArrivalValue) (k : Kept) (row : ℕ) (d : De
       latest = subst (λ (t : Option ℤ). AreLatestSteps k.listed rows t plan.new.items) moment_is (subst (λ (m : List MRow). AreLatestSteps m rows moment plan.new.items) rows_are latest);
       planned = planned;
     }
+
+-- ---- the row that a receipt names
+
+row_in : (m : List MRow) (digest : List ℕ) → IfSome (row_of m digest) (λ r. r < length m)
+row_in m digest = by_row (row_of m digest) refl
+  where
+    by_row : (row : Option ℕ) → row_of m digest ≡ row → IfSome row (λ r. r < length m)
+    by_row None is = tt
+    by_row (Some r) is = (position-Some (λ (row : MRow). bytes_eq row.digest digest) m r no_row is).0
+
+-- it is one of those that are listed
+pub row_within : (m : List MRow) (body number digest : List ℕ) (again : Bool) → IfSome (receipt_by number digest (finding sha256 reading m body) again).row (λ r. r < length m)
+row_within m body number digest again = by_row (row_of m (sha256 body)) (reading body) (row_in m (sha256 body))
+  where
+    by_row : (row : Option ℕ) (told : Result DepositValue ℕ) → IfSome row (λ r. r < length m) → IfSome (receipt_by number digest (found_at m row told) again).row (λ r. r < length m)
+    by_row None told within = tt
+    by_row (Some r) (Err n) within = within
+    by_row (Some r) (Ok d) within = by_test (as_listed (row_at m r).header d.header)
+      where
+        by_test : (b : Bool) → IfSome (receipt_by number digest (cond b (Holding r d) (Differing r)) again).row (λ r. r < length m)
+        by_test true = within
+        by_test false = within

@@ -1,6 +1,10 @@
 -- What is known of a store's rows with one more receipt, and with one more body.
-use Rattle.std.proofs.Common.{◌≡◌, ◌⊎◌, inl, inr, ℕ, Bool, true, false, cond, ◌==◌, List, [], ◌∷◌, ◌++◌, Option, Some, None, IsSome, is_some, refl, sym, ap, subst, ◌∙◌, arith}
-use Rattle.std.specs.List.{Any, Contains}
+use Rattle.std.proofs.Common.{◌≡◌, ◌⊎◌, inl, inr, ℕ, Bool, true, false, cond, ◌==◌, List, [], ◌∷◌, ◌++◌, Option, Some, None, IsSome, is_some, refl, sym, ap, subst, ◌∙◌, arith, nat_eq, true≢false}
+use Rattle.std.specs.List.{Any, Contains, list_any}
+use Rattle.std.specs.FinSet as set
+use Rattle.std.specs.Ordering.{nat_cmp, eq_by_cmp}
+use Rattle.std.specs.Cmp.{nat_cmp_total, eq_by_cmp_equiv}
+use Rattle.std.proofs.lemmas.Map.Views.{list_any-from_Contains, Contains-from_any}
 use Rattle.esc_tables.specs.DepositValue.{DepositValue}
 use Rattle.esc_store.specs.Kept.{SaysHeld, AreHeld, AreHeldBy, body_put}
 use Rattle.esc_store.specs.ReplyValue.{ReceiptValue}
@@ -9,7 +13,7 @@ use Rattle.esc_events.specs.declared.finding.Finding.TheVariants.{Holding}
 use Rattle.esc_events.specs.Finding.{held_row}
 use Rattle.esc_events.specs.Receipts.{receipt_by}
 use Rattle.esc_events.proofs.HeldReceipts.{holds_from_says, says_from_holds, split, later, split-last}
-use Rattle.esc_events.proofs.HeldRows.{same_self, same_number, is_row_of}
+use Rattle.esc_events.proofs.HeldRows.{same_test, same_self, same_number, is_row_of}
 use Rattle.esc_events.proofs.Searches.{same_answer, no_answer}
 use Rattle.esc_desk.specs.Knowing.{IsInserted}
 
@@ -80,3 +84,21 @@ held_more bodies row body held more are inserted = record { rising = inserted.ri
     back : (r : ℕ) (b : Bool) → (r == row) ≡ b → IsSome (cond b (Some body) (bodies r)) → (r ≡ row) ⊎ Contains held r
     back r true is some = inl (same_number r row is)
     back r false is some = inr ((are.each r).1 some)
+
+-- ---- whether a row is one of them
+
+exact : (x y : ℕ) → eq_by_cmp nat_cmp x y ≡ true → x ≡ y
+exact x y e = sym (same_number y x (sym (same_test y x) ∙ e))
+
+pub contained : (rows : List ℕ) (r : ℕ) → list_any (λ q. nat_eq q r) rows ≡ true → Contains rows r
+contained rows r any = Contains-from_any exact r rows (sym (set.contains-from_list nat_cmp_total rows r) ∙ set.contains-from_list_nat rows r ∙ any)
+
+pub no_body : (bodies : ℕ → Option (List ℕ)) (rows : List ℕ) → AreHeld bodies rows → (r : ℕ) → list_any (λ q. nat_eq q r) rows ≡ false → bodies r ≡ None
+no_body bodies rows are r other = by_body (bodies r) refl
+  where
+    any : IsSome (bodies r) → list_any (λ q. nat_eq q r) rows ≡ true
+    any some = sym (set.contains-from_list_nat rows r) ∙ set.contains-from_list nat_cmp_total rows r ∙ list_any-from_Contains (eq_by_cmp_equiv nat_cmp_total) r rows ((are.each r).1 some)
+
+    by_body : (o : Option (List ℕ)) → bodies r ≡ o → o ≡ None
+    by_body None is = refl
+    by_body (Some b) is = absurd (true≢false (sym (any (ap is_some is)) ∙ other))

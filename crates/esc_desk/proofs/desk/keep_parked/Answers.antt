@@ -17,7 +17,7 @@ pub returns-in_err-number-clause-crash : goal.returns-in_err-number-clause-crash
 returns-in_err-number-clause-crash g c = λ clean e n k stood is.
     let there = c.in_ok-parking.ensures.same.stands k stood in
     let at = subst (λ (d : List ℕ). IsParking k.parked d c.in_ok-parking.parking) (ap (λ (r : ReceiptValue). r.digest) c.receipt.view_is) (c.in_ok-parking.ensures.parking (c.in_err-number.ensures.honest clean) k stood) in
-    adds_then g.S.Store _ _ _ _ _ c.in_ok-parking.ensures.same.survives (adds_as g.S.Store _ _ _ _ _ (λ h. not_full_by _ c.in_err-number.field-0.0 (search rules) h)
+    adds_then g.S.Store _ c.parking_of.new.store.conn _ _ _ c.in_ok-parking.ensures.same.survives (adds_as g.S.Store _ _ _ _ _ (λ h. not_full_by _ c.in_err-number.field-0.0 (search rules) h)
     (adds_parked e (an_arrival n c.args.body.now) k c.args.known.now c.args.receipt.now is g.S.Store _ _ _ c.in_ok-parking.parking at c.in_err-number.ensures.crowded (c.in_err-number.ensures.crash k there)))
 
 pub returns-clause-kept : goal.returns-clause-kept
@@ -35,7 +35,7 @@ pub returns-clause-crash : goal.returns-clause-crash
 returns-clause-crash g c = λ clean e n k stood is.
     let there = c.in_ok-parking.ensures.same.stands k stood in
     let at = subst (λ (d : List ℕ). IsParking k.parked d c.in_ok-parking.parking) (ap (λ (r : ReceiptValue). r.digest) c.receipt.view_is) (c.in_ok-parking.ensures.parking (c.in_ok-number.ensures.honest clean) k stood) in
-    adds_then g.S.Store _ _ _ _ _ c.in_ok-parking.ensures.same.survives (adds_as g.S.Store _ _ _ _ _ (λ h. tt)
+    adds_then g.S.Store _ c.parking_of.new.store.conn _ _ _ c.in_ok-parking.ensures.same.survives (adds_as g.S.Store _ _ _ _ _ (λ h. tt)
     (adds_parked e (an_arrival n c.args.body.now) k c.args.known.now c.args.receipt.now is g.S.Store _ _ _ c.in_ok-parking.parking at c.in_ok-number.ensures.crowded (c.in_ok-number.ensures.crash k there)))
 
 pub returns-in_err-number-clause-cause : goal.returns-in_err-number-clause-cause
