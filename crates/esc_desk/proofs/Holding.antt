@@ -1,5 +1,5 @@
 -- What a store stands for once an arrival like none before it was noted, and the move where its deposit is held.
-use Rattle.std.proofs.Common.{◌≡◌, ℕ, ℤ, Bool, true, false, cond, ◌==◌, List, [], ◌∷◌, ◌++◌, Option, Some, None, IsSome, Result, Ok, Err, refl, sym, ap, subst, ◌∙◌, append-nil, true≢false}
+use Rattle.std.proofs.Common.{◌≡◌, ◌⊎◌, inl, inr, ℕ, ℤ, Bool, true, false, cond, ◌==◌, List, [], ◌∷◌, ◌++◌, Option, Some, None, IsSome, Result, Ok, Err, refl, sym, ap, subst, ◌∙◌, append-nil, true≢false}
 use Rattle.std.specs.Prelude.{is_some, IfSome, ◌<◌, length}
 use Rattle.std.specs.Str.{bytes_eq}
 use Rattle.std.proofs.lemmas.List.Quantifiers.{position-Some}
@@ -29,7 +29,7 @@ use Rattle.esc_events.specs.Finding.{as_listed, finding, found_at, row_of, held_
 use Rattle.esc_events.specs.Laws.{IsMove}
 use Rattle.esc_events.specs.Notes.{noted_by, held_by}
 use Rattle.esc_events.specs.Parks.{IsParking}
-use Rattle.esc_events.specs.Receipts.{receipt_by}
+use Rattle.esc_events.specs.Receipts.{is_among, receipt_by}
 use Rattle.esc_events.specs.Plans.{AreLatestSteps, IsPlanned}
 use Rattle.esc_events.specs.Stands.{StandsFor}
 use Rattle.esc_events.specs.Taking.{IsNew}
@@ -54,12 +54,17 @@ pub stands_noted : (e : List EventValue) (a : ArrivalValue) (k : Kept) (found : 
 stands_noted e a k found known receipt is listed there =
     stands_still e (e ++ arrived a ∷ []) k (with_receipt k receipt) is.stood (books_noted e a k found known receipt is listed there) refl refl refl refl refl
 
--- a body that was read is listed
-pub unreadable_listed : (r n : ℕ) (f : Finding) → f ≡ Unreadable r n → f ≡ Unlisted → ⊥
-unreadable_listed r n f is same = let never : ⊥ = cc in never
+-- a row lists the body, and it isn't that row's deposit
+abbrev pub IsRefused : Finding → Type 0
+IsRefused found = ((r : ℕ) × (n : ℕ) × (found ≡ Unreadable r n)) ⊎ ((r : ℕ) × (found ≡ Differing r))
 
-pub differing_listed : (r : ℕ) (f : Finding) → f ≡ Differing r → f ≡ Unlisted → ⊥
-differing_listed r f is same = let never : ⊥ = cc in never
+pub refused_listed : (found : Finding) → IsRefused found → found ≡ Unlisted → ⊥
+refused_listed found (inl (r, n, is)) same = let never : ⊥ = cc in never
+refused_listed found (inr (r, is)) same = let never : ⊥ = cc in never
+
+pub refused_row : (found : Finding) → IsRefused found → held_row found ≡ None
+refused_row found (inl (r, n, is)) = ap held_row is
+refused_row found (inr (r, is)) = ap held_row is
 
 pub holding_listed : (r : ℕ) (d : DepositValue) → Holding r d ≡ Unlisted → ⊥
 holding_listed r d same = true≢false (ap (λ (f : Finding). is_some (held_row f)) same)
@@ -126,7 +131,10 @@ pub told_held : (e : List EventValue) (a : ArrivalValue) (k : Kept) (row : ℕ) 
     → (more : List ℕ) → IsInserted known.told.items row more → AreHeldBy (k.receipts ++ receipt ∷ []) more
 told_held e a k row d known receipt is more inserted =
     subst (λ (r : ReceiptValue). AreHeldBy (k.receipts ++ r ∷ []) more) (sym is.receipt_is)
-    (told_more k.receipts _ known.told.items more row is.known_is.told inserted (says_row a.number (sha256 a.body) row d _) (says_only a.number (sha256 a.body) row d _))
+    (told_more k.receipts _ known.told.items more row is.known_is.told inserted (says_row a.number (sha256 a.body) row d again) (says_only a.number (sha256 a.body) row d again))
+  where
+    again : Bool
+    again = is_among known.told.items (Some row)
 
 -- a deposit is held, where this is known of the rows then
 pub kept_held : {S : Type 0} (g : Ghosts S) (store : Store S) (e : List EventValue) (a : ArrivalValue) (k : Kept) (row : ℕ) (receipt : ReceiptValue) (work : Work) (now : Known)
