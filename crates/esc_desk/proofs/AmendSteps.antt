@@ -42,31 +42,6 @@ pub if_ok_at : {X E : Type 0} (r : Result X E) (P : X → Type 0) → ((x : X) �
 if_ok_at (Ok x) P h = h x refl
 if_ok_at (Err f) P h = tt
 
--- ---- what a call adds to what a crash may leave, by events
-module _ {S : Type 0} (g : Ghosts S) where
-  pub adds_none : {X : Type 0} (old new : Held S) (result : Result X SFault) (e : List EventValue) → Survives (state g old) (state g new) (λ _. ⊥) → AddsStoreFor g old new result e
-  unfolding AddsStoreFor
-  adds_none old new result e s = none_is_fine _ _ _ s
-
-  -- first a call that added nothing, then this one
-  pub adds_then : {X : Type 0} (a b c : Held S) (result : Result X SFault) (e : List EventValue) → Survives (state g a) (state g b) (λ _. ⊥) → AddsStoreFor g b c result e → AddsStoreFor g a c result e
-  unfolding AddsStoreFor
-  adds_then a b c result e p q = none_then _ _ _ _ p q
-
-  -- the same by another answer
-  pub adds_as : {X Y : Type 0} (old new : Held S) (r : Result X SFault) (q : Result Y SFault) (e : List EventValue) → (IsNotFull r → IsNotFull q) → AddsStoreFor g old new r e → AddsStoreFor g old new q e
-  unfolding AddsStoreFor
-  adds_as old new r q e f s = survives_weaker _ _ _ _ (λ clean trees h. (f h.0, h.1)) s
-
-  -- a store that stands for these events
-  pub adds_for : {X : Type 0} (old new : Held S) (result : Result X SFault) (k : Kept) (e : List EventValue) → StandsFor sha256 reading e k → AddsStore g old new result k → AddsStoreFor g old new result e
-  unfolding AddsStore AddsStoreFor
-  adds_for old new result k e stands s = survives_weaker _ _ _ _ (λ clean trees h. (h.0, record { kept = k; store = h.1; stands_for = stands })) s
-
-  pub leaves_for : (store : Store S) (k : Kept) (e : List EventValue) → StandsFor sha256 reading e k → LeavesOnly g store k → LeavesOnlyFor g store.conn e
-  unfolding LeavesOnly LeavesOnlyFor
-  leaves_for store k e stands left clean trees may = record { kept = k; store = left clean trees may; stands_for = stands }
-
 -- ---- what is known when the rows of a union are to be listed: the store stands for e, n is the union of its rows and more, this was
 -- judged of the parked bodies, these are the rows of which a body is held then, and the plan goes to the latest steps of those
 pub record IsListing (e : List EventValue) (k : Kept) (more n : List MRow) (known : Known) (told : Judged) (rows : List ℕ) (plan : Plan) : Type 0 where

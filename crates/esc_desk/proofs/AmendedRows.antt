@@ -9,18 +9,7 @@ use Rattle.esc_manifest.specs.Rows.{row_at}
 use Rattle.esc_store.specs.Kept.{Kept, IsRising, AreHeld}
 use Rattle.esc_events.specs.Amended.{judged, numbers_from, is_adopted, adopted_rows, amended_bodies}
 use Rattle.esc_desk.specs.Amendments.{AreApartRows}
-
--- ---- one of a list
-
-first_or_later : (y r : ℕ) (xs : List ℕ) → Contains (y ∷ xs) r → (y ≡ r) ⊎ Contains xs r
-first_or_later y r xs there = by_place there.0 there.1 there.2
-  where
-    by_place : (i : ℕ) → i < length (y ∷ xs) → slice_index_or (y ∷ xs) i r ≡ r → (y ≡ r) ⊎ Contains xs r
-    by_place zero within is = inl is
-    by_place (suc i) within is = inr (i, omega (arith, within), is)
-
-later : (y r : ℕ) (xs : List ℕ) → Contains xs r → Contains (y ∷ xs) r
-later y r xs there = (suc there.0, omega (arith, there.1), there.2)
+use Rattle.esc_desk.proofs.Remembering.{first_or_later, later}
 
 -- ---- numbers that rise by one
 

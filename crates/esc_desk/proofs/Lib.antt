@@ -1,11 +1,16 @@
 pub mod AmendSteps
 pub mod AmendedRows
 pub mod AtFirst
+pub mod CauseLemmas
 pub mod ChangeSteps
+pub mod CrashLemmas
 pub mod CrashSteps
 pub mod EntryLists
 pub mod FoundRows
+pub mod Holding
 pub mod JudgedRows
+pub mod KnownRows
+pub mod Likeness
 pub mod ListingSteps
 pub mod NoRowMore
 pub mod OutcomeLemmas
@@ -18,3 +23,4 @@ pub mod SameHeld
 pub mod StoreFacts
 pub mod WalkSteps
 pub mod Walks
+pub mod Working

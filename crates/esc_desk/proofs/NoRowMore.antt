@@ -122,11 +122,6 @@ module _ {S : Type 0} (g : Ghosts S) where
   unfolding Stands
   rows_of_store store k stood = stood.listed
 
-  -- where the disk is clean is enough
-  pub if_clean : (conn : Held S) (e doubtful : List EventValue) → (HasCleanDisk (state g conn) → CrashLeaves g conn e doubtful) → CrashLeaves g conn e doubtful
-  unfolding CrashLeaves
-  if_clean conn e doubtful h clean = h clean clean
-
   -- no row more is listed
   pub leaves_alike : (conn : Held S) (e f doubtful : List EventValue) → AreAlike e f → CrashLeaves g conn e doubtful → CrashLeaves g conn f doubtful
   unfolding CrashLeaves

@@ -124,11 +124,6 @@ doubtful_lost all a f e doubtful (x ∷ xs) (Done q ∷ os) are = doubtful_lost 
 doubtful_lost all a f e doubtful (x ∷ xs) (Lost h ∷ os) are = doubtful_lost all a f e (doubtful_with h (arrived x) doubtful) xs os are
 
 module _ {S : Type 0} (g : Ghosts S) where
-  -- where the disk is clean is enough
-  pub if_clean : (conn : Held S) (e doubtful : List EventValue) → (HasCleanDisk (state g conn) → CrashLeaves g conn e doubtful) → CrashLeaves g conn e doubtful
-  unfolding CrashLeaves
-  if_clean conn e doubtful h clean = h clean clean
-
   pub left_more : (new : Held S) (before doubtful : List EventValue) (xs : List ArrivalValue) (os : List Outcome) (a : ArrivalValue) (o : Outcome)
       → AreReplies (before ++ answered xs os) xs os → LeavesOutcome g new (before ++ answered xs os) (doubtful_after before doubtful xs os) a o
       → CrashLeaves g new (before ++ answered (xs ++ a ∷ []) (os ++ o ∷ [])) (doubtful_after before doubtful (xs ++ a ∷ []) (os ++ o ∷ []))

@@ -33,6 +33,7 @@ ghost use Rattle.esc_store.specs.Standing.{
   Stands,
   IsHonest,
   LeavesOnly,
+  LeavesNoMore,
   Began,
   Rest,
   HoldsNow,
@@ -85,6 +86,8 @@ pub(crate) fn note_receipt<S: Alter>(
     ensures crash { (k : Kept) → Stands S.Store store.old k
         → AddsStore S.Store store.old.conn store.new.conn result
         (noted_by receipt.now parking body.now k) }
+    ensures crowded { parking ≡ Crowded
+        → LeavesNoMore S.Store store.old.conn store.new.conn }
     ensures kept { OnErr result ((k : Kept) → Stands S.Store store.old k
         → Stands S.Store store.new k) }
     ensures cause { IfErr result (IsNoteFault S.Store store.old store.new parking) }

@@ -66,7 +66,7 @@ use crate::plan::{Source, latest_steps, plan_move};
 use crate::receipt::{is_among, receipt_by, reply_of};
 use esc_apply::{Work, read_deposits_mention_few};
 use esc_chain::latest_chain_at_rows_are_held;
-use esc_events::{Finding, Known, Parking};
+use esc_events::{Finding, Known, Parking, chain_after_an_event};
 use esc_store::{Number, Receipt, Reply, SFault, Store};
 use esc_tables::Deposit;
 use sha2::{Digest, Sha256};
@@ -436,6 +436,7 @@ fn keep_deposit<S: Alter>(
 {
     latest_chain_at_rows_are_held();
     read_deposits_mention_few();
+    chain_after_an_event();
     let moment = store.moment()?;
     let new = latest_steps(alloc, store.manifest(), held, moment)?;
     let plan = plan_move(store, alloc, new, Source::Arrived(row, Some(deposit)))?;

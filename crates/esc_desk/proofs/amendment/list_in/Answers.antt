@@ -9,7 +9,8 @@ use Rattle.esc_events.specs.Amended.{amended_bodies}
 use Rattle.esc_events.specs.Plans.{AreLatestSteps}
 use Rattle.esc_events.specs.Stands.{deposits_of}
 use Rattle.esc_desk.specs.Sources.{AreJudged}
-use Rattle.esc_desk.proofs.AmendSteps.{IsListing, if_ok_at, adds_none, adds_then, adds_for, leaves_for, is_amendment, is_moved_from, stands_then, works_then, knows_then}
+use Rattle.esc_desk.proofs.AmendSteps.{IsListing, if_ok_at, is_amendment, is_moved_from, stands_then, works_then, knows_then}
+use Rattle.esc_desk.proofs.CrashLemmas.{adds_none, adds_then, adds_for, leaves_for}
 use Rattle.esc_desk.proofs.StoreFacts.{was_honest, as_before_then}
 use Rattle.esc_desk.proofs.amendment.list_in.Goals as goal
 

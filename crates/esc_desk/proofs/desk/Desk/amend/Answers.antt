@@ -9,7 +9,8 @@ use Rattle.esc_events.specs.Events.EventValue.{listed}
 use Rattle.esc_store.specs.declared.fault.SFault.TheVariants.{S2}
 use Rattle.esc_desk.specs.Amendments.{amendment_of, IsUnionWith, IsRefusedUnion}
 use Rattle.esc_desk.specs.Crashes.{CrashLeaves, doubtful_with}
-use Rattle.esc_desk.proofs.NoRowMore.{new_count, alike_none, stands_none, works_none, amendment_is, rows_of_store, if_clean, leaves_alike, leaves_sure, leaves_before, leaves_lost}
+use Rattle.esc_desk.proofs.NoRowMore.{new_count, alike_none, stands_none, works_none, amendment_is, rows_of_store, leaves_alike, leaves_sure, leaves_before, leaves_lost}
+use Rattle.esc_desk.proofs.CrashLemmas.{if_clean}
 use Rattle.esc_desk.proofs.desk.Desk.amend.Goals as goal
 
 pub returns-in-Err-NoMemory-clause-crash : goal.returns-in-Err-NoMemory-clause-crash

@@ -1,5 +1,5 @@
 use Rattle.std.proofs.Common.{rules}
-use Rattle.esc_desk.proofs.AmendSteps.{adds_none, adds_then, adds_as}
+use Rattle.esc_desk.proofs.CrashLemmas.{adds_none, adds_then, adds_as}
 use Rattle.esc_desk.proofs.CrashSteps.{not_full_by}
 use Rattle.esc_desk.proofs.desk.Desk.list_more.Goals as goal
 

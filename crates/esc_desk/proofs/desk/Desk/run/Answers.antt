@@ -8,7 +8,8 @@ use Rattle.esc_desk.specs.Calls.{writes_of}
 use Rattle.esc_desk.specs.Crashes.{CrashLeaves}
 use Rattle.esc_desk.specs.Outcomes.{IsOutcome, AreOutcomesOf, HasWorked}
 use Rattle.esc_desk.specs.Running.{Ran, answered}
-use Rattle.esc_desk.proofs.RunLemmas.{ran_none, ran_more, if_clean, left_more}
+use Rattle.esc_desk.proofs.RunLemmas.{ran_none, ran_more, left_more}
+use Rattle.esc_desk.proofs.CrashLemmas.{if_clean}
 use Rattle.esc_desk.proofs.OutcomeLemmas.{outcomes_more, worked_none, worked_more}
 use Rattle.esc_desk.proofs.desk.Desk.run.Goals as goal
 

@@ -1,0 +1,81 @@
+-- Why an arrival is lost, from one call to the next.
+use Rattle.std.proofs.Common.{◌≡◌, ◌⊎◌, inl, inr, ℕ, List, Option, None, IsSome, Result, Ok, Err, IfErr, sym, ap, subst, ◌∙◌}
+use Rattle.sha2.specs.Sha256.{sha256}
+use Rattle.esc_tables.specs.Reading.{reading}
+use Rattle.esc_manifest.specs.declared.row.MRow.{MRow}
+use Rattle.esc_store.specs.declared.fault.SFault.{SFault}
+use Rattle.esc_store.specs.declared.fault.SFault.TheVariants.{S4, S5}
+use Rattle.esc_store.specs.Faults.{IsS1OrS2, IsS1OrS2OrS4OrS5}
+use Rattle.esc_store.specs.Kept.{Kept, IsFull}
+use Rattle.esc_events.specs.Apart.{WhereApart}
+use Rattle.esc_events.specs.ArrivalValue.{ArrivalValue}
+use Rattle.esc_events.specs.Events.{EventValue}
+use Rattle.esc_events.specs.Finding.{row_of}
+use Rattle.esc_events.specs.Receipts.{reply_to}
+use Rattle.esc_events.specs.Stands.{AreBooks, IsApart, parked_body}
+use Rattle.esc_desk.specs.Calls.{HasNoRoom, HasNoPlace, IsCause}
+use Rattle.esc_desk.specs.Causes.{IsCrowded}
+
+pub if_err_each : {X E : Type 0} (r : Result X E) (P Q : E → Type 0) → ((f : E) → P f → Q f) → IfErr r P → IfErr r Q
+if_err_each (Ok x) P Q h p = tt
+if_err_each (Err f) P Q h p = h f p
+
+pub if_err_is : {X E : Type 0} (r : Result X E) (f : E) (P : E → Type 0) → r ≡ Err f → P f → IfErr r P
+if_err_is r f P is p = rw is p
+
+-- where S4 has one reason, it has another
+pub fault_then : (f : SFault) (P Q : Type 0) → (P → Q) → IsS1OrS2 f ⊎ ((f ≡ S4) × P) → IsS1OrS2 f ⊎ ((f ≡ S4) × Q)
+fault_then f P Q h (inl is) = inl is
+fault_then f P Q h (inr full) = inr (full.0, h full.1)
+
+-- the same of S5 and S4
+pub faults_then : (f : SFault) (A B P Q : Type 0) → (A → B) → (P → Q) → ((f ≡ S5) × A) ⊎ (IsS1OrS2 f ⊎ ((f ≡ S4) × P)) → ((f ≡ S5) × B) ⊎ (IsS1OrS2 f ⊎ ((f ≡ S4) × Q))
+faults_then f A B P Q place room (inl crowded) = inl (crowded.0, place crowded.1)
+faults_then f A B P Q place room (inr other) = inr (fault_then f P Q room other)
+
+-- of a body that no row lists, S5 has a reason
+pub faults_of : (f : SFault) (U A B P : Type 0) → (U → A → B) → (U × (((f ≡ S5) × A) ⊎ P)) ⊎ P → ((f ≡ S5) × B) ⊎ P
+faults_of f U A B P h (inl (unlisted, inl crowded)) = inl (crowded.0, h unlisted crowded.1)
+faults_of f U A B P h (inl (unlisted, inr other)) = inr other
+faults_of f U A B P h (inr other) = inr other
+
+pub one_of_four : (f : SFault) (A P : Type 0) → ((f ≡ S5) × A) ⊎ (IsS1OrS2 f ⊎ ((f ≡ S4) × P)) → IsS1OrS2OrS4OrS5 f
+one_of_four f A P (inl crowded) = inl crowded.0
+one_of_four f A P (inr (inl is)) = inr (inr is)
+one_of_four f A P (inr (inr full)) = inr (inl full.0)
+
+pub cause_by : (e : List EventValue) (a : ArrivalValue) (f : SFault) → IsS1OrS2 f → IsCause e a f
+cause_by e a f (inl is) = subst (IsCause e a) (sym is) tt
+cause_by e a f (inr is) = subst (IsCause e a) (sym is) tt
+
+pub cause_of : (e : List EventValue) (a : ArrivalValue) (f : SFault) (A P : Type 0) → (A → WhereApart e (HasNoPlace e a)) → (P → HasNoRoom e a) → ((f ≡ S5) × A) ⊎ (IsS1OrS2 f ⊎ ((f ≡ S4) × P)) → IsCause e a f
+cause_of e a f A P place room (inl crowded) = subst (IsCause e a) (sym crowded.0) (place crowded.1)
+cause_of e a f A P place room (inr (inl is)) = cause_by e a f is
+cause_of e a f A P place room (inr (inr full)) = subst (IsCause e a) (sym full.0) (room full.1)
+
+-- ---- no place, by what a store keeps
+
+still_full : (p q : List ℕ → Option (List ℕ)) → ((d : List ℕ) → p d ≡ q d) → IsFull p → IsFull q
+still_full p q same full = record {
+  digests = full.digests;
+  are = record { rising = full.are.rising; each = λ d. (λ there. subst IsSome (same d) ((full.are.each d).0 there), λ some. (full.are.each d).1 (subst IsSome (sym (same d)) some)) };
+  many = full.many;
+}
+
+module _ (e : List EventValue) (a : ArrivalValue) (k : Kept) (books : AreBooks sha256 reading e k) where
+  pub crowded_of : IsApart sha256 reading e → HasNoPlace e a → IsCrowded k (sha256 a.body)
+  crowded_of apart full = record {
+    unlisted = ap (λ (m : List MRow). row_of m (sha256 a.body)) books.listed ∙ full.to_be_parked.unlisted;
+    not_parked = books.parked apart (sha256 a.body) ∙ full.to_be_parked.not_parked;
+    full = still_full (parked_body sha256 reading e) k.parked (λ d. sym (books.parked apart d)) full.full;
+  }
+
+  pub no_place_of : reply_to sha256 reading e a ≡ None → IsCrowded k (sha256 a.body) → WhereApart e (HasNoPlace e a)
+  no_place_of none crowded apart = record {
+    to_be_parked = record {
+      like_none = none;
+      unlisted = ap (λ (m : List MRow). row_of m (sha256 a.body)) (sym books.listed) ∙ crowded.unlisted;
+      not_parked = sym (books.parked apart (sha256 a.body)) ∙ crowded.not_parked;
+    };
+    full = still_full k.parked (parked_body sha256 reading e) (books.parked apart) crowded.full;
+  }

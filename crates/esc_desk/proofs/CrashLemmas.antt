@@ -1,0 +1,136 @@
+-- What a crash leaves by the events that a store stands for, from one call to the next.
+use Rattle.std.proofs.Common.{◌≡◌, ◌≢◌, inl, inr, true, List, [], ◌∷◌, ◌++◌, Option, Some, None, Result, Ok, Err, refl, sym, subst, arith}
+use Rattle.std.specs.Prelude.{OnOk, MatchResult}
+use Rattle.std.specs.List.{list_any}
+use Rattle.sha2.specs.Sha256.{sha256}
+use Rattle.sqlite_trees.specs.declared.store.Store.{Ghosts}
+use Rattle.sqlite_trees.specs.Tree.{Trees}
+use Rattle.sqlite.specs.Held.{Held, state}
+use Rattle.sqlite.specs.State.{HasCleanDisk, Survives}
+use Rattle.sqlite.proofs.StateLemmas.{survives_weaker}
+use Rattle.esc_tables.specs.Reading.{reading}
+use Rattle.esc_store.specs.declared.fault.SFault.{SFault}
+use Rattle.esc_store.specs.declared.fault.SFault.TheVariants.{S1, S2, S3, S4, S5}
+use Rattle.esc_store.specs.declared.store.Store.{Store}
+use Rattle.esc_store.specs.Kept.{Kept}
+use Rattle.esc_store.specs.ReplyValue.{ReplyValue}
+use Rattle.esc_store.specs.Standing.{LeavesOnly}
+use Rattle.esc_events.specs.ArrivalValue.{ArrivalValue}
+use Rattle.esc_events.specs.Events.{EventValue, union, coming, comings}
+use Rattle.esc_events.specs.Events.EventValue.{arrived}
+use Rattle.esc_events.specs.Receipts.{alike, reply_to}
+use Rattle.esc_events.specs.Stands.{StandsFor}
+use Rattle.esc_desk.specs.Crashes.{IsStoreFor, IsStoreForOneOf, CrashLeaves, LeavesOnlyFor, LeavesTaken, LeavesMade, still_doubtful, doubtful_with, IsNotFull, AddsStore, AddsStoreFor}
+use Rattle.esc_desk.proofs.CrashSteps.{none_then, none_is_fine}
+use Rattle.esc_desk.proofs.Likeness.{seen, still_stands, still_stands_with}
+
+-- ---- an arrival that is like an earlier one
+
+still_one : (trees : Trees) (e doubtful : List EventValue) (a : ArrivalValue) → list_any (alike sha256 reading (coming (union e) a)) (comings e) ≡ true → IsStoreForOneOf trees e doubtful → IsStoreForOneOf trees (e ++ arrived a ∷ []) doubtful
+still_one trees e [] a was one = record { kept = one.kept; store = one.store; stands_for = still_stands e a one.kept was one.stands_for }
+still_one trees e (x ∷ doubtful) a was (inl one) = inl (record { kept = one.kept; store = one.store; stands_for = still_stands_with e a one.kept was x one.stands_for })
+still_one trees e (x ∷ doubtful) a was (inr more) = inr (still_one trees e doubtful a was more)
+
+-- ---- an event that was refused
+
+one_with : (trees : Trees) (e doubtful : List EventValue) (x : EventValue) (f : SFault) → IsStoreForOneOf trees e doubtful → IsStoreForOneOf trees e (doubtful_with f x doubtful)
+one_with trees e doubtful x S1 one = inr one
+one_with trees e doubtful x S2 one = inr one
+one_with trees e doubtful x S3 one = inr one
+one_with trees e doubtful x S4 one = one
+one_with trees e doubtful x S5 one = one
+
+one_more : (trees : Trees) (e doubtful : List EventValue) (x : EventValue) (f : SFault) → (f ≢ S4) × (f ≢ S5) → IsStoreFor trees (e ++ x ∷ []) → IsStoreForOneOf trees e (doubtful_with f x doubtful)
+one_more trees e doubtful x S1 other stands = inl stands
+one_more trees e doubtful x S2 other stands = inl stands
+one_more trees e doubtful x S3 other stands = inl stands
+one_more trees e doubtful x S4 other stands = absurd (other.0 refl)
+one_more trees e doubtful x S5 other stands = absurd (other.1 refl)
+
+-- ---- calls
+
+module _ {S : Type 0} (g : Ghosts S) where
+  -- nothing was added
+  pub adds_none : {X : Type 0} (old new : Held S) (result : Result X SFault) (e : List EventValue) → Survives (state g old) (state g new) (λ _. ⊥) → AddsStoreFor g old new result e
+  unfolding AddsStoreFor
+  adds_none old new result e s = none_is_fine _ _ _ s
+
+  -- nothing was called
+  pub adds_at_rest : {X : Type 0} (conn : Held S) (result : Result X SFault) (e : List EventValue) → AddsStoreFor g conn conn result e
+  adds_at_rest conn result e = adds_none conn conn result e (record { clean = omega arith; shield = λ h. h; counts = omega arith; limit = refl; closes = λ _ up. inl up; crash = λ _ db may. inl may })
+
+  -- first a call that added nothing, then this one
+  pub adds_then : {X : Type 0} (a b c : Held S) (result : Result X SFault) (e : List EventValue) → Survives (state g a) (state g b) (λ _. ⊥) → AddsStoreFor g b c result e → AddsStoreFor g a c result e
+  unfolding AddsStoreFor
+  adds_then a b c result e p q = none_then _ _ _ _ p q
+
+  -- the same by another answer
+  pub adds_as : {X Y : Type 0} (old new : Held S) (r : Result X SFault) (q : Result Y SFault) (e : List EventValue) → (IsNotFull r → IsNotFull q) → AddsStoreFor g old new r e → AddsStoreFor g old new q e
+  unfolding AddsStoreFor
+  adds_as old new r q e f s = survives_weaker _ _ _ _ (λ clean trees h. (f h.0, h.1)) s
+
+  -- a store that stands for these events
+  pub adds_for : {X : Type 0} (old new : Held S) (result : Result X SFault) (k : Kept) (e : List EventValue) → StandsFor sha256 reading e k → AddsStore g old new result k → AddsStoreFor g old new result e
+  unfolding AddsStore AddsStoreFor
+  adds_for old new result k e stands s = survives_weaker _ _ _ _ (λ clean trees h. (h.0, record { kept = k; store = h.1; stands_for = stands })) s
+
+  -- ---- what a crash leaves then
+  module _ (old new : Held S) (e doubtful : List EventValue) (left : CrashLeaves g old e doubtful) where
+    pub leaves_as : Survives (state g old) (state g new) (λ _. ⊥) → CrashLeaves g new e doubtful
+    unfolding CrashLeaves
+    leaves_as s clean trees may = elim (s.crash clean trees may) [ inl was ↦ left (omega (arith, s.clean, clean)) trees was | inr none ↦ absurd none ]
+
+    pub leaves_kept : (a : ArrivalValue) (r : ReplyValue) → reply_to sha256 reading e a ≡ Some r → Survives (state g old) (state g new) (λ _. ⊥)
+        → CrashLeaves g new (e ++ arrived a ∷ []) (still_doubtful (reply_to sha256 reading e a) doubtful)
+    unfolding CrashLeaves
+    leaves_kept a r told s = subst (λ (o : Option ReplyValue). CrashLeaves g new (e ++ arrived a ∷ []) (still_doubtful o doubtful)) (sym told)
+        (λ clean trees may. still_one trees e doubtful a (seen e a r told) (leaves_as s clean trees may))
+
+    pub leaves_refused : (X : Type 0) (x : EventValue) (f : SFault) → AddsStoreFor {X = X} g old new (Err f) (e ++ x ∷ []) → CrashLeaves g new e (doubtful_with f x doubtful)
+    unfolding CrashLeaves AddsStoreFor
+    leaves_refused X x f s clean trees may = elim (s.crash clean trees may) [
+      | inl was ↦ one_with trees e doubtful x f (left (omega (arith, s.clean, clean)) trees was)
+      | inr made ↦ one_more trees e doubtful x f made.0 made.1
+    ]
+
+  pub leaves_new : (new : Held S) (e doubtful : List EventValue) (a : ArrivalValue) → reply_to sha256 reading e a ≡ None → LeavesOnlyFor g new (e ++ arrived a ∷ [])
+      → CrashLeaves g new (e ++ arrived a ∷ []) (still_doubtful (reply_to sha256 reading e a) doubtful)
+  unfolding CrashLeaves LeavesOnlyFor
+  leaves_new new e doubtful a none only = subst (λ (o : Option ReplyValue). CrashLeaves g new (e ++ arrived a ∷ []) (still_doubtful o doubtful)) (sym none) only
+
+  leaves_only : (new : Held S) (e : List EventValue) → LeavesOnlyFor g new e → CrashLeaves g new e []
+  unfolding CrashLeaves LeavesOnlyFor
+  leaves_only new e only = only
+
+  -- where the disk is clean is enough
+  pub if_clean : (conn : Held S) (e doubtful : List EventValue) → (HasCleanDisk (state g conn) → CrashLeaves g conn e doubtful) → CrashLeaves g conn e doubtful
+  unfolding CrashLeaves
+  if_clean conn e doubtful h clean = h clean clean
+
+  -- an arrival like none before it, by what came of it
+  pub leaves_taken : {X : Type 0} (old new : Held S) (e doubtful : List EventValue) (a : ArrivalValue) (result : Result X SFault) → CrashLeaves g old e doubtful
+      → (HasCleanDisk (state g new) → reply_to sha256 reading e a ≡ None) → (HasCleanDisk (state g new) → AddsStoreFor g old new result (e ++ arrived a ∷ [])) → (HasCleanDisk (state g new) → OnOk result (LeavesOnlyFor g new (e ++ arrived a ∷ [])))
+      → LeavesTaken g new e doubtful a result
+  leaves_taken {X = X} old new e doubtful a (Ok x) left none adds only = if_clean new (e ++ arrived a ∷ []) _ (λ clean. leaves_new new e doubtful a (none clean) (only clean))
+  leaves_taken {X = X} old new e doubtful a (Err f) left none adds only = if_clean new e (doubtful_with f (arrived a) doubtful) (λ clean. leaves_refused old new e doubtful left X (arrived a) f (adds clean))
+
+  -- one that was refused before anything was begun
+  pub leaves_early : {X : Type 0} (old new : Held S) (e doubtful : List EventValue) (a : ArrivalValue) (result : Result X SFault) (f : SFault) → result ≡ Err f → CrashLeaves g old e doubtful → Survives (state g old) (state g new) (λ _. ⊥)
+      → LeavesTaken g new e doubtful a result
+  leaves_early {X = X} old new e doubtful a result f is left s = rw is (leaves_refused old new e doubtful left X (arrived a) f (adds_none {X = X} old new (Err f) (e ++ arrived a ∷ []) s))
+
+  -- an event that changes a table, by what came of it
+  pub leaves_made : {X : Type 0} (old new : Held S) (e doubtful : List EventValue) (x : EventValue) (result : Result X SFault) → CrashLeaves g old e doubtful
+      → (HasCleanDisk (state g new) → AddsStoreFor g old new result (e ++ x ∷ [])) → (HasCleanDisk (state g new) → OnOk result (LeavesOnlyFor g new (e ++ x ∷ [])))
+      → LeavesMade g new e doubtful x result
+  leaves_made {X = X} old new e doubtful x (Ok y) left adds only = if_clean new (e ++ x ∷ []) [] (λ clean. leaves_only new (e ++ x ∷ []) (only clean))
+  leaves_made {X = X} old new e doubtful x (Err f) left adds only = if_clean new e (doubtful_with f x doubtful) (λ clean. leaves_refused old new e doubtful left X x f (adds clean))
+
+  -- ---- a store that was left alone
+  pub leaves_for : (store : Store S) (k : Kept) (e : List EventValue) → StandsFor sha256 reading e k → LeavesOnly g store k → LeavesOnlyFor g store.conn e
+  unfolding LeavesOnly LeavesOnlyFor
+  leaves_for store k e stands left clean trees may = record { kept = k; store = left clean trees may; stands_for = stands }
+
+  pub leaves_at : (store : Store S) (k : Kept) (e : List EventValue) → StandsFor sha256 reading e k → LeavesOnly g store k → CrashLeaves g store.conn e []
+  unfolding CrashLeaves LeavesOnlyFor
+  leaves_at store k e stands left = leaves_for store k e stands left

@@ -1,0 +1,104 @@
+-- What is known of a store's rows with one more receipt, and with one more body.
+use Rattle.std.proofs.Common.{◌≡◌, ◌⊎◌, inl, inr, ℕ, Bool, true, false, cond, ◌==◌, List, [], ◌∷◌, ◌++◌, Option, Some, None, IsSome, is_some, refl, sym, ap, subst, ◌∙◌, arith, nat_eq, true≢false}
+use Rattle.std.specs.List.{Any, Contains, list_any}
+use Rattle.std.specs.FinSet as set
+use Rattle.std.specs.Ordering.{nat_cmp, eq_by_cmp}
+use Rattle.std.specs.Cmp.{nat_cmp_total, eq_by_cmp_equiv}
+use Rattle.std.proofs.lemmas.Map.Views.{list_any-from_Contains, Contains-from_any}
+use Rattle.esc_tables.specs.DepositValue.{DepositValue}
+use Rattle.esc_store.specs.Kept.{SaysHeld, AreHeld, AreHeldBy, body_put}
+use Rattle.esc_store.specs.ReplyValue.{ReceiptValue}
+use Rattle.esc_events.specs.declared.finding.Finding.{Finding}
+use Rattle.esc_events.specs.declared.finding.Finding.TheVariants.{Holding}
+use Rattle.esc_events.specs.Finding.{held_row}
+use Rattle.esc_events.specs.Receipts.{receipt_by}
+use Rattle.esc_events.proofs.HeldReceipts.{holds_from_says, says_from_holds, split, later, split-last}
+use Rattle.esc_events.proofs.HeldRows.{same_test, same_self, same_number, is_row_of}
+use Rattle.esc_events.proofs.Searches.{same_answer, no_answer}
+use Rattle.esc_desk.specs.Knowing.{IsInserted}
+
+-- ---- one of a list, and of one more behind it
+
+any-front : (P : ReceiptValue → Type 0) (rs : List ReceiptValue) (r : ReceiptValue) → Any P rs → Any P (rs ++ r ∷ [])
+any-front P [] r any = absurd (omega (arith, any.2))
+any-front P (q ∷ rs) r any = by_case (split P q rs any) (any-front P rs r)
+  where
+    by_case : P q ⊎ Any P rs → (Any P rs → Any P (rs ++ r ∷ [])) → Any P (q ∷ rs ++ r ∷ [])
+    by_case (inl p) rest = (0, q, omega arith, refl, p)
+    by_case (inr behind) rest = later P q (rs ++ r ∷ []) (rest behind)
+
+any-last : (P : ReceiptValue → Type 0) (rs : List ReceiptValue) (r : ReceiptValue) → P r → Any P (rs ++ r ∷ [])
+any-last P [] r p = (0, r, omega arith, refl, p)
+any-last P (q ∷ rs) r p = later P q (rs ++ r ∷ []) (any-last P rs r p)
+
+-- ---- the rows that receipts say are held
+
+-- a receipt that says of one row that it is held, and that row is one of them now
+pub told_more : (receipts : List ReceiptValue) (receipt : ReceiptValue) (told more : List ℕ) (row : ℕ) → AreHeldBy receipts told → IsInserted told row more
+    → SaysHeld row receipt → ((r : ℕ) → SaysHeld r receipt → r ≡ row) → AreHeldBy (receipts ++ receipt ∷ []) more
+told_more receipts receipt told more row are inserted says only = record { rising = inserted.rising; each = λ r. (λ there. to r ((inserted.each r).0 there), λ any. (inserted.each r).1 (back r (split-last (SaysHeld r) receipts receipt any))) }
+  where
+    to : (r : ℕ) → (r ≡ row) ⊎ Contains told r → Any (SaysHeld r) (receipts ++ receipt ∷ [])
+    to r (inl is) = any-last (SaysHeld r) receipts receipt (subst (λ (q : ℕ). SaysHeld q receipt) (sym is) says)
+    to r (inr there) = any-front (SaysHeld r) receipts receipt ((are.each r).0 there)
+
+    back : (r : ℕ) → Any (SaysHeld r) receipts ⊎ SaysHeld r receipt → (r ≡ row) ⊎ Contains told r
+    back r (inl any) = inr ((are.each r).1 any)
+    back r (inr said) = inl (only r said)
+
+-- a receipt that says so of no row
+pub told_same : (receipts : List ReceiptValue) (receipt : ReceiptValue) (told : List ℕ) → AreHeldBy receipts told → ((r : ℕ) → SaysHeld r receipt → ⊥) → AreHeldBy (receipts ++ receipt ∷ []) told
+told_same receipts receipt told are none = record { rising = are.rising; each = λ r. (λ there. any-front (SaysHeld r) receipts receipt ((are.each r).0 there), λ any. back r (split-last (SaysHeld r) receipts receipt any)) }
+  where
+    back : (r : ℕ) → Any (SaysHeld r) receipts ⊎ SaysHeld r receipt → Contains told r
+    back r (inl any) = (are.each r).1 any
+    back r (inr said) = absurd (none r said)
+
+-- ---- what a receipt says
+
+pub says_row : (number digest : List ℕ) (row : ℕ) (d : DepositValue) (again : Bool) → SaysHeld row (receipt_by number digest (Holding row d) again)
+says_row number digest row d again = says_from_holds row number digest (Holding row d) again (same_self row)
+
+pub says_only : (number digest : List ℕ) (row : ℕ) (d : DepositValue) (again : Bool) (r : ℕ) → SaysHeld r (receipt_by number digest (Holding row d) again) → r ≡ row
+says_only number digest row d again r says = sym (same_answer (is_row_of r (Some row) (holds_from_says r number digest (Holding row d) again says)))
+
+pub says_none : (number digest : List ℕ) (f : Finding) (again : Bool) → held_row f ≡ None → (r : ℕ) → SaysHeld r (receipt_by number digest f again) → ⊥
+says_none number digest f again none r says = no_answer (sym none ∙ is_row_of r (held_row f) (holds_from_says r number digest f again says))
+
+-- ---- the rows of which a body is held
+
+pub put_at : (bodies : ℕ → Option (List ℕ)) (row : ℕ) (body : List ℕ) → body_put bodies row body row ≡ Some body
+put_at bodies row body = ap (λ b. cond b (Some body) (bodies row)) (same_self row)
+
+pub held_more : (bodies : ℕ → Option (List ℕ)) (row : ℕ) (body : List ℕ) (held more : List ℕ) → AreHeld bodies held → IsInserted held row more → AreHeld (body_put bodies row body) more
+held_more bodies row body held more are inserted = record { rising = inserted.rising; each = λ r. (λ there. to r ((inserted.each r).0 there), λ some. (inserted.each r).1 (back r (r == row) refl some)) }
+  where
+    still : (b : Bool) (o : Option (List ℕ)) → IsSome o → IsSome (cond b (Some body) o)
+    still true o some = refl
+    still false o some = some
+
+    to : (r : ℕ) → (r ≡ row) ⊎ Contains held r → IsSome (body_put bodies row body r)
+    to r (inl is) = subst (λ (q : ℕ). IsSome (body_put bodies row body q)) (sym is) (ap is_some (put_at bodies row body))
+    to r (inr there) = still (r == row) (bodies r) ((are.each r).0 there)
+
+    back : (r : ℕ) (b : Bool) → (r == row) ≡ b → IsSome (cond b (Some body) (bodies r)) → (r ≡ row) ⊎ Contains held r
+    back r true is some = inl (same_number r row is)
+    back r false is some = inr ((are.each r).1 some)
+
+-- ---- whether a row is one of them
+
+exact : (x y : ℕ) → eq_by_cmp nat_cmp x y ≡ true → x ≡ y
+exact x y e = sym (same_number y x (sym (same_test y x) ∙ e))
+
+pub contained : (rows : List ℕ) (r : ℕ) → list_any (λ q. nat_eq q r) rows ≡ true → Contains rows r
+contained rows r any = Contains-from_any exact r rows (sym (set.contains-from_list nat_cmp_total rows r) ∙ set.contains-from_list_nat rows r ∙ any)
+
+pub no_body : (bodies : ℕ → Option (List ℕ)) (rows : List ℕ) → AreHeld bodies rows → (r : ℕ) → list_any (λ q. nat_eq q r) rows ≡ false → bodies r ≡ None
+no_body bodies rows are r other = by_body (bodies r) refl
+  where
+    any : IsSome (bodies r) → list_any (λ q. nat_eq q r) rows ≡ true
+    any some = sym (set.contains-from_list_nat rows r) ∙ set.contains-from_list nat_cmp_total rows r ∙ list_any-from_Contains (eq_by_cmp_equiv nat_cmp_total) r rows ((are.each r).1 some)
+
+    by_body : (o : Option (List ℕ)) → bodies r ≡ o → o ≡ None
+    by_body None is = refl
+    by_body (Some b) is = absurd (true≢false (sym (any (ap is_some is)) ∙ other))

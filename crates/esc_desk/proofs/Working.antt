@@ -1,0 +1,40 @@
+-- The work of an arrival whose deposit is held.
+use Rattle.std.proofs.Common.{◌≡◌, ℕ, true, List, [], ◌∷◌, ◌++◌, None, is_some, Result, Ok, Err, sym, ap, ◌∙◌, true≢false}
+use Rattle.std.specs.Prelude.{IfOk, OnOk}
+use Rattle.std.specs.FinSet as set
+use Rattle.sha2.specs.Sha256.{sha256}
+use Rattle.esc_tables.specs.DepositValue.{DepositValue}
+use Rattle.esc_tables.specs.Reading.{reading}
+use Rattle.esc_chain.specs.Chain.{Rows}
+use Rattle.esc_apply.specs.declared.moves.Work.{Work}
+use Rattle.esc_store.specs.Kept.{Kept}
+use Rattle.esc_store.specs.ReplyValue.{ReceiptValue}
+use Rattle.esc_events.specs.declared.finding.Finding.TheVariants.{Holding}
+use Rattle.esc_events.specs.declared.known.Known.{Known}
+use Rattle.esc_events.specs.ArrivalValue.{ArrivalValue}
+use Rattle.esc_events.specs.Events.{EventValue}
+use Rattle.esc_events.specs.Events.EventValue.{arrived}
+use Rattle.esc_events.specs.Taking.{IsNew}
+use Rattle.esc_events.specs.Works.{IsIdle}
+use Rattle.esc_events.proofs.Arriving.{books_held}
+use Rattle.esc_events.proofs.Moving.{apart_before}
+use Rattle.esc_events.proofs.MovingLemmas.{contains_held}
+use Rattle.esc_desk.proofs.KnownRows.{put_at}
+
+-- what is so where a call succeeds, and what is so of its answer
+pub both_ok : {X E : Type 0} (r : Result X E) (P : Type 0) (Q : X → Type 0) → OnOk r P → IfOk r Q → IfOk r (λ x. P × Q x)
+both_ok (Ok x) P Q p q = (p, q)
+both_ok (Err e) P Q p q = tt
+
+-- it adds a row, so nothing is said of one that adds none
+pub idle_held : (e : List EventValue) (a : ArrivalValue) (k : Kept) (row : ℕ) (d : DepositValue) (known : Known) (receipt : ReceiptValue) → IsNew e a k (Holding row d) known receipt → k.bodies row ≡ None
+    → (work : Work) → IsIdle e (arrived a) work
+idle_held e a k row d known receipt is none work apart same =
+    let now = (books_held e a k row d known receipt is none).bodies apart row in
+    let before = is.stood.books.bodies (apart_before e (arrived a) apart) row in
+    absurd (true≢false (
+    ap is_some (sym (put_at k.bodies row a.body) ∙ now)
+    ∙ sym (contains_held sha256 reading (e ++ arrived a ∷ []) row)
+    ∙ ap (λ (h : Rows). set.contains h row) same
+    ∙ contains_held sha256 reading e row
+    ∙ ap is_some (sym before ∙ none)))
