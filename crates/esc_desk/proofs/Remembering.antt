@@ -40,19 +40,6 @@ pub later : {X : Type 0} (y x : X) (xs : List X) → Contains xs x → Contains 
 later y x xs there = (suc there.0, omega (arith, there.1), there.2)
 
 module _ (rows : List ℕ) (row : ℕ) (up : IsRising rows) where
-  -- a row that is one of them already
-  pub there_already : (seen : List ℕ) (place : ℕ) → seen ≡ rows → IsBinarySearchResult (λ y. nat_cmp y row) seen (Ok place) → IsInserted rows row rows
-  there_already seen place same found = record { rising = up; each = λ r. (λ there. inr there, back r) }
-    where
-      here : Contains rows row
-      here =
-          let at = searched rows row (Ok place) (subst (λ (xs : List ℕ). IsBinarySearchResult (λ y. nat_cmp y row) xs (Ok place)) same found) (rises rows up) in
-          subst (Contains rows) at.1 (Contains-get_or rows place 0 at.0)
-
-      back : (r : ℕ) → (r ≡ row) ⊎ Contains rows r → Contains rows r
-      back r (inl is) = subst (Contains rows) (sym is) here
-      back r (inr there) = there
-
   -- a row that is put in its place
   pub put_in : (seen more : List ℕ) (place : ℕ) → seen ≡ rows → IsBinarySearchResult (λ y. nat_cmp y row) seen (Err place) → more ≡ insert rows place row → IsInserted rows row more
   put_in seen more place same found made =
