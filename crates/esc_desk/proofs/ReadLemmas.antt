@@ -1,5 +1,5 @@
 -- What a store answers that stands for a list of events, in the words of these.
-use Rattle.std.proofs.Common.{◌≡◌, ℕ, ◌-◌, true, List, length, map, Option, Some, None, option_map, slice_get, IsSome, Result, Ok, Err, refl, sym, ap, ap₂, subst, ◌∙◌, true≢false}
+use Rattle.std.proofs.Common.{◌≡◌, ℕ, ◌-◌, true, List, length, map, Option, Some, None, option_map, slice_get, IsSome, Result, Ok, Err, refl, sym, ap, ap₂, subst, ◌∙◌, true≢false, IfOk}
 use Rattle.std.proofs.lemmas.Option.{slice_get-map}
 use Rattle.std.proofs.lemmas.List.{length-map}
 use Rattle.sha2.specs.Sha256.{sha256}
@@ -27,11 +27,18 @@ use Rattle.esc_desk.specs.declared.desk.Desk.{Desk}
 use Rattle.esc_desk.specs.declared.status.End.{End}
 use Rattle.esc_desk.specs.Calls.{Stays}
 use Rattle.esc_desk.proofs.StoreFacts.{still_stays}
-use Rattle.esc_desk.specs.Reads.{last, replies_of, AreHeldRows, AreParkedDigests, SaysEnd, IsEndAt, IsEnd}
+use Rattle.esc_events.specs.declared.parked.ParkedBody.{ParkedBody}
+use Rattle.esc_events.specs.Parks.{AreParkedBodies}
+use Rattle.esc_desk.specs.Reads.{last, replies_of, AreHeldRows, AreParkedOf, SaysEnd, IsEndAt, IsEnd}
 
 -- a desk whose store was read, and that remembers what it did
 pub read_stays : {S : Type 0} (g : Ghosts S) (old : Desk S) (store : Store S) → IsAsBefore g old.store store → Stays g old (record { store = store; known = old.known })
 read_stays g old store same = still_stays g old (record { store = store; known = old.known }) same refl
+
+-- what is so of an answer for two reasons
+pub if_ok_two : {X E : Type 0} (r : Result X E) (P Q R : X → Type 0) → ((x : X) → P x → Q x → R x) → IfOk r P → IfOk r Q → IfOk r R
+if_ok_two (Ok x) P Q R h p q = h x p q
+if_ok_two (Err f) P Q R h p q = tt
 
 -- the last element of an image
 last_mapped : {X Y : Type 0} (f : X → Y) (xs : List X) → last (map f xs) ≡ option_map f (last xs)
@@ -58,12 +65,6 @@ held_by f g same rows held = record {
   each = λ r. (λ there. subst IsSome (same r) ((held.each r).0 there), λ some. (held.each r).1 (subst IsSome (sym (same r)) some));
 }
 
-parked_by : (f g : List ℕ → Option (List ℕ)) → ((d : List ℕ) → f d ≡ g d) → (digests : List (List ℕ)) → AreParked f digests → AreParked g digests
-parked_by f g same digests parked = record {
-  rising = parked.rising;
-  each = λ d. (λ there. subst IsSome (same d) ((parked.each d).0 there), λ some. (parked.each d).1 (subst IsSome (sym (same d)) some));
-}
-
 module _ (e : List EventValue) (k : Kept) (stood : StandsFor sha256 reading e k) where
   pub same_replies : kept_replies k ≡ replies_of e
   same_replies = ap₂ (λ (x : List MRow) (rs : List ReceiptValue). replies_from x 1 rs) stood.books.listed stood.books.receipts
@@ -71,8 +72,8 @@ module _ (e : List EventValue) (k : Kept) (stood : StandsFor sha256 reading e k)
   pub same_held : (rows : List ℕ) → AreHeld k.bodies rows → AreHeldRows e rows
   same_held rows held apart = held_by k.bodies (held_body sha256 reading e) (stood.books.bodies apart) rows held
 
-  pub same_parked : (digests : List (List ℕ)) → AreParked k.parked digests → AreParkedDigests e digests
-  same_parked digests parked apart = parked_by k.parked (parked_body sha256 reading e) (stood.books.parked apart) digests parked
+  pub same_parked : (bodies : List ParkedBody) → AreParkedBodies k.parked bodies → AreParkedOf e bodies
+  same_parked bodies parked apart = subst (λ (f : List ℕ → Option (List ℕ)). AreParkedBodies f bodies) (λ i d. stood.books.parked apart d i) parked
 
   pub same_content : IsApart sha256 reading e → k.registry.content ≡ tables_of e k.steps
   same_content apart = ap (λ (s : State). s.content) stood.registry ∙ ap tables (same_deposits k.bodies (held_body sha256 reading e) (stood.books.bodies apart) k.steps)

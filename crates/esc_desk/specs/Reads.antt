@@ -16,10 +16,12 @@ use Rattle.sha2.specs.Sha256.{sha256}
 use Rattle.esc_tables.specs.DepositValue.{DepositValue}
 use Rattle.esc_tables.specs.Reading.{reading}
 use Rattle.esc_apply.specs.declared.front.Step.{Step}
-use Rattle.esc_store.specs.Kept.{step_at, AreHeld, AreParked, AreCounts}
+use Rattle.esc_store.specs.Kept.{step_at, AreHeld, AreCounts}
 use Rattle.esc_store.specs.ReplyValue.{ReplyValue, replies_from}
+use Rattle.esc_events.specs.declared.parked.ParkedBody.{ParkedBody}
 use Rattle.esc_events.specs.Apart.{WhereApart}
 use Rattle.esc_events.specs.Events.{EventValue, union}
+use Rattle.esc_events.specs.Parks.{AreParkedBodies}
 use Rattle.esc_events.specs.Reads.{IsChainOf, tables_of}
 use Rattle.esc_events.specs.Receipts.{receipts_of}
 use Rattle.esc_events.specs.Stands.{deposit_of, held_body, parked_body}
@@ -44,9 +46,9 @@ module _ (e : List EventValue) where
   abbrev pub AreHeldRows : List ℕ → Type 0
   AreHeldRows rows = WhereApart e (AreHeld (held_body sha256 reading e) rows)
 
-  -- these are the digests of the parked bodies, in the order of their bytes
-  abbrev pub AreParkedDigests : List (List ℕ) → Type 0
-  AreParkedDigests digests = WhereApart e (AreParked (parked_body sha256 reading e) digests)
+  -- these are the bodies that no row lists, in the order of their digests
+  abbrev pub AreParkedOf : List ParkedBody → Type 0
+  AreParkedOf bodies = WhereApart e (AreParkedBodies (parked_body sha256 reading e) bodies)
 
   -- the last row of a chain says this; nothing is said by no row
   abbrev pub IsEndAt : Option ℕ → Option End → Type 0

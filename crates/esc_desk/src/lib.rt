@@ -104,6 +104,7 @@ mod walk;
 pub use amendment::AmendFault;
 pub use arrival::Arrival;
 pub use desk::Desk;
+pub use esc_events::ParkedBody;
 pub use esc_store::{N1, Number, Reply, SFault, Verdict, number};
 pub use laws::{
     new_store_stands_for_its_manifest, same_held_same_kept, stands_for_manifest_and_arrivals,

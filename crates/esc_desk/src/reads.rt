@@ -1,6 +1,6 @@
 //! What a desk answers of its store.
 
-ghost use Rattle.std.specs.Prelude.{◌≡◌, ℕ, List, Ok, Some, length, option_map, IfOk, IfErr};
+ghost use Rattle.std.specs.Prelude.{◌≡◌, ℕ, List, Ok, Some, length, option_map, IfOk, IfErr, map, All};
 ghost use Rattle.esc_tables.specs.DepositValue.{DepositValue};
 ghost use Rattle.esc_tables.specs.Reading.{reading};
 ghost use Rattle.esc_apply.specs.declared.front.Step.{Step};
@@ -9,13 +9,14 @@ ghost use Rattle.esc_store.specs.Kept.{Kept};
 ghost use Rattle.esc_store.specs.Standing.{Stands, IsHonest, IsAsBefore};
 ghost use Rattle.esc_desk.specs.Calls.{store_of, writes_of, OkOver, Stays};
 ghost use Rattle.esc_events.specs.Events.{EventValue, union, moment_of};
+ghost use Rattle.esc_events.specs.Parks.{IsParkedBody};
 ghost use Rattle.esc_events.specs.Reads.{AreTables};
 ghost use Rattle.esc_desk.specs.Serving.{Serves};
 ghost use Rattle.esc_desk.specs.Reads.{
   last,
   replies_of,
   AreHeldRows,
-  AreParkedDigests,
+  AreParkedOf,
   SaysEnd,
   IsEnd,
   IsStatus,
@@ -27,6 +28,7 @@ use crate::status::{End, Status};
 use esc_apply::Step;
 use esc_bundle::Fault;
 use esc_envelope::{Envelope, Kind, Place};
+use esc_events::ParkedBody;
 use esc_manifest::Manifest;
 use esc_store::{Reply, SFault, Store};
 use esc_tables::{Key, Object, read_bundled_envelope};
@@ -75,15 +77,17 @@ impl<S: Alter> Desk<S> {
         Ok(known.held)
     }
 
-    /// The digests of the bodies that no row lists, in the order of their bytes. `S1`, `S2`.
-    #[tactic(auto, using(crate::proofs::ReadLemmas::read_stays))]
-    pub fn parked(&mut self, alloc: Global) -> Result<Vec<[u8; 32]>, SFault>
+    /// The bodies that no row lists, in the order of their digests. Each is read, one at a time.
+    /// `S1`, `S2`.
+    #[tactic(auto, using(crate::proofs::ReadLemmas::read_stays, crate::proofs::StoreFacts::as_before_then))]
+    pub fn parked(&mut self, alloc: Global) -> Result<Vec<ParkedBody>, SFault>
         ensures stays { Stays S.Store self.old self.new }
-        ensures digests { OkOver S.Store self.old self.new result
-            (λ e digests. AreParkedDigests e digests.items) }
+        ensures bodies { OkOver S.Store self.old self.new result
+            (λ e bodies. AreParkedOf e bodies.items) }
         ensures cause { IfErr result IsS1OrS2 }
     {
-        self.store.parked(alloc)
+        let digests = self.store.parked(alloc)?;
+        parked_bodies(&mut self.store, alloc, &digests)
     }
 
     /// The moment as of which the registry is rebuilt, in nanoseconds since 1970-01-01T00:00:00Z,
@@ -185,6 +189,43 @@ fn end_of_steps(steps: &[Step]) -> Option<(Place, u32)>
 {
     let last = steps.last().copied()?;
     Some((last.place, last.resend))
+}
+
+// The parked bodies with these digests, one of which is not parked any more being a fault of the
+// store.
+fn parked_bodies<S: Alter>(
+    store: &mut Store<S>,
+    alloc: Global,
+    digests: &[[u8; 32]],
+) -> Result<Vec<ParkedBody>, SFault>
+    ensures same { IsAsBefore S.Store store.old store.new }
+    ensures digests { IfOk result (λ bodies. map (λ p. p.digest) bodies.items ≡ digests.now) }
+    ensures each { IsHonest S.Store store.new → (k : Kept) → Stands S.Store store.old k
+        → IfOk result (λ bodies. All (IsParkedBody k.parked) bodies.items) }
+    ensures cause { IfErr result IsS1OrS2 }
+{
+    let mut bodies = Vec::new(alloc);
+    for digest in digests {
+        bodies.push(parked_body(store, digest)?)?;
+    }
+    Ok(bodies)
+}
+
+// The parked body with a digest.
+fn parked_body<S: Alter>(store: &mut Store<S>, digest: &[u8; 32]) -> Result<ParkedBody, SFault>
+    ensures same { IsAsBefore S.Store store.old store.new }
+    ensures digest { IfOk result (λ p. p.digest ≡ digest.now) }
+    ensures parked { IsHonest S.Store store.new → (k : Kept) → Stands S.Store store.old k
+        → IfOk result (IsParkedBody k.parked) }
+    ensures cause { IfErr result IsS1OrS2 }
+{
+    let Some(body) = store.parked_body(digest)? else {
+        return Err(SFault::S1);
+    };
+    Ok(ParkedBody {
+        digest: *digest,
+        bytes: body.len() as u64,
+    })
 }
 
 // What the deposit of the body that the store keeps for a row says of the registry. Its envelope

@@ -1,0 +1,14 @@
+use Rattle.std.proofs.Common.{◌≡◌, List, map, take, All}
+use Rattle.esc_store.specs.Kept.{Kept}
+use Rattle.esc_store.specs.Standing.{Stands, IsHonest, IsAsBefore}
+use Rattle.esc_events.specs.declared.parked.ParkedBody.{ParkedBody}
+use Rattle.esc_events.specs.Parks.{IsParkedBody}
+use Rattle.esc_desk.proofs.reads.parked_bodies.Given as goal
+
+-- the bodies of the digests so far
+abbrev pub invariant-loop-digest : goal.invariant-loop-digest
+invariant-loop-digest g l = record {
+  same : IsAsBefore g.S.Store l.fn.store l.store;
+  digests : map (λ (p : ParkedBody). p.digest) l.bodies.items ≡ take l.digest-index l.digests;
+  each : IsHonest g.S.Store l.store → (k : Kept) → Stands g.S.Store l.fn.store k → All (IsParkedBody k.parked) l.bodies.items;
+}
