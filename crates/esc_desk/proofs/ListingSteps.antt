@@ -41,10 +41,10 @@ listed_adopted n m k [] = refl
 listed_adopted n m k (r ∷ rows) =
     let d = (row_at n r).digest in
     listed_adopted n m (with_adopted k r d (k.parked d)) rows ∙ ap (λ (l : Kept). with_all_adopted n l rows) (one d (k.parked d))
-    where
-      one : (d : List ℕ) (o : Option (List ℕ)) → with_listed (with_adopted k r d o) m ≡ with_adopted (with_listed k m) r d o
-      one d None = refl
-      one d (Some body) = refl
+  where
+    one : (d : List ℕ) (o : Option (List ℕ)) → with_listed (with_adopted k r d o) m ≡ with_adopted (with_listed k m) r d o
+    one d None = refl
+    one d (Some body) = refl
 
 listed_dropped : (n m : List MRow) (k : Kept) (rows : List ℕ) → with_listed (with_all_dropped n k rows) m ≡ with_all_dropped n (with_listed k m) rows
 listed_dropped n m k [] = refl

@@ -22,8 +22,7 @@ loop-row-preserved g c =
           let was : IsHonest g.S.Store c.loop-row.change.store.now = omega (arith, c.adopt.ensures.goes_on.survives.clean, clean) in
           let so_far = now.adopted was before k apart rest in
           let at = subst (λ (rows : List ℕ). IsAdopting c.args.rows.now k c.args.adopted.now so_far.0 rows) (drop_more c.args.adopted.now i 0 c.loop-row-test.true) so_far.2 in
-          let one = c.in_ok-adopt.ensures.adopted clean before so_far.0 at.apart.0 so_far.1 in
-          (
+          let one = c.in_ok-adopt.ensures.adopted clean before so_far.0 at.apart.0 so_far.1 in (
             with_parked (with_body so_far.0 r one.0) c.in-Some.listed.now.digest None,
             one.2,
             adopting_one c.args.rows.now k c.args.adopted.now so_far.0 r left one.0 c.in-Some.listed.now.digest same at one.1,

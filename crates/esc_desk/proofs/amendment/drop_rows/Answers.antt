@@ -18,13 +18,12 @@ loop-row-preserved g c =
       goes_on = goes_then g.S.Store _ _ _ now.goes_on c.unpark.ensures.goes_on;
       count = c.unpark.ensures.count ∙ now.count;
       dropped = λ before k rest.
-          let so_far = now.dropped before k rest in
-          (
+          let so_far = now.dropped before k rest in (
             with_parked so_far.0 c.in-Some.listed.now.digest None,
             c.in_ok-unpark.ensures.dropped before so_far.0 so_far.1,
             ap (λ (d : List ℕ). with_all_dropped c.args.rows.now (with_parked so_far.0 d None) left) same
-            ∙ sym (at_drop_more (with_all_dropped c.args.rows.now so_far.0) c.args.dropped.now i 0 c.loop-row-test.true)
-            ∙ so_far.2,
+                ∙ sym (at_drop_more (with_all_dropped c.args.rows.now so_far.0) c.args.dropped.now i 0 c.loop-row-test.true)
+                ∙ so_far.2,
           );
       holds = λ s h. c.in_ok-unpark.ensures.holds s (now.holds s h);
     }

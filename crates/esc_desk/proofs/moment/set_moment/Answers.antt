@@ -24,4 +24,3 @@ returns-clause-crash g c = λ k held from stood.
     (λ h. tt)
     (c.in_ok-commit_filled.ensures.crash k _ (c.in_ok-work.ensures.filled k held from (c.in_ok-change.ensures.rest k stood) (c.in_ok-change.ensures.holds k stood))) in
     search (rules, made)
-
