@@ -13,3 +13,7 @@ module _ {S : Type 0} (g : Ghosts S) where
   pub made_adds : {X Y : Type 0} (a c d : Held S) (b : State) (r : Result X SFault) (q : Result Y SFault) (k : Kept)
       → Survives (state g a) b (λ _. ⊥) → Survives b (state g c) (λ _. ⊥) → (IsNotFull r → IsNotFull q) → AddsStore g c d r k → AddsStore g a d q k
   made_adds a c d b r q k begun filled room adds = adds_store_then g a c d q k (none_then _ _ _ _ begun filled) (adds_store_as g c d r q k room adds)
+
+-- what follows for whatever is kept follows here: a search then needn't look into it
+pub for_this : (P Q : Kept → Type 0) (k : Kept) → P k → ((m : Kept) → P m → Q m) → Q k
+for_this P Q k p h = h k p

@@ -8,9 +8,7 @@ ghost use Rattle.std.specs.Prelude.{
   ◌-◌,
   ◌++◌,
   ℕ,
-  ℤ,
   List,
-  Option,
   None,
   length,
   take,
@@ -22,13 +20,12 @@ ghost use Rattle.std.specs.Prelude.{
   OnErr,
 };
 ghost use Rattle.esc_tables.specs.DepositValue.{DepositValue};
-ghost use Rattle.esc_manifest.specs.declared.row.MRow.{MRow};
 ghost use Rattle.esc_apply.specs.Registry.{saturated};
 ghost use Rattle.esc_apply.specs.Tables.{mention_count};
 ghost use Rattle.esc_apply.specs.Moves.{cost};
 ghost use Rattle.esc_apply.specs.Images.{chain_state};
 ghost use Rattle.esc_apply.specs.Front.{common_front};
-ghost use Rattle.esc_store.specs.Kept.{Kept, with_moment};
+ghost use Rattle.esc_store.specs.Kept.{Kept};
 ghost use Rattle.esc_store.specs.Standing.{
   Stands,
   IsHonest,

@@ -1,4 +1,4 @@
-use Rattle.std.proofs.Common.{List, ℕ, ap, ap₂, sym, subst, ◌≡◌, ◌∙◌, arith}
+use Rattle.std.proofs.Common.{List, ℕ, ap₂, sym, subst, ◌≡◌, ◌∙◌, arith}
 use Rattle.std.proofs.lemmas.Result.{on_ok_weaker}
 use Rattle.esc_manifest.specs.declared.row.MRow.{MRow}
 use Rattle.esc_store.specs.Kept.{Kept}
