@@ -27,7 +27,7 @@ returns-in_err-plan-clause-crash g c = λ e doubtful served left.
 
 pub returns-in_err-work-clause-crash : goal.returns-in_err-work-clause-crash
 returns-in_err-work-clause-crash g c = λ e doubtful served left.
-    leaves_unmade g.S.Store _ _ e doubtful (moved c.args.moment) _ c.in_err-work.field-0.0 (search rules) left (λ clean.
+    leaves_unmade g.S.Store _ _ e doubtful (moved c.args.moment) c.from_residual-in_err-work.result c.in_err-work.field-0.0 (search rules) left (λ clean.
     let k = served.serves.kept in
     let stood = served.serves.stands_for in
     let plan = c.in_ok-plan.plan in
@@ -44,7 +44,7 @@ returns-in_err-work-clause-crash g c = λ e doubtful served left.
     let move = moment_move e k c.args.moment stood known is plan _ _ (c.manifest.ensures.kept k there) c.deref.ensures.value latest planned in
     let stands = c.chain_after_an_event.ensures.moved c.latest_chain_at_rows_are_held.ensures e (moved c.args.moment) k l [] known.held.items k.bodies plan move in
     adds_then g.S.Store _ c.take_known.new.self.store.conn _ _ _ c.in_ok-known.ensures.same.survives (adds_then g.S.Store _ c.plan_move.new.store.conn _ _ _ c.in_ok-plan.ensures.same.survives
-    (adds_as g.S.Store _ _ _ _ _ (λ h. not_full_by _ c.in_err-work.field-0.0 (search rules) h) (adds_for g.S.Store _ _ _ _ _ stands (c.in_err-work.ensures.crash k was (moved_from e k k.bodies plan stood planned) before)))))
+    (adds_as g.S.Store _ _ _ _ _ (λ h. not_full_by c.from_residual-in_err-work.result c.in_err-work.field-0.0 (search rules) h) (adds_for g.S.Store _ _ _ _ _ stands (c.in_err-work.ensures.crash k was (moved_from e k k.bodies plan stood planned) before)))))
 
 pub returns-clause-set : goal.returns-clause-set
 returns-clause-set g c = λ clean e served.
