@@ -1,5 +1,6 @@
 -- Why an arrival is lost, from one call to the next.
 use Rattle.std.proofs.Common.{◌≡◌, ◌⊎◌, inl, inr, ℕ, List, Option, None, IsSome, Result, Ok, Err, IfErr, sym, ap, subst, ◌∙◌}
+use Rattle.std.specs.Prelude.{OnErr}
 use Rattle.sha2.specs.Sha256.{sha256}
 use Rattle.esc_tables.specs.Reading.{reading}
 use Rattle.esc_manifest.specs.declared.row.MRow.{MRow}
@@ -22,6 +23,10 @@ if_err_each (Err f) P Q h p = h f p
 
 pub if_err_is : {X E : Type 0} (r : Result X E) (f : E) (P : E → Type 0) → r ≡ Err f → P f → IfErr r P
 if_err_is r f P is p = rw is p
+
+pub on_err_so : {X E : Type 0} (r : Result X E) (P : Type 0) → P → OnErr r P
+on_err_so (Ok x) P p = tt
+on_err_so (Err f) P p = p
 
 -- where S4 has one reason, it has another
 pub fault_then : (f : SFault) (P Q : Type 0) → (P → Q) → IsS1OrS2 f ⊎ ((f ≡ S4) × P) → IsS1OrS2 f ⊎ ((f ≡ S4) × Q)

@@ -126,6 +126,12 @@ module _ {S : Type 0} (g : Ghosts S) where
   leaves_made {X = X} old new e doubtful x (Ok y) left adds only = if_clean new (e ++ x ∷ []) [] (λ clean. leaves_only new (e ++ x ∷ []) (only clean))
   leaves_made {X = X} old new e doubtful x (Err f) left adds only = if_clean new e (doubtful_with f x doubtful) (λ clean. leaves_refused old new e doubtful left X x f (adds clean))
 
+  -- one that was refused
+  pub leaves_unmade : {X : Type 0} (old new : Held S) (e doubtful : List EventValue) (x : EventValue) (result : Result X SFault) (f : SFault) → result ≡ Err f → CrashLeaves g old e doubtful
+      → (HasCleanDisk (state g new) → AddsStoreFor g old new result (e ++ x ∷ [])) → LeavesMade g new e doubtful x result
+  leaves_unmade {X = X} old new e doubtful x result f is left adds = subst (λ (r : Result X SFault). LeavesMade g new e doubtful x r) (sym is)
+      (if_clean new e (doubtful_with f x doubtful) (λ clean. leaves_refused old new e doubtful left X x f (subst (λ (r : Result X SFault). AddsStoreFor g old new r (e ++ x ∷ [])) is (adds clean))))
+
   -- ---- a store that was left alone
   pub leaves_for : (store : Store S) (k : Kept) (e : List EventValue) → StandsFor sha256 reading e k → LeavesOnly g store k → LeavesOnlyFor g store.conn e
   unfolding LeavesOnly LeavesOnlyFor

@@ -1,21 +1,28 @@
--- The work of an arrival whose deposit is held.
-use Rattle.std.proofs.Common.{◌≡◌, ℕ, true, List, [], ◌∷◌, ◌++◌, None, is_some, Result, Ok, Err, sym, ap, ◌∙◌, true≢false}
+-- The work of an arrival whose deposit is held, and the move to a moment.
+use Rattle.std.proofs.Common.{◌≡◌, ℕ, ℤ, true, List, [], ◌∷◌, ◌++◌, Option, None, is_some, Result, Ok, Err, refl, sym, ap, subst, ◌∙◌, append-nil, true≢false}
 use Rattle.std.specs.Prelude.{IfOk, OnOk}
 use Rattle.std.specs.FinSet as set
 use Rattle.sha2.specs.Sha256.{sha256}
 use Rattle.esc_tables.specs.DepositValue.{DepositValue}
 use Rattle.esc_tables.specs.Reading.{reading}
+use Rattle.esc_manifest.specs.declared.row.MRow.{MRow}
 use Rattle.esc_chain.specs.Chain.{Rows}
 use Rattle.esc_apply.specs.declared.moves.Work.{Work}
-use Rattle.esc_store.specs.Kept.{Kept}
+use Rattle.esc_store.specs.Kept.{Kept, with_moment}
 use Rattle.esc_store.specs.ReplyValue.{ReceiptValue}
 use Rattle.esc_events.specs.declared.finding.Finding.TheVariants.{Holding}
 use Rattle.esc_events.specs.declared.known.Known.{Known}
+use Rattle.esc_events.specs.declared.plan.Plan.{Plan}
 use Rattle.esc_events.specs.ArrivalValue.{ArrivalValue}
 use Rattle.esc_events.specs.Events.{EventValue}
-use Rattle.esc_events.specs.Events.EventValue.{arrived}
+use Rattle.esc_events.specs.Events.EventValue.{arrived, moved}
+use Rattle.esc_events.specs.Known.{IsKnown}
+use Rattle.esc_events.specs.Laws.{IsMove}
+use Rattle.esc_events.specs.Plans.{AreLatestSteps, IsPlanned}
+use Rattle.esc_events.specs.Stands.{StandsFor}
 use Rattle.esc_events.specs.Taking.{IsNew}
 use Rattle.esc_events.specs.Works.{IsIdle}
+use Rattle.esc_events.proofs.AmendedBooks.{books_of_moment}
 use Rattle.esc_events.proofs.Arriving.{books_held}
 use Rattle.esc_events.proofs.Moving.{apart_before}
 use Rattle.esc_events.proofs.MovingLemmas.{contains_held}
@@ -38,3 +45,19 @@ idle_held e a k row d known receipt is none work apart same =
     ∙ ap (λ (h : Rows). set.contains h row) same
     ∙ contains_held sha256 reading e row
     ∙ ap is_some (sym before ∙ none)))
+
+-- ---- another moment is set
+
+pub moment_move : (e : List EventValue) (k : Kept) (t : Option ℤ) → StandsFor sha256 reading e k → (known : Known) → IsKnown k known → (plan : Plan) (listed : List MRow) (rows : List ℕ)
+    → listed ≡ k.listed → rows ≡ known.held.items → AreLatestSteps listed rows t plan.new.items → IsPlanned k k.bodies plan
+    → IsMove e (moved t) k (with_moment k t) [] known.held.items k.bodies plan
+moment_move e k t stood known is plan listed rows listed_are rows_are latest planned = record {
+  stood = stood;
+  books = books_of_moment e k t stood.books;
+  begins = sym (append-nil k.listed);
+  keeps = λ r body some. some;
+  held = is.held;
+  same = λ r. refl;
+  latest = subst (λ (x : List ℕ). AreLatestSteps k.listed x t plan.new.items) rows_are (subst (λ (m : List MRow). AreLatestSteps m rows t plan.new.items) listed_are latest);
+  planned = planned;
+}

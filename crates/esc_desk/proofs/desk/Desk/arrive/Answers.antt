@@ -15,7 +15,8 @@ use Rattle.esc_events.proofs.Searches.{same_answer, no_answer}
 use Rattle.esc_desk.specs.Causes.{IsCrowded}
 use Rattle.esc_desk.proofs.CrashLemmas.{adds_then, leaves_kept, leaves_early, leaves_taken, if_clean}
 use Rattle.esc_desk.proofs.CrashSteps.{if_then_on, if_ok_each, on_ok_each}
-use Rattle.esc_desk.proofs.CauseLemmas.{if_err_is, if_err_each, one_of_four, cause_by, cause_of, crowded_of, no_place_of}
+use Rattle.esc_desk.proofs.CauseLemmas.{on_err_so, if_err_is, if_err_each, one_of_four, cause_by, cause_of, crowded_of, no_place_of}
+use Rattle.esc_desk.proofs.StoreFacts.{still_serves}
 use Rattle.esc_desk.proofs.Likeness.{seen, still_stands}
 use Rattle.esc_desk.proofs.desk.Desk.arrive.Goals as goal
 
@@ -167,3 +168,6 @@ returns-in-None-clause-full g c = λ clean e served.
     if_err_each c.take_new.result _ _ (λ f cause. cause_of e a f _ _
     (λ crowded. no_place_of e a serves.kept books never (subst (IsCrowded serves.kept) c.digest-digest.ensures (crowded clean serves.kept there)))
     (λ full. (never, subst (λ (rs : List ReceiptValue). 1_000_000_000 ≤ length rs) books.receipts (full clean serves.kept there))) cause) c.take_new.ensures.cause
+
+pub returns-in_err-reply-clause-lost : goal.returns-in_err-reply-clause-lost
+returns-in_err-reply-clause-lost g c = on_err_so c.from_residual.result _ (still_serves g.S.Store c.args.self.now _ c.in_err-reply.ensures.same refl)

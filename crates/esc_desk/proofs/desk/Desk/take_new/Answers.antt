@@ -27,7 +27,7 @@ returns-in_err-known-clause-crash g c = λ clean e k stood stands known none. ad
 pub returns-in_err-taken-clause-crash : goal.returns-in_err-taken-clause-crash
 returns-in_err-taken-clause-crash g c = λ clean e k stood stands known none.
     let now = c.in_ok-known.ensures.known (c.in_err-taken.ensures.honest clean) e k stood stands known in
-    adds_then g.S.Store _ c.take_known.new.self.store.conn _ _ _ c.in_ok-known.ensures.same.survives (adds_as g.S.Store _ _ _ _ _ (λ h. not_full_by _ c.in_err-taken.field-0.0 (search rules) h) (c.in_err-taken.ensures.crash clean e k (c.in_ok-known.ensures.same.stands k stood) stands now none))
+    adds_then g.S.Store _ c.take_known.new.self.store.conn _ _ _ c.in_ok-known.ensures.same.survives (adds_as g.S.Store _ _ _ c.from_residual-in_err-taken.result _ (λ h. not_full_by c.from_residual-in_err-taken.result c.in_err-taken.field-0.0 (search rules) h) (c.in_err-taken.ensures.crash clean e k (c.in_ok-known.ensures.same.stands k stood) stands now none))
 
 pub returns-clause-crash : goal.returns-clause-crash
 returns-clause-crash g c = λ clean e k stood stands known none.
