@@ -34,32 +34,21 @@ adopting_one n k rows made r left body d is at parked = record {
   same = ap (λ (o : Option (List ℕ)). with_all_adopted n (with_adopted made r d o) left) (sym parked) ∙ ap (λ (x : List ℕ). with_all_adopted n (with_adopted made r x (made.parked x)) left) is ∙ at.same;
 }
 
--- ---- rows that are listed before or after
+-- ---- the rows are listed first
 
-listed_adopted : (n m : List MRow) (k : Kept) (rows : List ℕ) → with_listed (with_all_adopted n k rows) m ≡ with_all_adopted n (with_listed k m) rows
-listed_adopted n m k [] = refl
-listed_adopted n m k (r ∷ rows) =
-    let d = (row_at n r).digest in
-    listed_adopted n m (with_adopted k r d (k.parked d)) rows ∙ ap (λ (l : Kept). with_all_adopted n l rows) (one d (k.parked d))
-  where
-    one : (d : List ℕ) (o : Option (List ℕ)) → with_listed (with_adopted k r d o) m ≡ with_adopted (with_listed k m) r d o
-    one d None = refl
-    one d (Some body) = refl
-
-listed_dropped : (n m : List MRow) (k : Kept) (rows : List ℕ) → with_listed (with_all_dropped n k rows) m ≡ with_all_dropped n (with_listed k m) rows
-listed_dropped n m k [] = refl
-listed_dropped n m k (r ∷ rows) = listed_dropped n m (with_parked k (row_at n r).digest None) rows
+-- no body is held of these rows, also once more rows are listed
+pub apart_listed : (k : Kept) (n : List MRow) (rows : List ℕ) → AreApartRows k rows → AreApartRows (with_listed k n) rows
+apart_listed k n [] apart = tt
+apart_listed k n (r ∷ rows) apart = (apart.0, apart.1, apart_listed k n rows apart.2)
 
 -- what is kept once these rows are listed
 abbrev amended_as : Kept → List MRow → Kept
 amended_as k n = with_all_dropped n (with_all_adopted n (with_listed k n) (adopted_rows n k.parked (length k.listed))) (dropped_rows n k.parked (length k.listed))
 
--- a change that adopts and drops the bodies as they were judged, and then lists the rows, makes an
+-- a change that lists the rows, and then adopts and drops the bodies as they were judged, makes an
 -- amendment
-pub listed_last : (k : Kept) (more n : List MRow) (told : Judged) → IsAmendmentOf k more n told
-    → with_listed (with_all_dropped n (with_all_adopted n k told.adopted.items) told.dropped.items) n ≡ amended_kept k more
-listed_last k more n told of =
-    listed_dropped n n (with_all_adopted n k told.adopted.items) told.dropped.items
-    ∙ ap (λ (l : Kept). with_all_dropped n l told.dropped.items) (listed_adopted n n k told.adopted.items)
-    ∙ ap₂ (λ (a d : List ℕ). with_all_dropped n (with_all_adopted n (with_listed k n) a) d) of.are_judged.adopted of.are_judged.dropped
+pub listed_first : (k : Kept) (more n : List MRow) (told : Judged) → IsAmendmentOf k more n told
+    → with_all_dropped n (with_all_adopted n (with_listed k n) told.adopted.items) told.dropped.items ≡ amended_kept k more
+listed_first k more n told of =
+    ap₂ (λ (a d : List ℕ). with_all_dropped n (with_all_adopted n (with_listed k n) a) d) of.are_judged.adopted of.are_judged.dropped
     ∙ ap (amended_as k) of.is_union

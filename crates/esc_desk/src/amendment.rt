@@ -272,7 +272,8 @@ fn list_rows<S: Alter>(
 
 ghost use Rattle.esc_desk.specs.Amendments.{IsAmendmentOf};
 
-// Makes all of an amendment's change but its commit.
+// Makes all of an amendment's change but its commit. The rows are listed first, since the table of
+// bodies refers to that of listed rows.
 fn fill_listing<S: Alter>(
     change: &mut Change<'_, S>,
     alloc: Global,
@@ -297,10 +298,22 @@ fn fill_listing<S: Alter>(
         ≡ saturated (saturated change.old.count + work.writes)) }
     ensures cause { IfErr result IsS1OrS2 }
 {
-    adopt_rows(change, union.rows(), &judged.adopted)?;
-    drop_rows(change, union.rows(), &judged.dropped)?;
+    let rows = copies_of(alloc, union.rows())?;
     change.list(union)?;
+    adopt_rows(change, &rows, &judged.adopted)?;
+    drop_rows(change, &rows, &judged.dropped)?;
     move_in(change, alloc, plan)
+}
+
+// Rows equal to these.
+fn copies_of(alloc: Global, rows: &[MRow]) -> Result<Vec<MRow>, NoMemory>
+    ensures { IfOk result (λ copies. copies.items ≡ rows.now) }
+{
+    let mut copies = Vec::new(alloc);
+    for row in rows {
+        copies.push(row.copy(alloc)?)?;
+    }
+    Ok(copies)
 }
 
 // Holds the bodies that are parked for these of the rows.
