@@ -1,6 +1,7 @@
 //! The commands, each over a store in a file.
 
 use crate::command_line::{DeskTask, Invocation, Task, parse};
+use crate::events;
 use crate::files::{MOST_MANIFEST_BYTES, read_file};
 use crate::serve::serve_connections;
 use crate::stop::{DONE, NO_MEMORY, Stop, USAGE, print, tell_stop};
@@ -10,7 +11,7 @@ use crate::store_file::{
 use crate::take::take_folder;
 use clap::Error;
 use clap::error::ErrorKind;
-use esc_desk::{AmendFault, Desk};
+use esc_desk::Desk;
 use esc_envelope::watermark;
 use esc_http::{Report, end_line, report};
 use esc_manifest::{Manifest, read_manifest};
@@ -378,17 +379,12 @@ fn told(alloc: Global, status: Result<u8, Stop>) -> Result<Ended, Stop> {
 
 // Lists the rows of a manifest with a desk, and tells how many are new.
 fn list_rows<S: Alter>(alloc: Global, desk: &mut Desk<S>, text: &[u8]) -> Result<Ended, Stop> {
-    match desk.amend(alloc, text) {
-        Ok((count, _work)) => {
-            let line = format!(in alloc; "added {count}\n")?;
-            Ok(Ended {
-                status: DONE,
-                text: line.into_bytes(),
-            })
-        }
-        Err(AmendFault::M(fault)) => Err(Stop::Manifest(fault)),
-        Err(AmendFault::Store(fault)) => Err(Stop::Store(fault)),
-    }
+    let count = events::amend(alloc, desk, text)?;
+    let line = format!(in alloc; "added {count}\n")?;
+    Ok(Ended {
+        status: DONE,
+        text: line.into_bytes(),
+    })
 }
 
 // Rebuilds the registry as of a moment, and tells where its chain ends then.
@@ -397,7 +393,7 @@ fn move_to<S: Alter>(
     desk: &mut Desk<S>,
     moment: Option<i64>,
 ) -> Result<Ended, Stop> {
-    let _work = desk.as_of(alloc, moment)?;
+    events::move_to(alloc, desk, moment)?;
     let status = desk.status(alloc)?;
     let line = end_line(alloc, status.end)?;
     Ok(Ended {

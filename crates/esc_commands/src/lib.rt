@@ -6,14 +6,15 @@
 //!
 //! What goes in: words, a release manifest and bundles in files, or HTTP requests on a port. What
 //! comes out: a store in a file, which the next command opens again; on standard output counts of
-//! listed rows, the end of the chain, receipts, reports, exports or help; on standard error refusals, one a line; and the
-//! status.
+//! listed rows, the end of the chain, receipts, reports, exports or help; on standard error
+//! refusals, one a line; and the status.
 //!
 //! | Module | Does |
 //! |---|---|
 //! | `command_line` | words to what is asked for, and help, by `clap` |
 //! | `commands` | what is asked for, from the words to the status |
 //! | `store_file` | opens the file of a store and closes it, once for each command |
+//! | `events` | arrivals, amendments and moments, each a run of the desk of its own |
 //! | `take` | takes the plain files of a folder, in byte order of names |
 //! | `serve` | serves connections on a port, one after the other, each within a time |
 //! | `files` | reads files, and lists folders |
@@ -39,16 +40,16 @@
 //! # What is promised
 //!
 //! By proof: that no call is unsafe and that each ends, whatever the words, files and requests are.
-//! What a store stands for after each arrival is the contract of [`esc_desk::Desk::run`], after an
-//! amendment and a moment that of [`esc_desk::Desk::amend`] and [`esc_desk::Desk::as_of`], what a
-//! request is answered is that of [`esc_http::serve_one`], how long its client is waited for that
-//! of [`esc_client::Client`], and the texts of reports are that of [`esc_http::report`]. No
-//! contract can say what a file holds or what is printed, so the texts, statuses and the order of
-//! refusals are tested, in `restore_tests`.
+//! What a store stands for after an arrival, an amendment or a moment is the contract of
+//! [`esc_desk::Desk::run_events`], what a request is answered is that of [`esc_http::serve_one`],
+//! how long its client is waited for that of [`esc_client::Client`], and the texts of reports are
+//! that of [`esc_http::report`]. No contract can say what a file holds or what is printed, so the
+//! texts, statuses and the order of refusals are tested, in `restore_tests`.
 #![tactic(auto)]
 
 mod command_line;
 mod commands;
+mod events;
 mod files;
 mod serve;
 mod stop;

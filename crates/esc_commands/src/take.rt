@@ -1,8 +1,9 @@
 //! Taking a folder of deposits.
 
+use crate::events;
 use crate::files::{path_in, plain_files, read_body};
 use crate::stop::{DONE, REFUSED, Stop, print, tell};
-use esc_desk::{Arrival, Desk, Outcome, Reply, Verdict, number};
+use esc_desk::{Arrival, Desk, Verdict, number};
 use esc_http::{receipt_line, receipts_heading};
 use sqlite::Alter;
 use std::io::Write;
@@ -51,8 +52,8 @@ fn take_file<S: Alter, O: Write, E: Write>(
         tell(rt, err, "E2", name)?;
         return Ok(false);
     };
-    let reply = answer(
-        rt,
+    let reply = events::take(
+        rt.alloc(),
         desk,
         Arrival {
             number,
@@ -61,17 +62,4 @@ fn take_file<S: Alter, O: Write, E: Write>(
     )?;
     print(rt, out, &receipt_line(rt.alloc(), &reply)?)?;
     Ok(reply.verdict == Verdict::A1)
-}
-
-// The reply to an arrival, which is a run of its own.
-fn answer<S: Alter>(
-    rt: &HostRuntime,
-    desk: &mut Desk<S>,
-    arrival: Arrival<'_>,
-) -> Result<Reply, Stop> {
-    let mut outcomes = desk.run(rt.alloc(), &[arrival])?;
-    match outcomes.remove(0) {
-        Outcome::Done(reply) => Ok(reply),
-        Outcome::Lost(fault) => Err(Stop::Store(fault)),
-    }
 }

@@ -13,7 +13,6 @@ pub mod KnownRows
 pub mod Likeness
 pub mod ListingSteps
 pub mod NoRowMore
-pub mod OutcomeLemmas
 pub mod ParkedDigests
 pub mod PlanLemmas
 pub mod ReadLemmas

@@ -21,7 +21,7 @@ use Rattle.esc_events.specs.Works.{IsWorkOf, no_work}
 use Rattle.esc_events.proofs.AmendingEvents.{receipts_as, apart_as, held_as, parked_as, came_as, waits_as}
 use Rattle.esc_events.proofs.EventLemmas.{union-arrived, comings-arrived, moment-arrived, union-listed, comings-listed, moment-listed, union-moved, comings-moved, moment-moved}
 use Rattle.esc_events.proofs.Moving.{stands_still, no_work_of}
-use Rattle.esc_desk.specs.Amendments.{rows_read, amendment_of}
+use Rattle.esc_desk.specs.Asked.{rows_read, amendment_of}
 use Rattle.esc_desk.specs.Crashes.{IsStoreFor, IsStoreForOneOf, CrashLeaves, LeavesOnlyFor, doubtful_with, IsNotFull, AddsStoreFor}
 
 -- ---- two lists of events with the same rows, arrivals and moment

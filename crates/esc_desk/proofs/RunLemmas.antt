@@ -1,27 +1,37 @@
--- A run goes on by one arrival.
-use Rattle.std.proofs.Common.{◌≡◌, List, [], ◌∷◌, ◌++◌, Bool, true, false, cond, Some, refl, sym, ap, ap₂, subst, subst₂, ◌∙◌, append_assoc, append-nil}
+-- A run goes on by one event.
+use Rattle.std.proofs.Common.{◌≡◌, ℕ, ◌+◌, ◌^◌, ◌<◌, List, [], ◌∷◌, ◌++◌, Bool, true, false, cond, Some, Ok, Err, refl, sym, ap, ap₂, subst, subst₂, ◌∙◌, append_assoc, append-nil, arith}
 use Rattle.std.specs.List.{list_any}
+use Rattle.std.proofs.lemmas.List.Sums.{sum_by-append}
 use Rattle.sha2.specs.Sha256.{sha256}
 use Rattle.sqlite_trees.specs.declared.store.Store.{Ghosts}
-use Rattle.sqlite.specs.Held.{Held, state}
-use Rattle.sqlite.specs.State.{HasCleanDisk}
 use Rattle.esc_tables.specs.Reading.{reading}
 use Rattle.esc_manifest.specs.declared.row.MRow.{MRow}
-use Rattle.esc_store.specs.declared.fault.SFault.{SFault}
+use Rattle.esc_apply.specs.declared.moves.Work.{Work}
+use Rattle.esc_apply.specs.Registry.{saturated}
 use Rattle.esc_store.specs.ReplyValue.{ReplyValue, ReceiptValue, reply_alike}
 use Rattle.esc_desk.specs.declared.desk.Desk.{Desk}
-use Rattle.esc_desk.specs.declared.running.Outcome.{Outcome}
-use Rattle.esc_desk.specs.declared.running.Outcome.TheVariants.{Done, Lost}
+use Rattle.esc_desk.specs.declared.event.Event.{Event}
+use Rattle.esc_desk.specs.declared.event.Event.TheVariants.{Arrival, Amend, AsOf}
+use Rattle.esc_desk.specs.declared.event.EventOutcome.{EventOutcome}
+use Rattle.esc_desk.specs.declared.event.EventOutcome.TheVariants.{Arrived, Amended, Moved}
+use Rattle.esc_desk.specs.declared.event.Outcome.TheVariants.{Done, Lost}
 use Rattle.esc_events.specs.ArrivalValue.{ArrivalValue}
 use Rattle.esc_events.specs.Events.{EventValue, Coming, union, coming, comings}
-use Rattle.esc_events.specs.Events.EventValue.{arrived}
+use Rattle.esc_events.specs.Events.EventValue.{listed, arrived, moved}
 use Rattle.esc_events.specs.Receipts.{alike, distinct, receipt_for, receipts_after, receipts_of, reply_to}
-use Rattle.esc_desk.specs.Crashes.{CrashLeaves, LeavesOutcome, still_doubtful, doubtful_with, doubtful_after}
-use Rattle.esc_desk.specs.Running.{AreReplies, answered, Ran, Takes}
+use Rattle.esc_events.specs.Works.{IsWorkOf}
+use Rattle.esc_desk.specs.Asked.{event_of, is_taken, taken_by, taken_in}
+use Rattle.esc_desk.specs.Calls.{DeskLeaves, DeskLeavesEvent}
+use Rattle.esc_desk.specs.Crashes.{doubtful_by, doubtful_after}
+use Rattle.esc_desk.specs.Outcomes.{IsOutcomeOf, AreOutcomesOf, AreWorksOf, writes_in, HasWorked}
+use Rattle.esc_desk.specs.Running.{IsAnswer, AreAnswers, Ran, Takes}
 use Rattle.esc_desk.specs.Serving.{DeskServes, Answers}
-use Rattle.esc_events.proofs.EventLemmas.{union-arrived, comings-arrived}
+use Rattle.esc_events.proofs.AmendedBooks.{replies_stay}
+use Rattle.esc_events.proofs.EventLemmas.{union-arrived, comings-arrived, union-moved, comings-moved}
 use Rattle.esc_events.proofs.Searches.{alike-front}
 use Rattle.esc_events.proofs.Distinct.{distinct-push, receipts-push}
+
+-- ---- a reply stays as it was
 
 receipts_grow : (e : List EventValue) (a : ArrivalValue) → (more : List ReceiptValue) × (receipts_of sha256 reading (e ++ arrived a ∷ []) ≡ receipts_of sha256 reading e ++ more)
 receipts_grow e a = by_test (list_any (alike sha256 reading came) (comings e)) (ap (receipts_after sha256 reading []) (ap (distinct sha256 reading) (comings-arrived e a) ∙ distinct-push sha256 reading (comings e) came))
@@ -36,100 +46,135 @@ receipts_grow e a = by_test (list_any (alike sha256 reading came) (comings e)) (
     by_test true is = ([], is ∙ sym (append-nil _))
     by_test false is = (receipt_for sha256 reading before came ∷ [], is ∙ receipts-push sha256 reading [] before came)
 
-reply_stays : (e : List EventValue) (a x : ArrivalValue) (r : ReplyValue) → reply_to sha256 reading e x ≡ Some r → reply_to sha256 reading (e ++ arrived a ∷ []) x ≡ Some r
-reply_stays e a x r is =
-    let grown = receipts_grow e a in
-    ap₂ (λ (m : List MRow) (rs : List ReceiptValue). reply_alike m 1 x.number (sha256 x.body) rs) (union-arrived e a) grown.1 ∙ alike-front (union e) x.number (sha256 x.body) 1 (receipts_of sha256 reading e) grown.0 r is
+reply_stays : (e : List EventValue) (x : EventValue) (a : ArrivalValue) (r : ReplyValue) → reply_to sha256 reading e a ≡ Some r → reply_to sha256 reading (e ++ x ∷ []) a ≡ Some r
+reply_stays e (listed more) a r is = replies_stay e more a ∙ is
+reply_stays e (arrived b) a r is =
+    let grown = receipts_grow e b in
+    ap₂ (λ (m : List MRow) (rs : List ReceiptValue). reply_alike m 1 a.number (sha256 a.body) rs) (union-arrived e b) grown.1 ∙ alike-front (union e) a.number (sha256 a.body) 1 (receipts_of sha256 reading e) grown.0 r is
+reply_stays e (moved t) a r is =
+    ap₂ (λ (m : List MRow) (cs : List Coming). reply_alike m 1 a.number (sha256 a.body) (receipts_after sha256 reading [] (distinct sha256 reading cs))) (union-moved e t) (comings-moved e t) ∙ is
 
-replies_stay : (e : List EventValue) (a : ArrivalValue) (xs : List ArrivalValue) (os : List Outcome) → AreReplies e xs os → AreReplies (e ++ arrived a ∷ []) xs os
-replies_stay e a [] [] are = tt
-replies_stay e a [] (o ∷ os) are = are
-replies_stay e a (x ∷ xs) [] are = are
-replies_stay e a (x ∷ xs) (Done r ∷ os) are = (reply_stays e a x r are.0, replies_stay e a xs os are.1)
-replies_stay e a (x ∷ xs) (Lost f ∷ os) are = replies_stay e a xs os are
+reply_kept : (b : Bool) (e : List EventValue) (x : EventValue) (a : ArrivalValue) (r : ReplyValue) → reply_to sha256 reading e a ≡ Some r → reply_to sha256 reading (e ++ cond b (x ∷ []) []) a ≡ Some r
+reply_kept true e x a r is = reply_stays e x a r is
+reply_kept false e x a r is = ap (λ (k : List EventValue). reply_to sha256 reading k a) (append-nil e) ∙ is
 
-replies_done : (e : List EventValue) (a : ArrivalValue) (r : ReplyValue) → reply_to sha256 reading e a ≡ Some r → (xs : List ArrivalValue) (os : List Outcome) → AreReplies e xs os → AreReplies e (xs ++ a ∷ []) (os ++ Done r ∷ [])
-replies_done e a r told [] [] are = (told, tt)
-replies_done e a r told [] (o ∷ os) are = absurd are
-replies_done e a r told (x ∷ xs) [] are = absurd are
-replies_done e a r told (x ∷ xs) (Done q ∷ os) are = (are.0, replies_done e a r told xs os are.1)
-replies_done e a r told (x ∷ xs) (Lost f ∷ os) are = replies_done e a r told xs os are
+-- ---- one more event of a run
 
-replies_lost : (e : List EventValue) (a : ArrivalValue) (f : SFault) (xs : List ArrivalValue) (os : List Outcome) → AreReplies e xs os → AreReplies e (xs ++ a ∷ []) (os ++ Lost f ∷ [])
-replies_lost e a f [] [] are = tt
-replies_lost e a f [] (o ∷ os) are = absurd are
-replies_lost e a f (x ∷ xs) [] are = absurd are
-replies_lost e a f (x ∷ xs) (Done q ∷ os) are = (are.0, replies_lost e a f xs os are.1)
-replies_lost e a f (x ∷ xs) (Lost h ∷ os) are = replies_lost e a f xs os are
+answer_kept : (e all more : List EventValue) → ((a : ArrivalValue) (r : ReplyValue) → reply_to sha256 reading all a ≡ Some r → reply_to sha256 reading more a ≡ Some r) → (x : Event) (o : EventOutcome) → IsAnswer e all x o → IsAnswer e more x o
+answer_kept e all more keep (Arrival a) (Arrived (Done r)) is = keep a r is
+answer_kept e all more keep (Arrival a) (Arrived (Lost f)) is = is
+answer_kept e all more keep (Arrival a) (Amended r) is = is
+answer_kept e all more keep (Arrival a) (Moved r) is = is
+answer_kept e all more keep (Amend text) (Arrived o) is = is
+answer_kept e all more keep (Amend text) (Amended (Ok n)) is = is
+answer_kept e all more keep (Amend text) (Amended (Err f)) is = is
+answer_kept e all more keep (Amend text) (Moved r) is = is
+answer_kept e all more keep (AsOf t) (Arrived o) is = is
+answer_kept e all more keep (AsOf t) (Amended r) is = is
+answer_kept e all more keep (AsOf t) (Moved r) is = tt
 
-pub answered_done : (e : List EventValue) (a : ArrivalValue) (r : ReplyValue) (xs : List ArrivalValue) (os : List Outcome) → AreReplies e xs os → answered (xs ++ a ∷ []) (os ++ Done r ∷ []) ≡ answered xs os ++ arrived a ∷ []
-answered_done e a r [] [] are = refl
-answered_done e a r [] (o ∷ os) are = absurd are
-answered_done e a r (x ∷ xs) [] are = absurd are
-answered_done e a r (x ∷ xs) (Done q ∷ os) are = ap (λ (k : List EventValue). arrived x ∷ k) (answered_done e a r xs os are.1)
-answered_done e a r (x ∷ xs) (Lost f ∷ os) are = answered_done e a r xs os are
+answers_kept : (e all more : List EventValue) → ((a : ArrivalValue) (r : ReplyValue) → reply_to sha256 reading all a ≡ Some r → reply_to sha256 reading more a ≡ Some r) → (xs : List Event) (os : List EventOutcome) → AreAnswers e all xs os → AreAnswers e more xs os
+answers_kept e all more keep [] [] are = tt
+answers_kept e all more keep [] (o ∷ os) are = are
+answers_kept e all more keep (x ∷ xs) [] are = are
+answers_kept e all more keep (x ∷ xs) (o ∷ os) are = (answer_kept e all more keep x o are.0, answers_kept (e ++ taken_by x o) all more keep xs os are.1)
 
-pub answered_lost : (e : List EventValue) (a : ArrivalValue) (f : SFault) (xs : List ArrivalValue) (os : List Outcome) → AreReplies e xs os → answered (xs ++ a ∷ []) (os ++ Lost f ∷ []) ≡ answered xs os
-answered_lost e a f [] [] are = refl
-answered_lost e a f [] (o ∷ os) are = absurd are
-answered_lost e a f (x ∷ xs) [] are = absurd are
-answered_lost e a f (x ∷ xs) (Done q ∷ os) are = ap (λ (k : List EventValue). arrived x ∷ k) (answered_lost e a f xs os are.1)
-answered_lost e a f (x ∷ xs) (Lost h ∷ os) are = answered_lost e a f xs os are
+answers_more : (e all : List EventValue) (xs : List Event) (os : List EventOutcome) (x : Event) (o : EventOutcome) → AreAnswers e all xs os → IsAnswer (e ++ taken_in xs os) all x o → AreAnswers e all (xs ++ x ∷ []) (os ++ o ∷ [])
+answers_more e all [] [] x o are one = (subst (λ (k : List EventValue). IsAnswer k all x o) (append-nil e) one, tt)
+answers_more e all [] (q ∷ os) x o are one = absurd are
+answers_more e all (y ∷ xs) [] x o are one = absurd are
+answers_more e all (y ∷ xs) (q ∷ os) x o are one =
+    (are.0, answers_more (e ++ taken_by y q) all xs os x o are.1 (subst (λ (k : List EventValue). IsAnswer k all x o) (sym (append_assoc e (taken_by y q) (taken_in xs os))) one))
+
+taken_more : (e all : List EventValue) (xs : List Event) (os : List EventOutcome) (x : Event) (o : EventOutcome) → AreAnswers e all xs os → taken_in (xs ++ x ∷ []) (os ++ o ∷ []) ≡ taken_in xs os ++ taken_by x o
+taken_more e all [] [] x o are = append-nil (taken_by x o)
+taken_more e all [] (q ∷ os) x o are = absurd are
+taken_more e all (y ∷ xs) [] x o are = absurd are
+taken_more e all (y ∷ xs) (q ∷ os) x o are =
+    ap (λ (k : List EventValue). taken_by y q ++ k) (taken_more (e ++ taken_by y q) all xs os x o are.1) ∙ sym (append_assoc (taken_by y q) (taken_in xs os) (taken_by x o))
+
+-- the events of a run and one more
+along : (before all : List EventValue) (xs : List Event) (os : List EventOutcome) (x : Event) (o : EventOutcome) → AreAnswers before all xs os → before ++ taken_in (xs ++ x ∷ []) (os ++ o ∷ []) ≡ (before ++ taken_in xs os) ++ taken_by x o
+along before all xs os x o are = ap (λ (k : List EventValue). before ++ k) (taken_more before all xs os x o are) ∙ sym (append_assoc before (taken_in xs os) (taken_by x o))
+
+doubtful_more : (all e doubtful : List EventValue) (xs : List Event) (os : List EventOutcome) (x : Event) (o : EventOutcome) → AreAnswers e all xs os
+    → doubtful_after e doubtful (xs ++ x ∷ []) (os ++ o ∷ []) ≡ doubtful_by (e ++ taken_in xs os) (doubtful_after e doubtful xs os) x o
+doubtful_more all e doubtful [] [] x o are = ap (λ (k : List EventValue). doubtful_by k doubtful x o) (sym (append-nil e))
+doubtful_more all e doubtful [] (q ∷ os) x o are = absurd are
+doubtful_more all e doubtful (y ∷ xs) [] x o are = absurd are
+doubtful_more all e doubtful (y ∷ xs) (q ∷ os) x o are =
+    doubtful_more all (e ++ taken_by y q) (doubtful_by e doubtful y q) xs os x o are.1
+    ∙ ap (λ (k : List EventValue). doubtful_by k (doubtful_after (e ++ taken_by y q) (doubtful_by e doubtful y q) xs os) x o) (append_assoc e (taken_by y q) (taken_in xs os))
+
+pub outcomes_more : (xs : List Event) (os : List EventOutcome) (x : Event) (o : EventOutcome) → AreOutcomesOf xs os → IsOutcomeOf x o → AreOutcomesOf (xs ++ x ∷ []) (os ++ o ∷ [])
+outcomes_more [] [] x o are one = (one, tt)
+outcomes_more [] (q ∷ os) x o are one = absurd are
+outcomes_more (y ∷ xs) [] x o are one = absurd are
+outcomes_more (y ∷ xs) (q ∷ os) x o are one = (are.0, outcomes_more xs os x o are.1 one)
+
+-- ---- the work of a run
+
+works_more : (e xs ys : List EventValue) (ws vs : List Work) → AreWorksOf e xs ws → AreWorksOf (e ++ xs) ys vs → AreWorksOf e (xs ++ ys) (ws ++ vs)
+works_more e [] ys [] vs are more = subst (λ (k : List EventValue). AreWorksOf k ys vs) (append-nil e) more
+works_more e [] ys (w ∷ ws) vs are more = absurd are
+works_more e (x ∷ xs) ys [] vs are more = absurd are
+works_more e (x ∷ xs) ys (w ∷ ws) vs are more =
+    (are.0, works_more (e ++ x ∷ []) xs ys ws vs are.1 (subst (λ (k : List EventValue). AreWorksOf k ys vs) (sym (append_assoc e (x ∷ []) xs)) more))
+
+-- before the first event
+pub worked_none : (e : List EventValue) (was : ℕ) → was < 2 ^ 64 → HasWorked e [] was was
+worked_none e was fits = record { works = []; are_works = tt; counted = omega arith }
+
+-- of one that was not taken in
+pub worked_lost : (e : List EventValue) (was now : ℕ) → was < 2 ^ 64 → now ≡ was → HasWorked e [] was now
+worked_lost e was now fits same = record { works = []; are_works = tt; counted = omega (arith, fits, same) }
+
+-- of one that was
+pub worked_once : (e : List EventValue) (x : EventValue) (w : Work) (was now : ℕ) → IsWorkOf e x w → now ≡ saturated (was + w.writes) → HasWorked e (x ∷ []) was now
+worked_once e x w was now is counted = record { works = w ∷ []; are_works = (is, tt); counted = omega (arith, counted) }
+
+pub worked_more : (e all : List EventValue) (xs : List Event) (os : List EventOutcome) (x : Event) (o : EventOutcome) (was mid now : ℕ) → AreAnswers e all xs os
+    → HasWorked e (taken_in xs os) was mid → HasWorked (e ++ taken_in xs os) (taken_by x o) mid now → HasWorked e (taken_in (xs ++ x ∷ []) (os ++ o ∷ [])) was now
+worked_more e all xs os x o was mid now are so once =
+    let sum : writes_in (so.works ++ once.works) ≡ writes_in so.works + writes_in once.works = sum_by-append (λ (w : Work). w.writes) so.works once.works in
+    subst (λ (k : List EventValue). HasWorked e k was now) (sym (taken_more e all xs os x o are)) (record {
+      works = so.works ++ once.works;
+      are_works = works_more e (taken_in xs os) (taken_by x o) so.works once.works so.are_works once.are_works;
+      counted = omega (arith, so.counted, once.counted, sum);
+    })
+
+-- ---- what a desk serves
 
 module _ {S : Type 0} (g : Ghosts S) where
-  pub ran_more : (old new : Desk S) (before : List EventValue) (xs : List ArrivalValue) (os : List Outcome) (a : ArrivalValue) (o : Outcome)
-      → Ran g old before xs os → ((e : List EventValue) → DeskServes g old e → Takes g new e a o) → Ran g new before (xs ++ a ∷ []) (os ++ o ∷ [])
-  ran_more old new before xs os a (Done r) ran step =
-      let e = before ++ answered xs os in
-      let now = step e ran.serves in
-      let all : before ++ answered (xs ++ a ∷ []) (os ++ Done r ∷ []) ≡ e ++ arrived a ∷ [] = ap (λ (k : List EventValue). before ++ k) (answered_done e a r xs os ran.replies) ∙ sym (append_assoc before (answered xs os) (arrived a ∷ [])) in
-      record {
-        serves = subst (λ (k : List EventValue). DeskServes g new k) (sym all) now.serves;
-        replies = subst (λ (k : List EventValue). AreReplies k (xs ++ a ∷ []) (os ++ Done r ∷ [])) (sym all) (replies_done (e ++ arrived a ∷ []) a r now.told xs os (replies_stay e a xs os ran.replies));
-      }
-  ran_more old new before xs os a (Lost f) ran step =
-      let e = before ++ answered xs os in
-      let all : before ++ answered (xs ++ a ∷ []) (os ++ Lost f ∷ []) ≡ e = ap (λ (k : List EventValue). before ++ k) (answered_lost e a f xs os ran.replies) in
-      record {
-        serves = subst (λ (k : List EventValue). DeskServes g new k) (sym all) (step e ran.serves);
-        replies = subst (λ (k : List EventValue). AreReplies k (xs ++ a ∷ []) (os ++ Lost f ∷ [])) (sym all) (replies_lost e a f xs os ran.replies);
-      }
+  -- an event that was not taken in
+  pub serves_without : (desk : Desk S) (e : List EventValue) → DeskServes g desk e → DeskServes g desk (e ++ [])
+  serves_without desk e serves = subst (λ (k : List EventValue). DeskServes g desk k) (sym (append-nil e)) serves
+
+  pub leaves_without : (desk : Desk S) (e doubtful : List EventValue) → DeskLeaves g desk e doubtful → DeskLeaves g desk (e ++ []) doubtful
+  leaves_without desk e doubtful left = subst (λ (k : List EventValue). DeskLeaves g desk k doubtful) (sym (append-nil e)) left
 
   -- an answer to an arrival is one to the same arrival
-  pub answers_same : (desk : Desk S) (e : List EventValue) (a b : ArrivalValue) (r : ReplyValue) → a ≡ b → Answers g desk e a r → Answers g desk e b r
-  answers_same desk e a b r same told = subst (λ (x : ArrivalValue). Answers g desk e x r) same told
+  pub answers_same : (desk : Desk S) (e : List EventValue) (a b : ArrivalValue) (r : ReplyValue) → a ≡ b → Answers g desk e a r → Takes g desk e (Arrival b) (Arrived (Done r))
+  answers_same desk e a b r same told = subst (λ (x : ArrivalValue). Takes g desk e (Arrival x) (Arrived (Done r))) same (record { serves = told.serves; answer = told.told })
 
-  -- before the first arrival
+  -- before the first event
   pub ran_none : (desk : Desk S) (before : List EventValue) → DeskServes g desk before → Ran g desk before [] []
-  ran_none desk before serves = record { serves = subst (λ (k : List EventValue). DeskServes g desk k) (sym (append-nil before)) serves; replies = tt }
+  ran_none desk before serves = record { serves = serves_without desk before serves; answers = tt }
 
--- ---- what a crash leaves of a run
+  pub ran_more : (old new : Desk S) (before : List EventValue) (xs : List Event) (os : List EventOutcome) (x : Event) (o : EventOutcome)
+      → Ran g old before xs os → ((e : List EventValue) → DeskServes g old e → Takes g new e x o) → Ran g new before (xs ++ x ∷ []) (os ++ o ∷ [])
+  ran_more old new before xs os x o ran step =
+      let e = before ++ taken_in xs os in
+      let now = step e ran.serves in
+      let all : before ++ taken_in (xs ++ x ∷ []) (os ++ o ∷ []) ≡ e ++ taken_by x o = along before e xs os x o ran.answers in
+      record {
+        serves = subst (λ (k : List EventValue). DeskServes g new k) (sym all) now.serves;
+        answers = subst (λ (k : List EventValue). AreAnswers before k (xs ++ x ∷ []) (os ++ o ∷ [])) (sym all)
+            (answers_more before (e ++ taken_by x o) xs os x o (answers_kept before e (e ++ taken_by x o) (reply_kept (is_taken o) e (event_of x)) xs os ran.answers) now.answer);
+      }
 
-doubtful_done : (all : List EventValue) (a : ArrivalValue) (r : ReplyValue) (e doubtful : List EventValue) (xs : List ArrivalValue) (os : List Outcome) → AreReplies all xs os
-    → doubtful_after e doubtful (xs ++ a ∷ []) (os ++ Done r ∷ []) ≡ still_doubtful (reply_to sha256 reading (e ++ answered xs os) a) (doubtful_after e doubtful xs os)
-doubtful_done all a r e doubtful [] [] are = ap (λ (k : List EventValue). still_doubtful (reply_to sha256 reading k a) doubtful) (sym (append-nil e))
-doubtful_done all a r e doubtful [] (o ∷ os) are = absurd are
-doubtful_done all a r e doubtful (x ∷ xs) [] are = absurd are
-doubtful_done all a r e doubtful (x ∷ xs) (Done q ∷ os) are =
-    doubtful_done all a r (e ++ arrived x ∷ []) (still_doubtful (reply_to sha256 reading e x) doubtful) xs os are.1
-    ∙ ap (λ (k : List EventValue). still_doubtful (reply_to sha256 reading k a) (doubtful_after (e ++ arrived x ∷ []) (still_doubtful (reply_to sha256 reading e x) doubtful) xs os)) (append_assoc e (arrived x ∷ []) (answered xs os))
-doubtful_done all a r e doubtful (x ∷ xs) (Lost f ∷ os) are = doubtful_done all a r e (doubtful_with f (arrived x) doubtful) xs os are
-
-doubtful_lost : (all : List EventValue) (a : ArrivalValue) (f : SFault) (e doubtful : List EventValue) (xs : List ArrivalValue) (os : List Outcome) → AreReplies all xs os
-    → doubtful_after e doubtful (xs ++ a ∷ []) (os ++ Lost f ∷ []) ≡ doubtful_with f (arrived a) (doubtful_after e doubtful xs os)
-doubtful_lost all a f e doubtful [] [] are = refl
-doubtful_lost all a f e doubtful [] (o ∷ os) are = absurd are
-doubtful_lost all a f e doubtful (x ∷ xs) [] are = absurd are
-doubtful_lost all a f e doubtful (x ∷ xs) (Done q ∷ os) are = doubtful_lost all a f (e ++ arrived x ∷ []) (still_doubtful (reply_to sha256 reading e x) doubtful) xs os are.1
-doubtful_lost all a f e doubtful (x ∷ xs) (Lost h ∷ os) are = doubtful_lost all a f e (doubtful_with h (arrived x) doubtful) xs os are
-
-module _ {S : Type 0} (g : Ghosts S) where
-  pub left_more : (new : Held S) (before doubtful : List EventValue) (xs : List ArrivalValue) (os : List Outcome) (a : ArrivalValue) (o : Outcome)
-      → AreReplies (before ++ answered xs os) xs os → LeavesOutcome g new (before ++ answered xs os) (doubtful_after before doubtful xs os) a o
-      → CrashLeaves g new (before ++ answered (xs ++ a ∷ []) (os ++ o ∷ [])) (doubtful_after before doubtful (xs ++ a ∷ []) (os ++ o ∷ []))
-  left_more new before doubtful xs os a (Done r) are after =
-      let all = before ++ answered xs os in
-      subst₂ (λ (k x : List EventValue). CrashLeaves g new k x) (append_assoc before (answered xs os) (arrived a ∷ []) ∙ ap (λ (k : List EventValue). before ++ k) (sym (answered_done all a r xs os are))) (sym (doubtful_done all a r before doubtful xs os are)) after
-  left_more new before doubtful xs os a (Lost f) are after =
-      let all = before ++ answered xs os in
-      subst₂ (λ (k x : List EventValue). CrashLeaves g new k x) (ap (λ (k : List EventValue). before ++ k) (sym (answered_lost all a f xs os are))) (sym (doubtful_lost all a f before doubtful xs os are)) after
+  pub left_more : (new : Desk S) (before doubtful all : List EventValue) (xs : List Event) (os : List EventOutcome) (x : Event) (o : EventOutcome)
+      → AreAnswers before all xs os → DeskLeavesEvent g new (before ++ taken_in xs os) (doubtful_after before doubtful xs os) x o
+      → DeskLeaves g new (before ++ taken_in (xs ++ x ∷ []) (os ++ o ∷ [])) (doubtful_after before doubtful (xs ++ x ∷ []) (os ++ o ∷ []))
+  left_more new before doubtful all xs os x o are after =
+      subst₂ (λ (k d : List EventValue). DeskLeaves g new k d) (sym (along before all xs os x o are)) (sym (doubtful_more all before doubtful xs os x o are)) after

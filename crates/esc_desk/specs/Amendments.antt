@@ -27,35 +27,30 @@ use Rattle.esc_apply.specs.declared.moves.Work.{Work}
 use Rattle.esc_store.specs.Faults.{IsS1OrS2}
 use Rattle.esc_store.specs.Kept.{Kept}
 use Rattle.esc_events.specs.Events.{EventValue, union}
-use Rattle.esc_events.specs.Events.EventValue.{listed}
 use Rattle.esc_events.specs.Works.{IsWorkOf, no_work}
 use Rattle.esc_desk.specs.declared.amendment.AmendFault.{AmendFault}
 use Rattle.esc_desk.specs.declared.amendment.AmendFault.TheVariants.{M, Store as OfStore}
 use Rattle.esc_desk.specs.declared.desk.Desk.{Desk}
 use Rattle.esc_desk.specs.declared.judging.Judged.{Judged}
+use Rattle.esc_desk.specs.Asked.{amendment_of}
 use Rattle.esc_desk.specs.Crashes.{CrashLeaves, LeavesRefused}
 use Rattle.esc_desk.specs.Serving.{DeskServes}
 use Rattle.esc_desk.specs.Sources.{AreJudged}
 
--- the rows of a manifest, or none where a text is none
-abbrev pub rows_read : Result (List MRow) (ℕ × ℕ) → List MRow
-rows_read (Ok rows) = rows
-rows_read (Err fault) = []
-
--- the event that a text is as an amendment
-abbrev pub amendment_of : List ℕ → EventValue
-amendment_of text = listed (rows_read (manifest_of text))
-
--- a text reads as an accepted manifest, and so is the union with it, which has so many rows more;
--- the desk serves the events with it, and this was the work: none where no row is more
-pub record IsAmended {S : Type 0} (g : Ghosts S) (desk : Desk S) (e : List EventValue)
-    (text : List ℕ) (count : ℕ) (work : Work) : Type 0 where
+-- a text reads as an accepted manifest, and so is the union with it, which has so many rows more
+pub record AddsRows (e : List EventValue) (text : List ℕ) (count : ℕ) : Type 0 where
   pub rows : List MRow
   pub read : manifest_of text ≡ Ok rows
   pub accepted : extension (union e) rows ≡ Ok (extended (union e) rows)
   pub count_is : count ≡ length (new_rows (union e) rows)
-  pub serves : DeskServes g desk (e ++ listed rows ∷ [])
-  pub works : IsWorkOf e (listed rows) work
+
+-- of an amendment that was taken in, the desk serves the events with it, it has so many rows more,
+-- and this was the work: none where no row is more
+pub record IsAmended {S : Type 0} (g : Ghosts S) (desk : Desk S) (e : List EventValue)
+    (text : List ℕ) (count : ℕ) (work : Work) : Type 0 where
+  pub adds : AddsRows e text count
+  pub serves : DeskServes g desk (e ++ amendment_of text ∷ [])
+  pub works : IsWorkOf e (amendment_of text) work
   pub idle : count ≡ 0 → work ≡ no_work
 
 -- a text is no accepted manifest, or it is and the union of these rows with it is none, by this
@@ -71,6 +66,12 @@ abbrev pub IsAmendCause : List EventValue → List ℕ → AmendFault → Type 0
 IsAmendCause e text (M (RefusedRow code row)) = IsRefusedUnion (union e) text code row
 IsAmendCause e text (M NoMemory) = ⊥
 IsAmendCause e text (OfStore fault) = IsS1OrS2 fault
+
+-- an amendment's text is refused, or it is lost by S1 or S2
+abbrev pub IsAmendFault : AmendFault → Type 0
+IsAmendFault (M (RefusedRow code row)) = Unit {0}
+IsAmendFault (M NoMemory) = ⊥
+IsAmendFault (OfStore fault) = IsS1OrS2 fault
 
 -- what a crash leaves after an amendment that wasn't taken in: after S1 or S2 it may be
 abbrev pub LeavesUnamended : {S : Type 0} → Ghosts S → Desk S → List EventValue → List EventValue

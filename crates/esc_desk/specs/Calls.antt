@@ -10,18 +10,19 @@ use Rattle.esc_store.specs.declared.store.Store.{Store}
 use Rattle.esc_store.specs.ReplyValue.{ReplyValue}
 use Rattle.esc_store.specs.Standing.{IsHonest, IsAsBefore}
 use Rattle.esc_desk.specs.declared.desk.Desk.{Desk}
-use Rattle.esc_desk.specs.declared.running.Outcome.{Outcome}
+use Rattle.esc_desk.specs.declared.event.Event.{Event}
+use Rattle.esc_desk.specs.declared.event.EventOutcome.{EventOutcome}
 use Rattle.esc_events.specs.ArrivalValue.{ArrivalValue}
 use Rattle.esc_desk.specs.Crashes.{
   CrashLeaves,
   LeavesTaken,
   LeavesMade,
-  LeavesOutcome,
+  doubtful_by,
   doubtful_after,
 }
 use Rattle.esc_events.specs.Events.{EventValue, union}
 use Rattle.esc_events.specs.Receipts.{receipts_of, reply_to}
-use Rattle.esc_desk.specs.Running.{answered}
+use Rattle.esc_desk.specs.Asked.{taken_by, taken_in}
 use Rattle.esc_desk.specs.Serving.{Serves, DeskServes}
 use Rattle.esc_events.specs.Apart.{WhereApart}
 use Rattle.esc_events.specs.Finding.{row_of}
@@ -147,16 +148,16 @@ abbrev pub DeskLeavesTaken : {S X : Type 0} → Ghosts S → Desk S → List Eve
     → ArrivalValue → Result X SFault → Type 0
 DeskLeavesTaken g desk e doubtful a result = LeavesTaken g desk.store.conn e doubtful a result
 
--- what a crash leaves after an arrival of a run, by its outcome
-abbrev pub DeskLeavesOutcome : {S : Type 0} → Ghosts S → Desk S → List EventValue
-    → List EventValue → ArrivalValue → Outcome → Type 0
-DeskLeavesOutcome g desk e doubtful a outcome =
-    LeavesOutcome g desk.store.conn e doubtful a outcome
+-- what a crash leaves after an event of a run, by its outcome
+abbrev pub DeskLeavesEvent : {S : Type 0} → Ghosts S → Desk S → List EventValue → List EventValue
+    → Event → EventOutcome → Type 0
+DeskLeavesEvent g desk e doubtful x o =
+    DeskLeaves g desk (e ++ taken_by x o) (doubtful_by e doubtful x o)
 
--- what a crash leaves after a run over arrivals: the events before it and the answered arrivals,
--- and those in doubt then
+-- what a crash leaves after a run: the events before it and those that were taken in, and those in
+-- doubt then
 abbrev pub DeskLeavesRun : {S : Type 0} → Ghosts S → Desk S → List EventValue → List EventValue
-    → List ArrivalValue → List Outcome → Type 0
-DeskLeavesRun g desk e doubtful arrivals outcomes =
-    DeskLeaves g desk (e ++ answered arrivals outcomes)
-    (doubtful_after e doubtful arrivals outcomes)
+    → List Event → List EventOutcome → Type 0
+DeskLeavesRun g desk e doubtful events outcomes =
+    DeskLeaves g desk (e ++ taken_in events outcomes)
+    (doubtful_after e doubtful events outcomes)

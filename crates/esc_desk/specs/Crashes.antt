@@ -5,6 +5,9 @@
 use Rattle.std.specs.Prelude.{
   ◌≢◌,
   ◌⊎◌,
+  ◌==◌,
+  ℕ,
+  ℤ,
   List,
   [],
   ◌∷◌,
@@ -16,6 +19,7 @@ use Rattle.std.specs.Prelude.{
   Ok,
   Err,
   MatchResult,
+  if◌then◌else◌,
 }
 use Rattle.sha2.specs.Sha256.{sha256}
 use Rattle.sqlite_trees.specs.declared.store.Store.{Ghosts}
@@ -28,13 +32,19 @@ use Rattle.esc_store.specs.declared.fault.SFault.TheVariants.{S1, S2, S3, S4, S5
 use Rattle.esc_store.specs.Kept.{Kept}
 use Rattle.esc_store.specs.ReplyValue.{ReplyValue}
 use Rattle.esc_store.specs.Tables.{IsStore}
-use Rattle.esc_desk.specs.declared.running.Outcome.{Outcome}
-use Rattle.esc_desk.specs.declared.running.Outcome.TheVariants.{Done, Lost}
+use Rattle.esc_desk.specs.declared.amendment.AmendFault.{AmendFault}
+use Rattle.esc_desk.specs.declared.amendment.AmendFault.TheVariants.{M, Store as OfStore}
+use Rattle.esc_desk.specs.declared.event.Event.{Event}
+use Rattle.esc_desk.specs.declared.event.Event.TheVariants.{Arrival, Amend, AsOf}
+use Rattle.esc_desk.specs.declared.event.EventOutcome.{EventOutcome}
+use Rattle.esc_desk.specs.declared.event.EventOutcome.TheVariants.{Arrived, Amended, Moved}
+use Rattle.esc_desk.specs.declared.event.Outcome.TheVariants.{Done, Lost}
 use Rattle.esc_events.specs.ArrivalValue.{ArrivalValue}
 use Rattle.esc_events.specs.Events.{EventValue}
-use Rattle.esc_events.specs.Events.EventValue.{arrived}
+use Rattle.esc_events.specs.Events.EventValue.{arrived, moved}
 use Rattle.esc_events.specs.Receipts.{reply_to}
 use Rattle.esc_events.specs.Stands.{StandsFor}
+use Rattle.esc_desk.specs.Asked.{amendment_of, taken_by}
 
 -- the trees of a database are a store that stands for this list of events
 pub record IsStoreFor (trees : Trees) (e : List EventValue) : Type 0 where
@@ -99,22 +109,41 @@ LeavesMade g conn e doubtful x result =
     MatchResult result (λ _. CrashLeaves g conn (e ++ x ∷ []) [])
     (λ f. LeavesRefused g conn e doubtful x f)
 
--- what a crash leaves after an arrival of a run, by its outcome
-abbrev pub LeavesOutcome : {S : Type 0} → Ghosts S → Held S → List EventValue → List EventValue
-    → ArrivalValue → Outcome → Type 0
-LeavesOutcome g conn e doubtful a (Done r) = LeavesAnswered g conn e doubtful a
-LeavesOutcome g conn e doubtful a (Lost f) = LeavesRefused g conn e doubtful (arrived a) f
+-- the events in doubt after an amendment, by what came of it: none where a row was added
+abbrev pub doubtful_amended : List EventValue → List ℕ → Result ℕ AmendFault → List EventValue
+doubtful_amended doubtful text (Ok count) = if count == 0 then doubtful else []
+doubtful_amended doubtful text (Err (M fault)) = doubtful
+doubtful_amended doubtful text (Err (OfStore fault)) =
+    doubtful_with fault (amendment_of text) doubtful
 
--- the events in doubt after a run over a list of arrivals, by the outcome of each
-abbrev pub doubtful_after : List EventValue → List EventValue → List ArrivalValue → List Outcome
+-- the events in doubt after a moment, by what came of it
+abbrev pub doubtful_moved : List EventValue → Option ℤ → Result (Unit {0}) SFault
+    → List EventValue
+doubtful_moved doubtful moment (Ok set) = []
+doubtful_moved doubtful moment (Err fault) = doubtful_with fault (moved moment) doubtful
+
+-- the events in doubt after an event that came behind the events e, by what came of it
+abbrev pub doubtful_by : List EventValue → List EventValue → Event → EventOutcome
+    → List EventValue
+doubtful_by e doubtful (Arrival a) (Arrived (Done r)) =
+    still_doubtful (reply_to sha256 reading e a) doubtful
+doubtful_by e doubtful (Arrival a) (Arrived (Lost f)) = doubtful_with f (arrived a) doubtful
+doubtful_by e doubtful (Arrival a) (Amended r) = doubtful
+doubtful_by e doubtful (Arrival a) (Moved r) = doubtful
+doubtful_by e doubtful (Amend text) (Arrived o) = doubtful
+doubtful_by e doubtful (Amend text) (Amended r) = doubtful_amended doubtful text.now r
+doubtful_by e doubtful (Amend text) (Moved r) = doubtful
+doubtful_by e doubtful (AsOf moment) (Arrived o) = doubtful
+doubtful_by e doubtful (AsOf moment) (Amended r) = doubtful
+doubtful_by e doubtful (AsOf moment) (Moved r) = doubtful_moved doubtful moment r
+
+-- the events in doubt after a run, by what came of each event
+abbrev pub doubtful_after : List EventValue → List EventValue → List Event → List EventOutcome
     → List EventValue
 doubtful_after e doubtful [] os = doubtful
-doubtful_after e doubtful (a ∷ rest) [] = doubtful
-doubtful_after e doubtful (a ∷ rest) (Done r ∷ os) =
-    let doubtful_then = still_doubtful (reply_to sha256 reading e a) doubtful in
-    doubtful_after (e ++ arrived a ∷ []) doubtful_then rest os
-doubtful_after e doubtful (a ∷ rest) (Lost f ∷ os) =
-    doubtful_after e (doubtful_with f (arrived a) doubtful) rest os
+doubtful_after e doubtful (x ∷ xs) [] = doubtful
+doubtful_after e doubtful (x ∷ xs) (o ∷ os) =
+    doubtful_after (e ++ taken_by x o) (doubtful_by e doubtful x o) xs os
 
 -- ---- from one call to the next
 

@@ -1,4 +1,5 @@
 pub mod Amendments
+pub mod Asked
 pub mod Calls
 pub mod Causes
 pub mod Crashes

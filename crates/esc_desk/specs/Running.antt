@@ -1,45 +1,60 @@
--- What a run over a list of arrivals answers.
-use Rattle.std.specs.Prelude.{◌≡◌, List, [], ◌∷◌, ◌++◌, Some}
+-- What a run over a list of events answers.
+use Rattle.std.specs.Prelude.{◌≡◌, List, [], ◌∷◌, ◌++◌, Some, Ok, Err}
 use Rattle.sha2.specs.Sha256.{sha256}
 use Rattle.sqlite_trees.specs.declared.store.Store.{Ghosts}
 use Rattle.esc_tables.specs.Reading.{reading}
 use Rattle.esc_desk.specs.declared.desk.Desk.{Desk}
-use Rattle.esc_desk.specs.declared.running.Outcome.{Outcome}
-use Rattle.esc_desk.specs.declared.running.Outcome.TheVariants.{Done, Lost}
+use Rattle.esc_desk.specs.declared.event.Event.{Event}
+use Rattle.esc_desk.specs.declared.event.Event.TheVariants.{Arrival, Amend, AsOf}
+use Rattle.esc_desk.specs.declared.event.EventOutcome.{EventOutcome}
+use Rattle.esc_desk.specs.declared.event.EventOutcome.TheVariants.{Arrived, Amended, Moved}
+use Rattle.esc_desk.specs.declared.event.Outcome.{Outcome}
+use Rattle.esc_desk.specs.declared.event.Outcome.TheVariants.{Done, Lost}
 use Rattle.esc_events.specs.ArrivalValue.{ArrivalValue}
 use Rattle.esc_events.specs.Events.{EventValue}
-use Rattle.esc_events.specs.Events.EventValue.{arrived}
 use Rattle.esc_events.specs.Receipts.{reply_to}
-use Rattle.esc_desk.specs.Serving.{DeskServes, Answers}
+use Rattle.esc_desk.specs.Amendments.{AddsRows, IsAmendCause}
+use Rattle.esc_desk.specs.Asked.{taken_by, taken_in}
+use Rattle.esc_desk.specs.Calls.{IsCause}
+use Rattle.esc_desk.specs.Serving.{DeskServes}
 
--- there is one outcome for each arrival, and each reply is that of its arrival, where e are all
--- events in the end
-abbrev pub AreReplies : List EventValue → List ArrivalValue → List Outcome → Type 0
-AreReplies e [] [] = Unit {0}
-AreReplies e [] (o ∷ os) = ⊥
-AreReplies e (a ∷ rest) [] = ⊥
-AreReplies e (a ∷ rest) (Done r ∷ os) = (reply_to sha256 reading e a ≡ Some r)
-    × AreReplies e rest os
-AreReplies e (a ∷ rest) (Lost f ∷ os) = AreReplies e rest os
+-- an arrival after the events e was answered with its reply, where all are the events in the end;
+-- or it was lost, and there was this cause
+abbrev pub IsReply : List EventValue → List EventValue → ArrivalValue → Outcome → Type 0
+IsReply e all a (Done r) = reply_to sha256 reading all a ≡ Some r
+IsReply e all a (Lost f) = IsCause e a f
 
--- the arrivals that were answered, in order, as events
-abbrev pub answered : List ArrivalValue → List Outcome → List EventValue
-answered [] os = []
-answered (a ∷ rest) [] = []
-answered (a ∷ rest) (Done r ∷ os) = arrived a ∷ answered rest os
-answered (a ∷ rest) (Lost f ∷ os) = answered rest os
+-- what came of an event after the events e is so, where all are the events in the end: an arrival's
+-- reply, an amendment's count of rows, or why it was refused
+abbrev pub IsAnswer : List EventValue → List EventValue → Event → EventOutcome → Type 0
+IsAnswer e all (Arrival a) (Arrived o) = IsReply e all a o
+IsAnswer e all (Arrival a) (Amended r) = ⊥
+IsAnswer e all (Arrival a) (Moved r) = ⊥
+IsAnswer e all (Amend text) (Arrived o) = ⊥
+IsAnswer e all (Amend text) (Amended (Ok count)) = AddsRows e text.now count
+IsAnswer e all (Amend text) (Amended (Err f)) = IsAmendCause e text.now f
+IsAnswer e all (Amend text) (Moved r) = ⊥
+IsAnswer e all (AsOf moment) (Arrived o) = ⊥
+IsAnswer e all (AsOf moment) (Amended r) = ⊥
+IsAnswer e all (AsOf moment) (Moved r) = Unit {0}
 
--- after a run the desk serves the events before it and the answered arrivals, and each reply is
--- that of its arrival
-pub record Ran {S : Type 0} (g : Ghosts S) (desk : Desk S) (before : List EventValue)
-    (arrivals : List ArrivalValue)
-    (outcomes : List Outcome) : Type 0 where
-  pub serves : DeskServes g desk (before ++ answered arrivals outcomes)
-  pub replies : AreReplies (before ++ answered arrivals outcomes) arrivals outcomes
-
--- after one arrival that was answered the desk serves the events with it, and after a lost one the
--- events as they were
-abbrev pub Takes : {S : Type 0} → Ghosts S → Desk S → List EventValue → ArrivalValue → Outcome
+-- there is one outcome for each event, and it is so after those that were taken in before it
+abbrev pub AreAnswers : List EventValue → List EventValue → List Event → List EventOutcome
     → Type 0
-Takes g desk e a (Done r) = Answers g desk e a r
-Takes g desk e a (Lost f) = DeskServes g desk e
+AreAnswers e all [] [] = Unit {0}
+AreAnswers e all [] (o ∷ os) = ⊥
+AreAnswers e all (x ∷ xs) [] = ⊥
+AreAnswers e all (x ∷ xs) (o ∷ os) = IsAnswer e all x o × AreAnswers (e ++ taken_by x o) all xs os
+
+-- after a run the desk serves the events before it and those that were taken in, and each outcome
+-- is so
+pub record Ran {S : Type 0} (g : Ghosts S) (desk : Desk S) (before : List EventValue)
+    (events : List Event) (outcomes : List EventOutcome) : Type 0 where
+  pub serves : DeskServes g desk (before ++ taken_in events outcomes)
+  pub answers : AreAnswers before (before ++ taken_in events outcomes) events outcomes
+
+-- after one event the desk serves the events with it, if it was taken in, and its outcome is so
+pub record Takes {S : Type 0} (g : Ghosts S) (desk : Desk S) (e : List EventValue) (x : Event)
+    (o : EventOutcome) : Type 0 where
+  pub serves : DeskServes g desk (e ++ taken_by x o)
+  pub answer : IsAnswer e (e ++ taken_by x o) x o

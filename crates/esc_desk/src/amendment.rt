@@ -49,7 +49,7 @@ ghost use Rattle.esc_events.specs.Events.EventValue.{listed};
 ghost use Rattle.esc_events.specs.Known.{IsKnown};
 ghost use Rattle.esc_events.specs.Plans.{HasDepositsPast, IsMovedFrom, IsCostOfMove, moved_by};
 ghost use Rattle.esc_events.specs.Stands.{StandsFor};
-ghost use Rattle.esc_desk.specs.Amendments.{IsAmended, IsAmendCause, DeskLeavesAmended};
+ghost use Rattle.esc_desk.specs.Amendments.{IsAmended, IsAmendCause, IsAmendFault, DeskLeavesAmended};
 ghost use Rattle.esc_desk.specs.Calls.{
   writes_of,
   After,
@@ -104,11 +104,12 @@ impl<S: Alter> Desk<S> {
     /// and the work of the chain's move. At `Err` nothing has changed: the refusal of the text or
     /// of the union (M1 to M13), `S1`, `S2`. A crash leaves an amendment that was taken in; after
     /// `S1` or `S2` it may leave this one so.
-    pub fn amend(&mut self, alloc: Global, text: &[u8]) -> Result<(usize, Work), AmendFault>
+    pub fn amend(&mut self, alloc: Global, text: &[u8]) -> Result<(u32, Work), AmendFault>
         ensures amended { OkAfter S.Store self.old self.new result
             (λ e p. IsAmended S.Store self.new e text.now p.0 p.1) }
         ensures cause { After S.Store self.old self.new
             (λ e. IfErr result (IsAmendCause e text.now)) }
+        ensures fault { IfErr result IsAmendFault }
         ensures counted { IfOk result
             (λ p. writes_of self.new ≡ saturated (writes_of self.old + p.1.writes)) }
         ensures uncounted { OnErr result (writes_of self.new ≡ writes_of self.old) }
@@ -131,7 +132,7 @@ impl<S: Alter> Desk<S> {
             return Ok((0, NO_WORK));
         }
         match self.list_more(alloc, union) {
-            Ok(work) => Ok((added, work)),
+            Ok(work) => Ok((added as u32, work)),
             Err(fault) => Err(AmendFault::Store(fault)),
         }
     }

@@ -20,10 +20,11 @@
 //! from the latest chain of the rows held before (`esc_chain`) to the latest one of those held now
 //! (`esc_apply`).
 //!
-//! What goes in is a [`Store`](esc_store::Store), then events: arrivals, one by one to
-//! [`Desk::arrive`] or a list of them to [`Desk::run`]; further manifests to [`Desk::amend`]; and
-//! the moment as of which the registry is to be rebuilt, to [`Desk::as_of`]. What comes out are
-//! replies, the work of each move, and the reads: [`Desk::status`], [`Desk::receipts`],
+//! What goes in is a [`Store`](esc_store::Store), then events: arrivals, further manifests, and the
+//! moment as of which the registry is to be rebuilt. A list of them goes to [`Desk::run_events`],
+//! one of arrivals alone to [`Desk::run`]; one by one they go to [`Desk::arrive`],
+//! [`Desk::amend`] and [`Desk::as_of`]. What comes out are replies, counts of added rows, the work
+//! of each move, and the reads: [`Desk::status`], [`Desk::receipts`],
 //! [`Desk::manifest`], [`Desk::held`], [`Desk::parked`], [`Desk::moment`], [`Desk::tables`],
 //! [`Desk::end`] and [`Desk::writes`]. The objects of the tables are given one at a time, too:
 //! [`Desk::walk`].
@@ -34,7 +35,7 @@
 //! losses and reorderings, the tables hold for each object what the last deposit that mentions it
 //! says on the latest unbroken chain, up to the moment set last, of the listed deposits that
 //! arrived, each at its highest arrived revision; and arrivals alike in number and body get one
-//! receipt and the first one's reply.
+//! receipt and the first one's reply. This is the contract of [`Desk::run_events`].
 //!
 //! The contracts speak of lists of events (`EventValue`, `esc_events`): a manifest was taken in, an
 //! arrival was answered, or a moment was set or taken back. A store serves a list of events
@@ -58,8 +59,8 @@
 //!
 //! What was answered is kept through a crash. An event is *in doubt* once it was refused by `S1` or
 //! `S2`, until another changes a table: a crash may leave it taken in. The clauses `left` of
-//! [`Desk::open`] and `crash` of [`Desk::arrive`], [`Desk::run`], [`Desk::amend`] and
-//! [`Desk::as_of`] say that whatever a crash leaves is a store of the events so far, or of them and
+//! [`Desk::open`] and `crash` of [`Desk::run_events`], [`Desk::run`], [`Desk::arrive`],
+//! [`Desk::amend`] and [`Desk::as_of`] say that whatever a crash leaves is a store of the events so far, or of them and
 //! one of those in doubt (`DeskLeaves`), and none is in doubt in a store that was just made or
 //! opened. `esc_kept` follows it to the next open.
 //!
@@ -88,6 +89,7 @@ mod amendment;
 mod arrival;
 mod changes;
 mod desk;
+mod event;
 mod finding;
 mod judging;
 mod knowing;
@@ -106,10 +108,10 @@ pub use arrival::Arrival;
 pub use desk::Desk;
 pub use esc_events::ParkedBody;
 pub use esc_store::{N1, Number, Reply, SFault, Verdict, number};
+pub use event::{Event, EventOutcome, Outcome};
 pub use laws::{
     new_store_stands_for_its_manifest, same_held_same_kept, stands_for_manifest_and_arrivals,
     tables_are_of_events, worked_replies,
 };
-pub use running::Outcome;
 pub use status::{End, Status};
 pub use walk::{Pages, Walk};

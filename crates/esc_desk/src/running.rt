@@ -1,66 +1,95 @@
-//! Runs: lists of arrivals, one after another.
+//! Runs: lists of events, one after another.
 
-ghost use Rattle.std.specs.Prelude.{◌≡◌, length, All, IfOk, OnErr};
+ghost use Rattle.std.specs.Prelude.{◌≡◌, length, IfOk, OnErr};
+ghost use Rattle.esc_desk.specs.Asked.{as_event, as_events, as_outcome, as_outcomes, taken_by, taken_in};
 ghost use Rattle.esc_desk.specs.Calls.{
   After,
   OkAfter,
   CrashAfter,
   WasHonest,
-  DeskLeavesOutcome,
+  DeskLeavesEvent,
   DeskLeavesRun,
   writes_of,
 };
+ghost use Rattle.esc_desk.specs.Outcomes.{IsOutcomeOf, AreOutcomesOf, HasWorked};
 ghost use Rattle.esc_desk.specs.Running.{Ran, Takes};
-ghost use Rattle.esc_desk.specs.Outcomes.{
-  IsOutcome,
-  IsOutcomeOf,
-  AreOutcomesOf,
-  HasWorked,
-  HasWorkedOnce,
-};
 
 use crate::arrival::Arrival;
 use crate::desk::Desk;
+use crate::event::{Event, EventOutcome, Outcome};
 use esc_bundle::NoMemory;
-use esc_store::{Reply, SFault};
 use sqlite::Alter;
 use std::alloc::Global;
 
-/// What came of one of a run's arrivals.
-#[derive(Debug, Drop)]
-pub enum Outcome {
-    /// It was answered with this reply.
-    Done(Reply),
-    /// The store refused it, and nothing has changed.
-    Lost(SFault),
-}
-
 impl<S: Alter> Desk<S> {
-    /// Takes arrivals, one after another, and answers what came of each, in order.
+    /// Takes events, one after another, and answers what came of each, in order.
     ///
-    /// For every accepted manifest and every list of arrivals, with repeats, losses and
-    /// reorderings, the tables hold for each object what the last deposit that mentions it says on
-    /// the latest unbroken chain of the listed deposits that arrived, each at its highest arrived
-    /// revision; and arrivals alike in number and body get one receipt and the first one's reply.
-    /// Where the desk served a list of events before, it serves that list followed by the answered
-    /// arrivals, so runs compose. There is an outcome for each arrival. One is lost by `S1` or
-    /// `S2`, by `S4` where it is like none before it and the store has 1,000,000,000 receipts, or by
-    /// `S5` where its body would be parked and 1,024 others are.
-    /// [`Desk::writes`] grows by the writes of the work of each answered arrival. `NoMemory` is
-    /// returned before the first arrival.
-    pub fn run(&mut self, alloc: Global, arrivals: &[Arrival<'_>]) -> Result<Vec<Outcome>, NoMemory>
+    /// For every list of accepted manifests, arrivals and moments, in any order among each other,
+    /// with repeats, losses and reorderings, the tables hold for each object what the last deposit
+    /// that mentions it says on the latest unbroken chain, up to the moment set last, of the listed
+    /// deposits that arrived, each at its highest arrived revision; and arrivals alike in number and
+    /// body get one receipt and the first one's reply. Where the desk served a list of events
+    /// before, it serves that list followed by the events that were taken in, so runs compose. There
+    /// is an outcome for each event:
+    ///
+    /// - an arrival's reply; or it is lost by `S1` or `S2`, by `S4` where it is like none before it
+    ///   and the store has 1,000,000,000 receipts, or by `S5` where its body would be parked and
+    ///   1,024 others are;
+    /// - how many rows an amendment added; or why it wasn't taken in, by M1 to M13, `S1` or `S2`;
+    /// - that a moment was set; or `S1` or `S2`.
+    ///
+    /// [`Desk::writes`] grows by the writes of the work of each event that was taken in. A crash
+    /// leaves the events that were taken in, or them and one that is in doubt. `NoMemory` is
+    /// returned before the first event.
+    pub fn run_events(
+        &mut self,
+        alloc: Global,
+        events: &[Event<'_>],
+    ) -> Result<Vec<EventOutcome>, NoMemory>
         ensures ran { OkAfter S.Store self.old self.new result
-            (λ before outcomes. Ran S.Store self.new before arrivals.now outcomes.items) }
+            (λ before outcomes. Ran S.Store self.new before events.now outcomes.items) }
         ensures crash { IfOk result (λ outcomes. CrashAfter S.Store self.old
             (λ before doubtful. DeskLeavesRun S.Store self.new before doubtful
-            arrivals.now outcomes.items)) }
+            events.now outcomes.items)) }
+        ensures counted { IfOk result (λ outcomes. length outcomes.items
+            ≡ length events.now) }
+        ensures cause { IfOk result (λ outcomes. AreOutcomesOf events.now outcomes.items) }
+        ensures worked { OkAfter S.Store self.old self.new result
+            (λ before outcomes. HasWorked before (taken_in events.now outcomes.items)
+            (writes_of self.old) (writes_of self.new)) }
+        ensures refused { OnErr result (self.new ≡ self.old) }
+        ensures honest { WasHonest S.Store self.old self.new }
+    {
+        // A proof knows that a count is below 2^64 where the body reads it.
+        let _writes = self.store.writes();
+        let mut outcomes = Vec::with_capacity(alloc, events.len())?;
+        for event in events {
+            let outcome = self.take_event(alloc, event);
+            outcomes.push_reserved(outcome);
+        }
+        Ok(outcomes)
+    }
+
+    /// Takes arrivals, one after another, and answers what came of each, in order: a run over
+    /// events that are arrivals, and its contract is [`Desk::run_events`]'s of those. Once a
+    /// manifest is accepted, the tables hold for each object what the last deposit that mentions it
+    /// says on the latest unbroken chain of the listed deposits that arrived, each at its highest
+    /// arrived revision; and arrivals alike in number and body get one receipt and the first one's
+    /// reply. `NoMemory` is returned before the first arrival.
+    pub fn run(&mut self, alloc: Global, arrivals: &[Arrival<'_>]) -> Result<Vec<Outcome>, NoMemory>
+        ensures ran { OkAfter S.Store self.old self.new result
+            (λ before outcomes. Ran S.Store self.new before
+            (as_events arrivals.now) (as_outcomes outcomes.items)) }
+        ensures crash { IfOk result (λ outcomes. CrashAfter S.Store self.old
+            (λ before doubtful. DeskLeavesRun S.Store self.new before doubtful
+            (as_events arrivals.now) (as_outcomes outcomes.items))) }
         ensures counted { IfOk result (λ outcomes. length outcomes.items
             ≡ length arrivals.now) }
-        ensures cause { IfOk result (λ outcomes. All IsOutcome outcomes.items) }
-        ensures causes { OkAfter S.Store self.old self.new result
-            (λ before outcomes. AreOutcomesOf before arrivals.now outcomes.items) }
+        ensures cause { IfOk result (λ outcomes.
+            AreOutcomesOf (as_events arrivals.now) (as_outcomes outcomes.items)) }
         ensures worked { OkAfter S.Store self.old self.new result
-            (λ before outcomes. HasWorked before arrivals.now outcomes.items
+            (λ before outcomes. HasWorked before
+            (taken_in (as_events arrivals.now) (as_outcomes outcomes.items))
             (writes_of self.old) (writes_of self.new)) }
         ensures refused { OnErr result (self.new ≡ self.old) }
         ensures honest { WasHonest S.Store self.old self.new }
@@ -75,20 +104,48 @@ impl<S: Alter> Desk<S> {
         Ok(outcomes)
     }
 
+    // Takes one event.
+    fn take_event(&mut self, alloc: Global, event: &Event<'_>) -> EventOutcome
+        ensures taken { After S.Store self.old self.new
+            (λ e. Takes S.Store self.new e event.now result) }
+        ensures crash { CrashAfter S.Store self.old
+            (λ e doubtful. DeskLeavesEvent S.Store self.new e doubtful event.now result) }
+        ensures cause { IsOutcomeOf event.now result }
+        ensures worked { After S.Store self.old self.new
+            (λ e. HasWorked e (taken_by event.now result)
+            (writes_of self.old) (writes_of self.new)) }
+        ensures honest { WasHonest S.Store self.old self.new }
+    {
+        // A proof knows that a count is below 2^64 where the body reads it.
+        let _writes = self.store.writes();
+        match event {
+            Event::Arrival(arrival) => EventOutcome::Arrived(self.take(alloc, arrival)),
+            Event::Amend(text) => match self.amend(alloc, text) {
+                Ok((added, _work)) => EventOutcome::Amended(Ok(added)),
+                Err(fault) => EventOutcome::Amended(Err(fault)),
+            },
+            Event::AsOf(moment) => match self.as_of(alloc, *moment) {
+                Ok(_work) => EventOutcome::Moved(Ok(())),
+                Err(fault) => EventOutcome::Moved(Err(fault)),
+            },
+        }
+    }
+
     // Takes one arrival.
     fn take(&mut self, alloc: Global, arrival: &Arrival<'_>) -> Outcome
         ensures taken { After S.Store self.old self.new
-            (λ e. Takes S.Store self.new e arrival.now result) }
+            (λ e. Takes S.Store self.new e (as_event arrival.now) (as_outcome result)) }
         ensures crash { CrashAfter S.Store self.old
-            (λ e doubtful. DeskLeavesOutcome S.Store self.new e doubtful
-            arrival.now result) }
-        ensures cause { IsOutcome result }
-        ensures causes { After S.Store self.old self.new
-            (λ e. IsOutcomeOf e arrival.now result) }
+            (λ e doubtful. DeskLeavesEvent S.Store self.new e doubtful
+            (as_event arrival.now) (as_outcome result)) }
+        ensures cause { IsOutcomeOf (as_event arrival.now) (as_outcome result) }
         ensures worked { After S.Store self.old self.new
-            (λ e. HasWorkedOnce e arrival.now result (writes_of self.old) (writes_of self.new)) }
+            (λ e. HasWorked e (taken_by (as_event arrival.now) (as_outcome result))
+            (writes_of self.old) (writes_of self.new)) }
         ensures honest { WasHonest S.Store self.old self.new }
     {
+        // A proof knows that a count is below 2^64 where the body reads it.
+        let _writes = self.store.writes();
         match self.arrive(alloc, &arrival.number, arrival.body) {
             Ok((reply, _work)) => Outcome::Done(reply),
             Err(fault) => Outcome::Lost(fault),

@@ -6,12 +6,12 @@
 //! turn; and by a client that breaks off, at each byte of its request and of its response.
 //!
 //! - [`FlakyDisk`] passes every call on to another disk, but for one: that fails, and is not passed
-//! on. After it calls are   passed on again, but where it was a sync: then the file takes no more
-//! calls, as any disk's.
+//!   on. After it calls are passed on again, but where it was a sync: then the file takes no more
+//!   calls, as any disk's.
 //! - [`FailingReader`] gives the bytes that it was made of, so many a read, and fails from some
 //!   byte on.
 //! - [`FailingWriter`] keeps the bytes that are written, so many a write, and fails from some byte
-//! on. It may also fail to   hand them on (`flush`).
+//!   on. It may also fail to hand them on (`flush`).
 //!
 //! What goes in are a disk (`sqlite_disk`) and the number of calls before the one that fails, or
 //! the bytes and the number of those that pass. What comes out is the disk, what is left to read,

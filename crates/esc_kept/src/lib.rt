@@ -7,7 +7,7 @@
 //!
 //! - [`new_desk`] makes a store of a manifest in an empty database, and gives the desk over it.
 //! - [`open_desk`] gives the desk over the store that a connection's database is. [`open_desk_at`]
-//! does so from a path,   and [`desk_of_files`] from the two files.
+//!   does so from a path, and [`desk_of_files`] from the two files.
 //! - [`files_of`] gives the files of a desk back as they are, as a crash would find them: nothing
 //!   is written.
 //! - [`reopen_desk`] closes a desk, which copies what still stands in the log into the database,
@@ -35,20 +35,20 @@
 //!
 //! # What is promised
 //!
-//! An arrival that was refused by `S1` or `S2` is *in doubt*: a crash may leave it taken in. None
-//! is in doubt once an arrival was answered that changed a table, in a new store, and in one that
-//! was just opened. `CrashLeaves` (`crates/esc_desk/specs/Crashes.antt`) says that whatever a crash
-//! leaves is a store of the events so far (the manifest and the answered arrivals), or of them and
-//! one of those in doubt; the contracts of `Desk::arrive` and `Desk::run` carry it from call to
-//! call, and those here carry it on:
+//! An event that was refused by `S1` or `S2` is *in doubt*: a crash may leave it taken in. None is
+//! in doubt once another changed a table, in a new store, and in one that was just opened.
+//! `CrashLeaves` (`crates/esc_desk/specs/Crashes.antt`) says that whatever a crash leaves is a store
+//! of the events so far (those that were taken in), or of them and one of those in doubt; the
+//! contracts of `Desk::run_events`, `Desk::arrive`, `Desk::amend` and `Desk::as_of` carry it from
+//! call to call, and those here carry it on:
 //!
 //! 1. `new_desk` begins it: the manifest alone, none in doubt. A crash while the store is made
-//! leaves a database without tables, or    the new store.
-//! 2. `files_of`: each pair of files that a crash may leave holds a store of the answered arrivals,
-//! or of them and one of    those in doubt (`HoldsOneOf`).
+//!    leaves a database without tables, or the new store.
+//! 2. `files_of`: each pair of files that a crash may leave holds a store of the events so far, or
+//!    of them and one of those in doubt (`HoldsOneOf`).
 //! 3. `desk_of_files` and `open_desk_at`: where that is what the files hold, the desk serves the
-//! answered arrivals, or    them and one of those in doubt (`ServesOneOf`), and none is in doubt
-//! any more. `reopen_desk`: the desk serves what it    served before.
+//!    events so far, or them and one of those in doubt (`ServesOneOf`), and none is in doubt any
+//!    more. `reopen_desk`: the desk serves what it served before.
 //!
 //! From there on `Desk::arrive` promises that an arrival alike an earlier one has the first one's
 //! reply. So an arrival that was answered before the crash has the same reply after it, and one in

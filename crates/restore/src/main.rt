@@ -7,24 +7,26 @@
 //! - `restore as-of --store FILE MOMENT` rebuilds the registry as of a moment (a watermark, or
 //!   `latest`); prints where the chain ends.
 //! - `restore take --store FILE DIR` takes every plain file of DIR in byte order of names, the name
-//! being the arrival's   number, and prints the receipts report: its heading, and a line for each
-//! arrival as it is answered.
+//!   being the arrival's number, and prints the receipts report: its heading, and a line for each
+//!   arrival as it is answered.
 //! - `restore serve --store FILE --port P --count N` listens on port P of 127.0.0.1, prints
-//! `listening 127.0.0.1:P`, serves N   connections one after the other, and ends.
+//!   `listening 127.0.0.1:P`, serves N connections one after the other, and ends.
 //! - `restore report --store FILE WHAT` prints how far the desk has come (`status`), what each
-//! listed place waits for   (`gaps`), what breaks a rule (`links`), or all `receipts`.
+//!   listed place waits for (`gaps`), what breaks a rule (`links`), the bodies that no row lists
+//!   (`parked`), or all `receipts`.
 //! - `restore export --store FILE KIND` prints the export of one kind of objects.
 //!
-//! Each arrival is a run of the desk ([`esc_desk::Desk::run`]), whose contract says what the store
-//! stands for afterwards; so do those of [`esc_desk::Desk::amend`] and [`esc_desk::Desk::as_of`].
+//! Each arrival, each amendment and each moment is a run of the desk
+//! ([`esc_desk::Desk::run_events`]), whose contract says what the store stands for afterwards.
 //!
 //! Refusals go to standard error, one a line: `E1 PATH` for a file or folder that can't be read,
 //! listed or written, `E2 NAME` for a file over 16,777,216 bytes, `E3 MOMENT` for a word that
 //! is no moment, `N1 NAME` for a name that is no number, `M12 row 2` for a manifest's fault, `S1` to
-//! `S5` of the store, `S3` also where there is no store FILE. A control character in a path or a name is escaped. Faults are found in this
-//! order: the words, the moment, the manifest, the store, the folder, then file by file. The status
-//! is 0 where all went well; 1 for a manifest's fault or E3, or where `take` met N1, E2 or a verdict
-//! other than A1, and went on; 2 for other words; 3 for S1 to S5 and E1, where it stops.
+//! `S5` of the store, `S3` also where there is no store FILE. A control character in a path or a
+//! name is escaped. Faults are found in this order: the words, the moment, the manifest, the store,
+//! the folder, then file by file. The status is 0 where all went well; 1 for a manifest's fault or
+//! E3, or where `take` met N1, E2 or a verdict other than A1, and went on; 2 for other words; 3 for
+//! S1 to S5 and E1, where it stops.
 #![tactic(auto)]
 
 use esc_commands::{NO_MEMORY, Stop, run_words, tell_no_text, tell_stop};

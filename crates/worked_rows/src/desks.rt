@@ -78,7 +78,7 @@ pub fn amend<S: Alter + Drop>(
     alloc: Global,
     desk: &mut Desk<S>,
     text: &str,
-) -> Result<(usize, Work), AmendFault> {
+) -> Result<(u32, Work), AmendFault> {
     desk.amend(alloc, text.as_bytes())
 }
 

@@ -7,7 +7,10 @@ use Rattle.esc_manifest.specs.Extension.{new_rows}
 use Rattle.esc_events.specs.Events.{EventValue, union}
 use Rattle.esc_events.specs.Events.EventValue.{listed}
 use Rattle.esc_store.specs.declared.fault.SFault.TheVariants.{S2}
-use Rattle.esc_desk.specs.Amendments.{amendment_of, IsUnionWith, IsRefusedUnion}
+use Rattle.esc_events.specs.Works.{IsWorkOf, no_work}
+use Rattle.esc_desk.specs.Asked.{amendment_of}
+use Rattle.esc_desk.specs.Amendments.{IsUnionWith, IsRefusedUnion}
+use Rattle.esc_desk.specs.Serving.{DeskServes}
 use Rattle.esc_desk.specs.Crashes.{CrashLeaves, doubtful_with}
 use Rattle.esc_desk.proofs.NoRowMore.{new_count, alike_none, stands_none, works_none, amendment_is, rows_of_store, leaves_alike, leaves_sure, leaves_before, leaves_lost}
 use Rattle.esc_desk.proofs.CrashLemmas.{if_clean}
@@ -33,16 +36,14 @@ returns-then-added-eq0-clause-amended g c = λ clean e served.
     let count : length c.rows.result.now - length c.rows-2.result.now ≡ length (new_rows (union e) u.rows) =
     ap₂ (λ (a b : List MRow). length a - length b) (c.rows.ensures.rows ∙ u.is_union) (c.rows-2.ensures.rows ∙ first) ∙ new_count (union e) u.rows in
     let none : length (new_rows (union e) u.rows) ≡ 0 = grind (arith, nat_tests, count, c.if-added-eq0.true) in
+    let is = sym (amendment_is c.args.text.now u.rows u.read) in
     record {
-      rows = u.rows;
-      read = u.read;
-      accepted = u.accepted ∙ ap (λ (m : List MRow). Ok m) u.is_union;
-      count_is = sym none;
-      serves = record {
+      adds = record { rows = u.rows; read = u.read; accepted = u.accepted ∙ ap (λ (m : List MRow). Ok m) u.is_union; count_is = sym none };
+      serves = subst (λ (x : EventValue). DeskServes g.S.Store c.args.self.now (e ++ x ∷ [])) is (record {
         serves = record { kept = k; stands = serves.stands; stands_for = stands_none e u.rows none k stood };
         remembers = served.remembers;
-      };
-      works = works_none e u.rows none k stood;
+      });
+      works = subst (λ (x : EventValue). IsWorkOf e x no_work) is (works_none e u.rows none k stood);
       idle = λ same. refl;
     }
 
@@ -69,13 +70,11 @@ returns-in-Ok-list_more-clause-amended g c = λ clean e served.
     let count : length c.rows.result.now - length c.rows-2.result.now ≡ length (new_rows (union e) u.rows) =
     ap₂ (λ (a b : List MRow). length a - length b) (c.rows.ensures.rows ∙ u.is_union) (c.rows-2.ensures.rows ∙ first) ∙ new_count (union e) u.rows in
     let made = IfOk-at_ok _ c.in-Ok-list_more.is (c.list_more.ensures.made clean e k u.rows serves.stands stood served.remembers u.is_union) in
+    let is = sym (amendment_is c.args.text.now u.rows u.read) in
     record {
-      rows = u.rows;
-      read = u.read;
-      accepted = u.accepted ∙ ap (λ (m : List MRow). Ok m) u.is_union;
-      count_is = count;
-      serves = made.serves;
-      works = made.works;
+      adds = record { rows = u.rows; read = u.read; accepted = u.accepted ∙ ap (λ (m : List MRow). Ok m) u.is_union; count_is = count };
+      serves = subst (λ (x : EventValue). DeskServes g.S.Store c.list_more.new.self (e ++ x ∷ [])) is made.serves;
+      works = subst (λ (x : EventValue). IsWorkOf e x c.in-Ok-list_more.work) is made.works;
       idle = λ none. let never : ⊥ = grind (arith, nat_tests, none, c.if-added-eq0.false) in absurd never;
     }
 

@@ -1,0 +1,76 @@
+-- What a run is asked to take in, as events, and which of it was taken in.
+use Rattle.std.specs.Prelude.{
+  ℕ,
+  List,
+  [],
+  ◌∷◌,
+  ◌++◌,
+  Bool,
+  true,
+  false,
+  Result,
+  Ok,
+  Err,
+  map,
+  if◌then◌else◌,
+}
+use Rattle.esc_manifest.specs.declared.row.MRow.{MRow}
+use Rattle.esc_manifest.specs.Manifest.{manifest_of}
+use Rattle.esc_events.specs.ArrivalValue.{ArrivalValue}
+use Rattle.esc_events.specs.Events.{EventValue}
+use Rattle.esc_events.specs.Events.EventValue.{listed, arrived, moved}
+use Rattle.esc_desk.specs.declared.event.Event.{Event}
+use Rattle.esc_desk.specs.declared.event.Event.TheVariants.{Arrival, Amend, AsOf}
+use Rattle.esc_desk.specs.declared.event.EventOutcome.{EventOutcome}
+use Rattle.esc_desk.specs.declared.event.EventOutcome.TheVariants.{Arrived, Amended, Moved}
+use Rattle.esc_desk.specs.declared.event.Outcome.{Outcome}
+use Rattle.esc_desk.specs.declared.event.Outcome.TheVariants.{Done, Lost}
+
+-- the rows of a manifest, or none where a text is none
+abbrev pub rows_read : Result (List MRow) (ℕ × ℕ) → List MRow
+rows_read (Ok rows) = rows
+rows_read (Err fault) = []
+
+-- the event that a text is as an amendment
+abbrev pub amendment_of : List ℕ → EventValue
+amendment_of text = listed (rows_read (manifest_of text))
+
+-- what is asked for, as an event
+abbrev pub event_of : Event → EventValue
+event_of (Arrival a) = arrived a
+event_of (Amend text) = amendment_of text.now
+event_of (AsOf moment) = moved moment
+
+-- an event that came out so was taken in
+abbrev pub is_taken : EventOutcome → Bool
+is_taken (Arrived (Done r)) = true
+is_taken (Arrived (Lost f)) = false
+is_taken (Amended (Ok count)) = true
+is_taken (Amended (Err f)) = false
+is_taken (Moved (Ok set)) = true
+is_taken (Moved (Err f)) = false
+
+-- the event, if it was taken in
+abbrev pub taken_by : Event → EventOutcome → List EventValue
+taken_by x o = if is_taken o then event_of x ∷ [] else []
+
+-- the events that were taken in, in order
+abbrev pub taken_in : List Event → List EventOutcome → List EventValue
+taken_in [] os = []
+taken_in (x ∷ xs) [] = []
+taken_in (x ∷ xs) (o ∷ os) = taken_by x o ++ taken_in xs os
+
+-- ---- arrivals alone
+
+-- an arrival and what came of it, as an event and its outcome
+abbrev pub as_event : ArrivalValue → Event
+as_event a = Arrival a
+
+abbrev pub as_outcome : Outcome → EventOutcome
+as_outcome o = Arrived o
+
+abbrev pub as_events : List ArrivalValue → List Event
+as_events arrivals = map as_event arrivals
+
+abbrev pub as_outcomes : List Outcome → List EventOutcome
+as_outcomes outcomes = map as_outcome outcomes

@@ -1,0 +1,37 @@
+//! Events: what a desk takes in, and what comes of it.
+
+use crate::amendment::AmendFault;
+use crate::arrival::Arrival;
+use esc_store::{Reply, SFault};
+
+/// What a desk may be asked to take in.
+#[derive(Drop)]
+pub enum Event<'a> {
+    /// A body arrives.
+    Arrival(Arrival<'a>),
+    /// A manifest lists more rows. This is its text.
+    Amend(&'a [u8]),
+    /// The registry is rebuilt as of a moment, in nanoseconds since 1970-01-01T00:00:00Z, from now
+    /// on. `None` takes the moment back.
+    AsOf(Option<i64>),
+}
+
+/// What came of an arrival.
+#[derive(Debug, Drop)]
+pub enum Outcome {
+    /// It was answered with this reply.
+    Done(Reply),
+    /// The store refused it, and nothing has changed.
+    Lost(SFault),
+}
+
+/// What came of an event. At an `Err` nothing has changed.
+#[derive(Debug, Drop)]
+pub enum EventOutcome {
+    /// What came of an arrival.
+    Arrived(Outcome),
+    /// How many rows an amendment added, or why it wasn't taken in.
+    Amended(Result<u32, AmendFault>),
+    /// Whether a moment was set or taken back, or why not.
+    Moved(Result<(), SFault>),
+}
