@@ -1,5 +1,7 @@
 //! Stops at the calls of a file.
 
+mod events;
+mod files;
 mod stops;
 
 use std::process::Abort;

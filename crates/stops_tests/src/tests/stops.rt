@@ -6,11 +6,11 @@
 //! and all arrivals sent again have the row's replies and leave its tables.
 
 use super::assert_text;
+use super::files::{Cut, Stop, begin, connect, crashed, cut_files, find_or_make, left_of, written};
 use esc_desk::{Desk, SFault, number};
-use esc_kept::{files_of, new_desk, open_desk};
 use esc_manifest::Manifest;
-use sqlite::{Alter, Connection, FileStore, Files, Options};
-use sqlite_disk::{Crash, Disk, Fuse, Memory};
+use sqlite::{Alter, Connection, FileStore, Files};
+use sqlite_disk::Disk;
 use std::alloc::Global;
 use std::process::Abort;
 use std::test::Fail;
@@ -19,9 +19,6 @@ use worked_rows::desks::arrive;
 use worked_rows::rows::{IMAGE_OF_A, RESENT, Row, Taken};
 use worked_rows::seen::{tell_desk, tell_images, tell_receipts, tell_row};
 use worked_rows::shown::{tell_lines, tell_reply};
-
-/// A file in memory that fails every call after so many.
-type Cut = Fuse<Memory>;
 
 // More calls than a run makes.
 const MOST_CALLS: u64 = 400;
@@ -36,50 +33,15 @@ const IMAGES: [&str; 6] = [
     IMAGE_OF_A,
 ];
 
-fn connect<D: Disk + Drop>(
-    alloc: Global,
-    files: Files<D>,
-) -> Result<Connection<FileStore<D>>, Files<D>> {
-    if !files.may_be_used() {
-        return Err(files);
-    }
-    match Connection::open_files(alloc, files, Options::new(7)) {
-        Ok(connection) => Ok(connection),
-        Err((_, left)) => Err(left.into_files()),
-    }
-}
-
-fn close<D: Disk + Drop>(connection: Connection<FileStore<D>>) -> Files<D> {
-    connection.into_store().close()
-}
-
-fn make<S: Alter + Drop>(
-    alloc: Global,
-    connection: Connection<S>,
-    manifest: &Manifest,
-) -> Result<Desk<S>, Connection<S>> {
-    match new_desk(alloc, connection, manifest) {
-        Ok(desk) => Ok(desk),
-        Err((_, connection)) => Err(connection),
-    }
-}
-
-// A desk over a new store in the files, or the files.
-fn begin<D: Disk + Drop>(
-    alloc: Global,
-    files: Files<D>,
-    manifest: &Manifest,
-) -> Result<Desk<FileStore<D>>, Files<D>> {
-    match make(alloc, connect(alloc, files)?, manifest) {
-        Ok(desk) => Ok(desk),
-        Err(connection) => Err(close(connection)),
-    }
-}
-
+// Takes an arrival. Whether it is answered: a file that fails refuses it by `S1` alone.
 fn takes<S: Alter + Drop>(alloc: Global, desk: &mut Desk<S>, taken: &Taken) -> Result<bool, Fail> {
     let number = number(taken.number)?;
     let bytes = bytes_of(alloc, taken.body)?;
-    Ok(desk.arrive(alloc, &number, bytes.as_slice()).is_ok())
+    match desk.arrive(alloc, &number, bytes.as_slice()) {
+        Ok(_) => Ok(true),
+        Err(SFault::S1) => Ok(false),
+        Err(fault) => Err(Fail::new(fault)),
+    }
 }
 
 // Takes a row's arrivals up to the first that is refused: how many were answered.
@@ -96,10 +58,6 @@ fn count_answered<S: Alter + Drop>(
         answered = answered.saturating_add(1);
     }
     Ok(answered)
-}
-
-fn left_of<D: Disk + Drop>(desk: Desk<FileStore<D>>) -> Files<D> {
-    files_of(desk)
 }
 
 fn left_after<D: Disk + Drop>(
@@ -121,43 +79,8 @@ fn run_until_stopped<D: Disk + Drop>(
 ) -> Result<(Option<usize>, Files<D>), Fail> {
     match begin(alloc, files, manifest) {
         Ok(desk) => left_after(alloc, desk, row),
-        Err(files) => Ok((None, files)),
-    }
-}
-
-// The desk over a database, or the connection where it has no tables.
-fn find<S: Alter + Drop>(
-    alloc: Global,
-    connection: Connection<S>,
-) -> Result<Result<Desk<S>, Connection<S>>, Fail> {
-    match open_desk(alloc, connection) {
-        Ok(desk) => Ok(Ok(desk)),
-        Err((SFault::S3, connection)) => Ok(Err(connection)),
+        Err((SFault::S1, files)) => Ok((None, files)),
         Err((fault, _)) => Err(Fail::new(fault)),
-    }
-}
-
-fn make_anew<S: Alter + Drop>(
-    alloc: Global,
-    connection: Connection<S>,
-    manifest: &Manifest,
-) -> Result<Desk<S>, Fail> {
-    match make(alloc, connection, manifest) {
-        Ok(desk) => Ok(desk),
-        Err(_) => Err(Fail::new("no store is made")),
-    }
-}
-
-// The desk over a database, or one that is made anew where it has no tables: and whether there was
-// a store.
-fn find_or_make<S: Alter + Drop>(
-    alloc: Global,
-    connection: Connection<S>,
-    manifest: &Manifest,
-) -> Result<(bool, Desk<S>), Fail> {
-    match find(alloc, connection)? {
-        Ok(desk) => Ok((true, desk)),
-        Err(connection) => Ok((false, make_anew(alloc, connection, manifest)?)),
     }
 }
 
@@ -231,7 +154,7 @@ fn found_in<D: Disk + Drop>(
 ) -> Result<Found, Fail> {
     match connect(alloc, files) {
         Ok(connection) => found_over(alloc, connection, manifest, row),
-        Err(_) => Err(Fail::new("the files do not open")),
+        Err((fault, _)) => Err(Fail::new(fault)),
     }
 }
 
@@ -269,40 +192,6 @@ fn is_kept(alloc: Global, found: &Found, answered: Option<usize>, row: &Row) -> 
                 && (are_first(alloc, kept, row, count)?
                     || are_first(alloc, kept, row, count.saturating_add(1))?),
         ),
-    }
-}
-
-// The file as it was written, all of it synced.
-fn synced(alloc: Global, file: &Cut) -> Result<Cut, Fail> {
-    let mut copy = Memory::new(alloc);
-    copy.write_at(0, file.inner().bytes())?;
-    copy.sync()?;
-    Ok(Fuse::new(copy, u64::MAX))
-}
-
-fn written(alloc: Global, files: &Files<Cut>) -> Result<Files<Cut>, Fail> {
-    Ok(Files {
-        log: synced(alloc, &files.log)?,
-        db: synced(alloc, &files.db)?,
-    })
-}
-
-fn crashed(mut files: Files<Cut>) -> Files<Cut> {
-    files.log.crash();
-    files.db.crash();
-    files
-}
-
-// Empty files, of which one fails after so many calls.
-fn cut_files(alloc: Global, of_the_log: bool, calls: u64) -> Files<Cut> {
-    let (log_calls, db_calls) = if of_the_log {
-        (calls, u64::MAX)
-    } else {
-        (u64::MAX, calls)
-    };
-    Files {
-        log: Fuse::new(Memory::new(alloc), log_calls),
-        db: Fuse::new(Memory::new(alloc), db_calls),
     }
 }
 
@@ -345,7 +234,7 @@ fn assert_stop(
 fn assert_stops(rt: &impl Abort, alloc: Global, of_the_log: bool, row: &Row) -> Result<(), Fail> {
     let manifest = manifest_of(alloc, row.listed)?;
     for calls in 0..MOST_CALLS {
-        let files = cut_files(alloc, of_the_log, calls);
+        let files = cut_files(alloc, Stop { of_the_log, calls });
         if assert_stop(rt, alloc, files, &manifest, row, calls)? {
             assert!(rt; calls > 0, "nothing was stopped");
             return Ok(());

@@ -1,0 +1,139 @@
+//! Two files in memory of which one stops, desks over them, and what a crash leaves.
+
+use esc_desk::{Desk, SFault};
+use esc_kept::{files_of, new_desk, open_desk};
+use esc_manifest::Manifest;
+use sqlite::{Alter, Connection, FileStore, Files, Options};
+use sqlite_disk::{Crash, Disk, Fuse, Memory};
+use std::alloc::Global;
+use std::test::Fail;
+
+/// A file in memory that fails every call after so many.
+pub(crate) type Cut = Fuse<Memory>;
+
+/// When a file stops.
+#[derive(Clone, Copy, Debug)]
+pub(crate) struct Stop {
+    /// Whether the file is the log, or that of the database.
+    pub of_the_log: bool,
+    /// How many of its calls come before.
+    pub calls: u64,
+}
+
+/// A connection, or the fault and the files.
+pub(crate) fn connect<D: Disk + Drop>(
+    alloc: Global,
+    files: Files<D>,
+) -> Result<Connection<FileStore<D>>, (SFault, Files<D>)> {
+    if !files.may_be_used() {
+        return Err((SFault::S1, files));
+    }
+    match Connection::open_files(alloc, files, Options::new(7)) {
+        Ok(connection) => Ok(connection),
+        Err((error, left)) => Err((SFault::from(error), left.into_files())),
+    }
+}
+
+fn close<D: Disk + Drop>(connection: Connection<FileStore<D>>) -> Files<D> {
+    connection.into_store().close()
+}
+
+fn make<S: Alter + Drop>(
+    alloc: Global,
+    connection: Connection<S>,
+    manifest: &Manifest,
+) -> Result<Desk<S>, (SFault, Connection<S>)> {
+    match new_desk(alloc, connection, manifest) {
+        Ok(desk) => Ok(desk),
+        Err(refused) => Err(refused),
+    }
+}
+
+/// A desk over a new store in the files, or the fault and the files.
+pub(crate) fn begin<D: Disk + Drop>(
+    alloc: Global,
+    files: Files<D>,
+    manifest: &Manifest,
+) -> Result<Desk<FileStore<D>>, (SFault, Files<D>)> {
+    match make(alloc, connect(alloc, files)?, manifest) {
+        Ok(desk) => Ok(desk),
+        Err((fault, connection)) => Err((fault, close(connection))),
+    }
+}
+
+/// The files of a desk, as they are.
+pub(crate) fn left_of<D: Disk + Drop>(desk: Desk<FileStore<D>>) -> Files<D> {
+    files_of(desk)
+}
+
+// The desk over a database, or the connection where it has no tables.
+fn find<S: Alter + Drop>(
+    alloc: Global,
+    connection: Connection<S>,
+) -> Result<Result<Desk<S>, Connection<S>>, Fail> {
+    match open_desk(alloc, connection) {
+        Ok(desk) => Ok(Ok(desk)),
+        Err((SFault::S3, connection)) => Ok(Err(connection)),
+        Err((fault, _)) => Err(Fail::new(fault)),
+    }
+}
+
+fn make_anew<S: Alter + Drop>(
+    alloc: Global,
+    connection: Connection<S>,
+    manifest: &Manifest,
+) -> Result<Desk<S>, Fail> {
+    match make(alloc, connection, manifest) {
+        Ok(desk) => Ok(desk),
+        Err((fault, _)) => Err(Fail::new(fault)),
+    }
+}
+
+/// The desk over a database, or one that is made anew where it has no tables: and whether there was
+/// a store.
+pub(crate) fn find_or_make<S: Alter + Drop>(
+    alloc: Global,
+    connection: Connection<S>,
+    manifest: &Manifest,
+) -> Result<(bool, Desk<S>), Fail> {
+    match find(alloc, connection)? {
+        Ok(desk) => Ok((true, desk)),
+        Err(connection) => Ok((false, make_anew(alloc, connection, manifest)?)),
+    }
+}
+
+// The file as it was written, all of it synced.
+fn synced(alloc: Global, file: &Cut) -> Result<Cut, Fail> {
+    let mut copy = Memory::new(alloc);
+    copy.write_at(0, file.inner().bytes())?;
+    copy.sync()?;
+    Ok(Fuse::new(copy, u64::MAX))
+}
+
+/// What a crash leaves that keeps all that was written.
+pub(crate) fn written(alloc: Global, files: &Files<Cut>) -> Result<Files<Cut>, Fail> {
+    Ok(Files {
+        log: synced(alloc, &files.log)?,
+        db: synced(alloc, &files.db)?,
+    })
+}
+
+/// What a crash leaves that keeps what was synced alone.
+pub(crate) fn crashed(mut files: Files<Cut>) -> Files<Cut> {
+    files.log.crash();
+    files.db.crash();
+    files
+}
+
+/// Empty files, of which one stops.
+pub(crate) fn cut_files(alloc: Global, stop: Stop) -> Files<Cut> {
+    let (log_calls, db_calls) = if stop.of_the_log {
+        (stop.calls, u64::MAX)
+    } else {
+        (u64::MAX, stop.calls)
+    };
+    Files {
+        log: Fuse::new(Memory::new(alloc), log_calls),
+        db: Fuse::new(Memory::new(alloc), db_calls),
+    }
+}
