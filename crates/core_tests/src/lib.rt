@@ -1,8 +1,8 @@
 //! Tests of the libraries that a desk is made of, over their public calls alone.
 //!
-//! They stand in a crate of their own since a crate with tests is proved twice, and theirs are the
-//! larger proofs. A case is a line of a table: what goes in, and what has to come out, as it is
-//! known from outside.
+//! They are in a crate of their own since a crate with tests is proved twice, and those libraries
+//! have the larger proofs. A case is a line of a table: what goes in, and what has to come out, as
+//! it is known from outside.
 #![tactic(auto)]
 
 #[cfg(test)]

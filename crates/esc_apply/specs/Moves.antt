@@ -20,7 +20,7 @@ use Rattle.esc_apply.specs.declared.moves.Work.{Work}
 use Rattle.esc_apply.specs.Tables.{mention_count}
 use Rattle.esc_apply.specs.Front.{common_front}
 
--- a chain of which nothing stays is cleared
+-- a chain is cleared if no step of it stays
 abbrev pub is_cleared : ℕ → ℕ → Bool
 is_cleared steps front = (front == 0) && nat_lt 0 steps
 

@@ -1,4 +1,4 @@
--- Tests in a row, of which the first that fails gives the number of its fault.
+-- Tests in a row: the first that fails gives the number of its fault.
 use Rattle.std.specs.Prelude.{◌≡◌, ℕ, Bool, if◌then◌else◌, Option, Some, None, Result, Ok, Err}
 use Rattle.esc_bundle.specs.declared.fault.Fault.{Fault}
 use Rattle.esc_bundle.specs.declared.fault.Fault.TheVariants.{Refused, NoMemory}

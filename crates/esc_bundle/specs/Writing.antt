@@ -28,7 +28,7 @@ use Rattle.esc_bundle.specs.Reading.{stands_at}
 abbrev pub named : String Global × Vec ℕ → Named
 named p = record { name = string_bytes p.0; bytes = p.1.items }
 
--- these sections, and then the others, each of which may come after those before it
+-- these sections, and then the others, where each of the others may come after those before it
 unfoldable pub in_order : List Named → List Named → Result (List Named) ℕ
 in_order before [] = Ok before
 in_order before (s ∷ ss) = stands_at before s.name (length s.bytes) >>= λ stands.

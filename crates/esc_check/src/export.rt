@@ -127,8 +127,8 @@ fn write_children(
     Ok(())
 }
 
-// The place of a row of a table after these rows, of which `last` has `number`. Where rows are
-// grouped by table, as those of a deposit are, each table is counted once.
+// The place of a row of a table after these rows, whose last one, `last`, has `number`. Where rows
+// are grouped by table, as those of a deposit are, each table is counted once.
 fn number_behind(earlier: &[Row], last: &str, number: usize, table: &str) -> usize
     requires known { number ≡ count_by (is_in last.now) earlier.now }
     requires room { length earlier.now + 1 < 2 ^ 64 }

@@ -59,7 +59,7 @@ impl<'a, C: Clock, S: Timed + Drop> Client<'a, C, S> {
         }
     }
 
-    // Counts a wait that began then, in which so many bytes came or went.
+    // Counts a wait that began then, with the bytes that came or went in it.
     fn count(&mut self, begun: Instant, moved: &Result<usize>) -> Result<()> {
         let bytes = match moved {
             Ok(bytes) => *bytes,

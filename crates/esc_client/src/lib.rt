@@ -1,9 +1,9 @@
-//! A client's connection, for which nobody waits without end.
+//! A client's connection, with a limit on the time that it is waited for.
 //!
 //! One connection is served at a time, so a client that sends a byte now and then, or takes its
-//! response so, would hold up all others. A time limit for each read doesn't help: each byte would
-//! have it anew. So the time that a client is waited for is counted as a whole, and bounded by what
-//! came or went.
+//! response a byte at a time, would hold up all others. A time limit for each read doesn't help: it
+//! would begin again with each byte. So the time that a client is waited for is counted as a whole,
+//! and bounded by what came or went.
 //!
 //! What goes in: a clock, a stream whose reads and writes can be limited in time, and a
 //! [`Patience`]. What comes out: a [`Client`], a reader and writer over the stream, that fails once
@@ -27,10 +27,11 @@
 //!
 //! # What the contracts mean
 //!
-//! `specs/Patience.antt` has the rule: `granted` of the bytes, `waited`, and `IsOver` where the one
-//! is not over the other. A read or a write of a `Client` fails where its patience is over, and
-//! begins nothing. Else the stream is limited to `next_wait`. That a limited read ends in time is
-//! the system's, and so is the clock: no contract says so.
+//! `specs/Patience.antt` has the rule: `granted`, the time for the bytes so far; `waited`, the time
+//! that its calls have taken; and `IsOver`, that the time waited is no less than the time granted.
+//! If its patience is over a read or a write of a `Client` fails at once, without a call of the
+//! stream. Else the stream is limited to `next_wait`. That a limited read ends in time is the
+//! system's, and so is the clock: no contract says so.
 #![tactic(auto)]
 
 mod client;

@@ -18,7 +18,7 @@ use std::time::Duration;
 /// How many seconds a client is waited for before any byte has come or gone.
 pub const FIRST_SECONDS: u64 = 10;
 
-/// For each so many bytes that come or go a client is waited for a second more.
+/// A client is waited for one more second for each piece of this many bytes that comes or goes.
 pub const BYTES_A_SECOND: u64 = 65_536;
 
 /// How many seconds a request is waited for at most.

@@ -36,7 +36,7 @@ pub enum DeskTask<'a> {
     List { text: &'a [u8] },
     /// Rebuild the registry as of a moment, or as of the latest.
     Move { moment: Option<i64> },
-    /// Listen on a port of 127.0.0.1, and serve so many connections.
+    /// Listen on a port of 127.0.0.1, and serve `count` connections.
     Serve { port: u16, count: u32 },
     /// Print a report, or the export of one kind of objects.
     Tell { report: Report },
@@ -283,7 +283,7 @@ fn command_line<'a>(alloc: Global) -> Result<Command<'a>, AllocError> {
     Ok(command)
 }
 
-/// What the words ask for, of which the first is the program's name. An error that asks for help is
+/// What the words ask for; the first of them is the program's name. An error that asks for help is
 /// one, too.
 pub fn parse<'a>(alloc: Global, words: &'a [&'a str]) -> Result<Option<Invocation<'a>>, Error> {
     let matches = command_line(alloc)?.try_get_matches_from(words)?;

@@ -20,7 +20,7 @@ use std::alloc::{AllocError, Global};
 use std::io::Write;
 use std::net::{Net, TcpListener, TcpStream};
 
-/// How a command ended that went through.
+/// How a command ended that wasn't stopped.
 #[derive(Drop)]
 struct Ended {
     /// The program's status.
@@ -30,7 +30,7 @@ struct Ended {
 }
 
 impl Ended {
-    // The end of a command that leaves nothing to be printed. Takes no memory.
+    // The end of a command that leaves nothing to be printed. Doesn't allocate.
     fn silent(alloc: Global, status: u8) -> Ended {
         Ended {
             status,
@@ -82,7 +82,7 @@ fn with_name<'a>(alloc: Global, words: &'a [String]) -> Result<Vec<&'a str>, All
     Ok(named)
 }
 
-// Tells the help or the version that was asked for, or what is wrong with the words.
+// Prints the help or the version that was asked for, or what is wrong with the words.
 fn tell_error<O: Write, E: Write>(rt: &HostRuntime, error: &Error, out: &mut O, err: &mut E) -> u8 {
     if error.kind() == ErrorKind::OutOfMemory {
         return tell_stop(rt, err, &NO_MEMORY);
@@ -133,9 +133,8 @@ fn finish<O: Write>(rt: &HostRuntime, done: Result<Ended, Stop>, out: &mut O) ->
     Ok(ended.status)
 }
 
-// `init --store FILE --manifest FILE`: makes a store of a manifest, and tells how many rows that
-// lists. A store that was made stands, in the file or in its log, so a close that fails refuses
-// nothing.
+// `init --store FILE --manifest FILE`: makes a store of a manifest, and prints how many rows that
+// lists. A store that was made is in the file or in its log, so a close that fails refuses nothing.
 fn init<N, O, E>(
     rt: &HostRuntime,
     net: &N,
@@ -160,8 +159,8 @@ where
     })
 }
 
-// `amend --store FILE --manifest FILE`: lists the rows of one more manifest, and tells how many are
-// new. The faults that its text has by itself come before those of the store.
+// `amend --store FILE --manifest FILE`: lists the rows of one more manifest, and prints how many
+// are new. The faults that its text has by itself come before those of the store.
 fn amend<N, O, E>(
     rt: &HostRuntime,
     net: &N,
@@ -180,8 +179,8 @@ where
     use_store(rt, net, store, DeskTask::List { text: &text }, out, err)
 }
 
-// `as-of --store FILE MOMENT`: rebuilds the registry as of a moment, and tells where its chain ends
-// then.
+// `as-of --store FILE MOMENT`: rebuilds the registry as of a moment, and prints where its chain
+// ends then.
 fn as_of<N, O, E>(
     rt: &HostRuntime,
     net: &N,
@@ -199,7 +198,7 @@ where
     use_store(rt, net, store, DeskTask::Move { moment }, out, err)
 }
 
-// The moment that a word names; the latest is none.
+// The moment that a word names; `latest` is none.
 fn moment_named(alloc: Global, word: &str) -> Result<Option<i64>, Stop> {
     if word == "latest" {
         return Ok(None);
@@ -224,15 +223,15 @@ fn manifest_in(alloc: Global, text: &[u8]) -> Result<Manifest, Stop> {
     }
 }
 
-// The line that tells how many rows a manifest lists.
+// The line that says how many rows a manifest lists.
 fn listed(alloc: Global, manifest: &Manifest) -> Result<Vec<u8>, AllocError> {
     let count = manifest.rows().len();
     let line = format!(in alloc; "listed {count}\n")?;
     Ok(line.into_bytes())
 }
 
-// Does a task with the desk of the store in a file. What was answered before a stop stays, and a
-// stop is told before a close that fails.
+// Does a task with the desk of the store in a file. What was answered before a stop is kept, and a
+// stop is reported rather than a close that fails after it.
 fn use_store<N, O, E>(
     rt: &HostRuntime,
     net: &N,
@@ -291,7 +290,7 @@ where
     }
 }
 
-// Makes a store, and tells nothing.
+// Makes a store, and prints nothing.
 fn create<S: Alter>(
     alloc: Global,
     connection: Connection<S>,
@@ -369,7 +368,7 @@ where
     }
 }
 
-// The end of a command that has told all.
+// The end of a command that has printed everything.
 fn told(alloc: Global, status: Result<u8, Stop>) -> Result<Ended, Stop> {
     match status {
         Ok(status) => Ok(Ended::silent(alloc, status)),
@@ -377,7 +376,7 @@ fn told(alloc: Global, status: Result<u8, Stop>) -> Result<Ended, Stop> {
     }
 }
 
-// Lists the rows of a manifest with a desk, and tells how many are new.
+// Lists the rows of a manifest with a desk. The text says how many are new.
 fn list_rows<S: Alter>(alloc: Global, desk: &mut Desk<S>, text: &[u8]) -> Result<Ended, Stop> {
     let count = events::amend(alloc, desk, text)?;
     let line = format!(in alloc; "added {count}\n")?;
@@ -387,7 +386,7 @@ fn list_rows<S: Alter>(alloc: Global, desk: &mut Desk<S>, text: &[u8]) -> Result
     })
 }
 
-// Rebuilds the registry as of a moment, and tells where its chain ends then.
+// Rebuilds the registry as of a moment. The text says where its chain ends then.
 fn move_to<S: Alter>(
     alloc: Global,
     desk: &mut Desk<S>,

@@ -1,4 +1,4 @@
-//! Events, each of which a desk takes as a run of its own.
+//! Events: the desk takes each in a run of its own.
 
 ghost use Rattle.std.specs.Prelude.{IfOk};
 ghost use Rattle.esc_desk.specs.Outcomes.{IsOutcomeOf};

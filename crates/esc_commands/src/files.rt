@@ -19,8 +19,8 @@ pub struct Listing {
     pub unnamed: usize,
 }
 
-/// What stands for a path that can't be read, listed or written: `E1 PATH`, or `S2` where memory
-/// was refused.
+/// The stop for a path that can't be read, listed or written: `E1 PATH`, or `S2` where memory was
+/// refused.
 pub fn stop_at(rt: &HostRuntime, path: &str, error: &Error) -> Stop {
     if error.kind() == ErrorKind::OutOfMemory {
         return NO_MEMORY;
@@ -90,7 +90,7 @@ fn read_front(rt: &HostRuntime, path: &str, most: u64) -> Result<Vec<u8>, Stop> 
     }
 }
 
-// What was opened is looked at again: something else may have come to stand at the path.
+// What was opened is looked at again: the path may have come to name something else.
 fn front_of(rt: &HostRuntime, path: &str, most: u64) -> Result<Vec<u8>, Error> {
     let file = File::open(rt, path)?;
     if !file.metadata()?.is_file() {

@@ -79,8 +79,8 @@ fn see_off(rt: &HostRuntime, stream: &TcpStream) {
     }
 }
 
-/// Serves one request over a reader and a writer. Returns whether the response was sent whole.
-/// Where the reader or the writer fails, that is told.
+/// Serves one request over a reader and a writer. Returns whether the response was sent whole. A
+/// reader or a writer that fails is reported.
 pub fn serve_streams<S: Alter, R: Read, W: Write, E: Write>(
     rt: &HostRuntime,
     desk: &mut Desk<S>,

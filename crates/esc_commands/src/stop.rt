@@ -82,7 +82,7 @@ impl<T: Drop> From<AllocFailed<T>> for Stop {
     }
 }
 
-/// A name or a path as a refusal tells it: in one line, so that no name can look like a second
+/// A name or a path as a refusal prints it: on one line, so that no name can look like a second
 /// refusal. Where a control character is in it, as a line end, those are escaped as Rust writes
 /// them (`\n`, `\u{1b}`), and so are backslashes.
 #[derive(Clone, Copy)]
@@ -128,7 +128,7 @@ pub fn tell<E: Write>(
     Ok(())
 }
 
-/// Tells that a word is no text, as `clap` does where it is given one, and answers the status.
+/// Prints that a word is no text, as `clap` does if it is given one, and returns the status.
 pub fn tell_no_text<E: Write>(err: &mut E) -> u8 {
     let _ = err.write_all(
         b"error: invalid UTF-8 was detected in one or more arguments\n\nFor more information, try '--help'.\n",
@@ -136,7 +136,8 @@ pub fn tell_no_text<E: Write>(err: &mut E) -> u8 {
     USAGE
 }
 
-/// Tells what the program stops for, and answers its status. Want of memory is told without any.
+/// Prints what the program stops for, and returns its status. Printing that memory was refused
+/// doesn't allocate.
 pub fn tell_stop<E: Write>(rt: &HostRuntime, err: &mut E, stop: &Stop) -> u8 {
     let _ = match format!(in rt.alloc(); "{stop}\n") {
         Ok(line) => err.write_all(line.as_bytes()),

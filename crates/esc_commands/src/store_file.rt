@@ -58,7 +58,7 @@ pub fn open_store_file(rt: &HostRuntime, path: &str) -> Result<Connection<FileSt
     open_file(rt, path)
 }
 
-/// Closes the file, and copies into it what still stands in its log.
+/// Closes the file, and copies into it what is still in its log.
 pub fn close<T>(used: Used<FileStore<File>, T>) -> Closed<T> {
     let Used {
         connection,

@@ -10,7 +10,7 @@ use std::io::Write;
 
 /// Takes every plain file of a folder in byte order of names, the name being the arrival's number,
 /// and prints the receipts report: its heading once the folder is listed, then a line for each
-/// arrival as it is answered. Answers the status.
+/// arrival as it is answered. Returns the status.
 pub fn take_folder<S: Alter, O: Write, E: Write>(
     rt: &HostRuntime,
     desk: &mut Desk<S>,
@@ -34,7 +34,7 @@ pub fn take_folder<S: Alter, O: Write, E: Write>(
 }
 
 // Takes one file, and says whether its deposit is held. A name that is no number and a body that is
-// too long are told, and are no arrivals.
+// too long are reported, and are no arrivals.
 fn take_file<S: Alter, O: Write, E: Write>(
     rt: &HostRuntime,
     desk: &mut Desk<S>,

@@ -28,39 +28,39 @@ use Rattle.esc_store.specs.Kept.{Kept, with_body, with_parked}
 use Rattle.esc_events.specs.Finding.{found, row_of}
 use Rattle.esc_events.specs.Receipts.{holds_row}
 
--- a body, if there is one, where it is the deposit of row r of n
+-- the body, if there is one and it is the deposit of row r of n; else none
 abbrev pub judged : List MRow → ℕ → Option (List ℕ) → Option (List ℕ)
 judged n r None = None
 judged n r (Some body) = if holds_row r (found n r (reading body)) then Some body else None
 
--- so many numbers, rising by one, from this one on
+-- numbers that rise by one: the first argument is the first of them, the second how many there are
 abbrev pub numbers_from : ℕ → ℕ → List ℕ
 numbers_from first zero = []
 numbers_from first (suc count) = first ∷ numbers_from (suc first) count
 
--- rows are listed, and bodies are parked
+-- for listed rows n and parked bodies
 module _ (n : List MRow) (parked : List ℕ → Option (List ℕ)) where
   -- the body that is parked under the digest of a row
   abbrev pub parked_for : ℕ → Option (List ℕ)
   parked_for r = parked (row_at n r).digest
 
-  -- that body is the deposit of the row; and there is one, and it isn't
+  -- the row has a parked body, and it is the row's deposit; the row has one, and it isn't
   abbrev pub is_adopted : ℕ → Bool
   is_adopted r = is_some (judged n r (parked_for r))
 
   abbrev pub is_dropped : ℕ → Bool
   is_dropped r = is_some (parked_for r) && not (is_adopted r)
 
-  -- of the rows from this one on, those of which the parked body is the deposit, and those of which
-  -- it isn't
+  -- of the rows from this one on, those whose parked body is their deposit, and those whose parked
+  -- body isn't
   abbrev pub adopted_rows : ℕ → List ℕ
   adopted_rows from = filter is_adopted (numbers_from from (length n - from))
 
   abbrev pub dropped_rows : ℕ → List ℕ
   dropped_rows from = filter is_dropped (numbers_from from (length n - from))
 
-  -- the bodies that are held where the rows from this one on are new: those that were, and of each
-  -- new row the parked body that is its deposit
+  -- the bodies that are held once the rows from this one on are new: those that were held, and for
+  -- each new row its parked body, if that is its deposit
   abbrev pub amended_bodies : ℕ → (ℕ → Option (List ℕ)) → ℕ → Option (List ℕ)
   amended_bodies from bodies r =
       if nat_lt r from then bodies r
@@ -71,30 +71,31 @@ module _ (n : List MRow) (parked : List ℕ → Option (List ℕ)) where
   abbrev pub still_parked : List ℕ → Option (List ℕ)
   still_parked d = if is_some (row_of n d) then None else parked d
 
--- with these rows listed
+-- what is kept, with these rows listed
 abbrev pub with_listed : Kept → List MRow → Kept
 with_listed k listed = record k { listed = listed }
 
--- with the body that is parked under a digest, if one is, as that of this row
+-- what is kept, with the body that is parked under a digest, if any, held for this row and no
+-- longer parked
 abbrev pub with_adopted : Kept → ℕ → List ℕ → Option (List ℕ) → Kept
 with_adopted k row digest None = k
 with_adopted k row digest (Some body) = with_parked (with_body k row body) digest None
 
--- with the bodies that are parked for these rows of n as theirs
+-- what is kept, with the parked bodies of these rows of n held for them
 abbrev pub with_all_adopted : List MRow → Kept → List ℕ → Kept
 with_all_adopted n k [] = k
 with_all_adopted n k (r ∷ rows) =
     let digest = (row_at n r).digest in
     with_all_adopted n (with_adopted k r digest (k.parked digest)) rows
 
--- with no body parked under the digests of these rows of n
+-- what is kept, with no body parked under the digests of these rows of n
 abbrev pub with_all_dropped : List MRow → Kept → List ℕ → Kept
 with_all_dropped n k [] = k
 with_all_dropped n k (r ∷ rows) =
     with_all_dropped n (with_parked k (row_at n r).digest None) rows
 
--- what is kept once more rows are listed: the bodies that are parked for new rows and are their
--- deposits are held, and the others that are parked for new rows are let go
+-- what is kept once more rows are listed: a parked body of a new row is held if it is the row's
+-- deposit, and else dropped
 abbrev pub amended_kept : Kept → List MRow → Kept
 amended_kept k more =
     let n = extended k.listed more in

@@ -17,8 +17,8 @@ union_after m (listed more ∷ e) = union_after (extended m more) e
 union_after m (arrived a ∷ e) = union_after m e
 union_after m (moved t ∷ e) = union_after m e
 
--- the rows that are listed after the events: those of the first manifest, and behind them those of
--- each later one that weren't listed yet
+-- the rows that are listed after the events: those of the first manifest, and then those of each
+-- later one that weren't listed yet
 abbrev pub union : List EventValue → List MRow
 union e = union_after [] e
 

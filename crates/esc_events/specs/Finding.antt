@@ -63,11 +63,11 @@ as_listed row d = bytes_eq row.id d.id
 abbrev pub row_of : List MRow → List ℕ → Option ℕ
 row_of m digest = position (λ row. bytes_eq row.digest digest) m
 
--- at row r, of the deposit that reads from the body
+-- what is found at row r, if this deposit reads from the body
 abbrev pub compared : List MRow → ℕ → DepositValue → Finding
 compared m r d = if as_listed (row_at m r).header d.header then Holding r d else Differing r
 
--- at row r: the refusal, or the comparison
+-- what is found at row r: the refusal of the body, or how its deposit compares with the row
 abbrev pub found : List MRow → ℕ → Result DepositValue ℕ → Finding
 found m r (Ok d) = compared m r d
 found m r (Err n) = Unreadable r n
@@ -76,13 +76,13 @@ abbrev pub found_at : List MRow → Option ℕ → Result DepositValue ℕ → F
 found_at m None reading = Unlisted
 found_at m (Some r) reading = found m r reading
 
--- what is found of a body: no row has its digest; or at that row no deposit reads from it, or
--- another one, or the listed one
+-- what is found of a body: no row has its digest; or at the row that has it, no deposit reads from
+-- the body, or another deposit than listed, or the listed one
 abbrev pub finding : (List ℕ → List ℕ) → (List ℕ → Result DepositValue ℕ) → List MRow → List ℕ
     → Finding
 finding digest reads m body = found_at m (row_of m (digest body)) (reads body)
 
--- the row whose deposit is held
+-- the row whose deposit the body is, if any
 abbrev pub held_row : Finding → Option ℕ
 held_row Unlisted = None
 held_row (Unreadable r n) = None

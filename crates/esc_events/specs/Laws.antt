@@ -58,29 +58,31 @@ use Rattle.esc_events.specs.Works.{IsWorkOf, MentionsFew, no_work}
 
 -- ---- an arrival
 
--- a new arrival whose body isn't kept, since a row lists it, and it isn't the deposit of a row of
--- which no body is held: its receipt is one more
+-- a new arrival whose body a row lists and that isn't kept: it isn't the row's deposit, or the row
+-- has a body already. There is one receipt more
 abbrev pub NotedBooks : Type 0
 NotedBooks = (e : List EventValue) (a : ArrivalValue) (k : Kept) (found : Finding) (known : Known)
     (receipt : ReceiptValue) → IsNew e a k found known receipt → (found ≡ Unlisted → ⊥)
     → ((q : ℕ) → held_row found ≡ Some q → IsSome (k.bodies q))
     → AreBooks sha256 reading (e ++ arrived a ∷ []) (with_receipt k receipt)
 
--- a new arrival whose body no row lists: it is parked too, unless it is already
+-- a new arrival whose body no row lists: there is one receipt more, and the body is parked, unless
+-- it is already
 abbrev pub ParkedBooks : Type 0
 ParkedBooks = (e : List EventValue) (a : ArrivalValue) (k : Kept) (known : Known)
     (receipt : ReceiptValue) → IsNew e a k Unlisted known receipt → (parking : Parking)
     → IsParking k.parked (sha256 a.body) parking → (parking ≡ Crowded → ⊥)
     → AreBooks sha256 reading (e ++ arrived a ∷ []) (noted_by receipt parking a.body k)
 
--- a new arrival with the deposit of a row of which no body is held: its body is held
+-- a new arrival with the deposit of a row that has no body: there is one receipt more, and the body
+-- is held for the row
 abbrev pub HeldBooks : Type 0
 HeldBooks = (e : List EventValue) (a : ArrivalValue) (k : Kept) (row : ℕ) (d : DepositValue)
     (known : Known) (receipt : ReceiptValue) → IsNew e a k (Holding row d) known receipt
     → k.bodies row ≡ None
     → AreBooks sha256 reading (e ++ arrived a ∷ []) (held_by receipt row a.body k)
 
--- an arrival like an earlier one changes nothing
+-- a duplicate of an earlier arrival changes nothing
 abbrev pub RepeatedBooks : Type 0
 RepeatedBooks = (e : List EventValue) (a : ArrivalValue) (k : Kept) → AreBooks sha256 reading e k
     → (r : ReplyValue) → reply_alike (union e) 1 a.number (sha256 a.body) k.receipts ≡ Some r
@@ -88,8 +90,8 @@ RepeatedBooks = (e : List EventValue) (a : ArrivalValue) (k : Kept) → AreBooks
 
 -- ---- an amendment, and a moment
 
--- what is held after an amendment, by the definitions: what was held, and of each new row the
--- parked body with its digest that is its deposit
+-- what is held after an amendment, by the definitions: what was held, and for each new row the
+-- parked body with its digest, if that is its deposit
 abbrev pub AmendedBodiesAreHeld : Type 0
 AmendedBodiesAreHeld = (e : List EventValue) (more : List MRow) → IsAccepted (union e)
     → IsAccepted (extended (union e) more) → IsApart sha256 reading e → (r : ℕ)
@@ -121,14 +123,15 @@ BooksOfMoment = (e : List EventValue) (k : Kept) (moment : Option ℤ) → AreBo
 
 -- ---- the chain
 
--- the books change, and neither the rows, the bodies, the moment, the chain nor the tables
+-- a store with the books of f stands for f, if it has the listed rows, the bodies, the moment, the
+-- chain and the tables of a store that stands for e
 abbrev pub StandsStill : Type 0
 StandsStill = (e f : List EventValue) (k l : Kept) → StandsFor sha256 reading e k
     → AreBooks sha256 reading f l → l.listed ≡ k.listed → l.bodies ≡ k.bodies
     → l.moment ≡ k.moment → l.steps ≡ k.steps → l.registry ≡ k.registry
     → StandsFor sha256 reading f l
 
--- then nothing is done
+-- an event after which the store has the same listed rows and the same chain is no work
 abbrev pub NoWork : Type 0
 NoWork = (e : List EventValue) (x : EventValue) (k l : Kept) → StandsFor sha256 reading e k
     → StandsFor sha256 reading (e ++ x ∷ []) l → union (e ++ x ∷ []) ≡ union e
@@ -148,7 +151,7 @@ pub record IsMove (e : List EventValue) (x : EventValue) (k l : Kept) (more : Li
   pub latest : AreLatestSteps l.listed rows l.moment plan.new.items
   pub planned : IsPlanned k bodies plan
 
--- after it the store stands for the events with x
+-- after such a move the store stands for the events with x
 abbrev pub MovedStands : Type 0
 MovedStands = LatestChainsAtAreHeldRows → (e : List EventValue) (x : EventValue) (k l : Kept)
     (more : List MRow) (rows : List ℕ) (bodies : ℕ → Option (List ℕ)) (plan : Plan)

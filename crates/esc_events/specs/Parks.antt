@@ -5,20 +5,20 @@ use Rattle.esc_events.specs.declared.parked.ParkedBody.{ParkedBody}
 use Rattle.esc_events.specs.declared.parking.Parking.{Parking}
 use Rattle.esc_events.specs.declared.parking.Parking.TheVariants.{Needless, Free, Crowded}
 
--- a body with this digest is parked already; or it isn't, and there is place for it, or there is
--- none
+-- a body with this digest is parked already (`Needless`); or it isn't, and there is room for it
+-- (`Free`) or none (`Crowded`)
 abbrev pub IsParking : (List ℕ → Option (List ℕ)) → List ℕ → Parking → Type 0
 IsParking parked digest Needless = IsSome (parked digest)
 IsParking parked digest Free = (parked digest ≡ None) × (IsFull parked → ⊥)
 IsParking parked digest Crowded = (parked digest ≡ None) × IsFull parked
 
--- what is kept once a body was parked, where it is to be
+-- what is kept once a body is parked, if it has to be
 abbrev pub with_parking : Kept → List ℕ → Parking → List ℕ → Kept
 with_parking k digest Needless body = k
 with_parking k digest Free body = with_parked k digest (Some body)
 with_parking k digest Crowded body = k
 
--- a body of so many bytes is parked under this digest
+-- a body is parked under this digest, and has this number of bytes
 abbrev pub IsParkedBody : (List ℕ → Option (List ℕ)) → ParkedBody → Type 0
 IsParkedBody parked p = (body : List ℕ) × (parked p.digest ≡ Some body) × (p.bytes ≡ length body)
 

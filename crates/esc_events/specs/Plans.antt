@@ -32,7 +32,7 @@ use Rattle.esc_store.specs.Kept.{Kept, kept_chain, step_at, with_steps, with_reg
 use Rattle.esc_events.specs.declared.plan.Plan.{Plan}
 use Rattle.esc_events.specs.Stands.{deposits_of}
 
--- each of these rows is the manifest's
+-- each of these rows is a row of the manifest
 abbrev pub AllInRange : List MRow → List ℕ → Type 0
 AllInRange m rows = (i : ℕ) → i < length rows → slice_index rows i < length m
 

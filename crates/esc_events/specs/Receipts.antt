@@ -69,7 +69,8 @@ refusal number digest verdict row = record {
   orphans = None;
 }
 
--- the receipt by what was found; whether the row was held before is told where it is held
+-- the receipt by what was found; the last argument, whether an earlier receipt holds the row,
+-- counts for a deposit that is held
 abbrev pub receipt_by : List ℕ → List ℕ → Finding → Bool → ReceiptValue
 receipt_by number digest Unlisted again = refusal number digest unlisted_verdict None
 receipt_by number digest (Unreadable r n) again = refusal number digest (A3 n) (Some r)
@@ -88,8 +89,8 @@ module _ (digest : List ℕ → List ℕ) (reads : List ℕ → Result DepositVa
   abbrev pub alike : Coming → Coming → Bool
   alike a b = bytes_eq a.number b.number && bytes_eq (digest a.body) (digest b.body)
 
-  -- a list without each arrival that is like an earlier one: its first, and the distinct ones
-  -- behind it that aren't like that one
+  -- a list without each arrival that is a duplicate of an earlier one: its first, and of the
+  -- distinct ones after it those that aren't duplicates of the first
   abbrev pub distinct : List Coming → List Coming
   distinct [] = []
   distinct (a ∷ l) = a ∷ filter (λ b. not (alike a b)) (distinct l)
@@ -113,7 +114,7 @@ module _ (digest : List ℕ → List ℕ) (reads : List ℕ → Result DepositVa
       let again = holds_any before (held_row (found_then c)) in
       receipt_by c.number (digest c.body) (found_then c) again
 
-  -- the receipts of distinct arrivals, where `before` stood before them
+  -- the receipts of distinct arrivals, where `before` are the distinct arrivals before them
   abbrev pub receipts_after : List Coming → List Coming → List ReceiptValue
   receipts_after before [] = []
   receipts_after before (c ∷ l) = receipt_for before c ∷ receipts_after (before ++ c ∷ []) l
@@ -122,6 +123,7 @@ module _ (digest : List ℕ → List ℕ) (reads : List ℕ → Result DepositVa
   abbrev pub receipts_of : List EventValue → List ReceiptValue
   receipts_of e = receipts_after [] (distinct (comings e))
 
-  -- the reply to an arrival after a list of events: that of the first arrival alike it
+  -- the reply to an arrival after a list of events: that of the first arrival with its number and
+  -- digest
   abbrev pub reply_to : List EventValue → ArrivalValue → Option ReplyValue
   reply_to e a = reply_alike (union e) 1 a.number (digest a.body) (receipts_of e)

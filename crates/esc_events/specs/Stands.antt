@@ -1,4 +1,4 @@
--- What is held and parked after a list of events, and what a store holds that stands for it.
+-- What is held and parked after a list of events, and what a store keeps that stands for it.
 use Rattle.std.specs.Prelude.{
   ◌≡◌,
   ◌⊎◌,
@@ -33,7 +33,7 @@ use Rattle.esc_events.specs.Events.{EventValue, Coming, union, comings, moment_o
 use Rattle.esc_events.specs.Finding.{finding, held_row, row_of}
 use Rattle.esc_events.specs.Receipts.{holds_row, distinct, receipts_of}
 
--- stands where no body reads: a held body always reads
+-- a placeholder for a body from which no deposit reads; a held body never is one
 abbrev pub no_deposit : DepositValue
 no_deposit = record {
   header = no_row.header;
@@ -61,7 +61,7 @@ abbrev pub with_some : Option ℕ → List ℕ → List ℕ
 with_some None rows = rows
 with_some (Some r) rows = r ∷ rows
 
--- it is one of the list
+-- it is an element of the list
 abbrev pub Among : {X : Type 0} → List X → X → Type 0
 Among [] a = ⊥
 Among (b ∷ l) a = (a ≡ b) ⊎ Among l a
@@ -75,7 +75,7 @@ abbrev pub HaveBodies : (ℕ → Option (List ℕ)) → Rows → Type 0
 HaveBodies bodies held = (r : ℕ) → set.contains held r ≡ is_some (bodies r)
 
 module _ (digest : List ℕ → List ℕ) (reads : List ℕ → Result DepositValue ℕ) where
-  -- by these listed rows, row r is held by the body that came
+  -- judged by these listed rows, the body that came is the deposit of row r
   abbrev pub holds_by : List MRow → ℕ → Coming → Bool
   holds_by m r c = holds_row r (finding digest reads m c.body)
 
@@ -83,7 +83,7 @@ module _ (digest : List ℕ → List ℕ) (reads : List ℕ → Result DepositVa
   abbrev pub has_digest : List ℕ → Coming → Bool
   has_digest d c = bytes_eq (digest c.body) d
 
-  -- the rows that bodies hold by the listed rows m, with repeats
+  -- the rows whose deposits came, judged by the listed rows m, with repeats
   abbrev pub rows_of : List MRow → List Coming → List ℕ
   rows_of m [] = []
   rows_of m (c ∷ l) = with_some (held_row (finding digest reads m c.body)) (rows_of m l)
@@ -108,28 +108,28 @@ module _ (digest : List ℕ → List ℕ) (reads : List ℕ → Result DepositVa
     IsApart = (a b : Coming) → Among (comings e) a → Among (comings e) b
         → digest a.body ≡ digest b.body → a.body ≡ b.body
 
-    -- the arrivals that are like none before them
+    -- the arrivals that are no duplicates of earlier ones
     abbrev pub first_comings : List Coming
     first_comings = distinct digest reads (comings e)
 
-    -- this body came in an arrival like none before it, and is the deposit of row r
+    -- this body came in an arrival that is no duplicate, and is the deposit of row r
     pub record CameFor (r : ℕ) (body : List ℕ) : Type 0 where
       pub arrival : Coming
       pub among : Among first_comings arrival
       pub holds : holds_by (union e) r arrival ≡ true
       pub is_body : arrival.body ≡ body
 
-    -- this body came in an arrival like none before it, and has this digest
+    -- this body came in an arrival that is no duplicate, and has this digest
     pub record CameWith (d body : List ℕ) : Type 0 where
       pub arrival : Coming
       pub among : Among first_comings arrival
       pub digest_is : digest arrival.body ≡ d
       pub is_body : arrival.body ≡ body
 
-    -- what is kept but the chain and its tables: the rows that are listed, the receipts that the
-    -- arrivals leave, the bodies that are held and parked, and the moment that is set; and whatever
-    -- bodies have the same digest, each body that is held or parked did come, and each row that a
-    -- receipt says is held has a body
+    -- what is kept, except for the chain and its tables: the rows that are listed, the receipts
+    -- that the arrivals leave, the bodies that are held and parked (said only if no two different
+    -- bodies have one digest), and the moment that is set. Even if bodies share a digest, each body
+    -- that is held or parked did come, and each row that a receipt says is held has a body
     pub record AreBooks (k : Kept) : Type 0 where
       pub listed : k.listed ≡ union e
       pub receipts : k.receipts ≡ receipts_of digest reads e

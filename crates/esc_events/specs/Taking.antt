@@ -1,4 +1,4 @@
--- What is known of an arrival that is like none before it, when the store is to take it in.
+-- What is known of a new arrival before the store takes it in.
 use Rattle.std.specs.Prelude.{◌≡◌, ℕ, List, None}
 use Rattle.sha2.specs.Sha256.{sha256}
 use Rattle.esc_tables.specs.Reading.{reading}
@@ -13,8 +13,8 @@ use Rattle.esc_events.specs.Receipts.{receipt_by, is_among}
 use Rattle.esc_events.specs.Known.{IsKnown}
 use Rattle.esc_events.specs.Stands.{StandsFor}
 
--- the store stands for e, no receipt is alike, this was found of the body, this is known of the
--- store's rows, and this is the receipt
+-- the store stands for e, no receipt has the arrival's number and digest, this was found of its
+-- body, this is known of the store's rows, and this is its receipt
 pub record IsNew (e : List EventValue) (a : ArrivalValue) (k : Kept) (found : Finding)
     (known : Known) (receipt : ReceiptValue) : Type 0 where
   pub stood : StandsFor sha256 reading e k

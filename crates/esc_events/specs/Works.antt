@@ -13,7 +13,7 @@ use Rattle.esc_events.specs.Events.{EventValue, union}
 use Rattle.esc_events.specs.Reads.{IsChainOf}
 use Rattle.esc_events.specs.Stands.{deposits_of, held_rows, held_body}
 
--- nothing is done
+-- no work: nothing is done
 abbrev pub no_work : Work
 no_work = record { cleared = false; undone = 0; applied = 0; writes = 0 }
 
@@ -43,10 +43,11 @@ module _ (e : List EventValue) (x : EventValue) where
   abbrev pub AddsNoRow : Type 0
   AddsNoRow = held_rows sha256 reading (e ++ x ∷ []) ≡ held_rows sha256 reading e
 
-  -- where the event adds no row, nothing was done
+  -- if the event adds no row, no work was done. This is said of arrivals alone: a moment may move
+  -- the chain without a new row
   abbrev pub IsIdle : Work → Type 0
   IsIdle work = WhereApart (e ++ x ∷ []) (AddsNoRow → work ≡ no_work)
 
--- what is read mentions at most 100,000 keys
+-- each deposit that is read mentions at most 100,000 keys
 abbrev pub MentionsFew : Type 0
 MentionsFew = (body : List ℕ) (d : DepositValue) → reading body ≡ Ok d → mention_count d ≤ 100_000

@@ -1,4 +1,4 @@
-//! What is found of a body: the verdict before it is told.
+//! What is found of a body, from which its verdict follows.
 
 use esc_tables::Deposit;
 
@@ -7,9 +7,10 @@ use esc_tables::Deposit;
 pub enum Finding {
     /// No row has its digest.
     Unlisted,
-    /// At this row; no deposit reads from it, by the refusal with this number.
+    /// This row has its digest, but no deposit reads from it: it is refused with this number, U1 to
+    /// U11.
     Unreadable(usize, u8),
-    /// At this row, but it is another deposit than the row tells.
+    /// This row has its digest, but it is another deposit than the row says.
     Differing(usize),
     /// It is the deposit of this row.
     Holding(usize, Deposit),

@@ -1,7 +1,8 @@
 //! What is known of a store's rows.
 
-/// The rows of which a store holds a body, and the rows that its receipts say are held, both from 0
-/// and rising. A row that was adopted from the parked bodies is one of the former alone.
+/// The rows for which a store keeps a body (`held`), and the rows that its receipts say are held
+/// (`told`), both as indices from 0, rising. A row whose body was adopted from the parked ones is
+/// in `held` alone.
 #[derive(Debug, Drop)]
 pub struct Known {
     pub held: Vec<usize>,

@@ -19,8 +19,8 @@ ghost use Rattle.esc_events.specs.Laws.{
   MoveIsWork,
 };
 
-/// The books after an arrival: one like none before it has one receipt more, and its body is held
-/// or parked where it is to be; one like an earlier one changes nothing.
+/// The books after an arrival. A new one adds a receipt, and its body is held or parked if it has
+/// to be; a duplicate of an earlier one changes nothing.
 pub fn books_after_an_arrival()
     ensures noted { NotedBooks }
     ensures parked { ParkedBooks }
@@ -28,9 +28,9 @@ pub fn books_after_an_arrival()
     ensures repeated { RepeatedBooks }
 {}
 
-/// What is held and parked after an amendment, and the books: of each row that is new then the body
-/// that is parked under its digest is held, where it is the row's deposit, and is parked no more in
-/// any case. Replies that were given stay.
+/// What is held and parked after an amendment, and the books. A body that is parked under the
+/// digest of a new row is held if it is the row's deposit, and is parked no longer in any case.
+/// Replies that were given stay.
 pub fn books_after_an_amendment()
     ensures held { AmendedBodiesAreHeld }
     ensures parked { AmendedBodiesAreParked }
@@ -43,9 +43,10 @@ pub fn books_after_a_moment()
     ensures { BooksOfMoment }
 {}
 
-/// A store whose books change so that no row, no body and no moment does stands for the longer list
-/// of events with the chain and the tables that it has, and that is no work. Otherwise a plan moves
-/// the chain: then the store stands for it, and the work is exactly the cost of the move.
+/// The chain after an event. If the event changes no row, no body and no moment, the store stands
+/// for the longer list of events with the chain and the tables that it has, and no work is done.
+/// Otherwise a plan moves the chain; then the store stands for the longer list, and the work is
+/// exactly the cost of the move.
 pub fn chain_after_an_event()
     ensures still { StandsStill }
     ensures idle { NoWork }

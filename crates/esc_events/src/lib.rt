@@ -10,28 +10,28 @@
 //!
 //! - the rows that are listed are those of all manifests, in the order in which they were first
 //!   listed (`union`);
-//! - each arrival that is like none before it has a receipt with the verdict that it got by the
-//!   rows that were listed when it came: `A5` where none listed its body (`receipts_of`). An
-//!   amendment leaves replies as they were;
+//! - each arrival that is no duplicate of an earlier one (by number and digest) has a receipt with
+//!   the verdict that it got by the rows that were listed when it came: `A5` if none listed its
+//!   body (`receipts_of`). An amendment leaves replies as they were;
 //! - each body that came is judged by all rows that are listed in the end: it is held as that of
 //!   the row whose deposit it is (`held_body`), and parked where no row lists it (`parked_body`);
 //! - the chain is the latest one of the held rows whose last deposit is not later than the moment
 //!   that is set (`IsChainOf`), and the tables are those of its deposits.
 //!
 //! `StandsFor` says all of this of what a store keeps. The body that is held or parked under one
-//! digest is told where no two different bodies that came have the same digest (`IsApart`); that
-//! what is held did come, and is the row's deposit, is so in any case (`came`, `waits`).
+//! digest is fixed only if no two different bodies that came have the same digest (`IsApart`); that
+//! what is held did come, and is the row's deposit, holds in any case (`came`, `waits`).
 //!
 //! # What is promised
 //!
 //! The laws say what one more event makes of a store that stands for a list: its books
 //! ([`books_after_an_arrival`], [`books_after_an_amendment`], [`books_after_a_moment`]), and its
-//! chain, its tables and the work of the move ([`chain_after_an_event`]). For example: of an
-//! amendment, `AmendedBooks` says that listing the new rows, holding the parked bodies that are
-//! their deposits and letting go the other bodies that are parked for them is all that there is to
-//! do before the chain moves.
+//! chain, its tables and the work of the move ([`chain_after_an_event`]). For example,
+//! `AmendedBooks` says of an amendment: before the chain moves, all that has to be done is to list
+//! the new rows, to hold the parked bodies that are their deposits, and to drop the other bodies
+//! that are parked for them.
 //!
-//! Nothing here runs. The desk (`esc_desk`) answers by these definitions.
+//! No code here runs. The contracts of the desk (`esc_desk`) are stated by these definitions.
 #![tactic(auto)]
 
 mod finding;

@@ -1,6 +1,6 @@
 //! Whether a body that no row lists is parked.
 
-/// What is done with the body of an arrival whose receipt alone is kept.
+/// What is done with the body of an arrival that is not held.
 #[derive(Clone, Copy, Debug)]
 pub enum Parking {
     /// Nothing: a row lists it, or it is parked already.

@@ -3,7 +3,8 @@
 use esc_apply::Step;
 use esc_tables::Deposit;
 
-/// The steps of both chains, and the deposits of the new ones past the common front.
+/// The steps of the old and the new chain, and the deposits of the new chain's steps past the
+/// common front.
 #[derive(Debug, Drop)]
 pub struct Plan {
     pub old: Vec<Step>,

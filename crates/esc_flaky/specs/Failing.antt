@@ -1,4 +1,4 @@
--- A disk of which one call fails, by the words of `sqlite_disk`, and where it fails.
+-- A disk with one call that fails, by the definitions of `sqlite_disk`, and where it fails.
 use Rattle.std.specs.Prelude.{◌≡◌, ◌≢◌, ℕ, Bool, ◌+◌, ◌-◌, ◌==◌, ◌&&◌, not, List}
 use Rattle.std.specs.Prelude.{if◌then◌else◌, true, false, Option, None, Some, Result, Ok, Err, IsErr}
 use Rattle.std.specs.IoError.{error_kind}

@@ -31,7 +31,7 @@ write_size w = w.piece
 abbrev pub holds_back : FailingWriter → Bool
 holds_back w = w.is_stuck
 
--- whether a write failed for want of memory
+-- whether a write failed because memory was refused
 abbrev pub had_none : FailingWriter → Bool
 had_none w = w.wants_memory
 

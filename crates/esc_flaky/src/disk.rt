@@ -1,4 +1,4 @@
-//! A disk of which one call fails.
+//! A disk with one call that fails.
 
 ghost use Rattle.std.specs.Prelude.{◌≡◌, ◌⊎◌, ◌+◌, ◌^◌, ◌<◌, ◌≤◌, ◌&&◌, ◌||◌, ◌↔◌, ⊤, ℕ, not};
 ghost use Rattle.std.specs.Prelude.{
@@ -28,7 +28,7 @@ ghost use Rattle.esc_flaky.specs.Failing.{wants_memory, is_no_memory, finds_no_m
 use sqlite_disk::{Disk, Tally};
 use std::io::{self, ErrorKind};
 
-/// A disk that passes calls on to another, but for one, which fails.
+/// A disk that passes all calls on to another, except for one, which fails.
 #[derive(Drop)]
 pub struct FlakyDisk<D: Disk> {
     inner: D,
@@ -50,7 +50,7 @@ struct Turn {
 }
 
 impl<D: Disk> FlakyDisk<D> {
-    /// A disk whose call after so many others fails.
+    /// A disk that fails the call after this number of calls.
     pub fn new(inner: D, calls: u64) -> FlakyDisk<D>
         ensures inner { inner_of result ≡ inner }
         ensures calls { calls_before result ≡ Some calls }
@@ -67,7 +67,7 @@ impl<D: Disk> FlakyDisk<D> {
         }
     }
 
-    /// A disk of which no call is to fail.
+    /// A disk that fails no call.
     pub fn sound(inner: D) -> FlakyDisk<D>
         ensures inner { inner_of result ≡ inner }
         ensures calls { calls_before result ≡ None }

@@ -12,7 +12,7 @@ ghost use Rattle.esc_flaky.specs.Failing.{finds_no_memory};
 use std::alloc::Global;
 use std::io::{self, ErrorKind, Read, Write};
 
-/// Bytes to be read, of which so many pass: every read after them fails.
+/// Bytes to be read. A number of them pass, and every read after those fails.
 #[derive(Drop)]
 pub struct FailingReader<'a> {
     rest: &'a [u8],
@@ -21,7 +21,7 @@ pub struct FailingReader<'a> {
 }
 
 impl<'a> FailingReader<'a> {
-    /// A reader of these bytes. A read gives at most a piece of so many, one at least.
+    /// A reader of these bytes. A read gives at most `piece` bytes, where 0 counts as 1.
     pub fn new(bytes: &'a [u8], piece: usize, passing: usize) -> FailingReader<'a>
         ensures bytes { unread result ≡ bytes.now }
         ensures piece { read_size result ≡ piece }
@@ -64,7 +64,7 @@ impl Read for FailingReader<'_> {
     }
 }
 
-/// What is written, of which so many bytes pass: every write after them fails.
+/// What is written. A number of bytes pass, and every write after those fails.
 #[derive(Drop)]
 pub struct FailingWriter {
     text: Vec<u8>,
@@ -75,7 +75,7 @@ pub struct FailingWriter {
 }
 
 impl FailingWriter {
-    /// A writer that has no bytes yet. A write takes at most a piece of so many, one at least.
+    /// A writer that has no bytes yet. A write takes at most `piece` bytes, where 0 counts as 1.
     /// Where it is stuck every flush fails.
     pub fn new(alloc: Global, piece: usize, passing: usize, is_stuck: bool) -> FailingWriter
         ensures empty { written result ≡ [] }
@@ -93,7 +93,7 @@ impl FailingWriter {
         }
     }
 
-    /// Whether a write failed for want of memory, which nobody told it to.
+    /// Whether a write failed because memory was refused, though nobody told it to.
     pub fn wants_memory(&self) -> bool
         ensures { result ≡ had_none self.now }
     {

@@ -128,7 +128,7 @@ fn moved(rt: &impl Abort, alloc: Global, old: &str, new: &str) -> Result<String,
     Ok(text)
 }
 
-/// The chain that was, the chain that is, and what is told of the move.
+/// The old chain, the new chain, and what is said of the move.
 static MOVES: [(&str, &str, &str); 12] = [
     ("", "", "kept, 0 back, 0 on, 0 writes, Some(0):\n"),
     ("", "F1", "kept, 0 back, 1 on, 3 writes, Some(3): a=R1\n"),
@@ -208,7 +208,7 @@ fn push_applied(text: &mut String, alloc: Global, r: &mut MemRegistry) -> Result
     push_step(text, alloc, r, 3, "D3")
 }
 
-// What is noted of a step: `+` or `-` where an object stood or not, and the key.
+// What is noted of a step: `+` or `-` for an object that was there or not, and the key.
 fn push_undo(
     text: &mut String,
     alloc: Global,
@@ -268,7 +268,7 @@ fn push_counted(text: &mut String, work: &Work, writes: u64) -> Result<(), NoMem
     Ok(())
 }
 
-// A registry with F1, D2 and D3 that lets so many calls through.
+// A registry with F1, D2 and D3 that lets a number of calls through.
 fn stopping_registry(rt: &impl Abort, alloc: Global, calls: u32) -> Result<Stopping, NoMemory> {
     let mut inner = MemRegistry::new(alloc);
     go(rt, alloc, &mut inner, "", "F1 D2 D3")?;

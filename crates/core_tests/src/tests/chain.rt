@@ -63,7 +63,7 @@ fn push_place(text: &mut String, alloc: Global, place: Place) -> Result<(), NoMe
     Ok(())
 }
 
-// What a line tells, as the report on gaps has it, and a line feed.
+// What a line says, as the report on gaps has it, and a line feed.
 fn push_line(text: &mut String, alloc: Global, line: &GapLine) -> Result<(), NoMemory> {
     let state = line.state;
     push_place(text, alloc, line.place)?;
@@ -201,7 +201,7 @@ fn push_used(text: &mut String, alloc: Global, m: &Manifest) -> Result<(), NoMem
     Ok(())
 }
 
-// Adds a row, if the manifest has it, and answers whether it is new.
+// Adds a row, if the manifest has it, and returns whether it is new.
 fn insert(held: &mut Held, m: &Manifest, row: usize) -> Result<Option<bool>, NoMemory> {
     if row < m.rows().len() {
         Ok(Some(held.insert(m, row)?))
@@ -372,7 +372,7 @@ fn push_not_held(text: &mut String, alloc: Global) -> Result<(), NoMemory> {
     Ok(())
 }
 
-// A blocker that isn't listed, behind its id.
+// A blocker that isn't listed, after its id.
 fn push_not_listed(text: &mut String, alloc: Global) -> Result<(), NoMemory> {
     let id = Id::new(String::from_str(alloc, "X9")?);
     text.push_str(id.text())?;

@@ -14,7 +14,7 @@ use std::alloc::Global;
 use std::collections::BTreeMap;
 use stopping::{Stopped, Stopping};
 
-/// An object as its text tells it.
+/// An object as its text gives it.
 #[derive(Clone, Copy)]
 struct Told<'a> {
     kind: Kind,
@@ -24,7 +24,7 @@ struct Told<'a> {
     children: &'a str,
 }
 
-// What the text of an object tells, or nothing where it is no such text.
+// The object that a text gives, or nothing if it isn't the text of one.
 fn told_of(text: &str) -> Option<Told<'_>> {
     let (parent, children) = text.split_once('\n').unwrap_or((text, ""));
     let (name, cells) = parent.split_once(": ")?;
@@ -327,8 +327,8 @@ const STOPPED: &str = "stopped\nstopped\n";
 // Nothing is found, and there is an export.
 const EXPORTED: &str = "kind,key,table,row,field,value\nregistrar,R1,registrar,0,id,R1\n";
 
-/// How many calls a source lets through, and what is told. Two objects are given by three calls:
-/// the last answers that there are no more.
+/// How many calls a source lets through, and what is reported. Two objects are given by three
+/// calls: the last returns that there are no more.
 static WITHIN: [(u32, &str); 5] = [
     (0, STOPPED),
     (1, STOPPED),

@@ -7,7 +7,7 @@ use esc_tables::{Deposit, Key, Object, Row};
 use std::alloc::Global;
 use std::collections::BTreeMap;
 
-/// A body: where it stands, in days since F1, and what it has.
+/// A body: its watermark, in days since F1, and what it has.
 #[derive(Clone, Copy)]
 pub(crate) struct Body {
     day: i64,

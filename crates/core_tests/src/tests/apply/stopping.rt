@@ -18,7 +18,7 @@ impl From<NoMemory> for Stopped {
     }
 }
 
-/// A registry in memory that fails once so many calls were made.
+/// A registry in memory that fails after a number of calls.
 #[derive(Drop)]
 pub struct Stopping {
     pub inner: MemRegistry,

@@ -42,7 +42,7 @@ V7,domain,h.example,crDate,2024-03-04,
 ",
 );
 
-// Links of two domains, one name server told twice, and a number of domains that differs.
+// Links of two domains, one name server given twice, and a number of domains that differs.
 const LINKS_AND_COUNTS: Found = (
     "registrar R1: id=R1
 

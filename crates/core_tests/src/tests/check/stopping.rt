@@ -17,7 +17,7 @@ impl From<NoMemory> for Stopped {
     }
 }
 
-/// Objects in memory that fail once so many calls were made.
+/// Objects in memory that fail after a number of calls.
 #[derive(Drop)]
 pub struct Stopping {
     pub inner: MapObjects,
