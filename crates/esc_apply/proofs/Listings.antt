@@ -1,4 +1,5 @@
--- The tables of any deposits have a listing: the keys that the deposits mention, each where the tables have an object.
+-- The tables of any deposits have a listing: the keys that the deposits mention, each where the
+-- tables have an object.
 use Rattle.std.proofs.Common.{◌≡◌, Bool, true, false, cond, ◌&&◌, ◌||◌, T, true≢false, List, [], ◌∷◌, reverse, Option, Some, None, refl, sym, ap, ◌∙◌}
 use Rattle.std.specs.declared.cmp.Ordering.{Ordering}
 use Rattle.std.specs.declared.cmp.Ordering.TheVariants.{Less, Equal, Greater}

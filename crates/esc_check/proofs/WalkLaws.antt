@@ -93,7 +93,8 @@ leads_more w shown g h k o left whole ordered leads found met waiting =
           front_added _ _ _ _ _ _ (link_findings-append present (links_of k o) (all_links left)) (leads.waiting present (λ q has. covers q (grown q has))) kept;
     }
 
--- what is found of objects by themselves and then of all links is what is found of one object after the other
+-- what is found of objects by themselves and then of all links is what is found of one object after
+-- the other
 
 module _ (present : KeyName → Bool) (w : ℤ) (shown : List ℕ) where
   abbrev own : Entry → List FindingValue

@@ -3,8 +3,8 @@ use Rattle.std.specs.Prelude.{ℕ, ◌≡◌, ◌+◌, ◌-◌, ◌*◌, ◌/◌
 use Rattle.std.specs.Duration.{as_nanos}
 use Rattle.esc_client.specs.declared.patience.Patience.{Patience}
 
--- the seconds that a client is granted in all once so many bytes have come or gone: ten, and one
--- more for each 65,536 bytes, but no more than the most
+-- the seconds that a client is granted in all, by the bytes that have come or gone: ten, and one
+-- more for each 65,536 bytes, up to `most`
 abbrev pub granted_seconds : ℕ → ℕ → ℕ
 granted_seconds most bytes = min most (10 + bytes / 65_536)
 

@@ -24,7 +24,7 @@ pub const BYTES_A_SECOND: u64 = 65_536;
 /// How many seconds a request is waited for at most.
 pub const MOST_REQUEST_SECONDS: u64 = 300;
 
-/// How many seconds are spent at most on what a client still sends that has its response.
+/// How many seconds are spent at most on reading what a client still sends after its response.
 pub const REST_SECONDS: u64 = 10;
 
 /// How many seconds such a client may stand still.

@@ -48,8 +48,8 @@ enum Job<'a> {
     Desk(DeskTask<'a>),
 }
 
-/// Runs the program on the words after its name. Returns the status. Help and version are printed on
-/// standard output, and what is wrong with the words on standard error.
+/// Runs the program on the words after its name. Returns the status. Help and version are printed
+/// on standard output, and what is wrong with the words on standard error.
 pub fn run_words<N, O, E>(
     rt: &HostRuntime,
     net: &N,

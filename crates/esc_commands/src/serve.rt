@@ -9,14 +9,15 @@ use sqlite::Alter;
 use std::io::{Error, Read, Write};
 use std::net::{Net, Shutdown, TcpListener, TcpStream};
 
-/// How often it is read what a client sends that has its response, up to so many bytes at once.
+/// How many reads are spent at most on what a client still sends after its response. Each takes up
+/// to `BYTES_AT_ONCE` bytes.
 const READS_AFTER: usize = 2048;
 
 const BYTES_AT_ONCE: usize = 16_384;
 
 /// Listens on a port of 127.0.0.1, says so, and serves connections one after the other: one request
-/// each. A read or write that fails is told, as one does of a client that was waited for too long,
-/// and the next connection is served. Returns the status.
+/// each. A read or write that fails is reported, and the next connection is served; those of a
+/// client that was waited for too long fail too. Returns the status.
 pub fn serve_connections<N, S, O, E>(
     rt: &HostRuntime,
     net: &N,

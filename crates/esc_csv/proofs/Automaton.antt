@@ -1,4 +1,5 @@
--- The steps of the library's reader: a record takes a byte at least, and leaves the reader between two records.
+-- The steps of the library's reader: a record takes a byte at least, and leaves the reader between
+-- two records.
 use Rattle.std.proofs.Common.{◌≡◌, ℕ, zero, suc, ◌<◌, ◌≤◌, Bool, true, false, cond, List, [], ◌∷◌, ◌++◌, length, Option, Some, None, refl, ap, subst, arith, inl, inr}
 use Rattle.std.specs.Prelude.{◌==◌, ◌&&◌}
 use Rattle.std.proofs.lemmas.Bool.{cases_Bool}

@@ -1,4 +1,5 @@
--- What is known of an envelope that was read: its tables have their forms, and its refusals are 5 to 7.
+-- What is known of an envelope that was read: its tables have their forms, and its refusals are 5
+-- to 7.
 use Rattle.std.proofs.Common.{◌≡◌, ◌∙◌, ℕ, suc, ◌≤◌, ◌<◌, Bool, true, false, cond, List, [], ◌∷◌, length, Option, Some, None, refl, sym, ap, subst, arith}
 use Rattle.std.specs.Prelude.{All, codes, option_and_then, ◌&&◌, nat_lt, nat_le}
 use Rattle.std.specs.List.{list_all}

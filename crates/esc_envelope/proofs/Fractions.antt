@@ -22,7 +22,8 @@ digit_at digits i fraction inside =
 pub length_at_most : (digits : List ℕ) → is_fraction digits ≡ true → length digits ≤ 9
 length_at_most digits fraction = grind (arith, nat_tests, fraction)
 
--- what is known before digit i: its place is ten times the one to come, and what the digits so far are worth
+-- what is known before digit i: its place is ten times the one to come, and what the digits so far
+-- are worth
 pub record IsReadUpTo (digits : List ℕ) (i v p : ℕ) : Type 0 where
   pub place : p ≡ 10 ^ (9 - i)
   pub value : v + fraction_value (9 - i) (drop i digits) ≡ fraction_value 9 digits

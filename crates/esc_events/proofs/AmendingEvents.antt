@@ -1,4 +1,5 @@
--- What is held and parked by two lists of events with the same arrivals; and where a manifest is the one more event.
+-- What is held and parked by two lists of events with the same arrivals; and where a manifest is
+-- the one more event.
 use Rattle.std.proofs.Common.{◌≡◌, ℕ, ◌<◌, ◌≤◌, Bool, true, false, cond, List, [], ◌∷◌, ◌++◌, length, nat_lt, Option, Some, None, is_some, refl, sym, ap, subst, ◌∙◌, arith}
 use Rattle.std.specs.List.{find}
 use Rattle.std.proofs.lemmas.Bool.Decides.{nat_tests}

@@ -1,4 +1,5 @@
--- One more event in what is listed and what came; the row of a digest; and what bodies are judged by, where rows are added.
+-- One more event in what is listed and what came; the row of a digest; and what bodies are judged
+-- by, where rows are added.
 use Rattle.std.proofs.Common.{◌≡◌, ◌⊎◌, inl, inr, ℕ, ℤ, suc, ◌<◌, ◌≤◌, Bool, true, false, cond, ◌==◌, not, filter, List, [], ◌∷◌, ◌++◌, length, get_or, position, Option, Some, None, option_map, IfSome, Result, Ok, Err, refl, sym, ap, ap₂, subst, ◌∙◌, arith, true≢false, length-append}
 use Rattle.std.specs.List.{position_or_len, find}
 use Rattle.std.specs.Str.{bytes_eq}
@@ -209,7 +210,8 @@ module _ (digest : List ℕ → List ℕ) (n : List MRow) (okn : IsAccepted n) (
   pub judged_at : (c : Coming) → digest c.body ≡ d → holds_by digest reading n r c ≡ holds_row r (found n r (reading c.body))
   judged_at c is = ap (λ (o : Option ℕ). holds_row r (found_at n o (reading c.body))) (row_is n okn r (digest c.body) lt (sym is))
 
-  -- of bodies that all are one where they have one digest, the first with its digest is judged for all
+  -- of bodies that all are one where they have one digest, the first with its digest is judged for
+  -- all
   pub judged_first : (l : List Coming) → ((a b : Coming) → Among l a → Among l b → digest a.body ≡ digest b.body → a.body ≡ b.body)
       → judged n r (body_of (find (has_digest digest reading d) l)) ≡ body_of (find (holds_by digest reading n r) l)
   judged_first [] apart = refl

@@ -109,8 +109,9 @@ moved_from e k bodies plan stood planned = record {
   registry = stood.registry;
 }
 
--- the chain moves by a plan: k stands for the events e, l has the books of e and one more event, but k's chain; the rows that l lists
--- begin with those of k, and the bodies that k holds are held by l
+-- the chain moves by a plan: k stands for the events e, l has the books of e and one more event,
+-- but k's chain; the rows that l lists begin with those of k, and the bodies that k holds are held
+-- by l
 module _ (law : LatestChainsAtAreHeldRows) (e : List EventValue) (x : EventValue) (k l : Kept) (stood : StandsFor sha256 reading e k) (books : AreBooks sha256 reading (e ++ x ∷ []) l)
     (more : List MRow) (begins : l.listed ≡ k.listed ++ more) (keeps : (r : ℕ) (body : List ℕ) → k.bodies r ≡ Some body → l.bodies r ≡ Some body)
     (rows : List ℕ) (held : AreHeld l.bodies rows) (bodies : ℕ → Option (List ℕ)) (same : (r : ℕ) → bodies r ≡ l.bodies r)
@@ -161,7 +162,8 @@ module _ (law : LatestChainsAtAreHeldRows) (e : List EventValue) (x : EventValue
   new_deposits : plan.deposits.items ≡ deposits_of reading l.bodies (drop front after)
   new_deposits = planned.deposits ∙ same_deposits bodies l.bodies same (rows_in (drop front plan.new.items)) ∙ ap (deposits_of reading l.bodies) (sym (drop-map (λ (s : Step). s.row) front plan.new.items))
 
-  -- the deposits of the old chain up to the common front, and the plan's, are those of the new chain
+  -- the deposits of the old chain up to the common front, and the plan's, are those of the new
+  -- chain
   deposits_are : take front (deposits_of reading k.bodies k.steps) ++ plan.deposits.items ≡ deposits_of reading l.bodies after
   deposits_are =
       let fronts : front ≡ common_front (map (step_at l.listed) k.steps) (map (step_at l.listed) after) = ap₂ common_front (planned.old ∙ same_steps) latest.are_steps in

@@ -24,7 +24,8 @@ module _ (digest : List ℕ → List ℕ) (reads : List ℕ → Result DepositVa
   pub any_kept : (l : List Coming) (c : Coming) → list_any (alike digest reads c) l ≡ list_any (is_alike c.number (digest c.body)) (receipts_after digest reads [] (distinct digest reads l))
   any_kept l c = any_alike digest reads l c ∙ sym (kept_any digest reads [] (distinct digest reads l) c)
 
-  -- what came for a row or with a digest by some events did so by others, where the same rows are listed and no distinct arrival is gone
+  -- what came for a row or with a digest by some events did so by others, where the same rows are
+  -- listed and no distinct arrival is gone
   module _ (e f : List EventValue) (rows : union f ≡ union e) (stay : (c : Coming) → Among (distinct digest reads (comings e)) c → Among (distinct digest reads (comings f)) c) where
     pub came_by : (r : ℕ) (body : List ℕ) → CameFor digest reads e r body → CameFor digest reads f r body
     came_by r body c = record {
@@ -186,7 +187,8 @@ module _ (digest : List ℕ → List ℕ) (reads : List ℕ → Result DepositVa
       here : Among after came
       here = subst (λ (l : List Coming). Among l came) (sym one_more) (among-last before came)
 
-      -- the books with its receipt, where bodies and parked bodies are so then: each was there before, or is this arrival's
+      -- the books with its receipt, where bodies and parked bodies are so then: each was there
+      -- before, or is this arrival's
       pub books_with : (receipt : ReceiptValue) → receipt ≡ receipt_for digest reads before came → (bodies : ℕ → Option (List ℕ)) (parked : List ℕ → Option (List ℕ))
           → (IsApart digest reads then → (r : ℕ) → bodies r ≡ held_body digest reads then r)
           → (IsApart digest reads then → (d : List ℕ) → parked d ≡ parked_body digest reads then d)

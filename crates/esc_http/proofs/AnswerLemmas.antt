@@ -1,4 +1,4 @@
--- What answers a request, from its parts.
+-- The response to a request, from its parts.
 use Rattle.std.proofs.Common.{◌≡◌, ℕ, ◌≤◌, ◌<◌, List, ◌++◌, length, take, drop, true, false, nat_le, refl, sym, ◌∙◌, ap, subst, inl, inr, Option, Some, None, IfSome, arith}
 use Rattle.std.proofs.lemmas.Bool.Decides.{nat_tests}
 use Rattle.std.specs.Io.KnownBytes.{Consumes, prepend_known}
@@ -20,12 +20,12 @@ use Rattle.esc_request.specs.Response.{out_of_memory}
 use Rattle.esc_http.specs.Response.{fault_response}
 use Rattle.esc_http.specs.Answering.{Request, refused, arrives, wants, with_body, Asks, IsAnswered, IsOrMemory, TellsFault, LosesArrival, text_or_memory}
 
--- the text that was made, or that of want of memory
+-- the text that was made, or the out-of-memory response
 pub text_is : {A : Type 0} (view : A → List ℕ) (expected : List ℕ) (o : Option A) → IfSome o (λ text. view text ≡ expected) → IsOrMemory expected (text_or_memory view o)
 text_is view expected None is = inr refl
 text_is view expected (Some text) is = inl is
 
--- why no report was made, or want of memory
+-- why no report was made, or out of memory
 pub fault_told : {A : Type 0} (view : A → List ℕ) (fault : SFault) (o : Option A) → IsS1OrS2 fault → IfSome o (λ text. view text ≡ fault_response fault) → TellsFault (text_or_memory view o)
 fault_told view fault None cause is = record { fault = S2; cause = inr refl; told = refl }
 fault_told view fault (Some text) cause is = record { fault = fault; cause = cause; told = is }
@@ -79,14 +79,14 @@ pub some_request : (o : Option (List ℕ)) (plan : Plan) → (request : Request)
 some_request None plan = (refused BadRequest, tt)
 some_request (Some rest) plan = (with_body plan rest, refl)
 
--- why an arrival was lost, or want of memory
+-- why an arrival was lost, or out of memory
 pub loss_told : {S A : Type 0} (g : Ghosts S) (old new : Desk S) (a : ArrivalValue) (view : A → List ℕ) (fault : SFault) (o : Option A) → ServesStill g old new → IsS1OrS2OrS4OrS5 fault → After g old new (λ e. IsCause e a fault)
     → IfSome o (λ text. view text ≡ fault_response fault) → LosesArrival g old new a (text_or_memory view o)
 loss_told g old new a view fault None kept one cause is = record { kept = kept; fault = S2; is_one = inr (inr (inr refl)); cause = λ clean e serves. tt; told = refl }
 loss_told g old new a view fault (Some text) kept one cause is = record { kept = kept; fault = fault; is_one = one; cause = cause; told = is }
 
 module _ {S : Type 0} (g : Ghosts S) (desk : Desk S) where
-  -- want of memory answers each request
+  -- the out-of-memory response is one to any request
   pub memory_answers : (request : Request) → IsAnswered g desk desk request out_of_memory
   memory_answers (refused refusal) = (refl, inr refl)
   memory_answers (arrives a) = inr (record { kept = λ e serves. serves; fault = S2; is_one = inr (inr (inr refl)); cause = λ clean e serves. tt; told = refl })

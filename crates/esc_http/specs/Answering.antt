@@ -1,4 +1,4 @@
--- Which request an input makes, and what answers it.
+-- Which request an input makes, and what the response to it is.
 use Rattle.std.specs.Prelude.{
   ◌≡◌,
   ◌⊎◌,
@@ -58,7 +58,7 @@ Asks input request =
 
 -- ---- answers
 
--- this text, or that of want of memory
+-- this text, or the out-of-memory response
 abbrev pub IsOrMemory : List ℕ → List ℕ → Type 0
 IsOrMemory expected text = (text ≡ expected) ⊎ (text ≡ out_of_memory)
 
@@ -69,7 +69,7 @@ pub record TellsFault (text : List ℕ) : Type 0 where
   pub told : text ≡ fault_response fault
 
 module _ {S : Type 0} (g : Ghosts S) (old new : Desk S) where
-  -- the arrival was taken: the desk serves the events before and this one, and the text tells its
+  -- the arrival was taken: the desk serves the events before and this one, and the text gives its
   -- reply; it is like an earlier one, or there was room for one more receipt, and a place to park
   -- its body if it was to be parked
   pub record TakesArrival (a : ArrivalValue) (e : List EventValue) (text : List ℕ) : Type 0 where
@@ -82,7 +82,7 @@ module _ {S : Type 0} (g : Ghosts S) (old new : Desk S) where
   abbrev pub IsTaken : ArrivalValue → List ℕ → Type 0
   IsTaken a text = After g old new (λ e. TakesArrival a e text)
 
-  -- the arrival was lost: the desk serves what it served, and the text tells why. That is S4 only
+  -- the arrival was lost: the desk serves what it served, and the text says why. That is S4 only
   -- where the arrival is like none before it and there is no room for its receipt, and S5 only
   -- where there is no room for its body
   pub record LosesArrival (a : ArrivalValue) (text : List ℕ) : Type 0 where
@@ -98,15 +98,15 @@ module _ {S : Type 0} (g : Ghosts S) (old new : Desk S) where
     pub is : Over g old new (λ e. IsReport e report body)
     pub told : IsOrMemory (report_response report body) text
 
-  -- the text answers the request, and the desk serves what it served, with the arrival that was
-  -- taken
+  -- the text is the response to the request, and the desk serves what it served, with the arrival
+  -- that was taken
   abbrev pub IsAnswered : Request → List ℕ → Type 0
   IsAnswered (refused refusal) text = (new ≡ old) × IsOrMemory (refusal_response refusal) text
   IsAnswered (arrives a) text = IsTaken a text ⊎ LosesArrival a text
   IsAnswered (wants report) text = ((new ≡ old) ⊎ Stays g old new)
       × (TellsReport report text ⊎ TellsFault text)
 
--- the text of an answer, where there is none for want of memory
+-- the text of a response; where there is none, memory was refused
 abbrev pub text_or_memory : {A : Type 0} → (A → List ℕ) → Option A → List ℕ
 text_or_memory view None = out_of_memory
 text_or_memory view (Some text) = view text

@@ -1,4 +1,4 @@
--- The texts of reports, of a desk that stands for a list of events.
+-- The texts of the reports of a desk that serves a list of events.
 use Rattle.std.specs.Prelude.{◌≡◌, ◌↔◌, ℕ, List, [], Option, Some, None}
 use Rattle.std.specs.FinSet as set
 use Rattle.std.specs.List.{Contains}
@@ -88,7 +88,7 @@ module _ (e : List EventValue) where
     pub are_parked : AreParkedBodies (parked_body sha256 reading e) bodies
     pub is : text ≡ parked_text bodies
 
-  -- the text of a report; what it tells of bodies is so where no two different ones have the same
+  -- the text of a report; what it says of bodies holds if no two different ones have the same
   -- digest
   abbrev pub IsReport : Report → List ℕ → Type 0
   IsReport Status text = IsStatusText text

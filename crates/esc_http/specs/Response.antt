@@ -1,4 +1,4 @@
--- The responses that tell what the desk answers (this project's profile).
+-- The responses with a reply or a refusal of the desk (this project's profile).
 use Rattle.std.specs.Prelude.{ℕ, List, [], codes}
 use Rattle.esc_store.specs.declared.fault.SFault.{SFault}
 use Rattle.esc_store.specs.declared.fault.SFault.TheVariants.{S1, S2, S3, S4, S5}
@@ -8,7 +8,7 @@ use Rattle.esc_store.specs.ReplyValue.{ReplyValue}
 use Rattle.esc_request.specs.Response.{response, unavailable}
 use Rattle.esc_texts.specs.ReplyText.{reply_text}
 
--- the store refuses; S3 is no answer of an open store
+-- the store refuses; an open store never refuses by S3
 abbrev pub fault_response : SFault → List ℕ
 fault_response S1 = unavailable (codes "S1\n")
 fault_response S2 = unavailable (codes "S2\n")

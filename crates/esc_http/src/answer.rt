@@ -1,4 +1,4 @@
-//! What answers a request. Each answer is the text of the response, or `None` for want of memory.
+//! The response to a request. Each function here returns its text, or `None` if memory was refused.
 
 ghost use Rattle.std.specs.Prelude.{◌≡◌, ◌≤◌, length, take, drop, IfOk, IfSome, IsTrue, OnErr};
 ghost use Rattle.std.specs.Io.KnownBytes.{prepend_known};
@@ -33,7 +33,7 @@ use matchit::Router;
 use sqlite::Alter;
 use std::alloc::Global;
 
-/// Reads a request and answers it. Nothing is read that the answer doesn't need.
+/// Reads a request, and returns its response. Nothing is read that the response doesn't need.
 pub(crate) fn answer_input<S: Alter, R: Source>(
     alloc: Global,
     desk: &mut Desk<S>,

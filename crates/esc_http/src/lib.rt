@@ -1,8 +1,8 @@
 //! One HTTP request over a reader and a writer, and the texts of a desk's reports.
 //!
-//! [`serve_one`] reads one HTTP/1.0 or 1.1 request, answers it from a desk (`esc_desk`) and writes
-//! the response. The bytes may come and go in any pieces. The tests come in this order, and the
-//! first that fails is answered:
+//! [`serve_one`] reads one HTTP/1.0 or 1.1 request, makes the response to it from a desk
+//! (`esc_desk`), and writes that. The bytes may come and go in any pieces. The tests come in this
+//! order, and the first that fails decides the response:
 //!
 //! | Test | Response |
 //! |---|---|
@@ -16,36 +16,36 @@
 //! | so many bytes follow the head; else it is no arrival | 400 |
 //! | the desk takes the arrival, or makes the report | 503 with `S1`, `S2` or, of an arrival, `S4` or `S5` |
 //!
-//! An arrival that was taken is answered with its reply as JSON, 200 where the deposit is held, 202
-//! where its body is parked, and 422 for another verdict; a report with 200 and its text. Want of
-//! memory is 503 with `S2`, whatever would be answered else.
+//! The response to an arrival that was taken is its reply as JSON, with 200 if the deposit is held,
+//! 202 if its body is parked, and 422 for another verdict; that to a report is 200 and its text.
+//! Out of memory, it is 503 with `S2`, whatever it would have been.
 //!
-//! What needs no desk stands below: the head, the route, the body and the bytes of a response in
-//! `esc_request`, the texts that replies, gaps and findings are told in in `esc_texts`.
+//! What needs no desk is in crates below: the head, the route, the body and the bytes of a response
+//! in `esc_request`, the texts of replies, gaps and findings in `esc_texts`.
 //!
 //! [`report`] gives the text of a report, which the program prints too; [`receipts_heading`] and
 //! [`receipt_line`] are the pieces of the receipts report, [`end_line`] is one of the status.
 //!
 //! # What is promised
 //!
-//! `specs/Answering.antt` says what request the bytes of an input make (`Asks`), and what answers a
-//! request (`IsAnswered`): the text of the response, from the first byte to the last, and what the
-//! desk's store stands for then. It is the list of arrivals that it stood for before, followed by
-//! the arrival where one was taken. Where the response did not go out whole (`ServeFault::Write`),
-//! a beginning of that text was written; where a read failed (`ServeFault::Read`) nothing was
-//! written and the desk is as it was. A clause on what the store stands for has the premise that
-//! the store was honest, as in `esc_desk`.
+//! `specs/Answering.antt` says what request the bytes of an input make (`Asks`), and what the
+//! response to a request is (`IsAnswered`): its text, from the first byte to the last, and what the
+//! desk's store stands for then. That is the list of events that it stood for before, followed by
+//! the arrival if one was taken. Where the response did not go out whole (`ServeFault::Write`), a
+//! beginning of that text was written; where a read failed (`ServeFault::Read`) nothing was written
+//! and the desk is as it was. A clause on what the store stands for has the premise that the store
+//! was honest, as in `esc_desk`.
 //!
-//! The contract of [`serve_one`] speaks of readers and writers of std, which tell their bytes and
-//! no failures. [`serve`] has the same body over a [`Source`] and a [`Sink`], which tell failures
-//! too: there `Read` and `Write` are answered only where a call has failed, and `Ok` only once the
-//! response was flushed.
+//! The contract of [`serve_one`] speaks of readers and writers of std, whose contracts give their
+//! bytes, but not whether a call failed. [`serve`] has the same body over a [`Source`] and a
+//! [`Sink`], which report failures too: it returns `Read` and `Write` only if a call has failed,
+//! and `Ok` only once the response was flushed.
 //!
 //! # Cost
 //!
-//! A body is read into one buffer of its length. Nothing is read that the answer doesn't need, and
-//! a response begins only when it is whole in memory, so a fault of the store is never found in the
-//! middle of one. The reports of links and of a kind's objects walk the desk's objects one at a
+//! A body is read into one buffer of its length. Nothing is read that the response doesn't need,
+//! and a response begins only when it is whole in memory, so a fault of the store is never found in
+//! the middle of one. The reports of links and of a kind's objects walk the desk's objects one at a
 //! time, and hold no map of them.
 #![tactic(auto)]
 

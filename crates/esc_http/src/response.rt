@@ -1,4 +1,5 @@
-//! The responses that tell what the desk answers. Each function answers `None` for want of memory.
+//! The responses with a reply or a refusal of the desk. Each function returns `None` if memory was
+//! refused.
 
 ghost use Rattle.std.specs.Prelude.{◌≡◌, IfSome};
 ghost use Rattle.esc_http.specs.Response.{fault_response, reply_status, reply_response};
@@ -21,7 +22,7 @@ pub(crate) fn fault_response(alloc: Global, fault: SFault) -> Option<Vec<u8>>
     response(alloc, "503 Service Unavailable", "text/plain", "", words)
 }
 
-/// The response to an arrival that was answered.
+/// The response to an arrival that has a reply.
 pub(crate) fn reply_response(alloc: Global, reply: &Reply) -> Option<Vec<u8>>
     ensures { IfSome result (λ text. text.items ≡ reply_response reply.now) }
 {

@@ -43,10 +43,10 @@ impl From<WriteFailed> for ServeFault {
     }
 }
 
-/// Reads one request, answers it, and writes the response.
+/// Reads one request, and writes the response to it.
 ///
-/// Whatever is read, the response answers some request; where the reader tells its bytes, it is the
-/// request that they make. At `Ok` the response was handed on (flushed).
+/// Whatever is read, the response is that to some request; if the reader reports its bytes, it is
+/// the request that they make. At `Ok` the response was handed on (flushed).
 pub fn serve<S: Alter, R: Source, W: Sink>(
     alloc: Global,
     desk: &mut Desk<S>,
@@ -79,7 +79,7 @@ pub fn serve<S: Alter, R: Source, W: Sink>(
     Ok(())
 }
 
-/// Reads one request, answers it, and writes the response, over a reader and a writer of std.
+/// Reads one request, and writes the response to it, over a reader and a writer of std.
 pub fn serve_one<S: Alter, R: Read, W: Write>(
     alloc: Global,
     desk: &mut Desk<S>,
@@ -107,7 +107,7 @@ pub fn serve_one<S: Alter, R: Read, W: Write>(
     serve(alloc, desk, reader, writer)
 }
 
-// Writes an answer: want of memory has a text that takes none.
+// Sends the response, or the preallocated out-of-memory response.
 fn send_answer<W: Sink>(sink: &mut W, text: &Option<Vec<u8>>) -> Result<(), WriteFailed>
     ensures ok { OnOk result (Appends (W.contents sink.old) (W.contents sink.new)
         (text_or_memory (λ text. text.items) text.now)) }

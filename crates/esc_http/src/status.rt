@@ -57,7 +57,7 @@ fn number_line(alloc: Global, name: &str, number: u64) -> Result<String, NoMemor
     Ok(format!(in alloc; "{name} {number}\n")?)
 }
 
-/// The line of the status report that tells where a chain ends. `S1` where that is at a moment that
+/// The line of the status report that says where a chain ends. `S1` where that is at a moment that
 /// has no text, as none of a manifest is.
 pub fn end_line(alloc: Global, end: Option<(Place, u32)>) -> Result<String, SFault>
     ensures line { IfOk result (λ line. string_bytes line ≡ end_line end) }

@@ -91,8 +91,8 @@ pub fn open_desk_at<S: Start>(
     }
 }
 
-/// The desk over the files of another, which is closed first: what still stands in the log is
-/// copied into the database. It serves what the other served. `S1`, `S2`.
+/// The desk over the files of another, which is closed first: what is still in the log is copied
+/// into the database. It serves what the other served. `S1`, `S2`.
 pub fn reopen_desk<D: Disk + Drop>(
     alloc: Global,
     desk: Desk<FileStore<D>>,

@@ -10,11 +10,11 @@
 //!   does so from a path, and [`desk_of_files`] from the two files.
 //! - [`files_of`] gives the files of a desk back as they are, as a crash would find them: nothing
 //!   is written.
-//! - [`reopen_desk`] closes a desk, which copies what still stands in the log into the database,
-//!   and opens it again.
+//! - [`reopen_desk`] closes a desk, which copies what is still in the log into the database, and
+//!   opens it again.
 //!
 //! What goes in are connections, paths or files (`sqlite`) and manifests; what comes out are desks
-//! ([`Desk`](esc_desk::Desk)). Where the database fails, or is no store, the answer is the
+//! ([`Desk`](esc_desk::Desk)). Where the database fails, or is no store, the result is the
 //! `SFault`.
 //!
 //! # Example
@@ -35,12 +35,12 @@
 //!
 //! # What is promised
 //!
-//! An event that was refused by `S1` or `S2` is *in doubt*: a crash may leave it taken in. None is
-//! in doubt once another changed a table, in a new store, and in one that was just opened.
-//! `CrashLeaves` (`crates/esc_desk/specs/Crashes.antt`) says that whatever a crash leaves is a store
-//! of the events so far (those that were taken in), or of them and one of those in doubt; the
-//! contracts of `Desk::run_events`, `Desk::arrive`, `Desk::amend` and `Desk::as_of` carry it from
-//! call to call, and those here carry it on:
+//! An event that was refused by `S1` or `S2` is *in doubt*: a crash may leave it taken in. No event
+//! is in doubt in a new store or in one that was just opened, nor after a later event that changed
+//! a table. `CrashLeaves` (`crates/esc_desk/specs/Crashes.antt`) says that any database that a
+//! crash may leave is a store of the events so far (those that were taken in), or of them and one
+//! of those in doubt; the contracts of `Desk::run_events`, `Desk::arrive`, `Desk::amend` and
+//! `Desk::as_of` carry it from call to call, and those here carry it on:
 //!
 //! 1. `new_desk` begins it: the manifest alone, none in doubt. A crash while the store is made
 //!    leaves a database without tables, or the new store.
@@ -50,13 +50,13 @@
 //!    events so far, or them and one of those in doubt (`ServesOneOf`), and none is in doubt any
 //!    more. `reopen_desk`: the desk serves what it served before.
 //!
-//! From there on `Desk::arrive` promises that an arrival alike an earlier one has the first one's
+//! From there on `Desk::arrive` promises that a duplicate of an earlier arrival has the first one's
 //! reply. So an arrival that was answered before the crash has the same reply after it, and one in
 //! doubt is sent again and gets a receipt, once.
 //!
 //! Each of these clauses has the premise that the disk gave back what was written to it, and what a
 //! crash may leave of two files is `sqlite`'s promise over its disk. That an open succeeds is not
-//! promised: memory or the disk may be refused. `Store::open` never answers `S3` on a store.
+//! promised: memory or the disk may be refused. `Store::open` never returns `S3` on a store.
 #![tactic(auto)]
 
 mod files;

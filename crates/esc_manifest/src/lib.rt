@@ -1,5 +1,4 @@
-//! The release manifest: which deposits a registry's operator released, and what their bundles'
-//! bytes hash to.
+//! The release manifest: which deposits an escrow agent released, and the SHA-256 of each bundle.
 //!
 //! # In and out
 //!
@@ -7,9 +6,9 @@
 //! `id,type,watermark,prevId,resend,sha256`; each further record is one row, a deposit that was
 //! released at its place (its watermark and type) with a number of resends, under the SHA-256 of
 //! its bundle. It gives a `Manifest`, a list of typed rows in the order of the text, or an
-//! `MFault`. `from_rows` gives the `Manifest` of rows that are there already, as a store keeps
-//! them. `Manifest::extend` gives the `Manifest` of one manifest's rows and the rows of another one
-//! that it doesn't list yet, where an operator releases the manifest in parts.
+//! `MFault`. `from_rows` gives the `Manifest` of typed rows, as a store keeps them.
+//! `Manifest::extend` gives the union of two manifests: the rows of the first and those of the
+//! second that the first doesn't list yet. It is for a manifest that is released in parts.
 //!
 //! ```text
 //! let manifest = read_manifest(alloc, bytes)?;

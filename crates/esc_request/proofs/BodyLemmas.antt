@@ -5,7 +5,8 @@ use Rattle.std.proofs.lemmas.List.{length-take-le, length-take, length-append, t
 use Rattle.std.proofs.lemmas.Bool.{cases_lt}
 use Rattle.std.proofs.Math.Seq.{take-append_seam, take-length}
 
--- the first bytes of an input don't depend on how much of its front was kept, as long as it is enough
+-- the first bytes of an input don't depend on how much of its front was kept, as long as it is
+-- enough
 same_front : (front rest : List ℕ) (here size : ℕ) → here ≡ min (length front) size → take size (take here front ++ rest) ≡ take size (front ++ rest)
 same_front front rest here size is = elim (cases_lt size (length front)) [
   | inl less ↦ enough (omega arith) (omega arith)

@@ -45,7 +45,7 @@ module _ {K : Type 0} where
   nowhere (suc skip) (b ∷ path) = nowhere skip path
   nowhere zero (b ∷ path) = simp (nowhere 0 path, param_of_none (b ∷ path), nowhere (((param_step {K = K} [] (b ∷ path)).0) - 1) path)
 
-  -- rows none of which goes on with a parameter go on with the path's byte
+  -- if no row goes on with a parameter, the rows go on with the path's byte
   by_byte : (rs : RowsOf K) (b : ℕ) (path : List ℕ) → step param_token rs ≡ [] → step catch_all_token rs ≡ [] → first rs (b ∷ path) ≡ first (step b rs) path
   unfolding seek
   by_byte rs b path no_param no_rest =

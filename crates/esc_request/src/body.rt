@@ -17,7 +17,8 @@ pub enum Body {
     NoMemory,
 }
 
-/// Reads a body of this length, of which these bytes, or their front, were read before.
+/// Reads a body of this length. `front` has the bytes after the head that were read with it: the
+/// body begins with them, and those past its length are ignored.
 pub fn read_body<R: Source>(
     alloc: Global,
     source: &mut R,

@@ -1,4 +1,4 @@
-//! What a request says, and the bytes that are sent for it, before any desk.
+//! The parts of an HTTP request, and the bytes of a response. No desk is needed.
 //!
 //! The pieces of one HTTP/1.0 or 1.1 exchange (RFC 9112, within this project's profile), each over
 //! bytes alone:
@@ -28,7 +28,7 @@
 //!
 //! # Cost
 //!
-//! Nothing is read past the head and the body but what came with them in one piece. The head lies
+//! Nothing is read past the head and the body, except what came with them in one piece. The head is
 //! in a buffer of the caller's; a body is read into one buffer of its length.
 #![tactic(auto)]
 

@@ -60,7 +60,7 @@ pub fn route_of<'p>(router: &Router<Target>, path: &'p str) -> Option<Route<'p>>
     }
 }
 
-// Where a path leads of which the router knows the target.
+// Where a path leads, by the target that the router has for it.
 fn way_to<'p>(target: Target, path: &'p str) -> Option<Route<'p>>
     ensures { option_map route_seen result ≡ way_to target path.now }
 {

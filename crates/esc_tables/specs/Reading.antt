@@ -103,7 +103,7 @@ deposit_in files e = do
   right ← check_rows (rows_in files (tables_of e))
   Ok (deposit_of files e)
 
--- the deposit that sections are, the first of which is the envelope; no bundle has no section
+-- the deposit that sections make, where the first one is the envelope; each bundle has a section
 unfoldable pub sections_deposit : List Named → Result DepositValue ℕ
 sections_deposit [] = Err 5
 sections_deposit (first ∷ files) = envelope_of first.bytes >>= deposit_in files

@@ -1,4 +1,4 @@
-//! Which section is the file of which table.
+//! The section that is the file of a table.
 
 ghost use Rattle.std.specs.Prelude.{◌≡◌, ◌++◌, count_by, option_map};
 ghost use Rattle.std.specs.List.{list_all, list_any, find};

@@ -11,7 +11,7 @@ abbrev pub heading : Line
 heading = codes "receipt" ∷ codes "number" ∷ codes "verdict" ∷ codes "fault" ∷ codes "id"
     ∷ codes "resend" ∷ codes "copy" ∷ codes "orphans" ∷ []
 
--- what isn't told is empty
+-- a value that isn't there is empty
 abbrev pub or_empty : Option (List ℕ) → List ℕ
 or_empty text = unwrap_or text []
 

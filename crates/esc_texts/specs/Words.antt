@@ -1,4 +1,4 @@
--- The words that replies and places are told in (this project's profile).
+-- The words of replies and places (this project's profile).
 use Rattle.std.specs.Prelude.{ℕ, ℤ, Bool, true, false, List, [], ◌++◌, codes, Option, Some, None}
 use Rattle.std.specs.Fmt.{decimal}
 use Rattle.std.specs.Option.{unwrap_or}

@@ -1,4 +1,4 @@
-//! The texts that replies, gaps and findings are told in.
+//! The texts of replies, gaps, findings and parked bodies.
 //!
 //! | Call | Text |
 //! |---|---|
@@ -9,15 +9,15 @@
 //! | [`links_text`] | the report of links: a heading, and a line for each finding |
 //! | [`parked_text`] | the report of parked bodies: a heading, and a line for each |
 //!
-//! The reports are CSV, as `csv` writes it, and what isn't told is empty there. No desk is needed:
-//! each takes the values, and `esc_http` asks a desk for them.
+//! The reports are CSV, as `csv` writes it, and a value that isn't there is empty. No desk is
+//! needed: each takes the values, and `esc_http` asks a desk for them.
 //!
 //! # What is promised
 //!
 //! Each text is exactly the one that its definition gives (`specs/ReplyText.antt`,
 //! `ReceiptsText.antt`, `GapsText.antt`, `LinksText.antt`, `ParkedText.antt`, with the words of
-//! `Words.antt`), or there is want of memory. [`gaps_text`] may answer `S1` also, for a place whose moment has no
-//! text; a manifest has none.
+//! `Words.antt`), or memory was refused (`NoMemory`, or `S2` of [`gaps_text`]). [`gaps_text`]
+//! returns `S1` for a place whose watermark has no text; no manifest has such a place.
 #![tactic(auto)]
 
 mod gaps;

@@ -20,7 +20,7 @@ use esc_store::{Reply, Verdict};
 use serde_json::{Map, Value, json, put};
 use std::alloc::{AllocError, Global};
 
-/// The JSON text of a reply: an object of eight members, where null is what isn't told.
+/// The JSON text of a reply: an object of eight members, where a value that isn't there is null.
 pub fn reply_text(alloc: Global, reply: &Reply) -> Result<String, NoMemory>
     ensures { IfOk result (λ text. string_bytes text ≡ reply_text reply.now) }
 {

@@ -1,4 +1,4 @@
-//! The words that replies are told in, as JSON and as CSV.
+//! The words of replies, in JSON and in CSV.
 
 ghost use Rattle.std.specs.Prelude.{◌≡◌, IfOk, string_bytes, option_map};
 ghost use Rattle.std.specs.Fmt.{decimal};

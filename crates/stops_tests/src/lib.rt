@@ -1,7 +1,7 @@
 //! Tests of what a stop leaves of a desk (`esc_desk`, `esc_kept`): one at each call of a file, and
 //! the store opened again.
 //!
-//! They stand in a crate of their own, since a crate with tests is proved twice, with them and
+//! They are in a crate of their own, since a crate with tests is proved twice, with them and
 //! without.
 #![tactic(auto)]
 

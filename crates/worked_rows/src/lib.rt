@@ -1,5 +1,5 @@
-//! The worked rows of a desk: bodies, which of them arrive in which order, and what is to be seen
-//! of the desk then. For the crates that test a desk.
+//! The worked rows of a desk: bodies, the order in which they arrive, and what the desk has to show
+//! then. For the crates that test a desk.
 //!
 //! | Module | What it does |
 //! |---|---|
@@ -9,9 +9,9 @@
 //! | `seen` | what is seen of a desk, and what a row says of it |
 //! | `shown` | replies, objects and numbers as texts |
 //!
-//! What is seen of a desk is told in texts, and a test compares texts. The functions that call a
-//! desk have no clause: so the proof of one that calls them does not carry what each call says of
-//! the store. They are proved here once, for all crates that test with them.
+//! What is seen of a desk is put into texts, and a test compares texts. The functions that call a
+//! desk have no clause, so that the proof of a function that calls them need not carry what each
+//! call says of the store. They are proved here once, for all crates that test with them.
 //!
 //! # Example
 //!

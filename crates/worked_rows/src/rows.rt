@@ -5,7 +5,7 @@ use Body::{
     Abc, Both, Cut, D2, D2Resent, D3, D3Unlisted, D6, Empty, F1, F2, F5, I4, Long, Orphan, Unequal,
 };
 
-/// An arrival, and what it is answered.
+/// An arrival, and the answer to it.
 #[derive(Clone, Copy)]
 pub struct Taken {
     pub number: &'static str,
@@ -54,7 +54,7 @@ const DOMAIN_E: &str =
 
 const DOMAIN_F: &str = "domain f.example: domain name=f.example clID=R1 registrant=C9";
 
-/// What stood at a.example before step 3: f1's domain as a record, which is its rows, and of each
+/// The before-image of a.example at step 3: f1's domain as a record, which is its rows, and of each
 /// its table, cells, fields and texts, with their numbers and lengths.
 pub const IMAGE_OF_A: &str =
     "3 3 a.example \0\0\0\x01\0\0\0\x06domain\0\0\0\x03\0\0\0\x04name\0\0\0\x09a.example\0\0\0\x04clID\0\0\0\x02R1\0\0\0\x0aregistrant\0\0\0\x02C1";
@@ -147,7 +147,7 @@ pub const RESENT: Row = Row {
     tables: &[R1, C1, DOMAIN_B, DOMAIN_C],
 };
 
-/// A chain whose last deposit tells how many objects there are.
+/// A chain whose last deposit declares how many objects there are.
 pub const COUNTED: Row = Row {
     name: "a Full with its Differential",
     listed: B,

@@ -7,9 +7,9 @@
 //! what a desk has that nothing happened to.
 //!
 //! The manifest lists F1, D3 and D2 at resend 1. D2, `abc` and an empty body are parked. The
-//! amendment lists D2, which is held from then on, and `abc`, of which no deposit reads, so that it
-//! is dropped; the empty body stays parked. A moment between D2 and D3 takes D3's step back, and D2
-//! at resend 1 comes under it.
+//! amendment lists D2, which is held from then on, and `abc`, from which no deposit reads, so that
+//! it is dropped; the empty body stays parked. A moment between D2 and D3 takes D3's step back, and
+//! D2 at resend 1 comes under it.
 
 use super::assert_text;
 use super::files::{Cut, Stop, begin, connect, crashed, cut_files, find_or_make, left_of, written};
@@ -53,12 +53,12 @@ struct State {
     tables: &'static [&'static str],
 }
 
-/// An event, what it is answered, and what the desk has then.
+/// An event, the answer to it, and what the desk has then.
 #[derive(Clone, Copy)]
 struct Step {
     sent: Sent,
     answer: &'static str,
-    /// What it is answered where it was taken in before.
+    /// The answer if it was taken in before.
     again: &'static str,
     after: State,
 }
@@ -97,7 +97,7 @@ const BEGINNING: State = State {
     tables: &[],
 };
 
-/// The chain in the end, and what stood before each of its steps: step, kind, key and record.
+/// The chain in the end, and the before-images of each of its steps: step, kind, key and record.
 const CHAIN: [&str; 7] = [
     "step 0 2024-03-03T00:00:00Z FULL 0",
     "step 2 2024-03-04T00:00:00Z DIFF 1",
@@ -242,7 +242,7 @@ fn event<'a>(sent: Sent, text: &'a [u8]) -> Result<Event<'a>, Fail> {
     }
 }
 
-// The events but for so many.
+// The events, without the first `from`.
 fn events_from<'a>(alloc: Global, list: &'a List, from: usize) -> Result<Vec<Event<'a>>, Fail> {
     let mut events = Vec::new(alloc);
     for (step, text) in STEPS.iter().zip(&list.texts).skip(from) {
@@ -251,7 +251,8 @@ fn events_from<'a>(alloc: Global, list: &'a List, from: usize) -> Result<Vec<Eve
     Ok(events)
 }
 
-// Tells the answer to an event. Whether there is one: a file that fails refuses it by `S1` alone.
+// Notes the answer to an event, and returns whether there is one: a file that fails refuses it by
+// `S1` alone.
 fn tell_outcome(text: &mut String, outcome: &EventOutcome) -> Result<bool, Fail> {
     match outcome {
         EventOutcome::Arrived(Outcome::Done(reply)) => tell_reply(text, reply)?,
@@ -268,7 +269,7 @@ fn tell_outcome(text: &mut String, outcome: &EventOutcome) -> Result<bool, Fail>
     Ok(true)
 }
 
-// Tells the answers up to the first event that has none. Whether each has one.
+// Notes the answers up to the first event that has none, and returns whether each has one.
 fn tell_outcomes(text: &mut String, outcomes: &[EventOutcome]) -> Result<bool, Fail> {
     for outcome in outcomes {
         if !tell_outcome(text, outcome)? {
@@ -408,7 +409,7 @@ fn tell_state(text: &mut String, state: &State) -> Result<(), Fail> {
     tell_lines(text, state.tables)
 }
 
-// The state after so many events.
+// The state after this number of events.
 fn state_after(count: usize) -> State {
     match STEPS.iter().take(count).last() {
         Some(step) => step.after,
@@ -416,7 +417,7 @@ fn state_after(count: usize) -> State {
     }
 }
 
-// Whether a desk is in the state after so many events.
+// Whether a desk is in the state after this number of events.
 fn is_after(alloc: Global, kept: &str, count: usize) -> Result<bool, Fail> {
     let mut text = String::new(alloc);
     tell_state(&mut text, &state_after(count))?;
@@ -431,7 +432,7 @@ fn said_last(alloc: Global) -> Result<String, Fail> {
     Ok(text)
 }
 
-// The answers to so many events.
+// The answers to this number of events.
 fn answers(alloc: Global, count: usize) -> Result<String, Fail> {
     let mut text = String::new(alloc);
     for step in STEPS.iter().take(count) {
@@ -440,7 +441,7 @@ fn answers(alloc: Global, count: usize) -> Result<String, Fail> {
     Ok(text)
 }
 
-// The answers to the events behind so many, where the first of them may have been taken in before.
+// The answers to the events from this one on; the first of them may have been taken in before.
 fn answers_from(alloc: Global, from: usize, is_taken: bool) -> Result<String, Fail> {
     let mut text = String::new(alloc);
     let mut is_again = is_taken;
@@ -467,7 +468,7 @@ struct Found {
     after: String,
 }
 
-// What a desk answers to the events behind so many, at once.
+// What a desk answers to the events from this one on, in one run.
 fn take_rest<S: Alter + Drop>(
     alloc: Global,
     desk: &mut Desk<S>,

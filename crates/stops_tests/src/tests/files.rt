@@ -1,4 +1,4 @@
-//! Two files in memory of which one stops, desks over them, and what a crash leaves.
+//! Two files in memory, one of which stops; desks over them; and what a crash leaves.
 
 use esc_desk::{Desk, SFault};
 use esc_kept::{files_of, new_desk, open_desk};
@@ -8,7 +8,7 @@ use sqlite_disk::{Crash, Disk, Fuse, Memory};
 use std::alloc::Global;
 use std::test::Fail;
 
-/// A file in memory that fails every call after so many.
+/// A file in memory that fails every call after a number of calls.
 pub(crate) type Cut = Fuse<Memory>;
 
 /// When a file stops.
@@ -125,7 +125,7 @@ pub(crate) fn crashed(mut files: Files<Cut>) -> Files<Cut> {
     files
 }
 
-/// Empty files, of which one stops.
+/// Empty files, one of which stops.
 pub(crate) fn cut_files(alloc: Global, stop: Stop) -> Files<Cut> {
     let (log_calls, db_calls) = if stop.of_the_log {
         (stop.calls, u64::MAX)

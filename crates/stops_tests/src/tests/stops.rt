@@ -23,7 +23,7 @@ use worked_rows::shown::{tell_lines, tell_reply};
 // More calls than a run makes.
 const MOST_CALLS: u64 = 400;
 
-// What stood before each step of the row's chain: step, kind, key and record.
+// The before-images of the row's chain: step, kind, key and record.
 const IMAGES: [&str; 6] = [
     "1 0 R1 none",
     "1 1 C1 none",
@@ -174,7 +174,7 @@ fn tell_first_replies(text: &mut String, row: &Row, count: usize) -> Result<(), 
     Ok(())
 }
 
-// Whether these are the receipts of a row's first arrivals, so many of them.
+// Whether these are the receipts of this number of a row's first arrivals.
 fn are_first(alloc: Global, kept: &str, row: &Row, count: usize) -> Result<bool, Fail> {
     let mut text = String::new(alloc);
     tell_first_replies(&mut text, row, count)?;
@@ -195,9 +195,9 @@ fn is_kept(alloc: Global, found: &Found, answered: Option<usize>, row: &Row) -> 
     }
 }
 
-// Stops after so many calls of one file, and opens what a crash leaves: all that was written, or
-// what was synced. Answers how many arrivals were answered, if a store was made, and what was found
-// of either.
+// Stops after a number of calls of one file, and opens what a crash leaves: all that was written,
+// or what was synced. Returns how many arrivals were answered, if a store was made, and what was
+// found of either.
 fn found_after(
     alloc: Global,
     files: Files<Cut>,
