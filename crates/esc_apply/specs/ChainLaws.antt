@@ -4,7 +4,7 @@ use Rattle.esc_tables.specs.KeyName.{KeyName}
 use Rattle.esc_apply.specs.Registry.{empty}
 use Rattle.esc_apply.specs.Images.{before_images, chain_state}
 
--- a registry without anything holds the chain of no deposits
+-- an empty registry is that of the chain without deposits
 pub empty-chain : empty ≡ chain_state []
 empty-chain = λ i. record { content = λ q. None; undo = λ j q. none j q i }
   where

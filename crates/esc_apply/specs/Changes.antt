@@ -6,19 +6,19 @@ use Rattle.esc_tables.specs.KeyName.{KeyName, key_eq}
 use Rattle.esc_tables.specs.ObjectValue.{ObjectValue}
 use Rattle.esc_apply.specs.Registry.{State, written, changed}
 
--- a key, and what shall be there
+-- a key, and the object to be put there, or none
 abbrev pub Change : Type 0
 Change = KeyName × Option ObjectValue
 
--- an object shall be at its key
+-- the change that puts an object at its key
 abbrev pub with_object : KeyName × ObjectValue → Change
 with_object e = (e.0, Some e.1)
 
--- nothing shall be at a key
+-- the change that leaves no object at a key
 abbrev pub without : KeyName → Change
 without k = (k, None)
 
--- each change is made, and what was there is noted for step j
+-- the state once each change is made, and what was there before is noted for step j
 abbrev pub changed_by : State → ℕ → List Change → State
 changed_by s j [] = s
 changed_by s j (e ∷ es) = changed_by (changed s j e.0 e.1) j es
@@ -28,7 +28,7 @@ pub record AreNew (s : State) (j : ℕ) (es : List Change) : Type 0 where
   pub once : IsDistinct key_eq (keys_of es)
   pub fresh : AllByRecursion (λ k. s.undo j k ≡ None) (keys_of es)
 
--- each change is made, and nothing is noted
+-- the state once each change is made, and nothing is noted
 abbrev pub written_by : State → List Change → State
 written_by s [] = s
 written_by s (e ∷ es) = written_by (written s e.0 e.1) es

@@ -6,7 +6,7 @@ use Rattle.esc_envelope.specs.declared.place.Place.{Place}
 use Rattle.esc_envelope.specs.Place.{rank}
 use Rattle.esc_apply.specs.declared.front.Step.{Step}
 
--- by what a step is compared: its place and its resend
+-- what steps are compared by: place and resend
 abbrev pub mark : Step → Place × ℕ
 mark s = (s.place, s.resend)
 
@@ -26,6 +26,6 @@ abbrev pub same_step : Step × Step → Bool
 same_step (a, b) = int_eq a.place.watermark b.place.watermark
     && (rank a.place.kind == rank b.place.kind) && (a.resend == b.resend)
 
--- that length, computed: how many pairs of steps at one index are the same from the front on
+-- that length, computed: how many pairs of steps, from the front on, are the same
 abbrev pub common_front : List Step → List Step → ℕ
 common_front old new = length (take_while same_step (zip old new))

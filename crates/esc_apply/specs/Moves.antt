@@ -24,12 +24,12 @@ use Rattle.esc_apply.specs.Front.{common_front}
 abbrev pub is_cleared : ℕ → ℕ → Bool
 is_cleared steps front = (front == 0) && nat_lt 0 steps
 
--- the deposits that are taken back one by one: those past the front, and none where all is cleared
+-- the deposits that are taken back one by one: those past the front, or none if all is cleared
 abbrev pub undone_of : List DepositValue → ℕ → List DepositValue
 undone_of c front = if is_cleared (length c) front then [] else drop front c
 
--- the work of going from n steps to the first `front` of them and to others, by these
--- writes
+-- the work of going from n steps, of which the first `front` stay, to a chain with other steps
+-- after those, by this number of writes
 abbrev pub work_of : ℕ → ℕ → ℕ → ℕ → Work
 work_of steps front applied writes = record {
   cleared = is_cleared steps front;
@@ -38,9 +38,9 @@ work_of steps front applied writes = record {
   writes = writes;
 }
 
--- the cost of going from the deposits c of the old steps to the new steps, of which these are the
--- deposits past the common front: one write for each key that a deposit mentions which is taken
--- back or applied
+-- the cost of going from the old steps, whose deposits are c, to the new steps, whose deposits past
+-- the common front are the last argument: one write for each key that a deposit mentions, of each
+-- deposit that is taken back or applied
 abbrev pub cost : List DepositValue → List Step → List Step → List DepositValue → Work
 cost c old new deposits =
     let front = common_front old new in

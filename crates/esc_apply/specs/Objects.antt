@@ -13,8 +13,8 @@ Entry = KeyName × ObjectValue
 abbrev pub InOrder : List Entry → Type 0
 InOrder es = IsStrictlySortedBy key_cmp (keys_of es)
 
--- of the entries that were to come the first was given, and the rest is to come; or none was to
--- come, and none is
+-- the first of the entries that were still to come was given, and the others still are; or there
+-- was none, and none was given
 abbrev pub Gives : (List Entry → Type 0) → List Entry → Option Entry → Type 0
 Gives Lists es (Some e) = (rest : List Entry) × (es ≡ e ∷ rest) × Lists rest
 Gives Lists es None = (es ≡ []) × Lists []

@@ -21,11 +21,11 @@ use Rattle.esc_tables.specs.ObjectValue.{ObjectValue}
 use Rattle.esc_tables.specs.DepositValue.{DepositValue}
 use Rattle.esc_apply.specs.Tables.{mentions, says}
 
--- of each key its object, or none
+-- for each key its object, or none
 abbrev pub Content : Type 0
 Content = KeyName → Option ObjectValue
 
--- of each key what was there before a step, if that was noted
+-- for each key what was there before a step, if that was noted
 abbrev pub Befores : Type 0
 Befores = KeyName → Option (Option ObjectValue)
 
@@ -50,41 +50,43 @@ with_key f k w q = if key_eq k q then w else f q
 abbrev pub with_step : (ℕ → Befores) → ℕ → Befores → ℕ → KeyName → Option (Option ObjectValue)
 with_step f j g i q = if j == i then g q else f i q
 
--- an object at a key, or none
+-- the state with an object, or none, written at a key
 abbrev pub written : State → KeyName → Option ObjectValue → State
 written s k w = record { content = with_key s.content k w; undo = s.undo }
 
--- what was at a key before step j
+-- the state with this noted as what was at a key before step j
 abbrev pub noted : State → ℕ → KeyName → Option ObjectValue → State
 noted s j k w = record {
   content = s.content;
   undo = with_step s.undo j (with_key (s.undo j) k (Some w));
 }
 
--- without what was noted for step j
+-- the state without what was noted for step j
 abbrev pub taken : State → ℕ → State
 taken s j = record { content = s.content; undo = with_step s.undo j nothing }
 
--- what is at a key is noted for step j, and then changed
+-- the state once what is at a key is noted for step j, and then changed
 abbrev pub changed : State → ℕ → KeyName → Option ObjectValue → State
 changed s j k w = written (noted s j k (s.content k)) k w
 
--- each key that a deposit mentions has what the deposit says, and what was there is noted for
--- step j
+-- the state once each key that a deposit mentions has what the deposit says of it, and what was
+-- there before is noted for step j
 abbrev pub stepped : State → ℕ → DepositValue → State
 stepped s j d = record {
   content = λ q. if mentions q d then says q d else s.content q;
   undo = with_step s.undo j (λ q. if mentions q d then Some (s.content q) else None);
 }
 
--- each key for which step j noted something has that again, and nothing is noted for the step
+-- the state once each key has again what was noted of it for step j, and nothing is noted for the
+-- step
 abbrev pub restored : State → ℕ → State
 restored s j = record {
   content = λ q. unwrap_or (s.undo j q) (s.content q);
   undo = with_step s.undo j nothing;
 }
 
--- these entries, each key once, are what a function has
+-- these entries, each key once, are the keys at which a function has something, with what it has
+-- there
 pub record IsEntriesOf {X : Type 0} (f : KeyName → Option X)
     (es : List (KeyName × X)) : Type 0 where
   pub once : IsDistinct key_eq (keys_of es)

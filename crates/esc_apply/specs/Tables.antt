@@ -36,7 +36,7 @@ says k d = lookup (key_eq k) d.contents
 abbrev pub mention_count : DepositValue → ℕ
 mention_count d = set.len (set.from_list {R = key_cmp} (mentioned d))
 
--- the tables of a list of deposits: of each key what the last one that mentions it says, and
--- nothing if none does
+-- the tables of a list of deposits: for each key what the last one that mentions it says of it, and
+-- nothing if none mentions it
 abbrev pub tables : List DepositValue → KeyName → Option ObjectValue
 tables c k = option_and_then (says k) (find (mentions k) (reverse c))

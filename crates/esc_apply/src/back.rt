@@ -1,4 +1,4 @@
-//! Steps are taken back.
+//! Taking steps back.
 
 ghost use Rattle.std.specs.Prelude.{
   ◌≡◌,

@@ -1,4 +1,4 @@
-//! Deposits are applied.
+//! Applying deposits.
 
 ghost use Rattle.std.specs.Prelude.{
   ◌≡◌,
@@ -158,7 +158,7 @@ fn remove_deletes<R: Registry>(
     Ok(())
 }
 
-// Notes what is at a key, and writes what shall be there.
+// Notes what is at a key, and writes the new object there, or that there is none.
 fn change<R: Registry>(
     r: &mut R,
     alloc: Global,

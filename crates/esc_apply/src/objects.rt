@@ -26,8 +26,8 @@ pub trait Objects {
     /// What stays true through calls, whatever they return (for instance: nothing was committed).
     ghost follows: { Self → Self → Type 0 };
 
-    /// The next object: the first of those to come, or `None` where there is none. An error ends
-    /// it.
+    /// The next object: the first of those to come, or `None` if there is none. After an error
+    /// nothing comes any more.
     fn next(&mut self) -> Result<Option<(Key, Object)>, Self::Error>
         ensures follows { follows self.old self.new }
         ensures given { IfOk result (λ o. is_honest self.new → (es : List Entry)

@@ -28,8 +28,8 @@ pub trait Registry {
     /// once there.
     ghost count: { Self → ℕ };
 
-    /// What it returned so far is what was written to it (for instance: the disk gave back what it
-    /// was given).
+    /// Everything that it returned so far is what was written to it (for instance: the disk gave
+    /// back what it was given).
     ghost is_honest: { Self → Type 0 };
 
     /// What stays true through calls, whatever they return (for instance: nothing was committed).

@@ -42,7 +42,7 @@ IsHeld h r = IsTrue (set.contains h r)
 abbrev pub InRange : List MRow → Rows → Type 0
 InRange m h = (r : ℕ) → IsHeld h r → r < length m
 
--- at most 4,096 rows, each held, in the manifest's range, and there once
+-- a list of at most 4,096 rows, each of them held, a row of the manifest, and in the list once
 pub record AreHeldRows (m : List MRow) (h : Rows) (c : List ℕ) : Type 0 where
   pub few : length c ≤ 4096
   pub held : (k : ℕ) → k < length c → IsHeld h (slice_index c k)
@@ -58,8 +58,8 @@ pub record IsUsed (m : List MRow) (h : Rows) (r : ℕ) : Type 0 where
   pub held : IsHeld h r
   pub greatest : (q : ℕ) → IsHeld h q → place_at m q ≡ place_at m r → resend_at m q ≤ resend_at m r
 
--- from row r back to a Full: r is a Full, or the next row is used, is at the place of r's base,
--- and goes on so
+-- a way from row r back to a Full: r is a Full, or the next row is the used one at the place of r's
+-- base, and the way goes on from there
 abbrev pub LeadsBack : List MRow → Rows → ℕ → List ℕ → Type 0
 LeadsBack m h r [] = kind_at m r ≡ Full
 LeadsBack m h r (s ∷ rest) = IsBase m r (At (place_at m s)) × IsUsed m h s × LeadsBack m h s rest
@@ -78,8 +78,8 @@ abbrev pub IsBy : Option ℤ → ℤ → Type 0
 IsBy None w = Unit {0}
 IsBy (Some t) w = w ≤ℤ t
 
--- from its end back, of the chains that end by the moment the one whose end is the greatest place;
--- the empty list where there is none
+-- of the chains that end no later than the moment, the one whose end is the greatest place, listed
+-- from its end back; the empty list if there is none
 abbrev pub IsLatestBackAt : List MRow → Rows → Option ℤ → List ℕ → Type 0
 IsLatestBackAt m h t [] = (q : ℕ) (other : List ℕ) → IsChainBack m h (q ∷ other)
     → IsBy t (watermark_at m q) → ⊥

@@ -24,6 +24,14 @@
 //! source that is an `Objects` of `esc_apply`: by key, each key once. They ask for all of them, and
 //! keep none.
 //!
+//! # Example
+//!
+//! ```text
+//! let found = verify(alloc, &tables, watermark, &counts)?;
+//! // each finding has a code and a key: V1 of the domain a.example with the field `clID`
+//! let text = export_rows(alloc, &tables, Kind::Domain)?;
+//! ```
+//!
 //! # What is promised
 //!
 //! `specs/Findings.antt` says what a finding is, by relations over the tables as a map from keys to

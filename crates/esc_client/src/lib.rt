@@ -12,17 +12,17 @@
 //!
 //! | Patience | The client is waited for |
 //! |---|---|
-//! | [`Patience::for_request`] | 10 seconds, and one more for each 65,536 bytes that came; at most 300 |
-//! | [`Patience::for_response`] | 10 seconds, and one more for each 65,536 bytes that went |
-//! | [`Patience::for_rest`] | 10 seconds, of which one at once |
+//! | [`Patience::for_request`] | 10 seconds, and one for each 65,536 bytes that came; at most 300 |
+//! | [`Patience::for_response`] | 10 seconds, and one for each 65,536 bytes that went |
+//! | [`Patience::for_rest`] | 10 seconds, and no more than one in each read |
 //!
 //! # Example
 //!
 //! ```text
 //! let (stream, _address) = listener.accept()?;
 //! let mut reader = Client::new(rt, &stream, Patience::for_request());
-//! reader.read(&mut buffer)?       // fails 10 seconds after the accept at the latest, where
-//! nothing comes
+//! let count = reader.read(&mut buffer)?;
+//! // where nothing comes, it fails after 10 seconds
 //! ```
 //!
 //! # What the contracts mean

@@ -7,14 +7,17 @@
 //! | Test | Response |
 //! |---|---|
 //! | the head is one of `httparse`'s grammar, of at most 8,192 bytes and 32 header lines | 400 |
-//! | the path has a route: `/arrivals/{number}`, `/status`, `/gaps`, `/links`, `/receipts`, `/parked`, `/export/{kind}` | 404 |
+//! | the path has a route (see below) | 404 |
 //! | the method is the route's: PUT for an arrival, GET for a report | 405, with `Allow` |
 //! | an arrival's number is 1 to 64 of `A-Z a-z 0-9 . _ -` | 400 `N1` |
 //! | there is no Transfer-Encoding, and a Content-Length | 411 |
 //! | there is one Content-Length, of digits alone | 400 |
 //! | it is at most 16,777,216 | 413 |
-//! | so many bytes follow the head; else it is no arrival | 400 |
-//! | the desk takes the arrival, or makes the report | 503 with `S1`, `S2` or, of an arrival, `S4` or `S5` |
+//! | that many bytes follow the head; else nothing arrived | 400 |
+//! | the desk takes the arrival, or makes the report | 503 with the refusal |
+//!
+//! The routes are `/arrivals/{number}`, `/status`, `/gaps`, `/links`, `/receipts`, `/parked` and
+//! `/export/{kind}`. The refusal is `S1` or `S2`, and of an arrival also `S4` or `S5`.
 //!
 //! The response to an arrival that was taken is its reply as JSON, with 200 if the deposit is held,
 //! 202 if its body is parked, and 422 for another verdict; that to a report is 200 and its text.
@@ -25,6 +28,15 @@
 //!
 //! [`report`] gives the text of a report, which the program prints too; [`receipts_heading`] and
 //! [`receipt_line`] are the pieces of the receipts report, [`end_line`] is one of the status.
+//!
+//! # Example
+//!
+//! ```text
+//! let mut request: &[u8] = b"GET /export/host HTTP/1.1\r\n\r\n";
+//! let mut response = Vec::new(alloc);
+//! serve_one(alloc, &mut desk, &mut request, &mut response)?;
+//! // response has the status line, the header lines, and the desk's hosts as CSV
+//! ```
 //!
 //! # What is promised
 //!

@@ -72,7 +72,7 @@ is_blamed code m r =
     else if code == 13 then list_any (λ q. same_digest q r) m
     else false
 
--- an index as a row from 1, or 0, the whole
+-- an index as a row counted from 1; no index is 0, the whole
 abbrev pub row_or_whole : Option ℕ → ℕ
 row_or_whole None = 0
 row_or_whole (Some index) = suc index
@@ -87,6 +87,6 @@ abbrev pub union_or : List MRow → List MRow → Option (ℕ × ℕ) → Result
 union_or m more None = Ok (extended m more)
 union_or m more (Some fault) = Err (fault.0, blamed fault.0 m more)
 
--- an accepted manifest and more rows: the union, or the least fault that it has
+-- the union of an accepted manifest's rows with more rows, or its least fault
 unfoldable pub extension : List MRow → List MRow → Result (List MRow) (ℕ × ℕ)
 extension m more = union_or m more (rows_fault (extended m more))

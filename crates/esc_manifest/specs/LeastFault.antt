@@ -51,8 +51,8 @@ use Rattle.esc_manifest.specs.RowFaults.{
 }
 use Rattle.esc_manifest.specs.Rows.{row_at}
 
--- of faults, each a number with a row: this one is there, and no lesser number, nor the same number
--- at a lesser row
+-- among faults, each a number with a row, this is the least: it occurs, no lesser number occurs,
+-- and the same number occurs at no lesser row
 abbrev pub IsLeastOf : (ℕ → ℕ → Type 0) → ℕ → ℕ → Type 0
 IsLeastOf stands code row =
     stands code row × ((k s : ℕ) → stands k s → (code < k) ⊎ ((code ≡ k) × (row ≤ s)))
@@ -71,7 +71,7 @@ has_fault m code r =
     else if code == 13 then list_any (λ q. same_digest q (row_at m r)) (take r m)
     else false
 
--- a fault of rows: M1 of the whole, at row 0, or another one at a row, counted from 1
+-- rows have this fault: M1 of the whole, at row 0, or another one at a row counted from 1
 abbrev pub Stands : List MRow → ℕ → ℕ → Type 0
 Stands m code row =
     ((code ≡ 1) × (row ≡ 0) × (most_rows < length m))
@@ -100,8 +100,8 @@ is_faulty fields code =
     else if code == 9 then lacks_digest fields
     else false
 
--- a fault of the whole of a text: M1; of its heading: M3; or in any record: M2, where the
--- heading is row 0
+-- a text has this fault of its own: M1 of its length, M3 of its heading, or M2 of a record, where
+-- the heading is row 0
 abbrev pub StandsAbove : List ℕ → ℕ → ℕ → Type 0
 StandsAbove text code row =
     ((code ≡ 1) × (row ≡ 0)
@@ -110,15 +110,16 @@ StandsAbove text code row =
     × (has_other_length (record_at (records_of text) row) ≡ true))
     ⊎ ((code ≡ 3) × (row ≡ 0) × (lacks_heading (records_of text) ≡ true))
 
--- a fault of a text's bytes or records: so, or at a record below the heading, counted from 1
+-- a text's bytes or records have this fault: one of those above, or one of a record below the
+-- heading, counted from 1
 abbrev pub StandsInText : List ℕ → ℕ → ℕ → Type 0
 StandsInText text code row =
     StandsAbove text code row
     ⊎ ((r : ℕ) × (r < length (records_below text)) × (row ≡ suc r)
     × (is_faulty (record_at (records_below text) r) code ≡ true))
 
--- the least fault of a text: of its bytes and records; or, where it has none of those, so that each
--- record below the heading writes a row, of these rows
+-- the least fault of a text: that of its bytes and records; or, if these have none, so that each
+-- record below the heading writes a row, that of the rows
 abbrev pub IsLeastInText : List ℕ → ℕ → ℕ → Type 0
 IsLeastInText text code row =
     IsLeastOf (StandsInText text) code row

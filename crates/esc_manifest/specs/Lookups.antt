@@ -29,11 +29,11 @@ use Rattle.esc_manifest.specs.Rows.{id_at, place_at}
 abbrev pub place_in : BTreeMap (Bor (List ℕ)) Place → List ℕ → Option Place
 place_in places id = tree.get_by (λ k. slice_cmp nat_cmp id k.now) places
 
--- the map has for each row's id the row's place
+-- for the id of each row, the map has the row's place
 abbrev pub HavePlaces : List MRow → BTreeMap (Bor (List ℕ)) Place → Type 0
 HavePlaces m places = (r : ℕ) → r < length m → place_in places (id_at m r) ≡ Some (place_at m r)
 
--- there is a place, and it isn't earlier than a moment
+-- there is a place, and its watermark isn't earlier than a moment
 abbrev pub is_no_earlier : Option Place → ℤ → Bool
 is_no_earlier None moment = false
 is_no_earlier (Some place) moment = not (int_lt place.watermark moment)

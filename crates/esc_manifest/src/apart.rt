@@ -1,6 +1,6 @@
 //! The first rows that contradict others. Look-ups in sorted collections show quickly that there is
-//! no such row, as in each manifest that is accepted; else, and out of memory, each row is compared
-//! with each.
+//! no such row, as in each manifest that is accepted; otherwise, or out of memory, each row is
+//! compared with each other one.
 
 ghost use Rattle.std.specs.Prelude.{◌≡◌, ◌<◌, length, not, IfOk, IfSome, Some, None, true};
 ghost use Rattle.std.specs.List.{list_all};
@@ -30,7 +30,7 @@ fn revision_of(row: &MRow) -> (Place, u32)
     (row.header.place, row.header.resend)
 }
 
-// Whether each row's place and resend are its own.
+// Whether no two rows have the same place and resend.
 fn have_own_revisions(alloc: Global, rows: &[MRow]) -> Result<bool, NoMemory>
     ensures { IfOk result (λ own. own ≡ true → first_against_earlier same_revision rows.now
         ≡ None) }
@@ -44,7 +44,7 @@ fn have_own_revisions(alloc: Global, rows: &[MRow]) -> Result<bool, NoMemory>
     Ok(true)
 }
 
-// Whether each row's digest is its own.
+// Whether no two rows have the same digest.
 fn have_own_digests(alloc: Global, rows: &[MRow]) -> Result<bool, NoMemory>
     ensures { IfOk result (λ own. own ≡ true → first_against_earlier same_digest rows.now
         ≡ None) }

@@ -273,8 +273,8 @@ pub(crate) fn tested(alloc: Global, rows: Vec<MRow>) -> Result<Manifest, MFault>
 }
 
 /// The manifest of these rows. Refuses with the least of M1 (more than 4,096 rows), M4, M6 to M8
-/// and M10 to M13 that they have; a `prev` of an empty text is M4. Out of memory it is slower, and
-/// returns the same.
+/// and M10 to M13 that they have; a `prev` with an empty text is M4. Where memory is refused it is
+/// slower, and returns the same.
 pub fn from_rows(alloc: Global, rows: Vec<MRow>) -> Result<Manifest, MFault>
     ensures accepted { rows_fault rows.items ≡ None → result ≡ Ok rows.items }
     ensures refused { (code row : ℕ) → rows_fault rows.items ≡ Some (code, row) →

@@ -6,15 +6,24 @@
 //! | Piece | What it does |
 //! |---|---|
 //! | [`Source`], [`Sink`] | readers and writers that report a failed call; those of std do not |
-//! | [`read_head`] | reads the head, of at most 8,192 bytes and 32 header lines, in whatever pieces it comes |
-//! | [`router`], [`route_of`] | where a path leads: to the arrival with this number, or to a [`Report`] |
+//! | [`read_head`] | reads the head, of at most 8,192 bytes and 32 header lines, in any pieces |
+//! | [`router`], [`route_of`] | where a path leads: to an arrival under a number, or a [`Report`] |
 //! | [`body_length`] | how long the body is, by the header lines |
 //! | [`read_body`] | reads a body of this length into one buffer |
-//! | [`response`] | the text of a response; [`refusal_response`], [`report_response`] and [`out_of_memory`] those of one kind |
+//! | [`response`] | the text of a response |
+//! | [`refusal_response`], [`report_response`], [`out_of_memory`] | the same of one kind |
 //! | [`send`] | writes a text to its end and flushes |
 //!
 //! `esc_http` decides in which order these are called, which refusal comes first, and what a desk
 //! responds.
+//!
+//! # Example
+//!
+//! ```text
+//! let router = router(alloc)?;
+//! route_of(&router, "/arrivals/n1")          // the arrival with the number n1
+//! report_response(alloc, Report::Status, text)   // HTTP/1.1 200 OK, the header lines, the text
+//! ```
 //!
 //! # What is promised
 //!

@@ -12,6 +12,13 @@
 //! The reports are CSV, as `csv` writes it, and a value that isn't there is empty. No desk is
 //! needed: each takes the values, and `esc_http` asks a desk for them.
 //!
+//! # Example
+//!
+//! ```text
+//! let line = receipt_line(alloc, &reply)?;   // 1,n1,A1,,F1,0,new,0 and a line feed
+//! let json = reply_text(alloc, &reply)?;     // {"copy":"new","fault":null,"id":"F1", ..}
+//! ```
+//!
 //! # What is promised
 //!
 //! Each text is exactly the one that its definition gives (`specs/ReplyText.antt`,
