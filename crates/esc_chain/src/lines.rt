@@ -29,9 +29,8 @@ use esc_manifest::Manifest;
 use std::alloc::Global;
 use std::collections::{BTreeMap, BTreeSet};
 
-/// A line for each listed place, in the order of places: which revision of it counts, whether a
-/// chain ends there or the latest chain passes it, what blocks it, and which revision of it is
-/// awaited (this project's profile).
+/// A line for each listed place, in the order of places: which revision of it is used, its state,
+/// what blocks it, and which revision of it is awaited (this project's profile).
 ///
 /// Takes time n log n in the number of rows. The one error is out of memory.
 pub fn gaps(alloc: Global, m: &Manifest, h: &Held) -> Result<Vec<GapLine>, NoMemory>
@@ -41,8 +40,9 @@ pub fn gaps(alloc: Global, m: &Manifest, h: &Held) -> Result<Vec<GapLine>, NoMem
     gaps_at(alloc, m, h, None)
 }
 
-/// The lines as of a moment, if there is one: the latest chain is the one up to the moment, so that
-/// a place where a later chain ends is `Standing`. All else in them is as without a moment.
+/// The lines as of a moment, in nanoseconds since 1970-01-01T00:00:00Z, if there is one: the latest
+/// chain is the one up to the moment, so that a place where a later chain ends is `Standing`.
+/// Everything else in them is as without a moment.
 ///
 /// Takes time n log n in the number of rows. The one error is out of memory.
 pub fn gaps_at(
@@ -72,7 +72,7 @@ pub(crate) struct Ways {
     used: BTreeMap<Place, usize>,
     // What each row builds on.
     bases: Vec<Base>,
-    // Of each used row, at which row the way back stops; none where it leads to a Full.
+    // For each used row, the row at which the way back from it stops; none if it leads to a Full.
     stops: Vec<Option<usize>>,
     // The rows of the latest chain.
     chain: BTreeSet<usize>,
@@ -103,8 +103,8 @@ fn set_of(alloc: Global, rows: &[usize]) -> Result<BTreeSet<usize>, NoMemory>
     Ok(rows.iter().copied().collect(alloc)?)
 }
 
-// The line of a place with this used row, or with none, of whose rows that aren't held the greatest
-// resend is given.
+// The line of a place with this used row, or none. `unheld` is the greatest resend of its rows that
+// aren't held, if any.
 fn line_of(
     alloc: Global,
     m: &Manifest,

@@ -4,7 +4,7 @@ use Rattle.std.proofs.lemmas.Cmp.{then_total, on_total, nat_list_cmp_total}
 use Rattle.esc_envelope.specs.Kinds.{kind_rank}
 use Rattle.esc_check.specs.FindingValue.{FindingValue, finding_cmp, finding_eq}
 
--- any two findings are in order, or tie, and the order goes on
+-- the order of findings is total
 pub finding_total : IsTotalOrder finding_cmp
 finding_total =
     then_total (on_total (λ (f : FindingValue). f.code) nat_cmp_total)
@@ -14,6 +14,6 @@ finding_total =
     (then_total (on_total (λ (f : FindingValue). f.value) nat_list_cmp_total)
     (on_total (λ (f : FindingValue). f.other) nat_list_cmp_total)))))
 
--- the test of findings is an equivalence
+-- the equality test of findings is an equivalence
 pub finding_equiv : IsEquivalence finding_eq
 finding_equiv = eq_by_cmp_equiv finding_total

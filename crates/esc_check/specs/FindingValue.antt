@@ -6,7 +6,8 @@ use Rattle.std.specs.Cmp.Lexicographic.{slice_cmp}
 use Rattle.esc_envelope.specs.declared.kind.Kind.{Kind}
 use Rattle.esc_envelope.specs.Kinds.{kind_rank}
 
--- the number of the rule that is broken, the object, and what it has; texts are their bytes
+-- the number of the rule that is broken, the object's kind and key, the field and its value, and
+-- what else is reported; texts are their bytes
 pub record FindingValue : Type 0 where
   pub code : ℕ
   pub kind : Kind
@@ -23,7 +24,7 @@ listing_cmp =
     (then_cmp (on (λ f. f.key) (slice_cmp nat_cmp))
     (then_cmp (on (λ f. f.field) (slice_cmp nat_cmp)) (on (λ f. f.value) (slice_cmp nat_cmp)))))
 
--- the same, and at last by what else is reported, so that findings that tie are one
+-- the same, and last by what else is reported, so that findings that compare equal are equal
 abbrev pub finding_cmp : FindingValue → FindingValue → Ordering
 finding_cmp =
     then_cmp (on (λ f. f.code) nat_cmp)
@@ -32,6 +33,6 @@ finding_cmp =
     (then_cmp (on (λ f. f.field) (slice_cmp nat_cmp))
     (then_cmp (on (λ f. f.value) (slice_cmp nat_cmp)) (on (λ f. f.other) (slice_cmp nat_cmp))))))
 
--- the same finding
+-- two findings are equal
 abbrev pub finding_eq : FindingValue → FindingValue → Bool
 finding_eq = eq_by_cmp finding_cmp

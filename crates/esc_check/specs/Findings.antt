@@ -82,7 +82,7 @@ abbrev pub IsMixed : KeyName → ObjectValue → FindingValue → Type 0
 IsMixed k o f = (k.kind ≡ Domain) × IsStatusOf k o (codes "ok")
     × ((s : List ℕ) × IsStatusOf k o s × (s ≢ codes "ok")) × (f ≡ mixed_status k)
 
--- a watermark as it is printed; outside of the years of watermarks nothing is
+-- a watermark as it is printed; one outside the years of watermarks prints as nothing
 abbrev pub printed : ℤ → List ℕ
 printed w = unwrap_or (watermark_text_of w) []
 
@@ -131,7 +131,7 @@ malformed k field text = record {
   other = [];
 }
 
--- V7: a date does not have the form of a watermark, or is none of its years
+-- V7: a date does not have the form of a watermark, or its year is out of the range of watermarks
 abbrev pub IsMalformed : KeyName → List ℕ → List ℕ → FindingValue → Type 0
 IsMalformed k field text f = (text ≢ []) × (watermark_of text ≡ None) × (f ≡ malformed k field text)
 

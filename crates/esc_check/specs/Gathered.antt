@@ -92,7 +92,7 @@ links_of k o = flat_map (field_links k o.parent) (parent_fields k.kind)
 abbrev pub is_present : List Entry → KeyName → Bool
 is_present es q = is_some (lookup (key_eq q) es)
 
--- what is found of links, where these keys are there
+-- what is found of links, if these are the keys of the tables
 abbrev pub link_findings : (KeyName → Bool) → List LinkValue → List FindingValue
 link_findings present links = map missing_target (filter (λ l. not (present l.to)) links)
 
@@ -100,7 +100,7 @@ link_findings present links = map missing_target (filter (λ l. not (present l.t
 abbrev pub count_of : List KeyName → Kind → ℕ
 count_of keys kind = count_by (λ q. is_kind q.kind kind) keys
 
--- what is found of a declared number, where these keys are there
+-- what is found of a declared number, if these are the keys of the tables
 abbrev pub count_findings : List KeyName → Kind × ℕ → List FindingValue
 count_findings keys d = if count_of keys d.0 == d.1 then [] else miscounted d.0 d.1
     (count_of keys d.0) ∷ []
@@ -185,7 +185,7 @@ own_findings w shown k o =
     ++ (moment_findings w shown k (created k o) (expires k o)
     ++ form_findings k (created k o) (expires k o))
 
--- what is found of an object, where these keys are there
+-- what is found of an object, if these are the keys of the tables
 abbrev pub object_findings : (KeyName → Bool) → ℤ → List ℕ → Entry → List FindingValue
 object_findings present w shown e = link_findings present (links_of e.0 e.1)
     ++ own_findings w shown e.0 e.1
@@ -194,9 +194,9 @@ object_findings present w shown e = link_findings present (links_of e.0 e.1)
 abbrev pub all_links : List Entry → List LinkValue
 all_links es = flat_map (λ e. links_of e.0 e.1) es
 
--- a walk that has still to come to the entries left will have gathered what the whole has: what is
--- found of each object by itself, the keys, and of the links those that wait; a link that was let
--- go leads to a key that was met
+-- what a walk has gathered, together with the entries that are left, makes up what the whole has:
+-- what is found of each object by itself, the keys, and the links that wait; a link that was
+-- dropped leads to a key that was met
 pub record Leads (w : ℤ) (shown : List ℕ) (g : Gathering) (left whole : List Entry) : Type 0 where
   pub found : g.found.items ++ flat_map (λ e. own_findings w shown e.0 e.1) left
       ≡ flat_map (λ e. own_findings w shown e.0 e.1) whole

@@ -5,7 +5,7 @@ use Rattle.esc_tables.specs.TableRow.{key_named}
 use Rattle.esc_check.specs.declared.field.LinkField.{LinkField}
 use Rattle.esc_check.specs.Fields.{field_target}
 
--- from the object with a key, by a field, to the object with another key
+-- a link from the object with a key, by a field, to the object with another key
 pub record LinkValue : Type 0 where
   pub from : KeyName
   pub field : LinkField

@@ -8,11 +8,11 @@ use Rattle.esc_check.specs.Fields.{cell, field_name, parent_fields, child_field}
 use Rattle.esc_check.specs.LinkValue.{LinkValue, link_to}
 use Rattle.esc_check.specs.Tables.{Tables}
 
--- a row of an object links by a field that is not empty
+-- a row of an object has a link by a field that is not empty
 abbrev pub LinksBy : KeyName → RowValue → LinkField → LinkValue → Type 0
 LinksBy k r g l = (cell (field_name g) r ≢ []) × (l ≡ link_to k g (cell (field_name g) r))
 
--- an object links by its parent row, or by a child row
+-- an object has a link by its parent row, or by a child row
 abbrev pub IsLinkOf : KeyName → ObjectValue → LinkValue → Type 0
 IsLinkOf k o l =
     ((g : LinkField) × Contains (parent_fields k.kind) g × LinksBy k o.parent g l)

@@ -41,7 +41,7 @@ status_words Domain =
 status_words Idn = []
 status_words Nndn = []
 
--- a child row in the table of an object's statuses has this one, which is not empty
+-- a child row in the table of an object's statuses has this status, which is not empty
 abbrev pub IsStatusOf : KeyName → ObjectValue → List ℕ → Type 0
 IsStatusOf k o s = (r : RowValue) × Contains o.children r × (status_table k.kind ≡ Some r.table)
     × (cell (codes "status") r ≡ s) × (s ≢ [])

@@ -6,7 +6,7 @@ use Rattle.esc_envelope.specs.declared.kind.Kind.{Kind}
 use Rattle.esc_tables.specs.KeyName.{KeyName, key_eq}
 use Rattle.esc_tables.specs.ObjectValue.{ObjectValue}
 
--- of each key its object, or none
+-- for each key its object, or none
 abbrev pub Tables : Type 0
 Tables = KeyName → Option ObjectValue
 

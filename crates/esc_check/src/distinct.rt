@@ -19,8 +19,8 @@ pub fn settle(mut found: Vec<Finding>) -> Vec<Finding>
     found
 }
 
-/// Of findings in order, the first of those that are neighbours and differ only in what else they
-/// report. Doesn't allocate.
+/// These findings, which are in order, without each that differs from the one before it only in
+/// what else it reports. Doesn't allocate.
 pub fn listed(mut found: Vec<Finding>) -> Vec<Finding>
     requires { IsStrictlySortedBy finding_cmp found.items }
     ensures ordered { IsStrictlySortedBy listing_cmp result.items }

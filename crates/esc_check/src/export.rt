@@ -61,7 +61,8 @@ pub fn export_rows(
     lines.into_text()
 }
 
-/// The same of objects that come one at a time. It allocates for the text alone.
+/// The same export, of objects that come one at a time. It allocates for the text alone. At `Err`
+/// the source failed, or memory was refused.
 pub fn export_from<O: Objects>(
     alloc: Global,
     o: &mut O,

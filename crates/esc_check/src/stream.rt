@@ -5,7 +5,7 @@ ghost use Rattle.esc_check.specs.declared.stream.StreamFault.TheVariants.{NoMemo
 
 use esc_bundle::NoMemory;
 
-/// Why a report over objects that come one at a time was given up.
+/// Why a report over objects that come one at a time was not made.
 #[derive(Clone, Copy, Debug, PartialEq, Eq, Drop)]
 pub enum StreamFault<E> {
     /// The source of the objects failed, and returned this.

@@ -93,9 +93,9 @@ fn check_objects(
     Ok(())
 }
 
-/// What is found in the tables of a registry at a watermark, for which these numbers of objects are
-/// declared: V1 to V7, each once, by code, kind, key, field and value, texts by their bytes (this
-/// project's profile).
+/// What breaks a rule in the tables of a registry, by its watermark (in nanoseconds since
+/// 1970-01-01T00:00:00Z) and the declared numbers of objects: V1 to V7, each once, in the order of
+/// code, kind, key, field and value, texts by their bytes (this project's profile).
 pub fn verify(
     alloc: Global,
     t: &BTreeMap<Key, Object>,

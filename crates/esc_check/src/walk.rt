@@ -31,7 +31,7 @@ pub struct Gathering {
     pub found: Vec<Finding>,
     /// The keys of the objects.
     pub met: BTreeSet<Key>,
-    /// The links to what was not met when they came: it may come later.
+    /// The links to objects that were not met when the links came: they may come later.
     pub waiting: Vec<Link>,
 }
 
@@ -108,9 +108,9 @@ fn gather<O: Objects>(
     Ok(gathered)
 }
 
-/// What `verify` finds in the tables of a registry, found of their objects as they come one at a
-/// time. It allocates for what is found, for the keys, and for the links that lead to what had
-/// not come before them.
+/// What `verify` finds in the tables of a registry, from their objects as they come one at a time.
+/// It allocates for what is found, for the keys, and for the links that lead to what had not come
+/// before them.
 pub fn verify_from<O: Objects>(
     alloc: Global,
     o: &mut O,

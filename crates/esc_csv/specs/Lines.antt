@@ -4,7 +4,7 @@ use Rattle.std.specs.List.{flat_map}
 use Rattle.csv.specs.declared.writer.WriterBuilder.{WriterBuilder}
 use Rattle.csv.specs.Writing.{default_writer, with_flexible, row_text}
 
--- the fields of a line
+-- a line: its fields, each of them bytes
 abbrev pub Line : Type 0
 Line = List (List ℕ)
 

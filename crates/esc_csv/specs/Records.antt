@@ -4,7 +4,7 @@
 use Rattle.std.specs.Prelude.{◌≡◌, ℕ, List, [], slice_index_or}
 use Rattle.csv.specs.Reading.{records, default_config, strip_bom}
 
--- each record is the list of its fields
+-- the records of a text; each record is the list of its fields
 abbrev pub records_of : List ℕ → List (List (List ℕ))
 records_of text = records default_config (strip_bom text)
 

@@ -5,8 +5,9 @@ ghost use Rattle.csv.specs.Writing.{read_back};
 ghost use Rattle.esc_csv.specs.Lines.{Line, text_of};
 ghost use Rattle.esc_csv.specs.Records.{records_of, IsUnmarked};
 
-/// Lines that were written are read back as they were, but that one without fields is one empty
-/// field. A text that begins with a byte order mark would lose it.
+/// Lines that were written are read back as they were, except that a line without fields is read as
+/// one empty field. A text that begins with a byte order mark is excepted, since reading drops the
+/// mark.
 pub fn written_lines_read_back()
     ensures { (lines : List Line) → IsUnmarked (text_of lines)
         → records_of (text_of lines) ≡ map read_back lines }

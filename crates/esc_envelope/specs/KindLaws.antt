@@ -28,6 +28,6 @@ kind_back Domain = refl
 kind_back Idn = refl
 kind_back Nndn = refl
 
--- kinds of one rank are one kind
+-- kinds with equal ranks are equal
 pub one_kind : (a b : Kind) → kind_rank a ≡ kind_rank b → a ≡ b
 one_kind a b e = sym (kind_back a) ∙ ap kind_at e ∙ kind_back b

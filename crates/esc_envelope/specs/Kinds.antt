@@ -32,7 +32,7 @@ kind_rank Domain = 3
 kind_rank Idn = 4
 kind_rank Nndn = 5
 
--- whether two kinds are one
+-- whether two kinds are equal
 abbrev pub is_kind : Kind → Kind → Bool
 is_kind k l = kind_rank k == kind_rank l
 

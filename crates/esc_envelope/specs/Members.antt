@@ -81,7 +81,7 @@ prev_of json = prev_from (get (codes "prevId") json)
 abbrev pub whole_number : Data → Option ℕ
 whole_number value = option_and_then as_u64 (as_number value)
 
--- a number of times, up to 999999
+-- a resend is at most 999999
 abbrev pub if_resend : ℕ → Option ℕ
 if_resend n = if nat_le n 999_999 then Some n else None
 

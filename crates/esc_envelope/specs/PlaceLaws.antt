@@ -16,10 +16,10 @@ type_back Diff = refl
 type_back Incr = refl
 type_back Full = refl
 
--- types of one rank are one type
+-- types with equal ranks are equal
 pub one_type : (a b : DepositType) → rank a ≡ rank b → a ≡ b
 one_type a b e = sym (type_back a) ∙ ap type_at e ∙ type_back b
 
--- places of one watermark and one type are one place
+-- places with equal watermarks and types are equal
 pub one_place : (a b : Place) → a.watermark ≡ b.watermark → a.kind ≡ b.kind → a ≡ b
 one_place a b w k i = record { watermark = w i; kind = k i }

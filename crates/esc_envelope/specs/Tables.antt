@@ -38,7 +38,7 @@ use Rattle.esc_envelope.specs.Kinds.{kinds, is_kind, kind_named}
 use Rattle.esc_envelope.specs.Members.{text_at, array_in, if_id}
 use Rattle.esc_envelope.specs.Steps.{◌>>=◌}
 
--- what f makes of each, if it makes something of all
+-- the results of f for all elements, if it has one for each
 unfoldable pub all_of : {A B : Type 0} → (A → Option B) → List A → Option (List B)
 all_of f [] = Some []
 all_of f (x ∷ xs) = do

@@ -3,7 +3,7 @@ use Rattle.std.specs.Prelude.{option_map}
 use Rattle.esc_envelope.specs.declared.members.Told.{Told}
 use Rattle.esc_envelope.specs.HeaderValue.{HeaderValue}
 
--- the header
+-- the value of a header that was read
 abbrev pub told_value : Told → HeaderValue
 told_value t = record {
   id = t.id.now;

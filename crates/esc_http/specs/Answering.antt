@@ -35,7 +35,7 @@ use Rattle.esc_http.specs.Response.{fault_response, reply_response}
 
 -- ---- requests
 
--- a request that is refused whatever the store holds, an arrival, or a report
+-- a request: one that is refused whatever the store holds, an arrival, or a report
 pub data Request : Type 0 where
   refused : Refusal → Request
   arrives : ArrivalValue → Request
@@ -70,8 +70,8 @@ pub record TellsFault (text : List ℕ) : Type 0 where
 
 module _ {S : Type 0} (g : Ghosts S) (old new : Desk S) where
   -- the arrival was taken: the desk serves the events before and this one, and the text gives its
-  -- reply; it is like an earlier one, or there was room for one more receipt, and a place to park
-  -- its body if it was to be parked
+  -- reply; it is a duplicate, or there was room for one more receipt, and a place to park its body
+  -- if it was to be parked
   pub record TakesArrival (a : ArrivalValue) (e : List EventValue) (text : List ℕ) : Type 0 where
     pub reply : ReplyValue
     pub answers : Answers g new e a reply
@@ -82,9 +82,9 @@ module _ {S : Type 0} (g : Ghosts S) (old new : Desk S) where
   abbrev pub IsTaken : ArrivalValue → List ℕ → Type 0
   IsTaken a text = After g old new (λ e. TakesArrival a e text)
 
-  -- the arrival was lost: the desk serves what it served, and the text says why. That is S4 only
-  -- where the arrival is like none before it and there is no room for its receipt, and S5 only
-  -- where there is no room for its body
+  -- the arrival was lost: the desk serves what it served, and the text says why. That is S4 only if
+  -- the arrival is no duplicate and there is no room for its receipt, and S5 only if there is no
+  -- place to park its body
   pub record LosesArrival (a : ArrivalValue) (text : List ℕ) : Type 0 where
     pub kept : ServesStill g old new
     pub fault : SFault

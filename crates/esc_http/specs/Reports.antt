@@ -40,8 +40,8 @@ use Rattle.esc_texts.specs.ParkedText.{parked_text}
 use Rattle.esc_texts.specs.ReceiptsText.{receipts_text}
 use Rattle.esc_http.specs.StatusText.{status_text}
 
--- what breaks a rule in tables at the end of a chain, each once and in order; without a chain there
--- is nothing
+-- the findings in these tables, by what the end of their chain says, each once and in order;
+-- without a chain there are none
 abbrev pub AreFindings : List (KeyName × ObjectValue) → Option End → List FindingValue → Type 0
 AreFindings entries None found = found ≡ []
 AreFindings entries (Some end) found =
@@ -50,20 +50,21 @@ AreFindings entries (Some end) found =
     (tables_of entries) end.watermark end.counts.entries f)
 
 module _ (e : List EventValue) where
-  -- the numbers of the status
+  -- the text of the status
   pub record IsStatusText (text : List ℕ) : Type 0 where
     pub status : Numbers
     pub numbers : IsStatus e status
     pub is : text ≡ status_text status
 
-  -- the objects of a kind in the tables of the latest chain, by key in byte order
+  -- the export of the objects of a kind in the tables of the latest chain, by key in byte order
   pub record IsExport (kind : Kind) (text : List ℕ) : Type 0 where
     pub entries : List (KeyName × ObjectValue)
     pub tables : AreEntries e entries
     pub order : InOrder entries
     pub is : text ≡ export_text kind entries
 
-  -- what breaks a rule in the tables of the latest chain, by what its last deposit says
+  -- the report of what breaks a rule in the tables of the latest chain, by what its last deposit
+  -- says
   pub record IsLinksText (text : List ℕ) : Type 0 where
     pub entries : List (KeyName × ObjectValue)
     pub tables : AreEntries e entries
@@ -73,8 +74,8 @@ module _ (e : List EventValue) where
     pub findings : AreFindings entries end found
     pub is : text ≡ links_text found
 
-  -- a line for each listed place, in their order, by the rows that are held and the moment that is
-  -- set
+  -- the report of a line for each listed place, in their order, by the rows that are held and the
+  -- moment that is set
   pub record IsGapsText (text : List ℕ) : Type 0 where
     pub rows : List ℕ
     pub are_held : AreHeld (held_body sha256 reading e) rows
@@ -82,7 +83,7 @@ module _ (e : List EventValue) where
     pub gaps : AreGapLinesAt (union e) (set.from_list rows) (moment_of e) lines
     pub is : text ≡ gaps_text lines
 
-  -- a line for each body that no row lists
+  -- the report of a line for each body that no row lists
   pub record IsParkedText (text : List ℕ) : Type 0 where
     pub bodies : List ParkedBody
     pub are_parked : AreParkedBodies (parked_body sha256 reading e) bodies

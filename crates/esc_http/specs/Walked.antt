@@ -12,7 +12,7 @@ use Rattle.esc_events.specs.Events.{EventValue}
 use Rattle.esc_events.specs.Reads.{AreEntries}
 use Rattle.esc_http.specs.Reports.{AreFindings}
 
--- this is what breaks a rule in the tables of the latest chain, where its end says this
+-- these are the findings in the tables of the latest chain, where its end says this
 abbrev pub AreFoundAt : List EventValue → Option End → List FindingValue → Type 0
 AreFoundAt e end found = WhereApart e ((entries : List Entry) × AreEntries e entries
     × AreFindings entries end found)

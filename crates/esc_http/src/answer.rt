@@ -57,7 +57,7 @@ pub(crate) fn answer_input<S: Alter, R: Source>(
     }
 }
 
-// Answers the request of the head at the front of these bytes, which were read.
+// The response to the request whose head is at the front of these bytes, which were read.
 fn answer_head<S: Alter, R: Source>(
     alloc: Global,
     desk: &mut Desk<S>,
@@ -117,7 +117,7 @@ fn answer_routed<S: Alter, R: Source>(
     }
 }
 
-// Answers an arrival, of whose body these bytes, or their front, were read before.
+// The response to an arrival. These bytes were read before: the body begins with them.
 fn answer_put<S: Alter, R: Source>(
     alloc: Global,
     desk: &mut Desk<S>,

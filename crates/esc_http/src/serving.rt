@@ -23,7 +23,7 @@ pub enum ServeFault {
     /// A read failed. Nothing was written, and nothing arrived.
     Read,
     /// A write or a flush failed. A beginning of the response was written, and an arrival that was
-    /// taken stands.
+    /// taken is kept.
     Write,
 }
 

@@ -67,7 +67,7 @@ module _ (is_text : List ℕ → Bool) where
     cells ← many cell_at count.0 count.1
     Some (record { table = table.0; cells = cells.0 }, cells.1)
 
-  -- an object of its rows
+  -- the object of these rows, the parent first
   abbrev pub of_rows : List RowValue → Option ObjectValue
   of_rows [] = None
   of_rows (parent ∷ children) = Some (record { parent = parent; children = children })

@@ -71,6 +71,6 @@ pub record IsRowOfTexts (row : RowValue) : Type 0 where
   pub table : IsUtf8 row.table
   pub cells : AllByRecursion IsCellOfTexts row.cells
 
--- each text of an object is one: UTF-8, as the program's are
+-- each text of an object is UTF-8, as texts of the program are
 abbrev pub IsOfTexts : ObjectValue → Type 0
 IsOfTexts o = AllByRecursion IsRowOfTexts (rows_of o)

@@ -3,7 +3,7 @@ use Rattle.std.specs.Prelude.{◌≡◌, ℕ, ◌≤◌, ◌<◌, List, length, 
 use Rattle.esc_request.specs.declared.body.Body.{Body}
 use Rattle.esc_request.specs.declared.body.Body.TheVariants.{Whole, Cut, NoMemory}
 
--- what came of a body of this size at the front of the input
+-- the body of this size at the front of the input, or that the input is shorter
 abbrev pub IsBody : ℕ → List ℕ → Body → Type 0
 IsBody size input (Whole body) = (size ≤ length input) × (body.items ≡ take size input)
 IsBody size input Cut = length input < size

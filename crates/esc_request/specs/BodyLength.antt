@@ -69,8 +69,8 @@ length_of_values nothing = Missing
 length_of_values (one value) = length_of_value value
 length_of_values more = Malformed
 
--- what header lines say of the body's length: nothing beside a Transfer-Encoding, else what the one
--- Content-Length says
+-- what header lines say of the body's length: nothing if there is a Transfer-Encoding, else what
+-- the one Content-Length says
 abbrev pub body_length : List Line → BodyLength
 body_length lines =
     if list_any (is_named (codes "transfer-encoding")) lines then Missing

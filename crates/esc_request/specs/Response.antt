@@ -38,16 +38,16 @@ response_head status media allow size =
 abbrev pub response : List ℕ → List ℕ → List ℕ → List ℕ → List ℕ
 response status media allow body = response_head status media allow (length body) ++ body
 
--- words in place of what was asked for
+-- a response whose body is these words, as plain text
 abbrev pub plain : List ℕ → List ℕ → List ℕ
 plain status words = response status (codes "text/plain") [] words
 
--- another method than the route's
+-- 405 for another method than the route's
 abbrev pub only : List ℕ → List ℕ
 only method = response (codes "405 Method Not Allowed") (codes "text/plain")
     (codes "Allow: " ++ method ++ crlf) (codes "method not allowed\n")
 
--- why a request is refused
+-- the response to a request that is refused
 abbrev pub refusal_response : Refusal → List ℕ
 refusal_response BadRequest = plain (codes "400 Bad Request") (codes "bad request\n")
 refusal_response NotFound = plain (codes "404 Not Found") (codes "not found\n")
@@ -57,11 +57,11 @@ refusal_response BadNumber = plain (codes "400 Bad Request") (codes "N1\n")
 refusal_response LengthRequired = plain (codes "411 Length Required") (codes "length required\n")
 refusal_response TooLarge = plain (codes "413 Content Too Large") (codes "too large\n")
 
--- there is no result now
+-- 503 with these words: there is no result now
 abbrev pub unavailable : List ℕ → List ℕ
 unavailable words = plain (codes "503 Service Unavailable") words
 
--- out of memory
+-- the out-of-memory response
 abbrev pub out_of_memory : List ℕ
 out_of_memory = unavailable (codes "S2\n")
 
@@ -74,6 +74,6 @@ report_media Receipts = codes "text/csv"
 report_media Parked = codes "text/csv"
 report_media (Export kind) = codes "text/csv"
 
--- a report
+-- the response with a report
 abbrev pub report_response : Report → List ℕ → List ℕ
 report_response report text = response (codes "200 OK") (report_media report) [] text

@@ -39,7 +39,7 @@ pub data Leads : Type 0 where
   arrival : List ℕ → Leads
   tells : Report → Leads
 
--- what follows a front
+-- what follows a front in a text, if the text begins with it
 abbrev pub strip : List ℕ → List ℕ → Option (List ℕ)
 strip front text = if starts_with nat_eq text front then Some (drop (length front) text) else None
 
@@ -51,7 +51,7 @@ is_segment (b ∷ bytes) = not (list_any (λ c. c == 47) (b ∷ bytes))
 abbrev pub if_segment : List ℕ → Option (List ℕ)
 if_segment text = if is_segment text then Some text else None
 
--- the one segment that follows a front
+-- the one segment that follows a front, if that is all that follows
 abbrev pub segment_after : List ℕ → List ℕ → Option (List ℕ)
 segment_after front path = option_and_then if_segment (strip front path)
 
@@ -72,7 +72,7 @@ route_of path =
     (segment_after (codes "/arrivals/") path)
     else option_and_then export_named (segment_after (codes "/export/") path))))))
 
--- where a path leads that has this target
+-- where a path leads, by the target that the router has for it
 abbrev pub way_to : Target → List ℕ → Option Leads
 way_to to.Arrivals path = option_map arrival (strip (codes "/arrivals/") path)
 way_to to.Export path = option_and_then export_named (strip (codes "/export/") path)

@@ -1,8 +1,8 @@
 //! What requests are read from and responses are written to.
 //!
 //! A contract over a reader of std can't say that a read failed. So the code here is written over
-//! two traits of its own, which have a word for it, and every reader and writer of std has them
-//! without reporting a failure.
+//! two traits of its own, which report it. Every reader and writer of std implements them, without
+//! reporting a failure.
 
 ghost use Rattle.std.specs.Prelude.{
   ◌≡◌,
@@ -38,8 +38,8 @@ pub trait Source {
     // whether a read has failed
     ghost failed: { Self → Bool };
 
-    /// Reads some bytes to the front of a buffer, and returns how many: none where the bytes are at
-    /// their end, or the buffer has no room.
+    /// Reads some bytes to the front of a buffer, and returns how many: none if the input has
+    /// ended, or the buffer has no room.
     fn read_some(&mut self, buffer: &mut [u8]) -> Result<usize, ReadFailed>
         ensures bound { IfOk result (λ n. n ≤ length buffer.new) }
         ensures bytes { ReadConsumes (remaining self.old) (remaining self.new) result buffer.new }
@@ -55,8 +55,8 @@ pub trait Sink {
     // whether all that was written was handed on
     ghost flushed: { Self → Bool };
 
-    /// Writes some bytes of the front of these, and returns how many: one at least, where there is
-    /// one.
+    /// Writes some of these bytes from their front, and returns how many: at least one, if there is
+    /// any.
     fn write_some(&mut self, bytes: &[u8]) -> Result<usize, WriteFailed>
         ensures bound { IfOk result (λ n. n ≤ length bytes.now) }
         ensures some { IfOk result (λ n. 0 < length bytes.now → 0 < n) }
@@ -84,8 +84,8 @@ impl<R: Read> Source for R {
     }
 }
 
-// A writer of std doesn't report whether a write has failed, or what was handed on. One that takes
-// no byte of some has failed.
+// A writer of std doesn't report whether a write has failed, or what was handed on. A write that
+// takes none of some bytes counts as failed.
 impl<W: Write> Sink for W {
     ghost contents = { λ w. W.contents w };
 

@@ -55,7 +55,7 @@ pub record IsDepositOf (body : List ℕ) (d : DepositValue) : Type 0 where
   pub few : length (all_rows files envelope) ≤ most_rows
   pub made : Makes files envelope d
 
--- the refusal of this number applies, of those that the files have
+-- the refusal of this number, one of those of files, applies
 abbrev pub Stands : List Named → EnvelopeValue → ℕ → Type 0
 Stands files e n =
     ((n ≡ 8) × (are_filed files (tables_of e) ≡ false))
@@ -67,12 +67,12 @@ Stands files e n =
 abbrev pub IsLeast : List Named → EnvelopeValue → ℕ → Type 0
 IsLeast files e n = Stands files e n × ((m : ℕ) → Stands files e m → n ≤ m)
 
--- the envelope of this bundle is refused, or it is one and its files are
+-- the envelope of this bundle is refused, or it is an envelope and its files are refused
 abbrev pub IsRefusedAt : Named → List Named → ℕ → Type 0
 IsRefusedAt first files n = (envelope_of first.bytes ≡ Err n)
     ⊎ ((e : EnvelopeValue) × (envelope_of first.bytes ≡ Ok e) × IsLeast files e n)
 
--- the body is refused with this number: it is no bundle, or one that is refused
+-- the body is refused with this number: it is no bundle, or a bundle that is refused
 abbrev pub IsRefused : List ℕ → ℕ → Type 0
 IsRefused body n = IsFault body n
     ⊎ ((first : Named) × (files : List Named) × IsBundle body (first ∷ files)

@@ -26,11 +26,11 @@ pub keys_total : IsTotalOrder key_cmp
 keys_total = then_total (on_total (λ k. kind_rank k.kind) nat_cmp_total)
     (on_total (λ k. k.text) nat_list_cmp_total)
 
--- the test of keys is an equivalence
+-- the equality test of keys is an equivalence
 pub keys_alike : IsEquivalence key_eq
 keys_alike = eq_by_cmp_equiv keys_total
 
--- keys that tie are one key
+-- keys that compare equal are equal
 pub keys_exact : CmpEqualImpliesEq key_cmp
 keys_exact a b h =
     let parts = exact_pairs nat_cmp (slice_cmp nat_cmp) exact_unsigned exact_bytes
@@ -39,7 +39,7 @@ keys_exact a b h =
     let texts : a.text ≡ b.text = ap (λ (p : ℕ × List ℕ). p.1) parts in
     λ i. record { kind = kinds i; text = texts i }
 
--- keys that the test takes for the same are one key
+-- keys that pass the equality test are equal
 pub one_key : (a b : KeyName) → key_eq a b ≡ true → a ≡ b
 one_key a b h = keys_exact a b ((Equal-is (key_cmp a b)).0 h)
 

@@ -15,6 +15,6 @@ pub record KeyName : Type 0 where
 abbrev pub key_cmp : KeyName → KeyName → Ordering
 key_cmp = then_cmp (on (λ k. kind_rank k.kind) nat_cmp) (on (λ k. k.text) (slice_cmp nat_cmp))
 
--- the same key
+-- two keys are equal
 abbrev pub key_eq : KeyName → KeyName → Bool
 key_eq = eq_by_cmp key_cmp

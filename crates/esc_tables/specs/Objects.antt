@@ -19,7 +19,7 @@ use Rattle.std.specs.FinMap.Entries.{put}
 use Rattle.esc_tables.specs.KeyName.{KeyName, key_cmp, key_eq}
 use Rattle.esc_tables.specs.ObjectValue.{RowValue, ObjectValue}
 
--- what these pairs have for a key
+-- the values of the pairs with this key
 abbrev pub at_key : {X : Type 0} → KeyName → List (KeyName × X) → List X
 at_key k pairs = map (λ p. p.1) (filter (λ p. key_eq k p.0) pairs)
 

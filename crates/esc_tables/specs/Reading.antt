@@ -68,16 +68,15 @@ placed (u ∷ us) t = if is_before t u then t ∷ u ∷ us else u ∷ placed us 
 abbrev pub by_name : List TableValue → List TableValue
 by_name tables = fold placed [] tables
 
--- the rows that are objects, with their keys
+-- the rows of parent tables, with the keys of their objects
 abbrev pub parent_rows : List Named → EnvelopeValue → List (KeyName × RowValue)
 parent_rows files e = map keyed (rows_in files (filter (λ t. t.parent) e.contents))
 
--- the rows that are parts of objects, with the keys of these: by table name, and then as in the
--- file
+-- the rows of child tables, with the keys of their objects: by table name, and then as in the file
 abbrev pub child_rows : List Named → EnvelopeValue → List (KeyName × RowValue)
 child_rows files e = map keyed (rows_in files (by_name (filter (λ t. not t.parent) e.contents)))
 
--- what the rows make
+-- the deposit that the rows make
 unfoldable pub deposit_of : List Named → EnvelopeValue → DepositValue
 deposit_of files e = record {
   header = e.header;
@@ -87,16 +86,16 @@ deposit_of files e = record {
   orphans = orphans_of (parent_rows files e) (child_rows files e);
 }
 
--- 9 is a row of another length or a field that is no UTF-8, 10 a key that is empty or too long, 11
--- too many rows
+-- fault 9 is a row of another length or a field that is no UTF-8, 10 a key that is empty or too
+-- long, 11 too many rows
 unfoldable pub check_rows : List TableRow → Result (Unit {0}) ℕ
 check_rows rows = do
   whole ← check (list_all is_whole rows) 9
   named ← check (list_all has_key rows) 10
   check (nat_le (length rows) most_rows) 11
 
--- 8 is a declared file that is no section after the envelope, or such a section that is not
--- declared once
+-- fault 8 is a declared file that is no section after the envelope, or a section after the envelope
+-- that is not declared exactly once
 unfoldable pub deposit_in : List Named → EnvelopeValue → Result DepositValue ℕ
 deposit_in files e = do
   filed ← check (are_filed files (tables_of e)) 8
@@ -112,7 +111,7 @@ sections_deposit (first ∷ files) = envelope_of first.bytes >>= deposit_in file
 unfoldable pub reading : List ℕ → Result DepositValue ℕ
 reading body = frame body >>= sections_deposit
 
--- the envelope of sections, which is the first of them; no bundle has no section
+-- the envelope of sections, which is the first of them; each bundle has a section
 unfoldable pub sections_envelope : List Named → Result EnvelopeValue ℕ
 sections_envelope [] = Err 5
 sections_envelope (first ∷ files) = envelope_of first.bytes

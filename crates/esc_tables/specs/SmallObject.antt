@@ -10,7 +10,7 @@ pub record IsSmallRow (row : RowValue) : Type 0 where
   pub few : length row.cells ≤ 64
   pub cells : All (λ c. (length c.0 ≤ 64) × (length c.1 ≤ limit)) row.cells
 
--- such rows, and no more child rows than a bundle has rows
+-- small rows, and no more child rows than a bundle may have rows
 pub record IsSmallObject (o : ObjectValue) : Type 0 where
   pub parent : IsSmallRow o.parent
   pub children : All IsSmallRow o.children

@@ -4,7 +4,7 @@ use Rattle.esc_tables.specs.declared.survey.Survey.{Survey}
 use Rattle.esc_tables.specs.TableRow.{TableRow, has_key}
 use Rattle.esc_tables.specs.Reading.{most_rows}
 
--- what was seen when one more row is
+-- what was seen of the rows, with one more
 abbrev pub noted : Survey → TableRow → Survey
 noted s r = record {
   has_keys = s.has_keys && has_key r;

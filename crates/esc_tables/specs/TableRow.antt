@@ -59,7 +59,7 @@ bytes_named files name = option_map_or (λ s. s.bytes) (find (λ s. bytes_eq s.n
 abbrev pub in_table : TableValue → List (List ℕ) → TableRow
 in_table t fields = record { table = t; fields = fields }
 
--- the rows of a table, which the sections have
+-- the rows of a table, read from its section
 abbrev pub table_rows : List Named → TableValue → List TableRow
 table_rows files t = map (in_table t) (records_of (bytes_named files t.file))
 
@@ -98,7 +98,7 @@ key_named kind text = record {
 abbrev pub key_of : TableRow → KeyName
 key_of r = key_named r.table.kind (key_field r)
 
--- what the rows of a table have in common
+-- the heading of a table's rows: what they have in common
 abbrev pub heading_of : TableValue → HeadingValue
 heading_of t = record { name = t.name; fields = t.fields }
 

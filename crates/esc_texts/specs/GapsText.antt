@@ -13,7 +13,7 @@ abbrev pub heading : Line
 heading = codes "watermark" ∷ codes "type" ∷ codes "used" ∷ codes "state" ∷ codes "blocker"
     ∷ codes "awaited" ∷ []
 
--- the line of a place; what there is none of is empty
+-- the line of a place; a value that isn't there is empty
 abbrev pub gap_line : GapLine → Line
 gap_line l =
     printed l.place.watermark ∷ type_name l.place.kind ∷ or_empty (option_map decimal l.used)

@@ -39,7 +39,7 @@ reply_data r =
     (member (codes "resend") (number_or_null r.resend)
     (member (codes "verdict") (string (verdict_word r.verdict)) no_members))))))))
 
--- members, with those that each receipt says
+-- members, with those of every reply
 abbrev pub with_receipt : ReplyValue → Members → Members
 with_receipt r ms =
     put (codes "fault") (text_or_null (fault_of r.verdict))
