@@ -103,8 +103,8 @@ fn set_of(alloc: Global, rows: &[usize]) -> Result<BTreeSet<usize>, NoMemory>
     Ok(rows.iter().copied().collect(alloc)?)
 }
 
-// The line of a place with this used row, or none. `unheld` is the greatest resend of its rows that
-// aren't held, if any.
+// The line of a place with this used row, or none. `greatest` is the greatest resend of its rows
+// that aren't held, if any.
 fn line_of(
     alloc: Global,
     m: &Manifest,

@@ -30,7 +30,7 @@ impl Timed for &TcpStream {
     }
 }
 
-/// A stream that is read, or written, as long as the patience with its client lasts.
+/// A stream that is read or written until the patience with its client is over.
 #[derive(Drop)]
 pub struct Client<'a, C, S: Drop> {
     clock: &'a C,

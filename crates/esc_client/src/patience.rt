@@ -33,9 +33,9 @@ pub const REST_PAUSE_SECONDS: u64 = 1;
 /// How long a client is still waited for.
 #[derive(Clone, Copy, Debug)]
 pub struct Patience {
-    /// How many seconds at most, whatever comes or goes.
+    /// The most seconds that are granted, whatever comes or goes.
     most: u64,
-    /// How long at once.
+    /// The longest single wait.
     pause: Duration,
     /// How many bytes have come or gone.
     bytes: u64,
@@ -44,7 +44,7 @@ pub struct Patience {
 }
 
 impl Patience {
-    /// With a client that sends its request.
+    /// The patience with a client that sends its request.
     pub fn for_request() -> Patience
         ensures new { IsNew result }
         ensures most { most_seconds result ≡ 300 }
@@ -53,7 +53,7 @@ impl Patience {
         Patience::new(MOST_REQUEST_SECONDS, Duration::MAX)
     }
 
-    /// With a client that takes its response.
+    /// The patience with a client that takes its response.
     pub fn for_response() -> Patience
         ensures new { IsNew result }
         ensures most { most_seconds result ≡ 2 ^ 64 - 1 }
@@ -62,7 +62,7 @@ impl Patience {
         Patience::new(u64::MAX, Duration::MAX)
     }
 
-    /// With a client that has its response and still sends.
+    /// The patience with a client that has its response and still sends.
     pub fn for_rest() -> Patience
         ensures new { IsNew result }
         ensures most { most_seconds result ≡ 10 }
@@ -92,8 +92,8 @@ impl Patience {
         Duration::from_secs(seconds.min(self.most))
     }
 
-    /// How long the next wait may last. There is none once the client was waited for as long as it
-    /// is granted.
+    /// How long the next wait may last. `None` once the client has been waited for as long as it is
+    /// granted.
     pub fn next_wait(&self) -> Option<Duration>
         ensures none { IsNone result ↔ IsOver self.now }
         ensures some { IfSome result (λ time. as_nanos time ≡ next_wait self.now) }

@@ -1,4 +1,4 @@
-//! The command line: from the words after the program's name to what it is asked to do.
+//! The command line: what the words after the program's name ask for.
 
 use clap::builder::ValueParser;
 use clap::{Arg, ArgMatches, Command, Error};
@@ -17,7 +17,7 @@ pub struct Invocation<'a> {
 /// What is to be done with a store.
 #[derive(Clone, Copy)]
 pub enum Task<'a> {
-    /// Make it, of a manifest.
+    /// Make it from a manifest.
     Init { manifest: &'a str },
     /// List the rows of one more manifest.
     Amend { manifest: &'a str },
@@ -34,7 +34,7 @@ pub enum DeskTask<'a> {
     Take { folder: &'a str },
     /// List the rows of a manifest.
     List { text: &'a [u8] },
-    /// Rebuild the registry as of a moment, or as of the latest.
+    /// Rebuild the registry as of a moment, or take the moment back.
     Move { moment: Option<i64> },
     /// Listen on a port of 127.0.0.1, and serve `count` connections.
     Serve { port: u16, count: u32 },
@@ -45,7 +45,7 @@ pub enum DeskTask<'a> {
 /// An argument of a command. Each is required.
 struct Argument {
     id: &'static str,
-    /// Whether its value is written after `--ID`, and not known by its place.
+    /// Whether its value is written after `--ID`, rather than known by its place.
     is_option: bool,
     value_name: &'static str,
     values: ValueParser<'static>,
@@ -290,7 +290,7 @@ pub fn parse<'a>(alloc: Global, words: &'a [&'a str]) -> Result<Option<Invocatio
     Ok(invocation_of(&matches))
 }
 
-// What matches ask for. `clap` has seen to it that there is something.
+// What the matched words ask for. `clap` makes sure that there is a command with its arguments.
 fn invocation_of<'a>(matches: &ArgMatches<'a>) -> Option<Invocation<'a>> {
     let (name, given) = matches.subcommand()?;
     let store = given.get_str("store")?;

@@ -15,7 +15,7 @@ pub const MOST_MANIFEST_BYTES: u64 = 4_194_304;
 pub struct Listing {
     /// Their names, in byte order.
     pub names: Vec<String>,
-    /// How many names are no UTF-8, which no number is.
+    /// How many names are no UTF-8, so that they are no numbers.
     pub unnamed: usize,
 }
 
@@ -39,7 +39,7 @@ pub fn is_missing(rt: &HostRuntime, path: &str) -> bool {
     }
 }
 
-/// Whether the system lets a file be read and written: `E1 PATH` if not. None is made.
+/// Returns `E1 PATH` if the system doesn't let a file be read and written. No file is made.
 pub fn check_access(rt: &HostRuntime, path: &str) -> Result<(), Stop> {
     match File::options().read(true).write(true).open(rt, path) {
         Ok(_) => Ok(()),
@@ -54,8 +54,7 @@ pub fn read_file(rt: &HostRuntime, path: &str, most: u64) -> Result<Vec<u8>, Sto
     read_front(rt, path, most)
 }
 
-/// The body in a plain file, which may not be a link. There is none in a file that is too long for
-/// one.
+/// The body in a plain file, which may not be a link. `None` if the file is too long for a body.
 pub fn read_body(rt: &HostRuntime, path: &str) -> Result<Option<Vec<u8>>, Stop> {
     if plain_length(rt, path, fs::symlink_metadata(rt, path))? > MOST_BYTES {
         return Ok(None);

@@ -64,8 +64,8 @@ fn serve_next<S: Alter, E: Write>(
     Ok(())
 }
 
-// Ends a connection whose response was sent. A client whose request was refused before its end
-// still sends, and where nobody reads that it finds the connection broken and may miss its
+// Ends a connection whose response was sent. A client whose request was refused before its end may
+// still be sending. If nobody read that, it would find the connection broken and might miss its
 // response: so the rest is read and dropped, within limits.
 fn see_off(rt: &HostRuntime, stream: &TcpStream) {
     if stream.shutdown(Shutdown::Write).is_err() {

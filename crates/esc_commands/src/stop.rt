@@ -8,7 +8,7 @@ use std::alloc::{AllocError, AllocFailed};
 use std::fmt;
 use std::io::Write;
 
-/// All went well.
+/// Done: nothing was refused.
 pub const DONE: u8 = 0;
 
 /// A manifest's fault, a word that is no moment, or a deposit that isn't held.
@@ -83,8 +83,8 @@ impl<T: Drop> From<AllocFailed<T>> for Stop {
 }
 
 /// A name or a path as a refusal prints it: on one line, so that no name can look like a second
-/// refusal. Where a control character is in it, as a line end, those are escaped as Rust writes
-/// them (`\n`, `\u{1b}`), and so are backslashes.
+/// refusal. If it has control characters, such as a line end, these are escaped as Rust writes them
+/// (`\n`, `\u{1b}`), and so are its backslashes.
 #[derive(Clone, Copy)]
 struct OneLine<'a>(&'a str);
 
@@ -115,8 +115,8 @@ pub fn print<O: Write>(rt: &HostRuntime, out: &mut O, text: &[u8]) -> Result<(),
     }
 }
 
-/// Tells a refusal that doesn't stop the program. Where standard error fails there is nobody to
-/// tell.
+/// Prints a refusal that doesn't stop the program. A failure of standard error is ignored: nobody
+/// could be told.
 pub fn tell<E: Write>(
     rt: &HostRuntime,
     err: &mut E,

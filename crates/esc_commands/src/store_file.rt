@@ -11,13 +11,13 @@ use esc_store::Store;
 use sqlite::{Alter, Connection, Error, ErrorCode, File, FileStore};
 use std::alloc::Global;
 
-/// A connection after its use, and what came of that.
+/// A connection after its use, and the outcome of the use.
 pub struct Used<S: Alter, T> {
     pub connection: Connection<S>,
     pub outcome: Result<T, Stop>,
 }
 
-/// What came of the use of a file, and of its closing.
+/// The outcome of the use of a file, and that of closing it.
 #[derive(Drop)]
 pub struct Closed<T> {
     pub outcome: Result<T, Stop>,

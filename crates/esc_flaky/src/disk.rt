@@ -42,8 +42,8 @@ pub struct FlakyDisk<D: Disk> {
 // When a call fails.
 #[derive(Drop)]
 struct Turn {
-    // How many calls pass before the one that fails. There is no number once it has failed, or if
-    // none is to fail.
+    // How many calls pass before the one that fails. `None` once it has failed, or if no call is to
+    // fail.
     calls_before: Option<u64>,
     // How many have failed: none or one.
     refused: u64,
@@ -91,8 +91,8 @@ impl<D: Disk> FlakyDisk<D> {
         self.turn.calls_before.is_none()
     }
 
-    /// Whether memory was refused to a call that was passed on: to a file in memory, a fault that
-    /// nobody told it to have.
+    /// Whether memory was refused to a call that was passed on: a disk in memory fails then, though
+    /// nobody told it to.
     pub fn wants_memory(&self) -> bool
         ensures { result ≡ wants_memory self.now }
     {
@@ -127,7 +127,7 @@ fn is_no_memory(error: &io::Error) -> bool
 }
 
 impl Turn {
-    // Counts a call. It is the one that fails if no other comes before.
+    // Counts a call, and fails it if no other call is to pass before the one that fails.
     fn pass(&mut self) -> io::Result<()>
         ensures due { IsErr result ↔ (self.old.calls_before ≡ Some 0) }
         ensures next { self.new.calls_before ≡ after_call self.old.calls_before }

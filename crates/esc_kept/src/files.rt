@@ -20,7 +20,7 @@ use sqlite_disk::Disk;
 use std::alloc::Global;
 
 /// The two files of a desk, as they are: nothing is written. Each pair of files that a crash may
-/// leave of them holds a store that it may leave of the desk.
+/// leave of them holds a store that a crash might have left of the desk.
 pub fn files_of<D: Disk + Drop>(desk: Desk<FileStore<D>>) -> Files<D>
     ensures left { AreClean D.Disk result.log result.db
         → (e doubtful : List EventValue)

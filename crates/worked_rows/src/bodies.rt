@@ -26,7 +26,7 @@ pub enum Body {
     Both,
     /// A Full at the watermark of D2.
     F2,
-    /// F1 with a name server of a domain that it has not.
+    /// F1 with a name server of a domain that it doesn't have.
     Orphan,
     /// F1 that says resend 1, where the manifest says 0.
     Unequal,
@@ -227,7 +227,7 @@ fn numbered_of(body: Body, table: &str) -> Option<(u32, &'static str)> {
     }
 }
 
-// Rows whose keys are in another order by their bytes.
+// Rows whose order isn't that of their keys by bytes.
 fn push_numbered(text: &mut String, count: u32, more: &str) -> Result<(), Fail> {
     for at in 0..count {
         write!(text, "n{at}.example,R1{more}\n")?;

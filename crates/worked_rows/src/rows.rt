@@ -170,7 +170,7 @@ pub const COUNTED: Row = Row {
     tables: &[R1, C1, DOMAIN_E, DOMAIN_F],
 };
 
-/// A desk that nothing came to.
+/// A desk at which nothing arrived.
 pub const NO_ARRIVALS: Row = Row {
     name: "no arrivals",
     listed: B,
@@ -456,7 +456,7 @@ const ROWS: &[Row] = &[
 ];
 
 /// The worked rows.
-// A function, so that the proof of one that goes over them has not all of them in it.
+// They are a function, so that the proof of a loop over them doesn't contain all of them.
 pub fn rows() -> &'static [Row] {
     ROWS
 }
