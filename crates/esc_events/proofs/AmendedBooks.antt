@@ -21,9 +21,9 @@ use Rattle.esc_events.proofs.AmendingLemmas.{union_more, comings_more, moment_mo
 use Rattle.esc_events.proofs.AmendingEvents.{came_under, holds_as, receipts_as, apart_as, held_as, parked_as, came_as, waits_as, held_is, parked_is}
 use Rattle.esc_events.proofs.AmendingKept.{StayBesides, rest_stays, parked_was, parked_are, bodies_are}
 
--- by the definitions: the bodies that are held after an amendment are those that were held, and of
--- each row that is new then the parked body with its digest, if that is its deposit; and the parked
--- ones are those that no row lists then
+-- by the definitions: the bodies that are held after an amendment are those that were held, and for
+-- each new row the parked body with its digest, if that is its deposit; and the parked ones are
+-- those that no row lists then
 pub amended_are_held : (e : List EventValue) (more : List MRow) → IsAccepted (union e) → IsAccepted (extended (union e) more) → IsApart sha256 reading e → (r : ℕ)
     → amended_bodies (extended (union e) more) (parked_body sha256 reading e) (length (union e)) (held_body sha256 reading e) r ≡ held_body sha256 reading (e ++ listed more ∷ []) r
 amended_are_held e more ok okn apart r = held_is sha256 e more ok okn apart r
@@ -35,7 +35,7 @@ amended_are_parked e more ok okn d = parked_is sha256 e more ok okn d
 no_shorter : (m more : List MRow) → length m ≤ length (extended m more)
 no_shorter m more = omega (arith, length-append m (new_rows m more))
 
--- these are the bodies and the parked bodies by it
+-- the same of the bodies that a store keeps
 pub kept_bodies : (k : Kept) (more : List MRow) → IsAccepted (extended k.listed more) → ((r : ℕ) (body : List ℕ) → k.bodies r ≡ Some body → r < length k.listed) → (r : ℕ)
     → (amended_kept k more).bodies r ≡ amended_bodies (extended k.listed more) k.parked (length k.listed) k.bodies r
 kept_bodies k more ok few r = bodies_are (extended k.listed more) ok k (length k.listed) (no_shorter k.listed more) few r

@@ -18,7 +18,7 @@ none_both false o none = none
 
 -- ---- rows in rising order
 
--- the first is not below this one, and each is below the ones behind it
+-- the first is not below this number, and each is below those after it
 abbrev RisesFrom : ℕ → List ℕ → Type 0
 RisesFrom first [] = Unit {0}
 RisesFrom first (r ∷ rows) = (first ≤ r) × RisesFrom (suc r) rows
@@ -80,7 +80,7 @@ module _ (n : List MRow) where
   abbrev digest_at : ℕ → List ℕ
   digest_at r = (row_at n r).digest
 
-  -- with what is parked for a row as its body
+  -- what is kept, with the parked body of a row held for it
   abbrev adopt : Kept → ℕ → Kept
   adopt k r = with_adopted k r (digest_at r) (k.parked (digest_at r))
 
@@ -180,7 +180,7 @@ module _ (n : List MRow) where
           let at : suc r ≤ q = not_below (suc r) rows q rises.1 there in
           omega (arith, one, at)
 
--- ---- rows are listed, and of those from this one on the bodies that are parked for them are held or let go
+-- ---- rows are listed; the parked bodies of those from this one on are held or dropped
 
 module _ (n : List MRow) (okn : IsAccepted n) (k : Kept) (from : ℕ) (le : from ≤ length n) where
   abbrev pub adopted : List ℕ

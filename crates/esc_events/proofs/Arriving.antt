@@ -77,7 +77,7 @@ none_parked : (e : List EventValue) (a : ArrivalValue) (found : Finding) → fou
 none_parked e a found is listed d same none =
     true≢false (sym (listed_row (union e) (row_of (union e) (sha256 a.body)) (reading a.body) (λ unlisted. listed (is ∙ unlisted))) ∙ ap (λ (x : List ℕ). is_some (row_of (union e) x)) same ∙ none)
 
--- no body is kept: a row lists it, and it is not the deposit of a row of which no body is held
+-- no body is kept: a row lists it, and it is not the deposit of a row that has no body yet
 pub books_noted : (e : List EventValue) (a : ArrivalValue) (k : Kept) (found : Finding) (known : Known) (receipt : ReceiptValue) → IsNew e a k found known receipt
     → (found ≡ Unlisted → ⊥) → ((q : ℕ) → held_row found ≡ Some q → IsSome (k.bodies q)) → AreBooks sha256 reading (e ++ arrived a ∷ []) (with_receipt k receipt)
 books_noted e a k found known receipt is listed there =
@@ -149,7 +149,7 @@ books_parked e a k known receipt is parking at free = by_parking parking at free
         by_receipt
     by_parking Crowded at free = absurd (free refl)
 
--- the body is the deposit of a row of which none is held
+-- the body is the deposit of a row that has no body yet
 pub books_held : (e : List EventValue) (a : ArrivalValue) (k : Kept) (row : ℕ) (d : DepositValue) (known : Known) (receipt : ReceiptValue) → IsNew e a k (Holding row d) known receipt
     → k.bodies row ≡ None → AreBooks sha256 reading (e ++ arrived a ∷ []) (held_by receipt row a.body k)
 books_held e a k row d known receipt is none =
@@ -195,7 +195,7 @@ books_held e a k row d known receipt is none =
         let same : row ≡ r = same_answer (says_found e a k (Holding row d) known receipt is r says) in
         ap (λ b. is_some (cond b (Some a.body) (k.bodies r))) (ap (λ (q : ℕ). r == q) same ∙ same_self r)
 
--- an arrival like an earlier one changes nothing
+-- a duplicate of an earlier arrival changes nothing
 pub books_repeated : (e : List EventValue) (a : ArrivalValue) (k : Kept) → AreBooks sha256 reading e k → (r : ReplyValue)
     → reply_alike (union e) 1 a.number (sha256 a.body) k.receipts ≡ Some r → AreBooks sha256 reading (e ++ arrived a ∷ []) k
 books_repeated e a k books r told = repeated sha256 reading e k a books r told

@@ -12,7 +12,7 @@ use Rattle.esc_events.specs.Events.{Coming}
 use Rattle.esc_store.specs.ReplyValue.{ReceiptValue, is_alike}
 use Rattle.esc_events.specs.Receipts.{receipt_by, found_then, alike, distinct, receipt_for, receipts_after}
 
--- ---- laws of alike
+-- ---- laws of duplicates (`alike`)
 pub both : (a b : Bool) → (a && b) ≡ true → (a ≡ true) × (b ≡ true)
 both true true e = (refl, refl)
 both true false e = absurd (true≢false (sym e))

@@ -35,7 +35,7 @@ split P r rs (suc k, x, within, is, p) = inr (k, x, omega (arith, within), is, p
 pub later : (P : ReceiptValue → Type 0) (r : ReceiptValue) (rs : List ReceiptValue) → Any P rs → Any P (r ∷ rs)
 later P r rs (k, x, within, is, p) = (suc k, x, omega (arith, within), is, p)
 
--- of a list and one more behind it
+-- one of a list with one more element passes: one of the list does, or the last
 pub split-last : (P : ReceiptValue → Type 0) (rs : List ReceiptValue) (r : ReceiptValue) → Any P (rs ++ r ∷ []) → Any P rs ⊎ P r
 split-last P [] r any = by_case (split P r [] any)
   where

@@ -66,7 +66,8 @@ chain_of e k stood apart =
     same : stood.held ≡ held_rows sha256 reading e
     same = set.same_set nat_cmp_total nat_cmp-IsAntisymmetric _ _ (λ r. stood.have_bodies r ∙ ap is_some (stood.books.bodies apart r) ∙ sym (contains_held sha256 reading e r))
 
--- the books change, and neither the rows, the bodies, the moment, the chain nor the tables
+-- a store with the books of f, and the rows, bodies, moment, chain and tables of one that stands
+-- for e, stands for f
 pub stands_still : (e f : List EventValue) (k l : Kept) → StandsFor sha256 reading e k → AreBooks sha256 reading f l
     → l.listed ≡ k.listed → l.bodies ≡ k.bodies → l.moment ≡ k.moment → l.steps ≡ k.steps → l.registry ≡ k.registry → StandsFor sha256 reading f l
 stands_still e f k l stood books rows bodies moment steps registry = record {

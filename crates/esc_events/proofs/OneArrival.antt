@@ -20,7 +20,7 @@ use Rattle.esc_events.proofs.HeldReceipts.{split-last}
 use Rattle.esc_events.proofs.Members.{any_of, one_of, among-front, among-last, some_any, any_some, no_first}
 
 module _ (digest : List ℕ → List ℕ) (reads : List ℕ → Result DepositValue ℕ) where
-  -- whether an arrival of the list is alike, by the receipts
+  -- whether an arrival of the list is a duplicate of this one, by the receipts
   pub any_kept : (l : List Coming) (c : Coming) → list_any (alike digest reads c) l ≡ list_any (is_alike c.number (digest c.body)) (receipts_after digest reads [] (distinct digest reads l))
   any_kept l c = any_alike digest reads l c ∙ sym (kept_any digest reads [] (distinct digest reads l) c)
 
@@ -113,7 +113,7 @@ module _ (digest : List ℕ → List ℕ) (reads : List ℕ → Result DepositVa
           ap body_of (sym (find-push-new (has_digest digest reads d) (comings e) came (no_first (has_digest digest reads d) (comings e) (sym (parked_now d (ap is_some unlisted)) ∙ none)) ((bytes_decides (digest a.body) d).1 same)))
           ∙ sym (parked_then d ∙ ap (λ (o : Option ℕ). cond (is_some o) None (body_of (find (has_digest digest reads d) (comings e ++ came ∷ [])))) unlisted)
 
-    -- ---- an arrival that is alike an earlier one changes nothing, and has that one's reply
+    -- ---- a duplicate of an earlier arrival changes nothing, and has that one's reply
     module _ (y : ReplyValue) (there : reply_alike (union e) 1 a.number (digest a.body) k.receipts ≡ Some y) where
       was : list_any (is_alike a.number (digest a.body)) k.receipts ≡ true
       was = some_alike (union e) a.number (digest a.body) 1 k.receipts y there
@@ -158,7 +158,7 @@ module _ (digest : List ℕ → List ℕ) (reads : List ℕ → Result DepositVa
       pub repeated_reply : reply_to digest reads then a ≡ Some y
       repeated_reply = reply_by k.receipts (ap (receipts_after digest reads []) no_more ∙ sym books.receipts) ∙ there
 
-    -- ---- an arrival that is like none before it
+    -- ---- an arrival that is no duplicate
     module _ (none : reply_alike (union e) 1 a.number (digest a.body) k.receipts ≡ None) where
       pub one_more : after ≡ before ++ came ∷ []
       one_more = pushed ∙ ap (λ b. cond b before (before ++ came ∷ [])) (none_alike (union e) a.number (digest a.body) 1 k.receipts none)

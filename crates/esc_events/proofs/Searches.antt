@@ -1,4 +1,4 @@
--- The first element of a list that passes a test, and the first receipt that is alike.
+-- The first element of a list that passes a test, and the first receipt with a number and a digest.
 use Rattle.std.proofs.Common.{◌≡◌, ℕ, suc, ◌+◌, Bool, true, false, cond, ◌||◌, List, [], ◌∷◌, ◌++◌, length, Option, Some, None, refl, sym, ap, ◌∙◌, arith, true≢false}
 use Rattle.std.specs.List.{list_any, find}
 use Rattle.esc_manifest.specs.declared.row.MRow.{MRow}
@@ -55,7 +55,8 @@ find-back p (x ∷ xs) ys e = by_test (p x) (find-back p xs ys) e
     by_test true known e = absurd (cc)
     by_test false known e = known e
 
--- behind a list, one more that passes adds nothing where one of the list passes
+-- one more element at the end of a list changes nothing of what is found, if one of the list passes
+-- whenever it does
 pub find-push-old : {X : Type 0} (p : X → Bool) (xs : List X) (x : X) → (p x ≡ true → list_any p xs ≡ true) → find p (xs ++ x ∷ []) ≡ find p xs
 find-push-old {X = X} p xs x old = by_find (find p xs) refl
   where
@@ -96,7 +97,7 @@ module _ (m : List MRow) (number digest : List ℕ) where
       by_test true known e = e
       by_test false known e = known e
 
-  -- behind receipts that are not alike, a receipt that is
+  -- a last receipt with the number and the digest is found, if no receipt before it has them
   pub alike-last : (n : ℕ) (rs : List ReceiptValue) (r : ReceiptValue) → reply_alike m n number digest rs ≡ None → is_alike number digest r ≡ true → reply_alike m n number digest (rs ++ r ∷ []) ≡ Some (reply_kept m (n + length rs) r)
   alike-last n [] r e is = ap (λ b. cond b (Some (reply_kept m n r)) None) is ∙ ap (λ (k : ℕ). Some (reply_kept m k r)) (omega arith)
   alike-last n (x ∷ rs) r e is = by_test (is_alike number digest x) (λ none. alike-last (suc n) rs r none is) e

@@ -49,9 +49,9 @@
 //! was honest, as in `esc_desk`.
 //!
 //! The contract of [`serve_one`] speaks of readers and writers of std, whose contracts give their
-//! bytes, but not whether a call failed. [`serve`] has the same body over a [`Source`] and a
-//! [`Sink`], which report failures too: it returns `Read` and `Write` only if a call has failed,
-//! and `Ok` only once the response was flushed.
+//! bytes, but not whether a call failed. [`serve_one`] is [`serve`] over these. [`serve`] takes a
+//! [`Source`] and a [`Sink`], which report failures too: it returns `Read` and `Write` only if a
+//! call has failed, and `Ok` only once the response was flushed.
 //!
 //! # Cost
 //!
