@@ -88,7 +88,7 @@ unfoldable pub next_at : List Named → List ℕ → Result (Option (Named × Li
 next_at before rest = if starts_with nat_eq rest last_line then end_at before rest else
     (section_at before rest >>= λ next. Ok (Some next))
 
--- the text begins with the first line and these sections, and there it has a fault
+-- the text begins with the first line and some sections in order, and has this fault after them
 pub record FaultBehind (body : List ℕ) (n : ℕ) : Type 0 where
   pub before : List Named
   pub rest : List ℕ

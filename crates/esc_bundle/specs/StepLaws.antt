@@ -1,4 +1,4 @@
--- Laws of steps: what each step gave, where all of them gave something.
+-- Laws of steps: what each step gave, if all of them gave a value.
 use Rattle.std.proofs.Common.{
   ◌≡◌,
   ◌⊎◌,

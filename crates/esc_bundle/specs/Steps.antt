@@ -18,18 +18,19 @@ abbrev pub or_fault : {A : Type 0} → ℕ → Option A → Result A ℕ
 or_fault n None = Err n
 or_fault n (Some x) = Ok x
 
--- the refusal of a function is the fault that the definition gives, and never out of memory
+-- a function's refusal is the fault that the definition gives, and never `NoMemory`
 abbrev pub Refuses : {A : Type 0} → Fault → Result A ℕ → Type 0
 Refuses (Refused n) told = told ≡ Err n
 Refuses NoMemory told = ⊥
 
--- a function that doesn't allocate gives what the definition gives, seen by view
+-- a function that doesn't allocate gives what the definition gives, where `view` is the value that
+-- contracts see
 abbrev pub Gives : {X Y : Type 0} → (X → Y) → Result X Fault → Result Y ℕ → Type 0
 Gives view (Ok x) told = told ≡ Ok (view x)
 Gives view (Err e) told = Refuses e told
 
--- a function that allocates gives what the definition gives, seen by view, unless it is out of
--- memory
+-- a function that allocates gives what the definition gives, where `view` is the value that
+-- contracts see, or `NoMemory`
 abbrev pub GivesOrNoMemory : {X Y : Type 0} → (X → Y) → Result X Fault → Result Y ℕ → Type 0
 GivesOrNoMemory view (Ok x) told = told ≡ Ok (view x)
 GivesOrNoMemory view (Err e) told = (n : ℕ) → e ≡ Refused n → told ≡ Err n

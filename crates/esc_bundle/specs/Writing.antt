@@ -34,11 +34,12 @@ in_order before [] = Ok before
 in_order before (s ∷ ss) = stands_at before s.name (length s.bytes) >>= λ stands.
     in_order (before ++ (s ∷ [])) ss
 
--- the text, if a bundle may be so long
+-- the text, if it is no longer than a bundle may be
 unfoldable pub within_limit : List ℕ → Result (List ℕ) ℕ
 within_limit text = check (nat_le (length text) limit) 4 >>= λ fits. Ok text
 
--- the text of a bundle: there is a section; then section by section; then the whole
+-- the text of these sections. Tested in this order: there is a section; each section may come after
+-- those before it; the whole is not too long
 unfoldable pub bundle_of : List Named → Result (List ℕ) ℕ
 bundle_of ss = do
   some ← check (nat_lt 0 (length ss)) 1
