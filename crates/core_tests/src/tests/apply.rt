@@ -268,7 +268,7 @@ fn push_counted(text: &mut String, work: &Work, writes: u64) -> Result<(), NoMem
     Ok(())
 }
 
-// A registry with F1, D2 and D3 that lets a number of calls through.
+// A registry with F1, D2 and D3 that then lets this number of calls through.
 fn stopping_registry(rt: &impl Abort, alloc: Global, calls: u32) -> Result<Stopping, NoMemory> {
     let mut inner = MemRegistry::new(alloc);
     go(rt, alloc, &mut inner, "", "F1 D2 D3")?;
@@ -280,8 +280,8 @@ fn stopping_move(rt: &impl Abort, alloc: Global, r: &mut Stopping) -> Result<Wor
     go(rt, alloc, r, "F1 D2 D3", "F1 D2-resent D3")
 }
 
-// What is told of that move where so many calls are let through, with the writes that the registry
-// counts.
+// What is said of that move if this number of calls is let through, with the writes that the
+// registry counts.
 fn moved_within(rt: &impl Abort, alloc: Global, calls: u32) -> Result<String, NoMemory> {
     let mut r = stopping_registry(rt, alloc, calls)?;
     let mut text = String::new(alloc);
@@ -293,8 +293,8 @@ fn moved_within(rt: &impl Abort, alloc: Global, calls: u32) -> Result<String, No
     Ok(text)
 }
 
-// What is told of a move where all its calls are let through. Back: for each step `take_undo` and
-// one write; forward: three calls for each of three mentions.
+// How many calls a move makes, and what is said of it if all are let through. Back: for each step
+// `take_undo` and one write; forward: three calls for each of three mentions.
 const CALLS: u32 = 13;
 
 const WHOLE: &str = "kept, 2 back, 2 on, 5 writes, 10";

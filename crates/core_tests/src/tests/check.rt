@@ -190,7 +190,7 @@ fn compared(
     Some((one == other, one != other, one < other))
 }
 
-// The findings of two objects where there are to be more.
+// The findings of two objects where more are declared.
 fn missing(alloc: Global) -> Result<Vec<Finding>, NoMemory> {
     let tables = tables_of(alloc, FRONT)?;
     let counts = counts_of(alloc, "registrar 10\ncontact 9\n")?;
