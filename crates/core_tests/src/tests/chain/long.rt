@@ -74,7 +74,7 @@ fn chain_lines(lines: &[GapLine]) -> usize {
         .count()
 }
 
-// How many lines there are and are of the chain, the first line and the last.
+// How many lines there are, how many of them are of the chain, and the first line and the last.
 fn push_gaps(text: &mut String, alloc: Global, lines: &[GapLine]) -> Result<(), NoMemory> {
     let count = lines.len();
     let of_chain = chain_lines(lines);
