@@ -1,7 +1,11 @@
-//! The worked rows over desks, and walks over them.
+//! The worked rows over desks, walks over them, and random lists of events.
 
 mod desk;
 mod events;
+mod model;
+mod random;
+mod runs;
+mod universe;
 mod walks;
 
 use std::process::Abort;

@@ -297,8 +297,8 @@ step 1 2024-03-04T00:00:00Z DIFF 0
     },
 ];
 
-// The end of a line, and how many bodies are parked.
-fn tell_end<S: Alter + Drop>(
+/// The end of a line, and how many bodies are parked.
+pub fn tell_end<S: Alter + Drop>(
     alloc: Global,
     text: &mut String,
     desk: &mut Desk<S>,
@@ -328,7 +328,7 @@ fn tell_arrival<S: Alter + Drop>(
     tell_end(alloc, text, desk, &work, before)
 }
 
-fn tell_amendment<S: Alter + Drop>(
+pub fn tell_amendment<S: Alter + Drop>(
     alloc: Global,
     text: &mut String,
     desk: &mut Desk<S>,
@@ -344,7 +344,7 @@ fn tell_amendment<S: Alter + Drop>(
     }
 }
 
-fn tell_moment<S: Alter + Drop>(
+pub fn tell_moment<S: Alter + Drop>(
     alloc: Global,
     text: &mut String,
     desk: &mut Desk<S>,
