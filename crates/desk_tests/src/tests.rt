@@ -1,5 +1,6 @@
 //! The worked rows over desks, walks over them, and random lists of events.
 
+mod crowded;
 mod desk;
 mod events;
 mod model;
