@@ -40,14 +40,23 @@
 
 mod bundle;
 mod bundle_fault;
+mod describe;
+mod draft;
 mod fault;
 mod given;
+mod known;
 mod manifest;
+mod proposal;
+mod sources;
 mod table_text;
 mod written;
 
 pub use bundle::bundle_of_files;
 pub use bundle_fault::BundleFault;
+pub use describe::describe_files;
 pub use fault::ReleaseFault;
 pub use given::TableFiles;
+pub use known::KnownTable;
 pub use manifest::manifest_of_bundles;
+pub use proposal::{FolderFile, Proposal, Unknown, Why};
+pub use sources::{Source, Sources, read_sources};

@@ -1,0 +1,7 @@
+use Rattle.serde_json.specs.View.{view}
+use Rattle.esc_pack.specs.Sources.{source_of}
+use Rattle.esc_envelope.proofs.Gather.{IsGathered}
+use Rattle.esc_pack.proofs.sources.all_sources.Given as goal
+
+abbrev pub invariant-loop-value : goal.invariant-loop-value
+invariant-loop-value l = IsGathered source_of view l.values l.value-index l.sources.items

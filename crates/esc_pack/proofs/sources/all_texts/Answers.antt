@@ -1,0 +1,18 @@
+use Rattle.std.proofs.Common.{◌∙◌, ap, sym, map, string_bytes}
+use Rattle.serde_json.specs.View.{view}
+use Rattle.serde_json.specs.Find.{as_str}
+use Rattle.esc_envelope.proofs.Gather.{next, fails, ended}
+use Rattle.esc_pack.proofs.sources.all_texts.Goals as goal
+
+pub returns-in_default : goal.returns-in_default
+returns-in_default c =
+    fails as_str view c.args.values.now c.loop-value.value-index c.value-item.result (map string_bytes c.loop-value.texts.items) c.loop-value-test.true
+    (ap (λ v. as_str (view v)) (sym c.value-item.is) ∙ sym c.in_default.ensures) c.loop-value.invariant
+
+pub loop-value-preserved : goal.loop-value-preserved
+loop-value-preserved c =
+    next as_str view c.args.values.now c.loop-value.value-index c.value-item.result c.in-Some.text.now (map string_bytes c.loop-value.texts.items) _ c.loop-value-test.true
+    (ap (λ v. as_str (view v)) (sym c.value-item.is) ∙ sym c.in-Some.ensures) c.in_ok-push_copy.ensures c.loop-value.invariant
+
+pub returns : goal.returns
+returns c = ended as_str view c.args.values.now c.loop-value.value-index (map string_bytes c.loop-value.texts.items) c.loop-value-test.false c.loop-value.invariant

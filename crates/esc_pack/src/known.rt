@@ -1,0 +1,226 @@
+//! The tables that are known by the names of files.
+
+use esc_envelope::Kind;
+
+/// A table that an agent's file is known to have by its name: the names of files are those of the
+/// CSV model (RFC 9022, section 4.6), the names of tables this project's profile.
+#[derive(Clone, Copy, Debug, PartialEq, Eq)]
+pub enum KnownTable {
+    RegistrarDeletes,
+    ContactDeletes,
+    HostDeletes,
+    DomainDeletes,
+    IdnLanguageDeletes,
+    NndnDeletes,
+    Registrar,
+    Contact,
+    ContactPostal,
+    ContactStatuses,
+    ContactTransfer,
+    ContactDisclose,
+    Host,
+    HostAddresses,
+    HostStatuses,
+    Domain,
+    DomainContacts,
+    DomainNameServers,
+    DomainNameServersAddresses,
+    DomainStatuses,
+    DomainTransfer,
+    Dnssec,
+    IdnLanguage,
+    Nndn,
+}
+
+impl KnownTable {
+    ghost use Rattle.std.specs.Prelude.{◌≡◌};
+    ghost use Rattle.esc_pack.specs.Known.{file_stem, table_name, table_kind, is_of_deletes};
+
+    /// All of them, those of deletes first: their files' names begin as those of the others.
+    pub const ALL: [KnownTable; 24] = [
+        KnownTable::RegistrarDeletes,
+        KnownTable::ContactDeletes,
+        KnownTable::HostDeletes,
+        KnownTable::DomainDeletes,
+        KnownTable::IdnLanguageDeletes,
+        KnownTable::NndnDeletes,
+        KnownTable::Registrar,
+        KnownTable::Contact,
+        KnownTable::ContactPostal,
+        KnownTable::ContactStatuses,
+        KnownTable::ContactTransfer,
+        KnownTable::ContactDisclose,
+        KnownTable::Host,
+        KnownTable::HostAddresses,
+        KnownTable::HostStatuses,
+        KnownTable::Domain,
+        KnownTable::DomainContacts,
+        KnownTable::DomainNameServers,
+        KnownTable::DomainNameServersAddresses,
+        KnownTable::DomainStatuses,
+        KnownTable::DomainTransfer,
+        KnownTable::Dnssec,
+        KnownTable::IdnLanguage,
+        KnownTable::Nndn,
+    ];
+
+    /// What the name of a file begins with, before a dash or a dot.
+    pub fn file_stem(self) -> &'static str
+        ensures { result.now ≡ file_stem self }
+    {
+        match self {
+            KnownTable::RegistrarDeletes => "registrar-delete",
+            KnownTable::ContactDeletes => "contact-delete",
+            KnownTable::HostDeletes => "host-delete",
+            KnownTable::DomainDeletes => "domain-delete",
+            KnownTable::IdnLanguageDeletes => "idnLanguage-delete",
+            KnownTable::NndnDeletes => "NNDN-delete",
+            KnownTable::Registrar => "registrar",
+            KnownTable::Contact => "contact",
+            KnownTable::ContactPostal => "contactPostal",
+            KnownTable::ContactStatuses => "contactStatuses",
+            KnownTable::ContactTransfer => "contactTransfer",
+            KnownTable::ContactDisclose => "contactDisclose",
+            KnownTable::Host => "host",
+            KnownTable::HostAddresses => "hostAddresses",
+            KnownTable::HostStatuses => "hostStatuses",
+            KnownTable::Domain => "domain",
+            KnownTable::DomainContacts => "domainContacts",
+            KnownTable::DomainNameServers => "domainNameServers",
+            KnownTable::DomainNameServersAddresses => "domainNameServersAddresses",
+            KnownTable::DomainStatuses => "domainStatuses",
+            KnownTable::DomainTransfer => "domainTransfer",
+            KnownTable::Dnssec => "dnssec",
+            KnownTable::IdnLanguage => "idnLanguage",
+            KnownTable::Nndn => "NNDN",
+        }
+    }
+
+    /// The name of the table that is declared.
+    pub fn table_name(self) -> &'static str
+        ensures { result.now ≡ table_name self }
+    {
+        match self {
+            KnownTable::RegistrarDeletes | KnownTable::Registrar => "registrar",
+            KnownTable::ContactDeletes | KnownTable::Contact => "contact",
+            KnownTable::HostDeletes | KnownTable::Host => "host",
+            KnownTable::DomainDeletes | KnownTable::Domain => "domain",
+            KnownTable::IdnLanguageDeletes | KnownTable::IdnLanguage => "idn",
+            KnownTable::NndnDeletes | KnownTable::Nndn => "nndn",
+            KnownTable::ContactPostal => "contactPostal",
+            KnownTable::ContactStatuses => "contactStatuses",
+            KnownTable::ContactTransfer => "contactTransfer",
+            KnownTable::ContactDisclose => "contactDisclose",
+            KnownTable::HostAddresses => "hostAddresses",
+            KnownTable::HostStatuses => "hostStatuses",
+            KnownTable::DomainContacts => "domainContacts",
+            KnownTable::DomainNameServers => "domainNs",
+            KnownTable::DomainNameServersAddresses => "domainHostAttr",
+            KnownTable::DomainStatuses => "domainStatuses",
+            KnownTable::DomainTransfer => "domainTransfer",
+            KnownTable::Dnssec => "secDNS",
+        }
+    }
+
+    /// The kind of its objects.
+    pub fn kind(self) -> Kind
+        ensures { result ≡ table_kind self }
+    {
+        match self {
+            KnownTable::RegistrarDeletes | KnownTable::Registrar => Kind::Registrar,
+            KnownTable::ContactDeletes
+            | KnownTable::Contact
+            | KnownTable::ContactPostal
+            | KnownTable::ContactStatuses
+            | KnownTable::ContactTransfer
+            | KnownTable::ContactDisclose => Kind::Contact,
+            KnownTable::HostDeletes
+            | KnownTable::Host
+            | KnownTable::HostAddresses
+            | KnownTable::HostStatuses => Kind::Host,
+            KnownTable::DomainDeletes
+            | KnownTable::Domain
+            | KnownTable::DomainContacts
+            | KnownTable::DomainNameServers
+            | KnownTable::DomainNameServersAddresses
+            | KnownTable::DomainStatuses
+            | KnownTable::DomainTransfer
+            | KnownTable::Dnssec => Kind::Domain,
+            KnownTable::IdnLanguageDeletes | KnownTable::IdnLanguage => Kind::Idn,
+            KnownTable::NndnDeletes | KnownTable::Nndn => Kind::Nndn,
+        }
+    }
+
+    /// Whether its rows are what is no longer there.
+    pub fn is_of_deletes(self) -> bool
+        ensures { result ≡ is_of_deletes self }
+    {
+        match self {
+            KnownTable::RegistrarDeletes
+            | KnownTable::ContactDeletes
+            | KnownTable::HostDeletes
+            | KnownTable::DomainDeletes
+            | KnownTable::IdnLanguageDeletes
+            | KnownTable::NndnDeletes => true,
+            KnownTable::Registrar
+            | KnownTable::Contact
+            | KnownTable::ContactPostal
+            | KnownTable::ContactStatuses
+            | KnownTable::ContactTransfer
+            | KnownTable::ContactDisclose
+            | KnownTable::Host
+            | KnownTable::HostAddresses
+            | KnownTable::HostStatuses
+            | KnownTable::Domain
+            | KnownTable::DomainContacts
+            | KnownTable::DomainNameServers
+            | KnownTable::DomainNameServersAddresses
+            | KnownTable::DomainStatuses
+            | KnownTable::DomainTransfer
+            | KnownTable::Dnssec
+            | KnownTable::IdnLanguage
+            | KnownTable::Nndn => false,
+        }
+    }
+
+    /// Whether its rows are the objects themselves, and not parts of them.
+    pub fn is_parent(self) -> bool {
+        match self {
+            KnownTable::RegistrarDeletes
+            | KnownTable::ContactDeletes
+            | KnownTable::HostDeletes
+            | KnownTable::DomainDeletes
+            | KnownTable::IdnLanguageDeletes
+            | KnownTable::NndnDeletes
+            | KnownTable::Registrar
+            | KnownTable::Contact
+            | KnownTable::Host
+            | KnownTable::Domain
+            | KnownTable::IdnLanguage
+            | KnownTable::Nndn => true,
+            KnownTable::ContactPostal
+            | KnownTable::ContactStatuses
+            | KnownTable::ContactTransfer
+            | KnownTable::ContactDisclose
+            | KnownTable::HostAddresses
+            | KnownTable::HostStatuses
+            | KnownTable::DomainContacts
+            | KnownTable::DomainNameServers
+            | KnownTable::DomainNameServersAddresses
+            | KnownTable::DomainStatuses
+            | KnownTable::DomainTransfer
+            | KnownTable::Dnssec => false,
+        }
+    }
+
+    /// Whether this field has the key of its rows.
+    pub fn is_key(self, field: &str) -> bool {
+        match self.kind() {
+            Kind::Registrar | Kind::Contact => matches!(field, "id" | "fId"),
+            Kind::Host => matches!(field, "name" | "fName" | "hostName" | "fHostName"),
+            Kind::Domain => matches!(field, "name" | "fName" | "domainName" | "fDomainName"),
+            Kind::Idn => matches!(field, "id" | "fId" | "idnTableId" | "fIdnTableId"),
+            Kind::Nndn => matches!(field, "aName" | "fAName"),
+        }
+    }
+}

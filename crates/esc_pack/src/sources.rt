@@ -1,0 +1,233 @@
+//! Where the rows of declared tables are: the members `from` and `heading` of a declaration.
+
+ghost use Rattle.std.specs.Prelude.{
+  ◌≡◌,
+  ◌++◌,
+  ◌∷◌,
+  [],
+  IfOk,
+  OnOk,
+  Some,
+  map,
+  option_map,
+  string_bytes,
+  codes,
+};
+ghost use Rattle.serde_json.specs.Find.{get, as_str};
+ghost use Rattle.serde_json.specs.View.{view};
+ghost use Rattle.esc_envelope.specs.Envelope.{json_of};
+ghost use Rattle.esc_envelope.specs.Members.{array_in, array_of, text_at};
+ghost use Rattle.esc_envelope.specs.Tables.{all_of};
+ghost use Rattle.esc_pack.specs.Sources.{
+  heading_from,
+  only_file,
+  texts_in,
+  files_from,
+  source_of,
+  sources_in,
+  sources_of,
+};
+
+use esc_bundle::NoMemory;
+use serde_json::Value;
+use std::alloc::Global;
+use std::marker::Model;
+
+/// The files of a declared table.
+#[derive(Debug, Drop)]
+pub struct Source {
+    /// Whether each begins with a heading row.
+    pub has_heading: bool,
+    /// Their names in the folder, in order.
+    pub files: Vec<String>,
+}
+
+impl Model for Source {
+    ghost use Rattle.std.specs.Prelude.{map, string_bytes};
+    ghost use Rattle.esc_pack.specs.Sources.{SourceValue};
+
+    ghost Value = { SourceValue };
+
+    ghost view = { λ s. record {
+      has_heading = s.has_heading;
+      files = map string_bytes s.files.items;
+    } };
+}
+
+/// The files of all tables that a description declares, in its order.
+#[derive(Debug, Drop)]
+pub struct Sources {
+    pub contents: Vec<Source>,
+    pub deletes: Vec<Source>,
+}
+
+impl Model for Sources {
+    ghost use Rattle.esc_pack.specs.Sources.{SourcesValue};
+
+    ghost Value = { SourcesValue };
+
+    ghost view = { λ s. record { contents = s.contents.items; deletes = s.deletes.items } };
+}
+
+fn heading_in(table: &Value) -> Option<bool>
+    ensures { result ≡ heading_from (get (codes "heading") (view table.now)) }
+{
+    match table.get("heading") {
+        Some(heading) => heading.as_bool(),
+        None => Some(false),
+    }
+}
+
+// The values of an array in order.
+fn array_in(value: &Value) -> Option<&[Value]>
+    ensures { option_map (λ values. map view values.now) result ≡ array_in (view value.now) }
+{
+    Some(value.as_array()?.as_slice())
+}
+
+// The values of a member that is an array or missing.
+fn array_of<'a>(envelope: &'a Value, name: &str) -> Option<&'a [Value]>
+    ensures { option_map (λ values. map view values.now) result
+        ≡ array_of name.now (view envelope.now) }
+{
+    match envelope.get(name) {
+        None => Some(&[]),
+        Some(value) => array_in(value),
+    }
+}
+
+fn push_copy(alloc: Global, texts: &mut Vec<String>, text: &str) -> Result<(), NoMemory>
+    ensures { OnOk result (map string_bytes texts.new.items
+        ≡ map string_bytes texts.old.items ++ text.now ∷ []) }
+{
+    let copy = String::from_str(alloc, text)?;
+    texts.push(copy)?;
+    Ok(())
+}
+
+fn all_texts(alloc: Global, values: &[Value]) -> Result<Option<Vec<String>>, NoMemory>
+    ensures { IfOk result (λ o. option_map (λ v. map string_bytes v.items) o
+        ≡ all_of as_str (map view values.now)) }
+{
+    let mut texts = Vec::new(alloc);
+    for value in values {
+        let Some(text) = value.as_str() else {
+            return Ok(None);
+        };
+        push_copy(alloc, &mut texts, text)?;
+    }
+    Ok(Some(texts))
+}
+
+fn texts_in(alloc: Global, value: &Value) -> Result<Option<Vec<String>>, NoMemory>
+    ensures { IfOk result (λ o. option_map (λ v. map string_bytes v.items) o
+        ≡ texts_in (view value.now)) }
+{
+    match array_in(value) {
+        Some(values) => all_texts(alloc, values),
+        None => Ok(None),
+    }
+}
+
+// The text of a member that must be there.
+fn text_at<'a>(object: &'a Value, name: &str) -> Option<&'a str>
+    ensures { option_map (λ t. t.now) result ≡ text_at name.now (view object.now) }
+{
+    object.get(name)?.as_str()
+}
+
+fn only_file(alloc: Global, table: &Value) -> Result<Option<Vec<String>>, NoMemory>
+    ensures { IfOk result (λ o. option_map (λ v. map string_bytes v.items) o
+        ≡ only_file (view table.now)) }
+{
+    let Some(name) = text_at(table, "file") else {
+        return Ok(None);
+    };
+    let mut names = Vec::new(alloc);
+    push_copy(alloc, &mut names, name)?;
+    Ok(Some(names))
+}
+
+fn files_in(alloc: Global, table: &Value) -> Result<Option<Vec<String>>, NoMemory>
+    ensures { IfOk result (λ o. option_map (λ v. map string_bytes v.items) o
+        ≡ files_from (view table.now) (get (codes "from") (view table.now))) }
+{
+    match table.get("from") {
+        Some(from) => texts_in(alloc, from),
+        None => only_file(alloc, table),
+    }
+}
+
+#[tactic(auto, unfolding(crate::specs::Sources::source_of))]
+fn source_in(alloc: Global, table: &Value) -> Result<Option<Source>, NoMemory>
+    ensures { IfOk result (λ o. o ≡ source_of (view table.now)) }
+{
+    let Some(has_heading) = heading_in(table) else {
+        return Ok(None);
+    };
+    let Some(files) = files_in(alloc, table)? else {
+        return Ok(None);
+    };
+    Ok(Some(Source { has_heading, files }))
+}
+
+fn all_sources(alloc: Global, values: &[Value]) -> Result<Option<Vec<Source>>, NoMemory>
+    ensures { IfOk result (λ o. option_map (λ v. v.items) o
+        ≡ all_of source_of (map view values.now)) }
+{
+    let mut sources = Vec::new(alloc);
+    for value in values {
+        let Some(source) = source_in(alloc, value)? else {
+            return Ok(None);
+        };
+        sources.push(source)?;
+    }
+    Ok(Some(sources))
+}
+
+#[tactic(auto, unfolding(crate::specs::Sources::sources_in))]
+fn sources_in(alloc: Global, json: &Value) -> Result<Option<Sources>, NoMemory>
+    ensures { IfOk result (λ o. o ≡ sources_in (view json.now)) }
+{
+    let Some(declared) = array_of(json, "contents") else {
+        return Ok(None);
+    };
+    let Some(deleted) = array_of(json, "deletes") else {
+        return Ok(None);
+    };
+    let Some(contents) = all_sources(alloc, declared)? else {
+        return Ok(None);
+    };
+    let Some(deletes) = all_sources(alloc, deleted)? else {
+        return Ok(None);
+    };
+    Ok(Some(Sources { contents, deletes }))
+}
+
+fn parsed(alloc: Global, json: &[u8]) -> Result<Option<Value>, NoMemory>
+    ensures { IfOk result (λ o. option_map view o ≡ json_of json.now) }
+{
+    match Value::from_slice(alloc, json) {
+        Ok(value) => Ok(Some(value)),
+        Err(error) => {
+            if error.is_memory() {
+                Err(NoMemory)
+            } else {
+                Ok(None)
+            }
+        }
+    }
+}
+
+/// The files that a description names for its tables: `from`, an array of names, without it the one
+/// that `file` names; and `heading`, true where each begins with a heading row. None where it is no
+/// JSON, or a member of these has another form.
+#[tactic(auto, unfolding(crate::specs::Sources::sources_of))]
+pub fn read_sources(alloc: Global, description: &[u8]) -> Result<Option<Sources>, NoMemory>
+    ensures { IfOk result (λ o. o ≡ sources_of description.now) }
+{
+    let Some(json) = parsed(alloc, description)? else {
+        return Ok(None);
+    };
+    sources_in(alloc, &json)
+}
