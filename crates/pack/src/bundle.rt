@@ -1,9 +1,13 @@
 //! `bundle --envelope FILE DIR OUT`: one bundle of an agent's files.
 
 use crate::files::{place_file, read_bundle};
-use crate::sources::{Source, sources_of};
 use crate::stop::Stop;
-use esc_pack::{BundleFault, TableFiles, bundle_of_files};
+use esc_bundle::Fault;
+use esc_envelope::read_envelope;
+use esc_pack::{BundleFault, Source, TableFiles, bundle_of_files, read_sources};
+
+/// The refusal of a declaration that has another form.
+const WRONG_TABLE: u8 = 7;
 
 /// The words of the command: the description, the folder of the files, and the bundle's path.
 #[derive(Clone, Copy)]
@@ -25,6 +29,31 @@ pub fn write_bundle(rt: &HostRuntime, words: Bundling<'_>) -> Result<(), Stop> {
     match bundle_of_files(rt.alloc(), &description, &given) {
         Ok(body) => place_file(rt, words.target, &body),
         Err(fault) => Err(stop_of(rt, words, &sources, fault)),
+    }
+}
+
+// The sources of the tables that a description declares, contents before deletes.
+fn sources_of(rt: &HostRuntime, description: &[u8], path: &str) -> Result<Vec<Source>, Stop> {
+    let Some(found) = read_sources(rt.alloc(), description)? else {
+        return Err(undeclared(rt, description, path));
+    };
+    let mut sources = Vec::new(rt.alloc());
+    for source in found.contents {
+        sources.push(source)?;
+    }
+    for source in found.deletes {
+        sources.push(source)?;
+    }
+    Ok(sources)
+}
+
+// The refusal of a description that doesn't say where the rows of its tables are: what it is
+// refused for as an envelope, or a declaration of another form.
+fn undeclared(rt: &HostRuntime, description: &[u8], path: &str) -> Stop {
+    match read_envelope(rt.alloc(), description) {
+        Ok(_) => Stop::unread(rt, WRONG_TABLE, path),
+        Err(Fault::Refused(code)) => Stop::unread(rt, code, path),
+        Err(Fault::NoMemory) => Stop::NoMemory,
     }
 }
 
@@ -50,7 +79,7 @@ fn read_files(rt: &HostRuntime, folder: &str, names: &[String]) -> Result<Vec<Ve
     Ok(files)
 }
 
-fn path_in(rt: &HostRuntime, folder: &str, name: &str) -> Result<String, Stop> {
+pub fn path_in(rt: &HostRuntime, folder: &str, name: &str) -> Result<String, Stop> {
     Ok(format!(in rt.alloc(); "{folder}/{name}")?)
 }
 
@@ -96,7 +125,7 @@ fn stop_of(rt: &HostRuntime, words: Bundling<'_>, sources: &[Source], fault: Bun
 fn code_of(fault: BundleFault) -> u8 {
     match fault {
         BundleFault::Refused { code } => code,
-        _ => 7,
+        _ => WRONG_TABLE,
     }
 }
 

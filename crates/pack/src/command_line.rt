@@ -1,6 +1,7 @@
 //! The words of the program, and what it does for them.
 
 use crate::bundle::{Bundling, write_bundle};
+use crate::describe::describe;
 use crate::files::read_bundles;
 use crate::stop::{DONE, Stop, USAGE, print, tell_stop};
 use clap::error::ErrorKind;
@@ -21,10 +22,15 @@ Example, with a folder of CSV files and a description of their tables:
 
     pack bundle --envelope envelope.json files deposits/n1
 
+Without a description, one is proposed by the names of the files and their headings:
+
+    pack describe files > envelope.json
+
 Refusals go to standard error: E1 PATH (can't be read or written), E2 PATH (over 16,777,216 bytes),
 U1 to U11 with the path (the bundle is no deposit), M1, M7 and M10 to M13 with the row (no manifest
 lists these deposits; rows count from 1, in the order of places), H1 PATH (another heading than the
-declared fields), H2 PATH (rows that begin with a byte order mark), S2 (no memory).
+declared fields), H2 PATH (rows that begin with a byte order mark), H3 PATH (no description of the
+folder), S2 (no memory).
 Status: 0 done; 1 refused by E2, U, M or H; 2 other words; 3 stopped by E1 or S2.
 ";
 
@@ -42,6 +48,23 @@ which is dropped:
     {\"id\":\"F1\",\"type\":\"FULL\",\"watermark\":\"2024-03-03T00:00:00Z\",\"contents\":[
     {\"name\":\"contact\",\"kind\":\"contact\",\"role\":\"parent\",\"key\":\"id\",\"fields\":[\"id\",\"clID\"],
     \"file\":\"c.csv\",\"from\":[\"Contacts_1.csv\",\"Contacts_2.csv\"],\"heading\":true}]}
+";
+
+const DESCRIBE: &str =
+    "Proposes a description of a folder's CSV files, by their names and their headings";
+
+const PROPOSAL: &str = "\
+A file is known by what its name has before the first dash or dot of its ending, as in domain.csv
+and domain-20240303.csv: domain, domainContacts, domainNameServers, domainNameServersAddresses,
+domainStatuses, domainTransfer, dnssec, host, hostAddresses, hostStatuses, contact, contactPostal,
+contactStatuses, contactTransfer, contactDisclose, registrar, idnLanguage, NNDN; and of objects that
+are no longer there domain-delete, host-delete, contact-delete, registrar-delete,
+idnLanguage-delete, NNDN-delete. Its first row has to be the names of the fields, with the key among
+them. Files of one table with one heading are joined.
+
+What can't be told is said on standard error, a line each that begins with unknown: always the id,
+the type and the watermark, for which the description has ID, FULL and 1970-01-01T00:00:00Z, and
+each file that it doesn't name. Set them, and give the description to pack bundle.
 ";
 
 fn manifest_command<'a>(alloc: Global) -> Result<Command<'a>, AllocError> {
@@ -75,6 +98,17 @@ fn bundle_command<'a>(alloc: Global) -> Result<Command<'a>, AllocError> {
         .arg(target)
 }
 
+fn describe_command<'a>(alloc: Global) -> Result<Command<'a>, AllocError> {
+    let folder = Arg::new(alloc, "described")
+        .value_name("DIR")
+        .required(true)
+        .help("The folder of the files");
+    Command::new(alloc, "describe")
+        .about(DESCRIBE)
+        .after_help(PROPOSAL)
+        .arg(folder)
+}
+
 fn command_line<'a>(alloc: Global) -> Result<Command<'a>, AllocError> {
     Command::new(alloc, "pack")
         .version("1")
@@ -83,7 +117,8 @@ fn command_line<'a>(alloc: Global) -> Result<Command<'a>, AllocError> {
         .subcommand_required(true)
         .arg_required_else_help(true)
         .subcommand(manifest_command(alloc)?)?
-        .subcommand(bundle_command(alloc)?)
+        .subcommand(bundle_command(alloc)?)?
+        .subcommand(describe_command(alloc)?)
 }
 
 fn matches_of<'a>(alloc: Global, words: &'a [String]) -> Result<ArgMatches<'a>, Error> {
@@ -98,7 +133,7 @@ pub fn run_words<O: Write, E: Write>(
     err: &mut E,
 ) -> u8 {
     let told = match matches_of(rt.alloc(), words) {
-        Ok(matches) => answer(rt, &matches),
+        Ok(matches) => answer(rt, &matches, err),
         Err(error) => return tell_error(rt, &error, out, err),
     };
     let printed = match told {
@@ -112,12 +147,19 @@ pub fn run_words<O: Write, E: Write>(
 }
 
 // What is printed for these words. `clap` has seen to it that there is a command with arguments.
-fn answer(rt: &HostRuntime, matches: &ArgMatches<'_>) -> Result<Vec<u8>, Stop> {
+fn answer<E: Write>(
+    rt: &HostRuntime,
+    matches: &ArgMatches<'_>,
+    err: &mut E,
+) -> Result<Vec<u8>, Stop> {
     let Some((_, given)) = matches.subcommand() else {
         return Ok(Vec::new(rt.alloc()));
     };
     if let Some(words) = bundling_of(given) {
         write_bundle(rt, words)?;
+    }
+    if let Some(folder) = given.get_str("described") {
+        return print_description(rt, folder, err);
     }
     match given.get_strs("bundle") {
         Some(paths) => manifest(rt, paths),
@@ -135,6 +177,17 @@ fn bundling_of<'a>(given: &ArgMatches<'a>) -> Option<Bundling<'a>> {
         folder,
         target,
     })
+}
+
+// `describe DIR`: the description is printed, and what it can't tell goes to standard error.
+fn print_description<E: Write>(
+    rt: &HostRuntime,
+    folder: &str,
+    err: &mut E,
+) -> Result<Vec<u8>, Stop> {
+    let described = describe(rt, folder)?;
+    let _ = err.write_all(described.unknown.as_bytes());
+    Ok(described.text)
 }
 
 // `manifest BUNDLE..`: the release manifest of the bundles at these paths.

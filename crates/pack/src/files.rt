@@ -16,6 +16,53 @@ pub fn read_bundles(rt: &HostRuntime, paths: &[&str]) -> Result<Vec<Vec<u8>>, St
     Ok(bundles)
 }
 
+/// The plain files of a folder: their names in byte order, and how many have one that is no UTF-8.
+#[derive(Drop)]
+pub struct Listing {
+    pub names: Vec<String>,
+    pub unnamed: u64,
+}
+
+/// The plain files of a folder. Folders, links and pipes in it are passed over.
+pub fn folder_names(rt: &HostRuntime, folder: &str) -> Result<Listing, Stop> {
+    let entries = match fs::read_dir(rt, folder) {
+        Ok(entries) => entries,
+        Err(error) => return Err(Stop::unreadable(rt, folder, &error)),
+    };
+    let mut listing = Listing {
+        names: Vec::new(rt.alloc()),
+        unnamed: 0,
+    };
+    for entry in entries {
+        match entry {
+            Ok(entry) => add_entry(rt, &mut listing, folder, &entry)?,
+            Err(error) if error.kind() == ErrorKind::InvalidFilename => {
+                listing.unnamed = listing.unnamed.saturating_add(1);
+            }
+            Err(error) => return Err(Stop::unreadable(rt, folder, &error)),
+        }
+    }
+    listing.names.sort_unstable();
+    Ok(listing)
+}
+
+fn add_entry(
+    rt: &HostRuntime,
+    listing: &mut Listing,
+    folder: &str,
+    entry: &fs::DirEntry,
+) -> Result<(), Stop> {
+    let metadata = match entry.metadata() {
+        Ok(metadata) => metadata,
+        Err(error) => return Err(Stop::unreadable(rt, folder, &error)),
+    };
+    if metadata.is_file() {
+        let name = String::from_str(rt.alloc(), entry.file_name())?;
+        listing.names.push(name)?;
+    }
+    Ok(())
+}
+
 /// The bytes of a plain file of at most 16,777,216 bytes.
 pub fn read_bundle(rt: &HostRuntime, path: &str) -> Result<Vec<u8>, Stop> {
     match front_of(rt, path) {

@@ -4,6 +4,9 @@
 //!   places ([`esc_pack::manifest_of_bundles`], whose contract says what it prints).
 //! - `pack bundle --envelope FILE DIR OUT` writes the bundle of the files of DIR, whose tables FILE
 //!   declares ([`esc_pack::bundle_of_files`], whose contract says what is read of it).
+//! - `pack describe DIR` proposes the description of a folder's files, by their names and headings
+//!   ([`esc_pack::describe_files`], whose contract says what is read of it), and says what it can't
+//!   tell.
 //! - `pack --version`, `pack --help`.
 //!
 //! Refusals go to standard error, and no manifest is printed then: `E1 PATH` for a file that can't
@@ -17,8 +20,8 @@
 
 mod bundle;
 mod command_line;
+mod describe;
 mod files;
-mod sources;
 mod stop;
 
 use command_line::run_words;

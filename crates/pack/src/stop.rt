@@ -1,5 +1,6 @@
 //! What the program stops for, its statuses, and its two streams.
 
+use esc_bundle::NoMemory;
 use std::alloc::{AllocError, AllocFailed};
 use std::fmt;
 use std::io::{Error, ErrorKind, Write};
@@ -33,6 +34,8 @@ pub enum Stop {
     Row { path: String, row: usize },
     /// The rows of a table begin with a byte order mark, of which this is the first file.
     Marked(String),
+    /// The description of a folder's files would not be read as it was made.
+    Undescribed(String),
     /// Memory was refused.
     NoMemory,
 }
@@ -65,6 +68,14 @@ impl Stop {
         }
     }
 
+    /// A folder without a description.
+    pub fn undescribed(rt: &HostRuntime, path: &str) -> Stop {
+        match String::from_str(rt.alloc(), path) {
+            Ok(path) => Stop::Undescribed(path),
+            Err(_) => Stop::NoMemory,
+        }
+    }
+
     /// The program's status.
     pub fn status(&self) -> u8 {
         match self {
@@ -73,7 +84,8 @@ impl Stop {
             | Stop::Unlisted { .. }
             | Stop::Heading(_)
             | Stop::Row { .. }
-            | Stop::Marked(_) => REFUSED,
+            | Stop::Marked(_)
+            | Stop::Undescribed(_) => REFUSED,
             Stop::Unreadable(_) | Stop::NoMemory => STOPPED,
         }
     }
@@ -89,8 +101,15 @@ impl fmt::Display for Stop {
             Stop::Heading(path) => write!(f, "H1 {path}"),
             Stop::Row { path, row } => write!(f, "U9 {path} row {row}"),
             Stop::Marked(path) => write!(f, "H2 {path}"),
+            Stop::Undescribed(path) => write!(f, "H3 {path}"),
             Stop::NoMemory => f.write_str("S2"),
         }
+    }
+}
+
+impl From<NoMemory> for Stop {
+    fn from(_refused: NoMemory) -> Stop {
+        Stop::NoMemory
     }
 }
 
