@@ -1,5 +1,5 @@
-//! Tests of the requests and reports of `esc_http`, and of a desk whose disk, reader or writer fails
-//! once.
+//! Tests of the requests and reports of `esc_http`, and of a desk whose disk, reader or writer
+//! fails once.
 //!
 //! They stand in a crate of their own, since a crate with tests is proved twice, with them and
 //! without. What they say is not promised by any clause: that the definitions give the responses

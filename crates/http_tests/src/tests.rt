@@ -3,17 +3,20 @@
 mod disks;
 mod list;
 mod lying;
+mod moments;
 mod routes;
 mod sweeps;
 
-use esc_desk::Desk;
+use esc_desk::{Desk, SFault};
 use esc_flaky::{FailingReader, FailingWriter};
 use esc_http::{Report, ServeFault, receipt_line, receipts_heading, report, serve_one};
 use esc_manifest::{Manifest, read_manifest};
 use esc_store::Store;
 use sqlite::{Alter, Connection, MemStore};
 use std::alloc::Global;
+use std::io::{self, Write};
 use std::process::Abort;
+use std::test::Fail;
 
 const LISTED: &[u8] = b"id,type,watermark,prevId,resend,sha256
 F1,FULL,2024-03-03T00:00:00Z,,,1d41f5eeb08831b6a8f6956b591cf4d4a358e3df4c4601a65b3528460d54055c
@@ -79,16 +82,51 @@ const STATUS_ASKED: Wire<'static> = Wire {
 };
 
 // A manifest that lists the sample.
-fn manifest(alloc: Global) -> Option<Manifest> {
-    read_manifest(alloc, LISTED).ok()
+fn manifest(alloc: Global) -> Result<Manifest, Fail> {
+    Ok(read_manifest(alloc, LISTED)?)
 }
 
 // A desk over a new store in memory that lists the sample.
-fn desk(alloc: Global) -> Option<Desk<MemStore>> {
+fn desk(alloc: Global) -> Result<Desk<MemStore>, Fail> {
     let manifest = manifest(alloc)?;
-    let conn = Connection::open_in_memory(alloc).ok()?;
-    let store = Store::create(alloc, conn, &manifest).ok()?;
-    Some(Desk::open(store))
+    let conn = Connection::open_in_memory(alloc)?;
+    match Store::create(alloc, conn, &manifest) {
+        Ok(store) => Ok(Desk::open(store)),
+        Err((fault, _)) => Err(Fail::new(fault)),
+    }
+}
+
+/// A writer that notes whether it is handed the response that tells that memory was refused. No
+/// test waits for that, and where a write fails there may be nothing of it.
+#[derive(Drop)]
+struct NotingWriter {
+    inner: FailingWriter,
+    has_told_s2: bool,
+}
+
+impl Write for NotingWriter {
+    fn write(&mut self, buf: &[u8]) -> io::Result<usize> {
+        if buf.ends_with(b"\r\n\r\nS2\n") {
+            self.has_told_s2 = true;
+        }
+        self.inner.write(buf)
+    }
+
+    fn flush(&mut self) -> io::Result<()> {
+        self.inner.flush()
+    }
+}
+
+// What was written, unless the response or the writer tells that memory was refused.
+fn written(writer: NotingWriter) -> Result<Vec<u8>, Fail> {
+    let NotingWriter { inner, has_told_s2 } = writer;
+    if has_told_s2 {
+        return Err(Fail::new("503 S2"));
+    }
+    if inner.wants_memory() {
+        return Err(Fail::new("a writer: OutOfMemory"));
+    }
+    Ok(inner.into_text())
 }
 
 // What is answered and written.
@@ -96,21 +134,25 @@ fn served<S: Alter>(
     alloc: Global,
     desk: &mut Desk<S>,
     wire: &Wire<'_>,
-) -> (Option<ServeFault>, Vec<u8>) {
+) -> Result<(Option<ServeFault>, Vec<u8>), Fail> {
     let mut reader = FailingReader::new(wire.input, wire.step, wire.readable);
-    let mut writer = FailingWriter::new(alloc, wire.step, wire.writable, wire.is_stuck);
+    let mut writer = NotingWriter {
+        inner: FailingWriter::new(alloc, wire.step, wire.writable, wire.is_stuck),
+        has_told_s2: false,
+    };
     let fault = serve_one(alloc, desk, &mut reader, &mut writer).err();
-    (fault, writer.into_text())
+    Ok((fault, written(writer)?))
 }
 
-fn serve_all<S: Alter>(alloc: Global, desk: &mut Desk<S>, wires: &[Wire<'_>]) {
+fn serve_all<S: Alter>(alloc: Global, desk: &mut Desk<S>, wires: &[Wire<'_>]) -> Result<(), Fail> {
     for wire in wires {
-        served(alloc, desk, wire);
+        served(alloc, desk, wire)?;
     }
+    Ok(())
 }
 
-fn count_receipts<S: Alter>(alloc: Global, desk: &mut Desk<S>) -> Option<usize> {
-    Some(desk.receipts(alloc).ok()?.len())
+fn count_receipts<S: Alter>(alloc: Global, desk: &mut Desk<S>) -> Result<usize, SFault> {
+    Ok(desk.receipts(alloc)?.len())
 }
 
 /// What came of a request: why the response did not go out whole, what of it did, and how many
@@ -127,11 +169,11 @@ fn told_of<S: Alter>(
     desk: &mut Desk<S>,
     before: &[Wire<'_>],
     wire: &Wire<'_>,
-) -> Option<Outcome> {
-    serve_all(alloc, desk, before);
-    let (fault, text) = served(alloc, desk, wire);
+) -> Result<Outcome, Fail> {
+    serve_all(alloc, desk, before)?;
+    let (fault, text) = served(alloc, desk, wire)?;
     let receipts = count_receipts(alloc, desk)?;
-    Some(Outcome {
+    Ok(Outcome {
         fault,
         text,
         receipts,
@@ -139,48 +181,36 @@ fn told_of<S: Alter>(
 }
 
 // What comes of a request to a new desk after others.
-fn told(alloc: Global, before: &[Wire<'_>], wire: &Wire<'_>) -> Option<Outcome> {
+fn told(alloc: Global, before: &[Wire<'_>], wire: &Wire<'_>) -> Result<Outcome, Fail> {
     let mut desk = desk(alloc)?;
     told_of(alloc, &mut desk, before, wire)
 }
 
 fn assert_told(
     rt: &impl Abort,
-    found: Option<Outcome>,
+    found: Outcome,
     fault: Option<ServeFault>,
     text: &[u8],
     receipts: usize,
 ) {
-    match found {
-        Some(found) => assert_eq!(rt;
-            (found.fault, found.text.as_slice(), found.receipts),
-            (fault, text, receipts)
-        ),
-        None => panic!(rt; "no desk"),
-    }
+    assert_eq!(rt;
+        (found.fault, found.text.as_slice(), found.receipts),
+        (fault, text, receipts)
+    );
 }
 
 // Whether a response went out whole, and begins and ends with these.
-fn assert_framed(
-    rt: &impl Abort,
-    found: Option<Outcome>,
-    front: &[u8],
-    back: &[u8],
-    receipts: usize,
-) {
-    match found {
-        Some(found) => assert_eq!(rt;
-            (
-                found.fault,
-                found.text.starts_with(front),
-                found.text.ends_with(back),
-                found.receipts
-            ),
-            (None, true, true, receipts),
-            "{front:?} {back:?}"
+fn assert_framed(rt: &impl Abort, found: Outcome, front: &[u8], back: &[u8], receipts: usize) {
+    assert_eq!(rt;
+        (
+            found.fault,
+            found.text.starts_with(front),
+            found.text.ends_with(back),
+            found.receipts
         ),
-        None => panic!(rt; "no desk"),
-    }
+        (None, true, true, receipts),
+        "{front:?} {back:?}"
+    );
 }
 
 /// Requests that come before, a request, why its response does not go out whole, what of it does,
@@ -255,13 +285,14 @@ static ANSWERS: [(
 ];
 
 #[test]
-fn answers(rt: HostRuntime) {
+fn answers(rt: HostRuntime) -> Result<(), Fail> {
     for (before, wire, fault, text, receipts) in &ANSWERS {
         for step in [1, 7, 100_000] {
-            let found = told(rt.alloc(), before, &Wire { step, ..*wire });
+            let found = told(rt.alloc(), before, &Wire { step, ..*wire })?;
             assert_told(&rt, found, *fault, text, *receipts);
         }
     }
+    Ok(())
 }
 
 /// Requests, each with the line that the response begins with and the text that it ends with.
@@ -380,7 +411,7 @@ static REPORTS: [(&[u8], &[u8]); 4] = [
 ];
 
 #[test]
-fn refusals_in_their_order(rt: HostRuntime) {
+fn refusals_in_their_order(rt: HostRuntime) -> Result<(), Fail> {
     for (input, front, back) in &REFUSED {
         for step in [1, 100_000] {
             let found = told(
@@ -391,46 +422,49 @@ fn refusals_in_their_order(rt: HostRuntime) {
                     step,
                     ..OPEN
                 },
-            );
+            )?;
             assert_framed(&rt, found, front, back, 0);
         }
     }
+    Ok(())
 }
 
 #[test]
-fn reports_are_told(rt: HostRuntime) {
+fn reports_are_told(rt: HostRuntime) -> Result<(), Fail> {
     for (input, back) in &REPORTS {
-        let found = told(rt.alloc(), &[SAMPLE], &Wire { input, ..OPEN });
+        let found = told(rt.alloc(), &[SAMPLE], &Wire { input, ..OPEN })?;
         assert_framed(&rt, found, b"HTTP/1.1 200 OK\r\n", back, 1);
     }
+    Ok(())
 }
 
 // The heading of the receipts with the line of each.
-fn lines_of_receipts<S: Alter>(alloc: Global, desk: &mut Desk<S>) -> Option<Vec<u8>> {
-    let mut whole = receipts_heading(alloc).ok()?;
-    for reply in &desk.receipts(alloc).ok()? {
-        let line = receipt_line(alloc, reply).ok()?;
-        whole.extend_from_slice(&line).ok()?;
+fn lines_of_receipts<S: Alter>(alloc: Global, desk: &mut Desk<S>) -> Result<Vec<u8>, Fail> {
+    let mut whole = receipts_heading(alloc)?;
+    for reply in &desk.receipts(alloc)? {
+        let line = receipt_line(alloc, reply)?;
+        whole.extend_from_slice(&line)?;
     }
-    Some(whole)
+    Ok(whole)
 }
 
 // The report on the receipts of a desk that took the sample, and the same by lines.
-fn both_forms<S: Alter>(alloc: Global, desk: &mut Desk<S>) -> Option<(Vec<u8>, Vec<u8>)> {
-    served(alloc, desk, &SAMPLE);
-    let whole = report(alloc, desk, Report::Receipts).ok()?;
+fn both_forms<S: Alter>(alloc: Global, desk: &mut Desk<S>) -> Result<(Vec<u8>, Vec<u8>), Fail> {
+    served(alloc, desk, &SAMPLE)?;
+    let whole = report(alloc, desk, Report::Receipts)?;
     let lines = lines_of_receipts(alloc, desk)?;
-    Some((whole, lines))
+    Ok((whole, lines))
 }
 
 // Whether both forms are equal, and how many receipts there are.
-fn are_equal_forms(alloc: Global) -> Option<(bool, usize)> {
+fn are_equal_forms(alloc: Global) -> Result<(bool, usize), Fail> {
     let mut desk = desk(alloc)?;
     let (whole, lines) = both_forms(alloc, &mut desk)?;
-    Some((whole == lines, count_receipts(alloc, &mut desk)?))
+    Ok((whole == lines, count_receipts(alloc, &mut desk)?))
 }
 
 #[test]
-fn a_line_of_the_receipts(rt: HostRuntime) {
-    assert_eq!(rt; are_equal_forms(rt.alloc()), Some((true, 1)));
+fn a_line_of_the_receipts(rt: HostRuntime) -> Result<(), Fail> {
+    assert_eq!(rt; are_equal_forms(rt.alloc())?, (true, 1));
+    Ok(())
 }

@@ -44,8 +44,8 @@ pub(crate) fn inner<D: Disk + Drop>(files: Files<FlakyDisk<D>>) -> Files<D> {
     }
 }
 
-fn sound<D: Disk + Drop>(files: Files<FlakyDisk<D>>) -> Files<FlakyDisk<D>> {
-    let files = inner(files);
+/// The same, as files of which a call may be told to fail again.
+pub(crate) fn sound<D: Disk + Drop>(files: Files<D>) -> Files<FlakyDisk<D>> {
     Files {
         log: FlakyDisk::sound(files.log),
         db: FlakyDisk::sound(files.db),
@@ -57,6 +57,20 @@ pub(crate) fn new_files(alloc: Global) -> Files<Memory> {
     Files {
         log: Memory::new(alloc),
         db: Memory::new(alloc),
+    }
+}
+
+// Whether a file in memory wanted more of it. Then a call failed that was not to.
+fn want_memory<D: Disk + Drop>(files: &Files<FlakyDisk<D>>) -> bool {
+    files.log.wants_memory() || files.db.wants_memory()
+}
+
+/// Why files of which no call is to fail are refused.
+pub(crate) fn refusal<D: Disk + Drop>(fault: SFault, files: Files<FlakyDisk<D>>) -> Fail {
+    if want_memory(&files) {
+        Fail::new("a file in memory: OutOfMemory")
+    } else {
+        Fail::new(format_args!("sound files: {fault}"))
     }
 }
 
@@ -80,14 +94,14 @@ pub(crate) const PLENTY: Room = Room {
     log_pages: 1_000,
 };
 
-/// A connection, or the files, where a call of theirs fails.
+/// A connection, or the fault and the files.
 pub(crate) fn connect<D: Disk + Drop>(
     alloc: Global,
     files: Files<D>,
     room: Room,
-) -> Result<Connection<FileStore<D>>, Files<D>> {
+) -> Result<Connection<FileStore<D>>, (SFault, Files<D>)> {
     if !files.may_be_used() {
-        return Err(files);
+        return Err((SFault::S1, files));
     }
     let options = Options {
         cache_pages: room.cache_pages,
@@ -96,12 +110,17 @@ pub(crate) fn connect<D: Disk + Drop>(
     };
     match Connection::open_files(alloc, files, options) {
         Ok(connection) => Ok(connection),
-        Err((_, left)) => Err(left.into_files()),
+        Err((error, left)) => Err((SFault::from(error), left.into_files())),
     }
 }
 
-pub(crate) fn close<D: Disk + Drop>(desk: Desk<FileStore<D>>) -> Files<D> {
-    disconnect(desk.into_store().into_connection())
+/// A desk's files, unless one in memory wanted more of it.
+pub(crate) fn close<D: Disk + Drop>(desk: FlakyDesk<D>) -> Result<Files<FlakyDisk<D>>, Fail> {
+    let files = disconnect(desk.into_store().into_connection());
+    if want_memory(&files) {
+        return Err(refusal(SFault::S1, files));
+    }
+    Ok(files)
 }
 
 fn disconnect<D: Disk + Drop>(connection: Connection<FileStore<D>>) -> Files<D> {
@@ -156,7 +175,7 @@ pub(crate) fn sound_desk<S: Alter + Drop>(
 ) -> Result<Desk<S>, Fail> {
     match open_or_create(alloc, connection, manifest)? {
         Ok(desk) => Ok(desk),
-        Err(_) => Err(Fail::new("a sound store is refused")),
+        Err(_) => Err(Fail::new("S1 of a sound store")),
     }
 }
 
@@ -167,10 +186,26 @@ pub(crate) fn reopen<D: Disk + Drop>(
     room: Room,
     manifest: &Manifest,
 ) -> Result<FlakyDesk<D>, Fail> {
-    match connect(alloc, sound(files), room) {
-        Ok(connection) => sound_desk(alloc, connection, manifest),
-        Err(_) => Err(Fail::new("sound files do not open")),
+    match connect(alloc, sound(inner(files)), room) {
+        Ok(connection) => match open_or_create(alloc, connection, manifest)? {
+            Ok(desk) => Ok(desk),
+            Err(connection) => Err(refusal(SFault::S1, disconnect(connection))),
+        },
+        Err((fault, files)) => Err(refusal(fault, files)),
     }
+}
+
+// The same, where a call may have failed that was to.
+fn reopen_refused<D: Disk + Drop>(
+    alloc: Global,
+    files: Files<FlakyDisk<D>>,
+    room: Room,
+    manifest: &Manifest,
+) -> Result<FlakyDesk<D>, Fail> {
+    if want_memory(&files) {
+        return Err(refusal(SFault::S1, files));
+    }
+    reopen(alloc, files, room, manifest)
 }
 
 /// The desk over these files, in which a store is made if there is none. Where it is refused that
@@ -184,8 +219,9 @@ pub(crate) fn begin<D: Disk + Drop>(
     match connect(alloc, files, room) {
         Ok(connection) => match open_twice(alloc, connection, manifest)? {
             Ok(desk) => Ok(desk),
-            Err(connection) => reopen(alloc, disconnect(connection), room, manifest),
+            Err(connection) => reopen_refused(alloc, disconnect(connection), room, manifest),
         },
-        Err(files) => reopen(alloc, files, room, manifest),
+        Err((SFault::S1, files)) => reopen_refused(alloc, files, room, manifest),
+        Err((fault, files)) => Err(refusal(fault, files)),
     }
 }

@@ -1,139 +1,254 @@
-//! A list of four arrivals, of which the last takes two steps back, and what a desk gives for it.
+//! A list of events, and what a desk gives for it.
+//!
+//! The first manifest lists F1, D3 and D2 at resend 1, so D2 and `abc` are parked. The amendment
+//! lists D2, which is held from then on; `abc` stays parked. A moment between D2 and D3 takes D3's
+//! step back. D2 at resend 1 comes under it, and D3 stands on that once the moment is taken back.
 
-use esc_desk::{Arrival, Desk, Outcome, SFault, number};
-use esc_http::receipt_line;
-use esc_manifest::{Manifest, read_manifest};
+use esc_desk::{AmendFault, Arrival, Desk, Event, EventOutcome, Outcome, SFault, number};
+use esc_manifest::Manifest;
 use sqlite::types::ValueRef;
 use sqlite::{Alter, Connection, Row};
 use std::alloc::Global;
-use std::io::Write;
+use std::fmt::Write;
 use std::test::Fail;
+use worked_rows::bodies::{Body, bytes_of, manifest_of, manifest_text};
+use worked_rows::shown::tell_reply;
 
-const F1: &[u8] =
-    b"escrow-bundle 1\nenvelope.json 392\n{\"id\":\"F1\",\"type\":\"FULL\",\"watermark\":\"2024-03-03T00:00:00Z\",\"deletes\":[],\"contents\":[{\"name\":\"registrar\",\"kind\":\"registrar\",\"role\":\"parent\",\"key\":\"id\",\"fields\":[\"id\"],\"file\":\"c0\"},{\"name\":\"contact\",\"kind\":\"contact\",\"role\":\"parent\",\"key\":\"id\",\"fields\":[\"id\",\"clID\"],\"file\":\"c1\"},{\"name\":\"domain\",\"kind\":\"domain\",\"role\":\"parent\",\"key\":\"name\",\"fields\":[\"name\",\"clID\",\"registrant\"],\"file\":\"c2\"}]}\nc0 3\nR1\n\nc1 6\nC1,R1\n\nc2 16\na.example,R1,C1\n\nend\n";
+/// What a desk is sent.
+#[derive(Clone, Copy)]
+enum Sent {
+    /// A body arrives under a number.
+    Body(&'static str, Body),
+    /// A manifest lists these bodies.
+    Rows(&'static [Body]),
+    /// A moment is set, in nanoseconds since 1970-01-01T00:00:00Z, or taken back.
+    Moment(Option<i64>),
+}
 
-const D2: &[u8] =
-    b"escrow-bundle 1\nenvelope.json 213\n{\"id\":\"D2\",\"type\":\"DIFF\",\"watermark\":\"2024-03-04T00:00:00Z\",\"prevId\":\"F1\",\"deletes\":[],\"contents\":[{\"name\":\"domain\",\"kind\":\"domain\",\"role\":\"parent\",\"key\":\"name\",\"fields\":[\"name\",\"clID\",\"registrant\"],\"file\":\"c0\"}]}\nc0 16\nb.example,R1,C1\n\nend\n";
+const FIRST: &[Body] = &[Body::F1, Body::D3, Body::D2Resent];
 
-const D3: &[u8] =
-    b"escrow-bundle 1\nenvelope.json 193\n{\"id\":\"D3\",\"type\":\"DIFF\",\"watermark\":\"2024-03-05T00:00:00Z\",\"prevId\":\"D2\",\"deletes\":[{\"name\":\"domain\",\"kind\":\"domain\",\"role\":\"parent\",\"key\":\"name\",\"fields\":[\"name\"],\"file\":\"d0\"}],\"contents\":[]}\nd0 10\na.example\n\nend\n";
+/// 2024-03-04T12:00:00Z.
+pub(crate) const NOON: i64 = 1_709_553_600_000_000_000;
 
-const D2_RESENT: &[u8] =
-    b"escrow-bundle 1\nenvelope.json 224\n{\"id\":\"D2\",\"type\":\"DIFF\",\"watermark\":\"2024-03-04T00:00:00Z\",\"prevId\":\"F1\",\"resend\":1,\"deletes\":[],\"contents\":[{\"name\":\"domain\",\"kind\":\"domain\",\"role\":\"parent\",\"key\":\"name\",\"fields\":[\"name\",\"clID\",\"registrant\"],\"file\":\"c0\"}]}\nc0 32\nb.example,R1,C1\nc.example,R1,C1\n\nend\n";
-
-const LISTED: &[u8] = b"id,type,watermark,prevId,resend,sha256
-F1,FULL,2024-03-03T00:00:00Z,,0,1df32485bb50de13b678577a8e63d1d7d7844a9414805e9b1bb3a7ba1781e52b
-D2,DIFF,2024-03-04T00:00:00Z,F1,0,288db04904510f4387a9996548345f8f9800e0a1c195aa10d6f3269b6e019f99
-D3,DIFF,2024-03-05T00:00:00Z,D2,0,734ac95ad9c0740a0afdeca20a2fb189aa77a52c933103ee5ac395f2f5ef731d
-D2,DIFF,2024-03-04T00:00:00Z,F1,1,82c5627368e0797412943e87ecf8a4fc299857c043df87ac1058f39dbbca0ae2
-";
-
-/// The arrivals with their numbers: a Full, two Differentials on it, and the first of these once
-/// more, at a higher resend.
-const LIST: [(&str, &[u8]); 4] = [("1", F1), ("2", D2), ("3", D3), ("4", D2_RESENT)];
+/// The events, in order. Each of them changes a store that has not seen it.
+static EVENTS: [Sent; 8] = [
+    Sent::Body("1", Body::F1),
+    Sent::Body("2", Body::D2),
+    Sent::Body("3", Body::Abc),
+    Sent::Rows(&[Body::F1, Body::D2]),
+    Sent::Body("4", Body::D3),
+    Sent::Moment(Some(NOON)),
+    Sent::Body("5", Body::D2Resent),
+    Sent::Moment(None),
+];
 
 /// What the tables of a store hold, by their keys.
-const QUERIES: [&str; 6] = [
-    "SELECT row, id, watermark, resend, digest FROM listed ORDER BY row",
+const QUERIES: [&str; 9] = [
+    "SELECT id, version FROM info ORDER BY id",
+    "SELECT row, id, type, watermark, prev, resend, digest FROM listed ORDER BY row",
     "SELECT receipt, number, digest, verdict, fault, row, again, orphans FROM receipt ORDER BY receipt",
     "SELECT row, body FROM held ORDER BY row",
     "SELECT pos, row FROM step ORDER BY pos",
     "SELECT kind, key, record FROM object ORDER BY kind, key",
     "SELECT pos, kind, key, record FROM undo ORDER BY pos, kind, key",
+    "SELECT digest, body FROM parked ORDER BY digest",
+    "SELECT id, watermark FROM moment ORDER BY id",
 ];
 
-/// The manifest that lists the four.
-pub(crate) fn manifest(alloc: Global) -> Result<Manifest, Fail> {
-    Ok(read_manifest(alloc, LISTED)?)
+/// The first manifest, and the body or the text of each event.
+#[derive(Drop)]
+pub(crate) struct List {
+    pub manifest: Manifest,
+    texts: Vec<Vec<u8>>,
 }
 
-/// The four arrivals.
-pub(crate) fn arrivals(alloc: Global) -> Result<Vec<Arrival<'static>>, Fail> {
-    let mut arrivals = Vec::new(alloc);
-    for (text, body) in LIST {
-        let number = number(text)?;
-        arrivals.push(Arrival { number, body })?;
+/// What came of a list that was sent.
+#[derive(Drop)]
+pub(crate) struct Came {
+    /// A line for each event: its answer, or `S1` where it was refused.
+    pub lines: String,
+    /// Whether each was answered.
+    pub answered: Vec<bool>,
+}
+
+impl Came {
+    /// Whether an event was refused.
+    pub(crate) fn has_lost(&self) -> bool {
+        self.answered.iter().any(|is_answered| !*is_answered)
     }
-    Ok(arrivals)
 }
 
-/// What came of a list's arrivals.
-pub(crate) fn run<S: Alter + Drop>(
-    alloc: Global,
-    desk: &mut Desk<S>,
-    arrivals: &[Arrival<'_>],
-) -> Result<Vec<Outcome>, Fail> {
-    Ok(desk.run(alloc, arrivals)?)
+fn text_of(alloc: Global, sent: Sent) -> Result<Vec<u8>, Fail> {
+    match sent {
+        Sent::Body(_, body) => bytes_of(alloc, body),
+        Sent::Rows(bodies) => Ok(manifest_text(alloc, bodies, "")?.into_bytes()),
+        Sent::Moment(_) => Ok(Vec::new(alloc)),
+    }
 }
 
-// The line of an outcome. An arrival is lost by `S1` alone.
-fn tell_outcome(alloc: Global, text: &mut Vec<u8>, outcome: &Outcome) -> Result<(), Fail> {
+/// The list.
+pub(crate) fn worked_list(alloc: Global) -> Result<List, Fail> {
+    let manifest = manifest_of(alloc, FIRST)?;
+    let mut texts = Vec::new(alloc);
+    for sent in &EVENTS {
+        texts.push(text_of(alloc, *sent)?)?;
+    }
+    Ok(List { manifest, texts })
+}
+
+fn event<'a>(sent: Sent, text: &'a [u8]) -> Result<Event<'a>, Fail> {
+    match sent {
+        Sent::Body(name, _) => Ok(Event::Arrival(Arrival {
+            number: number(name)?,
+            body: text,
+        })),
+        Sent::Rows(_) => Ok(Event::Amend(text)),
+        Sent::Moment(moment) => Ok(Event::AsOf(moment)),
+    }
+}
+
+fn events<'a>(alloc: Global, list: &'a List) -> Result<Vec<Event<'a>>, Fail> {
+    let mut events = Vec::new(alloc);
+    for (sent, text) in EVENTS.iter().zip(&list.texts) {
+        events.push(event(*sent, text.as_slice())?)?;
+    }
+    Ok(events)
+}
+
+// Tells the line of an event. Whether it was answered: a file that fails refuses it by `S1` alone.
+fn tell_outcome(text: &mut String, outcome: &EventOutcome) -> Result<bool, Fail> {
     match outcome {
-        Outcome::Done(reply) => text.extend_from_slice(&receipt_line(alloc, reply)?)?,
-        Outcome::Lost(SFault::S1) => text.extend_from_slice(b"S1\n")?,
-        Outcome::Lost(fault) => return Err(Fail::new(*fault)),
+        EventOutcome::Arrived(Outcome::Done(reply)) => tell_reply(text, reply)?,
+        EventOutcome::Amended(Ok(added)) => write!(text, "added {added}")?,
+        EventOutcome::Moved(Ok(())) => text.push_str("moved")?,
+        EventOutcome::Arrived(Outcome::Lost(SFault::S1))
+        | EventOutcome::Amended(Err(AmendFault::Store(SFault::S1)))
+        | EventOutcome::Moved(Err(SFault::S1)) => {
+            text.push_str("S1\n")?;
+            return Ok(false);
+        }
+        EventOutcome::Arrived(Outcome::Lost(fault)) => return Err(Fail::new(*fault)),
+        EventOutcome::Amended(Err(fault)) => return Err(Fail::new(*fault)),
+        EventOutcome::Moved(Err(fault)) => return Err(Fail::new(*fault)),
     }
-    Ok(())
+    text.push_str("\n")?;
+    Ok(true)
 }
 
-/// A line for each outcome: its reply, or `S1` where it was lost.
-pub(crate) fn lines(alloc: Global, outcomes: &[Outcome]) -> Result<Vec<u8>, Fail> {
-    let mut text = Vec::new(alloc);
+fn came_of(alloc: Global, outcomes: &[EventOutcome]) -> Result<Came, Fail> {
+    let mut lines = String::new(alloc);
+    let mut answered = Vec::new(alloc);
     for outcome in outcomes {
-        tell_outcome(alloc, &mut text, outcome)?;
+        answered.push(tell_outcome(&mut lines, outcome)?)?;
     }
-    Ok(text)
+    Ok(Came { lines, answered })
 }
 
-/// What a desk answers to a list's arrivals, and then to the whole list.
-pub(crate) fn take_answered<S: Alter + Drop>(
+fn run<S: Alter + Drop>(
     alloc: Global,
     desk: &mut Desk<S>,
-    arrivals: &[Arrival<'_>],
-    outcomes: &[Outcome],
-) -> Result<Vec<u8>, Fail> {
-    let mut text = Vec::new(alloc);
-    for (arrival, outcome) in arrivals.iter().zip(outcomes) {
-        match outcome {
-            Outcome::Done(_) => take(alloc, &mut text, desk, arrival)?,
-            Outcome::Lost(_) => text.extend_from_slice(b"S1\n")?,
+    events: &[Event<'_>],
+) -> Result<Came, Fail> {
+    let outcomes = desk.run_events(alloc, events)?;
+    came_of(alloc, outcomes.as_slice())
+}
+
+/// Sends the whole list.
+pub(crate) fn send<S: Alter + Drop>(
+    alloc: Global,
+    desk: &mut Desk<S>,
+    list: &List,
+) -> Result<Came, Fail> {
+    let events = events(alloc, list)?;
+    run(alloc, desk, events.as_slice())
+}
+
+/// Sends the list to a desk of which nothing fails.
+pub(crate) fn send_soundly<S: Alter + Drop>(
+    alloc: Global,
+    desk: &mut Desk<S>,
+    list: &List,
+) -> Result<String, Fail> {
+    let came = send(alloc, desk, list)?;
+    if came.has_lost() {
+        return Err(Fail::new("S1 of a sound store"));
+    }
+    let Came { lines, .. } = came;
+    Ok(lines)
+}
+
+/// Sends the events that were answered to a desk of which nothing fails, and gives their lines,
+/// with `S1` for the others. Where the first of the others was kept all the same it is sent, too.
+pub(crate) fn send_answered<S: Alter + Drop>(
+    alloc: Global,
+    desk: &mut Desk<S>,
+    list: &List,
+    answered: &[bool],
+    is_kept: bool,
+) -> Result<String, Fail> {
+    let mut lines = String::new(alloc);
+    let mut is_next_kept = is_kept;
+    for ((sent, text), is_answered) in EVENTS.iter().zip(&list.texts).zip(answered) {
+        let event = event(*sent, text.as_slice())?;
+        push_line(alloc, &mut lines, desk, event, (*is_answered, is_next_kept))?;
+        is_next_kept = is_next_kept && *is_answered;
+    }
+    Ok(lines)
+}
+
+// Sends an event that was answered, or else kept, and tells its line.
+fn push_line<S: Alter + Drop>(
+    alloc: Global,
+    lines: &mut String,
+    desk: &mut Desk<S>,
+    event: Event<'_>,
+    fate: (bool, bool),
+) -> Result<(), Fail> {
+    let (is_answered, is_kept) = fate;
+    if is_answered || is_kept {
+        let came = run(alloc, desk, &[event])?;
+        if is_answered {
+            lines.push_str(came.lines.as_str())?;
+            return Ok(());
         }
     }
-    Ok(text)
-}
-
-fn take<S: Alter + Drop>(
-    alloc: Global,
-    text: &mut Vec<u8>,
-    desk: &mut Desk<S>,
-    arrival: &Arrival<'_>,
-) -> Result<(), Fail> {
-    let (reply, _work) = desk.arrive(alloc, &arrival.number, arrival.body)?;
-    text.extend_from_slice(&receipt_line(alloc, &reply)?)?;
+    lines.push_str("S1\n")?;
     Ok(())
 }
 
-fn tell_value(text: &mut Vec<u8>, value: ValueRef<'_>) -> Result<(), Fail> {
+// Tells bytes as a text, or else by their digits.
+fn tell_bytes(text: &mut String, bytes: &[u8]) -> Result<(), Fail> {
+    if let Ok(part) = str::from_utf8(bytes) {
+        text.push_str(part)?;
+        return Ok(());
+    }
+    for byte in bytes {
+        write!(text, "{byte:02x}")?;
+    }
+    Ok(())
+}
+
+fn tell_value(text: &mut String, value: ValueRef<'_>) -> Result<(), Fail> {
     match value {
-        ValueRef::Null => text.extend_from_slice(b"none")?,
+        ValueRef::Null => text.push_str("none")?,
         ValueRef::Int(number) => write!(text, "{number}")?,
-        ValueRef::Blob(bytes) => text.extend_from_slice(bytes)?,
-        ValueRef::Text(bytes) => text.extend_from_slice(bytes)?,
+        ValueRef::Blob(bytes) => tell_bytes(text, bytes)?,
+        ValueRef::Text(bytes) => tell_bytes(text, bytes)?,
         ValueRef::Real(_) => return Err(Fail::new("a store has no such value")),
     }
     Ok(())
 }
 
-fn tell_row(text: &mut Vec<u8>, row: &Row) -> Result<(), Fail> {
+fn tell_row(text: &mut String, row: &Row) -> Result<(), Fail> {
     for at in 0..row.column_count() {
         tell_value(text, row.get_ref(at)?)?;
-        text.extend_from_slice(b" ")?;
+        text.push_str(" ")?;
     }
-    text.extend_from_slice(b"\n")?;
+    text.push_str("\n")?;
     Ok(())
 }
 
-fn tell_rows(text: &mut Vec<u8>, rows: &[Row]) -> Result<(), Fail> {
+fn tell_rows(text: &mut String, rows: &[Row]) -> Result<(), Fail> {
     for row in rows {
         tell_row(text, row)?;
     }
@@ -144,13 +259,15 @@ fn rows_of<S: Alter + Drop>(conn: &mut Connection<S>, query: &str) -> Result<Vec
     Ok(conn.query_all(query, &[])?)
 }
 
-/// All rows of a store: what is listed, receipts, bodies, steps, objects and before-images.
+/// All rows of a store: version, what is listed, receipts, bodies, steps, objects, before-images,
+/// parked bodies and the moment.
 pub(crate) fn tables<S: Alter + Drop>(
     alloc: Global,
     conn: &mut Connection<S>,
-) -> Result<Vec<u8>, Fail> {
-    let mut text = Vec::new(alloc);
+) -> Result<String, Fail> {
+    let mut text = String::new(alloc);
     for query in QUERIES {
+        writeln!(text, "{query}")?;
         tell_rows(&mut text, rows_of(conn, query)?.as_slice())?;
     }
     Ok(text)

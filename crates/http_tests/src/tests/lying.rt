@@ -7,6 +7,7 @@ use esc_desk::Desk;
 use sqlite::Alter;
 use std::alloc::Global;
 use std::process::Abort;
+use std::test::Fail;
 
 const BAD_REQUEST: &[u8] =
     b"HTTP/1.1 400 Bad Request\r\nContent-Type: text/plain\r\nContent-Length: 12\r\nConnection: close\r\n\r\nbad request\n";
@@ -21,22 +22,25 @@ fn cut(len: usize, step: usize) -> Wire<'static> {
 }
 
 // Sends each beginning of an arrival, and then the whole.
-fn assert_beginnings<S: Alter>(rt: &impl Abort, alloc: Global, desk: &mut Desk<S>) {
+fn assert_beginnings<S: Alter>(
+    rt: &impl Abort,
+    alloc: Global,
+    desk: &mut Desk<S>,
+) -> Result<(), Fail> {
     for len in 0..PUT_SAMPLE.len() {
         for step in [1, 100_000] {
-            let found = told_of(alloc, desk, &[], &cut(len, step));
+            let found = told_of(alloc, desk, &[], &cut(len, step))?;
             assert_told(rt, found, None, BAD_REQUEST, 0);
         }
     }
-    assert_told(rt, told_of(alloc, desk, &[], &SAMPLE), None, HELD, 1);
+    assert_told(rt, told_of(alloc, desk, &[], &SAMPLE)?, None, HELD, 1);
+    Ok(())
 }
 
 #[test]
-fn no_beginning_of_an_arrival_arrives(rt: HostRuntime) {
-    match desk(rt.alloc()) {
-        Some(mut desk) => assert_beginnings(&rt, rt.alloc(), &mut desk),
-        None => panic!(rt; "no desk"),
-    }
+fn no_beginning_of_an_arrival_arrives(rt: HostRuntime) -> Result<(), Fail> {
+    let mut desk = desk(rt.alloc())?;
+    assert_beginnings(&rt, rt.alloc(), &mut desk)
 }
 
 /// A request for the receipts: how many short header lines it has before a long one, how many
@@ -88,25 +92,23 @@ static HEADS: [(Head, &[u8]); 6] = [
 ];
 
 // The front of a head, with so many header lines.
-fn front_of(alloc: Global, lines: u32) -> Option<Vec<u8>> {
-    let mut front = Vec::from_slice(alloc, b"GET /receipts HTTP/1.1\r\n").ok()?;
+fn front_of(alloc: Global, lines: u32) -> Result<Vec<u8>, Fail> {
+    let mut front = Vec::from_slice(alloc, b"GET /receipts HTTP/1.1\r\n")?;
     for _ in 0..lines {
-        front.extend_from_slice(b"A: 1\r\n").ok()?;
+        front.extend_from_slice(b"A: 1\r\n")?;
     }
-    Some(front)
+    Ok(front)
 }
 
-fn bytes_of(alloc: Global, head: &Head) -> Option<Vec<u8>> {
+fn bytes_of(alloc: Global, head: &Head) -> Result<Vec<u8>, Fail> {
     let mut bytes = front_of(alloc, head.lines)?;
-    bytes.extend_from_slice(b"X: ").ok()?;
-    bytes
-        .resize(head.size.saturating_sub(head.end.len()), b'x')
-        .ok()?;
-    bytes.extend_from_slice(head.end).ok()?;
-    Some(bytes)
+    bytes.extend_from_slice(b"X: ")?;
+    bytes.resize(head.size.saturating_sub(head.end.len()), b'x')?;
+    bytes.extend_from_slice(head.end)?;
+    Ok(bytes)
 }
 
-fn told_of_head(alloc: Global, head: &Head, step: usize) -> Option<Outcome> {
+fn told_of_head(alloc: Global, head: &Head, step: usize) -> Result<Outcome, Fail> {
     let bytes = bytes_of(alloc, head)?;
     told(
         alloc,
@@ -120,10 +122,11 @@ fn told_of_head(alloc: Global, head: &Head, step: usize) -> Option<Outcome> {
 }
 
 #[test]
-fn a_head_has_a_limit(rt: HostRuntime) {
+fn a_head_has_a_limit(rt: HostRuntime) -> Result<(), Fail> {
     for (head, front) in &HEADS {
         for step in [1, 100_000] {
-            assert_framed(&rt, told_of_head(rt.alloc(), head, step), front, b"", 0);
+            assert_framed(&rt, told_of_head(rt.alloc(), head, step)?, front, b"", 0);
         }
     }
+    Ok(())
 }

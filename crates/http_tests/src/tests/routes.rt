@@ -6,7 +6,7 @@ use super::{
     HELD, OPEN, PUT_SAMPLE, RECEIPTS, Wire, assert_told, count_receipts, desk, manifest, served,
     told_of,
 };
-use esc_desk::Desk;
+use esc_desk::{Desk, SFault};
 use esc_flaky::FlakyDisk;
 use esc_http::ServeFault;
 use esc_manifest::Manifest;
@@ -126,12 +126,12 @@ fn is_answered<S: Alter + Drop>(
     alloc: Global,
     desk: &mut Desk<S>,
     exchange: &Exchange,
-) -> bool {
+) -> Result<bool, Fail> {
     let wire = Wire {
         input: exchange.request,
         ..OPEN
     };
-    let (fault, text) = served(alloc, desk, &wire);
+    let (fault, text) = served(alloc, desk, &wire)?;
     let is_refused = text.as_slice() == UNAVAILABLE;
     let response = if is_refused {
         UNAVAILABLE
@@ -144,14 +144,22 @@ fn is_answered<S: Alter + Drop>(
         "{:?}",
         exchange.request
     );
-    !is_refused
+    Ok(!is_refused)
 }
 
 // Whether a desk that refused a request has the receipts that it had before. One that refuses each
 // call tells none.
-fn is_unchanged<S: Alter + Drop>(alloc: Global, desk: &mut Desk<S>, exchange: &Exchange) -> bool {
+fn is_unchanged<S: Alter + Drop>(
+    alloc: Global,
+    desk: &mut Desk<S>,
+    exchange: &Exchange,
+) -> Result<bool, Fail> {
     let (before, _) = exchange.receipts;
-    count_receipts(alloc, desk).is_none_or(|count| count == before)
+    match count_receipts(alloc, desk) {
+        Ok(count) => Ok(count == before),
+        Err(SFault::S1) => Ok(true),
+        Err(fault) => Err(Fail::new(fault)),
+    }
 }
 
 // Sends a request until it is answered: once more at the same desk, or where that refuses again at
@@ -163,21 +171,20 @@ fn settle<D: Disk + Drop>(
     exchange: &Exchange,
     manifest: &Manifest,
 ) -> Result<(FlakyDesk<D>, u32), Fail> {
-    if is_answered(rt, alloc, &mut desk, exchange) {
+    if is_answered(rt, alloc, &mut desk, exchange)? {
         return Ok((desk, 0));
     }
-    assert!(rt;
-        is_unchanged(alloc, &mut desk, exchange),
-        "{:?}",
-        exchange.request
-    );
-    if is_answered(rt, alloc, &mut desk, exchange) {
+    let is_unchanged = is_unchanged(alloc, &mut desk, exchange)?;
+    assert!(rt; is_unchanged, "{:?}", exchange.request);
+    if is_answered(rt, alloc, &mut desk, exchange)? {
         return Ok((desk, 1));
     }
-    let mut desk = reopen(alloc, close(desk), ONE_PAGE, manifest)?;
-    let is_answered = is_answered(rt, alloc, &mut desk, exchange);
-    assert!(rt; is_answered, "{:?}", exchange.request);
-    Ok((desk, 2))
+    let mut desk = reopen(alloc, close(desk)?, ONE_PAGE, manifest)?;
+    if is_answered(rt, alloc, &mut desk, exchange)? {
+        return Ok((desk, 2));
+    }
+    close(desk)?;
+    Err(Fail::new(format_args!("refused by sound files: {:?}", exchange.request)))
 }
 
 // All requests over files of which one call fails, and how often each was refused at most. Whether
@@ -195,7 +202,7 @@ fn assert_routes<D: Disk + Drop>(
         desk = settled;
         *refused = refusals.max(*refused);
     }
-    Ok(have_failed(&close(desk)))
+    Ok(have_failed(&close(desk)?))
 }
 
 /// More calls than there are.
@@ -208,7 +215,7 @@ fn assert_calls(
     of_the_log: bool,
     refused: &mut [u32],
 ) -> Result<(), Fail> {
-    let manifest = manifest(alloc).ok_or("no manifest")?;
+    let manifest = manifest(alloc)?;
     for at in 0..MOST_CALLS {
         let files = flaky(new_files(alloc), Call { of_the_log, at });
         if !assert_routes(rt, alloc, files, &manifest, refused)? {
@@ -220,11 +227,11 @@ fn assert_calls(
 
 // How often each request is refused at most: an arrival that is a commit twice, since it may be
 // open whether it is kept, and any other request once.
-const REFUSED: [u32; 14] = [2, 1, 2, 1, 1, 1, 1, 1, 1, 1, 1, 1, 1, 1];
+const REFUSED: [u32; 15] = [2, 1, 2, 1, 1, 1, 1, 1, 1, 1, 1, 1, 1, 1, 1];
 
 #[test]
 fn each_call_of_either_file_over_the_routes(rt: HostRuntime) -> Result<(), Fail> {
-    let mut refused = [0; 14];
+    let mut refused = [0; 15];
     for of_the_log in [false, true] {
         assert_calls(&rt, rt.alloc(), of_the_log, &mut refused)?;
     }
@@ -239,7 +246,7 @@ fn assert_reads<S: Alter>(
     desk: &mut Desk<S>,
     exchange: &Exchange,
     step: usize,
-) {
+) -> Result<(), Fail> {
     let (before, _) = exchange.receipts;
     for readable in 0..exchange.request.len() {
         let wire = Wire {
@@ -248,9 +255,10 @@ fn assert_reads<S: Alter>(
             readable,
             ..OPEN
         };
-        let found = told_of(alloc, desk, &[], &wire);
+        let found = told_of(alloc, desk, &[], &wire)?;
         assert_told(rt, found, Some(ServeFault::Read), b"", before);
     }
+    Ok(())
 }
 
 // Sends a request of whose response a write fails after so many bytes, for each number of them.
@@ -260,7 +268,7 @@ fn assert_writes<S: Alter>(
     desk: &mut Desk<S>,
     exchange: &Exchange,
     step: usize,
-) {
+) -> Result<(), Fail> {
     let (_, after) = exchange.receipts;
     for writable in 0..exchange.response.len() {
         let wire = Wire {
@@ -269,10 +277,11 @@ fn assert_writes<S: Alter>(
             writable,
             ..OPEN
         };
-        let found = told_of(alloc, desk, &[], &wire);
+        let found = told_of(alloc, desk, &[], &wire)?;
         let beginning = &exchange.response[..writable];
         assert_told(rt, found, Some(ServeFault::Write), beginning, after);
     }
+    Ok(())
 }
 
 // The same where the response can't be handed on, and where nothing fails.
@@ -282,7 +291,7 @@ fn assert_rest<S: Alter>(
     desk: &mut Desk<S>,
     exchange: &Exchange,
     step: usize,
-) {
+) -> Result<(), Fail> {
     let (_, after) = exchange.receipts;
     for fault in [Some(ServeFault::Write), None] {
         let wire = Wire {
@@ -291,33 +300,38 @@ fn assert_rest<S: Alter>(
             is_stuck: fault.is_some(),
             ..OPEN
         };
-        let found = told_of(alloc, desk, &[], &wire);
+        let found = told_of(alloc, desk, &[], &wire)?;
         assert_told(rt, found, fault, exchange.response, after);
     }
+    Ok(())
 }
 
 // Reads, writes and the flush of each request fail, one after the other.
-fn assert_streams<S: Alter>(rt: &impl Abort, alloc: Global, desk: &mut Desk<S>, step: usize) {
+fn assert_streams<S: Alter>(
+    rt: &impl Abort,
+    alloc: Global,
+    desk: &mut Desk<S>,
+    step: usize,
+) -> Result<(), Fail> {
     for exchange in &ROUTES {
-        assert_reads(rt, alloc, desk, exchange, step);
-        assert_writes(rt, alloc, desk, exchange, step);
-        assert_rest(rt, alloc, desk, exchange, step);
+        assert_reads(rt, alloc, desk, exchange, step)?;
+        assert_writes(rt, alloc, desk, exchange, step)?;
+        assert_rest(rt, alloc, desk, exchange, step)?;
     }
+    Ok(())
 }
 
-fn assert_steps(rt: &impl Abort, alloc: Global, step: usize) {
-    match desk(alloc) {
-        Some(mut desk) => assert_streams(rt, alloc, &mut desk, step),
-        None => panic!(rt; "no desk"),
-    }
+fn assert_steps(rt: &impl Abort, alloc: Global, step: usize) -> Result<(), Fail> {
+    let mut desk = desk(alloc)?;
+    assert_streams(rt, alloc, &mut desk, step)
 }
 
 #[test]
-fn each_read_and_write_of_one_byte_over_the_routes(rt: HostRuntime) {
-    assert_steps(&rt, rt.alloc(), 1);
+fn each_read_and_write_of_one_byte_over_the_routes(rt: HostRuntime) -> Result<(), Fail> {
+    assert_steps(&rt, rt.alloc(), 1)
 }
 
 #[test]
-fn each_read_and_write_of_many_bytes_over_the_routes(rt: HostRuntime) {
-    assert_steps(&rt, rt.alloc(), 100_000);
+fn each_read_and_write_of_many_bytes_over_the_routes(rt: HostRuntime) -> Result<(), Fail> {
+    assert_steps(&rt, rt.alloc(), 100_000)
 }

@@ -1,74 +1,59 @@
-//! A list of arrivals, with each call of either file failing once: while the store is made and
-//! takes the list, and while a store that took it is opened.
+//! A list of events, with each call of either file failing once: while a store is made and takes
+//! the list, and while one that took it is opened and takes it again.
 //!
-//! An arrival is answered or lost by `S1`. Once the list is sent again the replies and all rows of
-//! the store are those of a desk that nothing happened to, which took the answered arrivals and
-//! then the list. Where it is open whether a change was kept, as after a sync that failed, the desk
-//! refuses until its files are opened again.
+//! An event is answered or refused by `S1`. Once the list is sent again the answers and all rows of
+//! the store are those of a desk that nothing happened to, which took the answered events and then
+//! the list. Where it is open whether a change was kept, as after a sync that failed, the desk
+//! refuses until its files are opened again, and the event of that change may have been taken in.
 
 use super::disks::{
     Call, FlakyDesk, PLENTY, Room, begin, close, connect, flaky, have_failed, inner, new_files,
-    reopen, sound_desk,
+    refusal, reopen, sound, sound_desk,
 };
-use super::list::{arrivals, lines, manifest, run, tables, take_answered};
-use esc_desk::{Arrival, Desk, Outcome};
+use super::list::{Came, List, send, send_answered, send_soundly, tables, worked_list};
+use esc_desk::{Desk, SFault};
 use esc_flaky::FlakyDisk;
-use esc_manifest::Manifest;
 use sqlite::{Alter, Connection, Files};
 use sqlite_disk::Disk;
 use std::alloc::Global;
 use std::process::Abort;
 use std::test::Fail;
 
+/// When a call fails.
+#[derive(Clone, Copy)]
+struct Phase {
+    /// While a store is made and takes the list, or while one that took it is opened and takes it.
+    is_new: bool,
+    of_the_log: bool,
+    room: Room,
+}
+
 /// What comes of a list.
 #[derive(Debug, Drop, PartialEq)]
 struct Taken {
-    /// The lines of its replies.
-    lines: Vec<u8>,
+    /// A line for each event.
+    lines: String,
     /// The same, once it is sent again.
-    again: Vec<u8>,
+    again: String,
     /// All rows of the store.
-    tables: Vec<u8>,
+    tables: String,
 }
 
-/// A manifest, and arrivals that it lists.
-#[derive(Drop)]
-struct List {
-    manifest: Manifest,
-    arrivals: Vec<Arrival<'static>>,
-}
-
-fn worked_list(alloc: Global) -> Result<List, Fail> {
-    Ok(List {
-        manifest: manifest(alloc)?,
-        arrivals: arrivals(alloc)?,
-    })
-}
-
-fn lines_of<S: Alter + Drop>(
-    alloc: Global,
-    desk: &mut Desk<S>,
-    list: &List,
-) -> Result<Vec<u8>, Fail> {
-    let outcomes = run(alloc, desk, list.arrivals.as_slice())?;
-    lines(alloc, outcomes.as_slice())
-}
-
-fn tables_of<S: Alter + Drop>(alloc: Global, desk: Desk<S>) -> Result<Vec<u8>, Fail> {
+fn tables_of<S: Alter + Drop>(alloc: Global, desk: Desk<S>) -> Result<String, Fail> {
     tables(alloc, &mut desk.into_store().into_connection())
 }
 
-// What comes of the arrivals that were answered, and then of the list, at a desk that nothing
-// happens to.
+// What comes of the events that were answered, and then of the list, at a desk that nothing happens
+// to. Where one was kept that was not answered, it is the first of those.
 fn undisturbed<S: Alter + Drop>(
     alloc: Global,
     mut desk: Desk<S>,
     list: &List,
-    outcomes: &[Outcome],
+    answered: &[bool],
+    is_kept: bool,
 ) -> Result<Taken, Fail> {
-    let arrivals = list.arrivals.as_slice();
-    let lines = take_answered(alloc, &mut desk, arrivals, outcomes)?;
-    let again = lines_of(alloc, &mut desk, list)?;
+    let lines = send_answered(alloc, &mut desk, list, answered, is_kept)?;
+    let again = send_soundly(alloc, &mut desk, list)?;
     let tables = tables_of(alloc, desk)?;
     Ok(Taken {
         lines,
@@ -77,68 +62,125 @@ fn undisturbed<S: Alter + Drop>(
     })
 }
 
-fn expected(alloc: Global, list: &List, outcomes: &[Outcome]) -> Result<Taken, Fail> {
-    let connection = Connection::open_in_memory(alloc)?;
-    let desk = sound_desk(alloc, connection, &list.manifest)?;
-    undisturbed(alloc, desk, list, outcomes)
-}
-
-fn is_lost(outcomes: &[Outcome]) -> bool {
-    outcomes
-        .iter()
-        .any(|outcome| matches!(outcome, Outcome::Lost(_)))
-}
-
-// The list once more: at the same desk, or where that refuses again at the one of the files that
-// are opened again. Whether they were.
-fn take_again<D: Disk + Drop>(
+// A desk in memory, which took the list if the store is not new.
+fn desk_before<S: Alter + Drop>(
     alloc: Global,
-    mut desk: FlakyDesk<D>,
-    room: Room,
+    connection: Connection<S>,
+    phase: Phase,
     list: &List,
-) -> Result<(FlakyDesk<D>, Vec<u8>, bool), Fail> {
-    let outcomes = run(alloc, &mut desk, list.arrivals.as_slice())?;
-    if !is_lost(outcomes.as_slice()) {
-        return Ok((desk, lines(alloc, outcomes.as_slice())?, false));
+) -> Result<Desk<S>, Fail> {
+    let mut desk = sound_desk(alloc, connection, &list.manifest)?;
+    if !phase.is_new {
+        send_soundly(alloc, &mut desk, list)?;
     }
-    let mut desk = reopen(alloc, close(desk), room, &list.manifest)?;
-    let again = lines_of(alloc, &mut desk, list)?;
-    Ok((desk, again, true))
+    Ok(desk)
+}
+
+fn expected(
+    alloc: Global,
+    phase: Phase,
+    list: &List,
+    answered: &[bool],
+    is_kept: bool,
+) -> Result<Taken, Fail> {
+    let connection = Connection::open_in_memory(alloc)?;
+    let desk = desk_before(alloc, connection, phase, list)?;
+    undisturbed(alloc, desk, list, answered, is_kept)
 }
 
 /// What was seen over files of which one call fails.
 #[derive(Drop)]
 struct Seen {
-    outcomes: Vec<Outcome>,
+    answered: Vec<bool>,
     taken: Taken,
-    /// Whether the files were opened again, and whether the call came.
+    /// Whether the files had to be opened again, and whether the call came.
     is_reopened: bool,
     has_failed: bool,
 }
 
-fn tables_in<D: Disk + Drop>(alloc: Global, files: Files<D>) -> Result<Vec<u8>, Fail> {
-    match connect(alloc, files, PLENTY) {
+// What is to be seen. Where the files had to be opened again that may be what comes of the answered
+// events and the first of the others.
+fn expected_of(alloc: Global, phase: Phase, list: &List, seen: &Seen) -> Result<Taken, Fail> {
+    let answered = seen.answered.as_slice();
+    let without = expected(alloc, phase, list, answered, false)?;
+    if seen.is_reopened && without != seen.taken {
+        return expected(alloc, phase, list, answered, true);
+    }
+    Ok(without)
+}
+
+// The list once more: at the same desk, or where that refuses again at the one of the files that
+// are opened again. Whether they were.
+fn send_again<D: Disk + Drop>(
+    alloc: Global,
+    mut desk: FlakyDesk<D>,
+    room: Room,
+    list: &List,
+) -> Result<(FlakyDesk<D>, String, bool), Fail> {
+    let came = send(alloc, &mut desk, list)?;
+    if !came.has_lost() {
+        let Came { lines, .. } = came;
+        return Ok((desk, lines, false));
+    }
+    let desk = reopen(alloc, close(desk)?, room, &list.manifest)?;
+    let (desk, lines) = send_last(alloc, desk, list)?;
+    Ok((desk, lines, true))
+}
+
+// The list at a desk over files of which no call is to fail.
+fn send_last<D: Disk + Drop>(
+    alloc: Global,
+    mut desk: FlakyDesk<D>,
+    list: &List,
+) -> Result<(FlakyDesk<D>, String), Fail> {
+    let came = send(alloc, &mut desk, list)?;
+    if came.has_lost() {
+        return Err(refusal(SFault::S1, close(desk)?));
+    }
+    let Came { lines, .. } = came;
+    Ok((desk, lines))
+}
+
+// The desk that the list is sent to again: the same one where it refused an event, so that the call
+// that is to fail has come; or else the one of its files, of which no call is to fail any more. And
+// whether the call came.
+fn desk_after<D: Disk + Drop>(
+    alloc: Global,
+    desk: FlakyDesk<D>,
+    room: Room,
+    list: &List,
+    came: &Came,
+) -> Result<(FlakyDesk<D>, bool), Fail> {
+    if came.has_lost() {
+        return Ok((desk, true));
+    }
+    let files = close(desk)?;
+    let has_failed = have_failed(&files);
+    Ok((reopen(alloc, files, room, &list.manifest)?, has_failed))
+}
+
+fn tables_in<D: Disk + Drop>(alloc: Global, files: Files<FlakyDisk<D>>) -> Result<String, Fail> {
+    match connect(alloc, sound(inner(files)), PLENTY) {
         Ok(mut connection) => tables(alloc, &mut connection),
-        Err(_) => Err(Fail::new("sound files do not open")),
+        Err((fault, files)) => Err(refusal(fault, files)),
     }
 }
 
-// Takes the list twice.
-fn take_twice<D: Disk + Drop>(
+// Sends the list twice.
+fn send_twice<D: Disk + Drop>(
     alloc: Global,
     files: Files<FlakyDisk<D>>,
     room: Room,
     list: &List,
 ) -> Result<Seen, Fail> {
     let mut desk = begin(alloc, files, room, &list.manifest)?;
-    let outcomes = run(alloc, &mut desk, list.arrivals.as_slice())?;
-    let lines = lines(alloc, outcomes.as_slice())?;
-    let (desk, again, is_reopened) = take_again(alloc, desk, room, list)?;
-    let files = close(desk);
-    let has_failed = have_failed(&files);
-    let tables = tables_in(alloc, inner(files))?;
+    let came = send(alloc, &mut desk, list)?;
+    let (desk, has_failed) = desk_after(alloc, desk, room, list, &came)?;
+    let (desk, again, is_reopened) = send_again(alloc, desk, room, list)?;
+    let tables = tables_in(alloc, close(desk)?)?;
+    let Came { lines, answered } = came;
     Ok(Seen {
-        outcomes,
+        answered,
         taken: Taken {
             lines,
             again,
@@ -155,23 +197,9 @@ fn files_with_list<D: Disk + Drop>(
     files: Files<D>,
     list: &List,
 ) -> Result<Files<D>, Fail> {
-    match connect(alloc, files, PLENTY) {
-        Ok(connection) => {
-            let mut desk = sound_desk(alloc, connection, &list.manifest)?;
-            run(alloc, &mut desk, list.arrivals.as_slice())?;
-            Ok(close(desk))
-        }
-        Err(_) => Err(Fail::new("new files do not open")),
-    }
-}
-
-/// When a call fails.
-#[derive(Clone, Copy)]
-struct Phase {
-    /// While a store is made and takes the list, or while one that took it is opened.
-    is_new: bool,
-    of_the_log: bool,
-    room: Room,
+    let mut desk = begin(alloc, sound(files), PLENTY, &list.manifest)?;
+    send(alloc, &mut desk, list)?;
+    Ok(inner(close(desk)?))
 }
 
 fn seen_at(alloc: Global, phase: Phase, at: u64, list: &List) -> Result<Seen, Fail> {
@@ -184,7 +212,7 @@ fn seen_at(alloc: Global, phase: Phase, at: u64, list: &List) -> Result<Seen, Fa
     } else {
         files_with_list(alloc, new_files(alloc), list)?
     };
-    take_twice(alloc, flaky(files, call), phase.room, list)
+    send_twice(alloc, flaky(files, call), phase.room, list)
 }
 
 // What is seen, once it is found right.
@@ -196,7 +224,7 @@ fn assert_call(
     list: &List,
 ) -> Result<Seen, Fail> {
     let seen = seen_at(alloc, phase, at, list)?;
-    let expected = expected(alloc, list, seen.outcomes.as_slice())?;
+    let expected = expected_of(alloc, phase, list, &seen)?;
     assert_eq!(rt; seen.taken, expected, "{at}");
     Ok(seen)
 }
@@ -219,13 +247,14 @@ fn count_reopened(rt: &impl Abort, alloc: Global, phase: Phase) -> Result<u32, F
     Err(Fail::new("there are more calls"))
 }
 
-// The log is copied into the database file now and then.
-const SMALL_LOG: Room = Room {
-    log_pages: 8,
+// The log is copied into the database file before each commit.
+const NO_LOG: Room = Room {
+    log_pages: 1,
     ..PLENTY
 };
 
-// Of each of the four commits it is open after two syncs, and the write between them.
+// Each of the eight events is a commit. Of each commit it is open after two syncs, and the write
+// between them.
 #[test]
 fn each_call_of_the_log_as_a_list_is_taken(rt: HostRuntime) -> Result<(), Fail> {
     let phase = Phase {
@@ -233,22 +262,23 @@ fn each_call_of_the_log_as_a_list_is_taken(rt: HostRuntime) -> Result<(), Fail> 
         of_the_log: true,
         room: PLENTY,
     };
-    assert_eq!(rt; count_reopened(&rt, rt.alloc(), phase)?, 12);
+    assert_eq!(rt; count_reopened(&rt, rt.alloc(), phase)?, 24);
     Ok(())
 }
 
-// The log is emptied four times, each time after a sync of the database file.
+// Before each of the eight commits the log is emptied, after a sync of the database file.
 #[test]
 fn each_call_of_the_database_file_as_a_list_is_taken(rt: HostRuntime) -> Result<(), Fail> {
     let phase = Phase {
         is_new: true,
         of_the_log: false,
-        room: SMALL_LOG,
+        room: NO_LOG,
     };
-    assert_eq!(rt; count_reopened(&rt, rt.alloc(), phase)?, 4);
+    assert_eq!(rt; count_reopened(&rt, rt.alloc(), phase)?, 8);
     Ok(())
 }
 
+// Of a list that was taken in two events are commits: the moment is set, and taken back.
 #[test]
 fn each_call_of_the_log_as_a_store_is_opened(rt: HostRuntime) -> Result<(), Fail> {
     let phase = Phase {
@@ -256,7 +286,7 @@ fn each_call_of_the_log_as_a_store_is_opened(rt: HostRuntime) -> Result<(), Fail
         of_the_log: true,
         room: PLENTY,
     };
-    assert_eq!(rt; count_reopened(&rt, rt.alloc(), phase)?, 0);
+    assert_eq!(rt; count_reopened(&rt, rt.alloc(), phase)?, 6);
     Ok(())
 }
 
@@ -265,8 +295,8 @@ fn each_call_of_the_database_file_as_a_store_is_opened(rt: HostRuntime) -> Resul
     let phase = Phase {
         is_new: false,
         of_the_log: false,
-        room: SMALL_LOG,
+        room: NO_LOG,
     };
-    assert_eq!(rt; count_reopened(&rt, rt.alloc(), phase)?, 0);
+    assert_eq!(rt; count_reopened(&rt, rt.alloc(), phase)?, 2);
     Ok(())
 }
