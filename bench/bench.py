@@ -7,16 +7,17 @@ a socket of this machine, to which small Differentials are PUT and which is aske
 and its peak memory; where the task is mostly SQL also the ratio to the same SQL statements alone, run by the C library in
 the same run (`raw.py`); for requests how many there were in a second, and the peak memory of the desk that served them. At
 last a chain of 4,095 tiny Differentials is taken in order: all processor time, and that of an arrival where so many rows are
-held, with the ratio to one where 100 are. It needs python3 alone, and the program, which `./sample` builds:
-`./sample >/dev/null && bench/bench.py`. With --only chain that chain alone is taken. Times of a busy machine say little; the
-ratios say more."""
+held, with the ratio to one where 100 are; and bodies that no row lists yet are parked, as many as there is place for, and
+adopted by an amendment: all processor time, with the ratio to taking the same bodies where they are listed. It needs python3
+alone, and the program, which `./sample` builds: `./sample >/dev/null && bench/bench.py`. With --only chain, or --only adopted,
+that task alone is run. Times of a busy machine say little; the ratios say more."""
 import argparse, http.client, os, re, shutil, socket, subprocess, sys, tempfile, time
 
 HERE = os.path.dirname(os.path.abspath(__file__))
 arguments = argparse.ArgumentParser(description=__doc__)
 arguments.add_argument('--restore', default=os.path.join(HERE, '..', 'crates', 'restore', 'out', 'restore'))
 arguments.add_argument('--keep', help='a folder to work in, which is kept')
-arguments.add_argument('--only', choices=['chain'], help='this task alone')
+arguments.add_argument('--only', choices=['chain', 'adopted'], help='this task alone')
 given = arguments.parse_args()
 work = given.keep or tempfile.mkdtemp(prefix='restore-bench-')
 release = os.path.join(work, 'release')
@@ -128,6 +129,44 @@ def along_a_chain():
         print(f'{f"an arrival of one where {held} rows are held":44} {took:9.2f} ms {took / each[100]:10.2f} x that at 100', flush=True)
 
 
+def spent_by(*words, want=0):
+    """Runs the program, and answers its milliseconds of processor time and its peak memory in MB."""
+    process = subprocess.Popen([given.restore, *words], stdout=subprocess.DEVNULL)
+    _, status, usage = os.wait4(process.pid, 0)
+    if os.waitstatus_to_exitcode(status) != want:
+        sys.exit(f'bench: {" ".join(words)}: status {os.waitstatus_to_exitcode(status)}, wanted {want}')
+    return (usage.ru_utime + usage.ru_stime) * 1000, usage.ru_maxrss / 1024
+
+
+def adopted(task, release, folder, most):
+    """Parks the first bodies of a folder, at most so many, in a store that lists the Full alone, and amends it with the whole manifest.
+    Beside it a store that lists them all takes the same bodies."""
+    manifest, bodies = os.path.join(release, 'manifest.csv'), os.path.join(work, 'bodies')
+    shutil.rmtree(bodies, ignore_errors=True)
+    os.makedirs(bodies)
+    names = sorted(os.listdir(os.path.join(release, folder)))[:most]
+    for name in names:
+        shutil.copy(os.path.join(release, folder, name), bodies)
+    first = os.path.join(work, 'first.csv')
+    with open(manifest) as whole, open(first, 'w') as part:
+        part.writelines(whole.readline() for _ in range(2))
+    spare, listed = fresh('adopted', first), fresh('listed', manifest)
+    for store in (spare, listed):
+        run('take', '--store', store, os.path.join(release, 'full'))
+    taken, _ = spent_by('take', '--store', listed, bodies)
+    tell(f'{len(names)} {task}, parked, processor', *spent_by('take', '--store', spare, bodies, want=1))
+    took, memory = spent_by('amend', '--store', spare, '--manifest', manifest)
+    print(f'{f"{len(names)} {task}, adopted, processor":44} {took:9.0f} ms {memory:6.0f} MB {took / taken:6.2f} x taken where listed', flush=True)
+    told = [subprocess.run([given.restore, 'report', '--store', it, 'gaps'], check=True, capture_output=True).stdout for it in (spare, listed)]
+    if told[0] != told[1]:
+        sys.exit('bench: the gaps after the amendment are others than where all was listed')
+
+
+def adoptions():
+    adopted('tiny Differentials', os.path.join(release, 'chain'), 'diffs', 1024)
+    adopted('Differentials of 300 objects', release, 'diffs', 1024)
+
+
 def take(task, store, folder, want=0, compare=False):
     took, memory = run('take', '--store', store, os.path.join(release, folder), want=want)
     tell(task, took, memory, took / raw(store) if compare else None)
@@ -137,6 +176,8 @@ def main():
     subprocess.run([sys.executable, os.path.join(HERE, 'release.py'), release], check=True)
     if given.only == 'chain':
         return along_a_chain()
+    if given.only == 'adopted':
+        return adoptions()
     manifest = os.path.join(release, 'manifest.csv')
     for rows in (12_500, 25_000, 50_000, 100_000):
         store = fresh(f'growth-{rows}', os.path.join(release, 'growth', f'{rows}.csv'))
@@ -157,6 +198,7 @@ def main():
         tell(f'export of {kind}', *run('export', '--store', store, kind))
     over_a_socket()
     along_a_chain()
+    adoptions()
 
 
 main()

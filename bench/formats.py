@@ -302,7 +302,7 @@ def check_rows(rows):
 TOKEN = rb"[A-Za-z0-9!#$%&'*+\-.^_`|~]+"
 HEAD = re.compile(rb'(?:\r?\n)*(' + TOKEN + rb') ([\x21-\x7e\x80-\xff]+) HTTP/1\.[01]\r?\n((?:' + TOKEN
                   + rb':[\t\x20-\x7e\x80-\xff]*\r?\n)*)\r?\n')
-REASONS = {200: 'OK', 400: 'Bad Request', 404: 'Not Found', 405: 'Method Not Allowed', 411: 'Length Required',
+REASONS = {200: 'OK', 202: 'Accepted', 400: 'Bad Request', 404: 'Not Found', 405: 'Method Not Allowed', 411: 'Length Required',
            413: 'Content Too Large', 422: 'Unprocessable Content', 503: 'Service Unavailable'}
 
 
@@ -314,7 +314,7 @@ def request(text):
         return 400, 'bad request\n'
     path = head[2].partition(b'?')[0].decode()
     arrival = re.fullmatch('/arrivals/([^/]+)', path, flags=re.S)
-    if not arrival and path not in ('/status', '/gaps', '/links', '/receipts', *(f'/export/{kind}' for kind in KINDS)):
+    if not arrival and path not in ('/status', '/gaps', '/links', '/receipts', '/parked', *(f'/export/{kind}' for kind in KINDS)):
         return 404, 'not found\n'
     if head[1] != (b'PUT' if arrival else b'GET'):
         return 405, 'method not allowed\n', 'PUT' if arrival else 'GET'

@@ -34,6 +34,8 @@ kept = given.keep or os.path.join(tempfile.gettempdir(), f'fuzz-wrong-{os.getpid
 counts = collections.Counter()
 RECEIPTS = 'receipt,number,verdict,fault,id,resend,copy,orphans\n'
 PATIENCE = 60
+# Of a response with a reply, by its verdict; any other is 422.
+STATUSES = {'A1': 200, 'A5': 202}
 
 
 def bounded():
@@ -138,24 +140,29 @@ class Receipts:
 
     def __init__(self, rows):
         self.rows = {row.digest: row for row in rows}
-        self.replies, self.held = {}, set()
+        self.replies, self.held, self.parked = {}, set(), {}
 
     def arrive(self, number, body):
         """The reply to an arrival, as its eight members."""
         digest = hashlib.sha256(body).hexdigest()
         if (number, digest) not in self.replies:
             self.replies[number, digest] = self.new_reply(number, digest)
+            if digest not in self.rows:
+                self.parked[digest] = len(body)
         return self.replies[number, digest]
 
     def new_reply(self, number, digest):
         row = self.rows.get(digest)
-        verdict, _, fault = row.verdict.partition(' ') if row else ('A2', '', '')
+        verdict, _, fault = row.verdict.partition(' ') if row else ('A5', '', '')
         reply = dict(receipt=len(self.replies) + 1, number=number, verdict=verdict, fault=fault or None, id=row and row.row[0],
                      resend=0 if row else None, copy=None, orphans=None)
         if verdict == 'A1':
             reply |= dict(copy='again' if digest in self.held else 'new', orphans=row.orphans)
             self.held.add(digest)
         return reply
+
+    def parked_text(self):
+        return 'sha256,bytes\n' + ''.join(f'{digest},{size}\n' for digest, size in sorted(self.parked.items()))
 
     def text(self):
         return RECEIPTS + ''.join(map(receipt_line, self.replies.values()))
@@ -241,6 +248,8 @@ def over_bundles(batch, rng, many):
         wrong(f'folder {batch} taken again', 'the same receipts and tables', folder)
     if run('report', '--store', store, 'receipts') != (0, receipts.text().encode(), b''):
         wrong(f'receipts of folder {batch}', receipts.text(), folder)
+    if run('report', '--store', store, 'parked') != (0, receipts.parked_text().encode(), b''):
+        wrong(f'parked bodies of folder {batch}', receipts.parked_text(), folder)
     for row in rows:
         counts[row.verdict.split()[0]] += 1
     counts['inputs'] += many
@@ -309,7 +318,7 @@ class Desk:
         asked = formats.request(text)
         if asked[0] == 'PUT':
             reply = self.receipts.arrive(*asked[1:])
-            return formats.response(200 if reply['verdict'] == 'A1' else 422,
+            return formats.response(STATUSES.get(reply['verdict'], 422),
                                     json.dumps(reply, sort_keys=True, separators=(',', ':')), 'application/json')
         if asked[0] == 'GET':
             return formats.response(200, self.report(asked[1]), 'text/plain' if asked[1] == '/status' else 'text/csv')
@@ -319,6 +328,8 @@ class Desk:
         """A report: that of the twin, for which other receipts were given."""
         if path == '/receipts':
             return self.receipts.text()
+        if path == '/parked':
+            return self.receipts.parked_text()
         if path != '/status':
             return self.texts[path]
         return re.sub('receipts [0-9]+', f'receipts {len(self.receipts.replies)}', self.texts[path].decode())

@@ -27,7 +27,7 @@ TABLES = {
 ANOTHER_ORDER = ('listed', 'info', *list(TABLES)[2:])
 TYPES = {'DIFF': 0, 'INCR': 1, 'FULL': 2}
 KINDS = ('registrar', 'contact', 'host', 'domain', 'idn', 'nndn')
-REPORTS = [('report', what) for what in ('status', 'gaps', 'links', 'receipts')] + [('export', kind) for kind in KINDS]
+REPORTS = [('report', what) for what in ('status', 'gaps', 'links', 'receipts', 'parked')] + [('export', kind) for kind in KINDS]
 
 arguments = argparse.ArgumentParser(description=__doc__, formatter_class=argparse.RawDescriptionHelpFormatter)
 arguments.add_argument('--restore', default=os.path.join(HERE, '..', 'crates', 'restore', 'out', 'restore'))

@@ -15,7 +15,7 @@ def head(rng, method, target, lines=(), version='HTTP/1.1', end=b'\r\n'):
 def good(rng, desk):
     """A PUT of some bundle, or a GET."""
     if rng.random() < 0.5:
-        path = rng.choice(('/status', '/gaps', '/links', '/receipts', *(f'/export/{kind}' for kind in formats.KINDS)))
+        path = rng.choice(('/status', '/gaps', '/links', '/receipts', '/parked', *(f'/export/{kind}' for kind in formats.KINDS)))
         return head(rng, 'GET', path + rng.choice(('', '', '?a=b', '?')), other_lines(rng),
                     rng.choice(('HTTP/1.0', 'HTTP/1.1')), rng.choice((b'\r\n', b'\n'))), 200
     body = rng.choice(desk.bodies)

@@ -38,7 +38,7 @@ def made_release():
 
 def told(store):
     """What a store tells: receipts, status and gaps, and the exports of all kinds."""
-    reports = [run('report', '--store', store, what) for what in ('receipts', 'status', 'gaps')]
+    reports = [run('report', '--store', store, what) for what in ('receipts', 'status', 'gaps', 'parked')]
     exports = [run('export', '--store', store, kind) for kind in KINDS]
     return [(it.returncode, it.stdout, it.stderr) for it in [*reports, *exports]]
 

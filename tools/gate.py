@@ -148,6 +148,10 @@ class WrongBodies:
         return refused, sum(map(len, self.edits.values())) - refused
 
 
+# What `rt ci` says of a crate, or of its tests, that has ended. Of a crate whose files an earlier run proved it says that it is kept.
+ENDED = re.compile(r'rt: (\w+)(: its tests are)? (NOT PROVED|proved|is kept)\b')
+
+
 def proved(tree, bodies):
     """Runs `rt ci` in a tree, prints what it prints but its last line, and gives the numbers of that line. It tells the wrong bodies
     what has ended."""
@@ -156,8 +160,11 @@ def proved(tree, bodies):
         for line in gate.stdout:
             print(last, end='', flush=True)
             last = line.decode(errors='replace')
-            if done := re.match(r'rt: (\w+)(: its tests are)? (NOT PROVED|proved)', last):
-                bodies.note(done[1], 'tests' if done[2] else 'proof', done[3] == 'proved')
+            if done := ENDED.match(last):
+                bodies.note(done[1], 'tests' if done[2] else 'proof', done[3] != 'NOT PROVED')
+                if done[3] == 'is kept':
+                    # Of tests that are kept nothing is said. Where they are not, one task more runs than is counted.
+                    bodies.note(done[1], 'tests', True)
     found = re.fullmatch(r'(\d+) passed, (\d+) failed\s*', last)
     if not found:
         print(last, end='', flush=True)
