@@ -19,6 +19,8 @@ pub struct Invocation<'a> {
 pub enum Task<'a> {
     /// Make it from a manifest.
     Init { manifest: &'a str },
+    /// Make a store of version 1 one of this version.
+    Migrate,
     /// List the rows of one more manifest.
     Amend { manifest: &'a str },
     /// Rebuild the registry as of a moment.
@@ -88,7 +90,8 @@ Example, with a folder of bundles named n1, n2 and so on:
 
 Refusals go to standard error, one a line: E1 PATH (can't be read, listed or written), E2 NAME (over 16,777,216 bytes),
 E3 MOMENT (it is no watermark), N1 NAME (the name is no number of an arrival), M1 to M13 with the row (the manifest), S1 (the
-store failed), S2 (no memory), S3 (no store, or a used database), S4 (the store is full), S5 (1,024 bundles wait for a row).
+store failed), S2 (no memory), S3 (no store, one of another version, or a used database), S4 (the store is full), S5 (1,024
+bundles wait for a row).
 Status: 0 done; 1 the manifest or the moment is refused, or a file was not taken as a listed deposit; 2 other words; 3 stopped
 by S or E1.
 ";
@@ -110,6 +113,19 @@ the bundle is kept: it is held as soon as an amendment lists it. Receipts that w
 contradicts a listed one is refused (M10 to M13), and nothing is listed.
 ";
 
+const MIGRATION: &str = "\
+A store of version 1, which a program before this one made, is S3 to every other command until it is migrated. Its receipts,
+deposits, chain and tables stay as they are. Version 1 kept no bundle that no row listed: such a receipt says A2. Send the
+bundle again, under the same number: its receipt stays A2, and the bundle is kept until a row lists it, or held if one does.
+
+There is no way back but a copy. Before it, copy FILE, and FILE-wal if it is there. Another database, and a store of this
+version, are S3 and left as they were. Example:
+
+    cp desk.db desk-before.db
+    cp desk.db-wal desk-before.db-wal
+    restore migrate --store desk.db
+";
+
 const MOMENTS: &str = "\
 The tables hold what the deposits up to the moment say; later ones are held, and don't count. This is for a registry that was
 corrupted before it failed: rebuild it as it was before. Deposits may still be taken, and the moment stays set. Example:
@@ -122,7 +138,8 @@ const REPORTS_TOLD: &str = "\
 status    how many deposits are listed and held, the chain's length and end, and how many objects of each kind there are
 gaps      for each listed place: missing, blocked (and by what), in the chain or beside it, and which resend is awaited
 links     what breaks a rule in the tables: links to absent objects, counts, statuses and dates
-receipts  a line for each distinct arrival, with its verdict: A1 held, A3 unreadable, A4 differs, A5 not listed
+receipts  a line for each distinct arrival, with its verdict: A1 held, A3 unreadable, A4 differs, A5 not listed when it came,
+          and kept; A2 not listed when it came, and not kept (of a store that was migrated)
 parked    the SHA-256 and the length of each bundle that was taken and that no row lists
 ";
 
@@ -135,7 +152,7 @@ static STORE: Argument = Argument {
     help: "The store's file; beside it FILE-wal may stand, and belongs to it",
 };
 
-static COMMANDS: [Form; 7] = [
+static COMMANDS: [Form; 8] = [
     Form {
         name: "init",
         about: "Makes a store of a release manifest, and prints how many deposits it lists",
@@ -159,6 +176,12 @@ static COMMANDS: [Form; 7] = [
             values: ValueParser::String,
             help: "A further part of the release manifest, or all of it anew; listed deposits may stand in it again",
         }],
+    },
+    Form {
+        name: "migrate",
+        about: "Makes a store of version 1 one of this version",
+        details: Some(MIGRATION),
+        arguments: &[],
     },
     Form {
         name: "as-of",
@@ -308,6 +331,7 @@ fn task_named<'a>(name: &str, given: &ArgMatches<'a>) -> Option<Task<'a>> {
             let manifest = given.get_str("manifest")?;
             Some(Task::Amend { manifest })
         }
+        "migrate" => Some(Task::Migrate),
         "as-of" => {
             let moment = given.get_str("moment")?;
             Some(Task::AsOf { moment })

@@ -6,7 +6,8 @@ use crate::files::{MOST_MANIFEST_BYTES, read_file};
 use crate::serve::serve_connections;
 use crate::stop::{DONE, NO_MEMORY, Stop, USAGE, print, tell_stop};
 use crate::store_file::{
-    Closed, Used, close, connection_of, create_store, open_desk, open_file, open_store_file,
+    Closed, Used, close, connection_of, create_store, migrate_store, open_desk, open_file,
+    open_store_file,
 };
 use crate::take::take_folder;
 use clap::Error;
@@ -44,6 +45,8 @@ impl Ended {
 enum Job<'a> {
     /// Make the store of a manifest.
     Create(&'a Manifest),
+    /// Make a store of version 1 one of this version.
+    Migrate,
     /// Work with the desk of its store.
     Desk(DeskTask<'a>),
 }
@@ -116,6 +119,7 @@ where
     let Invocation { store, task } = invocation;
     let done = match task {
         Task::Init { manifest } => init(rt, net, store, manifest, out, err),
+        Task::Migrate => migrate(rt, net, store, out, err),
         Task::Amend { manifest } => amend(rt, net, store, manifest, out, err),
         Task::AsOf { moment } => as_of(rt, net, store, moment, out, err),
         Task::Desk(task) => use_store(rt, net, store, task, out, err),
@@ -156,6 +160,30 @@ where
     Ok(Ended {
         status: DONE,
         text: line,
+    })
+}
+
+// `migrate --store FILE`: makes a store of version 1 one of this version, and says so. As with
+// `init`, a close that fails refuses nothing: the store is there.
+fn migrate<N, O, E>(
+    rt: &HostRuntime,
+    net: &N,
+    store: &str,
+    out: &mut O,
+    err: &mut E,
+) -> Result<Ended, Stop>
+where
+    N: Net<Listener = TcpListener, Stream = TcpStream>,
+    O: Write,
+    E: Write,
+{
+    let line = String::from_str(rt.alloc(), "migrated\n")?;
+    let connection = open_store_file(rt, store)?;
+    let made = use_file(rt, net, connection, Job::Migrate, out, err);
+    made.outcome?;
+    Ok(Ended {
+        status: DONE,
+        text: line.into_bytes(),
     })
 }
 
@@ -285,21 +313,20 @@ where
     E: Write,
 {
     match job {
-        Job::Create(manifest) => create(rt.alloc(), connection, manifest),
+        Job::Create(manifest) => {
+            silent(rt.alloc(), create_store(rt.alloc(), connection, manifest))
+        }
+        Job::Migrate => silent(rt.alloc(), migrate_store(rt.alloc(), connection)),
         Job::Desk(task) => open_and_use(rt, net, connection, task, out, err),
     }
 }
 
-// Makes a store, and prints nothing.
-fn create<S: Alter>(
-    alloc: Global,
-    connection: Connection<S>,
-    manifest: &Manifest,
-) -> Used<S, Ended> {
+// The end of a command that made a store, and leaves nothing to be printed.
+fn silent<S: Alter>(alloc: Global, made: Used<S, ()>) -> Used<S, Ended> {
     let Used {
         connection,
         outcome,
-    } = create_store(alloc, connection, manifest);
+    } = made;
     Used {
         connection,
         outcome: match outcome {

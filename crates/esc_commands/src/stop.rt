@@ -136,12 +136,13 @@ pub fn tell_no_text<E: Write>(err: &mut E) -> u8 {
     USAGE
 }
 
-/// Prints what the program stops for, and returns its status. Printing that memory was refused
-/// doesn't allocate.
+/// Prints what the program stops for, and returns its status. Where memory is refused to the line,
+/// the program stops for that. Printing so doesn't allocate.
 pub fn tell_stop<E: Write>(rt: &HostRuntime, err: &mut E, stop: &Stop) -> u8 {
-    let _ = match format!(in rt.alloc(); "{stop}\n") {
-        Ok(line) => err.write_all(line.as_bytes()),
-        Err(_) => err.write_all(b"S2\n"),
+    let Ok(line) = format!(in rt.alloc(); "{stop}\n") else {
+        let _ = err.write_all(b"S2\n");
+        return STOPPED;
     };
+    let _ = err.write_all(line.as_bytes());
     stop.status()
 }

@@ -77,7 +77,17 @@ pub fn create_store<S: Alter>(
     connection: Connection<S>,
     manifest: &Manifest,
 ) -> Used<S, ()> {
-    match Store::create(alloc, connection, manifest) {
+    made(Store::create(alloc, connection, manifest))
+}
+
+/// Makes a store of version 1 one of this version.
+pub fn migrate_store<S: Alter>(alloc: Global, connection: Connection<S>) -> Used<S, ()> {
+    made(Store::migrate(alloc, connection))
+}
+
+// A store that was made is not worked with: its connection is to be closed.
+fn made<S: Alter>(store: Result<Store<S>, (SFault, Connection<S>)>) -> Used<S, ()> {
+    match store {
         Ok(store) => Used {
             connection: store.into_connection(),
             outcome: Ok(()),

@@ -11,16 +11,17 @@ use Rattle.esc_apply.specs.Images.{chain_state}
 use Rattle.esc_apply.proofs.Chains.{empty-chain}
 use Rattle.esc_store.specs.Kept.{fresh}
 use Rattle.esc_events.specs.ArrivalValue.{ArrivalValue}
-use Rattle.esc_events.specs.Events.{Coming, union, comings, moment_after, moment_of, manifest_then}
+use Rattle.esc_events.specs.Events.{Coming, union, moment_after, moment_of, manifest_then}
 use Rattle.esc_events.specs.Events.EventValue.{listed, arrived}
 use Rattle.esc_events.specs.Finding.{row_of}
 use Rattle.esc_events.specs.Receipts.{distinct, receipts_after}
-use Rattle.esc_events.specs.Stands.{rows_of, held_body, StandsFor}
+use Rattle.esc_events.specs.Stands.{rows_of, counted, held_body, StandsFor}
 use Rattle.esc_events.proofs.EventLemmas.{union_then, comings_then}
 use Rattle.esc_events.proofs.Moving.{chain_of}
 use Rattle.esc_events.proofs.MovingLemmas.{same_deposits}
 use Rattle.esc_events.proofs.Searches.{no_answer}
 use Rattle.esc_desk.specs.Laws.{AreLeftByArrivals, came_with}
+use Rattle.esc_desk.proofs.EarlyEvents.{counted_then}
 
 abbrev none_held : Rows
 none_held = set.from_list []
@@ -44,6 +45,8 @@ stands_at_first m = record {
     came = λ r body is. absurd (no_answer is);
     waits = λ d body is. absurd (no_answer is);
     told = λ r any. absurd (omega (arith, any.2));
+    held_told = λ r some. absurd (true≢false (sym some));
+    parked_told = λ d some. absurd (true≢false (sym some));
   };
   held = none_held;
   have_bodies = λ r. set.contains-empty nat_cmp r;
@@ -66,8 +69,8 @@ left_by_arrivals m l k stood apart = record {
   receipts = stood.books.receipts ∙ ap (λ (cs : List Coming). receipts_after sha256 reading [] (distinct sha256 reading cs)) (comings_then m l);
   chain =
       subst (λ (t : Option ℤ). IsLatestChainAt m (set.from_list (rows_of sha256 reading m (came_with m l))) t k.steps) (no_moment m l)
-      (subst (λ (cs : List Coming). IsLatestChainAt m (set.from_list (rows_of sha256 reading m cs)) (moment_of (manifest_then m l)) k.steps) (comings_then m l)
-      (subst (λ (n : List MRow). IsLatestChainAt n (set.from_list (rows_of sha256 reading n (comings (manifest_then m l)))) (moment_of (manifest_then m l)) k.steps) (union_then m l)
+      (subst (λ (cs : List Coming). IsLatestChainAt m (set.from_list (rows_of sha256 reading m cs)) (moment_of (manifest_then m l)) k.steps) (counted_then m l)
+      (subst (λ (n : List MRow). IsLatestChainAt n (set.from_list (rows_of sha256 reading n (counted sha256 reading (manifest_then m l)))) (moment_of (manifest_then m l)) k.steps) (union_then m l)
       (chain_of (manifest_then m l) k stood apart)));
   registry = stood.registry ∙ ap (λ (ds : List DepositValue). chain_state ds) (same_deposits k.bodies (held_body sha256 reading (manifest_then m l)) (stood.books.bodies apart) k.steps);
 }

@@ -1,5 +1,5 @@
 -- Why an arrival is lost, from one call to the next.
-use Rattle.std.proofs.Common.{◌≡◌, ◌⊎◌, inl, inr, ℕ, List, Option, None, IsSome, Result, Ok, Err, IfErr, sym, ap, subst, ◌∙◌}
+use Rattle.std.proofs.Common.{◌≡◌, ◌⊎◌, inl, inr, ℕ, List, Option, IsSome, Result, Ok, Err, IfErr, sym, ap, subst, ◌∙◌}
 use Rattle.std.specs.Prelude.{OnErr}
 use Rattle.sha2.specs.Sha256.{sha256}
 use Rattle.esc_tables.specs.Reading.{reading}
@@ -12,14 +12,18 @@ use Rattle.esc_events.specs.Apart.{WhereApart}
 use Rattle.esc_events.specs.ArrivalValue.{ArrivalValue}
 use Rattle.esc_events.specs.Events.{EventValue}
 use Rattle.esc_events.specs.Finding.{row_of}
-use Rattle.esc_events.specs.Receipts.{reply_to}
 use Rattle.esc_events.specs.Stands.{AreBooks, IsApart, parked_body}
+use Rattle.esc_desk.specs.Again.{IsUnkept}
 use Rattle.esc_desk.specs.Calls.{HasNoRoom, HasNoPlace, IsCause}
 use Rattle.esc_desk.specs.Causes.{IsCrowded}
 
 pub if_err_each : {X E : Type 0} (r : Result X E) (P Q : E → Type 0) → ((f : E) → P f → Q f) → IfErr r P → IfErr r Q
 if_err_each (Ok x) P Q h p = tt
 if_err_each (Err f) P Q h p = h f p
+
+pub if_err_both : {X E : Type 0} (r : Result X E) (P : Type 0) (Q R : E → Type 0) → ((f : E) → P → Q f → R f) → OnErr r P → IfErr r Q → IfErr r R
+if_err_both (Ok x) P Q R h p q = tt
+if_err_both (Err f) P Q R h p q = h f p q
 
 pub if_err_is : {X E : Type 0} (r : Result X E) (f : E) (P : E → Type 0) → r ≡ Err f → P f → IfErr r P
 if_err_is r f P is p = rw is p
@@ -44,6 +48,15 @@ faults_of f U A B P h (inl (unlisted, inl crowded)) = inl (crowded.0, h unlisted
 faults_of f U A B P h (inl (unlisted, inr other)) = inr other
 faults_of f U A B P h (inr other) = inr other
 
+-- of an arrival that comes again there is no S4
+pub again_then : (f : SFault) (A B : Type 0) → (A → B) → ((f ≡ S5) × A) ⊎ IsS1OrS2 f → ((f ≡ S5) × B) ⊎ IsS1OrS2 f
+again_then f A B place (inl crowded) = inl (crowded.0, place crowded.1)
+again_then f A B place (inr other) = inr other
+
+pub again_four : (f : SFault) (A : Type 0) → ((f ≡ S5) × A) ⊎ IsS1OrS2 f → IsS1OrS2OrS4OrS5 f
+again_four f A (inl crowded) = inl crowded.0
+again_four f A (inr is) = inr (inr is)
+
 pub one_of_four : (f : SFault) (A P : Type 0) → ((f ≡ S5) × A) ⊎ (IsS1OrS2 f ⊎ ((f ≡ S4) × P)) → IsS1OrS2OrS4OrS5 f
 one_of_four f A P (inl crowded) = inl crowded.0
 one_of_four f A P (inr (inl is)) = inr (inr is)
@@ -57,6 +70,10 @@ pub cause_of : (e : List EventValue) (a : ArrivalValue) (f : SFault) (A P : Type
 cause_of e a f A P place room (inl crowded) = subst (IsCause e a) (sym crowded.0) (place crowded.1)
 cause_of e a f A P place room (inr (inl is)) = cause_by e a f is
 cause_of e a f A P place room (inr (inr full)) = subst (IsCause e a) (sym full.0) (room full.1)
+
+pub again_cause : (e : List EventValue) (a : ArrivalValue) (f : SFault) (A : Type 0) → (A → WhereApart e (HasNoPlace e a)) → ((f ≡ S5) × A) ⊎ IsS1OrS2 f → IsCause e a f
+again_cause e a f A place (inl crowded) = subst (IsCause e a) (sym crowded.0) (place crowded.1)
+again_cause e a f A place (inr is) = cause_by e a f is
 
 -- ---- no place, by what a store keeps
 
@@ -75,10 +92,10 @@ module _ (e : List EventValue) (a : ArrivalValue) (k : Kept) (books : AreBooks s
     full = still_full (parked_body sha256 reading e) k.parked (λ d. sym (books.parked apart d)) full.full;
   }
 
-  pub no_place_of : reply_to sha256 reading e a ≡ None → IsCrowded k (sha256 a.body) → WhereApart e (HasNoPlace e a)
-  no_place_of none crowded apart = record {
+  pub no_place_of : IsUnkept e a → IsCrowded k (sha256 a.body) → WhereApart e (HasNoPlace e a)
+  no_place_of unkept crowded apart = record {
     to_be_parked = record {
-      like_none = none;
+      unkept = unkept;
       unlisted = ap (λ (m : List MRow). row_of m (sha256 a.body)) (sym books.listed) ∙ crowded.unlisted;
       not_parked = sym (books.parked apart (sha256 a.body)) ∙ crowded.not_parked;
     };

@@ -1,7 +1,6 @@
 -- What a crash leaves by the events that a store stands for, from one call to the next.
-use Rattle.std.proofs.Common.{◌≡◌, ◌≢◌, inl, inr, true, List, [], ◌∷◌, ◌++◌, Option, Some, None, Result, Ok, Err, refl, sym, subst, arith}
+use Rattle.std.proofs.Common.{◌≡◌, ◌≢◌, inl, inr, List, [], ◌∷◌, ◌++◌, Option, Some, None, Result, Ok, Err, refl, sym, subst, arith}
 use Rattle.std.specs.Prelude.{OnOk, MatchResult}
-use Rattle.std.specs.List.{list_any}
 use Rattle.sha2.specs.Sha256.{sha256}
 use Rattle.sqlite_trees.specs.declared.store.Store.{Ghosts}
 use Rattle.sqlite_trees.specs.Tree.{Trees}
@@ -15,21 +14,29 @@ use Rattle.esc_store.specs.declared.store.Store.{Store}
 use Rattle.esc_store.specs.Kept.{Kept}
 use Rattle.esc_store.specs.ReplyValue.{ReplyValue}
 use Rattle.esc_store.specs.Standing.{LeavesOnly}
+use Rattle.esc_events.specs.Apart.{WhereApart}
 use Rattle.esc_events.specs.ArrivalValue.{ArrivalValue}
-use Rattle.esc_events.specs.Events.{EventValue, union, coming, comings}
+use Rattle.esc_events.specs.Events.{EventValue}
 use Rattle.esc_events.specs.Events.EventValue.{arrived}
-use Rattle.esc_events.specs.Receipts.{alike, reply_to}
+use Rattle.esc_events.specs.Receipts.{reply_to}
 use Rattle.esc_events.specs.Stands.{StandsFor}
-use Rattle.esc_desk.specs.Crashes.{IsStoreFor, IsStoreForOneOf, CrashLeaves, LeavesOnlyFor, LeavesTaken, LeavesMade, still_doubtful, doubtful_with, IsNotFull, AddsStore, AddsStoreFor}
+use Rattle.esc_desk.specs.Again.{IsUnkept, IsMissingAfter}
+use Rattle.esc_desk.specs.Crashes.{IsStoreFor, IsStoreForOneOf, CrashLeaves, LeavesOnlyFor, LeavesAnswered, LeavesTaken, LeavesMade, still_doubtful, doubtful_with, IsNotFull, AddsStore, AddsStoreFor}
 use Rattle.esc_desk.proofs.CrashSteps.{none_then, none_is_fine}
-use Rattle.esc_desk.proofs.Likeness.{seen, still_stands, still_stands_with}
+use Rattle.esc_desk.specs.Takings.{LeavesWith}
+use Rattle.esc_desk.proofs.Likeness.{AddsNothing, still_stands, still_stands_with}
 
--- ---- an arrival that is like an earlier one
+-- ---- an arrival that adds nothing
 
-still_one : (trees : Trees) (e doubtful : List EventValue) (a : ArrivalValue) → list_any (alike sha256 reading (coming (union e) a)) (comings e) ≡ true → IsStoreForOneOf trees e doubtful → IsStoreForOneOf trees (e ++ arrived a ∷ []) doubtful
-still_one trees e [] a was one = record { kept = one.kept; store = one.store; stands_for = still_stands e a one.kept was one.stands_for }
-still_one trees e (x ∷ doubtful) a was (inl one) = inl (record { kept = one.kept; store = one.store; stands_for = still_stands_with e a one.kept was x one.stands_for })
-still_one trees e (x ∷ doubtful) a was (inr more) = inr (still_one trees e doubtful a was more)
+still_one : (trees : Trees) (e doubtful : List EventValue) (a : ArrivalValue) → AddsNothing e a → IsStoreForOneOf trees e doubtful → IsStoreForOneOf trees (e ++ arrived a ∷ []) doubtful
+still_one trees e [] a none one = record { kept = one.kept; store = one.store; stands_for = still_stands e a one.kept none one.stands_for }
+still_one trees e (x ∷ doubtful) a none (inl one) = inl (record { kept = one.kept; store = one.store; stands_for = still_stands_with e a one.kept none x one.stands_for })
+still_one trees e (x ∷ doubtful) a none (inr more) = inr (still_one trees e doubtful a none more)
+
+-- a store of the events is one of them or of others in doubt
+one_at_least : (trees : Trees) (e doubtful : List EventValue) → IsStoreFor trees e → IsStoreForOneOf trees e doubtful
+one_at_least trees e [] one = one
+one_at_least trees e (x ∷ doubtful) one = inr (one_at_least trees e doubtful one)
 
 -- ---- an event that was refused
 
@@ -56,8 +63,11 @@ module _ {S : Type 0} (g : Ghosts S) where
   adds_none old new result e s = none_is_fine _ _ _ s
 
   -- nothing was called
+  pub at_rest : (conn : Held S) → Survives (state g conn) (state g conn) (λ _. ⊥)
+  at_rest conn = record { clean = omega arith; shield = λ h. h; counts = omega arith; limit = refl; closes = λ _ up. inl up; crash = λ _ db may. inl may }
+
   pub adds_at_rest : {X : Type 0} (conn : Held S) (result : Result X SFault) (e : List EventValue) → AddsStoreFor g conn conn result e
-  adds_at_rest conn result e = adds_none conn conn result e (record { clean = omega arith; shield = λ h. h; counts = omega arith; limit = refl; closes = λ _ up. inl up; crash = λ _ db may. inl may })
+  adds_at_rest conn result e = adds_none conn conn result e (at_rest conn)
 
   -- first a call that added nothing, then this one
   pub adds_then : {X : Type 0} (a b c : Held S) (result : Result X SFault) (e : List EventValue) → Survives (state g a) (state g b) (λ _. ⊥) → AddsStoreFor g b c result e → AddsStoreFor g a c result e
@@ -80,11 +90,9 @@ module _ {S : Type 0} (g : Ghosts S) where
     unfolding CrashLeaves
     leaves_as s clean trees may = elim (s.crash clean trees may) [ inl was ↦ left (omega (arith, s.clean, clean)) trees was | inr none ↦ absurd none ]
 
-    pub leaves_kept : (a : ArrivalValue) (r : ReplyValue) → reply_to sha256 reading e a ≡ Some r → Survives (state g old) (state g new) (λ _. ⊥)
-        → CrashLeaves g new (e ++ arrived a ∷ []) (still_doubtful (reply_to sha256 reading e a) doubtful)
+    pub leaves_nothing : (a : ArrivalValue) → AddsNothing e a → Survives (state g old) (state g new) (λ _. ⊥) → CrashLeaves g new (e ++ arrived a ∷ []) doubtful
     unfolding CrashLeaves
-    leaves_kept a r told s = subst (λ (o : Option ReplyValue). CrashLeaves g new (e ++ arrived a ∷ []) (still_doubtful o doubtful)) (sym told)
-        (λ clean trees may. still_one trees e doubtful a (seen e a r told) (leaves_as s clean trees may))
+    leaves_nothing a none s clean trees may = still_one trees e doubtful a none (leaves_as s clean trees may)
 
     pub leaves_refused : (X : Type 0) (x : EventValue) (f : SFault) → AddsStoreFor {X = X} g old new (Err f) (e ++ x ∷ []) → CrashLeaves g new e (doubtful_with f x doubtful)
     unfolding CrashLeaves AddsStoreFor
@@ -97,6 +105,18 @@ module _ {S : Type 0} (g : Ghosts S) where
       → CrashLeaves g new (e ++ arrived a ∷ []) (still_doubtful (reply_to sha256 reading e a) doubtful)
   unfolding CrashLeaves LeavesOnlyFor
   leaves_new new e doubtful a none only = subst (λ (o : Option ReplyValue). CrashLeaves g new (e ++ arrived a ∷ []) (still_doubtful o doubtful)) (sym none) only
+
+  -- an arrival that came again: it adds nothing, or a crash leaves it taken in
+  pub leaves_with_nothing : (old new : Held S) (e : List EventValue) (a : ArrivalValue) → AddsNothing e a → Survives (state g old) (state g new) (λ _. ⊥) → LeavesWith g old new e a
+  leaves_with_nothing old new e a none s doubtful left = leaves_nothing old new e doubtful left a none s
+
+  pub leaves_with_only : (old new : Held S) (e : List EventValue) (a : ArrivalValue) → LeavesOnlyFor g new (e ++ arrived a ∷ []) → LeavesWith g old new e a
+  unfolding CrashLeaves LeavesOnlyFor
+  leaves_with_only old new e a only doubtful left clean trees may = one_at_least trees (e ++ arrived a ∷ []) doubtful (only clean trees may)
+
+  -- what a call before it left
+  pub leaves_with_then : (old mid new : Held S) (e : List EventValue) (a : ArrivalValue) → Survives (state g old) (state g mid) (λ _. ⊥) → LeavesWith g mid new e a → LeavesWith g old new e a
+  leaves_with_then old mid new e a s with doubtful left = with doubtful (leaves_as old mid e doubtful left s)
 
   leaves_only : (new : Held S) (e : List EventValue) → LeavesOnlyFor g new e → CrashLeaves g new e []
   unfolding CrashLeaves LeavesOnlyFor
@@ -111,8 +131,23 @@ module _ {S : Type 0} (g : Ghosts S) where
   pub leaves_taken : {X : Type 0} (old new : Held S) (e doubtful : List EventValue) (a : ArrivalValue) (result : Result X SFault) → CrashLeaves g old e doubtful
       → (HasCleanDisk (state g new) → reply_to sha256 reading e a ≡ None) → (HasCleanDisk (state g new) → AddsStoreFor g old new result (e ++ arrived a ∷ [])) → (HasCleanDisk (state g new) → OnOk result (LeavesOnlyFor g new (e ++ arrived a ∷ [])))
       → LeavesTaken g new e doubtful a result
-  leaves_taken {X = X} old new e doubtful a (Ok x) left none adds only = if_clean new (e ++ arrived a ∷ []) _ (λ clean. leaves_new new e doubtful a (none clean) (only clean))
+  leaves_taken {X = X} old new e doubtful a (Ok x) left none adds only = record {
+    answered = if_clean new (e ++ arrived a ∷ []) _ (λ clean. leaves_new new e doubtful a (none clean) (only clean));
+    missing = λ unkept apart missing. if_clean new (e ++ arrived a ∷ []) [] (λ clean. leaves_only new (e ++ arrived a ∷ []) (only clean));
+  }
   leaves_taken {X = X} old new e doubtful a (Err f) left none adds only = if_clean new e (doubtful_with f (arrived a) doubtful) (λ clean. leaves_refused old new e doubtful left X (arrived a) f (adds clean))
+
+  -- one that came again, by what came of it
+  pub leaves_again : {X : Type 0} (old new : Held S) (e doubtful : List EventValue) (a : ArrivalValue) (r : ReplyValue) (result : Result X SFault) → CrashLeaves g old e doubtful
+      → (HasCleanDisk (state g new) → reply_to sha256 reading e a ≡ Some r) → (HasCleanDisk (state g new) → AddsStoreFor g old new result (e ++ arrived a ∷ []))
+      → (HasCleanDisk (state g new) → OnOk result (LeavesWith g old new e a × (IsUnkept e a → WhereApart e (IsMissingAfter e a → LeavesOnlyFor g new (e ++ arrived a ∷ [])))))
+      → LeavesTaken g new e doubtful a result
+  leaves_again {X = X} old new e doubtful a r (Ok x) left told adds with = record {
+    answered = if_clean new (e ++ arrived a ∷ []) _ (λ clean.
+        subst (λ (o : Option ReplyValue). CrashLeaves g new (e ++ arrived a ∷ []) (still_doubtful o doubtful)) (sym (told clean)) ((with clean).0 doubtful left));
+    missing = λ unkept apart missing. if_clean new (e ++ arrived a ∷ []) [] (λ clean. leaves_only new (e ++ arrived a ∷ []) ((with clean).1 unkept apart missing));
+  }
+  leaves_again {X = X} old new e doubtful a r (Err f) left told adds with = if_clean new e (doubtful_with f (arrived a) doubtful) (λ clean. leaves_refused old new e doubtful left X (arrived a) f (adds clean))
 
   -- one that was refused before anything was begun
   pub leaves_early : {X : Type 0} (old new : Held S) (e doubtful : List EventValue) (a : ArrivalValue) (result : Result X SFault) (f : SFault) → result ≡ Err f → CrashLeaves g old e doubtful → Survives (state g old) (state g new) (λ _. ⊥)

@@ -72,3 +72,8 @@ if_ok_each (Err e) P f = tt
 pub on_ok_each : {X E : Type 0} (r : Result X E) (P : Type 0) (Q : X → Type 0) → (P → (x : X) → Q x) → OnOk r P → IfOk r Q
 on_ok_each (Ok x) P Q f p = f p x
 on_ok_each (Err e) P Q f p = tt
+
+-- the same, where P is so only under a premise that the conclusion gives
+pub on_ok_where : {X E : Type 0} (r : Result X E) (U P : Type 0) (A B C : Type 0) → (P → X → A → B → C) → (A → B → U) → (U → OnOk r P) → IfOk r (λ _. A → B → C)
+on_ok_where (Ok x) U P A B C f u p = λ a b. f (p (u a b)) x a b
+on_ok_where (Err e) U P A B C f u p = tt

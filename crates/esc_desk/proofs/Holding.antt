@@ -207,14 +207,14 @@ row_in m digest = by_row (row_of m digest) refl
     by_row (Some r) is = (position-Some (λ (row : MRow). bytes_eq row.digest digest) m r no_row is).0
 
 -- it is one of those that are listed
-pub row_within : (m : List MRow) (body number digest : List ℕ) (again : Bool) → IfSome (receipt_by number digest (finding sha256 reading m body) again).row (λ r. r < length m)
+pub row_within : (m : List MRow) (body number digest : List ℕ) (again : Bool) → IfSome (receipt_by number digest false (finding sha256 reading m body) again).row (λ r. r < length m)
 row_within m body number digest again = by_row (row_of m (sha256 body)) (reading body) (row_in m (sha256 body))
   where
-    by_row : (row : Option ℕ) (told : Result DepositValue ℕ) → IfSome row (λ r. r < length m) → IfSome (receipt_by number digest (found_at m row told) again).row (λ r. r < length m)
+    by_row : (row : Option ℕ) (told : Result DepositValue ℕ) → IfSome row (λ r. r < length m) → IfSome (receipt_by number digest false (found_at m row told) again).row (λ r. r < length m)
     by_row None told within = tt
     by_row (Some r) (Err n) within = within
     by_row (Some r) (Ok d) within = by_test (as_listed (row_at m r).header d.header)
       where
-        by_test : (b : Bool) → IfSome (receipt_by number digest (cond b (Holding r d) (Differing r)) again).row (λ r. r < length m)
+        by_test : (b : Bool) → IfSome (receipt_by number digest false (cond b (Holding r d) (Differing r)) again).row (λ r. r < length m)
         by_test true = within
         by_test false = within

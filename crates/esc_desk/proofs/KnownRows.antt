@@ -56,14 +56,14 @@ told_same receipts receipt told are none = record { rising = are.rising; each = 
 
 -- ---- what a receipt says
 
-pub says_row : (number digest : List ℕ) (row : ℕ) (d : DepositValue) (again : Bool) → SaysHeld row (receipt_by number digest (Holding row d) again)
-says_row number digest row d again = says_from_holds row number digest (Holding row d) again (same_self row)
+pub says_row : (number digest : List ℕ) (row : ℕ) (d : DepositValue) (again : Bool) → SaysHeld row (receipt_by number digest false (Holding row d) again)
+says_row number digest row d again = says_from_holds row number digest false (Holding row d) again (same_self row)
 
-pub says_only : (number digest : List ℕ) (row : ℕ) (d : DepositValue) (again : Bool) (r : ℕ) → SaysHeld r (receipt_by number digest (Holding row d) again) → r ≡ row
-says_only number digest row d again r says = sym (same_answer (is_row_of r (Some row) (holds_from_says r number digest (Holding row d) again says)))
+pub says_only : (number digest : List ℕ) (row : ℕ) (d : DepositValue) (again : Bool) (r : ℕ) → SaysHeld r (receipt_by number digest false (Holding row d) again) → r ≡ row
+says_only number digest row d again r says = sym (same_answer (is_row_of r (Some row) (holds_from_says r number digest false (Holding row d) again says)))
 
-pub says_none : (number digest : List ℕ) (f : Finding) (again : Bool) → held_row f ≡ None → (r : ℕ) → SaysHeld r (receipt_by number digest f again) → ⊥
-says_none number digest f again none r says = no_answer (sym none ∙ is_row_of r (held_row f) (holds_from_says r number digest f again says))
+pub says_none : (number digest : List ℕ) (f : Finding) (again : Bool) → held_row f ≡ None → (r : ℕ) → SaysHeld r (receipt_by number digest false f again) → ⊥
+says_none number digest f again none r says = no_answer (sym none ∙ is_row_of r (held_row f) (holds_from_says r number digest false f again says))
 
 -- ---- the rows of which a body is held
 

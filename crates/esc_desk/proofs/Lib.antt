@@ -3,8 +3,10 @@ pub mod AmendedRows
 pub mod AtFirst
 pub mod CauseLemmas
 pub mod ChangeSteps
+pub mod ComingAgain
 pub mod CrashLemmas
 pub mod CrashSteps
+pub mod EarlyEvents
 pub mod EntryLists
 pub mod FoundRows
 pub mod Holding

@@ -1,28 +1,35 @@
--- An arrival that is like an earlier one changes nothing, whatever one event comes behind it.
-use Rattle.std.proofs.Common.{◌≡◌, inl, inr, ℕ, Bool, true, false, cond, ◌||◌, List, [], ◌∷◌, ◌++◌, Option, Some, None, is_some, refl, sym, ap, ap₂, subst, ◌∙◌, append-nil}
-use Rattle.std.specs.List.{list_any, find}
+-- An arrival that is like an earlier one, and whose body is there or needn't be, changes nothing, whatever one event comes behind it.
+use Rattle.std.proofs.Common.{◌≡◌, ◌⊎◌, inl, inr, ℕ, suc, ◌+◌, ◌<◌, Bool, true, false, cond, not, ◌||◌, List, [], ◌∷◌, ◌++◌, length, Option, Some, None, IsSome, is_some, Result, Ok, Err, refl, sym, ap, ap₂, subst, ◌∙◌, append-nil, append_assoc, arith, true≢false}
+use Rattle.std.specs.List.{list_any, find, Any, position_or_len}
 use Rattle.std.specs.Str.{bytes_eq}
 use Rattle.std.specs.Cmp.Lexicographic.{bytes_decides}
+use Rattle.std.proofs.lemmas.Grind.{common_steps}
+use Rattle.std.proofs.lemmas.List.{get_or_append_left}
 use Rattle.std.proofs.lemmas.List.Folds.{list_any-append}
 use Rattle.std.proofs.lemmas.Map.Steps.{list_any_congr}
 use Rattle.sha2.specs.Sha256.{sha256}
+use Rattle.esc_tables.specs.DepositValue.{DepositValue}
 use Rattle.esc_tables.specs.Reading.{reading}
 use Rattle.esc_manifest.specs.declared.row.MRow.{MRow}
-use Rattle.esc_manifest.specs.Extension.{extended}
+use Rattle.esc_manifest.specs.Extension.{new_rows, extended}
+use Rattle.esc_manifest.specs.Rows.{no_row}
 use Rattle.esc_store.specs.Kept.{Kept}
-use Rattle.esc_store.specs.ReplyValue.{ReplyValue}
+use Rattle.esc_store.specs.ReplyValue.{ReceiptValue, ReplyValue}
+use Rattle.esc_events.specs.declared.finding.Finding.TheVariants.{Differing, Holding}
 use Rattle.esc_events.specs.ArrivalValue.{ArrivalValue}
-use Rattle.esc_events.specs.Events.{EventValue, Coming, union, coming, comings, moment_of}
-use Rattle.esc_events.specs.Events.EventValue.{listed, arrived, moved}
-use Rattle.esc_events.specs.Finding.{finding, row_of}
+use Rattle.esc_events.specs.Events.{EventValue, Coming, union, coming, early_coming, comings, moment_of}
+use Rattle.esc_events.specs.Events.EventValue.{listed, arrived, moved, arrived_early}
+use Rattle.esc_events.specs.Finding.{finding, found, found_at, as_listed, row_of}
 use Rattle.esc_events.specs.Receipts.{alike, distinct, holds_row, receipts_of, receipts_after, reply_to}
-use Rattle.esc_events.specs.Stands.{Among, IsApart, AreBooks, StandsFor, body_of, holds_by, has_digest, held_body, parked_body}
+use Rattle.esc_events.specs.Stands.{Among, IsApart, AreBooks, StandsFor, CameFor, CameWith, TellsOf, body_of, holds_by, has_digest, counted, held_body, parked_body}
+use Rattle.esc_events.proofs.AmendingLemmas.{row_found}
 use Rattle.esc_events.proofs.EventLemmas.{union-arrived, comings-arrived, moment-arrived, union-listed, comings-listed, moment-listed, union-moved, comings-moved, moment-moved}
-use Rattle.esc_events.proofs.Distinct.{alike_laws, distinct-push, both}
+use Rattle.esc_events.proofs.Distinct.{alike_laws, distinct-push}
 use Rattle.esc_events.proofs.Members.{any_of, one_of, among-front, among-last}
 use Rattle.esc_events.proofs.Moving.{stands_still}
-use Rattle.esc_events.proofs.OneArrival.{any_kept, came_by, with_by}
-use Rattle.esc_events.proofs.Searches.{some_alike, find-front, find-back, find-push-old}
+use Rattle.esc_events.proofs.OneArrival.{any_kept}
+use Rattle.esc_events.proofs.Searches.{some_alike, find-front, find-back, find-push-old, same_answer, no_answer}
+use Rattle.esc_desk.proofs.EarlyEvents.{union-early, comings-early, moment-early, counting, counting-append}
 
 or_true : (b : Bool) → (b || true) ≡ true
 or_true true = refl
@@ -38,6 +45,12 @@ like a b = alike sha256 reading a b
 abbrev first_ones : List Coming → List Coming
 first_ones l = distinct sha256 reading l
 
+abbrev holding : List MRow → ℕ → Coming → Bool
+holding m r c = holds_by sha256 reading m r c
+
+abbrev under : List ℕ → Coming → Bool
+under d c = has_digest sha256 reading d c
+
 -- where two lists find the same, they do so with the same list behind them
 find-both : (p : Coming → Bool) (xs zs ys : List Coming) → find p xs ≡ find p zs → find p (xs ++ ys) ≡ find p (zs ++ ys)
 find-both p xs zs ys same = by_find (find p xs) refl
@@ -51,7 +64,51 @@ among_through [] tail c x there = inr there
 among_through (b ∷ l) tail c x (inl is) = inl is
 among_through (b ∷ l) tail c x (inr there) = inr (among_through l tail c x there)
 
--- one of the arrivals is like an earlier one
+-- ---- a listed body is judged by its row, also where more rows are listed
+
+first_in_front : {X : Type 0} (p : X → Bool) (xs ys : List X) → position_or_len p xs < length xs → position_or_len p (xs ++ ys) ≡ position_or_len p xs
+first_in_front p [] ys within = absurd (omega (arith, within))
+first_in_front p (x ∷ xs) ys within = by_test (p x) (first_in_front p xs ys) within
+  where
+    by_test : (b : Bool) → (position_or_len p xs < length xs → position_or_len p (xs ++ ys) ≡ position_or_len p xs) → cond (not b) (1 + position_or_len p xs) 0 < suc (length xs)
+        → cond (not b) (1 + position_or_len p (xs ++ ys)) 0 ≡ cond (not b) (1 + position_or_len p xs) 0
+    by_test true rest within = refl
+    by_test false rest within = ap (λ (n : ℕ). 1 + n) (rest (omega (arith, within)))
+
+row_still : (m more : List MRow) (d : List ℕ) (q : ℕ) → row_of m d ≡ Some q → (row_of (m ++ more) d ≡ Some q) × (q < length m)
+row_still m more d q then =
+    let p : MRow → Bool = λ row. bytes_eq row.digest d in
+    let first : q ≡ position_or_len (λ (row : MRow). bytes_eq row.digest d) m = grind (arith, common_steps, then) in
+    let within : position_or_len (λ (row : MRow). bytes_eq row.digest d) m < length m = grind (arith, common_steps, then) in
+    let same = first_in_front (λ (row : MRow). bytes_eq row.digest d) m more within in
+    let still : row_of (m ++ more) d ≡ Some q = grind (arith, common_steps, first, within, same) in
+    (still, omega (arith, first, within))
+
+found_still : (m more : List MRow) (r : ℕ) → r < length m → (t : Result DepositValue ℕ) → found (m ++ more) r t ≡ found m r t
+found_still m more r within (Ok d) = ap (λ (row : MRow). cond (as_listed row.header d.header) (Holding r d) (Differing r)) (get_or_append_left m more no_row r within)
+found_still m more r within (Err n) = refl
+
+holds_still : (m more : List MRow) (q r : ℕ) (c : Coming) → row_of m (sha256 c.body) ≡ Some q → holding (m ++ more) r c ≡ holding m r c
+holds_still m more q r c at =
+    let now = row_still m more (sha256 c.body) q at in
+    ap (λ (o : Option ℕ). holds_row r (found_at (m ++ more) o (reading c.body))) now.0
+    ∙ ap (holds_row r) (found_still m more q now.1 (reading c.body))
+    ∙ ap (λ (o : Option ℕ). holds_row r (found_at m o (reading c.body))) (sym at)
+
+-- ---- an arrival that adds nothing
+
+-- a body with its digest is among those that count; or a row lists it, and each row that it holds is held
+abbrev pub IsThere : List MRow → List Coming → Coming → Type 0
+IsThere m l c = (list_any (under (sha256 c.body)) l ≡ true)
+    ⊎ ((q : ℕ) × (row_of m (sha256 c.body) ≡ Some q) × ((r : ℕ) → holding m r c ≡ true → list_any (holding m r) l ≡ true))
+
+-- and it is like an earlier one
+pub record AddsNothing (e : List EventValue) (a : ArrivalValue) : Type 0 where
+  pub alike : list_any (like (coming (union e) a)) (comings e) ≡ true
+  pub there : IsThere (union e) (counted sha256 reading e) (coming (union e) a)
+
+-- ---- one of the arrivals is like an earlier one
+
 module _ (l : List Coming) (c : Coming) (was : list_any (like c) l ≡ true) where
   one_more_seen : first_ones (l ++ c ∷ []) ≡ first_ones l
   one_more_seen = distinct-push sha256 reading l c ∙ ap (λ b. cond b (first_ones l) (first_ones l ++ c ∷ [])) was
@@ -70,99 +127,154 @@ module _ (l : List Coming) (c : Coming) (was : list_any (like c) l ≡ true) whe
       ∙ ap₂ (λ (b : Bool) (d : List Coming). cond b d (d ++ x ∷ [])) (any_with x) one_more_seen
       ∙ sym (distinct-push sha256 reading l x)
 
-  -- events f with this arrival stand for what the events e without it do
-  module _ (e f : List EventValue) (tail : List Coming) (with : comings f ≡ (l ++ c ∷ []) ++ tail) (without : comings e ≡ l ++ tail)
-      (rows : union f ≡ union e) (moment : moment_of f ≡ moment_of e) (firsts : first_ones (comings f) ≡ first_ones (comings e)) where
-    within : (x : Coming) → Among ((l ++ c ∷ []) ++ tail) x → Among (comings f) x
-    within x there = subst (λ (xs : List Coming). Among xs x) (sym with) there
+-- ---- events f with this arrival stand for what the events e without it do
 
-    stays : (x : Coming) → Among (comings e) x → Among (comings f) x
-    stays x there = within x (among_through l tail c x (subst (λ (xs : List Coming). Among xs x) without there))
+-- where m were listed before it, and l counted
+module _ (m more : List MRow) (l tail : List Coming) (c : Coming) (there : IsThere m l c) (e f : List EventValue)
+    (with : counted sha256 reading f ≡ (l ++ c ∷ []) ++ tail) (without : counted sha256 reading e ≡ l ++ tail)
+    (listed_are : union e ≡ m ++ more) (rows : union f ≡ union e) (moment : moment_of f ≡ moment_of e) (firsts : first_ones (comings f) ≡ first_ones (comings e)) where
+  within : (x : Coming) → Among ((l ++ c ∷ []) ++ tail) x → Among (counted sha256 reading f) x
+  within x there = subst (λ (xs : List Coming). Among xs x) (sym with) there
 
-    module _ (apart : IsApart sha256 reading f) where
-      apart_without : IsApart sha256 reading e
-      apart_without a b first second same = apart a b (stays a first) (stays b second) same
+  stays : (x : Coming) → Among (counted sha256 reading e) x → Among (counted sha256 reading f) x
+  stays x there = within x (among_through l tail c x (subst (λ (xs : List Coming). Among xs x) without there))
 
-      -- a test of bodies that this arrival passes is passed by the earlier one
-      passed : (q : List ℕ → Bool) → q c.body ≡ true → list_any (λ (x : Coming). q x.body) l ≡ true
-      passed q is =
-          let one = one_of (like c) l was in
-          let same = (bytes_decides (sha256 c.body) (sha256 one.0.body)).0 (both _ _ one.2).1 in
-          let body = apart c one.0 (within c (among-front (l ++ c ∷ []) tail c (among-last l c))) (within one.0 (among-front (l ++ c ∷ []) tail one.0 (among-front l (c ∷ []) one.0 one.1))) same in
-          any_of (λ (x : Coming). q x.body) l one.0 one.1 (ap q (sym body) ∙ is)
+  apart_without : IsApart sha256 reading f → IsApart sha256 reading e
+  apart_without apart a b first second same = apart a b (stays a first) (stays b second) same
 
-      found_as : (q : List ℕ → Bool) → find (λ (x : Coming). q x.body) (comings f) ≡ find (λ (x : Coming). q x.body) (comings e)
-      found_as q =
-          let p : Coming → Bool = λ x. q x.body in
-          ap (find p) with
-          ∙ find-both p (l ++ c ∷ []) l tail (find-push-old p l c (passed q))
-          ∙ ap (find p) (sym without)
+  -- a row that it holds is held by an earlier one
+  held_before : IsApart sha256 reading f → (r : ℕ) → holding (m ++ more) r c ≡ true → list_any (holding (m ++ more) r) l ≡ true
+  held_before apart r holds = by_case there
+    where
+      by_case : IsThere m l c → list_any (holding (m ++ more) r) l ≡ true
+      by_case (inl any) =
+          let one = one_of (under (sha256 c.body)) l any in
+          let same = (bytes_decides (sha256 one.0.body) (sha256 c.body)).0 one.2 in
+          let body = apart one.0 c (within one.0 (among-front (l ++ c ∷ []) tail one.0 (among-front l (c ∷ []) one.0 one.1))) (within c (among-front (l ++ c ∷ []) tail c (among-last l c))) same in
+          any_of (holding (m ++ more) r) l one.0 one.1 (ap (λ (b : List ℕ). holds_row r (finding sha256 reading (m ++ more) b)) body ∙ holds)
+      by_case (inr (q, at, held)) =
+          let one = one_of (holding m r) l (held r (sym (holds_still m more q r c at) ∙ holds)) in
+          any_of (holding (m ++ more) r) l one.0 one.1 (holds_still m more r r one.0 (row_found m r (row_of m (sha256 one.0.body)) (reading one.0.body) one.2) ∙ one.2)
 
-      held_as : (r : ℕ) → held_body sha256 reading f r ≡ held_body sha256 reading e r
-      held_as r =
-          ap body_of (found_as (λ (b : List ℕ). holds_row r (finding sha256 reading (union f) b)))
-          ∙ ap (λ (m : List MRow). body_of (find (holds_by sha256 reading m r) (comings e))) rows
+  -- what it could be parked as came earlier
+  parked_before : (d : List ℕ) → row_of (m ++ more) d ≡ None → under d c ≡ true → list_any (under d) l ≡ true
+  parked_before d none is = by_case there
+    where
+      same : sha256 c.body ≡ d
+      same = (bytes_decides (sha256 c.body) d).0 is
 
-      parked_as : (d : List ℕ) → parked_body sha256 reading f d ≡ parked_body sha256 reading e d
-      parked_as d =
-          ap₂ (λ (m : List MRow) (o : Option Coming). cond (is_some (row_of m d)) None (body_of o)) rows (found_as (λ (b : List ℕ). bytes_eq (sha256 b) d))
+      by_case : IsThere m l c → list_any (under d) l ≡ true
+      by_case (inl any) = subst (λ (x : List ℕ). list_any (under x) l ≡ true) same any
+      by_case (inr (q, at, held)) = absurd (no_answer (sym none ∙ ap (row_of (m ++ more)) (sym same) ∙ (row_still m more (sha256 c.body) q at).0))
 
-    books_as : (k : Kept) → AreBooks sha256 reading e k → AreBooks sha256 reading f k
-    books_as k books = record {
-      listed = books.listed ∙ sym rows;
-      receipts = books.receipts ∙ ap (receipts_after sha256 reading []) (sym firsts);
-      bodies = λ apart r. books.bodies (apart_without apart) r ∙ sym (held_as apart r);
-      parked = λ apart d. books.parked (apart_without apart) d ∙ sym (parked_as apart d);
-      moment = books.moment ∙ sym moment;
-      came = λ r body is. came_by sha256 reading e f rows first_stays r body (books.came r body is);
-      waits = λ d body is. with_by sha256 reading e f rows first_stays d body (books.waits d body is);
-      told = books.told;
-    }
-      where
-        first_stays : (x : Coming) → Among (first_ones (comings e)) x → Among (first_ones (comings f)) x
-        first_stays x among = subst (λ (xs : List Coming). Among xs x) (sym firsts) among
+  found_as : (p : Coming → Bool) → (p c ≡ true → list_any p l ≡ true) → find p (counted sha256 reading f) ≡ find p (counted sha256 reading e)
+  found_as p before = ap (find p) with ∙ find-both p (l ++ c ∷ []) l tail (find-push-old p l c before) ∙ ap (find p) (sym without)
 
-    stands_as : (k : Kept) → StandsFor sha256 reading e k → StandsFor sha256 reading f k
-    stands_as k stood = stands_still e f k k stood (books_as k stood.books) refl refl refl refl refl
+  held_as : IsApart sha256 reading f → (r : ℕ) → held_body sha256 reading f r ≡ held_body sha256 reading e r
+  held_as apart r =
+      ap (λ (n : List MRow). body_of (find (holding n r) (counted sha256 reading f))) (rows ∙ listed_are)
+      ∙ ap body_of (found_as (holding (m ++ more) r) (held_before apart r))
+      ∙ ap (λ (n : List MRow). body_of (find (holding n r) (counted sha256 reading e))) (sym listed_are)
+
+  parked_as : (d : List ℕ) → parked_body sha256 reading f d ≡ parked_body sha256 reading e d
+  parked_as d =
+      ap (λ (n : List MRow). cond (is_some (row_of n d)) None (body_of (find (under d) (counted sha256 reading f)))) (rows ∙ listed_are)
+      ∙ by_row (row_of (m ++ more) d) refl
+      ∙ ap (λ (n : List MRow). cond (is_some (row_of n d)) None (body_of (find (under d) (counted sha256 reading e)))) (sym listed_are)
+    where
+      by_row : (o : Option ℕ) → row_of (m ++ more) d ≡ o
+          → cond (is_some o) None (body_of (find (under d) (counted sha256 reading f))) ≡ cond (is_some o) None (body_of (find (under d) (counted sha256 reading e)))
+      by_row None none = ap body_of (found_as (under d) (parked_before d none))
+      by_row (Some q) at = refl
+
+  books_as : (k : Kept) → AreBooks sha256 reading e k → AreBooks sha256 reading f k
+  books_as k books = record {
+    listed = books.listed ∙ sym rows;
+    receipts = books.receipts ∙ ap (receipts_after sha256 reading []) (sym firsts);
+    bodies = λ apart r. books.bodies (apart_without apart) r ∙ sym (held_as apart r);
+    parked = λ apart d. books.parked (apart_without apart) d ∙ sym (parked_as d);
+    moment = books.moment ∙ sym moment;
+    came = λ r body is. came_as r body (books.came r body is);
+    waits = λ d body is. waits_as d body (books.waits d body is);
+    told = books.told;
+    held_told = λ r some. subst (λ (n : List MRow). Any (TellsOf n r) k.receipts) (sym rows) (books.held_told r some);
+    parked_told = books.parked_told;
+  }
+    where
+      came_as : (r : ℕ) (body : List ℕ) → CameFor sha256 reading e r body → CameFor sha256 reading f r body
+      came_as r body one = record { arrival = one.arrival; among = stays one.arrival one.among; holds = ap (λ (n : List MRow). holding n r one.arrival) rows ∙ one.holds; is_body = one.is_body }
+
+      waits_as : (d body : List ℕ) → CameWith sha256 reading e d body → CameWith sha256 reading f d body
+      waits_as d body one = record { arrival = one.arrival; among = stays one.arrival one.among; digest_is = one.digest_is; is_body = one.is_body }
+
+  stands_as : (k : Kept) → StandsFor sha256 reading e k → StandsFor sha256 reading f k
+  stands_as k stood = stands_still e f k k stood (books_as k stood.books) refl refl refl refl refl
 
 -- an arrival with a reply is like an earlier one
 pub seen : (e : List EventValue) (a : ArrivalValue) (r : ReplyValue) → reply_to sha256 reading e a ≡ Some r → list_any (like (coming (union e) a)) (comings e) ≡ true
 seen e a r told = any_kept sha256 reading (comings e) (coming (union e) a) ∙ some_alike (union e) a.number (sha256 a.body) 1 (receipts_of sha256 reading e) r told
 
-module _ (e : List EventValue) (a : ArrivalValue) (k : Kept) (was : list_any (like (coming (union e) a)) (comings e) ≡ true) where
+module _ (e : List EventValue) (a : ArrivalValue) (k : Kept) (none : AddsNothing e a) where
   abbrev came : Coming
   came = coming (union e) a
 
   abbrev then : List EventValue
   then = e ++ arrived a ∷ []
 
+  abbrev before : List Coming
+  before = counted sha256 reading e
+
+  count_then : counted sha256 reading then ≡ before ++ came ∷ []
+  count_then = ap counting (comings-arrived e a) ∙ counting-append (comings e) (came ∷ [])
+
+  same_rows : (m : List MRow) → m ≡ m ++ []
+  same_rows m = sym (append-nil m)
+
   -- what stands for the events without it does so with it
   pub still_stands : StandsFor sha256 reading e k → StandsFor sha256 reading then k
   still_stands stood =
-      stands_as (comings e) came was e then [] (comings-arrived e a ∙ sym (append-nil _)) (sym (append-nil _)) (union-arrived e a) (moment-arrived e a)
-      (ap first_ones (comings-arrived e a) ∙ one_more_seen (comings e) came was) k stood
+      stands_as (union e) [] before [] came none.there e then (count_then ∙ sym (append-nil _)) (sym (append-nil _)) (same_rows (union e)) (union-arrived e a) (moment-arrived e a)
+      (ap first_ones (comings-arrived e a) ∙ one_more_seen (comings e) came none.alike) k stood
 
   -- also where another event comes behind it
   pub still_stands_with : (x : EventValue) → StandsFor sha256 reading (e ++ x ∷ []) k → StandsFor sha256 reading (then ++ x ∷ []) k
   still_stands_with (listed more) stood =
       let with = comings-listed then more ∙ comings-arrived e a in
       let without = comings-listed e more in
-      stands_as (comings e) came was (e ++ listed more ∷ []) (then ++ listed more ∷ []) [] (with ∙ sym (append-nil _)) (without ∙ sym (append-nil _))
+      stands_as (union e) (new_rows (union e) more) before [] came none.there (e ++ listed more ∷ []) (then ++ listed more ∷ [])
+      (ap counting (comings-listed then more) ∙ count_then ∙ sym (append-nil _)) (ap counting without ∙ sym (append-nil _))
+      (union-listed e more)
       (union-listed then more ∙ ap (λ (m : List MRow). extended m more) (union-arrived e a) ∙ sym (union-listed e more))
       (moment-listed then more ∙ moment-arrived e a ∙ sym (moment-listed e more))
-      (ap first_ones with ∙ one_more_seen (comings e) came was ∙ ap first_ones (sym without)) k stood
+      (ap first_ones with ∙ one_more_seen (comings e) came none.alike ∙ ap first_ones (sym without)) k stood
   still_stands_with (arrived b) stood =
       let other = coming (union e) b in
       let with = comings-arrived then b ∙ ap₂ (λ (l : List Coming) (m : List MRow). l ++ coming m b ∷ []) (comings-arrived e a) (union-arrived e a) in
       let without = comings-arrived e b in
-      stands_as (comings e) came was (e ++ arrived b ∷ []) (then ++ arrived b ∷ []) (other ∷ []) with without
+      stands_as (union e) [] before (counting (other ∷ [])) came none.there (e ++ arrived b ∷ []) (then ++ arrived b ∷ [])
+      (ap counting with ∙ counting-append (comings e ++ came ∷ []) (other ∷ []) ∙ ap (λ (l : List Coming). l ++ counting (other ∷ [])) (counting-append (comings e) (came ∷ [])))
+      (ap counting without ∙ counting-append (comings e) (other ∷ []))
+      (union-arrived e b ∙ same_rows (union e))
       (union-arrived then b ∙ union-arrived e a ∙ sym (union-arrived e b))
       (moment-arrived then b ∙ moment-arrived e a ∙ sym (moment-arrived e b))
-      (ap first_ones with ∙ two_more_seen (comings e) came was other ∙ ap first_ones (sym without)) k stood
+      (ap first_ones with ∙ two_more_seen (comings e) came none.alike other ∙ ap first_ones (sym without)) k stood
   still_stands_with (moved t) stood =
       let with = comings-moved then t ∙ comings-arrived e a in
       let without = comings-moved e t in
-      stands_as (comings e) came was (e ++ moved t ∷ []) (then ++ moved t ∷ []) [] (with ∙ sym (append-nil _)) (without ∙ sym (append-nil _))
+      stands_as (union e) [] before [] came none.there (e ++ moved t ∷ []) (then ++ moved t ∷ [])
+      (ap counting (comings-moved then t) ∙ count_then ∙ sym (append-nil _)) (ap counting without ∙ sym (append-nil _))
+      (union-moved e t ∙ same_rows (union e))
       (union-moved then t ∙ union-arrived e a ∙ sym (union-moved e t))
       (moment-moved then t ∙ sym (moment-moved e t))
-      (ap first_ones with ∙ one_more_seen (comings e) came was ∙ ap first_ones (sym without)) k stood
+      (ap first_ones with ∙ one_more_seen (comings e) came none.alike ∙ ap first_ones (sym without)) k stood
+  still_stands_with (arrived_early b) stood =
+      let other = early_coming (union e) b in
+      let with = comings-early then b ∙ ap₂ (λ (l : List Coming) (m : List MRow). l ++ early_coming m b ∷ []) (comings-arrived e a) (union-arrived e a) in
+      let without = comings-early e b in
+      stands_as (union e) [] before (counting (other ∷ [])) came none.there (e ++ arrived_early b ∷ []) (then ++ arrived_early b ∷ [])
+      (ap counting with ∙ counting-append (comings e ++ came ∷ []) (other ∷ []) ∙ ap (λ (l : List Coming). l ++ counting (other ∷ [])) (counting-append (comings e) (came ∷ [])))
+      (ap counting without ∙ counting-append (comings e) (other ∷ []))
+      (union-early e b ∙ same_rows (union e))
+      (union-early then b ∙ union-arrived e a ∙ sym (union-early e b))
+      (moment-early then b ∙ moment-arrived e a ∙ sym (moment-early e b))
+      (ap first_ones with ∙ two_more_seen (comings e) came none.alike other ∙ ap first_ones (sym without)) k stood

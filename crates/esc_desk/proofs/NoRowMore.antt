@@ -1,5 +1,6 @@
 -- An amendment that lists no row more changes nothing, whatever one event comes behind it; and what a crash leaves after an amendment.
 use Rattle.std.proofs.Common.{◌≡◌, ◌≢◌, inl, inr, ℕ, ◌-◌, List, [], ◌∷◌, ◌++◌, length, Result, Ok, Err, refl, sym, ap, ap₂, subst, ◌∙◌, append-nil, length-append, arith}
+use Rattle.std.specs.List.{Any}
 use Rattle.sha2.specs.Sha256.{sha256}
 use Rattle.sqlite_trees.specs.declared.store.Store.{Ghosts}
 use Rattle.sqlite_trees.specs.Tree.{Trees}
@@ -14,15 +15,16 @@ use Rattle.esc_store.specs.declared.fault.SFault.TheVariants.{S1, S2, S3, S4, S5
 use Rattle.esc_store.specs.declared.store.Store.{Store}
 use Rattle.esc_store.specs.Kept.{Kept}
 use Rattle.esc_store.specs.Standing.{Stands}
-use Rattle.esc_events.specs.Events.{EventValue, Coming, union, coming, comings, moment_of}
-use Rattle.esc_events.specs.Events.EventValue.{listed, arrived, moved}
-use Rattle.esc_events.specs.Stands.{AreBooks, StandsFor, holds_by}
+use Rattle.esc_events.specs.Events.{EventValue, Coming, union, coming, early_coming, comings, moment_of}
+use Rattle.esc_events.specs.Events.EventValue.{listed, arrived, moved, arrived_early}
+use Rattle.esc_events.specs.Stands.{AreBooks, StandsFor, TellsOf, holds_by}
 use Rattle.esc_events.specs.Works.{IsWorkOf, no_work}
 use Rattle.esc_events.proofs.AmendingEvents.{receipts_as, apart_as, held_as, parked_as, came_as, waits_as}
 use Rattle.esc_events.proofs.EventLemmas.{union-arrived, comings-arrived, moment-arrived, union-listed, comings-listed, moment-listed, union-moved, comings-moved, moment-moved}
 use Rattle.esc_events.proofs.Moving.{stands_still, no_work_of}
 use Rattle.esc_desk.specs.Asked.{rows_read, amendment_of}
 use Rattle.esc_desk.specs.Crashes.{IsStoreFor, IsStoreForOneOf, CrashLeaves, LeavesOnlyFor, doubtful_with, IsNotFull, AddsStoreFor}
+use Rattle.esc_desk.proofs.EarlyEvents.{union-early, comings-early, moment-early}
 
 -- ---- two lists of events with the same rows, arrivals and moment
 
@@ -41,6 +43,8 @@ books_alike e f k same books = record {
   came = λ r body is. came_as sha256 e f same.came r r body (λ c holds. ap (λ (m : List MRow). holds_by sha256 reading m r c) same.rows ∙ holds) (books.came r body is);
   waits = λ d body is. waits_as sha256 e f same.came d body (books.waits d body is);
   told = books.told;
+  held_told = λ r some. subst (λ (m : List MRow). Any (TellsOf m r) k.receipts) (sym same.rows) (books.held_told r some);
+  parked_told = books.parked_told;
 }
 
 pub stands_alike : (e f : List EventValue) (k : Kept) → AreAlike e f → StandsFor sha256 reading e k → StandsFor sha256 reading f k
@@ -57,6 +61,11 @@ alike_with e f same (arrived a) = record {
   rows = union-arrived f a ∙ same.rows ∙ sym (union-arrived e a);
   came = comings-arrived f a ∙ ap₂ (λ (l : List Coming) (m : List MRow). l ++ coming m a ∷ []) same.came same.rows ∙ sym (comings-arrived e a);
   moment = moment-arrived f a ∙ same.moment ∙ sym (moment-arrived e a);
+}
+alike_with e f same (arrived_early a) = record {
+  rows = union-early f a ∙ same.rows ∙ sym (union-early e a);
+  came = comings-early f a ∙ ap₂ (λ (l : List Coming) (m : List MRow). l ++ early_coming m a ∷ []) same.came same.rows ∙ sym (comings-early e a);
+  moment = moment-early f a ∙ same.moment ∙ sym (moment-early e a);
 }
 alike_with e f same (moved t) = record {
   rows = union-moved f t ∙ same.rows ∙ sym (union-moved e t);

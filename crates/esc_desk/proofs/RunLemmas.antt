@@ -16,8 +16,8 @@ use Rattle.esc_desk.specs.declared.event.EventOutcome.{EventOutcome}
 use Rattle.esc_desk.specs.declared.event.EventOutcome.TheVariants.{Arrived, Amended, Moved}
 use Rattle.esc_desk.specs.declared.event.Outcome.TheVariants.{Done, Lost}
 use Rattle.esc_events.specs.ArrivalValue.{ArrivalValue}
-use Rattle.esc_events.specs.Events.{EventValue, Coming, union, coming, comings}
-use Rattle.esc_events.specs.Events.EventValue.{listed, arrived, moved}
+use Rattle.esc_events.specs.Events.{EventValue, Coming, union, coming, early_coming, comings}
+use Rattle.esc_events.specs.Events.EventValue.{listed, arrived, moved, arrived_early}
 use Rattle.esc_events.specs.Receipts.{alike, distinct, receipt_for, receipts_after, receipts_of, reply_to}
 use Rattle.esc_events.specs.Works.{IsWorkOf}
 use Rattle.esc_desk.specs.Asked.{event_of, is_taken, taken_by, taken_in}
@@ -30,27 +30,29 @@ use Rattle.esc_events.proofs.AmendedBooks.{replies_stay}
 use Rattle.esc_events.proofs.EventLemmas.{union-arrived, comings-arrived, union-moved, comings-moved}
 use Rattle.esc_events.proofs.Searches.{alike-front}
 use Rattle.esc_events.proofs.Distinct.{distinct-push, receipts-push}
+use Rattle.esc_desk.proofs.EarlyEvents.{union-early, comings-early}
 
 -- ---- a reply stays as it was
 
-receipts_grow : (e : List EventValue) (a : ArrivalValue) → (more : List ReceiptValue) × (receipts_of sha256 reading (e ++ arrived a ∷ []) ≡ receipts_of sha256 reading e ++ more)
-receipts_grow e a = by_test (list_any (alike sha256 reading came) (comings e)) (ap (receipts_after sha256 reading []) (ap (distinct sha256 reading) (comings-arrived e a) ∙ distinct-push sha256 reading (comings e) came))
+receipts_grow : (e f : List EventValue) (came : Coming) → comings f ≡ comings e ++ came ∷ [] → (more : List ReceiptValue) × (receipts_of sha256 reading f ≡ receipts_of sha256 reading e ++ more)
+receipts_grow e f came last = by_test (list_any (alike sha256 reading came) (comings e)) (ap (receipts_after sha256 reading []) (ap (distinct sha256 reading) last ∙ distinct-push sha256 reading (comings e) came))
   where
-    came : Coming
-    came = coming (union e) a
-
     before : List Coming
     before = distinct sha256 reading (comings e)
 
-    by_test : (b : Bool) → receipts_of sha256 reading (e ++ arrived a ∷ []) ≡ receipts_after sha256 reading [] (cond b before (before ++ came ∷ [])) → (more : List ReceiptValue) × (receipts_of sha256 reading (e ++ arrived a ∷ []) ≡ receipts_of sha256 reading e ++ more)
+    by_test : (b : Bool) → receipts_of sha256 reading f ≡ receipts_after sha256 reading [] (cond b before (before ++ came ∷ [])) → (more : List ReceiptValue) × (receipts_of sha256 reading f ≡ receipts_of sha256 reading e ++ more)
     by_test true is = ([], is ∙ sym (append-nil _))
     by_test false is = (receipt_for sha256 reading before came ∷ [], is ∙ receipts-push sha256 reading [] before came)
 
-reply_stays : (e : List EventValue) (x : EventValue) (a : ArrivalValue) (r : ReplyValue) → reply_to sha256 reading e a ≡ Some r → reply_to sha256 reading (e ++ x ∷ []) a ≡ Some r
+reply_grows : (e f : List EventValue) (came : Coming) → comings f ≡ comings e ++ came ∷ [] → union f ≡ union e → (a : ArrivalValue) (r : ReplyValue) → reply_to sha256 reading e a ≡ Some r → reply_to sha256 reading f a ≡ Some r
+reply_grows e f came last rows a r is =
+    let grown = receipts_grow e f came last in
+    ap₂ (λ (m : List MRow) (rs : List ReceiptValue). reply_alike m 1 a.number (sha256 a.body) rs) rows grown.1 ∙ alike-front (union e) a.number (sha256 a.body) 1 (receipts_of sha256 reading e) grown.0 r is
+
+pub reply_stays : (e : List EventValue) (x : EventValue) (a : ArrivalValue) (r : ReplyValue) → reply_to sha256 reading e a ≡ Some r → reply_to sha256 reading (e ++ x ∷ []) a ≡ Some r
 reply_stays e (listed more) a r is = replies_stay e more a ∙ is
-reply_stays e (arrived b) a r is =
-    let grown = receipts_grow e b in
-    ap₂ (λ (m : List MRow) (rs : List ReceiptValue). reply_alike m 1 a.number (sha256 a.body) rs) (union-arrived e b) grown.1 ∙ alike-front (union e) a.number (sha256 a.body) 1 (receipts_of sha256 reading e) grown.0 r is
+reply_stays e (arrived b) a r is = reply_grows e (e ++ arrived b ∷ []) (coming (union e) b) (comings-arrived e b) (union-arrived e b) a r is
+reply_stays e (arrived_early b) a r is = reply_grows e (e ++ arrived_early b ∷ []) (early_coming (union e) b) (comings-early e b) (union-early e b) a r is
 reply_stays e (moved t) a r is =
     ap₂ (λ (m : List MRow) (cs : List Coming). reply_alike m 1 a.number (sha256 a.body) (receipts_after sha256 reading [] (distinct sha256 reading cs))) (union-moved e t) (comings-moved e t) ∙ is
 

@@ -10,8 +10,8 @@ use Rattle.esc_manifest.specs.Rows.{row_at}
 use Rattle.esc_chain.specs.Chain.{Rows, IsLatestChainAt}
 use Rattle.esc_chain.specs.Laws.{OneLatestChainAt}
 use Rattle.esc_apply.specs.Images.{chain_state}
-use Rattle.esc_events.specs.Events.{EventValue, Coming, union, comings, moment_of}
-use Rattle.esc_events.specs.Stands.{body_of, holds_by, deposits_of, held_rows, held_body}
+use Rattle.esc_events.specs.Events.{EventValue, Coming, union, moment_of}
+use Rattle.esc_events.specs.Stands.{body_of, counted, holds_by, deposits_of, held_rows, held_body}
 use Rattle.esc_events.proofs.AmendingLemmas.{digest_is}
 use Rattle.esc_events.proofs.Members.{first_of}
 use Rattle.esc_events.proofs.Moving.{chain_of}
@@ -30,18 +30,18 @@ module _ (e f : List EventValue) (same : HoldTheSame e f) where
 
   -- the same body is held of each row
   body_same : (r : ℕ) → held_body sha256 reading e r ≡ held_body sha256 reading f r
-  body_same r = by_finds (find (holds_by sha256 reading (union e) r) (comings e)) refl (find (holds_by sha256 reading (union f) r) (comings f)) refl (some_same r)
+  body_same r = by_finds (find (holds_by sha256 reading (union e) r) (counted sha256 reading e)) refl (find (holds_by sha256 reading (union f) r) (counted sha256 reading f)) refl (some_same r)
     where
-      by_finds : (o : Option Coming) → find (holds_by sha256 reading (union e) r) (comings e) ≡ o
-          → (p : Option Coming) → find (holds_by sha256 reading (union f) r) (comings f) ≡ p
-          → is_some (body_of (find (holds_by sha256 reading (union e) r) (comings e))) ≡ is_some (body_of (find (holds_by sha256 reading (union f) r) (comings f)))
-          → body_of (find (holds_by sha256 reading (union e) r) (comings e)) ≡ body_of (find (holds_by sha256 reading (union f) r) (comings f))
+      by_finds : (o : Option Coming) → find (holds_by sha256 reading (union e) r) (counted sha256 reading e) ≡ o
+          → (p : Option Coming) → find (holds_by sha256 reading (union f) r) (counted sha256 reading f) ≡ p
+          → is_some (body_of (find (holds_by sha256 reading (union e) r) (counted sha256 reading e))) ≡ is_some (body_of (find (holds_by sha256 reading (union f) r) (counted sha256 reading f)))
+          → body_of (find (holds_by sha256 reading (union e) r) (counted sha256 reading e)) ≡ body_of (find (holds_by sha256 reading (union f) r) (counted sha256 reading f))
       by_finds None none None other some = ap body_of none ∙ sym (ap body_of other)
       by_finds None none (Some d) there some = absurd (true≢false (sym (ap (λ (o : Option Coming). is_some (body_of o)) there) ∙ sym some ∙ ap (λ (o : Option Coming). is_some (body_of o)) none))
       by_finds (Some c) here None none some = absurd (true≢false (sym (ap (λ (o : Option Coming). is_some (body_of o)) here) ∙ some ∙ ap (λ (o : Option Coming). is_some (body_of o)) none))
       by_finds (Some c) here (Some d) there some =
-          let a = first_of (holds_by sha256 reading (union e) r) (comings e) c here in
-          let b = first_of (holds_by sha256 reading (union f) r) (comings f) d there in
+          let a = first_of (holds_by sha256 reading (union e) r) (counted sha256 reading e) c here in
+          let b = first_of (holds_by sha256 reading (union f) r) (counted sha256 reading f) d there in
           let digests = digest_is sha256 reading (union e) r c a.1 ∙ ap (λ (m : List MRow). (row_at m r).digest) same.listed ∙ sym (digest_is sha256 reading (union f) r d b.1) in
           ap body_of here ∙ ap Some (same.apart c d a.0 b.0 digests) ∙ sym (ap body_of there)
 

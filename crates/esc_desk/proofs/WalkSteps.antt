@@ -21,9 +21,9 @@ use Rattle.esc_store.specs.Standing.{Stands, IsAsBefore}
 use Rattle.esc_store.specs.Pages.{IsPage, last_text}
 use Rattle.esc_desk.specs.declared.walk.Pages.{Pages}
 use Rattle.esc_desk.specs.declared.walk.Walk.{Walk}
-use Rattle.esc_events.specs.Events.{EventValue, union, comings, moment_of}
+use Rattle.esc_events.specs.Events.{EventValue, union, moment_of}
 use Rattle.esc_events.specs.Reads.{AreEntries, tables_of}
-use Rattle.esc_events.specs.Stands.{IsApart, holds_by, held_rows}
+use Rattle.esc_events.specs.Stands.{counted, IsApart, holds_by, held_rows}
 use Rattle.esc_events.proofs.HeldRows.{contains_held}
 use Rattle.esc_events.proofs.Members.{one_of}
 use Rattle.esc_events.proofs.Moving.{chain_of}
@@ -40,7 +40,7 @@ use Rattle.esc_desk.proofs.Walks.{page_turned, from_the_first}
 
 pub held_in_range : (e : List EventValue) → InRange (union e) (held_rows sha256 reading e)
 held_in_range e r held =
-    let x = one_of (holds_by sha256 reading (union e) r) (comings e) (sym (contains_held sha256 reading (union e) (comings e) r) ∙ held) in
+    let x = one_of (holds_by sha256 reading (union e) r) (counted sha256 reading e) (sym (contains_held sha256 reading (union e) (counted sha256 reading e) r) ∙ held) in
     held_within sha256 reading (union e) r x.0 x.2
 
 -- ---- the page at hand

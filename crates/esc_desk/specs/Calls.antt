@@ -1,11 +1,12 @@
 -- The words of a desk's contracts: what a call says of whatever events the desk served before it.
-use Rattle.std.specs.Prelude.{◌≡◌, ℕ, ◌<◌, ◌≤◌, ◌++◌, List, length, Some, None, Result, IfOk}
+use Rattle.std.specs.Prelude.{◌≡◌, ◌≢◌, ℕ, ◌<◌, ◌≤◌, ◌++◌, List, length, Some, None, Result, IfOk}
 use Rattle.sha2.specs.Sha256.{sha256}
 use Rattle.sqlite_trees.specs.declared.store.Store.{Ghosts}
 use Rattle.esc_tables.specs.Reading.{reading}
 use Rattle.esc_apply.specs.declared.moves.Work.{Work}
 use Rattle.esc_store.specs.declared.fault.SFault.{SFault}
 use Rattle.esc_store.specs.declared.fault.SFault.TheVariants.{S1, S2, S3, S4, S5}
+use Rattle.esc_store.specs.declared.reply.Verdict.TheVariants.{A2}
 use Rattle.esc_store.specs.declared.store.Store.{Store}
 use Rattle.esc_store.specs.ReplyValue.{ReplyValue}
 use Rattle.esc_store.specs.Standing.{IsHonest, IsAsBefore}
@@ -22,6 +23,7 @@ use Rattle.esc_desk.specs.Crashes.{
 }
 use Rattle.esc_events.specs.Events.{EventValue, union}
 use Rattle.esc_events.specs.Receipts.{receipts_of, reply_to}
+use Rattle.esc_desk.specs.Again.{IsUnkept}
 use Rattle.esc_desk.specs.Asked.{taken_by, taken_in}
 use Rattle.esc_desk.specs.Serving.{Serves, DeskServes}
 use Rattle.esc_events.specs.Apart.{WhereApart}
@@ -97,10 +99,11 @@ CrashAfter g old says = (e doubtful : List EventValue) → DeskServes g old e
 
 -- ---- an arrival
 
--- an arrival alike an earlier one: this is that one's reply, and nothing was done
+-- an arrival alike an earlier one: this is that one's reply, and unless that says A2, nothing was
+-- done
 abbrev pub RepeatsReply : List EventValue → ArrivalValue → ReplyValue → Work → Type 0
 RepeatsReply e a reply work = (r : ReplyValue) → reply_to sha256 reading e a ≡ Some r
-    → (reply ≡ r) × (work ≡ no_work)
+    → (reply ≡ r) × (r.verdict ≢ A2 → work ≡ no_work)
 
 -- there is no room for the receipt of an arrival: it is like none before it, and there are
 -- 1,000,000,000 receipts
@@ -108,10 +111,10 @@ abbrev pub HasNoRoom : List EventValue → ArrivalValue → Type 0
 HasNoRoom e a = (reply_to sha256 reading e a ≡ None)
     × (1_000_000_000 ≤ length (receipts_of sha256 reading e))
 
--- the body of an arrival is to be parked: it is like none before it, no row lists the body, and it
+-- the body of an arrival is to be parked: none was kept of one like it, no row lists it, and it
 -- isn't parked
 pub record IsToBeParked (e : List EventValue) (a : ArrivalValue) : Type 0 where
-  pub like_none : reply_to sha256 reading e a ≡ None
+  pub unkept : IsUnkept e a
   pub unlisted : row_of (union e) (sha256 a.body) ≡ None
   pub not_parked : parked_body sha256 reading e (sha256 a.body) ≡ None
 

@@ -56,3 +56,21 @@ module _ {S : Type 0} (g : Ghosts S) where
   IsArrivalFault old new digest fault = ((fault ≡ S5)
       × (IsHonest g new → (k : Kept) → Stands g old k → IsCrowded k digest))
       ⊎ IsStoreFault old new fault
+
+  -- ---- of an arrival that comes again with its reply A2
+
+  -- S1 or S2; or S5, where there was no place to park the body with this digest
+  abbrev pub IsParkAgainFault : Store S → Store S → List ℕ → SFault → Type 0
+  IsParkAgainFault old new digest fault = ((fault ≡ S5)
+      × (IsHonest g new → (k : Kept) → Stands g old k
+      → (k.parked digest ≡ None) × IsFull k.parked)) ⊎ IsS1OrS2 fault
+
+  -- the same of a body of which this was found
+  abbrev pub IsTakeAgainFault : Store S → Store S → Finding → List ℕ → SFault → Type 0
+  IsTakeAgainFault old new found digest fault =
+      ((found ≡ Unlisted) × IsParkAgainFault old new digest fault) ⊎ IsS1OrS2 fault
+
+  -- the same of the arrival
+  abbrev pub IsAgainFault : Store S → Store S → List ℕ → SFault → Type 0
+  IsAgainFault old new digest fault = ((fault ≡ S5)
+      × (IsHonest g new → (k : Kept) → Stands g old k → IsCrowded k digest)) ⊎ IsS1OrS2 fault

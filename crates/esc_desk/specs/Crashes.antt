@@ -39,11 +39,13 @@ use Rattle.esc_desk.specs.declared.event.Event.TheVariants.{Arrival, Amend, AsOf
 use Rattle.esc_desk.specs.declared.event.EventOutcome.{EventOutcome}
 use Rattle.esc_desk.specs.declared.event.EventOutcome.TheVariants.{Arrived, Amended, Moved}
 use Rattle.esc_desk.specs.declared.event.Outcome.TheVariants.{Done, Lost}
+use Rattle.esc_events.specs.Apart.{WhereApart}
 use Rattle.esc_events.specs.ArrivalValue.{ArrivalValue}
 use Rattle.esc_events.specs.Events.{EventValue}
 use Rattle.esc_events.specs.Events.EventValue.{arrived, moved}
 use Rattle.esc_events.specs.Receipts.{reply_to}
 use Rattle.esc_events.specs.Stands.{StandsFor}
+use Rattle.esc_desk.specs.Again.{IsUnkept, IsMissingAfter}
 use Rattle.esc_desk.specs.Asked.{amendment_of, taken_by}
 
 -- the trees of a database are a store that stands for this list of events
@@ -83,11 +85,13 @@ doubtful_with S4 x doubtful = doubtful
 doubtful_with S5 x doubtful = doubtful
 
 -- what a crash leaves after an arrival that was answered: the events with it, or with it and one
--- that is still in doubt
-abbrev pub LeavesAnswered : {S : Type 0} → Ghosts S → Held S → List EventValue → List EventValue
-    → ArrivalValue → Type 0
-LeavesAnswered g conn e doubtful a =
-    CrashLeaves g conn (e ++ arrived a ∷ []) (still_doubtful (reply_to sha256 reading e a) doubtful)
+-- that is still in doubt; none is, where the arrival's body was missing
+pub record LeavesAnswered {S : Type 0} (g : Ghosts S) (conn : Held S) (e doubtful : List EventValue)
+    (a : ArrivalValue) : Type 0 where
+  pub answered : CrashLeaves g conn (e ++ arrived a ∷ [])
+      (still_doubtful (reply_to sha256 reading e a) doubtful)
+  pub missing : IsUnkept e a
+      → WhereApart e (IsMissingAfter e a → CrashLeaves g conn (e ++ arrived a ∷ []) [])
 
 -- what a crash leaves after an event that was refused: the events as they were, or with one in
 -- doubt

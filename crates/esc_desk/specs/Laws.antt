@@ -15,13 +15,13 @@ use Rattle.esc_events.specs.Events.{
   Coming,
   union,
   coming,
-  comings,
   moment_of,
   manifest_then,
 }
 use Rattle.esc_events.specs.Receipts.{distinct, receipts_after}
 use Rattle.esc_events.specs.Stands.{
   Among,
+  counted,
   deposits_of,
   rows_of,
   held_rows,
@@ -68,7 +68,8 @@ pub record HoldTheSame (e f : List EventValue) : Type 0 where
   pub listed : union e ≡ union f
   pub held : held_rows sha256 reading e ≡ held_rows sha256 reading f
   pub moment : moment_of e ≡ moment_of f
-  pub apart : (a b : Coming) → Among (comings e) a → Among (comings f) b
+  pub apart : (a b : Coming) → Among (counted sha256 reading e) a
+      → Among (counted sha256 reading f) b
       → sha256 a.body ≡ sha256 b.body → a.body ≡ b.body
 
 -- two stores keep the same, but for the receipts and the parked bodies: the rows, the bodies, the

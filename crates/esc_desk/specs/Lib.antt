@@ -1,3 +1,4 @@
+pub mod Again
 pub mod Amendments
 pub mod Asked
 pub mod Calls

@@ -1,13 +1,33 @@
--- A manifest of one row and some arrivals, to compute the definitions at.
-use Rattle.std.specs.Prelude.{ℕ, List, [], ◌∷◌, Bool, Some, None, Result, Ok, pos, codes}
-use Rattle.esc_envelope.specs.declared.place.DepositType.TheVariants.{Full}
+-- Manifests of a row or two and some arrivals, to compute the definitions at.
+use Rattle.std.specs.Prelude.{
+  ℕ,
+  List,
+  [],
+  ◌∷◌,
+  ◌++◌,
+  Bool,
+  Some,
+  None,
+  Result,
+  Ok,
+  pos,
+  codes,
+  if◌then◌else◌,
+}
+use Rattle.std.specs.Str.{bytes_eq}
+use Rattle.esc_envelope.specs.declared.kind.Kind.TheVariants.{Domain}
+use Rattle.esc_envelope.specs.declared.place.DepositType.TheVariants.{Full, Diff}
 use Rattle.esc_envelope.specs.HeaderValue.{HeaderValue}
 use Rattle.esc_tables.specs.DepositValue.{DepositValue}
+use Rattle.esc_tables.specs.KeyName.{KeyName}
+use Rattle.esc_tables.specs.ObjectValue.{ObjectValue}
 use Rattle.esc_manifest.specs.declared.row.MRow.{MRow}
-use Rattle.esc_store.specs.declared.reply.Verdict.TheVariants.{A1, A5}
+use Rattle.esc_store.specs.declared.reply.Verdict.TheVariants.{A1, A2, A5}
 use Rattle.esc_store.specs.ReplyValue.{ReplyValue}
 use Rattle.esc_events.specs.ArrivalValue.{ArrivalValue, an_arrival}
 use Rattle.esc_events.specs.Events.{EventValue, Coming, coming, manifest_then}
+use Rattle.esc_events.specs.Events.EventValue.{listed, arrived}
+use Rattle.esc_events.specs.FirstVersion.{events_before}
 
 -- a body is its own digest
 abbrev pub itself : List ℕ → List ℕ
@@ -71,3 +91,71 @@ listed_then l = manifest_then one_row l
 -- the arrival as it came then
 abbrev pub came : ArrivalValue → Coming
 came a = coming one_row a
+
+-- ---- a store of version 1
+
+abbrev pub a_domain : List ℕ → KeyName
+a_domain name = record { kind = Domain; text = name }
+
+abbrev pub of_domain : List ℕ → ObjectValue
+of_domain name = record {
+  parent = record { table = codes "domain"; cells = (codes "name", name) ∷ [] };
+  children = [];
+}
+
+-- a Differential behind the Full
+abbrev pub diff_header : HeaderValue
+diff_header = record {
+  id = codes "D2";
+  place = record { watermark = pos 1; kind = Diff };
+  prev = Some (codes "F1");
+  resend = 0;
+}
+
+-- a deposit of one domain
+abbrev pub one_domain : HeaderValue → List ℕ → DepositValue
+one_domain header name = record {
+  header = header;
+  counts = [];
+  deletes = [];
+  contents = (a_domain name, of_domain name) ∷ [];
+  orphans = 0;
+}
+
+-- the body `d2` reads as the Differential, with the domain b; each other as the Full, with a
+abbrev pub reads_either : List ℕ → Result DepositValue ℕ
+reads_either body = if bytes_eq body (codes "d2") then Ok (one_domain diff_header (codes "b"))
+    else Ok (one_domain full_header (codes "a"))
+
+-- both are listed
+abbrev pub two_rows : List MRow
+two_rows = record { header = full_header; digest = codes "f1" }
+    ∷ record { header = diff_header; digest = codes "d2" } ∷ []
+
+-- the Differential arrives as number 2
+abbrev pub diff_2 : ArrivalValue
+diff_2 = an_arrival (codes "2") (codes "d2")
+
+-- the Full is listed, and then it and the Differential came to a store of version 1
+abbrev pub migrated : List EventValue
+migrated = events_before one_row (full_1 ∷ diff_2 ∷ [])
+
+-- the Differential is listed, and comes again
+abbrev pub amended_then_again : List EventValue
+amended_then_again = migrated ++ listed two_rows ∷ arrived diff_2 ∷ []
+
+-- it comes again, and is listed
+abbrev pub again_then_amended : List EventValue
+again_then_amended = migrated ++ arrived diff_2 ∷ listed two_rows ∷ []
+
+-- the reply where the body wasn't listed, and wasn't kept
+abbrev pub lost_reply : ℕ → List ℕ → ReplyValue
+lost_reply n number = record {
+  receipt = n;
+  number = number;
+  verdict = A2;
+  id = None;
+  resend = None;
+  again = None;
+  orphans = None;
+}

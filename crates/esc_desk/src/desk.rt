@@ -112,10 +112,11 @@ impl<S: Alter> Desk<S> {
     }
 
     /// Takes an arrival: the reply, and the work of the move that it made. One alike an earlier one
-    /// has the first one's reply and makes no work; of any other the work is exactly the cost of
-    /// going from the latest chain before it to the latest chain with it, which is none where it
-    /// adds no row to those that are held. A body that no row lists is parked. [`Desk::writes`]
-    /// grows by the work's writes.
+    /// has the first one's reply, and makes no work unless that is `A2`; then its body is taken in,
+    /// unless it is there. In any case the work is exactly the cost of going from the latest chain
+    /// before the arrival to the latest chain with it, which is none where it adds no row to those
+    /// that are held. A body that no row lists is parked. [`Desk::writes`] grows by the work's
+    /// writes.
     ///
     /// At `Err` nothing has changed: `S1`, `S2`, `S4` where the store has 1,000,000,000 receipts and
     /// the arrival is like none before it, or `S5` where its body would be parked and 1,024 others
@@ -155,7 +156,7 @@ impl<S: Alter> Desk<S> {
         // A proof knows that a count is below 2^64 where the body reads it.
         let _writes = self.store.writes();
         match self.store.receipt_of(alloc, number, &digest)? {
-            Some(reply) => Ok((reply, NO_WORK)),
+            Some(reply) => self.answer_again(alloc, reply, &digest, body),
             None => self.take_new(alloc, number, digest, body),
         }
     }

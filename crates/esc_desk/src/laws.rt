@@ -27,6 +27,9 @@ ghost use Rattle.esc_desk.specs.Worked.{
 };
 
 use esc_chain::latest_chain_at_is_one;
+use esc_events::migrated_store_stands;
+use esc_store::Store;
+use sqlite::Alter;
 
 /// What a new store keeps stands for its manifest alone, so a desk over a new store serves that one
 /// event.
@@ -77,3 +80,60 @@ pub fn worked_replies()
     ensures never_arrived { reply_to itself reads_full (listed_then (full_1 ∷ [])) full_9
         ≡ None }
 {}
+
+/// A store of version 1 that was migrated serves its manifest, and its arrivals as early ones: the
+/// events from which a desk over it goes on. What it stood for before is said by version 1's own
+/// rules (`StoodFor`).
+pub fn migrated_store_serves<S: Alter>(store: &Store<S>)
+    ensures serves { (m : List MRow) (l : List ArrivalValue) (k : Kept)
+        → StoodFor sha256 reading m l k → Stands S.Store store.now k
+        → Serves S.Store store.now (events_before m l) }
+    ensures stands_for { (m : List MRow) (l : List ArrivalValue) (k : Kept)
+        → StoodFor sha256 reading m l k → StandsFor sha256 reading (events_before m l) k }
+{
+    let _ = store;
+    migrated_store_stands();
+}
+
+ghost use Rattle.esc_store.specs.Kept.{Kept};
+ghost use Rattle.esc_store.specs.Standing.{Stands};
+ghost use Rattle.esc_events.specs.FirstVersion.{StoodFor, events_before};
+ghost use Rattle.esc_desk.specs.Serving.{Serves};
+
+/// The definitions at a store of version 1 that was migrated: an arrival that it answered `A2` has
+/// that reply when it comes again, and its body is held then, if it is listed by now; or it is
+/// parked, and held once it is listed.
+pub fn worked_migration()
+    ensures answered { reply_to itself reads_either migrated diff_2
+        ≡ Some (lost_reply 2 (codes "2")) }
+    ensures not_kept { parked_body itself reads_either migrated (codes "d2") ≡ None }
+    ensures not_held { held_body itself reads_either (migrated ++ listed two_rows ∷ []) 1 ≡ None }
+    ensures again { reply_to itself reads_either amended_then_again diff_2
+        ≡ Some (lost_reply 2 (codes "2")) }
+    ensures held { held_body itself reads_either amended_then_again 1 ≡ Some (codes "d2") }
+    ensures parked { parked_body itself reads_either (migrated ++ arrived diff_2 ∷ [])
+        (codes "d2") ≡ Some (codes "d2") }
+    ensures adopted { held_body itself reads_either again_then_amended 1 ≡ Some (codes "d2") }
+    ensures parked_no_more { parked_body itself reads_either again_then_amended (codes "d2")
+        ≡ None }
+    ensures domains { map (tables (deposits_of reads_either
+        (held_body itself reads_either amended_then_again) (0 ∷ 1 ∷ [])))
+        (a_domain (codes "a") ∷ a_domain (codes "b") ∷ [])
+        ≡ Some (of_domain (codes "a")) ∷ Some (of_domain (codes "b")) ∷ [] }
+{}
+
+ghost use Rattle.std.specs.Prelude.{◌++◌};
+ghost use Rattle.esc_apply.specs.Tables.{tables};
+ghost use Rattle.esc_events.specs.Events.EventValue.{arrived};
+ghost use Rattle.esc_events.specs.Stands.{deposits_of, held_body, parked_body};
+ghost use Rattle.esc_desk.specs.Worked.{
+  a_domain,
+  of_domain,
+  reads_either,
+  two_rows,
+  diff_2,
+  migrated,
+  amended_then_again,
+  again_then_amended,
+  lost_reply,
+};

@@ -14,11 +14,15 @@
 //!   previous id.
 //! - `A5`: no row has the body's digest. It is parked, until an amendment lists it.
 //!
+//! A store of version 1 answered `A2` in place of `A5`, and didn't keep the body. Its receipts are
+//! in a store that was made of it (`Store::migrate`); no new receipt has `A2`.
+//!
 //! Arrivals are *alike* if their numbers are the same and the digests of their bodies are. One
-//! alike an earlier one changes nothing, and has the first one's reply. Of any other the receipt is
-//! kept; if it holds a row of which no body is held, its body is kept too, and the tables are moved
-//! from the latest chain of the rows held before (`esc_chain`) to the latest one of those held now
-//! (`esc_apply`).
+//! alike an earlier one has the first one's reply, and changes nothing, unless that reply is `A2`:
+//! then its body is taken in as that of a new arrival would be, if it isn't there, and no receipt
+//! is added. Of any other arrival the receipt is kept; if it holds a row of which no body is held,
+//! its body is kept too, and the tables are moved from the latest chain of the rows held before
+//! (`esc_chain`) to the latest one of those held now (`esc_apply`).
 //!
 //! What goes in is a [`Store`](esc_store::Store), then events: arrivals, further manifests, and the
 //! moment as of which the registry is to be rebuilt. A list of them goes to [`Desk::run_events`],
@@ -38,14 +42,15 @@
 //! receipt and the first one's reply. This is the contract of [`Desk::run_events`].
 //!
 //! The contracts speak of lists of events (`EventValue`, `esc_events`): a manifest was taken in, an
-//! arrival was answered, or a moment was set or taken back. A store serves a list of events
-//! (`Serves`) if it holds the rows that are listed, the receipts that the arrivals leave, the body
-//! of each held row, the bodies that no row lists, the moment, the rows of the latest chain, and
-//! that chain's tables with their before-images (`StandsFor`). A store that was just made serves
-//! its manifest alone ([`new_store_stands_for_its_manifest`]); what it means to serve a manifest and
-//! then arrivals is said without events by [`stands_for_manifest_and_arrivals`]. A desk serves what
-//! its store serves (`DeskServes`): it also remembers which rows are held, and what it remembers is
-//! so.
+//! arrival was answered, a moment was set or taken back, or an *early* arrival was answered, one
+//! that a store of version 1 took in. A store serves a list of events (`Serves`) if it holds the
+//! rows that are listed, the receipts that the arrivals leave, the body of each held row, the bodies
+//! that no row lists, the moment, the rows of the latest chain, and that chain's tables with their
+//! before-images (`StandsFor`). A store that was just made serves its manifest alone
+//! ([`new_store_stands_for_its_manifest`]), and one of version 1 that was migrated its manifest and
+//! its arrivals as early ones ([`migrated_store_serves`]); what it means to serve a manifest and then
+//! arrivals is said without events by [`stands_for_manifest_and_arrivals`]. A desk serves what its
+//! store serves (`DeskServes`): it also remembers which rows are held, and what it remembers is so.
 //!
 //! Most clauses begin with a word of `specs/Calls.antt`, which says of which events they speak.
 //! `OkAfter` is "where the store was honest, of whatever events the desk served before the call, if
@@ -60,9 +65,9 @@
 //! What was answered is kept through a crash. An event is *in doubt* once it was refused by `S1` or
 //! `S2`, until another changes a table: a crash may leave it taken in. The clauses `left` of
 //! [`Desk::open`] and `crash` of [`Desk::run_events`], [`Desk::run`], [`Desk::arrive`],
-//! [`Desk::amend`] and [`Desk::as_of`] say that whatever a crash leaves is a store of the events so far, or of them and
-//! one of those in doubt (`DeskLeaves`), and none is in doubt in a store that was just made or
-//! opened. `esc_kept` follows it to the next open.
+//! [`Desk::amend`] and [`Desk::as_of`] say that whatever a crash leaves is a store of the events so
+//! far, or of them and one of those in doubt (`DeskLeaves`), and none is in doubt in a store that
+//! was just made or opened. `esc_kept` follows it to the next open.
 //!
 //! Each clause on a store has the premise that the store was honest, which is that the disk gave
 //! back what was written to it. The definitions go by digests: what is said of the bodies that are
@@ -71,7 +76,8 @@
 //!
 //! # Cost
 //!
-//! An arrival alike an earlier one costs a digest and a look-up. Of another one the body is read
+//! An arrival alike an earlier one costs a digest and a look-up, unless that was answered `A2`. Of
+//! another one the body is read
 //! once, and the bodies of those steps alone are read again that stand past the common front of
 //! both chains. The store is asked which rows are held at a desk's first event that changes it, and
 //! at the next one after an `Err`: its receipts tell, and of each row that was adopted from the
@@ -85,8 +91,10 @@
 //! in between.
 #![tactic(auto)]
 
+mod again;
 mod amendment;
 mod arrival;
+mod bodies;
 mod changes;
 mod desk;
 mod event;
@@ -110,8 +118,8 @@ pub use esc_events::ParkedBody;
 pub use esc_store::{N1, Number, Reply, SFault, Verdict, number};
 pub use event::{Event, EventOutcome, Outcome};
 pub use laws::{
-    new_store_stands_for_its_manifest, same_held_same_kept, stands_for_manifest_and_arrivals,
-    tables_are_of_events, worked_replies,
+    migrated_store_serves, new_store_stands_for_its_manifest, same_held_same_kept,
+    stands_for_manifest_and_arrivals, tables_are_of_events, worked_migration, worked_replies,
 };
 pub use status::{End, Status};
 pub use walk::{Pages, Walk};

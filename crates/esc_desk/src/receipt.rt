@@ -1,6 +1,6 @@
 //! The receipt of a new arrival, and the reply that tells it.
 
-ghost use Rattle.std.specs.Prelude.{◌≡◌, ◌<◌, length, IfOk, IfSome};
+ghost use Rattle.std.specs.Prelude.{◌≡◌, ◌<◌, length, false, IfOk, IfSome};
 ghost use Rattle.esc_store.specs.ReplyValue.{reply_kept};
 ghost use Rattle.esc_events.specs.Receipts.{receipt_by, is_among};
 
@@ -17,7 +17,7 @@ pub(crate) fn receipt_by<'a>(
     finding: &Finding,
     again: bool,
 ) -> Receipt<'a>
-    ensures { result ≡ receipt_by number.now digest finding.now again }
+    ensures { result ≡ receipt_by number.now digest false finding.now again }
 {
     let (verdict, row, again, orphans) = match finding {
         Finding::Unlisted => (Verdict::A5, None, None, None),

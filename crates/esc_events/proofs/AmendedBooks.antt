@@ -1,5 +1,5 @@
 -- The books after an amendment, and after a moment was set.
-use Rattle.std.proofs.Common.{◌≡◌, ℕ, ℤ, ◌<◌, ◌≤◌, List, [], ◌∷◌, ◌++◌, length, Bool, true, false, cond, nat_lt, Option, Some, None, IsSome, is_some, refl, sym, ap, subst, ◌∙◌, arith, true≢false, length-append}
+use Rattle.std.proofs.Common.{◌≡◌, inl, inr, ℕ, ℤ, ◌<◌, ◌≤◌, List, [], ◌∷◌, ◌++◌, length, Bool, true, false, cond, nat_lt, Option, Some, None, IsSome, is_some, refl, sym, ap, subst, ◌∙◌, arith, true≢false, length-append}
 use Rattle.std.specs.List.{Any}
 use Rattle.std.proofs.lemmas.Bool.Decides.{nat_tests}
 use Rattle.sha2.specs.Sha256.{sha256}
@@ -8,18 +8,20 @@ use Rattle.esc_manifest.specs.declared.row.MRow.{MRow}
 use Rattle.esc_manifest.specs.Rows.{row_at}
 use Rattle.esc_manifest.specs.Accepted.{IsAccepted}
 use Rattle.esc_manifest.specs.Extension.{new_rows, extended}
-use Rattle.esc_store.specs.ReplyValue.{reply_alike}
-use Rattle.esc_store.specs.Kept.{Kept, SaysHeld, with_moment}
+use Rattle.esc_store.specs.ReplyValue.{ReceiptValue, reply_alike}
+use Rattle.esc_store.specs.Kept.{Kept, SaysHeld, TellsUnlisted, with_moment}
 use Rattle.esc_events.specs.ArrivalValue.{ArrivalValue}
 use Rattle.esc_events.specs.Events.{EventValue, Coming, union, comings}
 use Rattle.esc_events.specs.Events.EventValue.{listed, moved}
 use Rattle.esc_events.specs.Finding.{found, row_of}
 use Rattle.esc_events.specs.Receipts.{holds_row, distinct, receipts_after, receipts_of, reply_to}
-use Rattle.esc_events.specs.Stands.{AreBooks, IsApart, CameFor, holds_by, held_body, parked_body}
-use Rattle.esc_events.specs.Amended.{judged, amended_bodies, still_parked, adopted_rows, dropped_rows, with_listed, with_all_adopted, with_all_dropped, amended_kept}
-use Rattle.esc_events.proofs.AmendingLemmas.{union_more, comings_more, moment_more, no_some, row_is, row_has, row_found, same_at, holds_same, judged_at, judged_some, union_moved, comings_moved, moment_moved, reply_same, rows_short, distinct_in, receipts_below}
+use Rattle.esc_events.specs.Stands.{AreBooks, IsApart, TellsOf, CameFor, holds_by, counted, held_body, parked_body}
+use Rattle.esc_events.specs.Amended.{judged, amended_bodies, still_parked, with_listed, amended_kept}
+use Rattle.esc_events.proofs.AmendingLemmas.{union_more, comings_more, moment_more, no_some, row_is, row_has, row_found, same_at, listed_still, holds_same, judged_at, judged_some, union_moved, comings_moved, moment_moved, reply_same, rows_short, distinct_in, receipts_below}
 use Rattle.esc_events.proofs.AmendingEvents.{came_under, holds_as, receipts_as, apart_as, held_as, parked_as, came_as, waits_as, held_is, parked_is}
 use Rattle.esc_events.proofs.AmendingKept.{StayBesides, rest_stays, parked_was, parked_are, bodies_are}
+use Rattle.esc_events.proofs.HeldReceipts.{any-weaker}
+use Rattle.esc_events.proofs.Telling.{any_of_row}
 
 -- by the definitions: the bodies that are held after an amendment are those that were held, and for
 -- each new row the parked body with its digest, if that is its deposit; and the parked ones are
@@ -52,6 +54,8 @@ books_amended e k more books ok okn = record {
   came = λ r body is. came_for r body (nat_lt r (length k.listed)) refl (nat_lt r (length n)) refl (sym (kept_bodies k more okk few r) ∙ is);
   waits = λ d body is. waits_as sha256 e f came d body (books.waits d body (parked_was n okk k (length k.listed) (no_shorter k.listed more) d body is));
   told = λ r any. told_of r (books.told r (subst (Any (SaysHeld r)) rest.1 any)) (k.bodies r) refl;
+  held_told = λ r some. by_body r ((amended_kept k more).bodies r) refl some;
+  parked_told = λ d some. by_parked d ((amended_kept k more).parked d) refl some;
 }
   where
     f : List EventValue
@@ -110,7 +114,7 @@ books_amended e k more books ok okn = record {
         ∙ amended_are_parked e more ok okn d
       where
         none : (q : ℕ) → row_of (extended k.listed more) d ≡ Some q → q < length k.listed → k.parked d ≡ None
-        none q row lt = books.parked apart d ∙ ap (λ (o : Option ℕ). cond (is_some o) None (came_under sha256 (comings e) d)) (was_listed d q row lt)
+        none q row lt = books.parked apart d ∙ ap (λ (o : Option ℕ). cond (is_some o) None (came_under sha256 (counted sha256 reading e) d)) (was_listed d q row lt)
 
     came_for : (r : ℕ) (body : List ℕ) (s : Bool) → nat_lt r (length k.listed) ≡ s → (t : Bool) → nat_lt r (length (extended k.listed more)) ≡ t
         → cond s (k.bodies r) (cond t (judged (extended k.listed more) r (k.parked (row_at (extended k.listed more) r).digest)) None) ≡ Some body
@@ -136,6 +140,31 @@ books_amended e k more books ok okn = record {
         (kept_bodies k more okk few r ∙ ap (λ (t : Bool). cond t (k.bodies r) (cond (nat_lt r (length n)) (judged n r (k.parked (row_at n r).digest)) None)) test)
         ∙ some
 
+    -- a receipt tells of a row as it did before, or of a row that is new
+    still_tells : (r : ℕ) (receipt : ReceiptValue) → TellsOf (union e) r receipt → TellsOf (union f) r receipt
+    still_tells r receipt (inl says) = inl says
+    still_tells r receipt (inr tells) = inr (tells.0, ap (λ (m : List MRow). row_of m receipt.digest) rows ∙ listed_still sha256 reading (union e) (new_rows (union e) more) ok okn r receipt.digest tells.1)
+
+    by_source : (r : ℕ) (body : List ℕ) (s : Bool) → nat_lt r (length k.listed) ≡ s → (t : Bool) → nat_lt r (length (extended k.listed more)) ≡ t
+        → cond s (k.bodies r) (cond t (judged (extended k.listed more) r (k.parked (row_at (extended k.listed more) r).digest)) None) ≡ Some body
+        → Any (TellsOf (union f) r) k.receipts
+    by_source r body true old t lt is = any-weaker (TellsOf (union e) r) (TellsOf (union f) r) (still_tells r) k.receipts (books.held_told r (ap is_some is))
+    by_source r body false new true lt is =
+        let inside : r < length n = grind (arith, nat_tests, lt) in
+        any_of_row (union f) (row_at n r).digest r
+        (ap (λ (m : List MRow). row_of m (row_at n r).digest) (rows ∙ sym rows_k) ∙ row_is n okk r (row_at n r).digest inside refl)
+        k.receipts
+        (books.parked_told (row_at n r).digest (ap is_some (judged_some n r (k.parked (row_at n r).digest) body is).0))
+    by_source r body false new false lt is = absurd (no_some is)
+
+    by_body : (r : ℕ) (o : Option (List ℕ)) → (amended_kept k more).bodies r ≡ o → IsSome ((amended_kept k more).bodies r) → Any (TellsOf (union f) r) (amended_kept k more).receipts
+    by_body r None is some = absurd (true≢false (sym some ∙ ap is_some is))
+    by_body r (Some body) is some = subst (Any (TellsOf (union f) r)) (sym rest.1) (by_source r body (nat_lt r (length k.listed)) refl (nat_lt r (length n)) refl (sym (kept_bodies k more okk few r) ∙ is))
+
+    by_parked : (d : List ℕ) (o : Option (List ℕ)) → (amended_kept k more).parked d ≡ o → IsSome ((amended_kept k more).parked d) → Any (TellsUnlisted d) (amended_kept k more).receipts
+    by_parked d None is some = absurd (true≢false (sym some ∙ ap is_some is))
+    by_parked d (Some body) is some = subst (Any (TellsUnlisted d)) (sym rest.1) (books.parked_told d (ap is_some (parked_was n okk k (length k.listed) (no_shorter k.listed more) d body is)))
+
 -- the books after a moment was set
 pub books_of_moment : (e : List EventValue) (k : Kept) (moment : Option ℤ) → AreBooks sha256 reading e k → AreBooks sha256 reading (e ++ moved moment ∷ []) (with_moment k moment)
 books_of_moment e k moment books =
@@ -150,6 +179,8 @@ books_of_moment e k moment books =
       came = λ r body is. came_as sha256 e (e ++ moved moment ∷ []) same r r body (λ c holds. ap (λ (m : List MRow). holds_by sha256 reading m r c) rows ∙ holds) (books.came r body is);
       waits = λ d body is. waits_as sha256 e (e ++ moved moment ∷ []) same d body (books.waits d body is);
       told = books.told;
+      held_told = λ r some. subst (λ (m : List MRow). Any (TellsOf m r) k.receipts) (sym rows) (books.held_told r some);
+      parked_told = books.parked_told;
     }
 
 -- a reply stays as it was when more rows are listed

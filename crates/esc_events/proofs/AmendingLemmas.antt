@@ -1,6 +1,6 @@
 -- One more event in what is listed and what came; the row of a digest; and what bodies are judged
 -- by, where rows are added.
-use Rattle.std.proofs.Common.{◌≡◌, ◌⊎◌, inl, inr, ℕ, ℤ, suc, ◌<◌, ◌≤◌, Bool, true, false, cond, ◌==◌, not, filter, List, [], ◌∷◌, ◌++◌, length, get_or, position, Option, Some, None, option_map, IfSome, Result, Ok, Err, refl, sym, ap, ap₂, subst, ◌∙◌, arith, true≢false, length-append}
+use Rattle.std.proofs.Common.{◌≡◌, inl, inr, ℕ, ℤ, suc, ◌<◌, ◌≤◌, Bool, true, false, cond, ◌==◌, not, filter, List, [], ◌∷◌, ◌++◌, length, get_or, position, Option, Some, None, option_map, IfSome, Result, Ok, Err, refl, sym, ap, ap₂, subst, ◌∙◌, arith, true≢false, length-append}
 use Rattle.std.specs.List.{position_or_len, find}
 use Rattle.std.specs.Str.{bytes_eq}
 use Rattle.std.specs.Cmp.Lexicographic.{bytes_decides}
@@ -17,10 +17,10 @@ use Rattle.esc_manifest.specs.Accepted.{IsAccepted}
 use Rattle.esc_manifest.specs.Extension.{new_rows, extended}
 use Rattle.esc_store.specs.ReplyValue.{ReplyValue, ReceiptValue, reply_kept, is_alike, reply_alike}
 use Rattle.esc_events.specs.declared.finding.Finding.TheVariants.{Differing, Holding}
-use Rattle.esc_events.specs.Events.{EventValue, Coming, coming, union_after, comings_after, moment_after}
-use Rattle.esc_events.specs.Events.EventValue.{listed, arrived, moved}
+use Rattle.esc_events.specs.Events.{EventValue, Coming, coming, early_coming, union_after, comings_after, moment_after}
+use Rattle.esc_events.specs.Events.EventValue.{listed, arrived, moved, arrived_early}
 use Rattle.esc_events.specs.Finding.{finding, found_at, found, as_listed, row_of, held_row}
-use Rattle.esc_events.specs.Receipts.{is_row, holds_row, receipt_by, holds_any, alike, distinct, found_then, receipt_for, receipts_after}
+use Rattle.esc_events.specs.Receipts.{is_row, holds_row, receipt_by, holds_any, alike, distinct, receipt_for, receipts_after}
 use Rattle.esc_events.specs.Stands.{Among, body_of, holds_by, has_digest}
 use Rattle.esc_events.specs.Amended.{judged}
 
@@ -31,18 +31,21 @@ union_more m [] more = refl
 union_more m (listed k ∷ e) more = union_more (extended m k) e more
 union_more m (arrived a ∷ e) more = union_more m e more
 union_more m (moved t ∷ e) more = union_more m e more
+union_more m (arrived_early a ∷ e) more = union_more m e more
 
 pub comings_more : (m : List MRow) (e : List EventValue) (more : List MRow) → comings_after m (e ++ listed more ∷ []) ≡ comings_after m e
 comings_more m [] more = refl
 comings_more m (listed k ∷ e) more = comings_more (extended m k) e more
 comings_more m (arrived a ∷ e) more = ap (λ (l : List Coming). coming m a ∷ l) (comings_more m e more)
 comings_more m (moved t ∷ e) more = comings_more m e more
+comings_more m (arrived_early a ∷ e) more = ap (λ (l : List Coming). early_coming m a ∷ l) (comings_more m e more)
 
 pub moment_more : (t : Option ℤ) (e : List EventValue) (more : List MRow) → moment_after t (e ++ listed more ∷ []) ≡ moment_after t e
 moment_more t [] more = refl
 moment_more t (listed k ∷ e) more = moment_more t e more
 moment_more t (arrived a ∷ e) more = moment_more t e more
 moment_more t (moved u ∷ e) more = moment_more u e more
+moment_more t (arrived_early a ∷ e) more = moment_more t e more
 
 -- ---- one more moment
 
@@ -51,18 +54,21 @@ union_moved m [] u = refl
 union_moved m (listed k ∷ e) u = union_moved (extended m k) e u
 union_moved m (arrived a ∷ e) u = union_moved m e u
 union_moved m (moved t ∷ e) u = union_moved m e u
+union_moved m (arrived_early a ∷ e) u = union_moved m e u
 
 pub comings_moved : (m : List MRow) (e : List EventValue) (u : Option ℤ) → comings_after m (e ++ moved u ∷ []) ≡ comings_after m e
 comings_moved m [] u = refl
 comings_moved m (listed k ∷ e) u = comings_moved (extended m k) e u
 comings_moved m (arrived a ∷ e) u = ap (λ (l : List Coming). coming m a ∷ l) (comings_moved m e u)
 comings_moved m (moved t ∷ e) u = comings_moved m e u
+comings_moved m (arrived_early a ∷ e) u = ap (λ (l : List Coming). early_coming m a ∷ l) (comings_moved m e u)
 
 pub moment_moved : (t : Option ℤ) (e : List EventValue) (u : Option ℤ) → moment_after t (e ++ moved u ∷ []) ≡ u
 moment_moved t [] u = refl
 moment_moved t (listed k ∷ e) u = moment_moved t e u
 moment_moved t (arrived a ∷ e) u = moment_moved t e u
 moment_moved t (moved s ∷ e) u = moment_moved s e u
+moment_moved t (arrived_early a ∷ e) u = moment_moved t e u
 
 -- ---- tests
 
@@ -257,6 +263,7 @@ longer m [] = omega arith
 longer m (listed k ∷ e) = omega (arith, length-append m (new_rows m k), longer (extended m k) e)
 longer m (arrived a ∷ e) = longer m e
 longer m (moved t ∷ e) = longer m e
+longer m (arrived_early a ∷ e) = longer m e
 
 pub rows_short : (m : List MRow) (e : List EventValue) (c : Coming) → Among (comings_after m e) c → length c.rows ≤ length (union_after m e)
 rows_short m [] c among = absurd among
@@ -264,6 +271,8 @@ rows_short m (listed k ∷ e) c among = rows_short (extended m k) e c among
 rows_short m (arrived a ∷ e) c (inl is) = subst (λ (x : List MRow). length x ≤ length (union_after m e)) (sym (ap (λ (b : Coming). b.rows) is)) (longer m e)
 rows_short m (arrived a ∷ e) c (inr there) = rows_short m e c there
 rows_short m (moved t ∷ e) c among = rows_short m e c among
+rows_short m (arrived_early a ∷ e) c (inl is) = subst (λ (x : List MRow). length x ≤ length (union_after m e)) (sym (ap (λ (b : Coming). b.rows) is)) (longer m e)
+rows_short m (arrived_early a ∷ e) c (inr there) = rows_short m e c there
 
 passed_among : (p : Coming → Bool) (l : List Coming) (a : Coming) → Among (filter p l) a → Among l a
 passed_among p [] a among = among
@@ -282,16 +291,16 @@ module _ (digest : List ℕ → List ℕ) (reads : List ℕ → Result DepositVa
 
   -- the row in the receipt of an arrival whose digest was at this row
   abbrev pub told_row : List Coming → Coming → Option ℕ → Option ℕ
-  told_row before c o = (receipt_by c.number (digest c.body) (found_at c.rows o (reads c.body)) (holds_any digest reads before (held_row (found_at c.rows o (reads c.body))))).row
+  told_row before c o = (receipt_by c.number (digest c.body) c.early (found_at c.rows o (reads c.body)) (holds_any digest reads before (held_row (found_at c.rows o (reads c.body))))).row
 
   row_below : (c : Coming) (n : ℕ) → length c.rows ≤ n → (before : List Coming) → IfSome (receipt_for digest reads before c).row (λ q. q < n)
   row_below c n le before = by_row (row_of c.rows (digest c.body)) refl
     where
-      row_told : (q : ℕ) → q < n → (t : Result DepositValue ℕ) → IfSome (receipt_by c.number (digest c.body) (found c.rows q t) (holds_any digest reads before (held_row (found c.rows q t)))).row (λ p. p < n)
+      row_told : (q : ℕ) → q < n → (t : Result DepositValue ℕ) → IfSome (receipt_by c.number (digest c.body) c.early (found c.rows q t) (holds_any digest reads before (held_row (found c.rows q t)))).row (λ p. p < n)
       row_told q lt (Err k) = lt
       row_told q lt (Ok d) = by_test (as_listed (row_at c.rows q).header d.header)
         where
-          by_test : (b : Bool) → IfSome (receipt_by c.number (digest c.body) (cond b (Holding q d) (Differing q)) (holds_any digest reads before (held_row (cond b (Holding q d) (Differing q))))).row (λ p. p < n)
+          by_test : (b : Bool) → IfSome (receipt_by c.number (digest c.body) c.early (cond b (Holding q d) (Differing q)) (holds_any digest reads before (held_row (cond b (Holding q d) (Differing q))))).row (λ p. p < n)
           by_test true = lt
           by_test false = lt
 

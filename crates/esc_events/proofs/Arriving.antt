@@ -1,6 +1,6 @@
 -- The books after one more arrival.
 use Rattle.std.proofs.Common.{◌≡◌, ◌⊎◌, inl, inr, ℕ, Bool, true, false, cond, ◌==◌, List, [], ◌∷◌, ◌++◌, Option, Some, None, IsSome, is_some, refl, sym, ap, subst, ◌∙◌, true≢false}
-use Rattle.std.specs.List.{list_any}
+use Rattle.std.specs.List.{list_any, Any}
 use Rattle.std.specs.Str.{bytes_eq}
 use Rattle.std.specs.FinSet as set
 use Rattle.std.specs.Ordering.{nat_cmp, eq_by_cmp}
@@ -10,7 +10,8 @@ use Rattle.std.proofs.lemmas.Map.Views.{list_any-from_Contains, Contains-from_an
 use Rattle.sha2.specs.Sha256.{sha256}
 use Rattle.esc_tables.specs.DepositValue.{DepositValue}
 use Rattle.esc_tables.specs.Reading.{reading}
-use Rattle.esc_store.specs.Kept.{Kept, SaysHeld, AreHeldBy, body_put, parked_put, with_receipt}
+use Rattle.esc_store.specs.declared.reply.Verdict.TheVariants.{A2}
+use Rattle.esc_store.specs.Kept.{Kept, SaysHeld, TellsUnlisted, is_unlisted, AreHeldBy, body_put, parked_put, with_body, with_receipt}
 use Rattle.esc_store.specs.ReplyValue.{ReplyValue, ReceiptValue, reply_alike}
 use Rattle.esc_events.specs.declared.finding.Finding.{Finding}
 use Rattle.esc_events.specs.declared.finding.Finding.TheVariants.{Unlisted, Holding}
@@ -20,16 +21,18 @@ use Rattle.esc_events.specs.declared.parking.Parking.TheVariants.{Needless, Free
 use Rattle.esc_events.specs.ArrivalValue.{ArrivalValue}
 use Rattle.esc_events.specs.Events.{EventValue, Coming, union, coming, comings}
 use Rattle.esc_events.specs.Events.EventValue.{arrived}
-use Rattle.esc_events.specs.Finding.{finding, held_row, row_of}
+use Rattle.esc_events.specs.Finding.{finding, found_at, held_row, row_of}
 use Rattle.esc_events.specs.Notes.{noted_by, held_by}
-use Rattle.esc_events.specs.Parks.{IsParking}
+use Rattle.esc_events.specs.Parks.{IsParking, with_parking}
 use Rattle.esc_events.specs.Receipts.{holds_row, holds, holds_any, is_among, distinct, receipt_by, receipt_for, receipts_after}
-use Rattle.esc_events.specs.Stands.{holds_by, held_body, parked_body, IsApart, AreBooks}
-use Rattle.esc_events.specs.Taking.{IsNew}
+use Rattle.esc_events.specs.Stands.{TellsOf, holds_by, held_body, parked_body, IsApart, AreBooks}
+use Rattle.esc_events.specs.Taking.{IsNew, IsAgain}
+use Rattle.esc_events.proofs.AmendingLemmas.{row_found}
 use Rattle.esc_events.proofs.HeldReceipts.{holds_from_says, any_holds, any_says}
 use Rattle.esc_events.proofs.HeldRows.{same_test, same_self, same_number, is_row_of, listed_row, unlisted_row}
-use Rattle.esc_events.proofs.OneArrival.{old_body, new_body, old_parked, new_parked, repeated, books_with}
+use Rattle.esc_events.proofs.OneArrival.{old_body, new_body, old_parked, new_parked, repeated, books_again, books_with}
 use Rattle.esc_events.proofs.Searches.{same_answer}
+use Rattle.esc_events.proofs.Telling.{any_of_row, told_again}
 
 -- ---- the receipt
 
@@ -57,15 +60,15 @@ pub new_receipt : (e : List EventValue) (a : ArrivalValue) (k : Kept) (found : F
     → receipt ≡ receipt_for sha256 reading (distinct sha256 reading (comings e)) (coming (union e) a)
 new_receipt e a k found known receipt is =
     is.receipt_is
-    ∙ ap (λ (f : Finding). receipt_by a.number (sha256 a.body) f (is_among known.told.items (held_row f))) is.found_is
-    ∙ ap (receipt_by a.number (sha256 a.body) (finding sha256 reading (union e) a.body))
+    ∙ ap (λ (f : Finding). receipt_by a.number (sha256 a.body) false f (is_among known.told.items (held_row f))) is.found_is
+    ∙ ap (receipt_by a.number (sha256 a.body) false (finding sha256 reading (union e) a.body))
     (told_before (distinct sha256 reading (comings e)) known.told.items (subst (λ (rs : List ReceiptValue). AreHeldBy rs known.told.items) is.stood.books.receipts is.known_is.told) (held_row (finding sha256 reading (union e) a.body)))
 
 -- what the receipt says is held was found to be held
 says_found : (e : List EventValue) (a : ArrivalValue) (k : Kept) (found : Finding) (known : Known) (receipt : ReceiptValue) → IsNew e a k found known receipt
     → (r : ℕ) → SaysHeld r receipt → held_row found ≡ Some r
 says_found e a k found known receipt is r says =
-    is_row_of r (held_row found) (holds_from_says r a.number (sha256 a.body) found (is_among known.told.items (held_row found)) (subst (SaysHeld r) is.receipt_is says))
+    is_row_of r (held_row found) (holds_from_says r a.number (sha256 a.body) false found (is_among known.told.items (held_row found)) (subst (SaysHeld r) is.receipt_is says))
 
 -- the row that the body holds was found
 held_found : (e : List EventValue) (a : ArrivalValue) (found : Finding) → found ≡ finding sha256 reading (union e) a.body → (r : ℕ) → holds_by sha256 reading (union e) r (coming (union e) a) ≡ true → held_row found ≡ Some r
@@ -77,6 +80,10 @@ none_parked : (e : List EventValue) (a : ArrivalValue) (found : Finding) → fou
 none_parked e a found is listed d same none =
     true≢false (sym (listed_row (union e) (row_of (union e) (sha256 a.body)) (reading a.body) (λ unlisted. listed (is ∙ unlisted))) ∙ ap (λ (x : List ℕ). is_some (row_of (union e) x)) same ∙ none)
 
+no_row : (o : Option ℕ) → is_some o ≡ false → o ≡ None
+no_row None is = refl
+no_row (Some q) is = absurd (true≢false is)
+
 -- no body is kept: a row lists it, and it is not the deposit of a row that has no body yet
 pub books_noted : (e : List EventValue) (a : ArrivalValue) (k : Kept) (found : Finding) (known : Known) (receipt : ReceiptValue) → IsNew e a k found known receipt
     → (found ≡ Unlisted → ⊥) → ((q : ℕ) → held_row found ≡ Some q → IsSome (k.bodies q)) → AreBooks sha256 reading (e ++ arrived a ∷ []) (with_receipt k receipt)
@@ -87,6 +94,7 @@ books_noted e a k found known receipt is listed there =
     (λ r body at. inl at)
     (λ d body at. inl at)
     by_receipt
+    (λ d some. inl some)
   where
     by_receipt : (r : ℕ) → IsSome (k.bodies r) ⊎ SaysHeld r receipt → IsSome (k.bodies r)
     by_receipt r (inl some) = some
@@ -132,6 +140,13 @@ books_parked e a k known receipt is parking at free = by_parking parking at free
         by_test true same put = inr (sym digest_is ∙ (bytes_decides receipt.digest d).0 same, same_answer put)
         by_test false other put = inl put
 
+    tells : (d : List ℕ) → IsSome (parked_put k.parked receipt.digest (Some a.body) d) → IsSome (k.parked d) ⊎ TellsUnlisted d receipt
+    tells d some = by_test (bytes_eq receipt.digest d) refl some
+      where
+        by_test : (b : Bool) → bytes_eq receipt.digest d ≡ b → IsSome (cond b (Some a.body) (k.parked d)) → IsSome (k.parked d) ⊎ TellsUnlisted d receipt
+        by_test true same some = inr (ap (λ (r : ReceiptValue). is_unlisted r.verdict) is.receipt_is, (bytes_decides receipt.digest d).0 same)
+        by_test false other some = inl some
+
     by_parking : (parking : Parking) → IsParking k.parked (sha256 a.body) parking → (parking ≡ Crowded → ⊥) → AreBooks sha256 reading (e ++ arrived a ∷ []) (noted_by receipt parking a.body k)
     by_parking Needless some free =
         books_with sha256 reading e k a is.stood.books is.none receipt (new_receipt e a k Unlisted known receipt is) k.bodies k.parked
@@ -140,6 +155,7 @@ books_parked e a k known receipt is parking at free = by_parking parking at free
         (λ r body at. inl at)
         (λ d body at. inl at)
         by_receipt
+        (λ d some. inl some)
     by_parking Free at free =
         books_with sha256 reading e k a is.stood.books is.none receipt (new_receipt e a k Unlisted known receipt is) k.bodies (parked_put k.parked receipt.digest (Some a.body))
         bodies_are
@@ -147,55 +163,158 @@ books_parked e a k known receipt is parking at free = by_parking parking at free
         (λ r body at. inl at)
         waits
         by_receipt
+        tells
     by_parking Crowded at free = absurd (free refl)
+
+-- ---- a body that is held for a row
+
+holding_listed : (row : ℕ) (d : DepositValue) → Holding row d ≡ Unlisted → ⊥
+holding_listed row d same = true≢false (ap (λ (f : Finding). is_some (held_row f)) same)
+
+still_some : (row : ℕ) (body : List ℕ) (bodies : ℕ → Option (List ℕ)) (r : ℕ) → IsSome (bodies r) → IsSome (body_put bodies row body r)
+still_some row body bodies r some = by_test (r == row)
+  where
+    by_test : (b : Bool) → IsSome (cond b (Some body) (bodies r))
+    by_test true = refl
+    by_test false = some
+
+module _ (e : List EventValue) (a : ArrivalValue) (row : ℕ) (d : DepositValue) (found_is : Holding row d ≡ finding sha256 reading (union e) a.body) where
+  put_holds : (r : ℕ) → row ≡ r → holds_by sha256 reading (union e) r (coming (union e) a) ≡ true
+  put_holds r same = ap (holds_row r) (sym found_is) ∙ ap (λ (q : ℕ). q == r) same ∙ same_self r
+
+  put_bodies : (k : Kept) → AreBooks sha256 reading e k → k.bodies row ≡ None → IsApart sha256 reading (e ++ arrived a ∷ []) → (r : ℕ) → body_put k.bodies row a.body r ≡ held_body sha256 reading (e ++ arrived a ∷ []) r
+  put_bodies k books none apart r = by_test (r == row) refl
+    where
+      by_test : (b : Bool) → (r == row) ≡ b → cond b (Some a.body) (k.bodies r) ≡ held_body sha256 reading (e ++ arrived a ∷ []) r
+      by_test true same =
+          let at : r ≡ row = same_number r row same in
+          new_body sha256 reading e k a books apart r (ap k.bodies at ∙ none) (put_holds r (sym at))
+      by_test false other = old_body sha256 reading e k a books apart r (λ holds. absurd (true≢false (sym (again (same_answer (held_found e a (Holding row d) found_is r holds))) ∙ other)))
+        where
+          again : row ≡ r → (r == row) ≡ true
+          again same = ap (λ (q : ℕ). r == q) same ∙ same_self r
+
+  put_comes : (k : Kept) (r : ℕ) (body : List ℕ) → body_put k.bodies row a.body r ≡ Some body → (k.bodies r ≡ Some body) ⊎ ((holds_by sha256 reading (union e) r (coming (union e) a) ≡ true) × (a.body ≡ body))
+  put_comes k r body put = by_test (r == row) refl put
+    where
+      by_test : (b : Bool) → (r == row) ≡ b → cond b (Some a.body) (k.bodies r) ≡ Some body → (k.bodies r ≡ Some body) ⊎ ((holds_by sha256 reading (union e) r (coming (union e) a) ≡ true) × (a.body ≡ body))
+      by_test true same put = inr (put_holds r (sym (same_number r row same)), same_answer put)
+      by_test false other put = inl put
 
 -- the body is the deposit of a row that has no body yet
 pub books_held : (e : List EventValue) (a : ArrivalValue) (k : Kept) (row : ℕ) (d : DepositValue) (known : Known) (receipt : ReceiptValue) → IsNew e a k (Holding row d) known receipt
     → k.bodies row ≡ None → AreBooks sha256 reading (e ++ arrived a ∷ []) (held_by receipt row a.body k)
 books_held e a k row d known receipt is none =
     books_with sha256 reading e k a is.stood.books is.none receipt (new_receipt e a k (Holding row d) known receipt is) (body_put k.bodies row a.body) k.parked
-    bodies_are
-    (λ apart g. old_parked sha256 reading e k a is.stood.books apart g (λ same none. absurd (none_parked e a (Holding row d) is.found_is not_unlisted g same none)))
-    comes
+    (put_bodies e a row d is.found_is k is.stood.books none)
+    (λ apart g. old_parked sha256 reading e k a is.stood.books apart g (λ same none. absurd (none_parked e a (Holding row d) is.found_is (holding_listed row d) g same none)))
+    (put_comes e a row d is.found_is k)
     (λ d body at. inl at)
     told
+    (λ d some. inl some)
   where
-    not_unlisted : Holding row d ≡ Unlisted → ⊥
-    not_unlisted same = true≢false (ap (λ (f : Finding). is_some (held_row f)) same)
-
-    holds_it : (r : ℕ) → row ≡ r → holds_by sha256 reading (union e) r (coming (union e) a) ≡ true
-    holds_it r same = ap (holds_row r) (sym is.found_is) ∙ ap (λ (q : ℕ). q == r) same ∙ same_self r
-
-    bodies_are : IsApart sha256 reading (e ++ arrived a ∷ []) → (r : ℕ) → body_put k.bodies row a.body r ≡ held_body sha256 reading (e ++ arrived a ∷ []) r
-    bodies_are apart r = by_test (r == row) refl
-      where
-        by_test : (b : Bool) → (r == row) ≡ b → cond b (Some a.body) (k.bodies r) ≡ held_body sha256 reading (e ++ arrived a ∷ []) r
-        by_test true same =
-            let at : r ≡ row = same_number r row same in
-            new_body sha256 reading e k a is.stood.books apart r (ap k.bodies at ∙ none) (holds_it r (sym at))
-        by_test false other = old_body sha256 reading e k a is.stood.books apart r (λ holds. absurd (true≢false (sym (again (same_answer (held_found e a (Holding row d) is.found_is r holds))) ∙ other)))
-          where
-            again : row ≡ r → (r == row) ≡ true
-            again same = ap (λ (q : ℕ). r == q) same ∙ same_self r
-
-    comes : (r : ℕ) (body : List ℕ) → body_put k.bodies row a.body r ≡ Some body → (k.bodies r ≡ Some body) ⊎ ((holds_by sha256 reading (union e) r (coming (union e) a) ≡ true) × (a.body ≡ body))
-    comes r body put = by_test (r == row) refl put
-      where
-        by_test : (b : Bool) → (r == row) ≡ b → cond b (Some a.body) (k.bodies r) ≡ Some body → (k.bodies r ≡ Some body) ⊎ ((holds_by sha256 reading (union e) r (coming (union e) a) ≡ true) × (a.body ≡ body))
-        by_test true same put = inr (holds_it r (sym (same_number r row same)), same_answer put)
-        by_test false other put = inl put
-
-    still : (b : Bool) (o : Option (List ℕ)) → IsSome o → IsSome (cond b (Some a.body) o)
-    still true o some = refl
-    still false o some = some
-
     told : (r : ℕ) → IsSome (k.bodies r) ⊎ SaysHeld r receipt → IsSome (body_put k.bodies row a.body r)
-    told r (inl some) = still (r == row) (k.bodies r) some
+    told r (inl some) = still_some row a.body k.bodies r some
     told r (inr says) =
         let same : row ≡ r = same_answer (says_found e a k (Holding row d) known receipt is r says) in
         ap (λ b. is_some (cond b (Some a.body) (k.bodies r))) (ap (λ (q : ℕ). r == q) same ∙ same_self r)
 
--- a duplicate of an earlier arrival changes nothing
+-- a duplicate of an earlier arrival changes nothing, unless that one's verdict is A2
 pub books_repeated : (e : List EventValue) (a : ArrivalValue) (k : Kept) → AreBooks sha256 reading e k → (r : ReplyValue)
-    → reply_alike (union e) 1 a.number (sha256 a.body) k.receipts ≡ Some r → AreBooks sha256 reading (e ++ arrived a ∷ []) k
-books_repeated e a k books r told = repeated sha256 reading e k a books r told
+    → reply_alike (union e) 1 a.number (sha256 a.body) k.receipts ≡ Some r → (r.verdict ≡ A2 → ⊥) → AreBooks sha256 reading (e ++ arrived a ∷ []) k
+books_repeated e a k books r told other = repeated sha256 reading e k a books r told other
+
+-- ---- an arrival whose body was not kept comes again
+
+-- nothing has to be done
+pub books_known_again : (e : List EventValue) (a : ArrivalValue) (k : Kept) (found : Finding) (reply : ReplyValue) → IsAgain e a k found reply
+    → ((q : ℕ) → held_row found ≡ Some q → IsSome (k.bodies q)) → (found ≡ Unlisted → IsSome (k.parked (sha256 a.body))) → AreBooks sha256 reading (e ++ arrived a ∷ []) k
+books_known_again e a k found reply is there waits =
+    books_again sha256 reading e k a is.stood.books reply is.kept k.bodies k.parked
+    (λ apart r. old_body sha256 reading e k a is.stood.books apart r (λ holds. there r (held_found e a found is.found_is r holds)))
+    (λ apart d. old_parked sha256 reading e k a is.stood.books apart d (still d))
+    (λ r body at. inl at)
+    (λ d body at. inl at)
+    (λ r some. some)
+    is.stood.books.held_told
+    is.stood.books.parked_told
+  where
+    unlisted : (d : List ℕ) → sha256 a.body ≡ d → is_some (row_of (union e) d) ≡ false → found ≡ Unlisted
+    unlisted d same none = is.found_is ∙ ap (λ (o : Option ℕ). found_at (union e) o (reading a.body)) (no_row (row_of (union e) (sha256 a.body)) (ap (λ (x : List ℕ). is_some (row_of (union e) x)) same ∙ none))
+
+    still : (d : List ℕ) → sha256 a.body ≡ d → is_some (row_of (union e) d) ≡ false → IsSome (k.parked d)
+    still d same none = subst (λ (x : List ℕ). IsSome (k.parked x)) same (waits (unlisted d same none))
+
+-- no row lists the body: it is parked, unless it is already
+pub books_parked_again : (e : List EventValue) (a : ArrivalValue) (k : Kept) (reply : ReplyValue) → IsAgain e a k Unlisted reply
+    → (parking : Parking) → IsParking k.parked (sha256 a.body) parking → (parking ≡ Crowded → ⊥) → AreBooks sha256 reading (e ++ arrived a ∷ []) (with_parking k (sha256 a.body) parking a.body)
+books_parked_again e a k reply is parking at free = by_parking parking at free
+  where
+    held_none : {X : Type 0} → (r : ℕ) → held_row Unlisted ≡ Some r → X
+    held_none r held = absurd (true≢false (sym (ap is_some held)))
+
+    unlisted : row_of (union e) (sha256 a.body) ≡ None
+    unlisted = unlisted_row (union e) (row_of (union e) (sha256 a.body)) (reading a.body) (sym is.found_is)
+
+    parked_are : k.parked (sha256 a.body) ≡ None → IsApart sha256 reading (e ++ arrived a ∷ []) → (d : List ℕ) → parked_put k.parked (sha256 a.body) (Some a.body) d ≡ parked_body sha256 reading (e ++ arrived a ∷ []) d
+    parked_are nothing apart d = by_test (bytes_eq (sha256 a.body) d) refl
+      where
+        by_test : (b : Bool) → bytes_eq (sha256 a.body) d ≡ b → cond b (Some a.body) (k.parked d) ≡ parked_body sha256 reading (e ++ arrived a ∷ []) d
+        by_test true same =
+            let digest : sha256 a.body ≡ d = (bytes_decides (sha256 a.body) d).0 same in
+            new_parked sha256 reading e k a is.stood.books apart d digest
+            (subst (λ (x : List ℕ). row_of (union e) x ≡ None) digest unlisted)
+            (subst (λ (x : List ℕ). k.parked x ≡ None) digest nothing)
+        by_test false other = old_parked sha256 reading e k a is.stood.books apart d (λ same none. absurd (true≢false (sym ((bytes_decides (sha256 a.body) d).1 same) ∙ other)))
+
+    waits : (d body : List ℕ) → parked_put k.parked (sha256 a.body) (Some a.body) d ≡ Some body → (k.parked d ≡ Some body) ⊎ ((sha256 a.body ≡ d) × (a.body ≡ body))
+    waits d body put = by_test (bytes_eq (sha256 a.body) d) refl put
+      where
+        by_test : (b : Bool) → bytes_eq (sha256 a.body) d ≡ b → cond b (Some a.body) (k.parked d) ≡ Some body → (k.parked d ≡ Some body) ⊎ ((sha256 a.body ≡ d) × (a.body ≡ body))
+        by_test true same put = inr ((bytes_decides (sha256 a.body) d).0 same, same_answer put)
+        by_test false other put = inl put
+
+    tells : (d : List ℕ) → IsSome (parked_put k.parked (sha256 a.body) (Some a.body) d) → Any (TellsUnlisted d) k.receipts
+    tells d some = by_test (bytes_eq (sha256 a.body) d) refl some
+      where
+        by_test : (b : Bool) → bytes_eq (sha256 a.body) d ≡ b → IsSome (cond b (Some a.body) (k.parked d)) → Any (TellsUnlisted d) k.receipts
+        by_test true same some = subst (λ (x : List ℕ). Any (TellsUnlisted x) k.receipts) ((bytes_decides (sha256 a.body) d).0 same) (told_again (union e) a.number (sha256 a.body) 1 k.receipts reply is.kept is.verdict)
+        by_test false other some = is.stood.books.parked_told d some
+
+    by_parking : (parking : Parking) → IsParking k.parked (sha256 a.body) parking → (parking ≡ Crowded → ⊥) → AreBooks sha256 reading (e ++ arrived a ∷ []) (with_parking k (sha256 a.body) parking a.body)
+    by_parking Needless some free = books_known_again e a k Unlisted reply is (λ q held. held_none q held) (λ same. some)
+    by_parking Free at free =
+        books_again sha256 reading e k a is.stood.books reply is.kept k.bodies (parked_put k.parked (sha256 a.body) (Some a.body))
+        (λ apart r. old_body sha256 reading e k a is.stood.books apart r (λ holds. held_none r (held_found e a Unlisted is.found_is r holds)))
+        (parked_are at.0)
+        (λ r body at. inl at)
+        waits
+        (λ r some. some)
+        is.stood.books.held_told
+        tells
+    by_parking Crowded at free = absurd (free refl)
+
+-- the body is the deposit of a row that has no body
+pub books_held_again : (e : List EventValue) (a : ArrivalValue) (k : Kept) (row : ℕ) (d : DepositValue) (reply : ReplyValue) → IsAgain e a k (Holding row d) reply
+    → k.bodies row ≡ None → AreBooks sha256 reading (e ++ arrived a ∷ []) (with_body k row a.body)
+books_held_again e a k row d reply is none =
+    books_again sha256 reading e k a is.stood.books reply is.kept (body_put k.bodies row a.body) k.parked
+    (put_bodies e a row d is.found_is k is.stood.books none)
+    (λ apart g. old_parked sha256 reading e k a is.stood.books apart g (λ same none. absurd (none_parked e a (Holding row d) is.found_is (holding_listed row d) g same none)))
+    (put_comes e a row d is.found_is k)
+    (λ d body at. inl at)
+    (λ r some. still_some row a.body k.bodies r some)
+    tells
+    is.stood.books.parked_told
+  where
+    lists : row_of (union e) (sha256 a.body) ≡ Some row
+    lists = row_found (union e) row (row_of (union e) (sha256 a.body)) (reading a.body) (put_holds e a row d is.found_is row refl)
+
+    tells : (r : ℕ) → IsSome (body_put k.bodies row a.body r) → Any (TellsOf (union e) r) k.receipts
+    tells r some = by_test (r == row) refl some
+      where
+        by_test : (b : Bool) → (r == row) ≡ b → IsSome (cond b (Some a.body) (k.bodies r)) → Any (TellsOf (union e) r) k.receipts
+        by_test true same some =
+            any_of_row (union e) (sha256 a.body) r (lists ∙ ap Some (sym (same_number r row same))) k.receipts
+            (told_again (union e) a.number (sha256 a.body) 1 k.receipts reply is.kept is.verdict)
+        by_test false other some = is.stood.books.held_told r some

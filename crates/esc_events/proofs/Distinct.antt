@@ -81,24 +81,24 @@ module _ (digest : List ℕ → List ℕ) (reads : List ℕ → Result DepositVa
   length-receipts before [] = refl
   length-receipts before (b ∷ ds) = ap suc (length-receipts (before ++ b ∷ []) ds)
 
-  number_kept : (n k : List ℕ) (f : Finding) (again : Bool) → (receipt_by n k f again).number ≡ n
-  number_kept n k Unlisted again = refl
-  number_kept n k (Unreadable r u) again = refl
-  number_kept n k (Differing r) again = refl
-  number_kept n k (Holding r d) again = refl
+  number_kept : (n k : List ℕ) (early : Bool) (f : Finding) (again : Bool) → (receipt_by n k early f again).number ≡ n
+  number_kept n k early Unlisted again = refl
+  number_kept n k early (Unreadable r u) again = refl
+  number_kept n k early (Differing r) again = refl
+  number_kept n k early (Holding r d) again = refl
 
-  digest_kept : (n k : List ℕ) (f : Finding) (again : Bool) → (receipt_by n k f again).digest ≡ k
-  digest_kept n k Unlisted again = refl
-  digest_kept n k (Unreadable r u) again = refl
-  digest_kept n k (Differing r) again = refl
-  digest_kept n k (Holding r d) again = refl
+  digest_kept : (n k : List ℕ) (early : Bool) (f : Finding) (again : Bool) → (receipt_by n k early f again).digest ≡ k
+  digest_kept n k early Unlisted again = refl
+  digest_kept n k early (Unreadable r u) again = refl
+  digest_kept n k early (Differing r) again = refl
+  digest_kept n k early (Holding r d) again = refl
 
-  -- a receipt is kept exactly if an arrival is like it
+  -- a receipt is of an arrival exactly if that is like the receipt's one
+  pub kept_one : (before : List Coming) (b a : Coming) → is_alike a.number (digest a.body) (receipt_for digest reads before b) ≡ alike digest reads a b
+  kept_one before b a =
+      ap₂ (λ (n k : List ℕ). bytes_eq n a.number && bytes_eq k (digest a.body)) (number_kept b.number (digest b.body) b.early (found_then digest reads b) _) (digest_kept b.number (digest b.body) b.early (found_then digest reads b) _)
+      ∙ alike_laws.symm b a
+
   pub kept_any : (before ds : List Coming) (a : Coming) → list_any (is_alike a.number (digest a.body)) (receipts_after digest reads before ds) ≡ list_any (alike digest reads a) ds
   kept_any before [] a = refl
-  kept_any before (b ∷ ds) a = ap₂ (λ x y. x || y) (one b) (kept_any (before ++ b ∷ []) ds a)
-    where
-      one : (b : Coming) → is_alike a.number (digest a.body) (receipt_for digest reads before b) ≡ alike digest reads a b
-      one b =
-          ap₂ (λ (n k : List ℕ). bytes_eq n a.number && bytes_eq k (digest a.body)) (number_kept b.number (digest b.body) (found_then digest reads b) _) (digest_kept b.number (digest b.body) (found_then digest reads b) _)
-          ∙ alike_laws.symm b a
+  kept_any before (b ∷ ds) a = ap₂ (λ x y. x || y) (kept_one before b a) (kept_any (before ++ b ∷ []) ds a)

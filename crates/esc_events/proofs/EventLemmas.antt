@@ -4,8 +4,8 @@ use Rattle.std.specs.Prelude.{filter}
 use Rattle.esc_manifest.specs.declared.row.MRow.{MRow}
 use Rattle.esc_manifest.specs.Extension.{is_listed, new_rows, extended}
 use Rattle.esc_events.specs.ArrivalValue.{ArrivalValue}
-use Rattle.esc_events.specs.Events.{EventValue, Coming, union_after, union, coming, comings_after, comings, arrival_of, arrivals, moment_after, moment_of, manifest_then}
-use Rattle.esc_events.specs.Events.EventValue.{listed, arrived, moved}
+use Rattle.esc_events.specs.Events.{EventValue, Coming, union_after, union, coming, early_coming, comings_after, comings, arrival_of, arrivals, moment_after, moment_of, manifest_then}
+use Rattle.esc_events.specs.Events.EventValue.{listed, arrived, moved, arrived_early}
 
 -- ---- one more arrival
 
@@ -14,12 +14,14 @@ arrived_lists_none m [] a = refl
 arrived_lists_none m (listed more ∷ e) a = arrived_lists_none (extended m more) e a
 arrived_lists_none m (arrived b ∷ e) a = arrived_lists_none m e a
 arrived_lists_none m (moved t ∷ e) a = arrived_lists_none m e a
+arrived_lists_none m (arrived_early b ∷ e) a = arrived_lists_none m e a
 
 arrived_last : (m : List MRow) (e : List EventValue) (a : ArrivalValue) → comings_after m (e ++ arrived a ∷ []) ≡ comings_after m e ++ coming (union_after m e) a ∷ []
 arrived_last m [] a = refl
 arrived_last m (listed more ∷ e) a = arrived_last (extended m more) e a
 arrived_last m (arrived b ∷ e) a = ap (λ (l : List Coming). coming m b ∷ l) (arrived_last m e a)
 arrived_last m (moved t ∷ e) a = arrived_last m e a
+arrived_last m (arrived_early b ∷ e) a = ap (λ (l : List Coming). early_coming m b ∷ l) (arrived_last m e a)
 
 pub union-arrived : (e : List EventValue) (a : ArrivalValue) → union (e ++ arrived a ∷ []) ≡ union e
 union-arrived e a = arrived_lists_none [] e a
@@ -32,6 +34,7 @@ arrived_sets_none t [] a = refl
 arrived_sets_none t (listed more ∷ e) a = arrived_sets_none t e a
 arrived_sets_none t (arrived b ∷ e) a = arrived_sets_none t e a
 arrived_sets_none t (moved u ∷ e) a = arrived_sets_none u e a
+arrived_sets_none t (arrived_early b ∷ e) a = arrived_sets_none t e a
 
 pub moment-arrived : (e : List EventValue) (a : ArrivalValue) → moment_of (e ++ arrived a ∷ []) ≡ moment_of e
 moment-arrived e a = arrived_sets_none None e a
@@ -43,12 +46,14 @@ listed_last m [] more = refl
 listed_last m (listed n ∷ e) more = listed_last (extended m n) e more
 listed_last m (arrived b ∷ e) more = listed_last m e more
 listed_last m (moved t ∷ e) more = listed_last m e more
+listed_last m (arrived_early b ∷ e) more = listed_last m e more
 
 listed_brings_none : (m : List MRow) (e : List EventValue) (more : List MRow) → comings_after m (e ++ listed more ∷ []) ≡ comings_after m e
 listed_brings_none m [] more = refl
 listed_brings_none m (listed n ∷ e) more = listed_brings_none (extended m n) e more
 listed_brings_none m (arrived b ∷ e) more = ap (λ (l : List Coming). coming m b ∷ l) (listed_brings_none m e more)
 listed_brings_none m (moved t ∷ e) more = listed_brings_none m e more
+listed_brings_none m (arrived_early b ∷ e) more = ap (λ (l : List Coming). early_coming m b ∷ l) (listed_brings_none m e more)
 
 pub union-listed : (e : List EventValue) (more : List MRow) → union (e ++ listed more ∷ []) ≡ extended (union e) more
 union-listed e more = listed_last [] e more
@@ -61,6 +66,7 @@ listed_sets_none t [] more = refl
 listed_sets_none t (listed n ∷ e) more = listed_sets_none t e more
 listed_sets_none t (arrived b ∷ e) more = listed_sets_none t e more
 listed_sets_none t (moved u ∷ e) more = listed_sets_none u e more
+listed_sets_none t (arrived_early b ∷ e) more = listed_sets_none t e more
 
 pub moment-listed : (e : List EventValue) (more : List MRow) → moment_of (e ++ listed more ∷ []) ≡ moment_of e
 moment-listed e more = listed_sets_none None e more
@@ -72,18 +78,21 @@ moved_lists_none m [] t = refl
 moved_lists_none m (listed more ∷ e) t = moved_lists_none (extended m more) e t
 moved_lists_none m (arrived b ∷ e) t = moved_lists_none m e t
 moved_lists_none m (moved u ∷ e) t = moved_lists_none m e t
+moved_lists_none m (arrived_early b ∷ e) t = moved_lists_none m e t
 
 moved_brings_none : (m : List MRow) (e : List EventValue) (t : Option ℤ) → comings_after m (e ++ moved t ∷ []) ≡ comings_after m e
 moved_brings_none m [] t = refl
 moved_brings_none m (listed more ∷ e) t = moved_brings_none (extended m more) e t
 moved_brings_none m (arrived b ∷ e) t = ap (λ (l : List Coming). coming m b ∷ l) (moved_brings_none m e t)
 moved_brings_none m (moved u ∷ e) t = moved_brings_none m e t
+moved_brings_none m (arrived_early b ∷ e) t = ap (λ (l : List Coming). early_coming m b ∷ l) (moved_brings_none m e t)
 
 moved_last : (s : Option ℤ) (e : List EventValue) (t : Option ℤ) → moment_after s (e ++ moved t ∷ []) ≡ t
 moved_last s [] t = refl
 moved_last s (listed more ∷ e) t = moved_last s e t
 moved_last s (arrived b ∷ e) t = moved_last s e t
 moved_last s (moved u ∷ e) t = moved_last u e t
+moved_last s (arrived_early b ∷ e) t = moved_last s e t
 
 pub union-moved : (e : List EventValue) (t : Option ℤ) → union (e ++ moved t ∷ []) ≡ union e
 union-moved e t = moved_lists_none [] e t
@@ -106,19 +115,21 @@ no_fewer m [] = omega arith
 no_fewer m (listed more ∷ e) = omega (arith, length-append m (new_rows m more), no_fewer (extended m more) e)
 no_fewer m (arrived a ∷ e) = no_fewer m e
 no_fewer m (moved t ∷ e) = no_fewer m e
+no_fewer m (arrived_early a ∷ e) = no_fewer m e
 
 saw_no_more : (m : List MRow) (e : List EventValue) → HaveUpTo (length (union_after m e)) (comings_after m e)
 saw_no_more m [] = tt
 saw_no_more m (listed more ∷ e) = saw_no_more (extended m more) e
 saw_no_more m (arrived a ∷ e) = (no_fewer m e, saw_no_more m e)
 saw_no_more m (moved t ∷ e) = saw_no_more m e
+saw_no_more m (arrived_early a ∷ e) = (no_fewer m e, saw_no_more m e)
 
 pub came_with_listed : (e : List EventValue) → HaveUpTo (length (union e)) (comings e)
 came_with_listed e = saw_no_more [] e
 
 -- ---- a manifest, and then arrivals
 
-none_is_listed : (m : List MRow) → filter (λ r. not (is_listed [] r)) m ≡ m
+pub none_is_listed : (m : List MRow) → filter (λ r. not (is_listed [] r)) m ≡ m
 none_is_listed [] = refl
 none_is_listed (r ∷ m) = ap (λ (l : List MRow). r ∷ l) (none_is_listed m)
 

@@ -14,17 +14,18 @@ use Rattle.esc_events.proofs.Searches.{same_answer}
 -- ---- one receipt
 
 -- it says that a row is held exactly if what was found holds the row
-pub holds_from_says : (row : ℕ) (number digest : List ℕ) (f : Finding) (again : Bool) → SaysHeld row (receipt_by number digest f again) → holds_row row f ≡ true
-holds_from_says row number digest Unlisted again says = let verdict = says.0 in absurd (cc)
-holds_from_says row number digest (Unreadable r n) again says = let verdict = says.0 in absurd (cc)
-holds_from_says row number digest (Differing r) again says = let verdict = says.0 in absurd (cc)
-holds_from_says row number digest (Holding r d) again says = ap (λ (q : ℕ). holds_row q (Holding r d)) (sym (same_answer says.1)) ∙ same_self r
+pub holds_from_says : (row : ℕ) (number digest : List ℕ) (early : Bool) (f : Finding) (again : Bool) → SaysHeld row (receipt_by number digest early f again) → holds_row row f ≡ true
+holds_from_says row number digest true Unlisted again says = let verdict = says.0 in absurd (cc)
+holds_from_says row number digest false Unlisted again says = let verdict = says.0 in absurd (cc)
+holds_from_says row number digest early (Unreadable r n) again says = let verdict = says.0 in absurd (cc)
+holds_from_says row number digest early (Differing r) again says = let verdict = says.0 in absurd (cc)
+holds_from_says row number digest early (Holding r d) again says = ap (λ (q : ℕ). holds_row q (Holding r d)) (sym (same_answer says.1)) ∙ same_self r
 
-pub says_from_holds : (row : ℕ) (number digest : List ℕ) (f : Finding) (again : Bool) → holds_row row f ≡ true → SaysHeld row (receipt_by number digest f again)
-says_from_holds row number digest Unlisted again is = absurd (true≢false (sym is))
-says_from_holds row number digest (Unreadable r n) again is = absurd (true≢false (sym is))
-says_from_holds row number digest (Differing r) again is = absurd (true≢false (sym is))
-says_from_holds row number digest (Holding r d) again is = (refl, ap Some (same_number r row is))
+pub says_from_holds : (row : ℕ) (number digest : List ℕ) (early : Bool) (f : Finding) (again : Bool) → holds_row row f ≡ true → SaysHeld row (receipt_by number digest early f again)
+says_from_holds row number digest early Unlisted again is = absurd (true≢false (sym is))
+says_from_holds row number digest early (Unreadable r n) again is = absurd (true≢false (sym is))
+says_from_holds row number digest early (Differing r) again is = absurd (true≢false (sym is))
+says_from_holds row number digest early (Holding r d) again is = (refl, ap Some (same_number r row is))
 
 -- ---- all receipts
 
@@ -52,6 +53,22 @@ split-last P (q ∷ rs) r any = by_case (split P q (rs ++ r ∷ []) any) (split-
         by_rest (inl there) = inl (later P q rs there)
         by_rest (inr p) = inr p
 
+-- where one of a list passes, one of the longer list does, and so does the last one
+pub any-front : (P : ReceiptValue → Type 0) (rs : List ReceiptValue) (r : ReceiptValue) → Any P rs → Any P (rs ++ r ∷ [])
+any-front P [] r any = absurd (omega (arith, any.2))
+any-front P (q ∷ rs) r any = by_case (split P q rs any) (any-front P rs r)
+  where
+    by_case : P q ⊎ Any P rs → (Any P rs → Any P (rs ++ r ∷ [])) → Any P (q ∷ rs ++ r ∷ [])
+    by_case (inl p) rest = (0, q, omega arith, refl, p)
+    by_case (inr behind) rest = later P q (rs ++ r ∷ []) (rest behind)
+
+pub any-last : (P : ReceiptValue → Type 0) (rs : List ReceiptValue) (r : ReceiptValue) → P r → Any P (rs ++ r ∷ [])
+any-last P [] r p = (0, r, omega arith, refl, p)
+any-last P (q ∷ rs) r p = later P q (rs ++ r ∷ []) (any-last P rs r p)
+
+pub any-weaker : (P Q : ReceiptValue → Type 0) → ((r : ReceiptValue) → P r → Q r) → (rs : List ReceiptValue) → Any P rs → Any Q rs
+any-weaker P Q weaker rs (k, r, within, is, p) = (k, r, within, is, weaker r p)
+
 or_true : (b : Bool) → (b || true) ≡ true
 or_true true = refl
 or_true false = refl
@@ -63,7 +80,7 @@ module _ (digest : List ℕ → List ℕ) (reads : List ℕ → Result DepositVa
     where
       by_case : SaysHeld row (receipt_for digest reads before a) ⊎ Any (SaysHeld row) (receipts_after digest reads (before ++ a ∷ []) ds) → (Any (SaysHeld row) (receipts_after digest reads (before ++ a ∷ []) ds) → list_any (holds digest reads row) ds ≡ true)
           → (holds digest reads row a || list_any (holds digest reads row) ds) ≡ true
-      by_case (inl says) more = ap (λ b. b || list_any (holds digest reads row) ds) (holds_from_says row a.number (digest a.body) (found_then digest reads a) _ says)
+      by_case (inl says) more = ap (λ b. b || list_any (holds digest reads row) ds) (holds_from_says row a.number (digest a.body) a.early (found_then digest reads a) _ says)
       by_case (inr behind) more = ap (λ b. holds digest reads row a || b) (more behind) ∙ or_true (holds digest reads row a)
 
   pub any_says : (before ds : List Coming) → list_any (holds digest reads row) ds ≡ true → Any (SaysHeld row) (receipts_after digest reads before ds)
@@ -72,5 +89,5 @@ module _ (digest : List ℕ → List ℕ) (reads : List ℕ → Result DepositVa
     where
       by_test : (b : Bool) → holds digest reads row a ≡ b → (b || list_any (holds digest reads row) ds) ≡ true → (list_any (holds digest reads row) ds ≡ true → Any (SaysHeld row) (receipts_after digest reads (before ++ a ∷ []) ds))
           → Any (SaysHeld row) (receipt_for digest reads before a ∷ receipts_after digest reads (before ++ a ∷ []) ds)
-      by_test true is any more = (0, receipt_for digest reads before a, omega arith, refl, says_from_holds row a.number (digest a.body) (found_then digest reads a) _ is)
+      by_test true is any more = (0, receipt_for digest reads before a, omega arith, refl, says_from_holds row a.number (digest a.body) a.early (found_then digest reads a) _ is)
       by_test false is any more = later (SaysHeld row) (receipt_for digest reads before a) (receipts_after digest reads (before ++ a ∷ []) ds) (more any)

@@ -5,11 +5,14 @@ pub mod AmendingLemmas
 pub mod Arriving
 pub mod Distinct
 pub mod EventLemmas
+pub mod EarlyStores
 pub mod FrontLemmas
 pub mod HeldReceipts
 pub mod HeldRows
+pub mod Lost
 pub mod Members
 pub mod Moving
 pub mod MovingLemmas
 pub mod OneArrival
 pub mod Searches
+pub mod Telling

@@ -42,7 +42,7 @@ pub among-last : (l : List Coming) (a : Coming) → Among (l ++ a ∷ []) a
 among-last [] a = inl refl
 among-last (b ∷ l) a = inr (among-last l a)
 
-passed_among : (p : Coming → Bool) (l : List Coming) (a : Coming) → Among (filter p l) a → Among l a
+pub passed_among : (p : Coming → Bool) (l : List Coming) (a : Coming) → Among (filter p l) a → Among l a
 passed_among p [] a among = among
 passed_among p (b ∷ l) a among = by_test (p b) among (passed_among p l a)
   where
@@ -50,6 +50,28 @@ passed_among p (b ∷ l) a among = by_test (p b) among (passed_among p l a)
     by_test true (inl is) rest = inl is
     by_test true (inr there) rest = inr (rest there)
     by_test false there rest = inr (rest there)
+
+pub passed_test : (p : Coming → Bool) (l : List Coming) (a : Coming) → Among (filter p l) a → p a ≡ true
+passed_test p [] a among = absurd among
+passed_test p (b ∷ l) a among = by_test (p b) refl among (passed_test p l a)
+  where
+    by_test : (t : Bool) → p b ≡ t → Among (cond t (b ∷ filter p l) (filter p l)) a → (Among (filter p l) a → p a ≡ true) → p a ≡ true
+    by_test true is (inl same) rest = ap p same ∙ is
+    by_test true is (inr there) rest = rest there
+    by_test false is there rest = rest there
+
+pub among_passed : (p : Coming → Bool) (l : List Coming) (a : Coming) → Among l a → p a ≡ true → Among (filter p l) a
+among_passed p [] a among passes = among
+among_passed p (b ∷ l) a (inl same) passes = ap_here (p b) (ap p (sym same) ∙ passes)
+  where
+    ap_here : (t : Bool) → t ≡ true → Among (cond t (b ∷ filter p l) (filter p l)) a
+    ap_here true is = inl same
+    ap_here false is = absurd (true≢false (sym is))
+among_passed p (b ∷ l) a (inr there) passes = by_test (p b) (among_passed p l a there passes)
+  where
+    by_test : (t : Bool) → Among (filter p l) a → Among (cond t (b ∷ filter p l) (filter p l)) a
+    by_test true rest = inr rest
+    by_test false rest = rest
 
 pub distinct_among : (digest : List ℕ → List ℕ) (reads : List ℕ → Result DepositValue ℕ) (l : List Coming) (a : Coming) → Among (distinct digest reads l) a → Among l a
 distinct_among digest reads [] a among = among

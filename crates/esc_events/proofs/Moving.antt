@@ -30,7 +30,8 @@ use Rattle.esc_events.specs.Works.{no_work}
 use Rattle.esc_events.specs.Stands.{HaveBodies, AreBooks, StandsFor, IsApart, deposit_of, or_no_deposit, deposits_of, held_rows, held_body}
 use Rattle.esc_events.specs.Works.{chain_cost, IsWorkOf, MentionsFew}
 use Rattle.esc_events.proofs.FrontLemmas.{same_front}
-use Rattle.esc_events.proofs.MovingLemmas.{Each, each_of, are_of, same_maps, same_deposits, among_before, first_step, accepted_first, contains_held, have_bodies, held_within, front_of_same, no_move}
+use Rattle.esc_events.proofs.Lost.{counted_before}
+use Rattle.esc_events.proofs.MovingLemmas.{Each, each_of, are_of, same_maps, same_deposits, first_step, accepted_first, contains_held, have_bodies, held_within, front_of_same, no_move}
 
 module _ (few : MentionsFew) where
   few_of : (body : List ℕ) (told : Result DepositValue ℕ) → reading body ≡ told → mention_count (or_no_deposit told) ≤ 100_000
@@ -54,7 +55,7 @@ true_of false is = is
 
 -- no two different bodies of the longer list have the same digest, and so of the shorter one
 pub apart_before : (e : List EventValue) (x : EventValue) → IsApart sha256 reading (e ++ x ∷ []) → IsApart sha256 reading e
-apart_before e x apart a b first second same = apart a b (among_before [] e x a first) (among_before [] e x b second) same
+apart_before e x apart a b first second same = apart a b (counted_before sha256 reading e x a first) (counted_before sha256 reading e x b second) same
 
 -- the steps of a store are the latest chain of what is held
 pub chain_of : (e : List EventValue) (k : Kept) → StandsFor sha256 reading e k → IsApart sha256 reading e → IsChainOf e k.steps
@@ -185,6 +186,8 @@ module _ (law : LatestChainsAtAreHeldRows) (e : List EventValue) (x : EventValue
       came = books.came;
       waits = books.waits;
       told = books.told;
+      held_told = books.held_told;
+      parked_told = books.parked_told;
     };
     held = set.from_list rows;
     have_bodies = have_bodies l.bodies rows held;

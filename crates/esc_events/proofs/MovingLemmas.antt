@@ -26,12 +26,12 @@ use Rattle.esc_apply.specs.Front.{same_step, common_front}
 use Rattle.esc_apply.specs.Moves.{is_cleared, undone_of, work_of, cost}
 use Rattle.esc_store.specs.Kept.{AreHeld, step_at}
 use Rattle.esc_events.specs.declared.finding.Finding.TheVariants.{Differing, Holding}
-use Rattle.esc_events.specs.Events.{EventValue, Coming, union, comings_after, comings}
-use Rattle.esc_events.specs.Events.EventValue.{listed, arrived, moved}
+use Rattle.esc_events.specs.Events.{EventValue, Coming, union, comings_after}
+use Rattle.esc_events.specs.Events.EventValue.{listed, arrived, moved, arrived_early}
 use Rattle.esc_events.specs.Finding.{finding, found_at, row_of, held_row}
 use Rattle.esc_events.specs.Receipts.{is_row}
 use Rattle.esc_events.specs.Works.{no_work}
-use Rattle.esc_events.specs.Stands.{Among, HaveBodies, with_some, rows_of, holds_by, body_of, held_rows, held_body, deposit_of, deposits_of}
+use Rattle.esc_events.specs.Stands.{Among, HaveBodies, with_some, rows_of, holds_by, body_of, counted, held_rows, held_body, deposit_of, deposits_of}
 use Rattle.esc_events.proofs.FrontLemmas.{AreOf}
 
 -- ---- each row of a list
@@ -63,6 +63,8 @@ among_before m (listed more ∷ e) x a there = among_before (extended m more) e 
 among_before m (arrived b ∷ e) x a (inl is) = inl is
 among_before m (arrived b ∷ e) x a (inr there) = inr (among_before m e x a there)
 among_before m (moved t ∷ e) x a there = among_before m e x a there
+among_before m (arrived_early b ∷ e) x a (inl is) = inl is
+among_before m (arrived_early b ∷ e) x a (inr there) = inr (among_before m e x a there)
 
 -- ---- the first rows of an accepted manifest
 module _ (m more : List MRow) where
@@ -136,7 +138,7 @@ module _ (digest : List ℕ → List ℕ) (reads : List ℕ → Result DepositVa
 
   -- a row is held exactly if there is a body of it
   pub contains_held : (e : List EventValue) (r : ℕ) → set.contains (held_rows digest reads e) r ≡ is_some (held_body digest reads e r)
-  contains_held e r = set.contains-from_list nat_cmp_total (rows_of digest reads (union e) (comings e)) r ∙ any_row (union e) (comings e) r ∙ any_found (holds_by digest reads (union e) r) (comings e)
+  contains_held e r = set.contains-from_list nat_cmp_total (rows_of digest reads (union e) (counted digest reads e)) r ∙ any_row (union e) (counted digest reads e) r ∙ any_found (holds_by digest reads (union e) r) (counted digest reads e)
 
 -- rising rows that are held have bodies
 pub have_bodies : (bodies : ℕ → Option (List ℕ)) (rows : List ℕ) → AreHeld bodies rows → HaveBodies bodies (set.from_list rows)

@@ -5,19 +5,21 @@ use Rattle.std.specs.Str.{bytes_eq}
 use Rattle.std.specs.Cmp.Lexicographic.{bytes_decides}
 use Rattle.esc_manifest.specs.declared.row.MRow.{MRow}
 use Rattle.esc_tables.specs.DepositValue.{DepositValue}
-use Rattle.esc_store.specs.Kept.{Kept, SaysHeld, with_receipt}
+use Rattle.esc_store.specs.declared.reply.Verdict.TheVariants.{A2}
+use Rattle.esc_store.specs.Kept.{Kept, SaysHeld, TellsUnlisted, with_receipt}
 use Rattle.esc_store.specs.ReplyValue.{ReplyValue, ReceiptValue, reply_kept, is_alike, reply_alike}
 use Rattle.esc_events.specs.ArrivalValue.{ArrivalValue}
 use Rattle.esc_events.specs.Events.{EventValue, Coming, union, coming, comings}
 use Rattle.esc_events.specs.Events.EventValue.{arrived}
-use Rattle.esc_events.specs.Finding.{finding, row_of}
-use Rattle.esc_events.specs.Receipts.{holds_row, alike, distinct, receipt_for, receipts_after, receipts_of, reply_to}
-use Rattle.esc_events.specs.Stands.{Among, body_of, holds_by, has_digest, held_body, parked_body, IsApart, CameFor, CameWith, AreBooks}
+use Rattle.esc_events.specs.Finding.{finding, row_of, held_row}
+use Rattle.esc_events.specs.Receipts.{holds_row, holds_any, found_then, alike, distinct, receipt_for, receipts_after, receipts_of, reply_to}
+use Rattle.esc_events.specs.Stands.{Among, TellsOf, body_of, holds_by, has_digest, counted, held_body, parked_body, IsApart, CameFor, CameWith, AreBooks}
 use Rattle.esc_events.proofs.EventLemmas.{union-arrived, comings-arrived, moment-arrived}
 use Rattle.esc_events.proofs.Searches.{none_alike, some_alike, alike-last, find-push-old, find-push-new}
 use Rattle.esc_events.proofs.Distinct.{alike_laws, any_alike, distinct-push, receipts-push, kept_any, both}
-use Rattle.esc_events.proofs.HeldReceipts.{split-last}
-use Rattle.esc_events.proofs.Members.{any_of, one_of, among-front, among-last, some_any, any_some, no_first}
+use Rattle.esc_events.proofs.HeldReceipts.{split-last, any-front, any-last, says_from_holds}
+use Rattle.esc_events.proofs.Lost.{counted-arrived, came_counts, alike_counts}
+use Rattle.esc_events.proofs.Members.{any_of, among-front, among-last, distinct_among, some_any, any_some, no_first}
 
 module _ (digest : List ℕ → List ℕ) (reads : List ℕ → Result DepositValue ℕ) where
   -- whether an arrival of the list is a duplicate of this one, by the receipts
@@ -25,8 +27,8 @@ module _ (digest : List ℕ → List ℕ) (reads : List ℕ → Result DepositVa
   any_kept l c = any_alike digest reads l c ∙ sym (kept_any digest reads [] (distinct digest reads l) c)
 
   -- what came for a row or with a digest by some events did so by others, where the same rows are
-  -- listed and no distinct arrival is gone
-  module _ (e f : List EventValue) (rows : union f ≡ union e) (stay : (c : Coming) → Among (distinct digest reads (comings e)) c → Among (distinct digest reads (comings f)) c) where
+  -- listed and no arrival that counts is gone
+  module _ (e f : List EventValue) (rows : union f ≡ union e) (stay : (c : Coming) → Among (counted digest reads e) c → Among (counted digest reads f) c) where
     pub came_by : (r : ℕ) (body : List ℕ) → CameFor digest reads e r body → CameFor digest reads f r body
     came_by r body c = record {
       arrival = c.arrival;
@@ -64,56 +66,66 @@ module _ (digest : List ℕ → List ℕ) (reads : List ℕ → Result DepositVa
 
     -- ---- bodies, where no two different ones have the same digest
 
-    earlier : (c : Coming) → Among (comings e) c → Among (comings then) c
-    earlier c there = subst (λ (l : List Coming). Among l c) (sym (comings-arrived e a)) (among-front (comings e) (came ∷ []) c there)
+    earlier : (c : Coming) → Among (counted digest reads e) c → Among (counted digest reads then) c
+    earlier c there = subst (λ (l : List Coming). Among l c) (sym (counted-arrived digest reads e a)) (among-front (counted digest reads e) (came ∷ []) c there)
 
-    last : Among (comings then) came
-    last = subst (λ (l : List Coming). Among l came) (sym (comings-arrived e a)) (among-last (comings e) came)
+    last : Among (counted digest reads then) came
+    last = subst (λ (l : List Coming). Among l came) (sym (counted-arrived digest reads e a)) (among-last (counted digest reads e) came)
 
     pub apart-arrived : IsApart digest reads then → IsApart digest reads e
     apart-arrived apart b c first second same = apart b c (earlier b first) (earlier c second) same
 
     module _ (apart : IsApart digest reads then) where
-      held_then : (r : ℕ) → held_body digest reads then r ≡ body_of (find (holds_by digest reads (union e) r) (comings e ++ came ∷ []))
-      held_then r = ap₂ (λ (m : List MRow) (l : List Coming). body_of (find (holds_by digest reads m r) l)) (union-arrived e a) (comings-arrived e a)
+      held_then : (r : ℕ) → held_body digest reads then r ≡ body_of (find (holds_by digest reads (union e) r) (counted digest reads e ++ came ∷ []))
+      held_then r = ap₂ (λ (m : List MRow) (l : List Coming). body_of (find (holds_by digest reads m r) l)) (union-arrived e a) (counted-arrived digest reads e a)
 
-      parked_then : (d : List ℕ) → parked_body digest reads then d ≡ cond (is_some (row_of (union e) d)) None (body_of (find (has_digest digest reads d) (comings e ++ came ∷ [])))
-      parked_then d = ap₂ (λ (m : List MRow) (l : List Coming). cond (is_some (row_of m d)) None (body_of (find (has_digest digest reads d) l))) (union-arrived e a) (comings-arrived e a)
+      parked_then : (d : List ℕ) → parked_body digest reads then d ≡ cond (is_some (row_of (union e) d)) None (body_of (find (has_digest digest reads d) (counted digest reads e ++ came ∷ [])))
+      parked_then d = ap₂ (λ (m : List MRow) (l : List Coming). cond (is_some (row_of m d)) None (body_of (find (has_digest digest reads d) l))) (union-arrived e a) (counted-arrived digest reads e a)
 
-      held_now : (r : ℕ) → k.bodies r ≡ body_of (find (holds_by digest reads (union e) r) (comings e))
+      held_now : (r : ℕ) → k.bodies r ≡ body_of (find (holds_by digest reads (union e) r) (counted digest reads e))
       held_now r = books.bodies (apart-arrived apart) r
 
-      parked_now : (d : List ℕ) → is_some (row_of (union e) d) ≡ false → k.parked d ≡ body_of (find (has_digest digest reads d) (comings e))
-      parked_now d unlisted = books.parked (apart-arrived apart) d ∙ ap (λ b. cond b None (body_of (find (has_digest digest reads d) (comings e)))) unlisted
+      parked_now : (d : List ℕ) → is_some (row_of (union e) d) ≡ false → k.parked d ≡ body_of (find (has_digest digest reads d) (counted digest reads e))
+      parked_now d unlisted = books.parked (apart-arrived apart) d ∙ ap (λ b. cond b None (body_of (find (has_digest digest reads d) (counted digest reads e)))) unlisted
 
       -- a row keeps its body, unless this arrival is the first that holds it
       pub old_body : (r : ℕ) → (holds_by digest reads (union e) r came ≡ true → IsSome (k.bodies r)) → k.bodies r ≡ held_body digest reads then r
       old_body r old =
           held_now r
-          ∙ ap body_of (sym (find-push-old (holds_by digest reads (union e) r) (comings e) came (λ h. some_any (holds_by digest reads (union e) r) (comings e) (sym (ap is_some (held_now r)) ∙ old h))))
+          ∙ ap body_of (sym (find-push-old (holds_by digest reads (union e) r) (counted digest reads e) came (λ h. some_any (holds_by digest reads (union e) r) (counted digest reads e) (sym (ap is_some (held_now r)) ∙ old h))))
           ∙ sym (held_then r)
 
       pub new_body : (r : ℕ) → k.bodies r ≡ None → holds_by digest reads (union e) r came ≡ true → Some a.body ≡ held_body digest reads then r
       new_body r none holds =
-          ap body_of (sym (find-push-new (holds_by digest reads (union e) r) (comings e) came (no_first (holds_by digest reads (union e) r) (comings e) (sym (held_now r) ∙ none)) holds))
+          ap body_of (sym (find-push-new (holds_by digest reads (union e) r) (counted digest reads e) came (no_first (holds_by digest reads (union e) r) (counted digest reads e) (sym (held_now r) ∙ none)) holds))
           ∙ sym (held_then r)
 
       -- so is the body that is parked under a digest
       pub old_parked : (d : List ℕ) → (digest a.body ≡ d → is_some (row_of (union e) d) ≡ false → IsSome (k.parked d)) → k.parked d ≡ parked_body digest reads then d
       old_parked d old = books.parked (apart-arrived apart) d ∙ by_row (is_some (row_of (union e) d)) refl ∙ sym (parked_then d)
         where
-          by_row : (b : Bool) → is_some (row_of (union e) d) ≡ b → cond b None (body_of (find (has_digest digest reads d) (comings e))) ≡ cond b None (body_of (find (has_digest digest reads d) (comings e ++ came ∷ [])))
+          by_row : (b : Bool) → is_some (row_of (union e) d) ≡ b → cond b None (body_of (find (has_digest digest reads d) (counted digest reads e))) ≡ cond b None (body_of (find (has_digest digest reads d) (counted digest reads e ++ came ∷ [])))
           by_row true is = refl
           by_row false is =
-              ap body_of (sym (find-push-old (has_digest digest reads d) (comings e) came
-              (λ h. some_any (has_digest digest reads d) (comings e) (sym (ap is_some (parked_now d is)) ∙ old ((bytes_decides (digest a.body) d).0 h) is))))
+              ap body_of (sym (find-push-old (has_digest digest reads d) (counted digest reads e) came
+              (λ h. some_any (has_digest digest reads d) (counted digest reads e) (sym (ap is_some (parked_now d is)) ∙ old ((bytes_decides (digest a.body) d).0 h) is))))
 
       pub new_parked : (d : List ℕ) → digest a.body ≡ d → row_of (union e) d ≡ None → k.parked d ≡ None → Some a.body ≡ parked_body digest reads then d
       new_parked d same unlisted none =
-          ap body_of (sym (find-push-new (has_digest digest reads d) (comings e) came (no_first (has_digest digest reads d) (comings e) (sym (parked_now d (ap is_some unlisted)) ∙ none)) ((bytes_decides (digest a.body) d).1 same)))
-          ∙ sym (parked_then d ∙ ap (λ (o : Option ℕ). cond (is_some o) None (body_of (find (has_digest digest reads d) (comings e ++ came ∷ [])))) unlisted)
+          ap body_of (sym (find-push-new (has_digest digest reads d) (counted digest reads e) came (no_first (has_digest digest reads d) (counted digest reads e) (sym (parked_now d (ap is_some unlisted)) ∙ none)) ((bytes_decides (digest a.body) d).1 same)))
+          ∙ sym (parked_then d ∙ ap (λ (o : Option ℕ). cond (is_some o) None (body_of (find (has_digest digest reads d) (counted digest reads e ++ came ∷ [])))) unlisted)
 
-    -- ---- a duplicate of an earlier arrival changes nothing, and has that one's reply
+    -- ---- what came for a row or with a digest: it was there before, or is this arrival's
+
+    came_for : (r : ℕ) (body : List ℕ) → (k.bodies r ≡ Some body) ⊎ ((holds_by digest reads (union e) r came ≡ true) × (a.body ≡ body)) → CameFor digest reads then r body
+    came_for r body (inl old) = came_by e then (union-arrived e a) earlier r body (books.came r body old)
+    came_for r body (inr new) = record { arrival = came; among = last; holds = ap (λ (m : List MRow). holds_by digest reads m r came) (union-arrived e a) ∙ new.0; is_body = new.1 }
+
+    came_with : (d body : List ℕ) → (k.parked d ≡ Some body) ⊎ ((digest a.body ≡ d) × (a.body ≡ body)) → CameWith digest reads then d body
+    came_with d body (inl old) = with_by e then (union-arrived e a) earlier d body (books.waits d body old)
+    came_with d body (inr new) = record { arrival = came; among = last; digest_is = new.0; is_body = new.1 }
+
+    -- ---- a duplicate of an earlier arrival: there is no receipt more
     module _ (y : ReplyValue) (there : reply_alike (union e) 1 a.number (digest a.body) k.receipts ≡ Some y) where
       was : list_any (is_alike a.number (digest a.body)) k.receipts ≡ true
       was = some_alike (union e) a.number (digest a.body) 1 k.receipts y there
@@ -121,39 +133,61 @@ module _ (digest : List ℕ → List ℕ) (reads : List ℕ → Result DepositVa
       pub no_more : after ≡ before
       no_more = pushed ∙ ap (λ b. cond b before (before ++ came ∷ [])) was
 
-      -- an earlier arrival with the same body
-      same_before : IsApart digest reads then → (c : Coming) × Among (comings e) c × (c.body ≡ a.body)
-      same_before apart =
-          let x = one_of (alike digest reads came) (comings e) (any_kept (comings e) came ∙ ap (list_any (is_alike a.number (digest a.body))) (sym books.receipts) ∙ was) in
-          let like = both (bytes_eq a.number x.0.number) (bytes_eq (digest a.body) (digest x.0.body)) x.2 in
-          (x.0, x.1, apart x.0 came (earlier x.0 x.1) last (sym ((bytes_decides (digest a.body) (digest x.0.body)).0 like.1)))
-
-      pub repeated : AreBooks digest reads then k
-      repeated = record {
+      -- the books, where bodies and parked bodies are so then: each was there before, or is this
+      -- arrival's, and a receipt tells of it
+      pub books_again : (bodies : ℕ → Option (List ℕ)) (parked : List ℕ → Option (List ℕ))
+          → (IsApart digest reads then → (r : ℕ) → bodies r ≡ held_body digest reads then r)
+          → (IsApart digest reads then → (d : List ℕ) → parked d ≡ parked_body digest reads then d)
+          → ((r : ℕ) (body : List ℕ) → bodies r ≡ Some body → (k.bodies r ≡ Some body) ⊎ ((holds_by digest reads (union e) r came ≡ true) × (a.body ≡ body)))
+          → ((d body : List ℕ) → parked d ≡ Some body → (k.parked d ≡ Some body) ⊎ ((digest a.body ≡ d) × (a.body ≡ body)))
+          → ((r : ℕ) → IsSome (k.bodies r) → IsSome (bodies r))
+          → ((r : ℕ) → IsSome (bodies r) → Any (TellsOf (union e) r) k.receipts)
+          → ((d : List ℕ) → IsSome (parked d) → Any (TellsUnlisted d) k.receipts)
+          → AreBooks digest reads then (record k { bodies = bodies; parked = parked })
+      books_again bodies parked bodies_are parked_are come wait stays tell tells = record {
         listed = books.listed ∙ sym (union-arrived e a);
         receipts = books.receipts ∙ sym (ap (receipts_after digest reads []) no_more);
-        bodies = λ apart r. old_body apart r (held_there apart r);
-        parked = λ apart d. old_parked apart d (parked_there apart d);
+        bodies = bodies_are;
+        parked = parked_are;
         moment = books.moment ∙ sym (moment-arrived e a);
-        came = λ r body is. came_by e then (union-arrived e a) stay r body (books.came r body is);
-        waits = λ d body is. with_by e then (union-arrived e a) stay d body (books.waits d body is);
-        told = books.told;
+        came = λ r body at. came_for r body (come r body at);
+        waits = λ d body at. came_with d body (wait d body at);
+        told = λ r any. stays r (books.told r any);
+        held_told = λ r some. subst (λ (m : List MRow). Any (TellsOf m r) k.receipts) (sym (union-arrived e a)) (tell r some);
+        parked_told = tells;
       }
-        where
-          stay : (c : Coming) → Among before c → Among after c
-          stay c among = subst (λ (l : List Coming). Among l c) (sym no_more) among
 
+      -- an earlier arrival with the same body, unless the reply's verdict is A2
+      same_before : (y.verdict ≡ A2 → ⊥) → IsApart digest reads then → (c : Coming) × Among (counted digest reads e) c × (c.body ≡ a.body)
+      same_before other apart =
+          let x = alike_counts digest reads (union e) came 1 [] before y (ap (reply_alike (union e) 1 a.number (digest a.body)) (sym books.receipts) ∙ there) other in
+          let counts = came_counts digest reads e x.0 (distinct_among digest reads (comings e) x.0 x.1) x.3 in
+          let like = both (bytes_eq a.number x.0.number) (bytes_eq (digest a.body) (digest x.0.body)) x.2 in
+          (x.0, counts, apart x.0 came (earlier x.0 counts) last (sym ((bytes_decides (digest a.body) (digest x.0.body)).0 like.1)))
+
+      -- then it changes nothing
+      pub repeated : (y.verdict ≡ A2 → ⊥) → AreBooks digest reads then k
+      repeated other =
+          books_again k.bodies k.parked
+          (λ apart r. old_body apart r (held_there apart r))
+          (λ apart d. old_parked apart d (parked_there apart d))
+          (λ r body at. inl at)
+          (λ d body at. inl at)
+          (λ r some. some)
+          books.held_told
+          books.parked_told
+        where
           held_there : IsApart digest reads then → (r : ℕ) → holds_by digest reads (union e) r came ≡ true → IsSome (k.bodies r)
           held_there apart r holds =
-              let x = same_before apart in
+              let x = same_before other apart in
               ap is_some (held_now apart r)
-              ∙ any_some (holds_by digest reads (union e) r) (comings e) (any_of (holds_by digest reads (union e) r) (comings e) x.0 x.1 (ap (λ (b : List ℕ). holds_row r (finding digest reads (union e) b)) x.2 ∙ holds))
+              ∙ any_some (holds_by digest reads (union e) r) (counted digest reads e) (any_of (holds_by digest reads (union e) r) (counted digest reads e) x.0 x.1 (ap (λ (b : List ℕ). holds_row r (finding digest reads (union e) b)) x.2 ∙ holds))
 
           parked_there : IsApart digest reads then → (d : List ℕ) → digest a.body ≡ d → is_some (row_of (union e) d) ≡ false → IsSome (k.parked d)
           parked_there apart d same unlisted =
-              let x = same_before apart in
+              let x = same_before other apart in
               ap is_some (parked_now apart d unlisted)
-              ∙ any_some (has_digest digest reads d) (comings e) (any_of (has_digest digest reads d) (comings e) x.0 x.1 ((bytes_decides (digest x.0.body) d).1 (ap digest x.2 ∙ same)))
+              ∙ any_some (has_digest digest reads d) (counted digest reads e) (any_of (has_digest digest reads d) (counted digest reads e) x.0 x.1 ((bytes_decides (digest x.0.body) d).1 (ap digest x.2 ∙ same)))
 
       pub repeated_reply : reply_to digest reads then a ≡ Some y
       repeated_reply = reply_by k.receipts (ap (receipts_after digest reads []) no_more ∙ sym books.receipts) ∙ there
@@ -181,22 +215,17 @@ module _ (digest : List ℕ → List ℕ) (reads : List ℕ → Result DepositVa
           here : is_alike a.number (digest a.body) (receipt_for digest reads before came) ≡ true
           here = unor _ (kept_any digest reads before (came ∷ []) came ∙ ap (λ b. b || false) ((alike_laws digest reads).refl came))
 
-      stay : (c : Coming) → Among before c → Among after c
-      stay c among = subst (λ (l : List Coming). Among l c) (sym one_more) (among-front before (came ∷ []) c among)
-
-      here : Among after came
-      here = subst (λ (l : List Coming). Among l came) (sym one_more) (among-last before came)
-
       -- the books with its receipt, where bodies and parked bodies are so then: each was there
-      -- before, or is this arrival's
+      -- before, or is this arrival's; and where this body is parked, the receipt tells of it
       pub books_with : (receipt : ReceiptValue) → receipt ≡ receipt_for digest reads before came → (bodies : ℕ → Option (List ℕ)) (parked : List ℕ → Option (List ℕ))
           → (IsApart digest reads then → (r : ℕ) → bodies r ≡ held_body digest reads then r)
           → (IsApart digest reads then → (d : List ℕ) → parked d ≡ parked_body digest reads then d)
           → ((r : ℕ) (body : List ℕ) → bodies r ≡ Some body → (k.bodies r ≡ Some body) ⊎ ((holds_by digest reads (union e) r came ≡ true) × (a.body ≡ body)))
           → ((d body : List ℕ) → parked d ≡ Some body → (k.parked d ≡ Some body) ⊎ ((digest a.body ≡ d) × (a.body ≡ body)))
           → ((r : ℕ) → IsSome (k.bodies r) ⊎ SaysHeld r receipt → IsSome (bodies r))
+          → ((d : List ℕ) → IsSome (parked d) → IsSome (k.parked d) ⊎ TellsUnlisted d receipt)
           → AreBooks digest reads then (record (with_receipt k receipt) { bodies = bodies; parked = parked })
-      books_with receipt is bodies parked bodies_are parked_are come wait tell = record {
+      books_with receipt is bodies parked bodies_are parked_are come wait tell tells = record {
         listed = books.listed ∙ sym (union-arrived e a);
         receipts = ap (λ (r : ReceiptValue). k.receipts ++ r ∷ []) is ∙ sym more_receipts;
         bodies = bodies_are;
@@ -205,16 +234,24 @@ module _ (digest : List ℕ → List ℕ) (reads : List ℕ → Result DepositVa
         came = λ r body at. came_for r body (come r body at);
         waits = λ d body at. came_with d body (wait d body at);
         told = λ r any. by_receipt r (split-last (SaysHeld r) k.receipts receipt any);
+        held_told = λ r some. subst (λ (m : List MRow). Any (TellsOf m r) (k.receipts ++ receipt ∷ [])) (sym (union-arrived e a)) (by_body r (bodies r) refl some);
+        parked_told = λ d some. by_parked d (tells d some);
       }
         where
-          came_for : (r : ℕ) (body : List ℕ) → (k.bodies r ≡ Some body) ⊎ ((holds_by digest reads (union e) r came ≡ true) × (a.body ≡ body)) → CameFor digest reads then r body
-          came_for r body (inl old) = came_by e then (union-arrived e a) stay r body (books.came r body old)
-          came_for r body (inr new) = record { arrival = came; among = here; holds = ap (λ (m : List MRow). holds_by digest reads m r came) (union-arrived e a) ∙ new.0; is_body = new.1 }
-
-          came_with : (d body : List ℕ) → (k.parked d ≡ Some body) ⊎ ((digest a.body ≡ d) × (a.body ≡ body)) → CameWith digest reads then d body
-          came_with d body (inl old) = with_by e then (union-arrived e a) stay d body (books.waits d body old)
-          came_with d body (inr new) = record { arrival = came; among = here; digest_is = new.0; is_body = new.1 }
-
           by_receipt : (r : ℕ) → Any (SaysHeld r) k.receipts ⊎ SaysHeld r receipt → IsSome (bodies r)
           by_receipt r (inl old) = tell r (inl (books.told r old))
           by_receipt r (inr new) = tell r (inr new)
+
+          by_source : (r : ℕ) (body : List ℕ) → (k.bodies r ≡ Some body) ⊎ ((holds_by digest reads (union e) r came ≡ true) × (a.body ≡ body)) → Any (TellsOf (union e) r) (k.receipts ++ receipt ∷ [])
+          by_source r body (inl old) = any-front (TellsOf (union e) r) k.receipts receipt (books.held_told r (ap is_some old))
+          by_source r body (inr new) =
+              any-last (TellsOf (union e) r) k.receipts receipt
+              (inl (subst (SaysHeld r) (sym is) (says_from_holds r a.number (digest a.body) false (found_then digest reads came) (holds_any digest reads before (held_row (found_then digest reads came))) new.0)))
+
+          by_body : (r : ℕ) (o : Option (List ℕ)) → bodies r ≡ o → IsSome (bodies r) → Any (TellsOf (union e) r) (k.receipts ++ receipt ∷ [])
+          by_body r None at some = absurd (true≢false (sym some ∙ ap is_some at))
+          by_body r (Some body) at some = by_source r body (come r body at)
+
+          by_parked : (d : List ℕ) → IsSome (k.parked d) ⊎ TellsUnlisted d receipt → Any (TellsUnlisted d) (k.receipts ++ receipt ∷ [])
+          by_parked d (inl old) = any-front (TellsUnlisted d) k.receipts receipt (books.parked_told d old)
+          by_parked d (inr new) = any-last (TellsUnlisted d) k.receipts receipt new

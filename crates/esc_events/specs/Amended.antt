@@ -1,7 +1,6 @@
 -- What becomes of held and parked bodies where rows are added to those that are listed.
 use Rattle.std.specs.Prelude.{
   ℕ,
-  ◌+◌,
   ◌-◌,
   zero,
   suc,

@@ -5,6 +5,6 @@ use Rattle.esc_tables.specs.Reading.{reading}
 use Rattle.esc_events.specs.Events.{EventValue}
 use Rattle.esc_events.specs.Stands.{IsApart}
 
--- this holds, if no two different bodies that came by these events have the same SHA-256
+-- this holds, if no two different bodies that count by these events have the same SHA-256
 abbrev pub WhereApart : List EventValue → Type 0 → Type 0
 WhereApart e says = IsApart sha256 reading e → says

@@ -1,5 +1,4 @@
 -- What is known of a store's rows.
-use Rattle.std.specs.Prelude.{List}
 use Rattle.esc_store.specs.Kept.{Kept, AreHeld, AreHeldBy}
 use Rattle.esc_events.specs.declared.known.Known.{Known}
 

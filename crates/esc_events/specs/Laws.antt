@@ -22,7 +22,8 @@ use Rattle.esc_manifest.specs.Accepted.{IsAccepted}
 use Rattle.esc_manifest.specs.Extension.{extended}
 use Rattle.esc_chain.specs.Laws.{LatestChainsAtAreHeldRows}
 use Rattle.esc_apply.specs.declared.moves.Work.{Work}
-use Rattle.esc_store.specs.Kept.{Kept, AreHeld, with_moment, with_receipt}
+use Rattle.esc_store.specs.declared.reply.Verdict.TheVariants.{A2}
+use Rattle.esc_store.specs.Kept.{Kept, AreHeld, with_body, with_moment, with_receipt}
 use Rattle.esc_store.specs.ReplyValue.{ReplyValue, ReceiptValue, reply_alike}
 use Rattle.esc_events.specs.declared.finding.Finding.{Finding}
 use Rattle.esc_events.specs.declared.finding.Finding.TheVariants.{Unlisted, Holding}
@@ -35,15 +36,10 @@ use Rattle.esc_events.specs.ArrivalValue.{ArrivalValue}
 use Rattle.esc_events.specs.Events.{EventValue, union}
 use Rattle.esc_events.specs.Events.EventValue.{listed, arrived, moved}
 use Rattle.esc_events.specs.Finding.{held_row}
+use Rattle.esc_events.specs.FirstVersion.{StoodFor, events_before}
 use Rattle.esc_events.specs.Notes.{noted_by, held_by}
-use Rattle.esc_events.specs.Parks.{IsParking}
-use Rattle.esc_events.specs.Plans.{
-  AreLatestSteps,
-  IsPlanned,
-  IsMovedFrom,
-  IsCostOfMove,
-  moved_by,
-}
+use Rattle.esc_events.specs.Parks.{IsParking, with_parking}
+use Rattle.esc_events.specs.Plans.{AreLatestSteps, IsPlanned, IsCostOfMove, moved_by}
 use Rattle.esc_events.specs.Receipts.{reply_to}
 use Rattle.esc_events.specs.Stands.{
   AreBooks,
@@ -53,7 +49,7 @@ use Rattle.esc_events.specs.Stands.{
   held_body,
   parked_body,
 }
-use Rattle.esc_events.specs.Taking.{IsNew}
+use Rattle.esc_events.specs.Taking.{IsNew, IsAgain}
 use Rattle.esc_events.specs.Works.{IsWorkOf, MentionsFew, no_work}
 
 -- ---- an arrival
@@ -82,11 +78,44 @@ HeldBooks = (e : List EventValue) (a : ArrivalValue) (k : Kept) (row : ℕ) (d :
     → k.bodies row ≡ None
     → AreBooks sha256 reading (e ++ arrived a ∷ []) (held_by receipt row a.body k)
 
--- a duplicate of an earlier arrival changes nothing
+-- a duplicate of an earlier arrival changes nothing, unless that one's verdict is A2: then its body
+-- was not kept
 abbrev pub RepeatedBooks : Type 0
 RepeatedBooks = (e : List EventValue) (a : ArrivalValue) (k : Kept) → AreBooks sha256 reading e k
     → (r : ReplyValue) → reply_alike (union e) 1 a.number (sha256 a.body) k.receipts ≡ Some r
+    → (r.verdict ≡ A2 → ⊥) → AreBooks sha256 reading (e ++ arrived a ∷ []) k
+
+-- ---- an arrival whose body was not kept comes again
+
+-- nothing has to be done: the body isn't the deposit of a row that has no body, and it is parked
+-- already, if no row lists it
+abbrev pub KnownAgain : Type 0
+KnownAgain = (e : List EventValue) (a : ArrivalValue) (k : Kept) (found : Finding)
+    (reply : ReplyValue) → IsAgain e a k found reply
+    → ((q : ℕ) → held_row found ≡ Some q → IsSome (k.bodies q))
+    → (found ≡ Unlisted → IsSome (k.parked (sha256 a.body)))
     → AreBooks sha256 reading (e ++ arrived a ∷ []) k
+
+-- no row lists the body: it is parked, unless it is already
+abbrev pub ParkedAgain : Type 0
+ParkedAgain = (e : List EventValue) (a : ArrivalValue) (k : Kept) (reply : ReplyValue)
+    → IsAgain e a k Unlisted reply → (parking : Parking)
+    → IsParking k.parked (sha256 a.body) parking → (parking ≡ Crowded → ⊥)
+    → AreBooks sha256 reading (e ++ arrived a ∷ [])
+    (with_parking k (sha256 a.body) parking a.body)
+
+-- the body is the deposit of a row that has no body: it is held for the row
+abbrev pub HeldAgain : Type 0
+HeldAgain = (e : List EventValue) (a : ArrivalValue) (k : Kept) (row : ℕ) (d : DepositValue)
+    (reply : ReplyValue) → IsAgain e a k (Holding row d) reply → k.bodies row ≡ None
+    → AreBooks sha256 reading (e ++ arrived a ∷ []) (with_body k row a.body)
+
+-- ---- a store of version 1
+
+-- what a store of version 1 keeps stands for its manifest and its arrivals as early ones
+abbrev pub MigratedStands : Type 0
+MigratedStands = (m : List MRow) (l : List ArrivalValue) (k : Kept)
+    → StoodFor sha256 reading m l k → StandsFor sha256 reading (events_before m l) k
 
 -- ---- an amendment, and a moment
 

@@ -3,6 +3,7 @@ pub mod Apart
 pub mod ArrivalValue
 pub mod Events
 pub mod Finding
+pub mod FirstVersion
 pub mod Known
 pub mod Notes
 pub mod Parks

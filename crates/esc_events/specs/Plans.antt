@@ -21,7 +21,7 @@ use Rattle.esc_tables.specs.DepositValue.{DepositValue}
 use Rattle.esc_tables.specs.Reading.{reading}
 use Rattle.esc_manifest.specs.declared.row.MRow.{MRow}
 use Rattle.esc_manifest.specs.Accepted.{IsAccepted}
-use Rattle.esc_chain.specs.Chain.{Rows, InRange, IsLatestChainAt}
+use Rattle.esc_chain.specs.Chain.{InRange, IsLatestChainAt}
 use Rattle.esc_apply.specs.declared.front.Step.{Step}
 use Rattle.esc_apply.specs.Front.{common_front}
 use Rattle.esc_apply.specs.Images.{chain_state}

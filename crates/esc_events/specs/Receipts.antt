@@ -9,6 +9,7 @@ use Rattle.std.specs.Prelude.{
   ◌==◌,
   nat_eq,
   not,
+  if◌then◌else◌,
   filter,
   List,
   [],
@@ -23,7 +24,7 @@ use Rattle.std.specs.List.{list_any}
 use Rattle.std.specs.Str.{bytes_eq}
 use Rattle.esc_tables.specs.DepositValue.{DepositValue}
 use Rattle.esc_store.specs.declared.reply.Verdict.{Verdict}
-use Rattle.esc_store.specs.declared.reply.Verdict.TheVariants.{A1, A3, A4, A5}
+use Rattle.esc_store.specs.declared.reply.Verdict.TheVariants.{A1, A2, A3, A4, A5}
 use Rattle.esc_store.specs.ReplyValue.{ReplyValue, ReceiptValue, reply_alike}
 use Rattle.esc_events.specs.declared.finding.Finding.{Finding}
 use Rattle.esc_events.specs.declared.finding.Finding.TheVariants.{
@@ -54,9 +55,9 @@ is_old rows (Some r) = list_any (λ q. nat_eq q r) rows
 abbrev pub holds_row : ℕ → Finding → Bool
 holds_row r f = is_row r (held_row f)
 
--- the verdict on a body that no row lists: it is parked
-abbrev pub unlisted_verdict : Verdict
-unlisted_verdict = A5
+-- the verdict on a body that no row lists: it is parked, but of an early arrival it was not kept
+abbrev pub unlisted_verdict : Bool → Verdict
+unlisted_verdict early = if early then A2 else A5
 
 -- the receipt of a body that isn't held: its verdict, and its row, if any
 abbrev pub refusal : List ℕ → List ℕ → Verdict → Option ℕ → ReceiptValue
@@ -69,13 +70,13 @@ refusal number digest verdict row = record {
   orphans = None;
 }
 
--- the receipt by what was found; the last argument, whether an earlier receipt holds the row,
--- counts for a deposit that is held
-abbrev pub receipt_by : List ℕ → List ℕ → Finding → Bool → ReceiptValue
-receipt_by number digest Unlisted again = refusal number digest unlisted_verdict None
-receipt_by number digest (Unreadable r n) again = refusal number digest (A3 n) (Some r)
-receipt_by number digest (Differing r) again = refusal number digest A4 (Some r)
-receipt_by number digest (Holding r d) again = record {
+-- the receipt by what was found. Whether the arrival is an early one counts for a body that no row
+-- lists; the last argument, whether an earlier receipt holds the row, for a deposit that is held
+abbrev pub receipt_by : List ℕ → List ℕ → Bool → Finding → Bool → ReceiptValue
+receipt_by number digest early Unlisted again = refusal number digest (unlisted_verdict early) None
+receipt_by number digest early (Unreadable r n) again = refusal number digest (A3 n) (Some r)
+receipt_by number digest early (Differing r) again = refusal number digest A4 (Some r)
+receipt_by number digest early (Holding r d) again = record {
   number = number;
   digest = digest;
   verdict = A1;
@@ -112,7 +113,7 @@ module _ (digest : List ℕ → List ℕ) (reads : List ℕ → Result DepositVa
   abbrev pub receipt_for : List Coming → Coming → ReceiptValue
   receipt_for before c =
       let again = holds_any before (held_row (found_then c)) in
-      receipt_by c.number (digest c.body) (found_then c) again
+      receipt_by c.number (digest c.body) c.early (found_then c) again
 
   -- the receipts of distinct arrivals, where `before` are the distinct arrivals before them
   abbrev pub receipts_after : List Coming → List Coming → List ReceiptValue

@@ -5,11 +5,14 @@ use Rattle.std.specs.Prelude.{
   ℕ,
   Bool,
   true,
+  ◌&&◌,
+  not,
   if◌then◌else◌,
   List,
   [],
   ◌∷◌,
   map,
+  filter,
   Option,
   Some,
   None,
@@ -18,6 +21,7 @@ use Rattle.std.specs.Prelude.{
   Err,
   option_map,
   is_some,
+  is_none,
   IsSome,
 }
 use Rattle.std.specs.List.{find, Any}
@@ -28,10 +32,11 @@ use Rattle.esc_manifest.specs.declared.row.MRow.{MRow}
 use Rattle.esc_manifest.specs.Rows.{no_row}
 use Rattle.esc_chain.specs.Chain.{Rows, IsLatestChainAt}
 use Rattle.esc_apply.specs.Images.{chain_state}
-use Rattle.esc_store.specs.Kept.{Kept, SaysHeld}
+use Rattle.esc_store.specs.Kept.{Kept, SaysHeld, TellsUnlisted}
+use Rattle.esc_store.specs.ReplyValue.{ReceiptValue}
 use Rattle.esc_events.specs.Events.{EventValue, Coming, union, comings, moment_of}
 use Rattle.esc_events.specs.Finding.{finding, held_row, row_of}
-use Rattle.esc_events.specs.Receipts.{holds_row, distinct, receipts_of}
+use Rattle.esc_events.specs.Receipts.{holds_row, receipts_of}
 
 -- a placeholder for a body from which no deposit reads; a held body never is one
 abbrev pub no_deposit : DepositValue
@@ -74,7 +79,16 @@ body_of c = option_map (λ (c : Coming). c.body) c
 abbrev pub HaveBodies : (ℕ → Option (List ℕ)) → Rows → Type 0
 HaveBodies bodies held = (r : ℕ) → set.contains held r ≡ is_some (bodies r)
 
+-- the receipt says that the deposit of this row is held; or that no row listed its digest, which is
+-- the row's by these listed rows
+abbrev pub TellsOf : List MRow → ℕ → ReceiptValue → Type 0
+TellsOf m row r = SaysHeld row r ⊎ (TellsUnlisted r.digest r × (row_of m r.digest ≡ Some row))
+
 module _ (digest : List ℕ → List ℕ) (reads : List ℕ → Result DepositValue ℕ) where
+  -- the body of the arrival was not kept: it is an early one, and no row listed its body then
+  abbrev pub is_lost : Coming → Bool
+  is_lost c = c.early && is_none (row_of c.rows (digest c.body))
+
   -- judged by these listed rows, the body that came is the deposit of row r
   abbrev pub holds_by : List MRow → ℕ → Coming → Bool
   holds_by m r c = holds_row r (finding digest reads m c.body)
@@ -89,47 +103,48 @@ module _ (digest : List ℕ → List ℕ) (reads : List ℕ → Result DepositVa
   rows_of m (c ∷ l) = with_some (held_row (finding digest reads m c.body)) (rows_of m l)
 
   module _ (e : List EventValue) where
-    -- the rows that are held after a list of events: each body that came is judged by all rows that
-    -- are listed in the end
+    -- the arrivals whose bodies count: all whose body was kept when they came
+    abbrev pub counted : List Coming
+    counted = filter (λ c. not (is_lost c)) (comings e)
+
+    -- the rows that are held after a list of events: each body that counts is judged by all rows
+    -- that are listed in the end
     abbrev pub held_rows : Rows
-    held_rows = set.from_list (rows_of (union e) (comings e))
+    held_rows = set.from_list (rows_of (union e) counted)
 
     -- the body that is held for a row after a list of events
     abbrev pub held_body : ℕ → Option (List ℕ)
-    held_body r = body_of (find (holds_by (union e) r) (comings e))
+    held_body r = body_of (find (holds_by (union e) r) counted)
 
-    -- the body that came with this digest, if no row lists it
+    -- the body with this digest that counts, if no row lists it
     abbrev pub parked_body : List ℕ → Option (List ℕ)
     parked_body d =
-        if is_some (row_of (union e) d) then None else body_of (find (has_digest d) (comings e))
+        if is_some (row_of (union e) d) then None else body_of (find (has_digest d) counted)
 
-    -- no two different bodies that came have the same digest
+    -- no two different bodies that count have the same digest
     abbrev pub IsApart : Type 0
-    IsApart = (a b : Coming) → Among (comings e) a → Among (comings e) b
-        → digest a.body ≡ digest b.body → a.body ≡ b.body
+    IsApart = (a b : Coming) → Among counted a → Among counted b → digest a.body ≡ digest b.body
+        → a.body ≡ b.body
 
-    -- the arrivals that are no duplicates of earlier ones
-    abbrev pub first_comings : List Coming
-    first_comings = distinct digest reads (comings e)
-
-    -- this body came in an arrival that is no duplicate, and is the deposit of row r
+    -- this body came in an arrival that counts, and is the deposit of row r
     pub record CameFor (r : ℕ) (body : List ℕ) : Type 0 where
       pub arrival : Coming
-      pub among : Among first_comings arrival
+      pub among : Among counted arrival
       pub holds : holds_by (union e) r arrival ≡ true
       pub is_body : arrival.body ≡ body
 
-    -- this body came in an arrival that is no duplicate, and has this digest
+    -- this body came in an arrival that counts, and has this digest
     pub record CameWith (d body : List ℕ) : Type 0 where
       pub arrival : Coming
-      pub among : Among first_comings arrival
+      pub among : Among counted arrival
       pub digest_is : digest arrival.body ≡ d
       pub is_body : arrival.body ≡ body
 
     -- what is kept, except for the chain and its tables: the rows that are listed, the receipts
     -- that the arrivals leave, the bodies that are held and parked (said only if no two different
     -- bodies have one digest), and the moment that is set. Even if bodies share a digest, each body
-    -- that is held or parked did come, and each row that a receipt says is held has a body
+    -- that is held or parked did come; each row that a receipt says is held has a body; and of each
+    -- body that is held or parked a receipt tells
     pub record AreBooks (k : Kept) : Type 0 where
       pub listed : k.listed ≡ union e
       pub receipts : k.receipts ≡ receipts_of digest reads e
@@ -139,6 +154,8 @@ module _ (digest : List ℕ → List ℕ) (reads : List ℕ → Result DepositVa
       pub came : (r : ℕ) (body : List ℕ) → k.bodies r ≡ Some body → CameFor r body
       pub waits : (d body : List ℕ) → k.parked d ≡ Some body → CameWith d body
       pub told : (r : ℕ) → Any (SaysHeld r) k.receipts → IsSome (k.bodies r)
+      pub held_told : (r : ℕ) → IsSome (k.bodies r) → Any (TellsOf (union e) r) k.receipts
+      pub parked_told : (d : List ℕ) → IsSome (k.parked d) → Any (TellsUnlisted d) k.receipts
 
     -- the store keeps these books, the rows of the latest chain of the rows that have a body up to
     -- the moment that is set, and that chain's tables and before-images

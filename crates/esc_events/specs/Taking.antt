@@ -1,8 +1,9 @@
--- What is known of a new arrival before the store takes it in.
-use Rattle.std.specs.Prelude.{◌≡◌, ℕ, List, None}
+-- What is known of an arrival before the store takes it in.
+use Rattle.std.specs.Prelude.{◌≡◌, false, List, None, Some}
 use Rattle.sha2.specs.Sha256.{sha256}
 use Rattle.esc_tables.specs.Reading.{reading}
-use Rattle.esc_store.specs.ReplyValue.{ReceiptValue, reply_alike}
+use Rattle.esc_store.specs.declared.reply.Verdict.TheVariants.{A2}
+use Rattle.esc_store.specs.ReplyValue.{ReplyValue, ReceiptValue, reply_alike}
 use Rattle.esc_store.specs.Kept.{Kept}
 use Rattle.esc_events.specs.declared.finding.Finding.{Finding}
 use Rattle.esc_events.specs.declared.known.Known.{Known}
@@ -21,5 +22,14 @@ pub record IsNew (e : List EventValue) (a : ArrivalValue) (k : Kept) (found : Fi
   pub none : reply_alike (union e) 1 a.number (sha256 a.body) k.receipts ≡ None
   pub found_is : found ≡ finding sha256 reading (union e) a.body
   pub known_is : IsKnown k known
-  pub receipt_is : receipt
-      ≡ receipt_by a.number (sha256 a.body) found (is_among known.told.items (held_row found))
+  pub receipt_is : receipt ≡ receipt_by a.number (sha256 a.body) false found
+      (is_among known.told.items (held_row found))
+
+-- the store stands for e, this is the reply that was kept for the arrival, it says that no row
+-- listed the body and that it was not kept, and this is found of the body now
+pub record IsAgain (e : List EventValue) (a : ArrivalValue) (k : Kept) (found : Finding)
+    (reply : ReplyValue) : Type 0 where
+  pub stood : StandsFor sha256 reading e k
+  pub kept : reply_alike (union e) 1 a.number (sha256 a.body) k.receipts ≡ Some reply
+  pub verdict : reply.verdict ≡ A2
+  pub found_is : found ≡ finding sha256 reading (union e) a.body

@@ -8,6 +8,10 @@ ghost use Rattle.esc_events.specs.Laws.{
   ParkedBooks,
   HeldBooks,
   RepeatedBooks,
+  KnownAgain,
+  ParkedAgain,
+  HeldAgain,
+  MigratedStands,
   AmendedBodiesAreHeld,
   AmendedBodiesAreParked,
   AmendedBooks,
@@ -20,12 +24,26 @@ ghost use Rattle.esc_events.specs.Laws.{
 };
 
 /// The books after an arrival. A new one adds a receipt, and its body is held or parked if it has
-/// to be; a duplicate of an earlier one changes nothing.
+/// to be; a duplicate of an earlier one changes nothing, unless that one's body was not kept.
 pub fn books_after_an_arrival()
     ensures noted { NotedBooks }
     ensures parked { ParkedBooks }
     ensures held { HeldBooks }
     ensures repeated { RepeatedBooks }
+{}
+
+/// The books after an arrival comes again whose body a store of version 1 didn't keep, since no row
+/// listed it. Its body is held or parked if it has to be; there is no receipt more.
+pub fn books_after_a_lost_one_again()
+    ensures known { KnownAgain }
+    ensures parked { ParkedAgain }
+    ensures held { HeldAgain }
+{}
+
+/// A store of version 1 is one of version 2, with nothing parked and no moment: it stands for its
+/// manifest and for its arrivals as early ones.
+pub fn migrated_store_stands()
+    ensures { MigratedStands }
 {}
 
 /// What is held and parked after an amendment, and the books. A body that is parked under the

@@ -6,30 +6,39 @@
 //! a manifest was taken in (the first one, or an amendment, which adds the rows that aren't listed
 //! yet), an arrival was answered, a moment was set or taken back (`EventValue`, specs/Events.antt).
 //!
+//! A store that was made as one of version 1 has early arrivals besides (`arrived_early`): those
+//! that it took in as such. Version 1 kept no body that no row listed, and answered it with `A2` in
+//! place of `A5`. Such a body is lost: no amendment holds it, and it isn't parked, until it comes
+//! again. A duplicate of an arrival with `A2` has that one's reply, and its body counts as that of
+//! a new arrival does (`counted`, specs/Stands.antt).
+//!
 //! After a list of events
 //!
 //! - the rows that are listed are those of all manifests, in the order in which they were first
 //!   listed (`union`);
 //! - each arrival that is no duplicate of an earlier one (by number and digest) has a receipt with
-//!   the verdict that it got by the rows that were listed when it came: `A5` if none listed its
-//!   body (`receipts_of`). An amendment leaves replies as they were;
-//! - each body that came is judged by all rows that are listed in the end: it is held as that of
-//!   the row whose deposit it is (`held_body`), and parked where no row lists it (`parked_body`);
+//!   the verdict that it got by the rows that were listed when it came: `A5`, or `A2` for an early
+//!   one, if none listed its body (`receipts_of`). An amendment leaves replies as they were;
+//! - each body that came and isn't lost is judged by all rows that are listed in the end: it is
+//!   held as that of the row whose deposit it is (`held_body`), and parked where no row lists it
+//!   (`parked_body`);
 //! - the chain is the latest one of the held rows whose last deposit is not later than the moment
 //!   that is set (`IsChainOf`), and the tables are those of its deposits.
 //!
 //! `StandsFor` says all of this of what a store keeps. The body that is held or parked under one
 //! digest is fixed only if no two different bodies that came have the same digest (`IsApart`); that
-//! what is held did come, and is the row's deposit, holds in any case (`came`, `waits`).
+//! what is held did come, and is the row's deposit, holds in any case (`came`, `waits`), and so
+//! does that a receipt tells of it (`held_told`, `parked_told`).
 //!
 //! # What is promised
 //!
 //! The laws say what one more event makes of a store that stands for a list: its books
-//! ([`books_after_an_arrival`], [`books_after_an_amendment`], [`books_after_a_moment`]), and its
-//! chain, its tables and the work of the move ([`chain_after_an_event`]). For example,
-//! `AmendedBooks` says of an amendment: before the chain moves, all that has to be done is to list
-//! the new rows, to hold the parked bodies that are their deposits, and to drop the other bodies
-//! that are parked for them.
+//! ([`books_after_an_arrival`], [`books_after_a_lost_one_again`], [`books_after_an_amendment`],
+//! [`books_after_a_moment`]), and its chain, its tables and the work of the move
+//! ([`chain_after_an_event`]). For example, `AmendedBooks` says of an amendment: before the chain
+//! moves, all that has to be done is to list the new rows, to hold the parked bodies that are their
+//! deposits, and to drop the other bodies that are parked for them. [`migrated_store_stands`] says
+//! that what a store of version 1 kept stands for its manifest and its arrivals as early ones.
 //!
 //! No code here runs. The contracts of the desk (`esc_desk`) are stated by these definitions.
 #![tactic(auto)]
@@ -44,7 +53,8 @@ mod plan;
 pub use finding::Finding;
 pub use known::Known;
 pub use laws::{
-    books_after_a_moment, books_after_an_amendment, books_after_an_arrival, chain_after_an_event,
+    books_after_a_lost_one_again, books_after_a_moment, books_after_an_amendment,
+    books_after_an_arrival, chain_after_an_event, migrated_store_stands,
 };
 pub use parked::ParkedBody;
 pub use parking::Parking;

@@ -1,6 +1,8 @@
 -- The nine tables of a store of version 2, as their CREATE texts define them.
 use Rattle.std.specs.List.{list_any}
 use Rattle.std.specs.Prelude.{
+  ◌≡◌,
+  ◌⊎◌,
   ℕ,
   Bool,
   true,
@@ -201,7 +203,7 @@ undo_keys = automatic (codes "sqlite_autoindex_undo_1") 12 11 (1 ∷ 2 ∷ 3 ∷
 abbrev pub parked_keys : Index
 parked_keys = automatic (codes "sqlite_autoindex_parked_1") 14 13 (1 ∷ [])
 
--- the schema of a store
+-- the schema of a store of version 2
 abbrev pub store_schema : Schema
 store_schema = record {
   tables = info_table ∷ listed_table ∷ receipt_table ∷ held_table ∷ step_table ∷ object_table
@@ -217,6 +219,14 @@ schema_of count =
     let tables = take count store_schema.tables in
     let is_among : Index → Bool = λ i. list_any (λ (t : Table). t.tree == i.table) tables in
     record { tables = tables; indexes = filter is_among store_schema.indexes; views = [] }
+
+-- the schema of a store of version 1
+abbrev pub first_schema : Schema
+first_schema = schema_of 7
+
+-- the schema of a store, of version 2 or 1
+abbrev pub IsOfSomeVersion : Schema → Type 0
+IsOfSomeVersion schema = (schema ≡ store_schema) ⊎ (schema ≡ first_schema)
 
 -- the schema before the first CREATE
 abbrev pub no_schema : Schema

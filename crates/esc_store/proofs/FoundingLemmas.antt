@@ -13,7 +13,7 @@ use Rattle.esc_rows.specs.ContentIs.{content_is}
 use Rattle.esc_rows.specs.Creation.{MakesStore}
 use Rattle.esc_rows.specs.Creation.{fresh as fresh_rows}
 use Rattle.esc_apply.specs.Registry.{empty}
-use Rattle.esc_store.specs.Kept.{fresh}
+use Rattle.esc_store.specs.Kept.{Kept, fresh}
 use Rattle.esc_store.specs.TypedRows.{IsBooks, IsRegistry, listed_from}
 use Rattle.esc_store.specs.Tables.{IsStore, IsStoreDatabase}
 use Rattle.esc_store.specs.Standing.{RestsAt}
@@ -42,23 +42,24 @@ fresh_database db m holds =
 pub made_fresh : (old new : Database) (rows : List ListedRow) (m : List MRow) → rows ≡ listed_from 0 m → old.schema ≡ no_schema → MakesStore rows old new → IsStoreDatabase new (fresh m)
 made_fresh old new rows m is blank makes = fresh_database new m (subst (λ rs. MakesStore rs old new) is makes blank (listed_rise 0 m))
 
-module _ (start mid new : State) (m : List MRow) (first : Survives start mid (λ _. ⊥)) (built : HasCleanDisk mid → IsStoreDatabase mid.now (fresh m)) where
-  whole_trees : HasCleanDisk mid → IsStore mid.now.trees (fresh m)
+-- a store that was made within a transaction, and is committed
+module _ (start mid new : State) (k : Kept) (first : Survives start mid (λ _. ⊥)) (built : HasCleanDisk mid → IsStoreDatabase mid.now k) where
+  whole_trees : HasCleanDisk mid → IsStore mid.now.trees k
   unfolding IsStore
   whole_trees clean = (built clean).kept
 
-  pub founded_survives : Survives mid new (λ trees. trees ≡ mid.now.trees) → Survives start new (λ trees. IsStore trees (fresh m))
-  founded_survives second = survives_then start mid new (λ _. ⊥) (λ trees. IsStore trees (fresh m)) (λ trees. IsStore trees (fresh m)) (λ _ db none. absurd none) (λ _ db is. is) first
-      (survives_weaker mid new (λ trees. trees ≡ mid.now.trees) (λ trees. IsStore trees (fresh m)) (λ clean trees is. subst (λ t. IsStore t (fresh m)) (sym is) (whole_trees (was_clean mid new (λ trees. trees ≡ mid.now.trees) second clean))) second)
+  pub founded_survives : Survives mid new (λ trees. trees ≡ mid.now.trees) → Survives start new (λ trees. IsStore trees k)
+  founded_survives second = survives_then start mid new (λ _. ⊥) (λ trees. IsStore trees k) (λ trees. IsStore trees k) (λ _ db none. absurd none) (λ _ db is. is) first
+      (survives_weaker mid new (λ trees. trees ≡ mid.now.trees) (λ trees. IsStore trees k) (λ clean trees is. subst (λ t. IsStore t k) (sym is) (whole_trees (was_clean mid new (λ trees. trees ≡ mid.now.trees) second clean))) second)
 
-  pub founded_rests : Survives mid new (λ trees. trees ≡ mid.now.trees) → (HasCleanDisk new → Shows mid new mid.now mid.now false) → RestsAt new (fresh m)
+  pub founded_rests : Survives mid new (λ trees. trees ≡ mid.now.trees) → (HasCleanDisk new → Shows mid new mid.now mid.now false) → RestsAt new k
   founded_rests second shown clean up = record {
-    kept = subst (λ db. IsStoreDatabase db (fresh m)) (sym (shown clean).committed_is) (built (was_clean mid new (λ trees. trees ≡ mid.now.trees) second clean));
+    kept = subst (λ db. IsStoreDatabase db k) (sym (shown clean).committed_is) (built (was_clean mid new (λ trees. trees ≡ mid.now.trees) second clean));
     same = (shown clean).now_is ∙ sym (shown clean).committed_is;
     autocommit = (shown clean).mode;
   }
 
   pub founded_left : Survives mid new (λ trees. trees ≡ mid.now.trees) → (HasCleanDisk new → Shows mid new mid.now mid.now false) → (IsTrue new.is_open → (trees : Trees) → new.may_leave trees → trees ≡ new.committed.trees)
-      → HasCleanDisk new → (trees : Trees) → new.may_leave trees → IsStore trees (fresh m)
+      → HasCleanDisk new → (trees : Trees) → new.may_leave trees → IsStore trees k
   founded_left second shown only clean trees may =
-      subst (λ t. IsStore t (fresh m)) (sym (only (shown clean).is_open trees may ∙ ap (λ (db : Database). db.trees) (shown clean).committed_is)) (whole_trees (was_clean mid new (λ trees. trees ≡ mid.now.trees) second clean))
+      subst (λ t. IsStore t k) (sym (only (shown clean).is_open trees may ∙ ap (λ (db : Database). db.trees) (shown clean).committed_is)) (whole_trees (was_clean mid new (λ trees. trees ≡ mid.now.trees) second clean))

@@ -7,6 +7,7 @@ pub mod Gathering
 pub mod FoundingLemmas
 pub mod Looking
 pub mod Manifests
+pub mod MigratingLemmas
 pub mod OpeningLemmas
 pub mod Parts
 pub mod Reading

@@ -1,5 +1,5 @@
 -- Databases that are found to be a store, or none.
-use Rattle.std.proofs.Common.{◌≡◌, ◌≤◌, Bool, true, false, not, List, [], ◌∷◌, length, slice_get, Option, Some, None, option_map, refl, sym, ap, subst, ◌∙◌, arith}
+use Rattle.std.proofs.Common.{◌≡◌, ◌≤◌, inl, Bool, true, false, not, List, [], ◌∷◌, length, slice_get, Option, Some, None, option_map, refl, sym, ap, subst, ◌∙◌, arith}
 use Rattle.std.specs.Prelude.{IsTrue, ℤ, pos}
 use Rattle.sqlite_value.specs.declared.value.Value.TheVariants.{Int}
 use Rattle.sqlite_value.specs.Order.{Row, column}
@@ -24,7 +24,7 @@ tables_refused s has k found same lacks up stored =
     let yes = (found up (content_in s.now.trees) (subst (λ (db : Database). HasTables db.trees (content_in db.trees)) (sym same) stored.tables)).0 in
     let none : ⊥ = cc in none
 
-int_is : (version : Option ℤ) (n : ℤ) → option_map Int version ≡ Some (Int n) → version ≡ Some n
+pub int_is : (version : Option ℤ) (n : ℤ) → option_map Int version ≡ Some (Int n) → version ≡ Some n
 int_is None n is = let no : ⊥ = cc in absurd no
 int_is (Some v) n is = let e : v ≡ n = cc in ap Some e
 
@@ -34,7 +34,7 @@ unfolding IsStore
 version_told s version k same schema tells stored =
     let info : s.now.trees info_tree ≡ info_row ∷ [] = ap (λ (db : Database). db.trees info_tree) same ∙ stored.tables.rows.info in
     let one : length (s.now.trees info_tree) ≤ 1 = subst (λ (rows : List Row). length rows ≤ 1) (sym info) (omega arith) in
-    int_is version (pos 2) (tells schema one ∙ ap (λ (rows : List Row). option_map (λ (r : Row). column r 2) (slice_get rows 0)) info)
+    int_is version (pos 2) (tells (inl schema) one ∙ ap (λ (rows : List Row). option_map (λ (r : Row). column r 2) (slice_get rows 0)) info)
 
 pub is_off : (b on : Bool) → b ≡ not on → IsTrue b → on ≡ false
 is_off b false e t = refl

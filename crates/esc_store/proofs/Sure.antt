@@ -58,6 +58,10 @@ module _ {S X E : Type 0} {g : Ghosts S} {old new : Store S} {P : Content → X 
   unfolding Stands
   told_of {x} it honest k stands = told (state g old.conn) (state g new.conn) P (Ok x) it.look old.manifest k x refl honest stands
 
+-- a read gave back what was written only where that was so before
+pub was_honest : {S : Type 0} (g : Ghosts S) (old new : Store S) → IsAsBefore g old new → IsHonest g new → IsHonest g old
+was_honest g old new same clean = was_clean (state g old.conn) (state g new.conn) (λ trees. ⊥) same.survives clean
+
 pub told_at : {S X E : Type 0} {g : Ghosts S} {old new : Store S} {P : Content → X → Type 0} (r : Result X E) (x : X) → r ≡ Ok x → IsStoreRead g old new P r → IsHonest g new → (k : Kept) → Stands g old k → IsTold k (λ c. P c x)
 told_at {S} {X} {E} {g} {old} {new} {P} r x is it = told_of {E = E} (subst (IsStoreRead g old new P) is it)
 

@@ -16,7 +16,7 @@ use Rattle.std.specs.Prelude.{
   option_map,
   ◌↔◌,
 }
-use Rattle.std.specs.List.{Contains}
+use Rattle.std.specs.List.{Contains, Any}
 use Rattle.std.specs.Map.{lookup}
 use Rattle.sqlite_trees.specs.Tree.{IsAscending}
 use Rattle.esc_envelope.specs.declared.kind.Kind.{Kind}
@@ -37,7 +37,8 @@ use Rattle.esc_rows.specs.Rows.{ObjectRow}
 use Rattle.esc_rows.specs.Content.{is_object_at}
 use Rattle.esc_rows.specs.Changes.{ObjectEntry, ImageEntry, entry_at, image_entry_at}
 use Rattle.esc_store.specs.Kept.{IsRising}
-use Rattle.esc_store.specs.TypedRows.{image_kept}
+use Rattle.esc_store.specs.ReplyValue.{ReceiptValue}
+use Rattle.esc_store.specs.TypedRows.{image_kept, verdict_number}
 
 -- an object stands at just the keys of the rows, and its record is the row's
 abbrev pub AreObjectsOf : List ObjectEntry → List (KeyName × ObjectValue) → Type 0
@@ -65,6 +66,15 @@ HaveOwnKeys = IsAscending (λ a b. is_object_at b.kind b.key a ≡ false)
 pub record AreOnce (numbers rows : List ℕ) : Type 0 where
   pub rising : IsRising rows
   pub each : (n : ℕ) → Contains rows n ↔ Contains numbers n
+
+-- a receipt is of the verdict with this number, and its body has this digest
+abbrev pub IsOfVerdict : ℕ → List ℕ → ReceiptValue → Type 0
+IsOfVerdict verdict digest r = (verdict_number r.verdict ≡ verdict) × (r.digest ≡ digest)
+
+-- the digests of the receipts of a verdict, in any order
+abbrev pub AreOfVerdict : ℕ → List ReceiptValue → List (List ℕ) → Type 0
+AreOfVerdict verdict receipts digests =
+    (digest : List ℕ) → Contains digests digest ↔ Any (IsOfVerdict verdict digest) receipts
 
 -- how often the number of a kind stands among these
 abbrev pub times : Kind → List ℕ → ℕ

@@ -20,7 +20,6 @@ use Rattle.std.specs.Prelude.{
   IsSome,
   ◌↔◌,
   bytes_eq,
-  filter,
   Bool,
   true,
   false,
@@ -163,18 +162,23 @@ pub record AreHeldBy (receipts : List ReceiptValue) (rows : List ℕ) : Type 0 w
   pub rising : IsRising rows
   pub each : (row : ℕ) → Contains rows row ↔ Any (SaysHeld row) receipts
 
--- the verdict of a body that no row listed, and that was parked
+-- a verdict of a body that no row listed: version 1 did not keep it (A2), and this version parked
+-- it (A5)
 abbrev pub is_unlisted : Verdict → Bool
 is_unlisted A1 = false
-is_unlisted A2 = false
+is_unlisted A2 = true
 is_unlisted (A3 n) = false
 is_unlisted A4 = false
 is_unlisted A5 = true
 
--- the digests of the receipts of this verdict, in their order, each as often as they have it
-abbrev pub unlisted_in : List ReceiptValue → List (List ℕ)
-unlisted_in rs = map (λ (r : ReceiptValue). r.digest)
-    (filter (λ (r : ReceiptValue). is_unlisted r.verdict) rs)
+-- a receipt says that no row listed a body of this digest
+abbrev pub TellsUnlisted : List ℕ → ReceiptValue → Type 0
+TellsUnlisted digest r = (is_unlisted r.verdict ≡ true) × (r.digest ≡ digest)
+
+-- these are the digests of which one of the receipts says so, in any order
+abbrev pub AreUnlisted : List ReceiptValue → List (List ℕ) → Type 0
+AreUnlisted receipts digests =
+    (digest : List ℕ) → Contains digests digest ↔ Any (TellsUnlisted digest) receipts
 
 -- the objects of one kind
 abbrev pub of_kind : Kind → Content → Content

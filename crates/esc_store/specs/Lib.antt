@@ -1,5 +1,6 @@
 pub mod Decoded
 pub mod Faults
+pub mod FirstVersion
 pub mod Kept
 pub mod Opening
 pub mod Pages

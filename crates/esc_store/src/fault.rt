@@ -16,7 +16,8 @@ pub enum SFault {
     S1,
     /// Memory was refused, or the database wanted memory.
     S2,
-    /// `create`: the database isn't empty. `open`: it is no store of this version.
+    /// `create`: the database isn't empty. `open`: it is no store of this version. `migrate`: it is
+    /// no store of version 1.
     S3,
     /// The store has 1,000,000,000 receipts.
     S4,

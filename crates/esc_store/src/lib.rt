@@ -17,6 +17,7 @@
 //! | Module | What it has |
 //! |---|---|
 //! | `store`, `founding`, `opening` | a store, how it is made, and how one is found |
+//! | `migrating` | a store of version 1, which becomes one of this version |
 //! | `reads` | what a store answers of itself |
 //! | `change`, `books`, `registry`, `records` | a change: its receipt, body and chain, and its objects |
 //! | `parked`, `moment` | parked bodies and the moment: what a store returns, and parts of a change |
@@ -52,9 +53,9 @@
 //!   `commit` turns both into `Stands`; at `Err`, and where a change is dropped, the store stands
 //!   for what it stood for.
 //! - What a crash leaves is in `LeavesOnly`, `LeavesOr` and `LeavesNoMore`.
-//! - Each clause `cause` says which faults a call returns: `S3` comes of `create` and `open` alone,
-//!   and `S4` of `record_receipt` alone, where the store has 1,000,000,000 receipts. No call of the
-//!   store returns `S5`, and `park` parks any number of bodies.
+//! - Each clause `cause` says which faults a call returns: `S3` comes of `create`, `open` and
+//!   `migrate` alone, and `S4` of `record_receipt` alone, where the store has 1,000,000,000
+//!   receipts. No call of the store returns `S5`, and `park` parks any number of bodies.
 #![tactic(auto, using(sqlite::proofs::StateLemmas::survives_weaker, sqlite::proofs::StateLemmas::survives_then))]
 
 mod books;
@@ -65,6 +66,7 @@ mod fault;
 mod form;
 mod founding;
 mod listing;
+mod migrating;
 mod moment;
 mod numbers;
 mod opening;

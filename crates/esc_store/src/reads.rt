@@ -9,9 +9,11 @@ ghost use Rattle.esc_store.specs.Kept.{
   kept_reply,
   kept_chain,
   AreHeldBy,
-  unlisted_in,
+  AreUnlisted,
   AreCounts,
 };
+ghost use Rattle.esc_store.specs.Decoded.{AreOfVerdict};
+ghost use Rattle.esc_store.specs.TypedRows.{verdict_number};
 ghost use Rattle.esc_store.specs.Pages.{IsPage};
 ghost use Rattle.esc_store.specs.Standing.{Stands, IsHonest, IsAsBefore};
 
@@ -100,17 +102,36 @@ impl<S: Alter> Store<S> {
         distinct_indices_of(alloc, rows.as_slice())
     }
 
-    /// The digests of the bodies of which a receipt says that no row listed them and that they are
-    /// parked (`A5`), in the order of receipts, with repeats. No body is read. `S1`, `S2`.
+    // The digests of the receipts of a verdict, with repeats.
     #[tactic(auto, using(crate::proofs::Sure::as_before))]
+    fn digests_of_verdict(
+        &mut self,
+        alloc: Global,
+        verdict: Verdict,
+    ) -> Result<Vec<[u8; 32]>, SFault>
+        ensures same { IsAsBefore S.Store self.old self.new }
+        ensures digests { IsHonest S.Store self.new → (k : Kept) → Stands S.Store self.old k
+            → IfOk result
+            (λ digests. AreOfVerdict (verdict_number verdict) k.receipts digests.items) }
+        ensures cause { IfErr result IsS1OrS2 }
+    {
+        let stored = self.verdict_digests_here(alloc, verdict_number(verdict))?;
+        digests_of(alloc, stored.as_slice())
+    }
+
+    /// The digests of the bodies of which a receipt says that no row listed them (`A2` of version
+    /// 1, which did not keep them, and `A5` of this one, which parked them), with repeats, in any
+    /// order. No body is read. `S1`, `S2`.
     pub fn unlisted_digests(&mut self, alloc: Global) -> Result<Vec<[u8; 32]>, SFault>
         ensures same { IsAsBefore S.Store self.old self.new }
         ensures digests { IsHonest S.Store self.new → (k : Kept) → Stands S.Store self.old k
-            → IfOk result (λ digests. digests.items ≡ unlisted_in k.receipts) }
+            → IfOk result (λ digests. AreUnlisted k.receipts digests.items) }
         ensures cause { IfErr result IsS1OrS2 }
     {
-        let stored = self.verdict_digests_here(alloc, verdict_number(Verdict::A5))?;
-        digests_of(alloc, stored.as_slice())
+        let mut digests = self.digests_of_verdict(alloc, Verdict::A2)?;
+        let parked = self.digests_of_verdict(alloc, Verdict::A5)?;
+        digests.extend_from_slice(parked.as_slice())?;
+        Ok(digests)
     }
 
     /// The steps of the chain, in order. `S1`, `S2`.

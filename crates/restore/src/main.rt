@@ -4,6 +4,8 @@
 //!   prints `listed N`.
 //! - `restore amend --store FILE --manifest FILE` lists the rows of one more manifest; prints
 //!   `added N`.
+//! - `restore migrate --store FILE` makes a store of version 1 one of this version; prints
+//!   `migrated`.
 //! - `restore as-of --store FILE MOMENT` rebuilds the registry as of a moment (a watermark, or
 //!   `latest`); prints where the chain ends.
 //! - `restore take --store FILE DIR` takes every plain file of DIR in byte order of names, the name
@@ -22,11 +24,11 @@
 //! Refusals go to standard error, one a line: `E1 PATH` for a file or folder that can't be read,
 //! listed or written, `E2 NAME` for a file over 16,777,216 bytes, `E3 MOMENT` for a word that is no
 //! moment, `N1 NAME` for a name that is no number, `M12 row 2` for a manifest's fault, `S1` to `S5`
-//! of the store, `S3` also where there is no store FILE. A control character in a path or a name is
-//! escaped. Faults are found in this order: the words, the moment, the manifest, the store, the
-//! folder, then file by file. The status is 0 where all went well; 1 for a manifest's fault or E3,
-//! or where `take` met N1, E2 or a verdict other than A1, and went on; 2 for other words; 3 for S1
-//! to S5 and E1, where it stops.
+//! of the store, `S3` also where there is no store FILE, and of a store of version 1 to every
+//! command but `migrate`. A control character in a path or a name is escaped. Faults are found in
+//! this order: the words, the moment, the manifest, the store, the folder, then file by file. The
+//! status is 0 where all went well; 1 for a manifest's fault or E3, or where `take` met N1, E2 or a
+//! verdict other than A1, and went on; 2 for other words; 3 for S1 to S5 and E1, where it stops.
 #![tactic(auto)]
 
 use esc_commands::{NO_MEMORY, Stop, run_words, tell_no_text, tell_stop};

@@ -3,6 +3,7 @@
 mod chains;
 mod database;
 mod listing;
+mod migrating;
 mod parking;
 mod receipts;
 mod store;

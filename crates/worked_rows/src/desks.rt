@@ -51,6 +51,14 @@ pub fn open<S: Alter + Drop>(alloc: Global, conn: Connection<S>) -> Result<Desk<
     }
 }
 
+/// The desk over the store that a version 1 store of a database becomes.
+pub fn migrate<S: Alter + Drop>(alloc: Global, conn: Connection<S>) -> Result<Desk<S>, Fail> {
+    match Store::migrate(alloc, conn) {
+        Ok(store) => Ok(Desk::open(store)),
+        Err((fault, _)) => Err(Fail::new(fault)),
+    }
+}
+
 /// A desk's connection.
 pub fn close<S: Alter + Drop>(desk: Desk<S>) -> Connection<S> {
     desk.into_store().into_connection()

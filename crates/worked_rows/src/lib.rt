@@ -6,8 +6,10 @@
 //! | `bodies` | the bodies, and the manifests that list them |
 //! | `rows` | the rows |
 //! | `desks` | desks over databases, and what arrives at them |
+//! | `first` | stores of version 1 |
 //! | `seen` | what is seen of a desk, and what a row says of it |
 //! | `shown` | replies, objects and numbers as texts |
+//! | `tables` | the rows of a store's tables as texts |
 //!
 //! What is seen of a desk is put into texts, and a test compares texts. The functions that call a
 //! desk have no clause, so that the proof of a function that calls them need not carry what each
@@ -25,6 +27,8 @@
 
 pub mod bodies;
 pub mod desks;
+pub mod first;
 pub mod rows;
 pub mod seen;
 pub mod shown;
+pub mod tables;

@@ -5,7 +5,7 @@ use esc_commands::run_words;
 use std::test::Fail;
 
 /// Words that are no command. No file is looked at for them: there is neither store nor manifest.
-const OTHER_WORDS: [&str; 36] = [
+const OTHER_WORDS: [&str; 39] = [
     "",
     "desk",
     "version",
@@ -17,6 +17,9 @@ const OTHER_WORDS: [&str; 36] = [
     "init --store e.db --manifest",
     "init --store e.db --manifest absent.csv absent.csv",
     "init --store e.db --store f.db --manifest absent.csv",
+    "migrate",
+    "migrate desk.db",
+    "migrate --store e.db --manifest absent.csv",
     "take",
     "take deposits",
     "take --store e.db",
@@ -58,7 +61,7 @@ fn other_words_are_refused(rt: HostRuntime) -> Result<(), Fail> {
 }
 
 /// Words that ask for help or the version, and what is told among others.
-const HELP: [(&str, &str); 12] = [
+const HELP: [(&str, &str); 13] = [
     ("--version", "restore 1 (store version 2)\n"),
     ("-V", "restore 1 (store version 2)\n"),
     ("--help", "-V, --version"),
@@ -67,6 +70,7 @@ const HELP: [(&str, &str); 12] = [
     ("help", "Status: 0 done"),
     ("init --help", "--manifest <FILE>"),
     ("take --help", "<DIR>"),
+    ("migrate --help", "cp desk.db-wal desk-before.db-wal"),
     ("serve --help", "--count <N>"),
     (
         "help serve",

@@ -13,17 +13,18 @@ F1,FULL,2024-03-03T00:00:00Z,,0,000000000000000000000000000000000000000000000000
 ";
 
 // Receipts: the sender's number, the byte that the digest repeats, and the verdict; then the bytes
-// of the digests that are given after it.
-const RECEIPTS: [(&str, u8, Verdict, &str); 9] = [
-    ("1", 7, Verdict::A2, ""),
-    ("2", 9, Verdict::A5, " 9"),
-    ("3", 1, Verdict::A1, " 9"),
-    ("4", 3, Verdict::A5, " 9 3"),
-    ("5", 9, Verdict::A5, " 9 3 9"),
-    ("6", 3, Verdict::A4, " 9 3 9"),
-    ("7", 5, Verdict::A3(5), " 9 3 9"),
-    ("8", 9, Verdict::A1, " 9 3 9"),
-    ("9", 0, Verdict::A5, " 9 3 9 0"),
+// of the digests that are given after it: those of A2, then those of A5.
+const RECEIPTS: [(&str, u8, Verdict, &str); 10] = [
+    ("1", 7, Verdict::A2, " 7"),
+    ("2", 9, Verdict::A5, " 7 9"),
+    ("3", 1, Verdict::A1, " 7 9"),
+    ("4", 3, Verdict::A5, " 7 9 3"),
+    ("5", 9, Verdict::A5, " 7 9 3 9"),
+    ("6", 3, Verdict::A4, " 7 9 3 9"),
+    ("7", 5, Verdict::A3(5), " 7 9 3 9"),
+    ("8", 9, Verdict::A1, " 7 9 3 9"),
+    ("9", 0, Verdict::A5, " 7 9 3 9 0"),
+    ("10", 4, Verdict::A2, " 7 4 9 3 9 0"),
 ];
 
 fn record<S: Alter>(store: &mut Store<S>, receipt: &Receipt<'_>) -> Result<(), SFault> {

@@ -1,4 +1,4 @@
-use Rattle.std.proofs.Common.{rules, ◌≡◌, ◌<◌, ℕ, ◌+◌, Bool, List, length, Some, None, IfSome, sym, ap, ap₂, subst, ◌∙◌, arith}
+use Rattle.std.proofs.Common.{rules, ◌≡◌, ◌<◌, ℕ, ◌+◌, Bool, false, List, length, Some, None, IfSome, sym, ap, ap₂, subst, ◌∙◌, arith}
 use Rattle.sha2.specs.Sha256.{sha256}
 use Rattle.esc_tables.specs.Reading.{reading}
 use Rattle.esc_manifest.specs.declared.row.MRow.{MRow}
@@ -28,7 +28,7 @@ reply_of-requires g c =
     let m = c.manifest.result.now in
     let rows : c.rows.result.now ≡ m = c.rows.ensures.rows ∙ c.manifest-2.ensures.manifest ∙ sym c.manifest.ensures.manifest in
     subst (λ (x : List MRow). IfSome c.receipt_by-receipt.result.row (λ r. r < length x)) (sym rows)
-    (subst (λ (x : ReceiptValue). IfSome x.row (λ r. r < length m)) (sym (c.receipt_by-receipt.ensures ∙ ap (λ (f : Finding). receipt_by c.args.number.now c.args.digest f c.is_among-again.result) c.in_ok-found.ensures.found))
+    (subst (λ (x : ReceiptValue). IfSome x.row (λ r. r < length m)) (sym (c.receipt_by-receipt.ensures ∙ ap (λ (f : Finding). receipt_by c.args.number.now c.args.digest false f c.is_among-again.result) c.in_ok-found.ensures.found))
     (row_within m c.args.body.now c.args.number.now c.args.digest c.is_among-again.result))
 
 pub returns-in_err-reply-clause-crash : goal.returns-in_err-reply-clause-crash
@@ -47,7 +47,7 @@ returns-in_err-kept-clause-crash g c = λ clean e k stood stands known none.
       none = subst (λ (d : List ℕ). reply_alike (union e) 1 a.number d k.receipts ≡ None) c.requires none;
       found_is = c.in_ok-found.ensures.found ∙ ap (λ (x : List MRow). finding sha256 reading x a.body) listed;
       known_is = known;
-      receipt_is = c.receipt_by-receipt.ensures ∙ ap₂ (λ (d : List ℕ) (b : Bool). receipt_by a.number d found b) c.requires again;
+      receipt_is = c.receipt_by-receipt.ensures ∙ ap₂ (λ (d : List ℕ) (b : Bool). receipt_by a.number d false found b) c.requires again;
     } in
     adds_as g.S.Store _ _ _ _ _ (λ h. not_full_by _ c.in_err-kept.field-0.0 (search rules) h) (c.in_err-kept.ensures.crash clean e c.args.number.now k stood is)
 
@@ -58,7 +58,7 @@ returns-in_err-kept-clause-cause g c =
     let m = c.manifest.result.now in
     let listed : m ≡ k.listed = c.manifest.ensures.kept k stood in
     let none : row_of m (sha256 c.args.body.now) ≡ None = unlisted_row m (row_of m (sha256 c.args.body.now)) (reading c.args.body.now) (sym c.in_ok-found.ensures.found ∙ unlisted) in
-    let digest : c.receipt_by-receipt.result.digest ≡ c.args.digest = ap (λ (r : ReceiptValue). r.digest) (c.receipt_by-receipt.ensures ∙ ap (λ (f : Finding). receipt_by c.args.number.now c.args.digest f c.is_among-again.result) unlisted) in
+    let digest : c.receipt_by-receipt.result.digest ≡ c.args.digest = ap (λ (r : ReceiptValue). r.digest) (c.receipt_by-receipt.ensures ∙ ap (λ (f : Finding). receipt_by c.args.number.now c.args.digest false f c.is_among-again.result) unlisted) in
     let at = crowded clean k stood in
     record {
       unlisted = ap₂ row_of (sym listed) c.requires ∙ none;
@@ -79,7 +79,7 @@ returns-clause-answered g c = λ clean e k stood stands known none.
       none = subst (λ (d : List ℕ). reply_alike (union e) 1 a.number d k.receipts ≡ None) c.requires none;
       found_is = c.in_ok-found.ensures.found ∙ ap (λ (x : List MRow). finding sha256 reading x a.body) listed;
       known_is = known;
-      receipt_is = c.receipt_by-receipt.ensures ∙ ap₂ (λ (d : List ℕ) (b : Bool). receipt_by a.number d found b) c.requires again;
+      receipt_is = c.receipt_by-receipt.ensures ∙ ap₂ (λ (d : List ℕ) (b : Bool). receipt_by a.number d false found b) c.requires again;
     } in
     let number = c.in_ok-kept.kept.0 in
     let count : 1 + length k.receipts ≡ number = omega (arith, c.in_ok-kept.ensures.numbered clean k stood) in
@@ -104,6 +104,6 @@ returns-clause-crash g c = λ clean e k stood stands known none.
       none = subst (λ (d : List ℕ). reply_alike (union e) 1 a.number d k.receipts ≡ None) c.requires none;
       found_is = c.in_ok-found.ensures.found ∙ ap (λ (x : List MRow). finding sha256 reading x a.body) listed;
       known_is = known;
-      receipt_is = c.receipt_by-receipt.ensures ∙ ap₂ (λ (d : List ℕ) (b : Bool). receipt_by a.number d found b) c.requires again;
+      receipt_is = c.receipt_by-receipt.ensures ∙ ap₂ (λ (d : List ℕ) (b : Bool). receipt_by a.number d false found b) c.requires again;
     } in
     adds_as g.S.Store _ _ _ _ _ (λ h. tt) (c.in_ok-kept.ensures.crash clean e c.args.number.now k stood is)

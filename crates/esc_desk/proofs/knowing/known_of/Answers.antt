@@ -1,6 +1,4 @@
 use Rattle.std.proofs.Common.{List, ℕ, sym, subst}
-use Rattle.sha2.specs.Sha256.{sha256}
-use Rattle.esc_tables.specs.Reading.{reading}
 use Rattle.esc_store.specs.Kept.{AreHeldBy, IsRising}
 use Rattle.esc_desk.specs.Knowing.{AreFound}
 use Rattle.esc_desk.proofs.FoundRows.{held_of_found}
@@ -16,7 +14,7 @@ returns-clause-known g c = λ clean e k stood for.
     let digests = c.in_ok-digests.ensures.digests by_digests k then in
     let found = c.in_ok-held.ensures.found clean k (c.unlisted_digests.ensures.same.stands k then) (subst IsRising (sym c.deref.ensures.value) told.rising) in
     record {
-      held = held_of_found sha256 reading e k for.books c.in_ok-told.told.items c.in_ok-digests.digests.items c.in_ok-held.held.items told digests
+      held = held_of_found e k for.books c.in_ok-digests.digests.items digests c.in_ok-told.told.items c.in_ok-held.held.items told
           (subst (λ (ds : List (List ℕ)). AreFound k c.in_ok-told.told.items ds c.in_ok-held.held.items) c.deref-2.ensures.value
           (subst (λ (rs : List ℕ). AreFound k rs c.deref-2.result.now c.in_ok-held.held.items) c.deref.ensures.value found));
       told = told;

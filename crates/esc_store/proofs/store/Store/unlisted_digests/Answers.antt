@@ -1,13 +1,12 @@
-use Rattle.std.proofs.Common.{◌≡◌, ◌∙◌, List, ℕ, map, subst, ap}
-use Rattle.esc_rows.specs.Changes.{verdict_digests}
-use Rattle.esc_store.proofs.Reading.{if_goes}
-use Rattle.esc_store.proofs.Sure.{told_of}
-use Rattle.esc_store.proofs.Unlisted.{unlisted_rows}
+use Rattle.std.proofs.Common.{◌∙◌, ◌++◌, List, ℕ, ap}
+use Rattle.esc_store.proofs.Sure.{was_honest}
+use Rattle.esc_store.proofs.Unlisted.{are_unlisted}
 use Rattle.esc_store.proofs.store.Store.unlisted_digests.Goals as goal
 
 pub returns-clause-digests : goal.returns-clause-digests
-returns-clause-digests g c = λ honest k stands. if_goes c.digests_of.result _ _ c.digests_of.ensures.digests (λ digests same.
-    let told = told_of c.in_ok-stored.ensures.read honest k stands in
-    let stored : List (List ℕ) = map (λ d. d.items) c.in_ok-stored.stored.items in
-    let says = subst (λ v. stored ≡ verdict_digests v told.content.receipts) c.verdict_number.ensures told.says in
-    same ∙ ap (map (λ d. d.items)) c.as_slice.ensures.value ∙ says ∙ ap (verdict_digests 5) told.books.receipts ∙ unlisted_rows 1 k.receipts)
+returns-clause-digests g c = λ honest k stands.
+    let mid = c.digests_of_verdict.new.self in
+    let clean = was_honest g.S.Store mid c.digests_of_verdict-2.new.self c.digests_of_verdict-2.ensures.same honest in
+    let firsts : List (List ℕ) = c.in_ok-digests.digests.items in
+    are_unlisted k.receipts firsts c.in_ok-parked.parked.items _ (c.in_ok-digests.ensures.digests clean k stands) (c.in_ok-parked.ensures.digests honest k (c.digests_of_verdict.ensures.same.stands k stands))
+    (c.in_ok-extend_from_slice.ensures.items ∙ ap (λ ds. firsts ++ ds) c.as_slice.ensures.value)

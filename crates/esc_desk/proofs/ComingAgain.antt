@@ -1,0 +1,263 @@
+-- An arrival that comes again after it was answered A2: its body is there or needn't be, or it is taken in.
+use Rattle.std.proofs.Common.{◌≡◌, ◌⊎◌, inl, inr, ℕ, ℤ, Bool, true, false, cond, ◌==◌, List, [], ◌∷◌, ◌++◌, Option, Some, None, IsSome, IfSome, is_some, Result, Ok, Err, IfOk, refl, sym, ap, subst, ◌∙◌, append-nil, true≢false}
+use Rattle.std.specs.Prelude.{OnOk}
+use Rattle.std.specs.List.{list_any}
+use Rattle.std.specs.Str.{bytes_eq}
+use Rattle.std.specs.FinSet as set
+use Rattle.std.specs.Cmp.Lexicographic.{bytes_decides}
+use Rattle.sha2.specs.Sha256.{sha256}
+use Rattle.sqlite_trees.specs.declared.store.Store.{Ghosts}
+use Rattle.sqlite.specs.Held.{Held, state}
+use Rattle.sqlite.specs.State.{Survives}
+use Rattle.esc_tables.specs.DepositValue.{DepositValue}
+use Rattle.esc_tables.specs.Reading.{reading}
+use Rattle.esc_manifest.specs.declared.row.MRow.{MRow}
+use Rattle.esc_chain.specs.Chain.{Rows}
+use Rattle.esc_apply.specs.declared.moves.Work.{Work}
+use Rattle.esc_store.specs.declared.fault.SFault.{SFault}
+use Rattle.esc_store.specs.declared.reply.Verdict.{Verdict}
+use Rattle.esc_store.specs.declared.reply.Verdict.TheVariants.{A1, A2, A3, A4, A5}
+use Rattle.esc_store.specs.declared.store.Store.{Store}
+use Rattle.esc_store.specs.Kept.{Kept, AreHeld, body_put, with_body, with_parked}
+use Rattle.esc_store.specs.ReplyValue.{ReplyValue, ReceiptValue, reply_alike}
+use Rattle.esc_store.specs.Standing.{Stands}
+use Rattle.esc_events.specs.declared.finding.Finding.{Finding}
+use Rattle.esc_events.specs.declared.finding.Finding.TheVariants.{Unlisted, Unreadable, Differing, Holding}
+use Rattle.esc_events.specs.declared.known.Known.{Known}
+use Rattle.esc_events.specs.declared.plan.Plan.{Plan}
+use Rattle.esc_events.specs.Apart.{WhereApart}
+use Rattle.esc_events.specs.ArrivalValue.{ArrivalValue, an_arrival}
+use Rattle.esc_events.specs.Events.{EventValue, union, coming, comings}
+use Rattle.esc_events.specs.Events.EventValue.{arrived}
+use Rattle.esc_events.specs.Finding.{finding, found_at, row_of, held_row}
+use Rattle.esc_events.specs.Known.{IsKnown}
+use Rattle.esc_events.specs.Laws.{IsMove}
+use Rattle.esc_events.specs.Plans.{AreLatestSteps, IsPlanned}
+use Rattle.esc_events.specs.Receipts.{distinct, reply_to}
+use Rattle.esc_events.specs.Stands.{StandsFor, AreBooks, IsApart, counted, holds_by, has_digest, held_rows, held_body, parked_body}
+use Rattle.esc_events.specs.Taking.{IsAgain}
+use Rattle.esc_events.specs.Works.{IsWorkOf, IsIdle, no_work}
+use Rattle.esc_events.proofs.Distinct.{both}
+use Rattle.esc_events.proofs.EventLemmas.{union-arrived}
+use Rattle.esc_events.proofs.HeldRows.{is_row_of, same_number, listed_row}
+use Rattle.esc_events.proofs.Lost.{alike_counts, came_counts}
+use Rattle.esc_events.proofs.Members.{any_of, distinct_among}
+use Rattle.esc_events.proofs.Moving.{apart_before, stands_still, no_work_of}
+use Rattle.esc_events.proofs.MovingLemmas.{contains_held}
+use Rattle.esc_events.proofs.Searches.{same_answer, no_answer}
+use Rattle.esc_desk.specs.declared.desk.Desk.{Desk}
+use Rattle.esc_desk.specs.declared.plan.Source.TheVariants.{Arrived}
+use Rattle.esc_desk.specs.Again.{IsUnkept, IsMissing, IsMissingAfter}
+use Rattle.esc_desk.specs.Crashes.{LeavesOnlyFor}
+use Rattle.esc_desk.specs.Sources.{IsSource}
+use Rattle.esc_desk.specs.Takings.{LeavesWith, IsTakenAgain, IsAnsweredAgain}
+use Rattle.esc_desk.proofs.CrashLemmas.{at_rest, leaves_with_nothing, leaves_with_only, leaves_with_then}
+use Rattle.esc_desk.proofs.Holding.{IsRefused, refused_listed, refused_row, reads_of}
+use Rattle.esc_desk.proofs.KnownRows.{put_at}
+use Rattle.esc_desk.proofs.Likeness.{AddsNothing, seen, still_stands}
+use Rattle.esc_desk.proofs.RunLemmas.{reply_stays}
+
+-- ---- where it adds nothing
+
+module _ (e : List EventValue) (a : ArrivalValue) (k : Kept) (found : Finding) (reply : ReplyValue) (is : IsAgain e a k found reply) where
+  pub told_again : reply_to sha256 reading e a ≡ Some reply
+  told_again = ap (reply_alike (union e) 1 a.number (sha256 a.body)) (sym is.stood.books.receipts) ∙ is.kept
+
+  -- the rows that it holds are the one that was found
+  found_row : (r : ℕ) → holds_by sha256 reading (union e) r (coming (union e) a) ≡ true → held_row found ≡ Some r
+  found_row r holds = ap held_row is.found_is ∙ is_row_of r (held_row (finding sha256 reading (union e) a.body)) holds
+
+  -- a row lists it
+  some_row : (found ≡ Unlisted → ⊥) → (q : ℕ) × (row_of (union e) (sha256 a.body) ≡ Some q)
+  some_row listed = by_row (row_of (union e) (sha256 a.body)) (listed_row (union e) (row_of (union e) (sha256 a.body)) (reading a.body) (λ unlisted. listed (is.found_is ∙ unlisted)))
+    where
+      by_row : (o : Option ℕ) → is_some o ≡ true → (q : ℕ) × (o ≡ Some q)
+      by_row None some = absurd (true≢false (sym some))
+      by_row (Some q) some = (q, refl)
+
+  held_already : (row : ℕ) → IsSome (k.bodies row) → list_any (holds_by sha256 reading (union e) row) (counted sha256 reading e) ≡ true
+  held_already row some = by_body (k.bodies row) refl some
+    where
+      by_body : (o : Option (List ℕ)) → k.bodies row ≡ o → IsSome o → list_any (holds_by sha256 reading (union e) row) (counted sha256 reading e) ≡ true
+      by_body None at some = absurd (true≢false (sym some))
+      by_body (Some body) at some =
+          let came = is.stood.books.came row body at in
+          any_of (holds_by sha256 reading (union e) row) (counted sha256 reading e) came.arrival came.among came.holds
+
+  -- a row lists it, and a body is held of the row whose deposit it is, if any
+  pub nothing_listed : (found ≡ Unlisted → ⊥) → ((q : ℕ) → held_row found ≡ Some q → IsSome (k.bodies q)) → AddsNothing e a
+  nothing_listed listed there =
+      let at = some_row listed in
+      record { alike = seen e a reply told_again; there = inr (at.0, at.1, λ r holds. held_already r (there r (found_row r holds))) }
+
+  -- it is parked
+  pub nothing_parked : IsSome (k.parked (sha256 a.body)) → AddsNothing e a
+  nothing_parked some = by_body (k.parked (sha256 a.body)) refl some
+    where
+      by_body : (o : Option (List ℕ)) → k.parked (sha256 a.body) ≡ o → IsSome o → AddsNothing e a
+      by_body None at some = absurd (true≢false (sym some))
+      by_body (Some body) at some =
+          let came = is.stood.books.waits (sha256 a.body) body at in
+          record {
+            alike = seen e a reply told_again;
+            there = inl (any_of (has_digest sha256 reading (sha256 a.body)) (counted sha256 reading e) came.arrival came.among ((bytes_decides (sha256 came.arrival.body) (sha256 a.body)).1 came.digest_is));
+          }
+
+  pub nothing_refused : IsRefused found → AddsNothing e a
+  nothing_refused refused = nothing_listed (refused_listed found refused) (λ q here. absurd (no_answer (sym (refused_row found refused) ∙ here)))
+
+-- it is like an earlier one that wasn't answered A2
+pub nothing_repeated : (e : List EventValue) (a : ArrivalValue) (k : Kept) → AreBooks sha256 reading e k → (y : ReplyValue) → reply_alike (union e) 1 a.number (sha256 a.body) k.receipts ≡ Some y → (y.verdict ≡ A2 → ⊥) → AddsNothing e a
+nothing_repeated e a k books y there other =
+    let came = coming (union e) a in
+    let told : reply_to sha256 reading e a ≡ Some y = ap (reply_alike (union e) 1 a.number (sha256 a.body)) (sym books.receipts) ∙ there in
+    let x = alike_counts sha256 reading (union e) came 1 [] (distinct sha256 reading (comings e)) y told other in
+    let counts = came_counts sha256 reading e x.0 (distinct_among sha256 reading (comings e) x.0 x.1) x.3 in
+    let like = both (bytes_eq a.number x.0.number) (bytes_eq (sha256 a.body) (sha256 x.0.body)) x.2 in
+    record {
+      alike = seen e a y told;
+      there = inl (any_of (has_digest sha256 reading (sha256 a.body)) (counted sha256 reading e) x.0 counts
+          ((bytes_decides (sha256 x.0.body) (sha256 a.body)).1 (sym ((bytes_decides (sha256 a.body) (sha256 x.0.body)).0 like.1))));
+    }
+
+-- what is missing after the events is so in a store that stands for them
+pub missing_of : (e : List EventValue) (a : ArrivalValue) (k : Kept) → AreBooks sha256 reading e k → IsApart sha256 reading e → IsMissingAfter e a
+    → IsMissing k.bodies k.parked (sha256 a.body) (finding sha256 reading (union e) a.body)
+missing_of e a k books apart missing = by_found (finding sha256 reading (union e) a.body) missing
+  where
+    by_found : (f : Finding) → IsMissing (held_body sha256 reading e) (parked_body sha256 reading e) (sha256 a.body) f → IsMissing k.bodies k.parked (sha256 a.body) f
+    by_found Unlisted is = books.parked apart (sha256 a.body) ∙ is
+    by_found (Unreadable r n) is = is
+    by_found (Differing r) is = is
+    by_found (Holding r d) is = books.bodies apart r ∙ is
+
+-- a body of which a refusal was found isn't missing
+pub refused_there : (bodies : ℕ → Option (List ℕ)) (parked : List ℕ → Option (List ℕ)) (d : List ℕ) (found : Finding) → IsRefused found → IsMissing bodies parked d found → ⊥
+refused_there bodies parked d found (inl (r, n, is)) missing = subst (IsMissing bodies parked d) is missing
+refused_there bodies parked d found (inr (r, is)) missing = subst (IsMissing bodies parked d) is missing
+
+-- ---- what is known of a store that took it in without a change
+
+pub nothing_taken : {S : Type 0} (g : Ghosts S) (old new : Store S) (e : List EventValue) (a : ArrivalValue) (k : Kept) (found : Finding) (known : Known)
+    → StandsFor sha256 reading e k → AddsNothing e a → IsKnown k known → Stands g new k → LeavesWith g old.conn new.conn e a
+    → (IsMissing k.bodies k.parked (sha256 a.body) found → LeavesOnlyFor g new.conn (e ++ arrived a ∷ [])) → IsTakenAgain g old new e a k found known no_work
+nothing_taken g old new e a k found known stood none knows stands leaves left =
+    let stands_for = still_stands e a k none stood in
+    record {
+      serves = record { kept = k; stands = stands; stands_for = stands_for };
+      knows = knows;
+      works = no_work_of e (arrived a) k k stood stands_for (union-arrived e a) refl;
+      idle = λ apart same. refl;
+      leaves = leaves;
+      left = left;
+    }
+
+-- ---- where its deposit is held
+
+module _ (e : List EventValue) (a : ArrivalValue) (k : Kept) (row : ℕ) (d : DepositValue) (reply : ReplyValue) (is : IsAgain e a k (Holding row d) reply) where
+  pub again_source : IsSource (Arrived row (Some d)) k (body_put k.bodies row a.body)
+  again_source = ((a.body, put_at k.bodies row a.body, reads_of (union e) a.body row d (sym is.found_is)), λ r other. ap (λ b. cond b (Some a.body) (k.bodies r)) other)
+
+  module _ (none : k.bodies row ≡ None) (books : AreBooks sha256 reading (e ++ arrived a ∷ []) (with_body k row a.body)) where
+    still_held : (r : ℕ) (body : List ℕ) → k.bodies r ≡ Some body → body_put k.bodies row a.body r ≡ Some body
+    still_held r body some = by_test (r == row) refl
+      where
+        by_test : (b : Bool) → (r == row) ≡ b → cond b (Some a.body) (k.bodies r) ≡ Some body
+        by_test true same = absurd (no_answer (sym none ∙ ap k.bodies (sym (same_number r row same)) ∙ some))
+        by_test false other = some
+
+    pub again_move : (rows : List ℕ) (plan : Plan) (moment : Option ℤ) (listed : List MRow) → AreHeld (body_put k.bodies row a.body) rows → listed ≡ k.listed → moment ≡ k.moment
+        → AreLatestSteps listed rows moment plan.new.items → IsPlanned k (body_put k.bodies row a.body) plan
+        → IsMove e (arrived a) k (with_body k row a.body) [] rows (body_put k.bodies row a.body) plan
+    again_move rows plan moment listed held rows_are moment_is latest planned = record {
+      stood = is.stood;
+      books = books;
+      begins = sym (append-nil k.listed);
+      keeps = still_held;
+      held = held;
+      same = λ r. refl;
+      latest = subst (λ (t : Option ℤ). AreLatestSteps k.listed rows t plan.new.items) moment_is (subst (λ (m : List MRow). AreLatestSteps m rows moment plan.new.items) rows_are latest);
+      planned = planned;
+    }
+
+    -- it adds a row, so nothing is said of one that adds none
+    pub again_idle : (work : Work) → IsIdle e (arrived a) work
+    again_idle work apart same =
+        let now = books.bodies apart row in
+        let before = is.stood.books.bodies (apart_before e (arrived a) apart) row in
+        absurd (true≢false (
+        ap is_some (sym (put_at k.bodies row a.body) ∙ now)
+        ∙ sym (contains_held sha256 reading (e ++ arrived a ∷ []) row)
+        ∙ ap (λ (h : Rows). set.contains h row) same
+        ∙ contains_held sha256 reading e row
+        ∙ ap is_some (sym before ∙ none)))
+
+-- ---- where it is parked
+
+module _ (e : List EventValue) (a : ArrivalValue) (k : Kept) (reply : ReplyValue) (is : IsAgain e a k Unlisted reply) (books : AreBooks sha256 reading (e ++ arrived a ∷ []) (with_parked k (sha256 a.body) (Some a.body))) where
+  pub parked_stands : StandsFor sha256 reading (e ++ arrived a ∷ []) (with_parked k (sha256 a.body) (Some a.body))
+  parked_stands = stands_still e (e ++ arrived a ∷ []) k (with_parked k (sha256 a.body) (Some a.body)) is.stood books refl refl refl refl refl
+
+  pub parked_taken : {S : Type 0} (g : Ghosts S) (old new : Store S) (known : Known) → IsKnown k known → Stands g new (with_parked k (sha256 a.body) (Some a.body))
+      → LeavesOnlyFor g new.conn (e ++ arrived a ∷ []) → IsTakenAgain g old new e a k Unlisted known no_work
+  parked_taken g old new known knows stands left = record {
+    serves = record { kept = with_parked k (sha256 a.body) (Some a.body); stands = stands; stands_for = parked_stands };
+    knows = record { held = knows.held; told = knows.told };
+    works = no_work_of e (arrived a) k (with_parked k (sha256 a.body) (Some a.body)) is.stood parked_stands (union-arrived e a) refl;
+    idle = λ apart same. refl;
+    leaves = leaves_with_only g old.conn new.conn e a left;
+    left = λ missing. left;
+  }
+
+-- ---- what a desk answers
+
+-- an arrival whose kept reply is A2
+pub is_again : (e : List EventValue) (n body : List ℕ) (k : Kept) (reply : ReplyValue) (digest : List ℕ) → digest ≡ sha256 body → StandsFor sha256 reading e k → reply.verdict ≡ A2
+    → reply_alike (union e) 1 n digest k.receipts ≡ Some reply → IsAgain e (an_arrival n body) k (finding sha256 reading (union e) body) reply
+is_again e n body k reply digest same stands is there = record {
+  stood = stands;
+  kept = subst (λ (d : List ℕ). reply_alike (union e) 1 n d k.receipts ≡ Some reply) same there;
+  verdict = is;
+  found_is = refl;
+}
+
+abbrev pub IsOther : Verdict → Type 0
+IsOther v = (v ≡ A1) ⊎ ((n : ℕ) × (v ≡ A3 n)) ⊎ (v ≡ A4) ⊎ (v ≡ A5)
+
+pub no_verdict : (v : Verdict) → IsOther v → v ≡ A2 → ⊥
+no_verdict v (inl is) same = let never : ⊥ = cc in never
+no_verdict v (inr (inl (n, is))) same = let never : ⊥ = cc in never
+no_verdict v (inr (inr (inl is))) same = let never : ⊥ = cc in never
+no_verdict v (inr (inr (inr is))) same = let never : ⊥ = cc in never
+
+-- one whose kept reply is another changes nothing
+pub answered_nothing : {S : Type 0} (g : Ghosts S) (desk : Desk S) (e : List EventValue) (n body : List ℕ) (k : Kept) (reply : ReplyValue) (digest : List ℕ) → digest ≡ sha256 body
+    → Stands g desk.store k → StandsFor sha256 reading e k → IfSome desk.known (IsKnown k) → reply_alike (union e) 1 n digest k.receipts ≡ Some reply → (reply.verdict ≡ A2 → ⊥)
+    → IsAnsweredAgain g desk desk e (an_arrival n body) k reply no_work
+answered_nothing g desk e n body k reply digest same stood stands known there other =
+    let a = an_arrival n body in
+    let at = subst (λ (d : List ℕ). reply_alike (union e) 1 n d k.receipts ≡ Some reply) same there in
+    let none = nothing_repeated e a k stands.books reply at other in
+    let stands_for = still_stands e a k none stands in
+    record {
+      answers = record {
+        serves = record { serves = record { kept = k; stands = stood; stands_for = stands_for }; remembers = known };
+        told = reply_stays e (arrived a) a reply (ap (reply_alike (union e) 1 n (sha256 body)) (sym stands.books.receipts) ∙ at);
+      };
+      works = no_work_of e (arrived a) k k stands stands_for (union-arrived e a) refl;
+      idle = λ apart same. refl;
+      rests = λ other. refl;
+      leaves = leaves_with_nothing g desk.store.conn desk.store.conn e a none (at_rest g desk.store.conn);
+      left = λ is. absurd (other is);
+    }
+
+-- what a crash leaves once it was answered
+pub left_again : {S : Type 0} (g : Ghosts S) (old new : Desk S) (first : Held S) (e : List EventValue) (a : ArrivalValue) (k : Kept) (r : ReplyValue) (result : Result (ReplyValue × Work) SFault)
+    → StandsFor sha256 reading e k → reply_to sha256 reading e a ≡ Some r → Survives (state g first) (state g old.store.conn) (λ _. ⊥)
+    → IfOk result (λ p. p.0 ≡ r) → IfOk result (λ p. IsAnsweredAgain g old new e a k p.0 p.1)
+    → OnOk result (LeavesWith g first new.store.conn e a × (IsUnkept e a → WhereApart e (IsMissingAfter e a → LeavesOnlyFor g new.store.conn (e ++ arrived a ∷ []))))
+left_again g old new first e a k r (Ok p) stood told s same done = (
+  leaves_with_then g first old.store.conn new.store.conn e a s done.leaves,
+  λ unkept apart missing. done.left (ap (λ (x : ReplyValue). x.verdict) same ∙ unkept r told) (missing_of e a k stood.books apart missing),
+)
+left_again g old new first e a k r (Err f) stood told s same done = tt

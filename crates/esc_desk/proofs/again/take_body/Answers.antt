@@ -1,0 +1,36 @@
+use Rattle.std.proofs.Common.{rules, ◌≡◌, ℕ, List, sym, ap, ap₂, subst, ◌∙◌}
+use Rattle.std.proofs.lemmas.Result.{IfOk-weaker}
+use Rattle.sha2.specs.Sha256.{sha256}
+use Rattle.esc_tables.specs.Reading.{reading}
+use Rattle.esc_manifest.specs.declared.row.MRow.{MRow}
+use Rattle.esc_events.specs.declared.finding.Finding.{Finding}
+use Rattle.esc_events.specs.declared.finding.Finding.TheVariants.{Unlisted}
+use Rattle.esc_events.specs.ArrivalValue.{an_arrival}
+use Rattle.esc_events.specs.Events.{union}
+use Rattle.esc_events.specs.Finding.{finding, row_of}
+use Rattle.esc_events.specs.Taking.{IsAgain}
+use Rattle.esc_events.proofs.HeldRows.{unlisted_row}
+use Rattle.esc_desk.specs.Causes.{IsCrowded}
+use Rattle.esc_desk.specs.Takings.{IsTakenAgain}
+use Rattle.esc_desk.proofs.CauseLemmas.{if_err_each}
+use Rattle.esc_desk.proofs.CrashLemmas.{adds_at_rest}
+use Rattle.esc_desk.proofs.again.take_body.Goals as goal
+
+pub returns-in_err-found-clause-crash : goal.returns-in_err-found-clause-crash
+returns-in_err-found-clause-crash g c = λ clean e n k reply stood knows is. adds_at_rest g.S.Store _ _ _
+
+pub returns-clause-taken : goal.returns-clause-taken
+returns-clause-taken g c = λ clean e n k reply stood knows is.
+    let a = an_arrival n c.args.body.now in
+    let listed : c.manifest.result.now ≡ union e = c.manifest.ensures.kept k stood ∙ is.stood.books.listed in
+    let found_is : c.in_ok-found.found ≡ finding sha256 reading (union e) a.body = c.in_ok-found.ensures.found ∙ ap (λ (x : List MRow). finding sha256 reading x a.body) listed in
+    IfOk-weaker c.take_found.result _ _ (λ work made.
+    subst (λ (f : Finding). IsTakenAgain g.S.Store c.args.store.now c.take_found.new.store e a k f c.take_found.new.known work) found_is
+    (made clean e n k reply stood knows (subst (λ (f : Finding). IsAgain e a k f reply) (sym found_is) is))) c.take_found.ensures.taken
+
+pub returns-clause-crash : goal.returns-clause-crash
+returns-clause-crash g c = λ clean e n k reply stood knows is.
+    let a = an_arrival n c.args.body.now in
+    let listed : c.manifest.result.now ≡ union e = c.manifest.ensures.kept k stood ∙ is.stood.books.listed in
+    let found_is : c.in_ok-found.found ≡ finding sha256 reading (union e) a.body = c.in_ok-found.ensures.found ∙ ap (λ (x : List MRow). finding sha256 reading x a.body) listed in
+    c.take_found.ensures.crash clean e n k reply stood knows (subst (λ (f : Finding). IsAgain e a k f reply) (sym found_is) is)

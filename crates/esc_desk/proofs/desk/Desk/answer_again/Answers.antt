@@ -1,0 +1,39 @@
+use Rattle.std.proofs.Common.{rules, ◌≡◌, [], ◌∷◌, ◌++◌, List, ℕ, Some, refl, sym, ap, subst, ◌∙◌}
+use Rattle.sha2.specs.Sha256.{sha256}
+use Rattle.esc_tables.specs.Reading.{reading}
+use Rattle.esc_store.specs.ReplyValue.{ReplyValue, reply_alike}
+use Rattle.esc_store.specs.Kept.{Kept}
+use Rattle.esc_events.specs.ArrivalValue.{an_arrival}
+use Rattle.esc_events.specs.Events.{union}
+use Rattle.esc_events.specs.Events.EventValue.{arrived}
+use Rattle.esc_events.specs.Finding.{finding}
+use Rattle.esc_events.specs.Taking.{IsAgain}
+use Rattle.esc_desk.proofs.CauseLemmas.{if_err_is}
+use Rattle.esc_desk.proofs.ComingAgain.{nothing_repeated, answered_nothing, is_again, IsOther, no_verdict}
+use Rattle.esc_desk.proofs.CrashLemmas.{adds_as, adds_at_rest}
+use Rattle.esc_desk.proofs.CrashSteps.{not_full_by}
+use Rattle.esc_desk.proofs.desk.Desk.answer_again.Goals as goal
+
+pub returns-in_ok-work-in-A2-clause-answered : goal.returns-in_ok-work-in-A2-clause-answered
+returns-in_ok-work-in-A2-clause-answered g c = λ clean e n k stood stands known there.
+    c.in_ok-work-in-A2.ensures.taken clean e n k c.args.reply stood known (is_again e n c.args.body.now k c.args.reply c.args.digest.now c.requires stands (sym (ap (λ (v : ReplyValue). v.verdict) c.reply.view_is) ∙ c.in-A2.is) there)
+
+pub returns-in_ok-work-in-A2-clause-crash : goal.returns-in_ok-work-in-A2-clause-crash
+returns-in_ok-work-in-A2-clause-crash g c = λ clean e n k stood stands known there.
+    adds_as g.S.Store _ _ _ _ _ (λ h. tt)
+    (c.in_ok-work-in-A2.ensures.crash clean e n k c.args.reply stood known (is_again e n c.args.body.now k c.args.reply c.args.digest.now c.requires stands (sym (ap (λ (v : ReplyValue). v.verdict) c.reply.view_is) ∙ c.in-A2.is) there))
+
+pub returns-in_err-work-in-A2-clause-crash : goal.returns-in_err-work-in-A2-clause-crash
+returns-in_err-work-in-A2-clause-crash g c = λ clean e n k stood stands known there.
+    adds_as g.S.Store _ _ _ _ _ (λ h. not_full_by _ c.in_err-work-in-A2.field-0.0 (search rules) h)
+    (c.in_err-work-in-A2.ensures.crash clean e n k c.args.reply stood known (is_again e n c.args.body.now k c.args.reply c.args.digest.now c.requires stands (sym (ap (λ (v : ReplyValue). v.verdict) c.reply.view_is) ∙ c.in-A2.is) there))
+
+pub returns-in-A1-clause-answered : goal.returns-in-A1-clause-answered
+returns-in-A1-clause-answered g c = λ clean e n k stood stands known there.
+    answered_nothing g.S.Store c.args.self.now e n c.args.body.now k c.args.reply c.args.digest.now c.requires stood stands known there (no_verdict c.args.reply.verdict (subst (λ (v : ReplyValue). IsOther v.verdict) c.reply.view_is c.in-A1.is))
+
+pub returns-in-A1-clause-place : goal.returns-in-A1-clause-place
+returns-in-A1-clause-place g c = λ clean k stood is. absurd (no_verdict c.args.reply.verdict (subst (λ (v : ReplyValue). IsOther v.verdict) c.reply.view_is c.in-A1.is) is)
+
+pub returns-in-A1-clause-crash : goal.returns-in-A1-clause-crash
+returns-in-A1-clause-crash g c = λ clean e n k stood stands known there. adds_at_rest g.S.Store _ _ _

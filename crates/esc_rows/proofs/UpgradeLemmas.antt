@@ -1,0 +1,88 @@
+-- How a store of version 1 becomes one of version 2.
+use Rattle.std.proofs.Common.{◌≡◌, ℕ, pos, true, List, [], ◌∷◌, map, Ok, refl, sym, ap, ◌∙◌, arith}
+use Rattle.sqlite_value.specs.declared.value.Value.TheVariants.{Null, Int}
+use Rattle.sqlite_value.proofs.OrderLemmas.{value_cmp-Int}
+use Rattle.sqlite_value.specs.Order.{Row}
+use Rattle.sqlite.specs.Command.TheVariants.{Update}
+use Rattle.sqlite.specs.Query.{Output}
+use Rattle.sqlite.specs.Program.{overlay}
+use Rattle.sqlite.specs.Rowids.TheVariants.{Given}
+use Rattle.sqlite.specs.Tree.{Trees}
+use Rattle.sqlite.specs.Edit.{edit_of, edited}
+use Rattle.sqlite.specs.Effect.{Database}
+use Rattle.sqlite.specs.Listing.{understood}
+use Rattle.sqlite.specs.State.{State, mode_of, Executes}
+use Rattle.sqlite.proofs.Callers.{statement_of, runs_as}
+use Rattle.sqlite_rules.specs.Calls.{ids_of}
+use Rattle.esc_rows.specs.Schema.{store_schema, info_tree, info_table}
+use Rattle.esc_rows.specs.Texts.{raise_version_text}
+use Rattle.esc_rows.specs.Rows.{info_row, first_info_row}
+use Rattle.esc_rows.specs.StoreTable.{StoreTable, Listed, Receipts, Held, Steps, Objects, Undo, Parked, Moment, tree_of, stored_row}
+use Rattle.esc_rows.specs.Content.{Content, rows_of}
+use Rattle.esc_rows.specs.FirstVersion.{HoldsFirst, IsTableAdded, AddsTable, IsToBeRaised, RaisesVersion}
+use Rattle.esc_rows.proofs.Compiled.{program_of, version_sets, raise_version_is}
+use Rattle.esc_rows.proofs.Scan.{scan, no_limit, scanned, in_order}
+use Rattle.esc_rows.proofs.Forms.{uncounted, updated}
+use Rattle.esc_rows.proofs.Frame.{not_info, written, other_rows}
+use Rattle.esc_rows.proofs.Values.{cast_null, cast_int}
+
+-- ---- the version
+
+-- the old rowid, and the new row
+abbrev raised_row : Row
+raised_row = Int (pos 1) ∷ info_row
+
+raised : (db : Trees) (rows : List Row) → db info_tree ≡ first_info_row ∷ [] → rows ≡ raised_row ∷ [] → edited db (edit_of db (uncounted info_table) (ids_of rows) Given 1 rows) ≡ info_row ∷ []
+raised db rows was is = rw (is, was, cast_null, cast_int (pos 1), cast_int (pos 2), value_cmp-Int (pos 1) (pos 1)) refl
+
+pub raises : (old new : State) (count : ℕ) → Executes raise_version_text [] old new (Ok count) → RaisesVersion old.now new.now
+raises old new count ran c h =
+    let q = program_of (scan info_tree [] version_sets [] no_limit) in
+    let out : Row → Output = λ r. ([], raised_row) in
+    let one = first_info_row ∷ [] in
+    let w = runs_as raise_version_text [] old new store_schema h.schema_is (Update 0 q) raise_version_is.is raise_version_is.plain count ran in
+    let done = updated old.step_limit (mode_of old) refl [] old.now new.now h.schema_is 0 info_table refl q (statement_of raise_version_text (understood store_schema raise_version_text)) w.tally w.changed in
+    let s = scanned (λ (_ : Row). first_info_row) (λ _. true) out info_tree [] version_sets [] no_limit [] (λ _. refl) (λ _. refl) (overlay old.now.trees []) one done.rows h.info (done.found.answer Null) in
+    let rows : done.rows ≡ raised_row ∷ [] = in_order (λ (_ : Row). first_info_row) (λ _. true) out info_tree [] version_sets [] no_limit [] one done.rows (tt, tt) s in
+    let all = written old.now new.now (edit_of old.now.trees (uncounted info_table) (ids_of done.rows) Given 1 done.rows) h.schema_is w.sound done.edited in
+    record {
+      schema_is = all.same_schema;
+      store = record {
+        rows = record {
+          info = done.edited.applies.rows ∙ raised old.now.trees done.rows h.info rows;
+          tables = λ t. other_rows info_tree old.now new.now all t (λ e. not_info t (sym e)) ∙ h.tables t;
+        };
+        ordered = h.ordered;
+        sound = all.sound;
+      };
+    }
+
+-- ---- the two new tables
+
+-- with both, the store is to be raised
+abbrev pub AddsBoth : Database → Database → Type 0
+AddsBoth old new = (c : Content) → HoldsFirst old c → IsToBeRaised new c
+
+pub adds_both : (a b d : Database) → AddsTable 7 a b → AddsTable 8 b d → AddsBoth a d
+adds_both a b d parked moment c h = record {
+  schema_is = last.schema_is;
+  info = last.others.0 ∙ (first.others.0 ∙ h.store.rows.info);
+  tables = tables;
+  ordered = h.store.ordered;
+}
+  where
+    first : IsTableAdded 7 a b
+    first = parked h.schema_is
+
+    last : IsTableAdded 8 b d
+    last = moment first.schema_is
+
+    tables : (t : StoreTable) → d.trees (tree_of t) ≡ map (stored_row t) (rows_of c t)
+    tables Listed = last.others.1.0 ∙ (first.others.1.0 ∙ h.store.rows.tables Listed (omega arith))
+    tables Receipts = last.others.1.1.0 ∙ (first.others.1.1.0 ∙ h.store.rows.tables Receipts (omega arith))
+    tables Held = last.others.1.1.1.0 ∙ (first.others.1.1.1.0 ∙ h.store.rows.tables Held (omega arith))
+    tables Steps = last.others.1.1.1.1.0 ∙ (first.others.1.1.1.1.0 ∙ h.store.rows.tables Steps (omega arith))
+    tables Objects = last.others.1.1.1.1.1.0 ∙ (first.others.1.1.1.1.1.0 ∙ h.store.rows.tables Objects (omega arith))
+    tables Undo = last.others.1.1.1.1.1.1.0 ∙ (first.others.1.1.1.1.1.1.0 ∙ h.store.rows.tables Undo (omega arith))
+    tables Parked = last.others.1.1.1.1.1.1.1.0 ∙ (first.empty ∙ ap (map (stored_row Parked)) (sym h.store.rows.parked))
+    tables Moment = last.empty ∙ ap (map (stored_row Moment)) (sym h.store.rows.moment)

@@ -1,0 +1,53 @@
+-- Stores of version 1, which kept no body that no row lists, and knew no moment.
+use Rattle.std.specs.Prelude.{◌≡◌, ◌≤◌, pos, false, length, slice_get, Some, option_map, IsTrue}
+use Rattle.sqlite_value.specs.declared.value.Value.TheVariants.{Int}
+use Rattle.sqlite_value.specs.Order.{Row, column}
+use Rattle.sqlite_trees.specs.declared.store.Store.{Ghosts}
+use Rattle.sqlite_trees.specs.Tree.{Trees}
+use Rattle.sqlite.specs.Effect.{Database}
+use Rattle.sqlite.specs.Held.{Held, state}
+use Rattle.sqlite.specs.State.{State, HasCleanDisk}
+use Rattle.esc_rows.specs.Schema.{first_schema, info_tree}
+use Rattle.esc_rows.specs.FirstVersion.{first_content_in}
+use Rattle.esc_rows.specs.FirstVersion.{IsFirstStore as HasFirstTables}
+use Rattle.esc_store.specs.Kept.{Kept}
+use Rattle.esc_store.specs.TypedRows.{IsBooks, IsRegistry}
+
+-- trees are the seven tables of version 1, in order and sound, and hold exactly this; so no body is
+-- parked, and no moment is set
+pub record IsFirstKept (trees : Trees) (k : Kept) : Type 0 where
+  pub tables : HasFirstTables trees (first_content_in trees)
+  pub books : IsBooks (first_content_in trees) k
+  pub registry : IsRegistry (first_content_in trees) k.registry
+
+-- these trees are a version 1 store of this
+unfoldable pub IsFirstStore : Trees → Kept → Type 0
+IsFirstStore trees k = IsFirstKept trees k
+
+-- a database is a version 1 store of this
+pub record IsFirstDatabase (db : Database) (k : Kept) : Type 0 where
+  pub schema : db.schema ≡ first_schema
+  pub kept : IsFirstKept db.trees k
+
+-- a database has the seven tables, and the row that tells a version tells 1; the tables let there
+-- be one such row at most
+pub record IsOfFirstVersion (db : Database) : Type 0 where
+  pub schema : db.schema ≡ first_schema
+  pub version : length (db.trees info_tree) ≤ 1
+      → option_map (λ (r : Row). column r 2) (slice_get (db.trees info_tree) 0) ≡ Some (Int (pos 1))
+
+-- the database of a connection is a version 1 store of this, and no transaction is on
+pub record IsFirstAtRest (s : State) (k : Kept) : Type 0 where
+  pub kept : IsFirstDatabase s.committed k
+  pub same : s.now ≡ s.committed
+  pub autocommit : s.in_transaction ≡ false
+
+-- the same, so far as the disk gave back what was written, and as long as the connection is open
+unfoldable pub HoldsFirst : {S : Type 0} → Ghosts S → Held S → Kept → Type 0
+HoldsFirst g conn k = HasCleanDisk (state g conn) → IsTrue (state g conn).is_open
+    → IsFirstAtRest (state g conn) k
+
+-- what a connection sees is a version 1 store of this, so far as the disk gave back what was
+-- written, and as long as the connection is open
+abbrev pub SeesFirst : State → Kept → Type 0
+SeesFirst s k = HasCleanDisk s → IsTrue s.is_open → IsFirstKept s.now.trees k

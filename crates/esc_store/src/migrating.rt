@@ -1,0 +1,213 @@
+//! A store of version 1, which becomes one of this version.
+
+ghost use Rattle.std.specs.Prelude.{◌≡◌, IsTrue, IfOk, IfErr, OnOk, OnErr, MatchResult};
+ghost use Rattle.sqlite_trees.specs.Tree.{Trees};
+ghost use Rattle.sqlite.specs.Held.{state};
+ghost use Rattle.sqlite.specs.State.{HasCleanDisk, Survives, KeepsCommit, IsUnchanged};
+ghost use Rattle.esc_store.specs.Faults.{IsS1OrS2, IsS1ToS3};
+ghost use Rattle.esc_store.specs.Kept.{Kept};
+ghost use Rattle.esc_store.specs.Opening.{IsSettled, IsAsItWas};
+ghost use Rattle.esc_store.specs.Tables.{IsStore, IsStoreDatabase};
+ghost use Rattle.esc_store.specs.Standing.{
+  Stands,
+  IsStanding,
+  LeavesOnly,
+  LeavesOr,
+  IsHonest,
+};
+ghost use Rattle.esc_store.specs.FirstVersion.{
+  IsFirstStore,
+  IsFirstDatabase,
+  IsOfFirstVersion,
+  HoldsFirst,
+  SeesFirst,
+};
+
+use crate::codec::manifest::kept_manifest;
+use crate::fault::SFault;
+use crate::founding::give_up_in;
+use crate::store::Store;
+use esc_manifest::Manifest;
+use esc_rows::create::upgrade;
+use esc_rows::info::find_version;
+use esc_rows::listed::all_listed;
+use esc_rows::open::has_first_tables;
+use esc_rows::transaction::{begin_in, commit_in};
+use sqlite::{Alter, Connection, Error};
+use std::alloc::Global;
+
+// Tests that the database has the tables of version 1. `S3` where it has not.
+fn test_first<S: Alter>(conn: &mut Connection<S>) -> Result<(), SFault>
+    ensures survives { Survives (state S.Store conn.old) (state S.Store conn.new) (λ _. ⊥) }
+    ensures kept { HasCleanDisk (state S.Store conn.new)
+        → KeepsCommit (state S.Store conn.old) (state S.Store conn.new) }
+    ensures version { OnOk result (HasCleanDisk (state S.Store conn.new)
+        → IsUnchanged (state S.Store conn.old) (state S.Store conn.new)
+        × IsOfFirstVersion (state S.Store conn.old).now) }
+    ensures never { IfErr result (λ fault. fault ≡ SFault.S3
+        → HasCleanDisk (state S.Store conn.new)
+        → IsTrue (state S.Store conn.new).is_open → IsSettled (state S.Store conn.old) → (k : Kept)
+        → IsFirstStore (state S.Store conn.old).committed.trees k → ⊥) }
+    ensures cause { IfErr result IsS1ToS3 }
+{
+    if !has_first_tables(conn) {
+        return Err(SFault::S3);
+    }
+    if find_version(conn)? != Some(1) {
+        return Err(SFault::S3);
+    }
+    Ok(())
+}
+
+// Begins a transaction, and makes the tables of this version in it.
+fn upgrade_here<S: Alter>(conn: &mut Connection<S>) -> Result<(), Error>
+    ensures survives { Survives (state S.Store conn.old) (state S.Store conn.new) (λ _. ⊥) }
+    ensures kept { HasCleanDisk (state S.Store conn.new)
+        → KeepsCommit (state S.Store conn.old) (state S.Store conn.new) }
+    ensures upgraded { OnOk result (HasCleanDisk (state S.Store conn.new) → (k : Kept)
+        → IsFirstDatabase (state S.Store conn.old).now k
+        → IsStoreDatabase (state S.Store conn.new).now k) }
+{
+    begin_in(conn)?;
+    upgrade(conn)
+}
+
+// The same. The result is the manifest of the store.
+fn read_upgraded<S: Alter>(alloc: Global, conn: &mut Connection<S>) -> Result<Manifest, SFault>
+    ensures survives { Survives (state S.Store conn.old) (state S.Store conn.new) (λ _. ⊥) }
+    ensures kept { HasCleanDisk (state S.Store conn.new)
+        → KeepsCommit (state S.Store conn.old) (state S.Store conn.new) }
+    ensures upgraded { OnOk result (HasCleanDisk (state S.Store conn.new) → (k : Kept)
+        → IsFirstDatabase (state S.Store conn.old).now k
+        → IsStoreDatabase (state S.Store conn.new).now k) }
+    ensures manifest { IfOk result (λ manifest. HasCleanDisk (state S.Store conn.new)
+        → (k : Kept)
+        → IsFirstDatabase (state S.Store conn.old).now k → manifest ≡ k.listed) }
+    ensures cause { IfErr result IsS1OrS2 }
+{
+    upgrade_here(conn)?;
+    let stored = all_listed(alloc, conn)?;
+    kept_manifest(alloc, stored.as_slice())
+}
+
+// The same, and commits it.
+fn commit_upgraded<S: Alter>(alloc: Global, conn: &mut Connection<S>) -> Result<Manifest, SFault>
+    ensures survives { (k : Kept) → (HasCleanDisk (state S.Store conn.old)
+        → IsFirstDatabase (state S.Store conn.old).now k)
+        → Survives (state S.Store conn.old) (state S.Store conn.new) (λ trees. IsStore trees k) }
+    ensures honest { HasCleanDisk (state S.Store conn.new)
+        → HasCleanDisk (state S.Store conn.old) }
+    ensures kept { HasCleanDisk (state S.Store conn.new)
+        → OnErr result (KeepsCommit (state S.Store conn.old) (state S.Store conn.new)) }
+    ensures stands { IfOk result (λ manifest. (k : Kept) → (HasCleanDisk (state S.Store conn.old)
+        → IsFirstDatabase (state S.Store conn.old).now k) → HasCleanDisk (state S.Store conn.new)
+        → IsStanding (state S.Store conn.new) manifest k) }
+    ensures left { OnOk result ((k : Kept) → (HasCleanDisk (state S.Store conn.old)
+        → IsFirstDatabase (state S.Store conn.old).now k) → HasCleanDisk (state S.Store conn.new)
+        → (trees : Trees) → (state S.Store conn.new).may_leave trees → IsStore trees k) }
+    ensures cause { IfErr result IsS1OrS2 }
+{
+    let manifest = read_upgraded(alloc, conn)?;
+    commit_in(conn)?;
+    Ok(manifest)
+}
+
+// The same of a store of version 1. `S3` where the database is none.
+fn migrate_whole<S: Alter>(alloc: Global, conn: &mut Connection<S>) -> Result<Manifest, SFault>
+    ensures survives { (k : Kept) → SeesFirst (state S.Store conn.old) k
+        → Survives (state S.Store conn.old) (state S.Store conn.new) (λ trees. IsStore trees k) }
+    ensures kept { HasCleanDisk (state S.Store conn.new)
+        → OnErr result (KeepsCommit (state S.Store conn.old) (state S.Store conn.new)) }
+    ensures version { OnOk result (HasCleanDisk (state S.Store conn.new)
+        → IsOfFirstVersion (state S.Store conn.old).now) }
+    ensures stands { IfOk result (λ manifest. (k : Kept) → SeesFirst (state S.Store conn.old) k
+        → HasCleanDisk (state S.Store conn.new) → IsStanding (state S.Store conn.new) manifest k) }
+    ensures left { OnOk result ((k : Kept) → SeesFirst (state S.Store conn.old) k
+        → HasCleanDisk (state S.Store conn.new)
+        → (trees : Trees) → (state S.Store conn.new).may_leave trees → IsStore trees k) }
+    ensures never { IfErr result (λ fault. fault ≡ SFault.S3
+        → HasCleanDisk (state S.Store conn.new)
+        → IsTrue (state S.Store conn.new).is_open → IsSettled (state S.Store conn.old) → (k : Kept)
+        → IsFirstStore (state S.Store conn.old).committed.trees k → ⊥) }
+    ensures cause { IfErr result IsS1ToS3 }
+{
+    test_first(conn)?;
+    commit_upgraded(alloc, conn)
+}
+
+// The same, on a connection without a transaction: where it fails the connection is as it was. `S1`
+// also in a transaction, which goes on.
+fn migrate_here<S: Alter>(alloc: Global, conn: &mut Connection<S>) -> Result<Manifest, SFault>
+    ensures survives { (k : Kept) → IsFirstStore (state S.Store conn.old).committed.trees k
+        → Survives (state S.Store conn.old) (state S.Store conn.new) (λ trees. IsStore trees k) }
+    ensures version { OnOk result (HasCleanDisk (state S.Store conn.new)
+        → IsOfFirstVersion (state S.Store conn.old).now) }
+    ensures settled { OnOk result (IsSettled (state S.Store conn.old)) }
+    ensures stands { IfOk result (λ manifest. (k : Kept) → SeesFirst (state S.Store conn.old) k
+        → HasCleanDisk (state S.Store conn.new) → IsStanding (state S.Store conn.new) manifest k) }
+    ensures left { OnOk result ((k : Kept) → IsFirstStore (state S.Store conn.old).committed.trees k
+        → HasCleanDisk (state S.Store conn.new)
+        → (trees : Trees) → (state S.Store conn.new).may_leave trees → IsStore trees k) }
+    ensures never { IfErr result (λ fault. fault ≡ SFault.S3
+        → HasCleanDisk (state S.Store conn.new)
+        → IsTrue (state S.Store conn.new).is_open → (k : Kept)
+        → IsFirstStore (state S.Store conn.old).committed.trees k → ⊥) }
+    ensures unchanged { OnErr result (IsAsItWas (state S.Store conn.old) (state S.Store conn.new)) }
+    ensures cause { IfErr result IsS1ToS3 }
+{
+    if !conn.is_autocommit() {
+        return Err(SFault::S1);
+    }
+    match migrate_whole(alloc, conn) {
+        Ok(manifest) => Ok(manifest),
+        Err(fault) => {
+            give_up_in(conn);
+            Err(fault)
+        }
+    }
+}
+
+impl<S: Alter> Store<S> {
+    /// The store of this version that a version 1 store becomes, in one change: it keeps what it
+    /// kept, parks no body, and has no moment. At `Err` the connection is given back as it was:
+    /// `S3` where the database is no version 1 store, as where it is a store of this version; `S1`,
+    /// also in a transaction, or where the rows of its manifest make none; `S2`.
+    pub fn migrate(
+        alloc: Global,
+        connection: Connection<S>,
+    ) -> Result<Store<S>, (SFault, Connection<S>)>
+        ensures carried { IfOk result (λ store. IsHonest S.Store store → (k : Kept)
+            → HoldsFirst S.Store connection k → Stands S.Store store k) }
+        ensures found { IfOk result (λ store. IsHonest S.Store store → (k : Kept)
+            → IsFirstStore (state S.Store connection).committed.trees k → Stands S.Store store k) }
+        ensures left { IfOk result (λ store. (k : Kept)
+            → IsFirstStore (state S.Store connection).committed.trees k
+            → LeavesOnly S.Store store k) }
+        ensures writes { IfOk result (λ store. store.writes ≡ 0) }
+        ensures version { IfOk result (λ store. IsHonest S.Store store
+            → IsOfFirstVersion (state S.Store connection).now) }
+        ensures never { IfErr result (λ e. e.0 ≡ SFault.S3 → HasCleanDisk (state S.Store e.1)
+            → IsTrue (state S.Store e.1).is_open → (k : Kept)
+            → IsFirstStore (state S.Store connection).committed.trees k → ⊥) }
+        ensures neither { IfErr result (λ e. HasCleanDisk (state S.Store e.1)
+            → IsTrue (state S.Store e.1).is_open → (state S.Store e.1).committed
+            ≡ (state S.Store connection).committed) }
+        ensures unchanged { IfErr result
+            (λ e. IsAsItWas (state S.Store connection) (state S.Store e.1)) }
+        ensures cause { IfErr result (λ e. IsS1ToS3 e.0) }
+        ensures crash { (k : Kept) → IsFirstStore (state S.Store connection).committed.trees k
+            → MatchResult result (λ store. LeavesOr S.Store connection store.conn k)
+            (λ e. LeavesOr S.Store connection e.1 k) }
+    {
+        let mut connection = connection;
+        match migrate_here(alloc, &mut connection) {
+            Ok(manifest) => Ok(Store {
+                conn: connection,
+                manifest,
+                writes: 0,
+                alloc,
+            }),
+            Err(fault) => Err((fault, connection)),
+        }
+    }
+}
