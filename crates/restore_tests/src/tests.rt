@@ -2,7 +2,9 @@
 
 mod amending;
 mod bodies;
+mod crowding;
 mod exporting;
+mod migrating;
 mod refusing;
 mod sockets;
 mod streams;
