@@ -1,11 +1,21 @@
 //! The worked rows over desks, walks over them, and random lists of events.
 
+mod bundles;
+mod chains;
 mod crowded;
 mod desk;
+mod drawing;
+mod early;
 mod events;
+mod kept;
+mod manifests;
+mod migrated;
+mod migrating;
 mod model;
 mod random;
 mod runs;
+mod state;
+mod tables;
 mod universe;
 mod walks;
 

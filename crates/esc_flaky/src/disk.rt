@@ -91,8 +91,8 @@ impl<D: Disk> FlakyDisk<D> {
         self.turn.calls_before.is_none()
     }
 
-    /// Whether memory was refused to a call that was passed on: a disk in memory fails then, though
-    /// nobody told it to.
+    /// Whether memory was refused to a call that was passed on: a disk below that is in memory
+    /// fails then, though it wasn't the turn of that call.
     pub fn wants_memory(&self) -> bool
         ensures { result ≡ wants_memory self.now }
     {
@@ -127,7 +127,7 @@ fn is_no_memory(error: &io::Error) -> bool
 }
 
 impl Turn {
-    // Counts a call, and fails it if no other call is to pass before the one that fails.
+    // Counts a call, and fails it if it is the one that is to fail.
     fn pass(&mut self) -> io::Result<()>
         ensures due { IsErr result ↔ (self.old.calls_before ≡ Some 0) }
         ensures next { self.new.calls_before ≡ after_call self.old.calls_before }

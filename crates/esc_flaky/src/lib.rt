@@ -8,10 +8,10 @@
 //! - [`FlakyDisk`] passes every call on to another disk, except for one: that fails, and is not
 //!   passed on. After it calls are passed on again, unless it was a sync: after a failed sync the
 //!   file takes no more calls, as on any disk.
-//! - [`FailingReader`] gives the bytes that it was made of, a piece for each read, and fails from
-//!   some byte on.
-//! - [`FailingWriter`] keeps the bytes that are written, a piece for each write, and fails from
-//!   some byte on. It may also fail a `flush`.
+//! - [`FailingReader`] gives the bytes that it was made of, a piece for each read, and fails once a
+//!   number of bytes were read.
+//! - [`FailingWriter`] keeps the bytes that are written, a piece for each write, and fails once a
+//!   number of bytes were written. It may also fail a `flush`.
 //!
 //! What goes in are a disk (`sqlite_disk`) and the number of calls before the one that fails, or
 //! the bytes and the number of those that pass. What comes out is the disk, what is left to read,
@@ -37,8 +37,8 @@
 //! fails only if that one does; and then the one that is to fail is one call nearer, or is past. A
 //! `FlakyDisk` is a `Disk` like any other, so what is proved of every disk holds of it.
 //!
-//! Where memory is refused, a disk below in memory fails, and so does a write: nobody told them to,
-//! so a test asks `wants_memory` before it judges the result.
+//! Where memory is refused, a disk below that is in memory fails, and so does a write, though it
+//! wasn't their turn. So a test asks `wants_memory` before it judges the result.
 //!
 //! A read fails exactly if no byte may pass any more. Else it gives one piece, or less if there is
 //! less room or less is left. The same holds of a write, except that it also fails if memory is

@@ -1,4 +1,4 @@
-//! A reader and a writer that fail from some byte on.
+//! A reader and a writer that fail once a number of bytes have passed.
 
 ghost use Rattle.std.specs.Prelude.{◌≡◌, ◌⊎◌, ◌↔◌, ◌-◌, ◌||◌, [], true, false, Some, length};
 ghost use Rattle.std.specs.Prelude.{IsErr, IfOk, IfErr};
@@ -12,7 +12,7 @@ ghost use Rattle.esc_flaky.specs.Failing.{finds_no_memory};
 use std::alloc::Global;
 use std::io::{self, ErrorKind, Read, Write};
 
-/// Bytes to be read. A number of them pass, and every read after those fails.
+/// Bytes to be read. A number of them can be read, and every read after those fails.
 #[derive(Drop)]
 pub struct FailingReader<'a> {
     rest: &'a [u8],
@@ -21,7 +21,8 @@ pub struct FailingReader<'a> {
 }
 
 impl<'a> FailingReader<'a> {
-    /// A reader of these bytes. A read gives at most `piece` bytes, where 0 counts as 1.
+    /// A reader of these bytes, of which `passing` can be read before every read fails. A read
+    /// gives at most `piece` bytes, where 0 counts as 1.
     pub fn new(bytes: &'a [u8], piece: usize, passing: usize) -> FailingReader<'a>
         ensures bytes { unread result ≡ bytes.now }
         ensures piece { read_size result ≡ piece }
@@ -64,7 +65,7 @@ impl Read for FailingReader<'_> {
     }
 }
 
-/// What is written. A number of bytes pass, and every write after those fails.
+/// What is written. A number of bytes can be written, and every write after those fails.
 #[derive(Drop)]
 pub struct FailingWriter {
     text: Vec<u8>,
@@ -75,8 +76,8 @@ pub struct FailingWriter {
 }
 
 impl FailingWriter {
-    /// A writer that has no bytes yet. A write takes at most `piece` bytes, where 0 counts as 1.
-    /// Where it is stuck every flush fails.
+    /// A writer that has no bytes yet. `passing` can be written before every write fails. A write
+    /// takes at most `piece` bytes, where 0 counts as 1. If `is_stuck`, every flush fails.
     pub fn new(alloc: Global, piece: usize, passing: usize, is_stuck: bool) -> FailingWriter
         ensures empty { written result ≡ [] }
         ensures piece { write_size result ≡ piece }
@@ -93,7 +94,7 @@ impl FailingWriter {
         }
     }
 
-    /// Whether a write failed because memory was refused, though nobody told it to.
+    /// Whether a write failed because memory was refused, though bytes could still be written.
     pub fn wants_memory(&self) -> bool
         ensures { result ≡ had_none self.now }
     {

@@ -1,4 +1,4 @@
-//! A module for each crate, how rows are told, and how texts are compared.
+//! A module for each crate, how rows are shown, and how texts are compared.
 
 mod asserts;
 mod bundle;

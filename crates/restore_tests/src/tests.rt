@@ -21,13 +21,13 @@ use std::test::Fail;
 
 const HEADING: &str = "receipt,number,verdict,fault,id,resend,copy,orphans\n";
 
-/// What a run is to say: words, status, standard output, standard error.
+/// A run: its words, and the status, standard output and standard error that it must give.
 type Row<'a> = (&'a str, u8, &'a str, &'a str);
 
 /// Files, then runs of the program, one after the other.
 #[derive(Clone, Copy)]
 struct Scene {
-    /// The folder of the scene, which is made anew.
+    /// The folder of the scene, which is made afresh.
     folder: &'static str,
     /// The folders in it.
     folders: &'static [&'static str],

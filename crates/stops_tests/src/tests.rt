@@ -2,7 +2,9 @@
 
 mod events;
 mod files;
+mod migrating;
 mod stops;
+mod story;
 
 use std::process::Abort;
 

@@ -45,7 +45,7 @@ pub enum Body {
     Domains,
 }
 
-/// Tables: of each its name and the text of its rows.
+/// Tables: the name and the text of the rows of each.
 type Tables = &'static [(&'static str, &'static str)];
 
 // A bundle of one contact, without its last byte.
@@ -297,7 +297,7 @@ pub fn line_of(alloc: Global, body: Body) -> Result<String, Fail> {
     Ok(line)
 }
 
-/// The manifest that a text is.
+/// The manifest that a text reads as.
 pub fn read(alloc: Global, text: &str) -> Result<Manifest, Fail> {
     Ok(read_manifest(alloc, text.as_bytes())?)
 }

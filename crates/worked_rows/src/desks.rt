@@ -33,7 +33,7 @@ pub fn desk_of<S: Alter + Drop>(
     create(alloc, conn, &manifest)
 }
 
-/// A desk over a new store of the manifest that a text is.
+/// A desk over a new store of a manifest's text.
 pub fn desk_over<S: Alter + Drop>(
     alloc: Global,
     conn: Connection<S>,
@@ -51,7 +51,7 @@ pub fn open<S: Alter + Drop>(alloc: Global, conn: Connection<S>) -> Result<Desk<
     }
 }
 
-/// The desk over the store that a version 1 store of a database becomes.
+/// The desk over a database's store of version 1, which is migrated.
 pub fn migrate<S: Alter + Drop>(alloc: Global, conn: Connection<S>) -> Result<Desk<S>, Fail> {
     match Store::migrate(alloc, conn) {
         Ok(store) => Ok(Desk::open(store)),

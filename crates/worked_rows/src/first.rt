@@ -97,7 +97,7 @@ pub fn put_listed<S: Alter>(
     Ok(())
 }
 
-/// Keeps a receipt of the arrival of a body with this digest.
+/// Stores a receipt of the arrival of a body with this digest.
 pub fn put_receipt<S: Alter>(
     conn: &mut Connection<S>,
     receipt: u32,
@@ -121,7 +121,7 @@ pub fn put_receipt<S: Alter>(
     Ok(())
 }
 
-/// Holds the body of a row.
+/// Stores the body of a row.
 pub fn put_body<S: Alter>(conn: &mut Connection<S>, row: u32, body: &[u8]) -> Result<(), Error> {
     conn.execute(
         "INSERT INTO held (row, body) VALUES (?1, ?2)",
@@ -139,7 +139,7 @@ pub fn put_step<S: Alter>(conn: &mut Connection<S>, step: u32, row: u32) -> Resu
     Ok(())
 }
 
-/// Keeps an object.
+/// Stores an object, as its record.
 pub fn put_object<S: Alter>(
     conn: &mut Connection<S>,
     kind: u32,
@@ -153,7 +153,8 @@ pub fn put_object<S: Alter>(
     Ok(())
 }
 
-/// Keeps what stood before a step under a key that it mentions, if anything did.
+/// Stores a before-image: of a key that a step mentions, the record that it had before the step, if
+/// any.
 pub fn put_image<S: Alter>(
     conn: &mut Connection<S>,
     step: u32,
@@ -170,7 +171,7 @@ pub fn put_image<S: Alter>(
 
 // ---- records
 
-// Four bytes, the greatest first.
+// A number as four bytes, the most significant first.
 fn push_number(record: &mut Vec<u8>, number: usize) -> Result<(), Fail> {
     let number = u32::try_from(number)?;
     record.extend_from_slice(&number.to_be_bytes())?;
@@ -183,7 +184,7 @@ fn push_text(record: &mut Vec<u8>, text: &str) -> Result<(), Fail> {
     Ok(())
 }
 
-/// Begins the record of an object with so many rows.
+/// Begins the record of an object with this many rows.
 pub fn begin_record(alloc: Global, rows: usize) -> Result<Vec<u8>, Fail> {
     let mut record = Vec::new(alloc);
     push_number(&mut record, rows)?;
@@ -223,7 +224,7 @@ const OBJECTS: [Plain; 3] = [
     ),
 ];
 
-// F1 is the first row, and its body came first. It has no child row without a parent row.
+// The receipt of F1: it is the first row, and its body came for the first time. It has no orphans.
 const HELD: FirstAnswer = FirstAnswer {
     verdict: 1,
     fault: None,
@@ -232,7 +233,7 @@ const HELD: FirstAnswer = FirstAnswer {
     orphans: Some(0),
 };
 
-// Keeps the row of F1, a Full of 2024-03-03T00:00:00Z, its receipt, its body and its step.
+// Stores the row of F1, a Full of 2024-03-03T00:00:00Z, its receipt, its body and its step.
 fn put_f1<S: Alter>(conn: &mut Connection<S>, body: &[u8]) -> Result<(), Error> {
     let digest = Sha256::digest(body);
     let listed = FirstListed {
@@ -249,7 +250,7 @@ fn put_f1<S: Alter>(conn: &mut Connection<S>, body: &[u8]) -> Result<(), Error> 
     put_step(conn, 1, 0)
 }
 
-// Nothing stood before the first step.
+// Stores an object, and that its key had none before the first step.
 fn put_plain<S: Alter>(
     alloc: Global,
     conn: &mut Connection<S>,
@@ -277,7 +278,7 @@ pub fn make_held<S: Alter>(
     Ok(())
 }
 
-/// Keeps the receipt of a body that no row listed, and not the body.
+/// Stores the receipt of a body that no row listed, and not the body.
 pub fn put_lost<S: Alter>(
     conn: &mut Connection<S>,
     receipt: u32,
@@ -287,8 +288,8 @@ pub fn put_lost<S: Alter>(
     put_receipt(conn, receipt, number, &Sha256::digest(body), &NOT_LISTED)
 }
 
-/// Makes the version 1 store that lists F1, took 1:f1, and then answered A2 to these bodies under
-/// these numbers. The receipts of those are 2, 3, and so on.
+/// Makes the version 1 store that lists F1, took 1:f1, and then gave A2 to these bodies under these
+/// numbers. The receipts of those are 2, 3, and so on.
 pub fn make_first<S: Alter>(
     alloc: Global,
     conn: &mut Connection<S>,

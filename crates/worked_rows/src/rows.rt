@@ -5,14 +5,14 @@ use Body::{
     Abc, Both, Cut, D2, D2Resent, D3, D3Unlisted, D6, Empty, F1, F2, F5, I4, Long, Orphan, Unequal,
 };
 
-/// An arrival, and the answer to it.
+/// An arrival, its reply and its work.
 #[derive(Clone, Copy)]
 pub struct Taken {
     pub number: &'static str,
     pub body: Body,
-    /// Receipt, number, verdict, fault, id, resend, copy and orphans.
+    /// The reply: receipt, number, verdict, fault, id, resend, copy and orphans.
     pub reply: &'static str,
-    /// Whether all was cleared, steps taken back, steps applied, writes.
+    /// The work: whether all was cleared, steps undone, steps applied, writes.
     pub work: (bool, u32, u32, u64),
 }
 
@@ -98,7 +98,7 @@ pub const FORWARD: Row = Row {
     tables: &[R1, C1, DOMAIN_B],
 };
 
-/// The same ones, the last first.
+/// The same deposits, the last first.
 pub const BACKWARDS: Row = Row {
     name: "the last first",
     listed: B,

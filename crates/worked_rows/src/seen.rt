@@ -181,7 +181,7 @@ fn tell_row_chain(text: &mut String, row: &Row) -> Result<(), Fail> {
     Ok(())
 }
 
-/// Receipts, held rows, tables and chain that a row says.
+/// The receipts, held rows, tables and chain that a row says.
 pub fn tell_row(alloc: Global, text: &mut String, row: &Row) -> Result<(), Fail> {
     tell_replies_of(alloc, text, row.taken)?;
     tell_rows(text, row.listed.len(), row.held)?;

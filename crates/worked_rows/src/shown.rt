@@ -61,8 +61,8 @@ pub fn tell_reply(text: &mut String, reply: &Reply) -> Result<(), Fail> {
     tell_if(text, reply.orphans)
 }
 
-/// The end of a reply's line: whether all was cleared, steps taken back, steps applied, writes, and
-/// how many were counted.
+/// The end of a reply's line: whether all was cleared, steps undone, steps applied, writes, and how
+/// many writes the desk counted.
 pub fn tell_work(text: &mut String, work: (bool, u32, u32, u64), counted: u64) -> Result<(), Fail> {
     let (cleared, undone, applied, writes) = work;
     writeln!(

@@ -8,7 +8,7 @@ use std::test::Fail;
 /// The version of a store.
 pub const VERSION: [&str; 1] = ["SELECT id, version FROM info ORDER BY id"];
 
-/// The other tables that a store of version 1 has, too.
+/// The other tables that stores of both versions have.
 pub const FIRST_TABLES: [&str; 6] = [
     "SELECT row, id, type, watermark, prev, resend, digest FROM listed ORDER BY row",
     "SELECT receipt, number, digest, verdict, fault, row, again, orphans FROM receipt ORDER BY receipt",
@@ -18,13 +18,13 @@ pub const FIRST_TABLES: [&str; 6] = [
     "SELECT pos, kind, key, record FROM undo ORDER BY pos, kind, key",
 ];
 
-/// Those that it hasn't.
+/// The tables that a store of version 1 doesn't have.
 pub const NEW_TABLES: [&str; 2] = [
     "SELECT digest, body FROM parked ORDER BY digest",
     "SELECT id, watermark FROM moment ORDER BY id",
 ];
 
-// Tells bytes as a text, or else by their digits.
+// Bytes as text if they are UTF-8, else in hexadecimal digits.
 fn tell_bytes(text: &mut String, bytes: &[u8]) -> Result<(), Fail> {
     if let Ok(part) = str::from_utf8(bytes) {
         text.push_str(part)?;

@@ -88,7 +88,7 @@ fn push_domains(text: &mut String, alloc: Global, r: &mut MemRegistry) -> Result
     Ok(())
 }
 
-// The work of a move: whether all was cleared, steps taken back, steps applied, writes.
+// The work of a move: whether all was cleared, steps undone, steps applied, writes.
 fn push_work(text: &mut String, work: &Work) -> Result<(), NoMemory> {
     let cleared = if work.cleared { "cleared" } else { "kept" };
     let undone = work.undone;
@@ -101,7 +101,7 @@ fn push_work(text: &mut String, work: &Work) -> Result<(), NoMemory> {
     Ok(())
 }
 
-// The work of a move, and how many writes the registry counts more.
+// The work of a move, and how many writes the registry counted for it.
 fn push_move(
     text: &mut String,
     rt: &impl Abort,
@@ -118,7 +118,7 @@ fn push_move(
     Ok(())
 }
 
-// What a registry did in a move, how many writes it counts more, and which domains it has then.
+// What a registry did in a move, how many writes it counted, and which domains it has then.
 fn moved(rt: &impl Abort, alloc: Global, old: &str, new: &str) -> Result<String, NoMemory> {
     let mut text = String::new(alloc);
     let mut r = MemRegistry::new(alloc);
@@ -223,7 +223,7 @@ fn push_undo(
     Ok(())
 }
 
-// A step that is taken back: its writes, how many the registry counts then, and the domains.
+// A step that is undone: its writes, how many the registry counts then, and the domains.
 fn push_undone(
     text: &mut String,
     alloc: Global,
@@ -275,7 +275,7 @@ fn stopping_registry(rt: &impl Abort, alloc: Global, calls: u32) -> Result<Stopp
     Ok(Stopping { inner, left: calls })
 }
 
-// The work of a move that takes two steps back and applies two.
+// The work of a move that undoes two steps and applies two.
 fn stopping_move(rt: &impl Abort, alloc: Global, r: &mut Stopping) -> Result<Work, Stopped> {
     go(rt, alloc, r, "F1 D2 D3", "F1 D2-resent D3")
 }
@@ -307,7 +307,7 @@ fn a_fault_of_the_registry_is_answered(rt: HostRuntime) {
     }
 }
 
-/// Keys of objects, not in their order.
+/// Keys of objects, out of order.
 static KEYS: [(Kind, &str); 4] = [
     (Kind::Domain, "b.example"),
     (Kind::Contact, "C1"),

@@ -24,7 +24,7 @@ struct Told<'a> {
     children: &'a str,
 }
 
-// The object that a text gives, or nothing if it isn't the text of one.
+// The object that a text describes, or nothing if it describes none.
 fn told_of(text: &str) -> Option<Told<'_>> {
     let (parent, children) = text.split_once('\n').unwrap_or((text, ""));
     let (name, cells) = parent.split_once(": ")?;
@@ -130,7 +130,7 @@ fn shown(alloc: Global, found: &[Finding]) -> Result<String, NoMemory> {
     Ok(text)
 }
 
-// What is found of the objects of tables one at a time.
+// What is found of the objects of tables, given one at a time.
 fn walked(
     alloc: Global,
     tables: BTreeMap<Key, Object>,
@@ -143,7 +143,7 @@ fn walked(
     }
 }
 
-// What is found in tables, or of their objects one at a time.
+// What is found in tables, whole or given one object at a time.
 fn findings(
     alloc: Global,
     tables: BTreeMap<Key, Object>,
@@ -224,7 +224,7 @@ fn findings_are_compared_by_all_fields(rt: HostRuntime) {
     assert_told(&rt, "findings", comparisons(rt.alloc()), COMPARED);
 }
 
-// Bytes as a text; of bytes that are none it is empty.
+// Bytes as text; empty if they aren't UTF-8.
 fn text_of(alloc: Global, bytes: Vec<u8>) -> Result<String, NoMemory> {
     match str::from_utf8(&bytes) {
         Ok(text) => Ok(String::from_str(alloc, text)?),
@@ -232,7 +232,7 @@ fn text_of(alloc: Global, bytes: Vec<u8>) -> Result<String, NoMemory> {
     }
 }
 
-// The export of the objects of tables one at a time.
+// The export of the objects of tables, given one at a time.
 fn exported_from(
     alloc: Global,
     tables: BTreeMap<Key, Object>,
@@ -244,7 +244,7 @@ fn exported_from(
     }
 }
 
-// The export of tables, or that of their objects one at a time, as a text.
+// The export of tables, whole or given one object at a time, as a text.
 fn exported(alloc: Global, objects: &str, kind: Kind, walk: bool) -> Result<String, NoMemory> {
     let tables = tables_of(alloc, objects)?;
     let bytes = if walk {

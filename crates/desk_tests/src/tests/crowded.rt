@@ -17,7 +17,7 @@ const SMALL: usize = 1_023;
 
 /// What comes to a desk where so many are parked.
 #[derive(Clone, Copy)]
-enum Sent {
+pub enum Sent {
     /// A small body, under its text as its number.
     Small(&'static str),
     /// A body under a number.
@@ -86,7 +86,8 @@ fn park_all<S: Alter>(alloc: Global, change: &mut Change<'_, S>) -> Result<(), F
     Ok(())
 }
 
-fn fill<S: Alter>(alloc: Global, store: &mut Store<S>) -> Result<(), Fail> {
+/// Parks the small bodies.
+pub fn fill<S: Alter>(alloc: Global, store: &mut Store<S>) -> Result<(), Fail> {
     let mut change = store.begin()?;
     park_all(alloc, &mut change)?;
     Ok(change.commit()?)
@@ -173,10 +174,15 @@ fn tell_counts<S: Alter + Drop>(
     Ok(())
 }
 
-fn answers<S: Alter + Drop>(alloc: Global, desk: &mut Desk<S>) -> Result<String, Fail> {
+/// What each is answered.
+pub fn answers<S: Alter + Drop>(
+    alloc: Global,
+    desk: &mut Desk<S>,
+    events: &[Sent],
+) -> Result<String, Fail> {
     let mut text = String::new(alloc);
-    for sent in EVENTS {
-        take(alloc, &mut text, desk, sent)?;
+    for sent in events {
+        take(alloc, &mut text, desk, *sent)?;
         text.push_str("\n")?;
     }
     Ok(text)
@@ -186,7 +192,7 @@ fn answers<S: Alter + Drop>(alloc: Global, desk: &mut Desk<S>) -> Result<String,
 fn one_body_more_than_there_is_place_for(rt: HostRuntime) -> Result<(), Fail> {
     let alloc = rt.alloc();
     let mut desk = crowded_desk(alloc, Connection::open_in_memory(alloc)?)?;
-    let answers = answers(alloc, &mut desk)?;
+    let answers = answers(alloc, &mut desk, &EVENTS)?;
     assert_text(&rt, "crowded", answers.as_str(), ANSWERS);
     Ok(())
 }

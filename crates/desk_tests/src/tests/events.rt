@@ -15,7 +15,7 @@ use worked_rows::shown::{tell_reply, tell_work};
 
 /// An event.
 #[derive(Clone, Copy)]
-enum Event {
+pub enum Event {
     /// A body arrives under a number.
     Arrives(&'static str, Body),
     /// A manifest lists these bodies, and these further rows.
@@ -251,17 +251,25 @@ step 4 2024-03-10T00:00:00Z FULL 0
         events: &[
             Event::Arrives("1", Body::F1),
             Event::Arrives("2", Body::D2),
+            Event::Arrives("3", Body::D3),
+            Event::Arrives("4", Body::D2Resent),
             Event::AsOf(Some("2024-03-02T23:59:59Z")),
         ],
         seen: "1,1,A1,,F1,0,new,0; cleared false, 0 undone, 1 applied, 3 written, 3 counted
 parked 0
 2,2,A1,,D2,0,new,0; cleared false, 0 undone, 1 applied, 1 written, 1 counted
 parked 0
+3,3,A1,,D3,0,new,0; cleared false, 0 undone, 1 applied, 1 written, 1 counted
+parked 0
+4,4,A1,,D2,1,new,0; cleared false, 2 undone, 2 applied, 5 written, 5 counted
+parked 0
 as of 2024-03-02T23:59:59Z; cleared true, 0 undone, 0 applied, 0 written, 0 counted
 parked 0
 1,1,A1,,F1,0,new,0
 2,2,A1,,D2,0,new,0
-lists 7, holds 0 1
+3,3,A1,,D3,0,new,0
+4,4,A1,,D2,1,new,0
+lists 7, holds 0 1 2 6
 ",
     },
     Story {
@@ -356,8 +364,8 @@ pub fn tell_moment<S: Alter + Drop>(
     tell_end(alloc, text, desk, &work, before)
 }
 
-// The desk after an event.
-fn take<S: Alter + Drop>(
+/// The desk after an event.
+pub fn take<S: Alter + Drop>(
     alloc: Global,
     text: &mut String,
     desk: Desk<S>,

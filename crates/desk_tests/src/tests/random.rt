@@ -2,9 +2,12 @@
 //! whenever the store is closed.
 
 use super::assert_text;
+use super::drawing::draw_list;
 use super::events::{tell_amendment, tell_end, tell_moment};
-use super::model::{begin, take_with_work, tell_all};
-use super::universe::{Body, Event, List, draw_list, manifest_text, push_moment};
+use super::kept::make_store;
+use super::model::{Book, begin, take_early, take_with_work};
+use super::state::tell_all;
+use super::universe::{Body, Event, List, manifest_text, push_moment};
 use esc_desk::{Desk, End, ParkedBody, number};
 use esc_envelope::watermark_text;
 use sqlite::{Alter, Connection};
@@ -13,7 +16,7 @@ use std::fmt::Write;
 use std::ops::Range;
 use std::process::Abort;
 use std::test::Fail;
-use worked_rows::desks::{desk_over, open, writes};
+use worked_rows::desks::{desk_over, migrate, open, writes};
 use worked_rows::seen::tell_desk;
 use worked_rows::shown::{tell_counts, tell_reply, tell_status};
 
@@ -173,13 +176,36 @@ fn take<S: Alter + Drop>(
     Ok(desk)
 }
 
-/// A desk over a new store of a list's first row.
+/// What a list begins with.
+pub fn first_book(alloc: Global, list: &List) -> Result<Book, Fail> {
+    let mut book = begin(alloc, list.first.as_slice())?;
+    for event in list.events.iter().take(list.early) {
+        take_early(&mut book, event)?;
+    }
+    Ok(book)
+}
+
+// A desk over the version 1 store that a list begins with, which is migrated.
+fn migrated_desk<S: Alter + Drop>(
+    alloc: Global,
+    mut conn: Connection<S>,
+    list: &List,
+) -> Result<Desk<S>, Fail> {
+    let book = first_book(alloc, list)?;
+    make_store(alloc, &mut conn, list.bodies.as_slice(), &book)?;
+    migrate(alloc, conn)
+}
+
+/// A desk over a new store of a list's first rows, or over one that was migrated.
 pub fn first_desk<S: Alter + Drop>(
     alloc: Global,
     conn: Connection<S>,
     list: &List,
 ) -> Result<Desk<S>, Fail> {
-    let manifest = manifest_text(alloc, list.bodies.as_slice(), &[list.first])?;
+    if list.early > 0 {
+        return migrated_desk(alloc, conn, list);
+    }
+    let manifest = manifest_text(alloc, list.bodies.as_slice(), list.first.as_slice())?;
     desk_over(alloc, conn, manifest.as_str())
 }
 
@@ -188,7 +214,7 @@ fn seen<S: Alter + Drop>(alloc: Global, conn: Connection<S>, list: &List) -> Res
     let bodies = list.bodies.as_slice();
     let mut desk = first_desk(alloc, conn, list)?;
     let mut text = String::new(alloc);
-    for event in &list.events {
+    for event in list.later() {
         tell_event(alloc, &mut text, bodies, event)?;
         desk = take(alloc, &mut text, bodies, desk, event)?;
     }
@@ -199,9 +225,9 @@ fn seen<S: Alter + Drop>(alloc: Global, conn: Connection<S>, list: &List) -> Res
 // What the model says of it.
 fn said(alloc: Global, list: &List) -> Result<String, Fail> {
     let bodies = list.bodies.as_slice();
-    let mut book = begin(alloc, &list.first)?;
+    let mut book = first_book(alloc, list)?;
     let mut text = String::new(alloc);
-    for event in &list.events {
+    for event in list.later() {
         tell_event(alloc, &mut text, bodies, event)?;
         match event {
             Event::Opens => tell_all(alloc, &mut text, bodies, &book)?,
@@ -214,27 +240,32 @@ fn said(alloc: Global, list: &List) -> Result<String, Fail> {
 
 /// The name of a list: its seed, and how it begins.
 pub fn name_of(alloc: Global, seed: u64, list: &List) -> Result<String, Fail> {
-    let manifest = manifest_text(alloc, list.bodies.as_slice(), &[list.first])?;
+    let bodies = list.bodies.as_slice();
+    let manifest = manifest_text(alloc, bodies, list.first.as_slice())?;
     let mut name = String::new(alloc);
     write!(
         name,
         "the list of seed {seed}, which begins with {manifest}"
     )?;
+    for event in list.events.iter().take(list.early) {
+        tell_event(alloc, &mut name, bodies, event)?;
+    }
     Ok(name)
 }
 
-fn assert_list(rt: &impl Abort, alloc: Global, seed: u64) -> Result<(), Fail> {
-    let list = draw_list(alloc, seed, EVENTS, true)?;
-    let name = name_of(alloc, seed, &list)?;
-    let said = said(alloc, &list)?;
-    let seen = seen(alloc, Connection::open_in_memory(alloc)?, &list)?;
+/// Compares what is seen of a list with what the model says of it.
+pub fn assert_list(rt: &impl Abort, alloc: Global, seed: u64, list: &List) -> Result<(), Fail> {
+    let name = name_of(alloc, seed, list)?;
+    let said = said(alloc, list)?;
+    let seen = seen(alloc, Connection::open_in_memory(alloc)?, list)?;
     assert_text(rt, name.as_str(), seen.as_str(), said.as_str());
     Ok(())
 }
 
 fn assert_lists(rt: &impl Abort, alloc: Global, seeds: Range<u64>) -> Result<(), Fail> {
     for seed in seeds {
-        assert_list(rt, alloc, seed)?;
+        let list = draw_list(alloc, seed, EVENTS, true)?;
+        assert_list(rt, alloc, seed, &list)?;
     }
     Ok(())
 }

@@ -2,9 +2,11 @@
 //! and the desk's whole state in the end.
 
 use super::assert_text;
-use super::model::{begin, take, tell_all};
-use super::random::{first_desk, name_of, tell_closed, tell_event};
-use super::universe::{Body, Event, List, draw_list, manifest_text, push_moment};
+use super::drawing::draw_list;
+use super::model::take;
+use super::random::{first_book, first_desk, name_of, tell_closed, tell_event};
+use super::state::tell_all;
+use super::universe::{Body, Event, List, manifest_text, push_moment};
 use esc_desk::{AmendFault, Arrival, Desk, Event as Asked, EventOutcome, Outcome, number};
 use esc_envelope::watermark;
 use sqlite::{Alter, Connection};
@@ -34,7 +36,7 @@ fn text_of(alloc: Global, bodies: &[Body], event: &Event) -> Result<String, Fail
 
 fn texts_of(alloc: Global, list: &List) -> Result<Vec<String>, Fail> {
     let mut texts = Vec::new(alloc);
-    for event in &list.events {
+    for event in list.later() {
         texts.push(text_of(alloc, list.bodies.as_slice(), event)?)?;
     }
     Ok(texts)
@@ -66,7 +68,7 @@ fn all_asked<'a>(
     texts: &'a [String],
 ) -> Result<Vec<Asked<'a>>, Fail> {
     let mut all = Vec::new(alloc);
-    for (event, text) in list.events.iter().zip(texts) {
+    for (event, text) in list.later().iter().zip(texts) {
         all.push(asked(list.bodies.as_slice(), event, text.as_str())?)?;
     }
     Ok(all)
@@ -105,7 +107,7 @@ fn tell_outcomes(
     list: &List,
     outcomes: &[EventOutcome],
 ) -> Result<(), Fail> {
-    for (event, outcome) in list.events.iter().zip(outcomes) {
+    for (event, outcome) in list.later().iter().zip(outcomes) {
         tell_event(alloc, text, list.bodies.as_slice(), event)?;
         tell_outcome(text, event, outcome)?;
     }
@@ -136,30 +138,31 @@ fn seen<S: Alter + Drop>(alloc: Global, conn: Connection<S>, list: &List) -> Res
 // What the model says of it.
 fn said(alloc: Global, list: &List) -> Result<String, Fail> {
     let bodies = list.bodies.as_slice();
-    let mut book = begin(alloc, &list.first)?;
+    let mut book = first_book(alloc, list)?;
     let mut text = String::new(alloc);
-    for event in &list.events {
+    for event in list.later() {
         tell_event(alloc, &mut text, bodies, event)?;
         take(alloc, &mut text, bodies, &mut book, event)?;
         text.push_str("\n")?;
     }
-    writeln!(text, "{} outcomes", list.events.len())?;
+    writeln!(text, "{} outcomes", list.later().len())?;
     tell_all(alloc, &mut text, bodies, &book)?;
     Ok(text)
 }
 
-fn assert_run(rt: &impl Abort, alloc: Global, seed: u64) -> Result<(), Fail> {
-    let list = draw_list(alloc, seed, EVENTS, false)?;
-    let name = name_of(alloc, seed, &list)?;
-    let said = said(alloc, &list)?;
-    let seen = seen(alloc, Connection::open_in_memory(alloc)?, &list)?;
+/// Compares what is seen of a run of a list with what the model says of it.
+pub fn assert_run(rt: &impl Abort, alloc: Global, seed: u64, list: &List) -> Result<(), Fail> {
+    let name = name_of(alloc, seed, list)?;
+    let said = said(alloc, list)?;
+    let seen = seen(alloc, Connection::open_in_memory(alloc)?, list)?;
     assert_text(rt, name.as_str(), seen.as_str(), said.as_str());
     Ok(())
 }
 
 fn assert_runs(rt: &impl Abort, alloc: Global, seeds: Range<u64>) -> Result<(), Fail> {
     for seed in seeds {
-        assert_run(rt, alloc, seed)?;
+        let list = draw_list(alloc, seed, EVENTS, false)?;
+        assert_run(rt, alloc, seed, &list)?;
     }
     Ok(())
 }

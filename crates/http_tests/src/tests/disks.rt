@@ -12,6 +12,15 @@ use std::test::Fail;
 /// A desk over files of which one call fails.
 pub(crate) type FlakyDesk<D> = Desk<FileStore<FlakyDisk<D>>>;
 
+/// What a store is made of, where there is none of this version.
+#[derive(Drop)]
+pub(crate) enum Origin {
+    /// A manifest, in a database without tables.
+    Listed(Manifest),
+    /// A store of version 1, which is migrated.
+    First,
+}
+
 /// A call of one of the two files.
 #[derive(Clone, Copy, Debug)]
 pub(crate) struct Call {
@@ -63,6 +72,22 @@ pub(crate) fn new_files(alloc: Global) -> Files<Memory> {
 // Whether a file in memory wanted more of it. Then a call failed that was not to.
 fn want_memory<D: Disk + Drop>(files: &Files<FlakyDisk<D>>) -> bool {
     files.log.wants_memory() || files.db.wants_memory()
+}
+
+// A file with the same bytes, all of them synced.
+fn synced(alloc: Global, file: &Memory) -> Result<Memory, Fail> {
+    let mut copy = Memory::new(alloc);
+    copy.write_at(0, file.bytes())?;
+    copy.sync()?;
+    Ok(copy)
+}
+
+/// Files with the same bytes.
+pub(crate) fn copied(alloc: Global, files: &Files<Memory>) -> Result<Files<Memory>, Fail> {
+    Ok(Files {
+        log: synced(alloc, &files.log)?,
+        db: synced(alloc, &files.db)?,
+    })
 }
 
 /// Why files of which no call is to fail are refused.
@@ -127,29 +152,53 @@ fn disconnect<D: Disk + Drop>(connection: Connection<FileStore<D>>) -> Files<D> 
     connection.into_store().close()
 }
 
-// A desk over a new store, or the connection where it is refused by `S1`.
+/// The files of a connection, where all of the log is copied into the database file.
+pub(crate) fn closed<D: Disk + Drop>(
+    connection: Connection<FileStore<D>>,
+) -> Result<Files<D>, Fail> {
+    match connection.close_files() {
+        Ok(files) => Ok(files),
+        Err((error, store)) => {
+            drop(store.close());
+            Err(Fail::new(SFault::from(error)))
+        }
+    }
+}
+
+fn store_of<S: Alter + Drop>(
+    alloc: Global,
+    connection: Connection<S>,
+    origin: &Origin,
+) -> Result<Store<S>, (SFault, Connection<S>)> {
+    match origin {
+        Origin::Listed(manifest) => Store::create(alloc, connection, manifest),
+        Origin::First => Store::migrate(alloc, connection),
+    }
+}
+
+// A desk over a new store, or one that was migrated; or the connection where it is refused by `S1`.
 fn create<S: Alter + Drop>(
     alloc: Global,
     connection: Connection<S>,
-    manifest: &Manifest,
+    origin: &Origin,
 ) -> Result<Result<Desk<S>, Connection<S>>, Fail> {
-    match Store::create(alloc, connection, manifest) {
+    match store_of(alloc, connection, origin) {
         Ok(store) => Ok(Ok(Desk::open(store))),
         Err((SFault::S1, connection)) => Ok(Err(connection)),
         Err((fault, _)) => Err(Fail::new(fault)),
     }
 }
 
-// The desk over a database, or over a new store where it has no table; or the connection where it
-// is refused by `S1`.
+// The desk over a database, or over a new store where it is none; or the connection where it is
+// refused by `S1`.
 fn open_or_create<S: Alter + Drop>(
     alloc: Global,
     connection: Connection<S>,
-    manifest: &Manifest,
+    origin: &Origin,
 ) -> Result<Result<Desk<S>, Connection<S>>, Fail> {
     match Store::open(alloc, connection) {
         Ok(store) => Ok(Ok(Desk::open(store))),
-        Err((SFault::S3, connection)) => create(alloc, connection, manifest),
+        Err((SFault::S3, connection)) => create(alloc, connection, origin),
         Err((SFault::S1, connection)) => Ok(Err(connection)),
         Err((fault, _)) => Err(Fail::new(fault)),
     }
@@ -159,11 +208,11 @@ fn open_or_create<S: Alter + Drop>(
 fn open_twice<S: Alter + Drop>(
     alloc: Global,
     connection: Connection<S>,
-    manifest: &Manifest,
+    origin: &Origin,
 ) -> Result<Result<Desk<S>, Connection<S>>, Fail> {
-    match open_or_create(alloc, connection, manifest)? {
+    match open_or_create(alloc, connection, origin)? {
         Ok(desk) => Ok(Ok(desk)),
-        Err(connection) => open_or_create(alloc, connection, manifest),
+        Err(connection) => open_or_create(alloc, connection, origin),
     }
 }
 
@@ -171,9 +220,9 @@ fn open_twice<S: Alter + Drop>(
 pub(crate) fn sound_desk<S: Alter + Drop>(
     alloc: Global,
     connection: Connection<S>,
-    manifest: &Manifest,
+    origin: &Origin,
 ) -> Result<Desk<S>, Fail> {
-    match open_or_create(alloc, connection, manifest)? {
+    match open_or_create(alloc, connection, origin)? {
         Ok(desk) => Ok(desk),
         Err(_) => Err(Fail::new("S1 of a sound store")),
     }
@@ -184,10 +233,10 @@ pub(crate) fn reopen<D: Disk + Drop>(
     alloc: Global,
     files: Files<FlakyDisk<D>>,
     room: Room,
-    manifest: &Manifest,
+    origin: &Origin,
 ) -> Result<FlakyDesk<D>, Fail> {
     match connect(alloc, sound(inner(files)), room) {
-        Ok(connection) => match open_or_create(alloc, connection, manifest)? {
+        Ok(connection) => match open_or_create(alloc, connection, origin)? {
             Ok(desk) => Ok(desk),
             Err(connection) => Err(refusal(SFault::S1, disconnect(connection))),
         },
@@ -200,12 +249,12 @@ fn reopen_refused<D: Disk + Drop>(
     alloc: Global,
     files: Files<FlakyDisk<D>>,
     room: Room,
-    manifest: &Manifest,
+    origin: &Origin,
 ) -> Result<FlakyDesk<D>, Fail> {
     if want_memory(&files) {
         return Err(refusal(SFault::S1, files));
     }
-    reopen(alloc, files, room, manifest)
+    reopen(alloc, files, room, origin)
 }
 
 /// The desk over these files, in which a store is made if there is none. Where it is refused that
@@ -214,14 +263,14 @@ pub(crate) fn begin<D: Disk + Drop>(
     alloc: Global,
     files: Files<FlakyDisk<D>>,
     room: Room,
-    manifest: &Manifest,
+    origin: &Origin,
 ) -> Result<FlakyDesk<D>, Fail> {
     match connect(alloc, files, room) {
-        Ok(connection) => match open_twice(alloc, connection, manifest)? {
+        Ok(connection) => match open_twice(alloc, connection, origin)? {
             Ok(desk) => Ok(desk),
-            Err(connection) => reopen_refused(alloc, disconnect(connection), room, manifest),
+            Err(connection) => reopen_refused(alloc, disconnect(connection), room, origin),
         },
-        Err((SFault::S1, files)) => reopen_refused(alloc, files, room, manifest),
+        Err((SFault::S1, files)) => reopen_refused(alloc, files, room, origin),
         Err((fault, files)) => Err(refusal(fault, files)),
     }
 }

@@ -1,18 +1,22 @@
-//! A list of events, and what a desk gives for it.
+//! Lists of events, and what a desk gives for them.
 //!
-//! The first manifest lists F1, D3 and D2 at resend 1, so D2 and `abc` are parked. The amendment
+//! One is over a new store. The first manifest lists F1, D3 and D2 at resend 1, so D2 and `abc` are parked. The amendment
 //! lists D2, which is held from then on; `abc` stays parked. A moment between D2 and D3 takes D3's
 //! step back. D2 at resend 1 comes under it, and D3 stands on that once the moment is taken back.
+//!
+//! The other is over a store of version 1, which is migrated. Of the bodies that it did not keep
+//! `abc` comes again before its row, and D2 after it.
 
+use super::disks::Origin;
 use esc_desk::{AmendFault, Arrival, Desk, Event, EventOutcome, Outcome, SFault, number};
-use esc_manifest::Manifest;
-use sqlite::types::ValueRef;
-use sqlite::{Alter, Connection, Row};
+use sqlite::{Alter, Connection};
 use std::alloc::Global;
 use std::fmt::Write;
 use std::test::Fail;
 use worked_rows::bodies::{Body, bytes_of, manifest_of, manifest_text};
+use worked_rows::first::make_first;
 use worked_rows::shown::tell_reply;
+use worked_rows::tables::{FIRST_TABLES, NEW_TABLES, VERSION, tell_all};
 
 /// What a desk is sent.
 #[derive(Clone, Copy)]
@@ -42,23 +46,22 @@ static EVENTS: [Sent; 8] = [
     Sent::Moment(None),
 ];
 
-/// What the tables of a store hold, by their keys.
-const QUERIES: [&str; 9] = [
-    "SELECT id, version FROM info ORDER BY id",
-    "SELECT row, id, type, watermark, prev, resend, digest FROM listed ORDER BY row",
-    "SELECT receipt, number, digest, verdict, fault, row, again, orphans FROM receipt ORDER BY receipt",
-    "SELECT row, body FROM held ORDER BY row",
-    "SELECT pos, row FROM step ORDER BY pos",
-    "SELECT kind, key, record FROM object ORDER BY kind, key",
-    "SELECT pos, kind, key, record FROM undo ORDER BY pos, kind, key",
-    "SELECT digest, body FROM parked ORDER BY digest",
-    "SELECT id, watermark FROM moment ORDER BY id",
+/// What version 1 answered A2.
+const LOST: &[(&str, Body)] = &[("2", Body::D2), ("3", Body::Abc)];
+
+/// The events of a migrated store. Each of them changes a store that has not seen it.
+static AGAIN: [Sent; 4] = [
+    Sent::Body("3", Body::Abc),
+    Sent::Rows(&[Body::F1, Body::D2, Body::D3]),
+    Sent::Body("4", Body::D3),
+    Sent::Body("2", Body::D2),
 ];
 
-/// The first manifest, and the body or the text of each event.
+/// What the store is made of, the events, and the body or the text of each of them.
 #[derive(Drop)]
 pub(crate) struct List {
-    pub manifest: Manifest,
+    pub origin: Origin,
+    events: &'static [Sent],
     texts: Vec<Vec<u8>>,
 }
 
@@ -86,14 +89,40 @@ fn text_of(alloc: Global, sent: Sent) -> Result<Vec<u8>, Fail> {
     }
 }
 
-/// The list.
-pub(crate) fn worked_list(alloc: Global) -> Result<List, Fail> {
-    let manifest = manifest_of(alloc, FIRST)?;
+fn list_of(alloc: Global, origin: Origin, events: &'static [Sent]) -> Result<List, Fail> {
     let mut texts = Vec::new(alloc);
-    for sent in &EVENTS {
+    for sent in events {
         texts.push(text_of(alloc, *sent)?)?;
     }
-    Ok(List { manifest, texts })
+    Ok(List {
+        origin,
+        events,
+        texts,
+    })
+}
+
+/// The list over a new store.
+pub(crate) fn worked_list(alloc: Global) -> Result<List, Fail> {
+    let manifest = manifest_of(alloc, FIRST)?;
+    list_of(alloc, Origin::Listed(manifest), EVENTS.as_slice())
+}
+
+/// The list over a store that is migrated.
+pub(crate) fn migrated_list(alloc: Global) -> Result<List, Fail> {
+    list_of(alloc, Origin::First, AGAIN.as_slice())
+}
+
+/// What a database has before its store is made: a store of version 1 if that is to be migrated,
+/// else nothing.
+pub(crate) fn prepare<S: Alter>(
+    alloc: Global,
+    connection: &mut Connection<S>,
+    list: &List,
+) -> Result<(), Fail> {
+    match list.origin {
+        Origin::Listed(_) => Ok(()),
+        Origin::First => make_first(alloc, connection, LOST),
+    }
 }
 
 fn event<'a>(sent: Sent, text: &'a [u8]) -> Result<Event<'a>, Fail> {
@@ -109,7 +138,7 @@ fn event<'a>(sent: Sent, text: &'a [u8]) -> Result<Event<'a>, Fail> {
 
 fn events<'a>(alloc: Global, list: &'a List) -> Result<Vec<Event<'a>>, Fail> {
     let mut events = Vec::new(alloc);
-    for (sent, text) in EVENTS.iter().zip(&list.texts) {
+    for (sent, text) in list.events.iter().zip(&list.texts) {
         events.push(event(*sent, text.as_slice())?)?;
     }
     Ok(events)
@@ -188,7 +217,7 @@ pub(crate) fn send_answered<S: Alter + Drop>(
 ) -> Result<String, Fail> {
     let mut lines = String::new(alloc);
     let mut is_next_kept = is_kept;
-    for ((sent, text), is_answered) in EVENTS.iter().zip(&list.texts).zip(answered) {
+    for ((sent, text), is_answered) in list.events.iter().zip(&list.texts).zip(answered) {
         let event = event(*sent, text.as_slice())?;
         push_line(alloc, &mut lines, desk, event, (*is_answered, is_next_kept))?;
         is_next_kept = is_next_kept && *is_answered;
@@ -216,49 +245,6 @@ fn push_line<S: Alter + Drop>(
     Ok(())
 }
 
-// Tells bytes as a text, or else by their digits.
-fn tell_bytes(text: &mut String, bytes: &[u8]) -> Result<(), Fail> {
-    if let Ok(part) = str::from_utf8(bytes) {
-        text.push_str(part)?;
-        return Ok(());
-    }
-    for byte in bytes {
-        write!(text, "{byte:02x}")?;
-    }
-    Ok(())
-}
-
-fn tell_value(text: &mut String, value: ValueRef<'_>) -> Result<(), Fail> {
-    match value {
-        ValueRef::Null => text.push_str("none")?,
-        ValueRef::Int(number) => write!(text, "{number}")?,
-        ValueRef::Blob(bytes) => tell_bytes(text, bytes)?,
-        ValueRef::Text(bytes) => tell_bytes(text, bytes)?,
-        ValueRef::Real(_) => return Err(Fail::new("a store has no such value")),
-    }
-    Ok(())
-}
-
-fn tell_row(text: &mut String, row: &Row) -> Result<(), Fail> {
-    for at in 0..row.column_count() {
-        tell_value(text, row.get_ref(at)?)?;
-        text.push_str(" ")?;
-    }
-    text.push_str("\n")?;
-    Ok(())
-}
-
-fn tell_rows(text: &mut String, rows: &[Row]) -> Result<(), Fail> {
-    for row in rows {
-        tell_row(text, row)?;
-    }
-    Ok(())
-}
-
-fn rows_of<S: Alter + Drop>(conn: &mut Connection<S>, query: &str) -> Result<Vec<Row>, Fail> {
-    Ok(conn.query_all(query, &[])?)
-}
-
 /// All rows of a store: version, what is listed, receipts, bodies, steps, objects, before-images,
 /// parked bodies and the moment.
 pub(crate) fn tables<S: Alter + Drop>(
@@ -266,9 +252,8 @@ pub(crate) fn tables<S: Alter + Drop>(
     conn: &mut Connection<S>,
 ) -> Result<String, Fail> {
     let mut text = String::new(alloc);
-    for query in QUERIES {
-        writeln!(text, "{query}")?;
-        tell_rows(&mut text, rows_of(conn, query)?.as_slice())?;
-    }
+    tell_all(&mut text, conn, &VERSION)?;
+    tell_all(&mut text, conn, &FIRST_TABLES)?;
+    tell_all(&mut text, conn, &NEW_TABLES)?;
     Ok(text)
 }

@@ -1,4 +1,4 @@
-//! Amendments and moments of a desk that is asked over HTTP, and more bodies than may be parked.
+//! Amendments and moments of a desk that is asked over HTTP.
 
 use super::list::NOON;
 use super::{OPEN, Wire, served};
@@ -12,38 +12,38 @@ use worked_rows::desks::desk_of;
 
 /// What a desk is sent.
 #[derive(Clone, Copy)]
-enum Sent {
+pub(crate) enum Sent {
     /// A body arrives under a number.
     Put(&'static str, Body),
     /// A report is asked for.
     Get(&'static str),
     /// A manifest lists these bodies.
     Rows(&'static [Body]),
+    /// A manifest lists these rows.
+    More(&'static str),
     /// A moment is set, in nanoseconds since 1970-01-01T00:00:00Z, or taken back.
     Moment(Option<i64>),
 }
 
 /// What a desk is sent, and what it answers: of a response its status and type, and its body.
-type Step = (Sent, &'static str, &'static str);
+pub(crate) type Step = (Sent, &'static str, &'static str);
 
-const ARRIVED: &str = "200 OK\r\nContent-Type: application/json";
+pub(crate) const ARRIVED: &str = "200 OK\r\nContent-Type: application/json";
 
-const PARKED: &str = "202 Accepted\r\nContent-Type: application/json";
+pub(crate) const PARKED: &str = "202 Accepted\r\nContent-Type: application/json";
 
-const ROWS: &str = "200 OK\r\nContent-Type: text/csv";
+pub(crate) const ROWS: &str = "200 OK\r\nContent-Type: text/csv";
 
-const STATUS: &str = "200 OK\r\nContent-Type: text/plain";
-
-const NO_ROOM: &str = "503 Service Unavailable\r\nContent-Type: text/plain";
+pub(crate) const STATUS: &str = "200 OK\r\nContent-Type: text/plain";
 
 /// No response.
-const DONE: &str = "";
+pub(crate) const DONE: &str = "";
 
 /// 2024-03-02T23:59:59Z.
 const BEFORE_ALL: i64 = 1_709_423_999_000_000_000;
 
 /// The bodies that the manifest lists.
-const CHAINS: &[Body] = &[
+pub(crate) const CHAINS: &[Body] = &[
     Body::F1,
     Body::D2,
     Body::D3,
@@ -53,29 +53,39 @@ const CHAINS: &[Body] = &[
     Body::D2Resent,
 ];
 
+/// The first receipt of many lists.
+pub(crate) const F1_HELD: Step = (
+    Sent::Put("1", Body::F1),
+    ARRIVED,
+    r#"{"copy":"new","fault":null,"id":"F1","number":"1","orphans":0,"receipt":1,"resend":0,"verdict":"A1"}"#,
+);
+
+/// The receipt of D2 after it.
+pub(crate) const D2_HELD: Step = (
+    Sent::Put("2", Body::D2),
+    ARRIVED,
+    r#"{"copy":"new","fault":null,"id":"D2","number":"2","orphans":0,"receipt":2,"resend":0,"verdict":"A1"}"#,
+);
+
+const D3_HELD: Step = (
+    Sent::Put("3", Body::D3),
+    ARRIVED,
+    r#"{"copy":"new","fault":null,"id":"D3","number":"3","orphans":0,"receipt":3,"resend":0,"verdict":"A1"}"#,
+);
+
+const D2_HELD_AGAIN: Step = (
+    Sent::Put("4", Body::D2Resent),
+    ARRIVED,
+    r#"{"copy":"new","fault":null,"id":"D2","number":"4","orphans":0,"receipt":4,"resend":1,"verdict":"A1"}"#,
+);
+
 /// A moment between D2 and D3, then none, then one before the first deposit. F5 arrives while the
 /// first of them is set. A place past the moment is `standing` where a chain ends there.
 static MOMENTS: [Step; 15] = [
-    (
-        Sent::Put("1", Body::F1),
-        ARRIVED,
-        r#"{"copy":"new","fault":null,"id":"F1","number":"1","orphans":0,"receipt":1,"resend":0,"verdict":"A1"}"#,
-    ),
-    (
-        Sent::Put("2", Body::D2),
-        ARRIVED,
-        r#"{"copy":"new","fault":null,"id":"D2","number":"2","orphans":0,"receipt":2,"resend":0,"verdict":"A1"}"#,
-    ),
-    (
-        Sent::Put("3", Body::D3),
-        ARRIVED,
-        r#"{"copy":"new","fault":null,"id":"D3","number":"3","orphans":0,"receipt":3,"resend":0,"verdict":"A1"}"#,
-    ),
-    (
-        Sent::Put("4", Body::D2Resent),
-        ARRIVED,
-        r#"{"copy":"new","fault":null,"id":"D2","number":"4","orphans":0,"receipt":4,"resend":1,"verdict":"A1"}"#,
-    ),
+    F1_HELD,
+    D2_HELD,
+    D3_HELD,
+    D2_HELD_AGAIN,
     (Sent::Moment(Some(NOON)), DONE, "moved"),
     (
         Sent::Put("5", Body::F5),
@@ -145,14 +155,49 @@ watermark,type,used,state,blocker,awaited
     ),
 ];
 
+/// A moment before all of them takes each step back, and every place in which a chain ends is
+/// `standing`.
+static BEFORE: [Step; 10] = [
+    F1_HELD,
+    D2_HELD,
+    D3_HELD,
+    D2_HELD_AGAIN,
+    (Sent::Moment(Some(BEFORE_ALL)), DONE, "moved"),
+    (
+        Sent::Get("/status"),
+        STATUS,
+        "listed 7\nheld 4\nreceipts 4\nchain 0\nend none\nregistrar 0\ncontact 0\nhost 0\ndomain 0\nidn 0\nnndn 0\n",
+    ),
+    (
+        Sent::Get("/gaps"),
+        ROWS,
+        "\
+watermark,type,used,state,blocker,awaited
+2024-03-03T00:00:00Z,FULL,0,standing,,
+2024-03-04T00:00:00Z,DIFF,1,standing,,
+2024-03-05T00:00:00Z,DIFF,0,standing,,
+2024-03-06T00:00:00Z,INCR,,missing,,0
+2024-03-10T00:00:00Z,FULL,,missing,,0
+2024-03-11T00:00:00Z,DIFF,,missing,,0
+",
+    ),
+    (
+        Sent::Get("/export/domain"),
+        ROWS,
+        "kind,key,table,row,field,value\n",
+    ),
+    (Sent::Moment(None), DONE, "moved"),
+    (
+        Sent::Get("/status"),
+        STATUS,
+        "listed 7\nheld 4\nreceipts 4\nchain 3\nend 2024-03-05T00:00:00Z DIFF 0\nregistrar 1\ncontact 1\nhost 0\ndomain 2\nidn 0\nnndn 0\n",
+    ),
+];
+
 /// D2 arrives before its row: it is parked, and held once an amendment lists it. Its reply stays as
 /// it was given, and the body under another number has one of its own.
 static PARTS: [Step; 15] = [
-    (
-        Sent::Put("1", Body::F1),
-        ARRIVED,
-        r#"{"copy":"new","fault":null,"id":"F1","number":"1","orphans":0,"receipt":1,"resend":0,"verdict":"A1"}"#,
-    ),
+    F1_HELD,
     (Sent::Get("/parked"), ROWS, "sha256,bytes\n"),
     (Sent::Put("2", Body::D2), PARKED, D2_PARKED),
     (
@@ -204,8 +249,8 @@ static PARTS: [Step; 15] = [
 const D2_PARKED: &str =
     r#"{"copy":null,"fault":null,"id":null,"number":"2","orphans":null,"receipt":2,"resend":null,"verdict":"A5"}"#;
 
-// The request of a body that arrives under a number.
-fn put(alloc: Global, number: &str, body: &[u8]) -> Result<Vec<u8>, Fail> {
+/// The request of a body that arrives under a number.
+pub(crate) fn put(alloc: Global, number: &str, body: &[u8]) -> Result<Vec<u8>, Fail> {
     let size = body.len();
     let head = format!(in alloc;
         "PUT /arrivals/{number} HTTP/1.1\r\nContent-Length: {size}\r\n\r\n"
@@ -219,8 +264,8 @@ fn get(alloc: Global, path: &str) -> Result<Vec<u8>, Fail> {
     Ok(format!(in alloc; "GET {path} HTTP/1.1\r\n\r\n")?.into_bytes())
 }
 
-// The response to a request.
-fn answer<S: Alter + Drop>(
+/// The response to a request.
+pub(crate) fn answer<S: Alter + Drop>(
     alloc: Global,
     desk: &mut Desk<S>,
     request: &[u8],
@@ -235,14 +280,18 @@ fn answer<S: Alter + Drop>(
     }
 }
 
+// How many rows are new, or why the amendment is refused.
 fn amend<S: Alter + Drop>(
     alloc: Global,
     desk: &mut Desk<S>,
     bodies: &[Body],
+    more: &str,
 ) -> Result<String, Fail> {
-    let text = manifest_text(alloc, bodies, "")?;
-    let (added, _work) = desk.amend(alloc, text.as_bytes())?;
-    Ok(format!(in alloc; "added {added}")?)
+    let text = manifest_text(alloc, bodies, more)?;
+    match desk.amend(alloc, text.as_bytes()) {
+        Ok((added, _work)) => Ok(format!(in alloc; "added {added}")?),
+        Err(fault) => Ok(format!(in alloc; "{fault}")?),
+    }
 }
 
 fn move_to<S: Alter + Drop>(
@@ -262,13 +311,14 @@ fn found<S: Alter + Drop>(alloc: Global, desk: &mut Desk<S>, sent: Sent) -> Resu
             answer(alloc, desk, &put(alloc, number, body.as_slice())?)
         }
         Sent::Get(path) => answer(alloc, desk, &get(alloc, path)?),
-        Sent::Rows(bodies) => amend(alloc, desk, bodies),
+        Sent::Rows(bodies) => amend(alloc, desk, bodies, ""),
+        Sent::More(rows) => amend(alloc, desk, &[], rows),
         Sent::Moment(moment) => move_to(alloc, desk, moment),
     }
 }
 
-// A response of this status and type with this body.
-fn response(alloc: Global, kind: &str, body: &str) -> Result<String, Fail> {
+/// A response of this status and type with this body.
+pub(crate) fn response(alloc: Global, kind: &str, body: &str) -> Result<String, Fail> {
     let size = body.len();
     Ok(format!(in alloc;
         "HTTP/1.1 {kind}\r\nContent-Length: {size}\r\nConnection: close\r\n\r\n{body}"
@@ -283,11 +333,13 @@ fn expected(alloc: Global, kind: &str, body: &str) -> Result<String, Fail> {
     }
 }
 
-fn assert_text(rt: &impl Abort, at: usize, found: &str, expected: &str) {
+/// Compares two texts; `at` says which ones.
+pub(crate) fn assert_text(rt: &impl Abort, at: usize, found: &str, expected: &str) {
     assert_eq!(rt; found, expected, "{at}");
 }
 
-fn assert_steps<S: Alter + Drop>(
+/// Sends each, and compares what comes of it.
+pub(crate) fn assert_steps<S: Alter + Drop>(
     rt: &impl Abort,
     alloc: Global,
     desk: &mut Desk<S>,
@@ -309,63 +361,15 @@ fn gaps_as_of_a_moment(rt: HostRuntime) -> Result<(), Fail> {
 }
 
 #[test]
+fn a_moment_before_all_deposits(rt: HostRuntime) -> Result<(), Fail> {
+    let connection = Connection::open_in_memory(rt.alloc())?;
+    let mut desk = desk_of(rt.alloc(), connection, CHAINS)?;
+    assert_steps(&rt, rt.alloc(), &mut desk, BEFORE.as_slice())
+}
+
+#[test]
 fn a_body_before_its_row(rt: HostRuntime) -> Result<(), Fail> {
     let connection = Connection::open_in_memory(rt.alloc())?;
     let mut desk = desk_of(rt.alloc(), connection, &[Body::F1])?;
     assert_steps(&rt, rt.alloc(), &mut desk, PARTS.as_slice())
-}
-
-/// How many bodies may be parked.
-const MOST_PARKED: u32 = 1_024;
-
-// The response to a body that no row lists, which is a number.
-fn park<S: Alter + Drop>(
-    alloc: Global,
-    desk: &mut Desk<S>,
-    name: &str,
-    body: u32,
-) -> Result<String, Fail> {
-    let body = format!(in alloc; "{body}")?;
-    answer(alloc, desk, &put(alloc, name, body.as_bytes())?)
-}
-
-fn assert_full<S: Alter + Drop>(
-    rt: &impl Abort,
-    alloc: Global,
-    desk: &mut Desk<S>,
-) -> Result<(), Fail> {
-    for body in 0..MOST_PARKED {
-        let found = park(alloc, desk, "n", body)?;
-        assert!(rt;
-            found.starts_with("HTTP/1.1 202 Accepted\r\n"),
-            "{body}: {found}"
-        );
-    }
-    let found = park(alloc, desk, "n", MOST_PARKED)?;
-    let expected = response(alloc, NO_ROOM, "S5\n")?;
-    assert_text(rt, 0, found.as_str(), expected.as_str());
-    Ok(())
-}
-
-/// Where no more is parked, a body that a row lists has room. The one that was refused has no
-/// receipt.
-static NO_MORE: [Step; 1] = [(
-    Sent::Put("1", Body::F1),
-    ARRIVED,
-    r#"{"copy":"new","fault":null,"id":"F1","number":"1","orphans":0,"receipt":1026,"resend":0,"verdict":"A1"}"#,
-)];
-
-/// So has a body that is parked, under another number.
-const PARKED_BEFORE: &str =
-    r#"{"copy":null,"fault":null,"id":null,"number":"m","orphans":null,"receipt":1025,"resend":null,"verdict":"A5"}"#;
-
-#[test]
-fn one_body_more_than_may_be_parked(rt: HostRuntime) -> Result<(), Fail> {
-    let connection = Connection::open_in_memory(rt.alloc())?;
-    let mut desk = desk_of(rt.alloc(), connection, &[Body::F1])?;
-    assert_full(&rt, rt.alloc(), &mut desk)?;
-    let found = park(rt.alloc(), &mut desk, "m", 0)?;
-    let expected = response(rt.alloc(), PARKED, PARKED_BEFORE)?;
-    assert_text(&rt, 1, found.as_str(), expected.as_str());
-    assert_steps(&rt, rt.alloc(), &mut desk, NO_MORE.as_slice())
 }

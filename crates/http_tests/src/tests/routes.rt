@@ -1,7 +1,9 @@
 //! Each route where one thing fails in the middle: a call of either file, a read, a write or the
 //! flush. The same request again has the response of a desk that nothing happened to.
 
-use super::disks::{Call, FlakyDesk, Room, begin, close, flaky, have_failed, new_files, reopen};
+use super::disks::{
+    Call, FlakyDesk, Origin, Room, begin, close, flaky, have_failed, new_files, reopen,
+};
 use super::{
     HELD, OPEN, PUT_SAMPLE, RECEIPTS, Wire, assert_told, count_receipts, desk, manifest, served,
     told_of,
@@ -9,7 +11,6 @@ use super::{
 use esc_desk::{Desk, SFault};
 use esc_flaky::FlakyDisk;
 use esc_http::ServeFault;
-use esc_manifest::Manifest;
 use sqlite::{Alter, Files};
 use sqlite_disk::Disk;
 use std::alloc::Global;
@@ -169,7 +170,7 @@ fn settle<D: Disk + Drop>(
     alloc: Global,
     mut desk: FlakyDesk<D>,
     exchange: &Exchange,
-    manifest: &Manifest,
+    origin: &Origin,
 ) -> Result<(FlakyDesk<D>, u32), Fail> {
     if is_answered(rt, alloc, &mut desk, exchange)? {
         return Ok((desk, 0));
@@ -179,7 +180,7 @@ fn settle<D: Disk + Drop>(
     if is_answered(rt, alloc, &mut desk, exchange)? {
         return Ok((desk, 1));
     }
-    let mut desk = reopen(alloc, close(desk)?, ONE_PAGE, manifest)?;
+    let mut desk = reopen(alloc, close(desk)?, ONE_PAGE, origin)?;
     if is_answered(rt, alloc, &mut desk, exchange)? {
         return Ok((desk, 2));
     }
@@ -193,12 +194,12 @@ fn assert_routes<D: Disk + Drop>(
     rt: &impl Abort,
     alloc: Global,
     files: Files<FlakyDisk<D>>,
-    manifest: &Manifest,
+    origin: &Origin,
     refused: &mut [u32],
 ) -> Result<bool, Fail> {
-    let mut desk = begin(alloc, files, ONE_PAGE, manifest)?;
+    let mut desk = begin(alloc, files, ONE_PAGE, origin)?;
     for (exchange, refused) in ROUTES.iter().zip(refused) {
-        let (settled, refusals) = settle(rt, alloc, desk, exchange, manifest)?;
+        let (settled, refusals) = settle(rt, alloc, desk, exchange, origin)?;
         desk = settled;
         *refused = refusals.max(*refused);
     }
@@ -215,10 +216,10 @@ fn assert_calls(
     of_the_log: bool,
     refused: &mut [u32],
 ) -> Result<(), Fail> {
-    let manifest = manifest(alloc)?;
+    let origin = Origin::Listed(manifest(alloc)?);
     for at in 0..MOST_CALLS {
         let files = flaky(new_files(alloc), Call { of_the_log, at });
-        if !assert_routes(rt, alloc, files, &manifest, refused)? {
+        if !assert_routes(rt, alloc, files, &origin, refused)? {
             return Ok(());
         }
     }

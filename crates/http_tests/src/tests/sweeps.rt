@@ -1,5 +1,5 @@
-//! A list of events, with each call of either file failing once: while a store is made and takes
-//! the list, and while one that took it is opened and takes it again.
+//! Lists of events, with each call of either file failing once: while a store is made or migrated
+//! and takes the list, and while one that took it is opened and takes it again.
 //!
 //! An event is answered or refused by `S1`. Once the list is sent again the answers and all rows of
 //! the store are those of a desk that nothing happened to, which took the answered events and then
@@ -7,14 +7,16 @@
 //! refuses until its files are opened again, and the event of that change may have been taken in.
 
 use super::disks::{
-    Call, FlakyDesk, PLENTY, Room, begin, close, connect, flaky, have_failed, inner, new_files,
-    refusal, reopen, sound, sound_desk,
+    Call, FlakyDesk, Origin, PLENTY, Room, begin, close, closed, connect, copied, flaky,
+    have_failed, inner, new_files, refusal, reopen, sound, sound_desk,
 };
-use super::list::{Came, List, send, send_answered, send_soundly, tables, worked_list};
+use super::list::{
+    Came, List, migrated_list, prepare, send, send_answered, send_soundly, tables, worked_list,
+};
 use esc_desk::{Desk, SFault};
 use esc_flaky::FlakyDisk;
 use sqlite::{Alter, Connection, Files};
-use sqlite_disk::Disk;
+use sqlite_disk::{Disk, Memory};
 use std::alloc::Global;
 use std::process::Abort;
 use std::test::Fail;
@@ -22,7 +24,7 @@ use std::test::Fail;
 /// When a call fails.
 #[derive(Clone, Copy)]
 struct Phase {
-    /// While a store is made and takes the list, or while one that took it is opened and takes it.
+    /// While a store is made or migrated and takes the list, or while one that took it is opened and takes it.
     is_new: bool,
     of_the_log: bool,
     room: Room,
@@ -69,7 +71,7 @@ fn desk_before<S: Alter + Drop>(
     phase: Phase,
     list: &List,
 ) -> Result<Desk<S>, Fail> {
-    let mut desk = sound_desk(alloc, connection, &list.manifest)?;
+    let mut desk = sound_desk(alloc, connection, &list.origin)?;
     if !phase.is_new {
         send_soundly(alloc, &mut desk, list)?;
     }
@@ -83,7 +85,8 @@ fn expected(
     answered: &[bool],
     is_kept: bool,
 ) -> Result<Taken, Fail> {
-    let connection = Connection::open_in_memory(alloc)?;
+    let mut connection = Connection::open_in_memory(alloc)?;
+    prepare(alloc, &mut connection, list)?;
     let desk = desk_before(alloc, connection, phase, list)?;
     undisturbed(alloc, desk, list, answered, is_kept)
 }
@@ -122,7 +125,7 @@ fn send_again<D: Disk + Drop>(
         let Came { lines, .. } = came;
         return Ok((desk, lines, false));
     }
-    let desk = reopen(alloc, close(desk)?, room, &list.manifest)?;
+    let desk = reopen(alloc, close(desk)?, room, &list.origin)?;
     let (desk, lines) = send_last(alloc, desk, list)?;
     Ok((desk, lines, true))
 }
@@ -156,7 +159,7 @@ fn desk_after<D: Disk + Drop>(
     }
     let files = close(desk)?;
     let has_failed = have_failed(&files);
-    Ok((reopen(alloc, files, room, &list.manifest)?, has_failed))
+    Ok((reopen(alloc, files, room, &list.origin)?, has_failed))
 }
 
 fn tables_in<D: Disk + Drop>(alloc: Global, files: Files<FlakyDisk<D>>) -> Result<String, Fail> {
@@ -173,7 +176,7 @@ fn send_twice<D: Disk + Drop>(
     room: Room,
     list: &List,
 ) -> Result<Seen, Fail> {
-    let mut desk = begin(alloc, files, room, &list.manifest)?;
+    let mut desk = begin(alloc, files, room, &list.origin)?;
     let came = send(alloc, &mut desk, list)?;
     let (desk, has_failed) = desk_after(alloc, desk, room, list, &came)?;
     let (desk, again, is_reopened) = send_again(alloc, desk, room, list)?;
@@ -197,21 +200,52 @@ fn files_with_list<D: Disk + Drop>(
     files: Files<D>,
     list: &List,
 ) -> Result<Files<D>, Fail> {
-    let mut desk = begin(alloc, sound(files), PLENTY, &list.manifest)?;
+    let mut desk = begin(alloc, sound(files), PLENTY, &list.origin)?;
     send(alloc, &mut desk, list)?;
     Ok(inner(close(desk)?))
 }
 
-fn seen_at(alloc: Global, phase: Phase, at: u64, list: &List) -> Result<Seen, Fail> {
+// Files with the store of version 1 that is to be migrated.
+fn first_files(alloc: Global, list: &List) -> Result<Files<Memory>, Fail> {
+    match connect(alloc, sound(new_files(alloc)), PLENTY) {
+        Ok(mut connection) => {
+            prepare(alloc, &mut connection, list)?;
+            Ok(inner(closed(connection)?))
+        }
+        Err((fault, files)) => Err(refusal(fault, files)),
+    }
+}
+
+// Files in which the store is yet to be made.
+fn files_before(alloc: Global, list: &List) -> Result<Files<Memory>, Fail> {
+    match list.origin {
+        Origin::Listed(_) => Ok(new_files(alloc)),
+        Origin::First => first_files(alloc, list),
+    }
+}
+
+// The files that a run begins with.
+fn files_of(alloc: Global, phase: Phase, list: &List) -> Result<Files<Memory>, Fail> {
+    let before = files_before(alloc, list)?;
+    if phase.is_new {
+        Ok(before)
+    } else {
+        files_with_list(alloc, before, list)
+    }
+}
+
+fn seen_at(
+    alloc: Global,
+    phase: Phase,
+    at: u64,
+    list: &List,
+    files: &Files<Memory>,
+) -> Result<Seen, Fail> {
     let call = Call {
         of_the_log: phase.of_the_log,
         at,
     };
-    let files = if phase.is_new {
-        new_files(alloc)
-    } else {
-        files_with_list(alloc, new_files(alloc), list)?
-    };
+    let files = copied(alloc, files)?;
     send_twice(alloc, flaky(files, call), phase.room, list)
 }
 
@@ -222,8 +256,9 @@ fn assert_call(
     phase: Phase,
     at: u64,
     list: &List,
+    files: &Files<Memory>,
 ) -> Result<Seen, Fail> {
-    let seen = seen_at(alloc, phase, at, list)?;
+    let seen = seen_at(alloc, phase, at, list, files)?;
     let expected = expected_of(alloc, phase, list, &seen)?;
     assert_eq!(rt; seen.taken, expected, "{at}");
     Ok(seen)
@@ -234,11 +269,11 @@ const MOST_CALLS: u64 = 5_000;
 
 // Each call, up to a run of which none fails. Gives after how many of them the files had to be
 // opened again.
-fn count_reopened(rt: &impl Abort, alloc: Global, phase: Phase) -> Result<u32, Fail> {
-    let list = worked_list(alloc)?;
+fn count_reopened(rt: &impl Abort, alloc: Global, phase: Phase, list: &List) -> Result<u32, Fail> {
+    let files = files_of(alloc, phase, list)?;
     let mut reopened = 0u32;
     for at in 0..MOST_CALLS {
-        let seen = assert_call(rt, alloc, phase, at, &list)?;
+        let seen = assert_call(rt, alloc, phase, at, list, &files)?;
         if !seen.has_failed {
             return Ok(reopened);
         }
@@ -257,46 +292,89 @@ const NO_LOG: Room = Room {
 // between them.
 #[test]
 fn each_call_of_the_log_as_a_list_is_taken(rt: HostRuntime) -> Result<(), Fail> {
+    let list = worked_list(rt.alloc())?;
     let phase = Phase {
         is_new: true,
         of_the_log: true,
         room: PLENTY,
     };
-    assert_eq!(rt; count_reopened(&rt, rt.alloc(), phase)?, 24);
+    assert_eq!(rt; count_reopened(&rt, rt.alloc(), phase, &list)?, 24);
     Ok(())
 }
 
 // Before each of the eight commits the log is emptied, after a sync of the database file.
 #[test]
 fn each_call_of_the_database_file_as_a_list_is_taken(rt: HostRuntime) -> Result<(), Fail> {
+    let list = worked_list(rt.alloc())?;
     let phase = Phase {
         is_new: true,
         of_the_log: false,
         room: NO_LOG,
     };
-    assert_eq!(rt; count_reopened(&rt, rt.alloc(), phase)?, 8);
+    assert_eq!(rt; count_reopened(&rt, rt.alloc(), phase, &list)?, 8);
     Ok(())
 }
 
 // Of a list that was taken in two events are commits: the moment is set, and taken back.
 #[test]
 fn each_call_of_the_log_as_a_store_is_opened(rt: HostRuntime) -> Result<(), Fail> {
+    let list = worked_list(rt.alloc())?;
     let phase = Phase {
         is_new: false,
         of_the_log: true,
         room: PLENTY,
     };
-    assert_eq!(rt; count_reopened(&rt, rt.alloc(), phase)?, 6);
+    assert_eq!(rt; count_reopened(&rt, rt.alloc(), phase, &list)?, 6);
     Ok(())
 }
 
 #[test]
 fn each_call_of_the_database_file_as_a_store_is_opened(rt: HostRuntime) -> Result<(), Fail> {
+    let list = worked_list(rt.alloc())?;
     let phase = Phase {
         is_new: false,
         of_the_log: false,
         room: NO_LOG,
     };
-    assert_eq!(rt; count_reopened(&rt, rt.alloc(), phase)?, 2);
+    assert_eq!(rt; count_reopened(&rt, rt.alloc(), phase, &list)?, 2);
+    Ok(())
+}
+
+// Each of the four events is a commit. Where the migration is open, that is found as the store is
+// made.
+#[test]
+fn each_call_of_the_log_as_a_store_is_migrated(rt: HostRuntime) -> Result<(), Fail> {
+    let list = migrated_list(rt.alloc())?;
+    let phase = Phase {
+        is_new: true,
+        of_the_log: true,
+        room: PLENTY,
+    };
+    assert_eq!(rt; count_reopened(&rt, rt.alloc(), phase, &list)?, 12);
+    Ok(())
+}
+
+#[test]
+fn each_call_of_the_database_file_as_a_store_is_migrated(rt: HostRuntime) -> Result<(), Fail> {
+    let list = migrated_list(rt.alloc())?;
+    let phase = Phase {
+        is_new: true,
+        of_the_log: false,
+        room: NO_LOG,
+    };
+    assert_eq!(rt; count_reopened(&rt, rt.alloc(), phase, &list)?, 4);
+    Ok(())
+}
+
+// No event of a list that was taken in changes a migrated store.
+#[test]
+fn each_call_of_the_log_as_a_migrated_store_is_opened(rt: HostRuntime) -> Result<(), Fail> {
+    let list = migrated_list(rt.alloc())?;
+    let phase = Phase {
+        is_new: false,
+        of_the_log: true,
+        room: PLENTY,
+    };
+    assert_eq!(rt; count_reopened(&rt, rt.alloc(), phase, &list)?, 0);
     Ok(())
 }

@@ -1,4 +1,4 @@
-//! Comparisons of what is told. An error ends the test.
+//! Comparisons of texts. An error ends the test.
 
 use std::fmt::Debug;
 use std::process::Abort;

@@ -49,7 +49,7 @@ static BUNDLES: [(&[u8], &[u8], &[(&str, &[u8])], &str); 2] = [
     ),
 ];
 
-/// A body: its beginning, so many sections without a byte, so many letters, and its end.
+/// A body: its beginning, how many empty sections and how many letters follow, and its end.
 #[derive(Clone, Copy)]
 struct Body {
     front: &'static [u8],
@@ -210,8 +210,8 @@ static BODIES: [(Body, Result<usize, Fault>); 17] = [
     ),
 ];
 
-/// Lists of sections, each with an envelope of so many zeros behind them, if there are any, and why
-/// no bundle has them.
+/// Lists of sections, each followed by an envelope of this many zeros unless that is 0, and why no
+/// bundle has them.
 static LISTS: [(&[(&str, &[u8])], usize, Option<Fault>); 7] = [
     (
         &[
@@ -230,7 +230,7 @@ static LISTS: [(&[(&str, &[u8])], usize, Option<Fault>); 7] = [
     (&[], 16_777_217, Some(Fault::Refused(4))),
 ];
 
-// Adds so many sections without a byte.
+// Adds this many empty sections.
 fn push_empty(bytes: &mut Vec<u8>, alloc: Global, count: u32) -> Result<(), NoMemory> {
     for number in 1..=count {
         let section = format!(in alloc; "s{number} 0\n\n")?;
@@ -273,7 +273,7 @@ fn part(alloc: Global, name: &str, bytes: &[u8]) -> Result<(String, Vec<u8>), No
     ))
 }
 
-// These sections, and an envelope of so many zeros behind them, if there are any.
+// These sections, followed by an envelope of this many zeros unless that is 0.
 fn list_of(
     alloc: Global,
     parts: &[(&str, &[u8])],
@@ -301,8 +301,7 @@ pub(crate) fn joined(alloc: Global, front: &[u8], back: &[u8]) -> Result<Vec<u8>
     Ok(bytes)
 }
 
-// The length of a bundle, whether its sections are these, and whether it is what is written of
-// them.
+// The length of a bundle, whether its sections are these, and whether these are written as it.
 fn told(alloc: Global, body: &[u8], parts: &[(&str, &[u8])]) -> Result<String, Fault> {
     let is_read = parts_of(alloc, body)?.as_slice() == parts;
     let is_written = written(alloc, parts, 0)?.as_slice() == body;
@@ -327,8 +326,8 @@ fn bundles_are_read_and_written(rt: HostRuntime) {
     }
 }
 
-// The first beginning of a body that is read otherwise than as a broken frame, with what it gives:
-// also where memory was refused.
+// The first beginning of a body that isn't refused as a broken frame, and what it gives instead
+// (which may be that memory was refused).
 fn other_beginning(alloc: Global, body: &[u8]) -> Option<(usize, Result<usize, Fault>)> {
     for length in 0..body.len() {
         let found = count_in(alloc, &body[..length]);

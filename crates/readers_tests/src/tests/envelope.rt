@@ -28,8 +28,8 @@ static ENVELOPES: [(&str, &str); 2] = [
     ),
 ];
 
-/// Members that stand behind a right header, of which the last of a name counts, and the answer to
-/// them.
+/// Members that follow a correct header (of a name that occurs twice the last counts), and the
+/// number of the refusal, 0 where there is none.
 static MEMBERS: [(&str, u8); 57] = [
     ("", 0),
     (",\"tld\":1", 0),
@@ -141,7 +141,7 @@ static MEMBERS: [(&str, u8); 57] = [
     ),
 ];
 
-/// Texts without a right header, and the answer to them.
+/// Texts without a correct header, and the number of the refusal.
 static NO_HEADERS: [(&[u8], u8); 8] = [
     (b"", 5),
     (b"{} {}", 5),
@@ -239,7 +239,7 @@ const NEXT: Place = Place {
 /// Places, two at a time.
 static PLACES: [(Place, Place); 3] = [(DIFF, FULL), (FULL, NEXT), (FULL, FULL)];
 
-/// What is told of the places, of types and kinds by their names, and of ids.
+/// What is said of the places, of types and kinds by their names, and of ids.
 const TOLD: &str = "before, up to
 before, up to
 up to
@@ -272,7 +272,7 @@ fn with_header(alloc: Global, members: &str) -> Result<String, NoMemory> {
     )?)
 }
 
-// The answer to members behind a right header.
+// The number of the refusal of members that follow a correct header.
 fn answer_to_members(alloc: Global, members: &str) -> Result<u8, NoMemory> {
     let json = with_header(alloc, members)?;
     answer(alloc, json.as_bytes())
@@ -292,7 +292,7 @@ fn push_header(text: &mut String, header: &Header) -> Result<(), NoMemory> {
     Ok(())
 }
 
-// Name, kind, role, key and file of a table, behind a sign.
+// Name, kind, role, key and file of a table, after a sign.
 fn push_front(text: &mut String, sign: &str, table: &Table) -> Result<(), NoMemory> {
     let name = table.name.as_str();
     let kind = table.kind.name();
@@ -303,7 +303,7 @@ fn push_front(text: &mut String, sign: &str, table: &Table) -> Result<(), NoMemo
     Ok(())
 }
 
-// Tables: of each what stands before its fields, and these.
+// Tables: of each what comes before its fields, and these.
 fn push_tables(text: &mut String, sign: &str, tables: &[Table]) -> Result<(), NoMemory> {
     for table in tables {
         push_front(text, sign, table)?;
@@ -328,7 +328,7 @@ fn push_counts(text: &mut String, envelope: &Envelope) -> Result<(), NoMemory> {
     Ok(())
 }
 
-// The header, its copy, the counts, the tables of what is and of what was deleted.
+// The header, its copy, the counts, the tables of contents and those of deletes.
 fn push_envelope(text: &mut String, alloc: Global, envelope: &Envelope) -> Result<(), NoMemory> {
     push_header(text, &envelope.header)?;
     push_header(text, &envelope.header.copy(alloc)?)?;
@@ -352,7 +352,7 @@ fn told(alloc: Global, json: &str) -> Result<String, Fault> {
     Ok(text)
 }
 
-// Members with so many fields more than one.
+// Members with a table of `count` + 1 fields.
 fn with_fields(alloc: Global, count: u8) -> Result<String, NoMemory> {
     let mut members = String::from_str(
         alloc,
@@ -365,14 +365,14 @@ fn with_fields(alloc: Global, count: u8) -> Result<String, NoMemory> {
     Ok(members)
 }
 
-// The answer to a table of so many fields more than one.
+// The number of the refusal of a table of `count` + 1 fields.
 fn answer_to_fields(alloc: Global, count: u8) -> Result<u8, NoMemory> {
     let members = with_fields(alloc, count)?;
     answer_to_members(alloc, &members)
 }
 
-// A line for each pair of places: whether the first stands before the second, and whether it is up
-// to it.
+// A line for each pair of places: whether the first is before the second, and whether it is up to
+// it.
 fn push_places(text: &mut String) -> Result<(), NoMemory> {
     for (first, second) in &PLACES {
         let before = if first.is_before(*second) {

@@ -33,8 +33,7 @@ const D8_AT_D2: Listed = ("D8,DIFF,2024-03-04T00:00:00Z,F1,", 8);
 
 const X9: Listed = ("X9,FULL,2024-03-05T00:00:00Z,,", 9);
 
-/// The rows of two manifests, and the ids of their union or its fault, whose row is one of the
-/// second.
+/// The rows of two manifests, and the ids of their union, or its fault with a row of the second.
 static UNIONS: [(&[Listed], &[Listed], &str); 13] = [
     (&[F1], &[F1, D2], "F1 D2"),
     (&[F1, D2], &[F1_IN_OTHER_WORDS], "F1 D2"),

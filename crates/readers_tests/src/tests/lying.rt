@@ -1,4 +1,4 @@
-//! Bodies that are cut or lie of their lengths: how both readers answer them.
+//! Bodies that are cut or have false lengths: how both readers refuse them.
 
 use super::bundle::{FRONT, joined};
 use esc_bundle::{Fault, NoMemory, sections};
@@ -8,8 +8,8 @@ use std::alloc::Global;
 /// The sample's second section and its end.
 const BACK: &[u8] = b"c.csv 6\nC1,R1\n\nend\n";
 
-/// What may stand in the place of the sample's second section and end, and what answers it: of the
-/// sections and of the deposit the number of the refusal, 0 where there is none.
+/// What replaces the sample's second section and end, and the number of the refusal, 0 where there
+/// is none: that of the sections and that of the deposit.
 static BACKS: [(&[u8], [u8; 2]); 18] = [
     (BACK, [0, 0]),
     // A name in other letters, and a length that is no number.
@@ -28,7 +28,7 @@ static BACKS: [(&[u8], [u8; 2]); 18] = [
     (b"c.csv 7\nC1,R1\n\nend\n", [1, 1]),
     (b"c.csv 5\nC1,R1\n\nend\n", [1, 1]),
     (b"c.csv 16777216\nC1,R1\n\nend\n", [1, 1]),
-    // A section twice, and a byte behind the end.
+    // A section twice, and a byte after the end.
     (b"c.csv 6\nC1,R1\n\nc.csv 6\nC1,R1\n\nend\n", [3, 3]),
     (b"c.csv 6\nC1,R1\n\nend\n\n", [1, 1]),
     // A quote that is not closed makes one field of the row, which should have two.
@@ -50,7 +50,7 @@ fn deposit_number(alloc: Global, body: &[u8]) -> Result<u8, NoMemory> {
     number(read_deposit(alloc, body))
 }
 
-// The numbers of the sample with another back.
+// The numbers for the sample with another end.
 fn numbers_of(alloc: Global, back: &[u8]) -> Result<[u8; 2], NoMemory> {
     let body = joined(alloc, FRONT, back)?;
     let of_sections = number(sections(alloc, body.as_slice()))?;

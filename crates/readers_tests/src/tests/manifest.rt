@@ -46,9 +46,9 @@ static FIRST_LINES: [(&[u8], &str); 5] = [
     ),
 ];
 
-/// Worked manifests, each fault alone, and the least of two: of each case what is said of it, and
-/// its rows: the first five fields, and the digest as a number. A row with `-` for it has the
-/// fields that stand there alone.
+/// Worked manifests, each fault alone, and the least of two: for each case what is said of it, and
+/// its rows: the first five fields, and the digest as a number. Where that is `-`, the row has no
+/// further field.
 const TEXTS: &str = "M12 row 2
 F1,FULL,2024-03-03T00:00:00Z,, 1
 D2,DIFF,2024-03-03T00:00:00Z,F1, 2
@@ -270,7 +270,7 @@ static PAIRS: [(Listed, Listed, &str); 11] = [
     ),
 ];
 
-/// So many Fulls in a text of so many bytes at least, and what is said of it.
+/// How many Fulls are in a text of at least how many bytes, and what is said of it.
 static SIZES: [(u32, usize, &str); 4] = [
     (4096, 0, "listed 4096"),
     (4097, 0, "M1 row 0"),
@@ -343,7 +343,7 @@ fn told_of_two(alloc: Global, first: &Listed, second: &Listed) -> Result<String,
     said(alloc, from_rows(alloc, rows))
 }
 
-// What is said of one row so many times.
+// What is said of one row, `count` times.
 fn told_of_many(alloc: Global, listed: &Listed, count: usize) -> Result<String, NoMemory> {
     let mut rows = Vec::new(alloc);
     for _ in 0..count {
@@ -400,7 +400,7 @@ fn values_told(alloc: Global) -> Result<String, MFault> {
     Ok(rows_told(alloc, &manifest)?)
 }
 
-// So many Fulls, one nanosecond apart, and line feeds up to so many bytes.
+// This many Fulls, one nanosecond apart, and line feeds up to this many bytes.
 fn sized(alloc: Global, count: u32, size: usize) -> Result<Vec<u8>, NoMemory> {
     let mut text = String::from_str(alloc, HEADING)?;
     for number in 1..=count {
@@ -416,7 +416,7 @@ fn sized(alloc: Global, count: u32, size: usize) -> Result<Vec<u8>, NoMemory> {
     Ok(bytes)
 }
 
-// What is said of so many Fulls in so many bytes.
+// What is said of this many Fulls in this many bytes.
 fn told_of_size(alloc: Global, count: u32, size: usize) -> Result<String, NoMemory> {
     let text = sized(alloc, count, size)?;
     told(alloc, text.as_slice())

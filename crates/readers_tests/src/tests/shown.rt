@@ -15,7 +15,7 @@ fn push_row(text: &mut String, row: &Row) -> Result<(), NoMemory> {
     Ok(())
 }
 
-/// Adds an object's rows, a line each: the parent, and its children behind two spaces.
+/// Adds an object's rows, a line each: the parent, and its children after two spaces.
 pub(crate) fn push_object(text: &mut String, object: &Object) -> Result<(), NoMemory> {
     push_row(text, &object.parent)?;
     for child in &object.children {

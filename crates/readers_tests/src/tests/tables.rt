@@ -46,7 +46,7 @@ static FULLS: [(Full<'static>, &str); 13] = [
         },
         "F1, 1 tables\nF1, 0 counts\n- Domain a.example\nDomain a.example: domain name=a.example clID=R2 registrant=C1\nDomain b.example: domain name=B.example clID=R1 registrant=C1\n0 orphans\n",
     ),
-    // Child rows stand by table name.
+    // Child rows are in the order of table names.
     (
         Full {
             contents: "domainStatus contactStatus contact domainNs domain",
@@ -64,8 +64,8 @@ static FULLS: [(Full<'static>, &str); 13] = [
         },
         "F1, 2 tables\nF1, 0 counts\nContact C1: contact id=C1 clID=R1\n1 orphans\n",
     ),
-    // Three contact rows have no parent row, in other letters or of another id; two of the name
-    // servers have none, and a status stands at a domain that has a contact's id.
+    // Three contact rows have no parent row, in other letters or of another id; nor do two of the
+    // name servers, and a domain's status whose key is a contact's id.
     (
         Full {
             contents: "contact contactStatus domain domainNs domainStatus",
@@ -150,7 +150,7 @@ static FULLS: [(Full<'static>, &str); 13] = [
     ),
 ];
 
-/// Bodies whose frame or envelope is none: the refusal of the envelope and of the deposit.
+/// Bodies whose frame or envelope is faulty: the refusal of the envelope and of the deposit.
 static UNREADABLE: [(&[u8], &str); 8] = [
     (b"", "U1\nU1\n"),
     (b"escrow-bundle 1\nEnvelope.json 2\n{}\nend\n", "U2\nU2\n"),
@@ -171,8 +171,8 @@ static UNREADABLE: [(&[u8], &str); 8] = [
     ),
 ];
 
-/// Contacts by the letters before each one's number and how many there are, whether a deleted
-/// domain stands beside them, and what is said.
+/// Contacts: how many letters come before each one's number, how many there are, whether the
+/// deposit has a deleted domain too, and what is said.
 static SIZES: [(u8, u32, bool, &str); 8] = [
     (254, 1, false, "1 objects"),
     (254, 1, true, "1 objects"),
@@ -184,7 +184,8 @@ static SIZES: [(u8, u32, bool, &str); 8] = [
     (0, 100_001, true, "U11"),
 ];
 
-/// Tables and cells of rows, and how many there are and each of them, up to one behind the last.
+/// Tables and cells of rows, and what is said: how many cells there are, each of them, and `none`
+/// for the one after the last.
 static ROWS: [(&str, &[(&str, &str)], &str); 2] = [
     (
         "contact",
@@ -323,7 +324,7 @@ fn envelope_told(alloc: Global, body: &[u8]) -> Result<String, Fault> {
     Ok(format!(in alloc; "{id}, {tables} tables\n")?)
 }
 
-// What is told, or the refusal.
+// What is said, or the refusal.
 fn push_answer(text: &mut String, answer: Result<String, Fault>) -> Result<(), NoMemory> {
     match answer {
         Ok(told) => text.push_str(told.as_str())?,
@@ -333,7 +334,7 @@ fn push_answer(text: &mut String, answer: Result<String, Fault>) -> Result<(), N
     Ok(())
 }
 
-// What is told of a body's envelope and of its deposit.
+// What is said of a body's envelope and of its deposit.
 fn told(alloc: Global, body: &[u8], copied: bool) -> Result<String, NoMemory> {
     let mut text = String::new(alloc);
     push_answer(&mut text, envelope_told(alloc, body))?;
@@ -359,7 +360,7 @@ fn count_told(alloc: Global, full: &Full) -> Result<String, NoMemory> {
     }
 }
 
-// Rows of contacts whose keys are so many letters and a number.
+// Rows of contacts whose keys are this many letters and a number.
 fn contact_rows(alloc: Global, letters: u8, count: u32) -> Result<Vec<u8>, NoMemory> {
     let mut rows = Vec::new(alloc);
     for number in 0..count {
@@ -392,7 +393,7 @@ fn size_told(alloc: Global, letters: u8, count: u32, beside: bool) -> Result<Str
     count_told(alloc, &full)
 }
 
-// A row's table, how many cells it has, and each of them, up to one behind the last.
+// A row's table, how many cells it has, each of them, and `none` for the one after the last.
 fn push_cells(text: &mut String, row: &Row) -> Result<(), NoMemory> {
     let table = row.table();
     let count = row.len();
@@ -423,7 +424,7 @@ fn cells_told(
     Ok(text)
 }
 
-// Compares what is told of each Full, or says how often memory was refused.
+// Compares what is said of each Full, and counts how often memory was refused.
 fn count_refused(rt: &impl Abort, alloc: Global) -> u32 {
     let mut refused = 0u32;
     for (full, text) in &FULLS {
@@ -474,7 +475,7 @@ fn keys_and_rows_have_limits(rt: HostRuntime) {
     }
 }
 
-// With ample memory this says less than the test of the same deposits. It is for runs in which an
+// With enough memory this tests less than the test of the same deposits. It is for runs in which an
 // allocation is refused.
 #[test]
 fn a_fault_is_answered_where_memory_is_refused(rt: HostRuntime) {

@@ -256,7 +256,7 @@ domain,e.example,domainNs,1,domainName,e.example
 domain,e.example,domainNs,1,hostName,ns1.e.example
 ";
 
-/// What is taken in of the four deposits.
+/// The receipts of the four deposits.
 const FOUR: &str = "\
 receipt,number,verdict,fault,id,resend,copy,orphans
 1,1,A1,,F1,0,new,0

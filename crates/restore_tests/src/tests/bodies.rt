@@ -119,7 +119,7 @@ ns1.e.example
 end
 "#;
 
-/// On F1: domain a.example is deleted, in capitals, and has contents.
+/// On F1: domain a.example is deleted, in capitals, and is in the contents.
 pub const BOTH: &str = r#"escrow-bundle 1
 envelope.json 322
 {"id":"D2","type":"DIFF","watermark":"2024-03-04T00:00:00Z","prevId":"F1","contents":[{"name":"domain","kind":"domain","role":"parent","key":"name","fields":["name","clID","registrant"],"file":"domain.csv"}],"deletes":[{"name":"domain","kind":"domain","role":"parent","key":"name","fields":["name"],"file":"deleted.csv"}]}
@@ -254,7 +254,7 @@ F1,FULL,2024-03-03T00:00:00Z,,,4894e50d66ea7c8c01ed4c395c773ad25ae037b9113f156c0
 F5,FULL,2024-03-10T00:00:00Z,,,ab3b8d41d2a3b790b6a3280a7c3cdf57c7c8626db31049a5abdb6d01c9f69e69
 ";
 
-/// Two Fulls, Differentials, an Incremental, and a Differential once more.
+/// Two Fulls, Differentials, an Incremental, and a Differential at a later resend.
 pub const CHAINS: &str = "\
 id,type,watermark,prevId,resend,sha256
 F1,FULL,2024-03-03T00:00:00Z,,,4894e50d66ea7c8c01ed4c395c773ad25ae037b9113f156c01ea8141965921a6
@@ -266,7 +266,7 @@ D6,DIFF,2024-03-11T00:00:00Z,F5,,bc919ac408ac496e932f805e650f83226750fbca8d3cef1
 D2,DIFF,2024-03-04T00:00:00Z,F1,1,5eb7d9664a75d0ca223a3a0cd7179d02f7ae2ac500c41060400d9e7dc1a599a2
 ";
 
-/// The same, and a Differential once more on a deposit that is not listed.
+/// The same, and a Differential at a later resend on a deposit that is not listed.
 pub const UNLISTED_BASE: &str = "\
 id,type,watermark,prevId,resend,sha256
 F1,FULL,2024-03-03T00:00:00Z,,,4894e50d66ea7c8c01ed4c395c773ad25ae037b9113f156c01ea8141965921a6
@@ -279,7 +279,7 @@ D2,DIFF,2024-03-04T00:00:00Z,F1,1,5eb7d9664a75d0ca223a3a0cd7179d02f7ae2ac500c410
 D3,DIFF,2024-03-05T00:00:00Z,X9,1,131432d668cd71328bde7ed31ae80672c1c1422934ed3af29df0fcfd1c2099bb
 ";
 
-/// A Full, and the Differential that deletes and has one domain.
+/// A Full, and the Differential that deletes a domain and has it in its contents.
 pub const WITH_BOTH: &str = "\
 id,type,watermark,prevId,resend,sha256
 F1,FULL,2024-03-03T00:00:00Z,,,4894e50d66ea7c8c01ed4c395c773ad25ae037b9113f156c01ea8141965921a6

@@ -19,7 +19,7 @@ id,type,watermark,prevId,resend,sha256
 F5,FULL,2024-03-10T00:00:00Z,,,888b19a43b151683c87895f6211d9f8640f97bdc8ef32f03dbe057c8f5e56d32
 ";
 
-/// What comes once there is no more place. The body that was refused has no receipt.
+/// What comes once there is no place left. The body that was refused has no receipt.
 const CROWDED: Scene = Scene {
     folder: "crowded",
     folders: &["crowded/more", "crowded/again", "crowded/listed"],
@@ -45,7 +45,7 @@ const CROWDED: Scene = Scene {
             "",
         ),
         ("take --store crowded/a.db crowded/more", 3, HEADING, "S5\n"),
-        // A part that lists one of them gives its place to another.
+        // A part that lists one of them makes room for another.
         (
             "amend --store crowded/a.db --manifest crowded/part.csv",
             0,
@@ -64,7 +64,7 @@ const CROWDED: Scene = Scene {
 /// How many bodies may be parked.
 const MOST_PARKED: u32 = 1_024;
 
-// Parks a body and keeps its receipt, as its arrival does. The body is its number.
+// Parks a body and stores its receipt, as its arrival does. The body is its number.
 fn park<S: Alter>(alloc: Global, connection: &mut Connection<S>, number: u32) -> Result<(), Fail> {
     let body = format!(in alloc; "{number:04}")?;
     let digest = Sha256::digest(body.as_bytes());
@@ -79,7 +79,7 @@ fn park<S: Alter>(alloc: Global, connection: &mut Connection<S>, number: u32) ->
     Ok(())
 }
 
-// The store as so many arrivals leave it, in one transaction.
+// The store as 1,024 arrivals leave it, in one transaction.
 fn park_all(rt: &HostRuntime, path: &str) -> Result<(), Fail> {
     let mut connection = Connection::open(rt, path)?;
     connection.execute("BEGIN", &[])?;

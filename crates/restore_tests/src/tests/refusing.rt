@@ -1,4 +1,4 @@
-//! Manifests, stores and folders that are refused, and which of several refusals is told.
+//! Manifests, stores and folders that are refused, and which of several refusals is reported.
 
 use super::bodies::{F1, F5, FULLS};
 use super::{HEADING, Row, Scene, check, check_all, compare, play_all, set_up, words_of};
@@ -26,7 +26,7 @@ D2,DIFF,2024-03-03T00:00:00Z,F1,,ab3b8d41d2a3b790b6a3280a7c3cdf57c7c8626db31049a
             ("report --store manifests/a.db status", 3, "", "S3\n"),
         ],
     },
-    // A place and resend that stand twice.
+    // A place and resend that occur twice.
     Scene {
         folder: "manifests",
         folders: &[],
@@ -143,7 +143,7 @@ const STORES: Scene = Scene {
         ("stores/empty.db", ""),
     ],
     rows: &[
-        // Nothing but a store that is whole is opened, and before the folder is looked at.
+        // Only a whole store is opened, and that before the folder is looked at.
         (
             "take --store stores/absent.db stores/nowhere",
             3,
@@ -183,7 +183,7 @@ const STORES: Scene = Scene {
         ("report --store stores/first.db receipts", 3, "", "S3\n"),
         ("report --store stores/seventh.db receipts", 3, "", "S3\n"),
         ("export --store stores/seventh.db host", 3, "", "S3\n"),
-        // Nor does a store take the place of anything.
+        // Nor does a new store replace anything.
         (
             "init --store stores/text.db --manifest stores/absent.csv",
             3,
@@ -251,7 +251,7 @@ const STORES: Scene = Scene {
             "listed 2\n",
             "",
         ),
-        // A store stays as it was where it is made again, and its folder is looked at last.
+        // A store stays as it was when `init` is tried on it; the folder is looked at last.
         (
             "take --store stores/empty.db stores/nowhere",
             3,
@@ -379,7 +379,7 @@ const LENGTHS: Scene = Scene {
 /// The most bytes of a manifest.
 const MOST: u64 = 4_194_304;
 
-// Makes a file of zeros that takes no room on the disk.
+// Makes a sparse file of zeros.
 fn make_zeros(rt: &HostRuntime, path: &str, length: u64) -> Result<(), Fail> {
     Ok(fs::File::create(rt, path)?.set_len(length)?)
 }

@@ -15,8 +15,8 @@ use std::net::{Net, Shutdown, TcpListener, TcpStream};
 use std::process::Abort;
 use std::test::Fail;
 
-/// Standard output that calls an address once something is written, and sends each request by a
-/// connection of its own.
+/// Standard output that connects to an address once something is written, and sends each request
+/// over a connection of its own.
 #[derive(Drop)]
 struct Calling<'a, N: Net<Listener = TcpListener, Stream = TcpStream>> {
     net: &'a N,
@@ -54,7 +54,7 @@ impl<N: Net<Listener = TcpListener, Stream = TcpStream>> Write for Calling<'_, N
     }
 }
 
-// A port that nobody listens on.
+// A port on which nothing listens.
 fn free_port(net: &impl Net<Listener = TcpListener, Stream = TcpStream>) -> Result<u16, Fail> {
     let listener = TcpListener::bind(net, "127.0.0.1:0")?;
     Ok(listener.local_addr()?.port())
@@ -90,7 +90,7 @@ const NOT_FOUND: &str =
 const BAD_REQUEST: &str =
     "HTTP/1.1 400 Bad Request\r\nContent-Type: text/plain\r\nContent-Length: 12\r\nConnection: close\r\n\r\nbad request\n";
 
-// Runs the program while requests are sent to it, and gives what waits to be read.
+// Runs the program while requests are sent to it, and returns the connections to be read.
 fn serve(
     rt: &HostRuntime,
     handles: &(impl Abort + Net<Listener = TcpListener, Stream = TcpStream>),
@@ -113,7 +113,7 @@ fn serve(
     Ok(calls)
 }
 
-// Serves requests from a store, and gives the connections with the responses.
+// Serves requests from a store, and returns the connections with the responses.
 fn calls(
     rt: &HostRuntime,
     handles: &(impl Abort + Net<Listener = TcpListener, Stream = TcpStream>),
@@ -145,7 +145,7 @@ fn check_responses(
     Ok(())
 }
 
-/// What was answered over a socket stands in the store.
+/// What was answered over a socket is in the store.
 const SERVED: Scene = Scene {
     folder: "served",
     folders: &[],
@@ -239,9 +239,9 @@ fn a_port_that_is_taken(rt: HostRuntime) -> Result<(), Fail> {
     let port = listener.local_addr()?.port();
     let taken = format!(in rt.alloc(); "E1 127.0.0.1:{port}\n")?;
     check_port(&rt, &rt, "ports/a.db", port, "", taken.as_str())?;
-    // The store is looked at first.
+    // The store is opened first.
     check_port(&rt, &rt, "ports/absent.db", port, "", "S3\n")?;
-    // Nobody is waited for where nobody can be told that the program listens.
+    // If `listening` can't be printed, no client is waited for.
     let free = free_port(&rt)?;
     check_port(&rt, &rt, "ports/a.db", free, "listening", "E1 -\n")?;
     Ok(fs::remove_dir_all(&rt, PORTS.folder)?)
@@ -279,7 +279,7 @@ fn faults_of_a_connection_are_told(rt: HostRuntime) -> Result<(), Fail> {
     serve_streams(&rt, &mut desk, &mut request, &mut writer, &mut told);
     assert_eq!(rt; str::from_utf8(&writer.text)?, "HTTP/1.1 200 OK");
     assert_eq!(rt; str::from_utf8(&told)?, "read fault\nwrite fault\n");
-    // Where standard error fails too there is nobody to tell.
+    // If standard error fails too, nothing is reported.
     serve_streams(&rt, &mut desk, &mut Broken, &mut told, &mut writer);
     assert_eq!(rt; str::from_utf8(&told)?, "read fault\nwrite fault\n");
     Ok(())

@@ -1,4 +1,5 @@
-//! Standard output and standard error that fail, and a file that goes while its folder is taken.
+//! Standard output and standard error that fail, and a file that is removed while its folder is
+//! taken.
 
 use super::bodies::{F1, F5, FULLS};
 use super::{HEADING, Row, Scene, check_all, compare, set_up, words_of};
@@ -9,7 +10,7 @@ use std::net::{Net, TcpListener, TcpStream};
 use std::process::Abort;
 use std::test::Fail;
 
-/// A stream that has room for so many bytes, and then fails.
+/// A stream that has room for a number of bytes, and then fails.
 #[derive(Drop)]
 pub struct Narrow {
     pub text: Vec<u8>,
@@ -34,7 +35,7 @@ impl Write for Narrow {
     }
 }
 
-/// Runs the program where its streams have room for so many bytes, and compares what they got.
+/// Runs the program where its streams have room for this many bytes, and compares what they got.
 pub fn check_narrow(
     rt: &HostRuntime,
     handles: &(impl Abort + Net<Listener = TcpListener, Stream = TcpStream>),
@@ -69,7 +70,7 @@ const NARROW: Scene = Scene {
 
 const FIRST: &str = "receipt,number,verdict,fault,id,resend,copy,orphans\n1,n1,A1,,F1,0,new,0\n";
 
-/// Room on standard output, and what is said and told there.
+/// The room on standard output, and what is run and printed with it.
 const NARROW_RUNS: [(usize, Row<'static>); 8] = [
     (
         0,
@@ -80,7 +81,7 @@ const NARROW_RUNS: [(usize, Row<'static>); 8] = [
             "E1 -\n",
         ),
     ),
-    // The store stands. Nothing is taken before there is a heading.
+    // The store is there. Nothing is taken before the heading is printed.
     (
         7,
         (
@@ -94,7 +95,7 @@ const NARROW_RUNS: [(usize, Row<'static>); 8] = [
         AMPLE,
         ("report --store narrow/a.db receipts", 0, HEADING, ""),
     ),
-    // What was answered stands, and no later file is looked at.
+    // What was answered is kept, and no later file is read.
     (
         HEADING.len(),
         (
@@ -127,7 +128,7 @@ fn standard_output_fails(rt: HostRuntime) -> Result<(), Fail> {
     Ok(fs::remove_dir_all(&rt, NARROW.folder)?)
 }
 
-/// Where standard error fails the rest is as ever: words, status and standard output.
+/// If standard error fails all else is as usual: the status and standard output.
 const UNTOLD: Scene = Scene {
     folder: "untold",
     folders: &["untold/deposits"],
@@ -207,7 +208,7 @@ fn check_removing(
     compare(handles, row, status, &out.text, &told)
 }
 
-/// The second file goes once the heading is written.
+/// The second file is removed once the heading is written.
 const GOING: Scene = Scene {
     folder: "going",
     folders: &["going/deposits"],

@@ -108,7 +108,7 @@ fn names_are_taken_in_the_order_of_their_bytes(rt: HostRuntime) -> Result<(), Fa
     play(&rt, &rt, &NAMES)
 }
 
-/// Beside these stand three long files.
+/// Beside these there are three long files.
 const MIXED: Scene = Scene {
     folder: "mixed",
     folders: &["mixed/named", "mixed/long"],
@@ -155,7 +155,7 @@ fn files_that_are_no_arrivals(rt: HostRuntime) -> Result<(), Fail> {
     Ok(fs::remove_dir_all(&rt, MIXED.folder)?)
 }
 
-/// A name is told in one line, whatever is in it.
+/// A name is printed on one line, whatever is in it.
 const ESCAPED: Scene = Scene {
     folder: "escaped",
     folders: &["escaped/named"],
@@ -225,7 +225,7 @@ const NOT_HELD: Scene = Scene {
             "",
         ),
         ("take --store verdicts/a.db verdicts/all", 1, VERDICTS, ""),
-        // A reply that was kept is told again, and is no better than it was.
+        // A receipt that was kept is printed again, and the status is 1 again.
         ("take --store verdicts/a.db verdicts/all", 1, VERDICTS, ""),
         (
             "take --store verdicts/a.db verdicts/unlisted",
@@ -254,7 +254,7 @@ fn deposits_that_are_not_held(rt: HostRuntime) -> Result<(), Fail> {
     play(&rt, &rt, &NOT_HELD)
 }
 
-/// A deposit once more, under its number or another one, and another deposit under a number.
+/// A deposit again, under its number or another one, and another deposit under its number.
 const REPEATS: Scene = Scene {
     folder: "repeats",
     folders: &[

@@ -1,4 +1,4 @@
-//! How long clients are waited for, by a clock that stands still but while one is waited for.
+//! How long clients are waited for, by a clock that moves only while one is waited for.
 
 use super::bodies::WITH_SAMPLE;
 use esc_client::{Client, Patience, Timed};
@@ -38,11 +38,11 @@ struct Slow<'a> {
     hands: &'a Hands,
     pause: Duration,
     at_once: usize,
-    /// What it still gives.
+    /// What it still has to give.
     rest: &'a [u8],
     /// What it took.
     text: Vec<u8>,
-    /// How long it is waited for at once.
+    /// How long one read or write waits for it at most.
     limit: Cell<Duration>,
 }
 
@@ -119,8 +119,8 @@ fn desk(rt: &HostRuntime) -> Result<Desk<MemStore>, Fail> {
 
 const STATUS: &[u8] = b"GET /status HTTP/1.1\r\n\r\n";
 
-/// Milliseconds before each part of a request of 24 bytes, and the bytes of each; what is told, and
-/// when.
+/// Milliseconds before each part of a request of 24 bytes, and the bytes of each part; what is
+/// reported, and after how many milliseconds.
 const HEADS: [(u64, usize, &str, u64); 5] = [
     (0, 24, "", 0),
     // The whole head comes in 9.6 seconds; in 12 seconds it doesn't come.
@@ -149,10 +149,11 @@ fn a_head_is_waited_for_as_a_whole(rt: HostRuntime) -> Result<(), Fail> {
     Ok(())
 }
 
-/// Bytes of a body of 700,000 that come each second; what is told, and after how many seconds.
+/// How many bytes of a body of 700,000 come each second; what is reported, and after how many
+/// seconds.
 const BODIES: [(usize, &str, u64); 3] = [
-    // 8,192 bytes come with the head, the others in eleven seconds: more than ten, and earned by
-    // those that came.
+    // 8,192 bytes come with the head, the others in eleven seconds: more than ten, but the bytes
+    // that came earned more.
     (64_000, "", 12),
     // Each second earns less than a second.
     (6_000, "read fault\n", 10),
@@ -183,7 +184,8 @@ fn a_body_earns_its_time(rt: HostRuntime) -> Result<(), Fail> {
     Ok(())
 }
 
-/// Milliseconds before a client takes so many bytes of a response of 179; what is told, and when.
+/// Milliseconds before a client takes this many bytes of a response of 179; what is reported, and
+/// after how many milliseconds.
 const TAKERS: [(u64, usize, &str, u64); 4] = [
     (0, 500, "", 0),
     (1_000, 20, "", 9_000),
@@ -207,8 +209,8 @@ fn a_response_is_waited_for_as_a_whole(rt: HostRuntime) -> Result<(), Fail> {
     Ok(())
 }
 
-/// Milliseconds before each byte that a client sends that has its response, and when nobody reads
-/// any more.
+/// Milliseconds before each byte that a client sends after it has its response, and after how many
+/// milliseconds nothing is read any more.
 const RESTS: [(u64, u64); 3] = [(900, 10_000), (1_000, 10_000), (1_001, 1_000)];
 
 #[test]

@@ -60,7 +60,7 @@ fn other_words_are_refused(rt: HostRuntime) -> Result<(), Fail> {
     Ok(())
 }
 
-/// Words that ask for help or the version, and what is told among others.
+/// Words that ask for help or the version, and a part of what is printed.
 const HELP: [(&str, &str); 13] = [
     ("--version", "restore 1 (store version 2)\n"),
     ("-V", "restore 1 (store version 2)\n"),

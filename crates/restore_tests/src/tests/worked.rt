@@ -7,7 +7,7 @@ use super::bodies::{
 use super::{HEADING, Scene, play_all};
 use std::test::Fail;
 
-/// Rows of what is held, missing, blocked, and waited for.
+/// Scenes of what is held, missing, blocked, and awaited.
 const OF_GAPS: [Scene; 6] = [
     // No arrivals.
     Scene {
@@ -168,7 +168,7 @@ watermark,type,used,state,blocker,awaited
             ),
         ],
     },
-    // A Differential once more, at the next resend.
+    // A Differential again, at the next resend.
     Scene {
         folder: "missing",
         folders: &["missing/deposits"],
@@ -262,7 +262,7 @@ watermark,type,used,state,blocker,awaited
     },
 ];
 
-/// Rows of the tables that chains make.
+/// Scenes of the tables that chains make.
 const OF_TABLES: [Scene; 4] = [
     // A Full.
     Scene {
@@ -343,7 +343,7 @@ const OF_TABLES: [Scene; 4] = [
             ("report --store tables/a.db status", 0, ON_D3, ""),
         ],
     },
-    // A domain that a deposit deletes and has.
+    // A domain that a deposit deletes and has in its contents.
     Scene {
         folder: "tables",
         folders: &["tables/deposits"],
@@ -387,7 +387,7 @@ const OF_TABLES: [Scene; 4] = [
     },
 ];
 
-/// Rows of child rows, links, statuses, dates and quotes.
+/// Scenes of child rows, links, statuses, dates and quotes.
 const OF_RULES: [Scene; 5] = [
     // Child rows, links that lead nowhere, and counts.
     Scene {

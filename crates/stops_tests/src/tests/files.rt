@@ -34,8 +34,22 @@ pub(crate) fn connect<D: Disk + Drop>(
     }
 }
 
-fn close<D: Disk + Drop>(connection: Connection<FileStore<D>>) -> Files<D> {
+/// The files of a connection, as they are.
+pub(crate) fn close<D: Disk + Drop>(connection: Connection<FileStore<D>>) -> Files<D> {
     connection.into_store().close()
+}
+
+/// The files of a connection, where all of the log is copied into the database file.
+pub(crate) fn closed<D: Disk + Drop>(
+    connection: Connection<FileStore<D>>,
+) -> Result<Files<D>, Fail> {
+    match connection.close_files() {
+        Ok(files) => Ok(files),
+        Err((error, store)) => {
+            drop(store.close());
+            Err(Fail::new(SFault::from(error)))
+        }
+    }
 }
 
 fn make<S: Alter + Drop>(
@@ -103,18 +117,26 @@ pub(crate) fn find_or_make<S: Alter + Drop>(
 }
 
 // The file as it was written, all of it synced.
-fn synced(alloc: Global, file: &Cut) -> Result<Cut, Fail> {
+fn synced(alloc: Global, file: &Memory) -> Result<Memory, Fail> {
     let mut copy = Memory::new(alloc);
-    copy.write_at(0, file.inner().bytes())?;
+    copy.write_at(0, file.bytes())?;
     copy.sync()?;
-    Ok(Fuse::new(copy, u64::MAX))
+    Ok(copy)
+}
+
+/// The files as they were written, all of them synced.
+pub(crate) fn copied(alloc: Global, files: &Files<Memory>) -> Result<Files<Memory>, Fail> {
+    Ok(Files {
+        log: synced(alloc, &files.log)?,
+        db: synced(alloc, &files.db)?,
+    })
 }
 
 /// What a crash leaves that keeps all that was written.
 pub(crate) fn written(alloc: Global, files: &Files<Cut>) -> Result<Files<Cut>, Fail> {
     Ok(Files {
-        log: synced(alloc, &files.log)?,
-        db: synced(alloc, &files.db)?,
+        log: Fuse::new(synced(alloc, files.log.inner())?, u64::MAX),
+        db: Fuse::new(synced(alloc, files.db.inner())?, u64::MAX),
     })
 }
 
@@ -125,15 +147,28 @@ pub(crate) fn crashed(mut files: Files<Cut>) -> Files<Cut> {
     files
 }
 
-/// Empty files, one of which stops.
-pub(crate) fn cut_files(alloc: Global, stop: Stop) -> Files<Cut> {
+/// Files without a byte.
+pub(crate) fn new_files(alloc: Global) -> Files<Memory> {
+    Files {
+        log: Memory::new(alloc),
+        db: Memory::new(alloc),
+    }
+}
+
+/// The files, one of which stops.
+pub(crate) fn cut(files: Files<Memory>, stop: Stop) -> Files<Cut> {
     let (log_calls, db_calls) = if stop.of_the_log {
         (stop.calls, u64::MAX)
     } else {
         (u64::MAX, stop.calls)
     };
     Files {
-        log: Fuse::new(Memory::new(alloc), log_calls),
-        db: Fuse::new(Memory::new(alloc), db_calls),
+        log: Fuse::new(files.log, log_calls),
+        db: Fuse::new(files.db, db_calls),
     }
+}
+
+/// Empty files, one of which stops.
+pub(crate) fn cut_files(alloc: Global, stop: Stop) -> Files<Cut> {
+    cut(new_files(alloc), stop)
 }

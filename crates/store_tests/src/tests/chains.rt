@@ -94,7 +94,7 @@ fn set_all<S: Alter>(store: &mut Store<S>, chains: &[&[Step]]) -> Result<(), SFa
     change.commit()
 }
 
-// Sets a chain in a change that is dropped.
+// Sets a chain in a change that isn't committed.
 fn set_in_vain<S: Alter>(store: &mut Store<S>, steps: &[Step]) -> Result<(), SFault> {
     let mut change = store.begin()?;
     set_chain(&mut change, steps)
@@ -121,8 +121,8 @@ fn tell_chain<S: Alter>(
     tell_steps(text, steps.as_slice())
 }
 
-// The chain after the first was set, after the second was set in vain, after it was set, and after
-// both were set again in one change.
+// The chain after the first was set, after the second was set in a change that isn't committed,
+// after it was set, and after both were set again in one change.
 fn told<S: Alter>(
     alloc: Global,
     store: &mut Store<S>,

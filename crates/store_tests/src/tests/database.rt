@@ -221,7 +221,7 @@ fn a_new_store_has_its_rows(rt: HostRuntime) -> Result<(), Fail> {
     Ok(())
 }
 
-// What comes of a store that is made in no transaction, and what the database is then.
+// The outcome of making a store outside a transaction, and what the database is then.
 fn made_outside<S: Alter + Drop>(alloc: Global, mut conn: Connection<S>) -> Result<String, Fail> {
     let made = make_outside(&mut conn);
     let found = found(alloc, &mut conn)?;

@@ -29,9 +29,9 @@ F4,FULL,2024-03-17T00:00:00Z,,0,000000000000000000000000000000000000000000000000
 enum Deed {
     /// A change lists the rows of a manifest that aren't listed yet.
     List(&'static [u8]),
-    /// The same in a change that is dropped.
+    /// The same in a change that isn't committed.
     Abandon(&'static [u8]),
-    /// The store is found again.
+    /// The store is opened again.
     Open,
 }
 
@@ -62,7 +62,7 @@ fn opened_again<S: Alter + Drop>(alloc: Global, store: Store<S>) -> Result<Store
     }
 }
 
-// Lists the rows of a manifest that aren't listed yet, in a change that is committed or dropped.
+// Lists the rows of a manifest that aren't listed yet, in a change that is committed or not.
 #[tactic(auto, using(crate::proofs::Unions::begins))]
 fn list<S: Alter>(
     alloc: Global,

@@ -249,7 +249,7 @@ fn body<S: Alter>(
     Ok(store.body_of(alloc, row)?)
 }
 
-// The length of the body of a row, or that none is held.
+// The length of the body of a row, or that it has none.
 fn tell_body<S: Alter>(
     alloc: Global,
     text: &mut String,
@@ -316,7 +316,7 @@ fn tell_undo<S: Alter>(alloc: Global, text: &mut String, store: &mut Store<S>) -
     tell_images(text, images.as_slice())
 }
 
-// What version 1 did not keep.
+// What version 1 has no table for: the parked bodies and the moment.
 fn tell_new<S: Alter>(alloc: Global, text: &mut String, store: &mut Store<S>) -> Result<(), Fail> {
     let parked = store.parked(alloc)?;
     let moment = store.moment()?;

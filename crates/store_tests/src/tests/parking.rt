@@ -18,11 +18,11 @@ F1,FULL,2024-03-03T00:00:00Z,,0,000000000000000000000000000000000000000000000000
 enum Deed {
     /// A body is parked under a digest of these bytes.
     Park(u8, &'static [u8]),
-    /// The same in a change that is dropped.
+    /// The same in a change that isn't committed.
     Abandon(u8, &'static [u8]),
     Unpark(u8),
     Set(Option<i64>),
-    /// The store is found again.
+    /// The store is opened again.
     Open,
 }
 
@@ -107,7 +107,7 @@ fn tell<S: Alter>(alloc: Global, text: &mut String, store: &mut Store<S>) -> Res
     Ok(())
 }
 
-// What a deed comes to, and what the store has then.
+// The outcome of a deed, and what the store has then.
 fn told<S: Alter>(alloc: Global, store: &mut Store<S>, deed: Deed) -> Result<String, Fail> {
     let mut text = String::new(alloc);
     match change(store, deed) {

@@ -13,7 +13,7 @@ F1,FULL,2024-03-03T00:00:00Z,,0,000000000000000000000000000000000000000000000000
 ";
 
 // Receipts: the sender's number, the byte that the digest repeats, and the verdict; then the bytes
-// of the digests that are given after it: those of A2, then those of A5.
+// of the unlisted digests that the store returns after it: those of A2, then those of A5.
 const RECEIPTS: [(&str, u8, Verdict, &str); 10] = [
     ("1", 7, Verdict::A2, " 7"),
     ("2", 9, Verdict::A5, " 7 9"),

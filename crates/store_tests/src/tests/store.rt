@@ -52,7 +52,7 @@ fn new_store<S: Alter + Drop>(alloc: Global, conn: Connection<S>) -> Result<Stor
     make(alloc, conn, &manifest)
 }
 
-// The store that is found where one is.
+// The store that is opened in a store's database.
 fn opened_again<S: Alter + Drop>(alloc: Global, store: Store<S>) -> Result<Store<S>, Fail> {
     match Store::open(alloc, store.into_connection()) {
         Ok(store) => Ok(store),
@@ -117,7 +117,7 @@ fn take_first<S: Alter>(alloc: Global, store: &mut Store<S>) -> Result<(), Fail>
     Ok(arrive(alloc, store, &key, &object)?)
 }
 
-// An arrival that isn't committed.
+// An arrival whose change isn't committed.
 fn arrive_in_vain<S: Alter>(store: &mut Store<S>) -> Result<(), SFault> {
     let mut change = store.begin()?;
     change.hold(1, b"other")
@@ -175,15 +175,15 @@ fn tell_chain<S: Alter>(
     tell_rows(text, rows.as_slice(), steps.as_slice())
 }
 
-// Everything that a store is asked, in one line.
+// Everything that a store returns, in one line.
 fn tell<S: Alter>(alloc: Global, text: &mut String, store: &mut Store<S>) -> Result<(), Fail> {
     tell_listed(text, store)?;
     tell_receipts(alloc, text, store)?;
     tell_chain(alloc, text, store)
 }
 
-// What is told of a new store, after an arrival, after one that isn't committed, and of the store
-// that is found again.
+// What is said of a new store, after an arrival, after one that isn't committed, and of the store
+// that is opened again.
 const STAGES: &str = "0 writes; lists F1; lists D1; 0 receipts
 1 writes; lists F1; lists D1; 1 receipts; 1 one A1; holds 0; 0 at 1709424000000000000
 1 writes; lists F1; lists D1; 1 receipts; 1 one A1; holds 0; 0 at 1709424000000000000
@@ -375,8 +375,8 @@ fn other_databases_are_no_store_of_a_longer_manifest(rt: HostRuntime) -> Result<
     assert_databases(&rt, rt.alloc(), &manifest)
 }
 
-// Writes an object at each key, and notes that none stood there before step 1, but for the last
-// key, where it did.
+// Writes an object at each key, and before-images for step 1: none, except for the last key, which
+// has one.
 fn fill<S: Alter>(
     alloc: Global,
     store: &mut Store<S>,
@@ -429,7 +429,7 @@ fn tell_images(text: &mut String, images: &[(Key, Option<Object>)]) -> Result<()
     Ok(())
 }
 
-// What was noted of a step, and that it is noted no longer.
+// The before-images of a step, and that they are gone afterwards.
 fn tell_undone<S: Alter>(
     alloc: Global,
     text: &mut String,
@@ -443,7 +443,7 @@ fn tell_undone<S: Alter>(
     Ok(())
 }
 
-// The same in a change that is dropped.
+// The same in a change that isn't committed.
 fn tell_step<S: Alter>(
     alloc: Global,
     text: &mut String,
@@ -481,8 +481,8 @@ fn tell_tables<S: Alter>(
     tell_counts(text, &counts)
 }
 
-// The keys and counts, and what is undone of step 1, of step 1 again, since the change was dropped,
-// and of step 2.
+// The keys and counts, and what is undone of step 1, of step 1 again, since the change wasn't
+// committed, and of step 2.
 const READ_BACK: &str =
     "host ns.a.example; domain a.example; domain b.example; 0 0 1 2 0 0 \nns.a.example false; a.example true; b.example false; 0 left\nns.a.example false; a.example true; b.example false; 0 left\n0 left\n";
 
@@ -597,7 +597,7 @@ fn is_there<S: Alter>(
     Ok(change.get(alloc, key)?.is_some())
 }
 
-// Takes an object away: whether it was there, and whether it is there then.
+// Removes an object: whether it was there, and whether it is there afterwards.
 fn removed<S: Alter>(
     alloc: Global,
     store: &mut Store<S>,
@@ -611,7 +611,7 @@ fn removed<S: Alter>(
     Ok((was_there, stays))
 }
 
-// Takes all objects and images away, which counts no write: how many images are left.
+// Removes all objects and before-images, which counts no write: how many before-images are left.
 fn cleared<S: Alter>(alloc: Global, store: &mut Store<S>) -> Result<usize, Fail> {
     let mut change = store.begin()?;
     change.clear()?;

@@ -46,6 +46,10 @@ impl Registry for Stopping {
 
     ghost count = { λ r. saturated (⟦<MemRegistry as Registry>⟧.count r.inner) };
 
+    ghost fails = { λ _. Unit {0} };
+
+    ghost wants_memory = { λ m e given. tt };
+
     ghost is_honest = { λ r. Unit {0} };
 
     ghost follows = { λ a b. Unit {0} };

@@ -97,7 +97,7 @@ V1,nndn,x,idnTableId,I9,idn
 ",
 );
 
-// Links to what comes later, and one to nothing.
+// Links to objects that come later, and one to none.
 const LATER_TARGETS: Found = (
     "domain a.example: idnTableId=I1
 
