@@ -9,6 +9,7 @@ use Rattle.std.proofs.lemmas.List.{take_more, append_assoc, append-nil, length-t
 use Rattle.std.proofs.lemmas.Bool.{cases_Bool}
 use Rattle.std.proofs.lemmas.Slice.Eq.{bytes_eq-Decides}
 use Rattle.std.specs.Option.{option_map_or}
+use Rattle.std.proofs.lemmas.List.Elements.{All-push, All-append}
 use Rattle.std.proofs.lemmas.List.Folds.{list_all-append}
 use Rattle.csv.specs.Reading.{strip_bom, is_bom}
 use Rattle.csv.specs.Writing.{read_back}
@@ -21,8 +22,8 @@ use Rattle.esc_envelope.specs.Envelope.{envelope_of}
 use Rattle.esc_tables.specs.DepositValue.{DepositValue}
 use Rattle.esc_tables.specs.TableRow.{bytes_named, table_rows, in_table, rows_in, are_filed}
 use Rattle.esc_tables.specs.Reading.{◌>>=◌, check, check_rows, tables_of, deposit_of, deposit_in, sections_deposit, reading}
-use Rattle.esc_pack.specs.GivenRows.{GivenTable, given_rows, file_rows, has_width, IsReadBack}
-use Rattle.esc_pack.specs.Bundling.{section_of, sections_of}
+use Rattle.esc_pack.specs.GivenRows.{GivenTable, given_rows, file_rows, has_width, IsHeaded, IsReadBack}
+use Rattle.esc_pack.specs.Bundling.{section_of, sections_of, AreHeaded}
 
 -- a text that doesn't begin with the three bytes
 pub unmarked : (text : List ℕ) → (3 ≤ length text → is_bom (get_or text 0 0) (get_or text 1 0) (get_or text 2 0) ≡ false) → IsUnmarked text
@@ -72,26 +73,54 @@ map_append : {A B : Type 0} (f : A → B) (xs ys : List A) → map f (xs ++ ys) 
 map_append f [] ys = refl
 map_append {A} {B} f (x ∷ xs) ys = ap (λ (l : List B). f x ∷ l) (map_append f xs ys)
 
+-- one more table, and its files
+pub one_pair : (tables : List TableValue) (given : List GivenTable) (i : ℕ) (t : TableValue) (g : GivenTable) → i < length tables → length given ≡ length tables
+    → t ≡ get_or tables i t → g ≡ get_or given i g → zip (take (i + 1) tables) (take (i + 1) given) ≡ zip (take i tables) (take i given) ++ (t, g) ∷ []
+one_pair tables given i t g lt same is_t is_g =
+    let a : take (i + 1) tables ≡ take i tables ++ t ∷ [] = take_more tables i t lt ∙ ap (λ (x : TableValue). take i tables ++ x ∷ []) (sym is_t) in
+    let b : take (i + 1) given ≡ take i given ++ g ∷ [] = take_more given i g (omega arith) ∙ ap (λ (x : GivenTable). take i given ++ x ∷ []) (sym is_g) in
+    let many : length (take i tables) ≡ length (take i given) = omega (arith, length-take i tables, length-take i given) in
+    rw (a, b) (zip_push (take i tables) (take i given) t g many)
+
 -- the section of one more table
 pub one_section : (tables : List TableValue) (given : List GivenTable) (i : ℕ) (t : TableValue) (g : GivenTable) → i < length tables → length given ≡ length tables
     → t ≡ get_or tables i t → g ≡ get_or given i g → sections_of (take (i + 1) tables) (take (i + 1) given) ≡ sections_of (take i tables) (take i given) ++ section_of (t, g) ∷ []
 one_section tables given i t g lt same is_t is_g =
-    let a : take (i + 1) tables ≡ take i tables ++ t ∷ [] = take_more tables i t lt ∙ ap (λ (x : TableValue). take i tables ++ x ∷ []) (sym is_t) in
-    let b : take (i + 1) given ≡ take i given ++ g ∷ [] = take_more given i g (omega arith) ∙ ap (λ (x : GivenTable). take i given ++ x ∷ []) (sym is_g) in
-    let many : length (take i tables) ≡ length (take i given) = omega (arith, length-take i tables, length-take i given) in
-    rw (a, b, zip_push (take i tables) (take i given) t g many) (map_append section_of (zip (take i tables) (take i given)) ((t, g) ∷ []))
+    ap (map section_of) (one_pair tables given i t g lt same is_t is_g) ∙ map_append section_of (zip (take i tables) (take i given)) ((t, g) ∷ [])
+
+-- one more table, whose files have their headings
+pub one_headed : (tables : List TableValue) (given : List GivenTable) (i : ℕ) (t : TableValue) (g : GivenTable) → i < length tables → length given ≡ length tables
+    → t ≡ get_or tables i t → g ≡ get_or given i g → All AreHeaded (zip (take i tables) (take i given)) → AreHeaded (t, g) → All AreHeaded (zip (take (i + 1) tables) (take (i + 1) given))
+one_headed tables given i t g lt same is_t is_g all one =
+    subst (λ (ps : List (TableValue × GivenTable)). All AreHeaded ps) (sym (one_pair tables given i t g lt same is_t is_g)) (All-push AreHeaded (zip (take i tables) (take i given)) (t, g) all one)
+
+-- tables whose files have their headings, and those after them
+pub headed_split : (first more : List TableValue) (given : List GivenTable) → length first ≤ length given → All AreHeaded (zip first (take (length first) given)) → All AreHeaded (zip more (drop (length first) given)) → All AreHeaded (zip (first ++ more) given)
+headed_split first more given fits front back =
+    subst (λ (ps : List (TableValue × GivenTable)). All AreHeaded ps) (sym (zip_append first more given fits)) (All-append AreHeaded (zip first (take (length first) given)) (zip more (drop (length first) given)) front back)
 
 -- the sections of tables, a part of them after the other
 pub sections_split : (first more : List TableValue) (given : List GivenTable) → length first ≤ length given → sections_of first (take (length first) given) ++ sections_of more (drop (length first) given) ≡ sections_of (first ++ more) given
 sections_split first more given fits = sym (ap (map section_of) (zip_append first more given fits) ∙ map_append section_of (zip first (take (length first) given)) (zip more (drop (length first) given)))
 
--- a file among those of a table
+-- the text of a file among those of a table
+pub same_text : (given : GivenTable) (heading : Bool) (items slice : List (Bor (List ℕ))) (i : ℕ) (d : Bor (List ℕ)) → record { has_heading = heading; files = map (λ f. f.now) items } ≡ given → slice ≡ items → i < length slice
+    → (get_or slice i d).now ≡ get_or given.files i []
+same_text given heading items slice i d view same inside =
+    ap (λ (fs : List (Bor (List ℕ))). (get_or fs i d).now) same
+    ∙ sym (get_or-map (λ (f : Bor (List ℕ)). f.now) items i d [] (subst (λ (fs : List (Bor (List ℕ))). i < length fs) same inside))
+    ∙ ap (λ (g : GivenTable). get_or g.files i []) view
+
+-- the rows of a file among those of a table
 pub same_file : (given : GivenTable) (heading : Bool) (items slice : List (Bor (List ℕ))) (i : ℕ) (d : Bor (List ℕ)) → record { has_heading = heading; files = map (λ f. f.now) items } ≡ given → slice ≡ items → i < length slice
     → file_rows heading (get_or slice i d).now ≡ file_rows given.has_heading (get_or given.files i [])
 same_file given heading items slice i d view same inside =
-    ap (λ (fs : List (Bor (List ℕ))). file_rows heading (get_or fs i d).now) same
-    ∙ ap (file_rows heading) (sym (get_or-map (λ (f : Bor (List ℕ)). f.now) items i d [] (subst (λ (fs : List (Bor (List ℕ))). i < length fs) same inside)))
-    ∙ ap (λ (g : GivenTable). file_rows g.has_heading (get_or g.files i [])) view
+    ap (file_rows heading) (same_text given heading items slice i d view same inside) ∙ ap (λ (g : GivenTable). file_rows g.has_heading (get_or given.files i [])) view
+
+-- the heading of one more file
+pub one_file_headed : (heading : Line) (files : List (List ℕ)) (i : ℕ) (text : List ℕ) → i < length files → text ≡ get_or files i [] → All (IsHeaded heading) (take i files) → IsHeaded heading text → All (IsHeaded heading) (take (i + 1) files)
+one_file_headed heading files i text lt is all one =
+    subst (λ (fs : List (List ℕ)). All (IsHeaded heading) fs) (sym (take_more files i [] lt)) (All-push (IsHeaded heading) (take i files) (get_or files i []) all (subst (IsHeaded heading) is one))
 
 -- the first element that passes a test
 find_first : {A : Type 0} (test : A → Bool) (xs : List A) (k : ℕ) (d : A) → k < length xs → test (get_or xs k d) ≡ true → ((j : ℕ) → j < k → test (get_or xs j d) ≡ false) → find test xs ≡ Some (get_or xs k d)

@@ -1,5 +1,5 @@
--- What is told of an agent's files by their names, and the description that is proposed of them
--- (the CSV model of RFC 9022, and this project's profile).
+-- Which tables the names of an agent's files stand for, and the description that is proposed of the
+-- files (the CSV model of RFC 9022, and this project's profile).
 use Rattle.std.specs.Prelude.{
   ◌≡◌,
   ℕ,
@@ -54,7 +54,7 @@ is_file_of stem name = nat_lt (length stem) (length name)
     && (bytes_eq (take (length stem) name) stem
     && ((slice_index name (length stem) == 45) || (slice_index name (length stem) == 46)))
 
--- the table that a file's name tells
+-- the table that a file's name stands for: the first known one whose stem it begins with
 abbrev pub table_named : List ℕ → Option KnownTable
 table_named name = find (λ k. is_file_of (file_stem k) name) known_tables
 
@@ -62,41 +62,41 @@ table_named name = find (λ k. is_file_of (file_stem k) name) known_tables
 abbrev pub is_known_as : KnownTable → TableValue → Bool
 is_known_as k t = bytes_eq t.name (table_name k) && is_kind (table_kind k) t.kind
 
--- whether this file is among those of a table, which have headings
+-- whether this file is among those of a table whose files have headings
 abbrev pub names_file : SourceValue → List ℕ → Bool
 names_file s name = s.has_heading && list_any (λ n. bytes_eq n name) s.files
 
--- whether a declared table is this one, and names this file
+-- whether a declared table is this one, and has this file, with a heading
 abbrev pub has_file : KnownTable → List ℕ → TableValue × SourceValue → Bool
 has_file k name p = is_known_as k p.0 && names_file p.1 name
 
--- whether a file is named in the table that its name tells
+-- whether a file is named in the table that its name stands for
 abbrev pub is_in_table : EnvelopeValue → SourcesValue → List ℕ → Option KnownTable → Bool
 is_in_table e s name None = false
 is_in_table e s name (Some k) =
     if is_of_deletes k then list_any (has_file k name) (zip e.deletes s.deletes)
     else list_any (has_file k name) (zip e.contents s.contents)
 
--- whether it is said that a file isn't known
+-- whether a file of this name is in the list of those that aren't named
 abbrev pub is_said : List UnknownValue → List ℕ → Bool
 is_said unknown name = list_any (λ u. bytes_eq u.name name) unknown
 
--- whether a file is named in the description, in its table, or is said not to be known
+-- whether a file is named in the description, in its table, or is in the list of those that aren't
 abbrev pub is_accounted : EnvelopeValue → SourcesValue → List UnknownValue → FileValue → Bool
 is_accounted e s unknown f = is_in_table e s f.name (table_named f.name) || is_said unknown f.name
 
--- whether this is why a file of this table, if it has one, isn't named
+-- whether this may be why a file isn't named, by the table that its name stands for, if any
 abbrev pub is_told : Why → Option KnownTable → Bool
 is_told Name table = not (is_some table)
 is_told Heading table = is_some table
 is_told Other table = is_some table
 
--- whether a name is said to be unknown exactly where no table is known by it
+-- whether a file is said to have an unknown name exactly where its name stands for no table
 abbrev pub is_right : UnknownValue → Bool
 is_right u = is_told u.why (table_named u.name)
 
 -- the description is read as an envelope and, table by table, the files that it names; each file of
--- the folder is named in its table, or it is said why not
+-- the folder is named in its table, or is in the list of those that aren't, with a reason
 pub record IsProposalOf (files : List FileValue) (p : ProposalValue) : Type 0 where
   pub envelope : EnvelopeValue
   pub told : envelope_of p.text ≡ Ok envelope

@@ -6,6 +6,9 @@ use Rattle.std.specs.Prelude.{
   List,
   Bool,
   length,
+  [],
+  ◌∷◌,
+  take,
   drop,
   ◌==◌,
   ◌&&◌,
@@ -28,6 +31,10 @@ file_rows has_heading text = if has_heading then drop 1 (records_of text) else r
 -- the rows of a table's files, one file after the other
 abbrev pub given_rows : GivenTable → List Line
 given_rows t = flat_map (file_rows t.has_heading) t.files
+
+-- a file begins with this row
+abbrev pub IsHeaded : Line → List ℕ → Type 0
+IsHeaded heading text = take 1 (records_of text) ≡ heading ∷ []
 
 -- whether a row has so many fields, and some
 abbrev pub has_width : ℕ → Line → Bool

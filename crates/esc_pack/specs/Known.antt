@@ -31,7 +31,8 @@ use Rattle.esc_pack.specs.declared.known.KnownTable.TheVariants.{
   Nndn,
 }
 
--- all of them, those of deletes first: their files' names begin as those of the others
+-- all of them; those of deletes come first, since the names of their files begin with the stem of
+-- another table and a dash, too (domain-delete-1.csv)
 unfoldable pub known_tables : List KnownTable
 known_tables =
     RegistrarDeletes ∷ ContactDeletes ∷ HostDeletes ∷ DomainDeletes ∷ IdnLanguageDeletes ∷
@@ -40,7 +41,7 @@ known_tables =
     DomainNameServers ∷ DomainNameServersAddresses ∷ DomainStatuses ∷ DomainTransfer ∷ Dnssec ∷
     IdnLanguage ∷ Nndn ∷ []
 
--- what the name of a file begins with, before a dash or a dot
+-- the stem of its files' names: what they begin with, before a dash or a dot
 abbrev pub file_stem : KnownTable → List ℕ
 file_stem RegistrarDeletes = codes "registrar-delete"
 file_stem ContactDeletes = codes "contact-delete"
@@ -121,7 +122,7 @@ table_kind Dnssec = kind.Domain
 table_kind IdnLanguage = kind.Idn
 table_kind Nndn = kind.Nndn
 
--- whether its rows are what is no longer there
+-- whether its rows are the keys of deleted objects
 abbrev pub is_of_deletes : KnownTable → Bool
 is_of_deletes RegistrarDeletes = true
 is_of_deletes ContactDeletes = true

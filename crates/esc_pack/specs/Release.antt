@@ -1,4 +1,4 @@
--- The rows of a release: what bundles say of themselves (RFC 8909, section 4), by places.
+-- The rows of a release: what bundles say of themselves (RFC 8909, section 4), in order.
 use Rattle.std.specs.Prelude.{◌≡◌, ℕ, List, map, Bool, Result, Ok}
 use Rattle.std.specs.List.Sorted.{IsPermutation, IsSortedBy}
 use Rattle.std.specs.Ordering.{nat_cmp, int_cmp, on, then_cmp, is_lt}
@@ -12,7 +12,7 @@ use Rattle.esc_tables.specs.Reading.{◌>>=◌, reading}
 abbrev pub row_of_body : List ℕ → Result MRow ℕ
 row_of_body body = reading body >>= λ d. Ok (record { header = d.header; digest = sha256 body })
 
--- by place, and at one place by resend
+-- the order of rows: by place, and at one place by resend
 abbrev pub row_cmp : MRow → MRow → Ordering
 row_cmp =
     then_cmp (on (λ r. r.header.place.watermark) int_cmp)
@@ -21,7 +21,7 @@ row_cmp =
 abbrev pub comes_before : MRow → MRow → Bool
 comes_before a b = is_lt (row_cmp a b)
 
--- the rows of these bodies, one for each, in the order of places
+-- the rows of these bodies, one for each, in order
 pub record IsRelease (bodies : List (List ℕ)) (m : List MRow) : Type 0 where
   pub rows : List MRow
   pub read : map row_of_body bodies ≡ map Ok rows

@@ -1,5 +1,5 @@
--- Where the rows of declared tables are: two members of a declaration that the readers of a bundle
--- pass over (this project's profile).
+-- The files of declared tables: two members of a declaration that the readers of a bundle pass over
+-- (this project's profile).
 use Rattle.std.specs.Prelude.{
   ℕ,
   List,

@@ -1,10 +1,11 @@
 //! The bundle of an agent's files.
 
 ghost use Rattle.std.specs.Prelude.{◌≡◌, ◌++◌, ◌∷◌, All, map, length, IfOk, OnOk};
+ghost use Rattle.std.specs.List.{zip};
 ghost use Rattle.esc_bundle.specs.Writing.{named};
 ghost use Rattle.esc_tables.specs.Reading.{tables_of};
 ghost use Rattle.esc_pack.specs.GivenRows.{IsReadBack};
-ghost use Rattle.esc_pack.specs.Bundling.{sections_of, description_section, IsBundleOf};
+ghost use Rattle.esc_pack.specs.Bundling.{sections_of, description_section, AreHeaded, IsBundleOf};
 
 use crate::bundle_fault::BundleFault;
 use crate::given::TableFiles;
@@ -29,6 +30,7 @@ fn push_sections(
     ensures pushed { OnOk result (map named sections.new.items
         ≡ map named sections.old.items ++ sections_of tables.now given.now) }
     ensures read { OnOk result (All IsReadBack given.now) }
+    ensures headed { OnOk result (All AreHeaded (zip tables.now given.now)) }
 {
     for (at, table) in tables.iter().enumerate() {
         let text = table_text(alloc, table, &given[at], first.saturating_add(at))?;
@@ -49,6 +51,7 @@ fn described_sections(
         ≡ description_section description.now
         ∷ sections_of (tables_of envelope.now) given.now) }
     ensures read { OnOk result (All IsReadBack given.now) }
+    ensures headed { OnOk result (All AreHeaded (zip (tables_of envelope.now) given.now)) }
 {
     let contents = envelope.contents.as_slice();
     let deletes = envelope.deletes.as_slice();

@@ -14,8 +14,8 @@ use std::fmt;
 /// deletes, the files of a table from 0, and the rows of a file from 1, after its heading.
 #[derive(Clone, Copy, Debug, PartialEq, Eq)]
 pub enum BundleFault {
-    /// The refusal with this number: U5 to U7 of the description, U1 to U4 of the frame, U8 to U11
-    /// of the rows.
+    /// The refusal with this number: 5 to 7 for U5 to U7 of the description, 1 to 4 for U1 to U4 of
+    /// the frame, 8 to 11 for U8 to U11 of the rows.
     Refused {
         code: u8,
     },

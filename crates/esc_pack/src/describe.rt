@@ -42,7 +42,7 @@ fn all_known() -> [KnownTable; 24]
     KnownTable::ALL
 }
 
-// The first of these tables whose files are named so.
+// The first of these tables whose stem the name begins with.
 fn first_named<'a>(known: &'a [KnownTable], name: &str) -> Option<&'a KnownTable>
     ensures { option_map (λ k. k.now) result
         ≡ find (λ k. is_file_of (file_stem k) name.now) known.now }
@@ -50,7 +50,7 @@ fn first_named<'a>(known: &'a [KnownTable], name: &str) -> Option<&'a KnownTable
     known.iter().find(|table| is_file_of(table.file_stem().as_bytes(), name.as_bytes()))
 }
 
-/// The table that a file's name tells.
+/// The known table that a file's name stands for, if any: the first whose stem it begins with.
 pub(crate) fn table_named(name: &str) -> Option<KnownTable>
     ensures { result ≡ table_named name.now }
 {
@@ -74,14 +74,14 @@ fn is_known_as(known: KnownTable, table: &Table) -> bool
     table.name.as_str() == known.table_name() && known.kind() == table.kind
 }
 
-// Whether this file is among those of a table, which have headings.
+// Whether this file is among those of a table whose files have headings.
 fn names_file(source: &Source, name: &str) -> bool
     ensures { result ≡ names_file source.now name.now }
 {
     source.has_heading && is_among(name, &source.files)
 }
 
-// Whether a declared table is this one, and names this file.
+// Whether a declared table is this one, and has this file, with a heading.
 fn has_file(known: KnownTable, name: &str, table: &Table, source: &Source) -> bool
     ensures { result ≡ has_file known name.now (table.now, source.now) }
 {
@@ -97,7 +97,7 @@ fn any_has_file(known: KnownTable, name: &str, tables: &[Table], sources: &[Sour
         .any(|(table, source)| has_file(known, name, table, source))
 }
 
-// Whether a file is named in the table that its name tells.
+// Whether a file is named in the table that its name stands for.
 fn is_in_table(envelope: &Envelope, sources: &Sources, name: &str) -> bool
     ensures { result ≡ is_in_table envelope.now sources.now name.now (table_named name.now) }
 {
@@ -147,14 +147,14 @@ fn are_right(unknown: &[Unknown]) -> bool
     unknown.iter().all(|said| is_right(said))
 }
 
-/// The description that is proposed of a folder's files, by their names and their headings, and
-/// the files that it doesn't name. What is proposed is read again, as the maker of a bundle reads
-/// it, before it is given.
+/// The description that is proposed of a folder's files, by their names and their headings, and the
+/// files that it doesn't name. Before it is returned it is read again, as an envelope and as the
+/// files of its tables (`read_sources`).
 ///
 /// # Errors
 ///
 /// `Refused`: the description that was made is no envelope. `Unmatched`: it doesn't account for
-/// these files.
+/// these files. `NoMemory`.
 pub fn describe_files(alloc: Global, files: &[FolderFile<'_>]) -> Result<Proposal, BundleFault>
     ensures { IfOk result (λ p. IsProposalOf files.now p) }
 {

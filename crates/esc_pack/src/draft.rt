@@ -1,4 +1,5 @@
-//! A description is made as a text: what it says is seen when it is read again.
+//! A description is made as a text here, without a contract: what it says is tested when it is read
+//! again (`describe_files`).
 
 use crate::describe::table_named;
 use crate::known::KnownTable;
@@ -9,20 +10,20 @@ use esc_envelope::is_id;
 use serde_json::json;
 use std::alloc::Global;
 
-/// What stands for id, type and watermark, which no file tells.
+/// Placeholders for id, type and watermark, which no file says.
 const FRONT: &str = "{\"id\":\"ID\",\"type\":\"FULL\",\"watermark\":\"1970-01-01T00:00:00Z\"";
 
 // The most fields of a table.
 const MOST_FIELDS: usize = 64;
 
-// The heading of a table: its fields, and the place of the key.
+// The heading of a table: its fields, and which of them, from 0, is the key.
 #[derive(Drop)]
 struct Heading {
     fields: Vec<String>,
     key: usize,
 }
 
-// What is told of a file.
+// What is known of a file: its name, the table that the name stands for, and its heading.
 #[derive(Drop)]
 struct Told<'a> {
     name: &'a str,
@@ -110,7 +111,7 @@ fn are_same(fields: &[String], others: &[String]) -> bool {
             .all(|(field, other)| field.as_str() == other.as_str())
 }
 
-// Why a file is not of the table that its name tells, with this heading.
+// Why a file isn't named in the table that its name stands for, or `None` if it is.
 fn why_not(told: &[Told<'_>], file: &Told<'_>) -> Option<Why> {
     let Some(table) = file.table else {
         return Some(Why::Name);
@@ -201,7 +202,7 @@ fn push_words(
     Ok(())
 }
 
-// The declaration of a table, if a file is told to be of it.
+// The declaration of a table, if a file with a heading is of it.
 fn push_table(
     alloc: Global,
     text: &mut String,

@@ -1,4 +1,4 @@
-//! Why nothing is made.
+//! Why bundles have no release manifest.
 
 ghost use Rattle.std.specs.Prelude.{◌≡◌};
 ghost use Rattle.esc_pack.specs.declared.fault.ReleaseFault.TheVariants.{NoMemory as no_memory};
@@ -11,11 +11,11 @@ use std::fmt;
 /// Why bundles have no release manifest.
 #[derive(Clone, Copy, Debug, PartialEq, Eq)]
 pub enum ReleaseFault {
-    /// The bundle at this place among those given, from 0, has the refusal with this number, from
-    /// U1 to U11.
+    /// The bundle at this place among those given, from 0, is no deposit: the refusal with this
+    /// number, 1 to 11 for U1 to U11.
     Unread { bundle: usize, code: u8 },
-    /// Their rows, in the order of places, have the refusal with this number, from M1 to M13, at
-    /// this row: rows count from 1, and row 0 is the whole.
+    /// Their rows, in the order of places, are no manifest: the refusal with this number, 1 to 13
+    /// for M1 to M13, at this row. Rows count from 1, and row 0 is the whole.
     Unlisted { code: u8, row: u32 },
     /// Memory was refused.
     NoMemory,

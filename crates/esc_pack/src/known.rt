@@ -36,7 +36,8 @@ impl KnownTable {
     ghost use Rattle.std.specs.Prelude.{◌≡◌};
     ghost use Rattle.esc_pack.specs.Known.{file_stem, table_name, table_kind, is_of_deletes};
 
-    /// All of them, those of deletes first: their files' names begin as those of the others.
+    /// All of them. Those of deletes come first, since the names of their files begin with the stem
+    /// of another table and a dash, too: `domain-delete-1.csv`.
     pub const ALL: [KnownTable; 24] = [
         KnownTable::RegistrarDeletes,
         KnownTable::ContactDeletes,
@@ -64,7 +65,7 @@ impl KnownTable {
         KnownTable::Nndn,
     ];
 
-    /// What the name of a file begins with, before a dash or a dot.
+    /// The stem of its files' names: what they begin with, before a dash or a dot.
     pub fn file_stem(self) -> &'static str
         ensures { result.now ≡ file_stem self }
     {
@@ -151,7 +152,7 @@ impl KnownTable {
         }
     }
 
-    /// Whether its rows are what is no longer there.
+    /// Whether its rows are the keys of deleted objects.
     pub fn is_of_deletes(self) -> bool
         ensures { result ≡ is_of_deletes self }
     {
@@ -183,7 +184,8 @@ impl KnownTable {
         }
     }
 
-    /// Whether its rows are the objects themselves, and not parts of them.
+    /// Whether it is a parent table, with a row for each object or deleted key, and not a child
+    /// table.
     pub fn is_parent(self) -> bool {
         match self {
             KnownTable::RegistrarDeletes
@@ -213,7 +215,7 @@ impl KnownTable {
         }
     }
 
-    /// Whether this field has the key of its rows.
+    /// Whether a field of this name has the key of its rows.
     pub fn is_key(self, field: &str) -> bool {
         match self.kind() {
             Kind::Registrar | Kind::Contact => matches!(field, "id" | "fId"),

@@ -5,9 +5,9 @@
 //! `bundle_of_files` takes a description, which is an envelope (`esc_envelope`), and the bytes of
 //! the CSV files that an agent sent for each table that it declares, and gives their bundle
 //! (`esc_bundle`): the description as it is, and for each table a section with the rows of its
-//! files, one file after the other, without their headings where they have such. It refuses a
-//! description that is no envelope, files that aren't as it says, and what is no bundle or no
-//! deposit then.
+//! files, one file after the other, without their headings if they have any. It refuses a
+//! description that is no envelope, files that aren't as it says, and files whose bundle would be
+//! no bundle or no deposit.
 //!
 //! `manifest_of_bundles` takes the bytes of bundles (`esc_bundle`) and gives the text of their
 //! release manifest (`esc_manifest`): the heading `id,type,watermark,prevId,resend,sha256`, and a
@@ -23,8 +23,8 @@
 //! ```
 //!
 //! It refuses bundles of which one is no deposit (`Unread`, U1 to U11 at its place among them) and
-//! deposits that no manifest lists (`Unlisted`, M1 to M13 at a row), as two with one place and
-//! resend, or one id in two places.
+//! deposits that no manifest can list (`Unlisted`, M1 to M13 at a row), such as two with one place
+//! and resend, or one id in two places.
 //!
 //! # What the contracts mean
 //!
@@ -34,8 +34,9 @@
 //!
 //! `specs/Release.antt` says what the rows of bundles are (`IsRelease`), `specs/Written.antt` what
 //! their text is, and `specs/Listing.antt` puts them together: a text that is given is the text of
-//! those rows, and `read_manifest` reads it as exactly those rows (`IsManifestOf`); a refusal is
-//! one that stands (`IsRefused`), or that of memory, of which a contract says nothing.
+//! those rows, and `read_manifest` reads it as exactly those rows (`IsManifestOf`); a refusal
+//! applies to these bundles (`IsRefused`), or memory was refused, of which the contract says
+//! nothing more.
 #![tactic(auto)]
 
 mod bundle;

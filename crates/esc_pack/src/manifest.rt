@@ -17,7 +17,7 @@ use sha2::{Digest, Sha256};
 use std::alloc::Global;
 use std::cmp::Ordering;
 
-/// The most bytes of a manifest.
+/// The most bytes of a manifest (4 MiB).
 const MOST_BYTES: usize = 4_194_304;
 
 // The row of a body.
@@ -88,7 +88,7 @@ fn accepted(alloc: Global, rows: Vec<MRow>) -> Result<Manifest, ReleaseFault>
 ///
 /// # Errors
 ///
-/// `Unread`: a bundle is no deposit. `Unlisted`: no manifest lists these deposits.
+/// `Unread`: a bundle is no deposit. `Unlisted`: no manifest can list these deposits. `NoMemory`.
 pub fn manifest_of_bundles(alloc: Global, bodies: &[&[u8]]) -> Result<Vec<u8>, ReleaseFault>
     ensures listed { IfOk result (λ text. IsManifestOf (map (λ b. b.now) bodies.now) text.items) }
     ensures refused { IfErr result (IsRefused (map (λ b. b.now) bodies.now)) }

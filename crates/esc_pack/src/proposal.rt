@@ -21,7 +21,7 @@ impl<'a> Model for FolderFile<'a> {
 /// Why a description doesn't name a file.
 #[derive(Clone, Copy, Debug, PartialEq, Eq)]
 pub enum Why {
-    /// No table is known by its name.
+    /// Its name stands for no known table.
     Name,
     /// Its first row is no heading: 1 to 64 names of fields, none twice, with the key among them.
     Heading,

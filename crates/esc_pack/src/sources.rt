@@ -220,8 +220,8 @@ fn parsed(alloc: Global, json: &[u8]) -> Result<Option<Value>, NoMemory>
 }
 
 /// The files that a description names for its tables: `from`, an array of names, without it the one
-/// that `file` names; and `heading`, true where each begins with a heading row. None where it is no
-/// JSON, or a member of these has another form.
+/// that `file` names; and `heading`, true where each begins with a heading row. `None` where the
+/// description is no JSON, or one of these members has another form.
 #[tactic(auto, unfolding(crate::specs::Sources::sources_of))]
 pub fn read_sources(alloc: Global, description: &[u8]) -> Result<Option<Sources>, NoMemory>
     ensures { IfOk result (λ o. o ≡ sources_of description.now) }

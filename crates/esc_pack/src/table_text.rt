@@ -17,7 +17,9 @@ ghost use Rattle.std.specs.List.{list_all, flat_map};
 ghost use Rattle.csv.specs.Reading.{is_bom};
 ghost use Rattle.esc_csv.specs.Lines.{line_text, text_of};
 ghost use Rattle.esc_csv.specs.Records.{records_of, IsUnmarked};
-ghost use Rattle.esc_pack.specs.GivenRows.{file_rows, given_rows, has_width, IsReadBack};
+ghost use Rattle.esc_pack.specs.GivenRows.{file_rows, given_rows, has_width};
+ghost use Rattle.esc_pack.specs.GivenRows.{IsHeaded, IsReadBack};
+ghost use Rattle.esc_pack.specs.Bundling.{AreHeaded};
 
 use crate::bundle_fault::BundleFault;
 use crate::given::TableFiles;
@@ -117,6 +119,8 @@ fn write_file(
         ≡ lines.old ++ text_of (file_rows has_heading file.now)) }
     ensures whole { OnOk result (list_all (has_width (length table.now.fields))
         (file_rows has_heading file.now) ≡ true) }
+    ensures headed { OnOk result (has_heading ≡ true
+        → IsHeaded table.now.fields file.now) }
 {
     let mut rows = Records::of(alloc, file);
     if has_heading && !skip_heading(alloc, &mut rows, &table.fields)? {
@@ -139,6 +143,7 @@ fn write_files(
     ensures written { OnOk result (lines.new ≡ lines.old ++ text_of (given_rows given.now)) }
     ensures whole { OnOk result (list_all (has_width (length table.now.fields))
         (given_rows given.now) ≡ true) }
+    ensures headed { OnOk result (AreHeaded (table.now, given.now)) }
 {
     for (at, file) in given.files.iter().enumerate() {
         let place = FilePlace {
@@ -176,6 +181,7 @@ pub(crate) fn table_text(
 ) -> Result<Vec<u8>, BundleFault>
     ensures text { IfOk result (λ text. text.items ≡ text_of (given_rows given.now)) }
     ensures read { OnOk result (IsReadBack given.now) }
+    ensures headed { OnOk result (AreHeaded (table.now, given.now)) }
 {
     written_lines_read_back();
     let mut lines = Lines::new(alloc);

@@ -6,7 +6,7 @@ use esc_bundle::Fault;
 use esc_envelope::read_envelope;
 use esc_pack::{BundleFault, Source, TableFiles, bundle_of_files, read_sources};
 
-/// The refusal of a declaration that has another form.
+/// U7: a declaration has another form.
 const WRONG_TABLE: u8 = 7;
 
 /// The words of the command: the description, the folder of the files, and the bundle's path.
@@ -47,8 +47,8 @@ fn sources_of(rt: &HostRuntime, description: &[u8], path: &str) -> Result<Vec<So
     Ok(sources)
 }
 
-// The refusal of a description that doesn't say where the rows of its tables are: what it is
-// refused for as an envelope, or a declaration of another form.
+// The refusal of a description whose sources can't be read: what it is refused for as an envelope,
+// or U7.
 fn undeclared(rt: &HostRuntime, description: &[u8], path: &str) -> Stop {
     match read_envelope(rt.alloc(), description) {
         Ok(_) => Stop::unread(rt, WRONG_TABLE, path),

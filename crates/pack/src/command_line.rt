@@ -10,6 +10,9 @@ use esc_pack::{ReleaseFault, manifest_of_bundles};
 use std::alloc::{AllocError, Global};
 use std::io::Write;
 
+/// The version of the program, and that of the stores that `restore` makes of what it writes.
+const VERSION: &str = "1 (store version 2)";
+
 const ABOUT: &str = "Makes the files of a release of registry escrow deposits";
 
 const DETAILS: &str = "\
@@ -111,7 +114,7 @@ fn describe_command<'a>(alloc: Global) -> Result<Command<'a>, AllocError> {
 
 fn command_line<'a>(alloc: Global) -> Result<Command<'a>, AllocError> {
     Command::new(alloc, "pack")
-        .version("1")
+        .version(VERSION)
         .about(ABOUT)
         .after_help(DETAILS)
         .subcommand_required(true)

@@ -5,10 +5,10 @@ use crate::files::{folder_names, read_bundle};
 use crate::stop::Stop;
 use esc_pack::{BundleFault, FolderFile, Proposal, describe_files};
 
-/// What no file tells, and stands for nothing in a description.
+/// What no file says, so that the description has placeholders for it.
 const UNTOLD: &str = "unknown id\nunknown type\nunknown watermark\n";
 
-/// What is printed: the description, and what it can't tell.
+/// What is printed: the description, and what it doesn't say.
 #[derive(Drop)]
 pub struct Description {
     pub text: Vec<u8>,
@@ -42,7 +42,7 @@ fn read_bodies(rt: &HostRuntime, folder: &str, names: &[String]) -> Result<Vec<V
     Ok(bodies)
 }
 
-// A name is told as a text of Rust, so that it is one line whatever it has.
+// A name is printed as Rust writes a string, so that it is one line whatever it has.
 fn described(rt: &HostRuntime, proposal: Proposal, unnamed: u64) -> Result<Description, Stop> {
     let mut unknown = String::from_str(rt.alloc(), UNTOLD)?;
     for file in &proposal.unknown {

@@ -5,15 +5,17 @@
 //! - `pack bundle --envelope FILE DIR OUT` writes the bundle of the files of DIR, whose tables FILE
 //!   declares ([`esc_pack::bundle_of_files`], whose contract says what is read of it).
 //! - `pack describe DIR` proposes the description of a folder's files, by their names and headings
-//!   ([`esc_pack::describe_files`], whose contract says what is read of it), and says what it can't
-//!   tell.
+//!   ([`esc_pack::describe_files`], whose contract says what is read of it), and says what the
+//!   files don't.
 //! - `pack --version`, `pack --help`.
 //!
 //! Refusals go to standard error, and no manifest is printed then: `E1 PATH` for a file that can't
 //! be read (`E1 -`: standard output can't be written), `E2 PATH` for one over 16,777,216 bytes,
-//! `U9 PATH` for a bundle that is no deposit, `M10 row 2` for deposits that no manifest lists, `S2`
-//! for want of memory. The status is 0 where all went well; 1 for E2, U and M; 2 for other words; 3
-//! for E1 and S2.
+//! `U9 PATH` for a bundle that is no deposit (with `row 2` for a row of a file with another number
+//! of fields), `M10 row 2` for deposits that no manifest lists, `H1 PATH` for a file that doesn't
+//! begin with its heading, `H2 PATH` for rows that begin with a byte order mark, `H3 DIR` for a
+//! folder whose description doesn't read back, `S2` when out of memory. The status is 0 where all
+//! went well; 1 for E2, U, M and H; 2 for other words; 3 for E1 and S2.
 //!
 //! By proof: that no call is unsafe and that each ends, whatever the words and files are.
 #![tactic(auto)]

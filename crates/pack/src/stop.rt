@@ -34,7 +34,7 @@ pub enum Stop {
     Row { path: String, row: usize },
     /// The rows of a table begin with a byte order mark, of which this is the first file.
     Marked(String),
-    /// The description of a folder's files would not be read as it was made.
+    /// The description made of a folder's files doesn't read back as it was made.
     Undescribed(String),
     /// Memory was refused.
     NoMemory,
@@ -60,7 +60,7 @@ impl Stop {
         }
     }
 
-    /// A bundle that is no deposit.
+    /// A bundle that is no deposit, by the refusal of this number.
     pub fn unread(rt: &HostRuntime, code: u8, path: &str) -> Stop {
         match String::from_str(rt.alloc(), path) {
             Ok(path) => Stop::Unread { code, path },
@@ -68,7 +68,7 @@ impl Stop {
         }
     }
 
-    /// A folder without a description.
+    /// A folder whose description doesn't read back.
     pub fn undescribed(rt: &HostRuntime, path: &str) -> Stop {
         match String::from_str(rt.alloc(), path) {
             Ok(path) => Stop::Undescribed(path),
@@ -133,11 +133,13 @@ pub fn print<O: Write>(rt: &HostRuntime, out: &mut O, text: &[u8]) -> Result<(),
     }
 }
 
-/// Tells what the program stops for, and returns its status. Want of memory is told without any.
+/// Prints what the program stops for, and returns its status. If there is no memory for the line,
+/// it prints `S2` instead, which doesn't allocate, and returns the status of that.
 pub fn tell_stop<E: Write>(rt: &HostRuntime, err: &mut E, stop: &Stop) -> u8 {
-    let _ = match format!(in rt.alloc(); "{stop}\n") {
-        Ok(line) => err.write_all(line.as_bytes()),
-        Err(_) => err.write_all(b"S2\n"),
+    let Ok(line) = format!(in rt.alloc(); "{stop}\n") else {
+        let _ = err.write_all(b"S2\n");
+        return Stop::NoMemory.status();
     };
+    let _ = err.write_all(line.as_bytes());
     stop.status()
 }

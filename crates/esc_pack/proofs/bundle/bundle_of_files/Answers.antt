@@ -19,6 +19,7 @@ returns c =
         envelope = e;
         told = c.in_ok-envelope.ensures.envelope;
         matched = c.in_ok-sections.ensures.matched;
+        headings = c.in_ok-sections.ensures.headed;
         bundle = framed;
         rows = rows_read first (tables_of e) c.args.given.now c.in_ok-sections.ensures.matched framed.sections.distinct c.in_ok-sections.ensures.read;
         read = read_as c.in_ok-body.body.items first sections e d ((c.frame_is_exact.ensures.bundle c.in_ok-body.body.items (first ∷ sections)).1 framed) c.in_ok-envelope.ensures.envelope (subst (λ (b : List ℕ). reading b ≡ Ok d) c.deref-2.ensures.value c.in_ok-read_deposit.ensures.read);

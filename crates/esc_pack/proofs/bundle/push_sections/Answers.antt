@@ -6,7 +6,7 @@ use Rattle.esc_bundle.specs.Writing.{named}
 use Rattle.esc_envelope.specs.EnvelopeValue.{TableValue}
 use Rattle.esc_pack.specs.GivenRows.{GivenTable, IsReadBack}
 use Rattle.esc_pack.specs.Bundling.{section_of, sections_of}
-use Rattle.esc_pack.proofs.SectionFacts.{one_section}
+use Rattle.esc_pack.proofs.SectionFacts.{one_section, one_headed}
 use Rattle.esc_pack.proofs.bundle.push_sections.Goals as goal
 
 pub loop-at-preserved : goal.loop-at-preserved
@@ -22,4 +22,5 @@ loop-at-preserved c =
       pushed = pushed ∙ ap (λ (ss : List Named). ss ++ section_of (t, g) ∷ []) c.loop-at.invariant.pushed ∙ append_assoc (map named c.args.sections.now.items) (sections_of (take i c.args.tables.now) (take i c.args.given.now)) (section_of (t, g) ∷ [])
           ∙ ap (λ (ss : List Named). map named c.args.sections.now.items ++ ss) (sym one);
       read = subst (λ (gs : List GivenTable). All IsReadBack gs) (sym (take_more c.args.given.now i g (omega (arith, c.requires, c.loop-at-test.true)) ∙ ap (λ (x : GivenTable). take i c.args.given.now ++ x ∷ []) (sym c.index-given-at.is))) (All-push IsReadBack (take i c.args.given.now) g c.loop-at.invariant.read c.in_ok-text.ensures.read);
+      headed = one_headed c.args.tables.now c.args.given.now i t g c.loop-at-test.true c.requires c.index-tables-at.is c.index-given-at.is c.loop-at.invariant.headed c.in_ok-text.ensures.headed;
     }

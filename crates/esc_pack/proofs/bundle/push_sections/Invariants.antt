@@ -1,7 +1,8 @@
 use Rattle.std.proofs.Common.{◌≡◌, ◌++◌, map, take, All}
+use Rattle.std.specs.List.{zip}
 use Rattle.esc_bundle.specs.Writing.{named}
 use Rattle.esc_pack.specs.GivenRows.{IsReadBack}
-use Rattle.esc_pack.specs.Bundling.{sections_of}
+use Rattle.esc_pack.specs.Bundling.{sections_of, AreHeaded}
 use Rattle.esc_pack.proofs.bundle.push_sections.Given as goal
 
 -- the sections of the tables so far
@@ -9,4 +10,5 @@ abbrev pub invariant-loop-at : goal.invariant-loop-at
 invariant-loop-at l = record {
   pushed : map named l.sections.items ≡ map named l.fn.sections.items ++ sections_of (take l.at l.tables) (take l.at l.given);
   read : All IsReadBack (take l.at l.given);
+  headed : All AreHeaded (zip (take l.at l.tables) (take l.at l.given));
 }
