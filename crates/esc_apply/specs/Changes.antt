@@ -18,7 +18,7 @@ with_object e = (e.0, Some e.1)
 abbrev pub without : KeyName → Change
 without k = (k, None)
 
--- the state once each change is made, and what was there before is noted for step j
+-- the state after each change in turn, where what was there before it is noted for step j
 abbrev pub changed_by : State → ℕ → List Change → State
 changed_by s j [] = s
 changed_by s j (e ∷ es) = changed_by (changed s j e.0 e.1) j es
@@ -28,7 +28,7 @@ pub record AreNew (s : State) (j : ℕ) (es : List Change) : Type 0 where
   pub once : IsDistinct key_eq (keys_of es)
   pub fresh : AllByRecursion (λ k. s.undo j k ≡ None) (keys_of es)
 
--- the state once each change is made, and nothing is noted
+-- the state after each change in turn, without notes
 abbrev pub written_by : State → List Change → State
 written_by s [] = s
 written_by s (e ∷ es) = written_by (written s e.0 e.1) es

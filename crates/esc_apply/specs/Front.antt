@@ -10,13 +10,13 @@ use Rattle.esc_apply.specs.declared.front.Step.{Step}
 abbrev pub mark : Step → Place × ℕ
 mark s = (s.place, s.resend)
 
--- both lists have n steps, and their first n are the same by place and resend
+-- both lists have at least n steps, and their first n are the same by place and resend
 pub record IsCommon (old new : List Step) (n : ℕ) : Type 0 where
   pub in_old : n ≤ length old
   pub in_new : n ≤ length new
   pub same : map mark (take n old) ≡ map mark (take n new)
 
--- the length of the longest common beginning
+-- the number of steps that both lists have in common at their beginning
 pub record IsCommonFront (old new : List Step) (f : ℕ) : Type 0 where
   pub common : IsCommon old new f
   pub longest : (n : ℕ) → IsCommon old new n → n ≤ f
@@ -26,6 +26,6 @@ abbrev pub same_step : Step × Step → Bool
 same_step (a, b) = int_eq a.place.watermark b.place.watermark
     && (rank a.place.kind == rank b.place.kind) && (a.resend == b.resend)
 
--- that length, computed: how many pairs of steps, from the front on, are the same
+-- that number, computed: how many pairs of steps are the same, from the first pair on
 abbrev pub common_front : List Step → List Step → ℕ
 common_front old new = length (take_while same_step (zip old new))

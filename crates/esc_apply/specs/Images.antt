@@ -15,14 +15,14 @@ use Rattle.esc_tables.specs.DepositValue.{DepositValue}
 use Rattle.esc_apply.specs.Tables.{mentions, tables}
 use Rattle.esc_apply.specs.Registry.{State, Befores}
 
--- what a deposit mentions, with what the tables of those before it have there; nothing where there
--- is no deposit
+-- for each key that a deposit mentions, what the tables of the deposits before it have there;
+-- nothing where there is no deposit
 abbrev pub image_of : List DepositValue → Option DepositValue → Befores
 image_of before None q = None
 image_of before (Some d) q = if mentions q d then Some (tables before q) else None
 
--- the before-images of a list of deposits: for each step, from 1, what its deposit mentions, with
--- what the tables of the deposits before it have there
+-- the before-images of a list of deposits: for each step, from 1, and each key that its deposit
+-- mentions, what the tables of the deposits before it have there
 abbrev pub before_images : List DepositValue → ℕ → Befores
 before_images c zero q = None
 before_images c (suc i) q = image_of (take i c) (slice_get c i) q

@@ -12,7 +12,7 @@ use Rattle.esc_apply.specs.Registry.{State}
 abbrev pub Notes : Type 0
 Notes = BTreeMap KeyName (Option ObjectValue)
 
--- what was noted for step j of a key, if anything was
+-- what was noted of a key for step j, if anything was
 abbrev pub noted_at : List (ℕ × Notes) → ℕ → KeyName → Option (Option ObjectValue)
 noted_at notes j q = option_and_then (λ (n : Notes). lookup (key_eq q) n.entries)
     (lookup (eq_by_cmp nat_cmp j) notes)

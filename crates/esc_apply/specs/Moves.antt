@@ -28,8 +28,8 @@ is_cleared steps front = (front == 0) && nat_lt 0 steps
 abbrev pub undone_of : List DepositValue → ℕ → List DepositValue
 undone_of c front = if is_cleared (length c) front then [] else drop front c
 
--- the work of going from n steps, of which the first `front` stay, to a chain with other steps
--- after those, by this number of writes
+-- the work of going from n steps, of which the first `front` stay, to a chain that has `applied`
+-- other steps after those, with this number of writes
 abbrev pub work_of : ℕ → ℕ → ℕ → ℕ → Work
 work_of steps front applied writes = record {
   cleared = is_cleared steps front;

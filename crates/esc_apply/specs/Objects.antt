@@ -9,12 +9,12 @@ use Rattle.esc_tables.specs.ObjectValue.{ObjectValue}
 abbrev pub Entry : Type 0
 Entry = KeyName × ObjectValue
 
--- entries by key, each key once
+-- the entries are in the order of keys, each key once
 abbrev pub InOrder : List Entry → Type 0
 InOrder es = IsStrictlySortedBy key_cmp (keys_of es)
 
--- the first of the entries that were still to come was given, and the others still are; or there
--- was none, and none was given
+-- the first of the entries that were still to come was returned, and the others are still to come;
+-- or there was none, and none was returned
 abbrev pub Gives : (List Entry → Type 0) → List Entry → Option Entry → Type 0
 Gives Lists es (Some e) = (rest : List Entry) × (es ≡ e ∷ rest) × Lists rest
 Gives Lists es None = (es ≡ []) × Lists []

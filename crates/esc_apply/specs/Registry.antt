@@ -46,7 +46,7 @@ empty = record { content = λ q. None; undo = λ j q. None }
 abbrev pub with_key : {X : Type 0} → (KeyName → X) → KeyName → X → KeyName → X
 with_key f k w q = if key_eq k q then w else f q
 
--- notes with others at one step
+-- notes with other ones for one step
 abbrev pub with_step : (ℕ → Befores) → ℕ → Befores → ℕ → KeyName → Option (Option ObjectValue)
 with_step f j g i q = if j == i then g q else f i q
 
@@ -65,7 +65,7 @@ noted s j k w = record {
 abbrev pub taken : State → ℕ → State
 taken s j = record { content = s.content; undo = with_step s.undo j nothing }
 
--- the state once what is at a key is noted for step j, and then changed
+-- the state in which what a key has is noted for step j, and is then replaced
 abbrev pub changed : State → ℕ → KeyName → Option ObjectValue → State
 changed s j k w = written (noted s j k (s.content k)) k w
 
@@ -85,17 +85,17 @@ restored s j = record {
   undo = with_step s.undo j nothing;
 }
 
--- these entries, each key once, are the keys at which a function has something, with what it has
--- there
+-- the entries are those of a function of keys: each key once, and for each key what the function
+-- has there, if it has anything
 pub record IsEntriesOf {X : Type 0} (f : KeyName → Option X)
     (es : List (KeyName × X)) : Type 0 where
   pub once : IsDistinct key_eq (keys_of es)
   pub each : (q : KeyName) → lookup (key_eq q) es ≡ f q
 
--- a function has something at n keys
+-- a function of keys has something at exactly n keys
 abbrev pub HasSize : {X : Type 0} → (KeyName → Option X) → ℕ → Type 0
 HasSize {X} f n = (es : List (KeyName × X)) × IsEntriesOf f es × (length es ≡ n)
 
--- a count of 64 bits, which stays at its greatest value once there
+-- a count of 64 bits, which stays at 2^64 - 1 once there
 abbrev pub saturated : ℕ → ℕ
 saturated n = min n (2 ^ 64 - 1)

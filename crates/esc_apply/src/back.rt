@@ -13,6 +13,7 @@ ghost use Rattle.std.specs.Prelude.{
   drop,
   sum_by,
   IfOk,
+  IfErr,
 };
 ghost use Rattle.esc_tables.specs.DepositValue.{DepositValue};
 ghost use Rattle.esc_apply.specs.Tables.{mention_count};
@@ -22,12 +23,13 @@ ghost use Rattle.esc_apply.specs.Images.{chain_state};
 use crate::registry::Registry;
 use std::alloc::Global;
 
-/// Puts back what was at each noted key before step `pos`: a registry that holds the tables and
-/// before-images of a chain with this step as its last holds afterwards those of the chain without
-/// it. Returns the number of writes: one for each of these before-images, which are the keys that
-/// the step's deposit mentions.
+/// Takes back step `pos`, counted from 1 and the last of its chain: puts back what each noted key
+/// had before the step. A registry that holds the tables and before-images of a chain holds
+/// afterwards those of the chain without its last step. Returns the number of writes: one for each
+/// of these before-images, which are those of the keys that the step's deposit mentions.
 pub fn undo_step<R: Registry>(alloc: Global, r: &mut R, pos: u32) -> Result<u64, R::Error>
     ensures follows { R.follows r.old r.new }
+    ensures cause { IfErr result R.fails }
     ensures counted { IfOk result (λ n. R.count r.new ≡ saturated (R.count r.old + n)) }
     ensures undone { IfOk result (λ n. R.is_honest r.new → (c : List DepositValue)
         (d : DepositValue) → length c + 1 ≡ pos → R.holds r.old (chain_state (c ++ d ∷ []))
@@ -46,8 +48,8 @@ pub fn undo_step<R: Registry>(alloc: Global, r: &mut R, pos: u32) -> Result<u64,
     Ok(befores.len() as u64)
 }
 
-/// Takes the last steps of a chain back, down to a front. Returns the number of writes (at most
-/// 2^64 - 1).
+/// Takes the last steps of a chain back, so that the first `front` of its `steps` steps stay.
+/// Returns the number of writes (at most 2^64 - 1).
 pub(crate) fn undo_to<R: Registry>(
     r: &mut R,
     alloc: Global,
@@ -56,6 +58,7 @@ pub(crate) fn undo_to<R: Registry>(
 ) -> Result<u64, R::Error>
     requires { front ≤ steps }
     ensures follows { R.follows r.old r.new }
+    ensures cause { IfErr result R.fails }
     ensures counted { IfOk result (λ n. R.count r.new ≡ saturated (R.count r.old + n)) }
     ensures undone { IfOk result (λ n. R.is_honest r.new → (c : List DepositValue)
         → length c ≡ steps → R.holds r.old (chain_state c)

@@ -18,6 +18,7 @@ ghost use Rattle.std.specs.Prelude.{
   map,
   sum_by,
   IfOk,
+  IfErr,
   OnOk,
 };
 ghost use Rattle.std.specs.List.{list_any};
@@ -38,9 +39,10 @@ use esc_tables::{Deposit, Key, Object};
 use std::alloc::Global;
 use std::collections::{BTreeMap, BTreeSet};
 
-/// Applies a deposit as step `pos`, and notes what was at each key that it mentions: a registry
-/// that holds the tables and before-images of the steps before holds afterwards those of these
-/// steps and this one. Returns the number of writes: one for each key that the deposit mentions.
+/// Applies a deposit as step `pos`, counted from 1, and notes what each key that it mentions had
+/// before. A registry that holds the tables and before-images of the earlier steps holds afterwards
+/// those of the earlier steps and this one. Returns the number of writes: one for each key that the
+/// deposit mentions.
 pub fn apply_step<R: Registry>(
     alloc: Global,
     r: &mut R,
@@ -48,6 +50,7 @@ pub fn apply_step<R: Registry>(
     d: &Deposit,
 ) -> Result<u64, R::Error>
     ensures follows { R.follows r.old r.new }
+    ensures cause { IfErr result R.fails }
     ensures number { IfOk result (λ n. n ≡ mention_count d.now) }
     ensures counted { OnOk result (R.count r.new
         ≡ saturated (R.count r.old + mention_count d.now)) }
@@ -73,6 +76,7 @@ pub(crate) fn apply_all<R: Registry>(
 ) -> Result<u64, R::Error>
     requires few { steps + length deposits.now < 2 ^ 32 }
     ensures follows { R.follows r.old r.new }
+    ensures cause { IfErr result R.fails }
     ensures number { IfOk result (λ n. n ≡ saturated (sum_by mention_count deposits.now)) }
     ensures counted { OnOk result
         (R.count r.new ≡ saturated (R.count r.old + sum_by mention_count deposits.now)) }
@@ -127,6 +131,7 @@ fn put_contents<R: Registry>(
     contents: &BTreeMap<Key, Object>,
 ) -> Result<(), R::Error>
     ensures follows { R.follows r.old r.new }
+    ensures cause { IfErr result R.fails }
     ensures counted { OnOk result
         (R.count r.new ≡ saturated (R.count r.old + length contents.now.entries)) }
     ensures put { OnOk result (R.is_honest r.new → (s : State) → R.holds r.old s
@@ -146,6 +151,7 @@ fn remove_deletes<R: Registry>(
     deletes: &BTreeSet<Key>,
 ) -> Result<(), R::Error>
     ensures follows { R.follows r.old r.new }
+    ensures cause { IfErr result R.fails }
     ensures counted { OnOk result
         (R.count r.new ≡ saturated (R.count r.old + length deletes.now.keys)) }
     ensures removed { OnOk result (R.is_honest r.new → (s : State) → R.holds r.old s
@@ -167,6 +173,7 @@ fn change<R: Registry>(
     after: Option<&Object>,
 ) -> Result<(), R::Error>
     ensures follows { R.follows r.old r.new }
+    ensures cause { IfErr result R.fails }
     ensures counted { OnOk result (R.count r.new ≡ saturated (R.count r.old + 1)) }
     ensures changed { OnOk result (R.is_honest r.new → (s : State) → R.holds r.old s
         → s.undo pos key.now ≡ None
@@ -182,6 +189,7 @@ fn change<R: Registry>(
 // Notes what is at a key.
 fn note<R: Registry>(r: &mut R, alloc: Global, pos: u32, key: &Key) -> Result<(), R::Error>
     ensures follows { R.follows r.old r.new }
+    ensures cause { IfErr result R.fails }
     ensures counted { OnOk result (R.count r.new ≡ R.count r.old) }
     ensures noted { OnOk result (R.is_honest r.new → (s : State) → R.holds r.old s
         → s.undo pos key.now ≡ None

@@ -11,11 +11,12 @@ pub struct Step {
     /// The index of the step's row in the manifest, from 0.
     pub row: usize,
     pub place: Place,
-    /// How often the deposit was generated again: 0 to 999,999.
+    /// The revision: how often the deposit was generated again, 0 to 999,999.
     pub resend: u32,
 }
 
-/// The length of the longest common beginning of two chains, by place and resend. Doesn't allocate.
+/// The number of steps that two chains have in common at their beginning, by place and resend.
+/// Doesn't allocate.
 pub fn common_front(old: &[Step], new: &[Step]) -> usize
     ensures front { result ≡ common_front old.now new.now }
     ensures longest { IsCommonFront old.now new.now result }
@@ -23,7 +24,7 @@ pub fn common_front(old: &[Step], new: &[Step]) -> usize
     same_steps(old, new)
 }
 
-// How many pairs of steps at one index are the same, from the front on.
+// The number of equal pairs of steps, from the first on up to the first pair that differs.
 fn same_steps(old: &[Step], new: &[Step]) -> usize
     ensures { result ≡ common_front old.now new.now }
 {

@@ -30,11 +30,11 @@
 //! - [`tables_are_listed`]: a law, that the tables of a chain have a listing by key.
 //!
 //! The contracts speak of any [`Registry`], by what it *holds*: a relation between it and a content
-//! with its before-images. A registry over a disk can promise that alone as long as the disk gives
+//! with its before-images. A registry over a disk can promise this only as long as the disk gives
 //! back what was written to it, so each clause on the content has the premise that the registry
-//! `is_honest` after the call. Whatever a call returns, the registry `follows` from what it was,
-//! which carries what no call of a registry breaks (that nothing was committed, for instance).
-//! After an `Err` nothing is said of the content.
+//! `is_honest` after the call. Whatever a call returns, the registry `follows` from what it was:
+//! that carries what no call of a registry breaks (that nothing was committed, for instance). After
+//! an `Err` nothing is said of the content.
 #![tactic(auto)]
 
 mod back;

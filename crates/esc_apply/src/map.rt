@@ -48,6 +48,8 @@ impl Objects for MapObjects {
 
     ghost has_failed = { λ o. ⊥ };
 
+    ghost fails = { λ _. ⊥ };
+
     ghost is_honest = { λ o. Unit {0} };
 
     ghost follows = { λ a b. Unit {0} };

@@ -57,7 +57,7 @@ fn note(
     Ok(())
 }
 
-// Its entries, in the order of keys.
+// The entries of notes, in the order of keys.
 fn entries(alloc: Global, notes: Notes) -> Result<Vec<(Key, Option<Object>)>, NoMemory>
     ensures items { IfOk result (λ all. all.items ≡ notes.entries) }
     ensures ordered { IsOrdered key_cmp notes }
@@ -65,7 +65,7 @@ fn entries(alloc: Global, notes: Notes) -> Result<Vec<(Key, Option<Object>)>, No
     Ok(notes.into_iter().collect(alloc)?)
 }
 
-/// A registry in memory, in the order of keys.
+/// A registry in memory.
 #[derive(Drop)]
 pub struct MemRegistry {
     objects: BTreeMap<Key, Object>,
@@ -97,6 +97,10 @@ impl Registry for MemRegistry {
     ghost holds = { λ r s. Keeps r.objects.entries r.notes.entries s };
 
     ghost count = { λ r. saturated r.count };
+
+    ghost fails = { λ _. Unit {0} };
+
+    ghost wants_memory = { λ m e given. tt };
 
     ghost is_honest = { λ r. Unit {0} };
 

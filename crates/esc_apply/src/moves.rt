@@ -1,4 +1,4 @@
-//! A registry goes from one chain to another.
+//! Moves of a registry from one chain to another.
 
 ghost use Rattle.std.specs.Prelude.{
   ◌≡◌,
@@ -13,6 +13,7 @@ ghost use Rattle.std.specs.Prelude.{
   take,
   sum_by,
   IfOk,
+  IfErr,
   OnOk,
 };
 ghost use Rattle.esc_tables.specs.DepositValue.{DepositValue};
@@ -38,16 +39,16 @@ pub struct Work {
     pub undone: u32,
     /// How many steps were applied.
     pub applied: u32,
-    /// How many objects were written or removed, one by one.
+    /// The number of objects that were written or removed, one by one (at most 2^64 - 1).
     pub writes: u64,
 }
 
-/// Goes from the chain `old` to the chain `new`, each of at most 4,096 steps, where `deposits` are
-/// those of the new steps past the common front, in order.
+/// Moves a registry from the chain `old` to the chain `new`, each of at most 4,096 steps.
+/// `deposits` are those of the new steps past the common front, in order.
 ///
-/// A registry that holds the tables and before-images of deposits of the old steps holds afterwards
-/// those of the first of them, as many as are common, followed by `deposits`. The work is what the
-/// move costs, and the registry's count has grown by its writes.
+/// A registry that holds the tables and before-images of the old steps' deposits holds afterwards
+/// those of the first of these deposits, as many as the chains have in common, followed by
+/// `deposits`. Returns what the move cost; the registry's count has grown by its writes.
 pub fn move_chain<R: Registry>(
     alloc: Global,
     r: &mut R,
@@ -59,6 +60,7 @@ pub fn move_chain<R: Registry>(
     requires few_new { length new.now ≤ 4096 }
     requires deposits { length deposits.now ≡ length new.now - common_front old.now new.now }
     ensures follows { R.follows r.old r.new }
+    ensures cause { IfErr result R.fails }
     ensures counted { IfOk result (λ work. R.count r.new
         ≡ saturated (R.count r.old + work.writes)) }
     ensures moved { OnOk result (R.is_honest r.new → (c : List DepositValue)
@@ -77,10 +79,11 @@ pub fn move_chain<R: Registry>(
     Ok(work_of(steps, front, deposits.len() as u32, writes))
 }
 
-// Takes a chain back to a front: all at once where nothing of it stays.
+// Takes a chain back so that its first `front` steps stay: all at once if none stays.
 fn go_back<R: Registry>(r: &mut R, alloc: Global, steps: u32, front: u32) -> Result<u64, R::Error>
     requires { front ≤ steps }
     ensures follows { R.follows r.old r.new }
+    ensures cause { IfErr result R.fails }
     ensures counted { IfOk result (λ n. R.count r.new ≡ saturated (R.count r.old + n)) }
     ensures gone { IfOk result (λ n. R.is_honest r.new → (c : List DepositValue)
         → length c ≡ steps

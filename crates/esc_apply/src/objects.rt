@@ -1,6 +1,6 @@
 //! Objects that are given one at a time.
 
-ghost use Rattle.std.specs.Prelude.{ℕ, ◌<◌, List, IfOk, OnOk, OnErr, IsSome};
+ghost use Rattle.std.specs.Prelude.{ℕ, ◌<◌, List, IfOk, IfErr, OnOk, OnErr, IsSome, ⊤};
 ghost use Rattle.esc_apply.specs.Objects.{Entry, Gives, InOrder};
 
 use esc_tables::{Key, Object};
@@ -10,14 +10,17 @@ use esc_tables::{Key, Object};
 pub trait Objects {
     type Error;
 
-    /// The objects that are still to come. A relation, since it may hold of no list.
+    /// The objects that are still to come. It is a relation, since there may be no such list.
     ghost lists: { Self → List Entry → Type 0 };
 
-    /// A bound on how many objects are still to come, whatever is true of them.
+    /// A bound on how many objects are still to come, honest or not.
     ghost bound: { Self → ℕ };
 
-    /// An error was returned, so nothing comes any more.
+    /// An error was returned, so no more objects come.
     ghost has_failed: { Self → Type 0 };
+
+    /// Which errors it returns.
+    ghost fails: { Self.Error → Type 0 } = { λ _. ⊤ };
 
     /// What it gave so far is what its source holds (for instance: the disk gave back what was
     /// written).
@@ -26,8 +29,8 @@ pub trait Objects {
     /// What stays true through calls, whatever they return (for instance: nothing was committed).
     ghost follows: { Self → Self → Type 0 };
 
-    /// The next object: the first of those to come, or `None` if there is none. After an error
-    /// nothing comes any more.
+    /// The next object: the first of those still to come, or `None` if there is none. After an
+    /// error no more objects come.
     fn next(&mut self) -> Result<Option<(Key, Object)>, Self::Error>
         ensures follows { follows self.old self.new }
         ensures given { IfOk result (λ o. is_honest self.new → (es : List Entry)
@@ -35,6 +38,7 @@ pub trait Objects {
             → Gives (lists self.new) es o) }
         ensures fewer { IfOk result (λ o. IsSome o → bound self.new < bound self.old) }
         ensures failed { OnErr result (has_failed self.new) }
+        ensures cause { IfErr result fails }
         ensures ended { OnOk result (has_failed self.old → ⊥) };
 
     /// The objects come by key, and no key comes twice.

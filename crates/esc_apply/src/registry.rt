@@ -1,6 +1,6 @@
 //! Registries of objects.
 
-ghost use Rattle.std.specs.Prelude.{◌≡◌, ℕ, ◌+◌, ◌<◌, ◌^◌, Option, Some, None, IfOk, OnOk};
+ghost use Rattle.std.specs.Prelude.{◌≡◌, ℕ, ◌+◌, ◌<◌, ◌^◌, Option, Some, None, IfOk, IfErr, OnOk};
 ghost use Rattle.std.specs.Option.{option_copied};
 ghost use Rattle.esc_apply.specs.Registry.{
   State,
@@ -11,22 +11,26 @@ ghost use Rattle.esc_apply.specs.Registry.{
   saturated,
   IsEntriesOf,
 };
+ghost use Rattle.esc_bundle.specs.declared.fault.NoMemory.{NoMemory};
 
 use esc_bundle::NoMemory;
 use esc_tables::{Key, Object};
 use std::alloc::Global;
 
-/// Objects by their keys, and by step and key the object that the key had before the step. After an
-/// `Err` nothing is said of the content.
+/// Objects by their keys, and their before-images: by step and key the object that the key had
+/// before the step. After an `Err` nothing is said of the content.
 pub trait Registry {
     type Error: From<NoMemory>;
 
     /// What the registry contains. A relation, since it may hold of no content or of several.
     ghost holds: { Self → State → Type 0 };
 
-    /// How many writes were made: it grows by one for each `put` or `remove`, and stays at 2^64 - 1
-    /// once there.
+    /// The number of writes so far: it grows by one with each `put` and `remove`, and stays at 2^64
+    /// - 1 once there.
     ghost count: { Self → ℕ };
+
+    /// Which errors its calls return.
+    ghost fails: { Self.Error → Type 0 };
 
     /// Everything that it returned so far is what was written to it (for instance: the disk gave
     /// back what it was given).
@@ -38,20 +42,23 @@ pub trait Registry {
     /// The object at a key, if there is one.
     fn get(&mut self, alloc: Global, k: &Key) -> Result<Option<Object>, Self::Error>
         ensures follows { follows self.old self.new }
+        ensures cause { IfErr result fails }
         ensures counted { OnOk result (count self.new ≡ count self.old) }
         ensures found { IfOk result (λ o. is_honest self.new → (s : State) → holds self.old s
             → (o ≡ s.content k.now) × holds self.new s) };
 
-    /// Writes an object at a key.
+    /// Writes the object of a key, in place of an earlier one.
     fn put(&mut self, alloc: Global, k: &Key, o: &Object) -> Result<(), Self::Error>
         ensures follows { follows self.old self.new }
+        ensures cause { IfErr result fails }
         ensures counted { OnOk result (count self.new ≡ saturated (count self.old + 1)) }
         ensures written { OnOk result (is_honest self.new → (s : State) → holds self.old s
             → holds self.new (written s k.now (Some o.now))) };
 
-    /// Writes that no object is at a key.
+    /// Removes the object of a key, if it has one. This is a write in either case.
     fn remove(&mut self, k: &Key) -> Result<(), Self::Error>
         ensures follows { follows self.old self.new }
+        ensures cause { IfErr result fails }
         ensures counted { OnOk result (count self.new ≡ saturated (count self.old + 1)) }
         ensures written { OnOk result (is_honest self.new → (s : State) → holds self.old s
             → holds self.new (written s k.now None)) };
@@ -59,11 +66,13 @@ pub trait Registry {
     /// Removes all objects and all before-images, which is no write.
     fn clear(&mut self) -> Result<(), Self::Error>
         ensures follows { follows self.old self.new }
+        ensures cause { IfErr result fails }
         ensures counted { OnOk result (count self.new ≡ count self.old) }
         ensures cleared { OnOk result (is_honest self.new → (s : State) → holds self.old s
             → holds self.new empty) };
 
-    /// Notes what was at a key before a step, where nothing is noted of them yet. This is no write.
+    /// Notes what a key had before a step; nothing may be noted for this step and key yet. This is
+    /// no write.
     fn put_undo(
         &mut self,
         alloc: Global,
@@ -72,6 +81,7 @@ pub trait Registry {
         before: Option<&Object>,
     ) -> Result<(), Self::Error>
         ensures follows { follows self.old self.new }
+        ensures cause { IfErr result fails }
         ensures counted { OnOk result (count self.new ≡ count self.old) }
         ensures noted { OnOk result (is_honest self.new → (s : State) → holds self.old s
             → s.undo step k.now ≡ None
@@ -84,6 +94,7 @@ pub trait Registry {
         step: u32,
     ) -> Result<Vec<(Key, Option<Object>)>, Self::Error>
         ensures follows { follows self.old self.new }
+        ensures cause { IfErr result fails }
         ensures counted { OnOk result (count self.new ≡ count self.old) }
         ensures taken { IfOk result (λ v. is_honest self.new → (s : State) → holds self.old s
             → IsEntriesOf (s.undo step) v.items × holds self.new (taken s step)) };
@@ -92,8 +103,11 @@ pub trait Registry {
     fn writes(&self) -> u64
         ensures { result ≡ count self.now };
 
-    /// The count is one of 64 bits (an impl whose count is a field says `saturated` of it).
+    /// The count is a number of 64 bits (an impl whose count is a field uses `saturated` of it).
     ghost bounded: { (r : Self) → count r < 2 ^ 64 };
+
+    /// Want of memory is one of its errors.
+    ghost wants_memory: { (m : NoMemory) (e : Self.Error) → Self.Error.from_gives m e → fails e };
 
     ghost stays: { (r : Self) → follows r r };
 

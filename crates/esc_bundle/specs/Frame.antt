@@ -21,15 +21,16 @@ use Rattle.esc_bundle.specs.Bundle.{Named, limit, first_line}
 use Rattle.esc_bundle.specs.Steps.{◌>>=◌, check}
 use Rattle.esc_bundle.specs.Reading.{next_at}
 
--- these sections and those that come after them, found within n steps
+-- these sections and those that come after them, read in n steps at most: one for each section, and
+-- one for the end; fault 4 where that isn't enough
 unfoldable pub frame_after : ℕ → List Named → List ℕ → Result (List Named) ℕ
 frame_after zero before rest = Err 4
 frame_after (suc steps) before rest
     = next_at before rest >>= λ next.
     option_map_or (λ found. frame_after steps (before ++ (found.0 ∷ [])) found.1) next (Ok before)
 
--- the sections of a bundle, or the number of the fault of any other text: 64 steps for sections,
--- and one for the end
+-- the sections of a bundle, or the number of the fault of any other text. 65 steps are enough for
+-- 64 sections and the end
 unfoldable pub frame : List ℕ → Result (List Named) ℕ
 frame body = do
   fits ← check (nat_le (length body) limit) 4

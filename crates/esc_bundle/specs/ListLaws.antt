@@ -7,8 +7,8 @@ use Rattle.std.specs.Str.Parse.{digits_value}
 use Rattle.std.proofs.lemmas.Bool.{and_parts, and_from, leb-true, le-leb}
 use Rattle.std.proofs.lemmas.Str.Parse.{IsDigitsTest, IsNumeralModel, numerals_by_value}
 
--- whether a test passes on one of the mapped elements is whether the test after f passes on one of
--- the elements
+-- a test passes on one of the mapped elements exactly if the test after f passes on one of the
+-- elements
 pub list_any_map : {A B : Type 0} (test : B → Bool) (f : A → B) (xs : List A)
     → list_any test (map f xs) ≡ list_any (λ x. test (f x)) xs
 list_any_map test f [] = refl

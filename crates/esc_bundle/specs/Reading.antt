@@ -52,8 +52,9 @@ abbrev pub parted : ℕ → List ℕ → Option (List ℕ × List ℕ)
 parted c [] = None
 parted c (b ∷ bs) = if b == c then Some ([], bs) else option_map (λ p. (b ∷ p.0, p.1)) (parted c bs)
 
--- a section of this name and length may come after these: the name has its form and is new,
--- there is room for it and its bytes, and the first section is the envelope
+-- a section of this name and length may come after these. Tested in this order: the name has its
+-- form (else fault 2); no earlier section has it (3); there is room for one more section, and for
+-- its bytes (4); the first section is the envelope (1)
 unfoldable pub stands_at : List Named → List ℕ → ℕ → Result (Unit {0}) ℕ
 stands_at before name size = do
   named ← check (is_name name) 2
@@ -61,7 +62,7 @@ stands_at before name size = do
   room ← check (nat_lt (length before) 64 && nat_le size limit) 4
   check (not (length before == 0) || bytes_eq name envelope_name) 1
 
--- the length that a section's line states, after these sections
+-- the length in a section's line, if the section may come after these
 unfoldable pub length_at : List Named → List ℕ → List ℕ → Result ℕ ℕ
 length_at before name size = do
   form ← check (is_length size) 1
@@ -77,13 +78,14 @@ section_at before rest = do
   ends ← check (nat_lt size (length line.1) && (slice_index line.1 size == 10)) 1
   Ok (record { name = words.0; bytes = take size line.1 }, drop (size + 1) line.1)
 
--- the last line is here: nothing may follow it, and it follows a section
+-- the last line is here: nothing may come after it, and at least one section has to come before it
 unfoldable pub end_at : List Named → List ℕ → Result (Option (Named × List ℕ)) ℕ
 end_at before rest = do
   last ← check ((length rest == 4) && nat_lt 0 (length before)) 1
   Ok None
 
--- what comes after these sections: no more of them, or a section and what follows it
+-- what comes after these sections: the end of the bundle, or one more section and what comes after
+-- it
 unfoldable pub next_at : List Named → List ℕ → Result (Option (Named × List ℕ)) ℕ
 next_at before rest = if starts_with nat_eq rest last_line then end_at before rest else
     (section_at before rest >>= λ next. Ok (Some next))
@@ -96,8 +98,8 @@ pub record FaultBehind (body : List ℕ) (n : ℕ) : Type 0 where
   pub sections : AreSections before
   pub fault : next_at before rest ≡ Err n
 
--- a text is refused with n: by its length, by its first line, or by what follows the sections that
--- it begins with
+-- a text is refused with n: with 4 for its length, with 1 for its first line, or else with the
+-- fault of what comes after the sections that it begins with
 abbrev pub IsFault : List ℕ → ℕ → Type 0
 IsFault body n = ((limit < length body) × (n ≡ 4))
     ⊎ ((length body ≤ limit) × ((rest : List ℕ) → body ≢ first_line ++ rest) × (n ≡ 1))

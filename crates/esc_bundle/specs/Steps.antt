@@ -4,7 +4,7 @@ use Rattle.esc_bundle.specs.declared.fault.Fault.{Fault}
 use Rattle.esc_bundle.specs.declared.fault.Fault.TheVariants.{Refused, NoMemory}
 
 infixl 10 ◌>>=◌
--- the next step, on the value of the one before, unless that had a fault
+-- the next step, applied to the value of the one before it, or the fault of that one
 abbrev pub ◌>>=◌ : {A B : Type 0} → Result A ℕ → (A → Result B ℕ) → Result B ℕ
 (Ok x) >>= next = next x
 (Err n) >>= next = Err n
@@ -18,7 +18,7 @@ abbrev pub or_fault : {A : Type 0} → ℕ → Option A → Result A ℕ
 or_fault n None = Err n
 or_fault n (Some x) = Ok x
 
--- a function's refusal is the fault that the definition gives, and never `NoMemory`
+-- a function's refusal has the number that the definition gives, and is never `NoMemory`
 abbrev pub Refuses : {A : Type 0} → Fault → Result A ℕ → Type 0
 Refuses (Refused n) told = told ≡ Err n
 Refuses NoMemory told = ⊥

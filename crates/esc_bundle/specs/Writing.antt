@@ -38,8 +38,8 @@ in_order before (s ∷ ss) = stands_at before s.name (length s.bytes) >>= λ sta
 unfoldable pub within_limit : List ℕ → Result (List ℕ) ℕ
 within_limit text = check (nat_le (length text) limit) 4 >>= λ fits. Ok text
 
--- the text of these sections. Tested in this order: there is a section; each section may come after
--- those before it; the whole is not too long
+-- the one text of these sections. Tested in this order: there is a section (else fault 1); each
+-- section may come after those before it (1 to 4); the whole is not too long (4)
 unfoldable pub bundle_of : List Named → Result (List ℕ) ℕ
 bundle_of ss = do
   some ← check (nat_lt 0 (length ss)) 1
@@ -55,8 +55,8 @@ pub record FaultAmong (ss : List Named) (n : ℕ) : Type 0 where
   pub sections : AreSections before
   pub fault : stands_at before section.name (length section.bytes) ≡ Err n
 
--- why no bundle has these sections: there is none, or one of them may not be where it is, or the
--- whole is too long
+-- no bundle has these sections, for the fault n: there is none (1), or one of them may not come
+-- after those before it, or the whole is too long (4)
 abbrev pub IsUnwritten : List Named → ℕ → Type 0
 IsUnwritten ss n =
     ((length ss ≡ 0) × (n ≡ 1))

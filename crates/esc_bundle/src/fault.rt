@@ -8,7 +8,7 @@ use std::alloc::{AllocError, AllocFailed};
 use std::error::Error;
 use std::fmt;
 
-/// Why a bundle's bytes are no deposit.
+/// Why a body is no valid bundle, or no valid deposit (this project's profile).
 #[derive(Clone, Copy, Debug, PartialEq, Eq)]
 pub enum Fault {
     /// The refusal with this number, from U1 to U11.

@@ -29,15 +29,15 @@ pub fn each_text_has_one_reading()
     ensures numbers { (body : List ℕ) (n : ℕ) → IsFault body n → (1 ≤ n) × (n ≤ 4) }
 {}
 
-/// The function `frame` of a text's bytes gives what the relations say.
+/// The function `frame` returns exactly what the relations `IsBundle` and `IsFault` say.
 pub fn frame_is_exact()
     ensures bundle { (body : List ℕ) (ss : List Named)
         → (frame body ≡ Ok ss) ↔ IsBundle body ss }
     ensures fault { (body : List ℕ) (n : ℕ) → (frame body ≡ Err n) ↔ IsFault body n }
 {}
 
-/// The function `bundle_of` of a list of sections gives its bundle, or the fault for which no
-/// bundle has these sections, from U1 to U4.
+/// The function `bundle_of` of a list of sections returns its bundle, or the number of the fault
+/// for which no bundle has these sections, from U1 to U4.
 pub fn bundle_of_is_exact()
     ensures bundle { (ss : List Named) (body : List ℕ) →
         (bundle_of ss ≡ Ok body) ↔ IsBundle body ss }

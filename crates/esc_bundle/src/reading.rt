@@ -77,16 +77,16 @@ const MOST_SECTIONS: usize = 64;
 /// The most bytes of a name.
 const LONGEST_NAME: usize = 32;
 
-/// The text does not have the frame of a bundle.
+/// U1: the text does not have the frame of a bundle.
 pub(crate) const BROKEN_FRAME: Fault = Fault::Refused(1);
 
-/// A section's name does not have the form of a name.
+/// U2: a section's name does not have the form of a name.
 const WRONG_NAME: Fault = Fault::Refused(2);
 
-/// An earlier section has the same name.
+/// U3: an earlier section has the same name.
 const REPEATED_NAME: Fault = Fault::Refused(3);
 
-/// There are too many sections or bytes.
+/// U4: there are too many sections or bytes.
 pub(crate) const OVER_LIMIT: Fault = Fault::Refused(4);
 
 fn index_of(bytes: &[u8], byte: u8) -> Option<usize>
@@ -141,7 +141,7 @@ fn is_length(size: &[u8]) -> bool
     size[0] != b'0' || size.len() == 1
 }
 
-// The value of digits, or one more than the limit if it is more than that.
+// The value of digits; for a value over the limit, some number over the limit.
 fn value_of(digits: &[u8]) -> usize
     requires some { 0 < length digits.now }
     requires digits { list_all is_ascii_digit digits.now ≡ true }
@@ -202,7 +202,7 @@ pub(crate) fn check_stand(before: &[Section<'_>], name: &[u8], size: usize) -> R
     Ok(())
 }
 
-// The length that a section's line states, after these sections.
+// The length in a section's line, if the section may come after these.
 #[tactic(auto, unfolding(crate::specs::Reading::length_at))]
 fn told_length(before: &[Section<'_>], name: &[u8], size: &[u8]) -> Result<usize, Fault>
     ensures { Gives (λ n. n) result (length_at (views before.now) name.now size.now) }
@@ -302,8 +302,8 @@ fn gather(alloc: Global, text: &[u8]) -> Result<Vec<Section<'_>>, Fault>
 /// - `Refused(4)`: the body or a section has more than 16,777,216 bytes, or there is a 65th
 ///   section.
 ///
-/// `NoMemory` where the list of sections can't be allocated: for any body up to the limit that
-/// begins with the first line.
+/// `NoMemory` where the list of sections can't be allocated. It is never returned in place of the
+/// faults that need no list: a body over the limit (4), and one without the first line (1).
 pub fn sections(alloc: Global, body: &[u8]) -> Result<Vec<Section<'_>>, Fault>
     ensures found { IfOk result (λ v. IsBundle body.now (views v.items)) }
     ensures refused { IfErr result (λ e. (n : ℕ) → e ≡ Fault.Refused n

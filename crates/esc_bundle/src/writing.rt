@@ -88,7 +88,8 @@ fn join(alloc: Global, sections: &[Section<'_>]) -> Result<Vec<u8>, Fault>
     Ok(text)
 }
 
-/// The bundle of these names and bytes, in their order: the one text that `sections` reads as them.
+/// The bundle of these names and bytes, in their order: the one text from which `sections` reads
+/// them (this project's profile).
 ///
 /// # Errors
 ///

@@ -21,9 +21,9 @@ use esc_bundle::NoMemory;
 use esc_manifest::{MRow, Manifest};
 use std::alloc::Global;
 
-/// The latest chain, as row indices from its Full to its end: the chain of held rows whose end is
-/// the greatest place among the ends of all such chains, or the empty list if there is none (this
-/// project's profile).
+/// The latest chain, as row indices from its Full to its end: of the chains of held rows the one
+/// whose end is the greatest place, or the empty list if there is no chain (this project's
+/// profile).
 ///
 /// Takes time n log n in the number of rows. The one error is out of memory.
 pub fn latest_chain(alloc: Global, m: &Manifest, h: &Held) -> Result<Vec<usize>, NoMemory>

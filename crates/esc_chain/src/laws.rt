@@ -8,31 +8,31 @@ ghost use Rattle.esc_chain.specs.Laws.{
   OneListOfLines,
 };
 
-/// The latest chain of a manifest is one, and depends on which rows are held and on nothing else.
-/// There is nothing to run: a caller calls it for what it ensures.
+/// A manifest has one latest chain, which depends on nothing but which rows are held. There is
+/// nothing to run: a caller calls it for what it ensures.
 pub fn latest_chain_is_one()
     ensures { OneLatestChain }
 {}
 
-/// The latest chain up to a moment is one, and depends on which rows are held and on the moment.
-/// There is nothing to run: a caller calls it for what it ensures.
+/// A manifest has one latest chain up to a moment, which depends on nothing but the moment and
+/// which rows are held. There is nothing to run: a caller calls it for what it ensures.
 pub fn latest_chain_at_is_one()
     ensures { OneLatestChainAt }
 {}
 
-/// The latest chain of a manifest has rows that are held, each once, and at most 4,096. There is
+/// The rows of the latest chain are held; each occurs once, and there are at most 4,096. There is
 /// nothing to run: a caller calls it for what it ensures.
 pub fn latest_chain_rows_are_held()
     ensures { LatestChainsAreHeldRows }
 {}
 
-/// The latest chain up to a moment has rows that are held, each once, and at most 4,096. There is
-/// nothing to run: a caller calls it for what it ensures.
+/// The rows of the latest chain up to a moment are held; each occurs once, and there are at most
+/// 4,096. There is nothing to run: a caller calls it for what it ensures.
 pub fn latest_chain_at_rows_are_held()
     ensures { LatestChainsAtAreHeldRows }
 {}
 
-/// The lines on gaps of a manifest are one list, and depend on which rows are held and on the
+/// A manifest has one list of gap lines, which depends on nothing but which rows are held and the
 /// moment, if there is one. There is nothing to run: a caller calls it for what it ensures.
 pub fn gap_lines_are_one()
     ensures { OneListOfLines }

@@ -8,8 +8,9 @@
 //! - [`Held`] is a set of rows of one manifest: those whose deposits are held. Contracts see a
 //!   finite set of row indices, counted from 0: the order of arrivals and how often a deposit
 //!   arrived are not in it.
-//! - [`used`] is the revision of a place that counts: of its held rows the one with the greatest
-//!   `resend`, also where it leads nowhere and a lower one would not (this project's profile).
+//! - [`used`] is the revision of a place that counts: of the held rows of the place the one with
+//!   the greatest `resend`, even if no chain ends there and one would with a lower `resend` (this
+//!   project's profile).
 //! - [`base_of`] is what a row builds on (RFC 8909, section 2, and this project's profile). A Full
 //!   builds on nothing, an Incremental on the last listed Full with an earlier watermark, whatever
 //!   its `prevId` says, and a Differential on the place that its `prevId` names. What has arrived
@@ -20,9 +21,9 @@
 //!   is no chain, it is empty. [`latest_chain_at`] is the same of the chains that end by a moment.
 //! - [`gaps`] has a line for each listed place, in the order of places: which revision of it is
 //!   used, its [`State`], what blocks it if no chain ends there, and which revision is still
-//!   awaited. A [`Blocker`] is the first on the way back that isn't held or isn't listed: not the
-//!   place itself, and not the last that is missing. [`gaps_at`] has the same by the latest chain
-//!   up to a moment.
+//!   awaited. A [`Blocker`] is the first base on the way back that isn't held or isn't listed: not
+//!   the place itself, and not the last base that is missing. [`gaps_at`] has the same by the
+//!   latest chain up to a moment.
 //!
 //! ```text
 //! let mut held = Held::new(alloc);

@@ -9,7 +9,7 @@ use Rattle.esc_tables.specs.KeyName.{KeyName}
 use Rattle.esc_tables.specs.ObjectValue.{RowValue, ObjectValue}
 use Rattle.esc_csv.specs.Lines.{Line, text_of}
 
--- the first line
+-- the first line: the names of the columns
 abbrev pub heading : Line
 heading = codes "kind" ∷ codes "key" ∷ codes "table" ∷ codes "row" ∷ codes "field" ∷ codes "value"
     ∷ []
@@ -26,11 +26,11 @@ row_lines k n r = map (cell_line k n r.table) r.cells
 abbrev pub is_in : List ℕ → RowValue → Bool
 is_in table r = bytes_eq r.table table
 
--- the place of a row after these rows among the rows of its table, from 1
+-- the number of a row that comes after these rows, among the rows of its table, from 1
 abbrev pub number_behind : List RowValue → RowValue → ℕ
 number_behind earlier r = count_by (is_in r.table) (earlier ++ r ∷ [])
 
--- the lines of child rows that come after these rows, each with its place among the rows of its
+-- the lines of child rows that come after these rows, each with its number among the rows of its
 -- table
 unfoldable pub child_lines : KeyName → List RowValue → List RowValue → List Line
 child_lines k earlier [] = []
@@ -45,7 +45,7 @@ object_lines k o = row_lines k 0 o.parent ++ child_lines k [] o.children
 abbrev pub is_of : Kind → KeyName × ObjectValue → Bool
 is_of kind e = is_kind e.0.kind kind
 
--- the lines of all objects of a kind, by key
+-- the lines of all objects of a kind, in the order of the entries
 abbrev pub export_lines : Kind → List (KeyName × ObjectValue) → List Line
 export_lines kind es = flat_map (λ e. object_lines e.0 e.1) (filter (is_of kind) es)
 

@@ -48,7 +48,7 @@ field_name IdnTableId = codes "idnTableId"
 field_name ContactId = codes "contactId"
 field_name HostName = codes "hostName"
 
--- the kind that a field links to
+-- the kind of the objects that a field names
 abbrev pub field_target : LinkField → Kind
 field_target ClId = Registrar
 field_target Registrant = Contact
@@ -74,13 +74,13 @@ is_domain Domain = true
 is_domain Idn = false
 is_domain Nndn = false
 
--- the field of a child row that links, by its table
+-- the field of a child row that links, by the row's table, if it has one
 abbrev pub child_field : Kind → List ℕ → Option LinkField
 child_field k table =
     if is_domain k then (if bytes_eq table (codes "domainContacts") then Some ContactId else if
     bytes_eq table (codes "domainNs") then Some HostName else None) else None
 
--- the table of an object's statuses
+-- the name of the table with the statuses of a kind's objects, if there is one
 abbrev pub status_table : Kind → Option (List ℕ)
 status_table Registrar = None
 status_table Contact = Some (codes "contactStatuses")

@@ -1,4 +1,4 @@
--- The order of findings is total.
+-- Laws of the order of findings.
 use Rattle.std.specs.Cmp.{IsTotalOrder, IsEquivalence, nat_cmp_total, eq_by_cmp_equiv}
 use Rattle.std.proofs.lemmas.Cmp.{then_total, on_total, nat_list_cmp_total}
 use Rattle.esc_envelope.specs.Kinds.{kind_rank}

@@ -61,7 +61,7 @@ unknown_status k s = record {
   other = [];
 }
 
--- V3: a status is none of its kind's
+-- V3: a status is none of those that the kind's objects may have
 abbrev pub IsUnknown : KeyName → ObjectValue → FindingValue → Type 0
 IsUnknown k o f = (s : List ℕ) × IsStatusOf k o s × (Contains (status_words k.kind) s → ⊥)
     × (f ≡ unknown_status k s)
@@ -82,7 +82,7 @@ abbrev pub IsMixed : KeyName → ObjectValue → FindingValue → Type 0
 IsMixed k o f = (k.kind ≡ Domain) × IsStatusOf k o (codes "ok")
     × ((s : List ℕ) × IsStatusOf k o s × (s ≢ codes "ok")) × (f ≡ mixed_status k)
 
--- a watermark as it is printed; one outside the years of watermarks prints as nothing
+-- a watermark as it is printed; nothing outside the years 1970 to 2261
 abbrev pub printed : ℤ → List ℕ
 printed w = unwrap_or (watermark_text_of w) []
 
@@ -131,7 +131,7 @@ malformed k field text = record {
   other = [];
 }
 
--- V7: a date does not have the form of a watermark, or its year is out of the range of watermarks
+-- V7: a date is no valid watermark: it has another form, or is no moment of the years 1970 to 2261
 abbrev pub IsMalformed : KeyName → List ℕ → List ℕ → FindingValue → Type 0
 IsMalformed k field text f = (text ≢ []) × (watermark_of text ≡ None) × (f ≡ malformed k field text)
 
@@ -142,11 +142,11 @@ IsOfDates w k o f =
     ⊎ (IsMalformed k (codes "crDate") (created k o) f
     ⊎ IsMalformed k (codes "exDate") (expires k o) f)
 
--- an object by itself breaks a rule
+-- an object breaks one of the rules V3 to V7, for which no other object counts
 abbrev pub IsOwn : ℤ → KeyName → ObjectValue → FindingValue → Type 0
 IsOwn w k o f = (IsUnknown k o f ⊎ IsMixed k o f) ⊎ IsOfDates w k o f
 
--- what is found in these tables, by a watermark and the numbers declared
+-- the findings in these tables, by a watermark and the declared numbers
 abbrev pub IsFinding : Tables → ℤ → List (Kind × ℕ) → FindingValue → Type 0
 IsFinding t w counts f =
     IsMissing t f ⊎ (IsMiscounted t counts f

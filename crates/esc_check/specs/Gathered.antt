@@ -1,5 +1,5 @@
--- What a walk over the objects gathers, with repeats, as lists. These are what the crate's own
--- functions give one another; `Findings` alone says what `verify` returns.
+-- What a walk over the objects gathers, with repeats, as lists. The crate's own functions return
+-- these to one another; `Findings` alone says what `verify` returns.
 use Rattle.std.specs.Prelude.{
   ◌≡◌,
   ℕ,
@@ -74,7 +74,7 @@ text_links k g text = if is_empty text then [] else link_to k g text ∷ []
 abbrev pub field_links : KeyName → RowValue → LinkField → List LinkValue
 field_links k r g = text_links k g (cell (field_name g) r)
 
--- the links of a row by a field, if it has one that links
+-- the links of a row by this field, if there is one
 abbrev pub row_links : KeyName → RowValue → Option LinkField → List LinkValue
 row_links k r None = []
 row_links k r (Some g) = field_links k r g
@@ -92,7 +92,7 @@ links_of k o = flat_map (field_links k o.parent) (parent_fields k.kind)
 abbrev pub is_present : List Entry → KeyName → Bool
 is_present es q = is_some (lookup (key_eq q) es)
 
--- what is found of links, if these are the keys of the tables
+-- the findings V1 of links, if these are the keys of the tables
 abbrev pub link_findings : (KeyName → Bool) → List LinkValue → List FindingValue
 link_findings present links = map missing_target (filter (λ l. not (present l.to)) links)
 
@@ -100,17 +100,17 @@ link_findings present links = map missing_target (filter (λ l. not (present l.t
 abbrev pub count_of : List KeyName → Kind → ℕ
 count_of keys kind = count_by (λ q. is_kind q.kind kind) keys
 
--- what is found of a declared number, if these are the keys of the tables
+-- the finding V2 of a declared number, if any, where these are the keys of the tables
 abbrev pub count_findings : List KeyName → Kind × ℕ → List FindingValue
 count_findings keys d = if count_of keys d.0 == d.1 then [] else miscounted d.0 d.1
     (count_of keys d.0) ∷ []
 
--- the status of a row, if it is of the table
+-- the status in a row, if the row is of the table and its status isn't empty
 abbrev pub row_status : List ℕ → RowValue → List (List ℕ)
 row_status table r = if is_in table r then
     (if is_empty (cell (codes "status") r) then [] else cell (codes "status") r ∷ []) else []
 
--- the statuses in a table
+-- the statuses in the rows of a table, if there is a table
 abbrev pub statuses_in : Option (List ℕ) → List RowValue → List (List ℕ)
 statuses_in None rows = []
 statuses_in (Some table) rows = flat_map (row_status table) rows
@@ -119,7 +119,7 @@ statuses_in (Some table) rows = flat_map (row_status table) rows
 abbrev pub statuses_of : KeyName → ObjectValue → List (List ℕ)
 statuses_of k o = statuses_in (status_table k.kind) o.children
 
--- whether a text is one of a kind's statuses
+-- whether a text is one of the statuses that a kind's objects may have
 abbrev pub is_status : Kind → List ℕ → Bool
 is_status k s = list_any (λ w. bytes_eq w s) (status_words k)
 
@@ -127,7 +127,7 @@ is_status k s = list_any (λ w. bytes_eq w s) (status_words k)
 abbrev pub is_ok : List ℕ → Bool
 is_ok s = bytes_eq s (codes "ok")
 
--- what is found of one status
+-- the finding V3 of one status, if any
 abbrev pub one_unknown : KeyName → List ℕ → List FindingValue
 one_unknown k s = if is_status k.kind s then [] else unknown_status k s ∷ []
 
@@ -135,7 +135,7 @@ one_unknown k s = if is_status k.kind s then [] else unknown_status k s ∷ []
 abbrev pub is_mixed : Kind → List (List ℕ) → Bool
 is_mixed kind ss = is_domain kind && (list_any is_ok ss && list_any (λ s. not (is_ok s)) ss)
 
--- what is found of an object's statuses
+-- the findings V3 and V4 of an object's statuses
 abbrev pub status_findings : KeyName → List (List ℕ) → List FindingValue
 status_findings k ss = flat_map (one_unknown k) ss
     ++ (if is_mixed k.kind ss then mixed_status k ∷ [] else [])
@@ -151,41 +151,41 @@ is_before None c = false
 is_before (Some e) None = false
 is_before (Some e) (Some c) = int_lt e c
 
--- whether a text is no moment, though it is not empty
+-- whether a text is neither empty nor a watermark
 abbrev pub is_malformed : List ℕ → Bool
 is_malformed text = not (is_empty text) && not (is_some (watermark_of text))
 
--- what is found of a date of creation beside the watermark
+-- the finding V5 of a date of creation, if any
 abbrev pub late_findings : ℤ → List ℕ → KeyName → List ℕ → List FindingValue
 late_findings w shown k text = if is_after (watermark_of text) w then late k text shown ∷ [] else []
 
--- what is found of a date of expiry beside that of creation
+-- the finding V6 of a date of expiry, if any, by the date of creation
 abbrev pub early_findings : KeyName → List ℕ → List ℕ → List FindingValue
 early_findings k text created_text
     = if is_before (watermark_of text) (watermark_of created_text) then early k text created_text
     ∷ [] else []
 
--- what is found of a date by itself
+-- the finding V7 of a date, if any
 abbrev pub malformed_findings : KeyName → List ℕ → List ℕ → List FindingValue
 malformed_findings k field text = if is_malformed text then malformed k field text ∷ [] else []
 
--- what is found of the moments of a date of creation and one of expiry
+-- the findings V5 and V6 of a date of creation and a date of expiry
 abbrev pub moment_findings : ℤ → List ℕ → KeyName → List ℕ → List ℕ → List FindingValue
 moment_findings w shown k c e = late_findings w shown k c ++ early_findings k e c
 
--- what is found of their forms
+-- their findings V7
 abbrev pub form_findings : KeyName → List ℕ → List ℕ → List FindingValue
 form_findings k c e = malformed_findings k (codes "crDate") c
     ++ malformed_findings k (codes "exDate") e
 
--- what is found of an object by itself
+-- the findings V3 to V7 of an object
 abbrev pub own_findings : ℤ → List ℕ → KeyName → ObjectValue → List FindingValue
 own_findings w shown k o =
     status_findings k (statuses_of k o)
     ++ (moment_findings w shown k (created k o) (expires k o)
     ++ form_findings k (created k o) (expires k o))
 
--- what is found of an object, if these are the keys of the tables
+-- the findings of an object, except V2, if these are the keys of the tables
 abbrev pub object_findings : (KeyName → Bool) → ℤ → List ℕ → Entry → List FindingValue
 object_findings present w shown e = link_findings present (links_of e.0 e.1)
     ++ own_findings w shown e.0 e.1

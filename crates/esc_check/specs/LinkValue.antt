@@ -11,6 +11,6 @@ pub record LinkValue : Type 0 where
   pub field : LinkField
   pub to : KeyName
 
--- the link to the key that a text names
+-- the link to the key with this text as its name
 abbrev pub link_to : KeyName → LinkField → List ℕ → LinkValue
 link_to k g text = record { from = k; field = g; to = key_named (field_target g) text }

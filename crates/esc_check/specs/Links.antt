@@ -8,7 +8,7 @@ use Rattle.esc_check.specs.Fields.{cell, field_name, parent_fields, child_field}
 use Rattle.esc_check.specs.LinkValue.{LinkValue, link_to}
 use Rattle.esc_check.specs.Tables.{Tables}
 
--- a row of an object has a link by a field that is not empty
+-- a row of an object has a link by this field, whose text isn't empty
 abbrev pub LinksBy : KeyName → RowValue → LinkField → LinkValue → Type 0
 LinksBy k r g l = (cell (field_name g) r ≢ []) × (l ≡ link_to k g (cell (field_name g) r))
 

@@ -15,7 +15,7 @@ use Rattle.esc_tables.specs.KeyName.{KeyName}
 use Rattle.esc_tables.specs.ObjectValue.{RowValue, ObjectValue}
 use Rattle.esc_check.specs.Fields.{cell, status_table}
 
--- the words for a kind's statuses
+-- the statuses that objects of a kind may have
 unfoldable pub status_words : Kind → List (List ℕ)
 status_words Registrar = []
 status_words Contact =

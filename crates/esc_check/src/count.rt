@@ -1,4 +1,4 @@
-//! The declared numbers of objects.
+//! The declared numbers of objects (V2).
 
 ghost use Rattle.std.specs.Prelude.{◌≡◌, ◌∷◌, [], ◌++◌, OnOk, IfOk, string_bytes};
 ghost use Rattle.std.specs.List.{flat_map};
@@ -89,7 +89,7 @@ fn check_met_count(
     add_miscounted(alloc, found, kind, declared, count)
 }
 
-/// Adds what is found of the declared numbers, where these are the keys of the objects.
+/// Adds the findings V2 of the declared numbers, if these are the keys of all objects.
 pub fn check_met(
     alloc: Global,
     found: &mut Vec<Finding>,
@@ -105,7 +105,7 @@ pub fn check_met(
     Ok(())
 }
 
-/// Adds what is found of the declared numbers of objects.
+/// Adds the findings V2 of the declared numbers, for these tables.
 pub fn check_counts(
     alloc: Global,
     found: &mut Vec<Finding>,

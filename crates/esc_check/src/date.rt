@@ -1,4 +1,4 @@
-//! The dates of an object.
+//! The dates of an object (V5 to V7).
 
 ghost use Rattle.std.specs.Prelude.{◌≡◌, ◌++◌, OnOk, IfOk, string_bytes};
 ghost use Rattle.esc_check.specs.Fields.{created, expires};
@@ -21,14 +21,14 @@ use esc_envelope::{watermark as moment_of, watermark_text};
 use esc_tables::{Key, Object};
 use std::alloc::Global;
 
-/// A watermark with its text.
+/// A watermark, in nanoseconds since 1970-01-01T00:00:00Z, with its text.
 #[derive(Drop)]
 pub struct Limit {
     pub moment: i64,
     pub text: String,
 }
 
-/// A watermark as it is printed: as nothing, if it is outside of the years of watermarks.
+/// A watermark with its text, which is empty outside the years 1970 to 2261.
 pub fn limit_at(alloc: Global, watermark: i64) -> Result<Limit, NoMemory>
     ensures moment { IfOk result (λ limit. limit.moment ≡ watermark) }
     ensures text { IfOk result (λ limit. string_bytes limit.text ≡ printed watermark) }
@@ -118,7 +118,7 @@ fn add_malformed(
     Ok(())
 }
 
-/// Adds what is found of an object's dates as moments.
+/// Adds the findings V5 and V6 of an object's dates.
 pub fn check_moments(
     alloc: Global,
     found: &mut Vec<Finding>,
@@ -135,7 +135,7 @@ pub fn check_moments(
     add_early(alloc, found, key, expires(key, object), creation)
 }
 
-/// Adds what is found of their forms.
+/// Adds the findings V7 of an object's dates.
 pub fn check_forms(
     alloc: Global,
     found: &mut Vec<Finding>,

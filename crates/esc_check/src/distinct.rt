@@ -20,7 +20,7 @@ pub fn settle(mut found: Vec<Finding>) -> Vec<Finding>
 }
 
 /// These findings, which are in order, without each that differs from the one before it only in
-/// what else it reports. Doesn't allocate.
+/// `other`. Doesn't allocate.
 pub fn listed(mut found: Vec<Finding>) -> Vec<Finding>
     requires { IsStrictlySortedBy finding_cmp found.items }
     ensures ordered { IsStrictlySortedBy listing_cmp result.items }

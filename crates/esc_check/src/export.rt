@@ -29,7 +29,7 @@ ghost use Rattle.esc_check.specs.Export.{
   object_lines,
   export_text,
 };
-ghost use Rattle.esc_check.specs.Streams.{IfSource};
+ghost use Rattle.esc_check.specs.Streams.{IfSource, OfSource};
 
 use crate::stream::StreamFault;
 use esc_apply::Objects;
@@ -40,9 +40,10 @@ use esc_tables::{Key, Object, Row};
 use std::alloc::Global;
 use std::collections::BTreeMap;
 
-/// The export of a kind as CSV (this project's profile): by key in byte order; of an object the
-/// parent row first, with number 0, then its child rows, each with its place among the object's
-/// rows of that table, from 1; a line for each cell, in the declared order.
+/// The export of a kind as CSV (this project's profile): a heading, and then the objects in the
+/// byte order of their keys; of an object the parent row first, with number 0, then its child rows,
+/// each with its number among the object's rows of its table, from 1; a line for each cell, in the
+/// declared order.
 pub fn export_rows(
     alloc: Global,
     t: &BTreeMap<Key, Object>,
@@ -61,8 +62,8 @@ pub fn export_rows(
     lines.into_text()
 }
 
-/// The same export, of objects that come one at a time. It allocates for the text alone. At `Err`
-/// the source failed, or memory was refused.
+/// The same export, for objects that come one at a time. It allocates for the text alone. At `Err`
+/// the source failed, or it is out of memory.
 pub fn export_from<O: Objects>(
     alloc: Global,
     o: &mut O,
@@ -70,6 +71,7 @@ pub fn export_from<O: Objects>(
 ) -> Result<Vec<u8>, StreamFault<O::Error>>
     ensures follows { O.follows o.old o.new }
     ensures source { IfErr result (λ fault. IfSource fault (O.has_failed o.new)) }
+    ensures cause { IfErr result (OfSource O.fails) }
     ensures text { IfOk result (λ text. O.is_honest o.new → (es : List Entry)
         → O.lists o.old es
         → text.items ≡ export_text kind es) }
@@ -128,8 +130,9 @@ fn write_children(
     Ok(())
 }
 
-// The place of a row of a table after these rows, whose last one, `last`, has `number`. Where rows
-// are grouped by table, as those of a deposit are, each table is counted once.
+// The number of a row of `table` that comes after these rows: one more than their rows of that
+// table. `number` is how many of them are of the table `last`, that of the last one. Where rows are
+// grouped by table, as those of a deposit are, each table is counted once.
 fn number_behind(earlier: &[Row], last: &str, number: usize, table: &str) -> usize
     requires known { number ≡ count_by (is_in last.now) earlier.now }
     requires room { length earlier.now + 1 < 2 ^ 64 }

@@ -16,7 +16,7 @@ ghost use Rattle.esc_check.specs.Fields.{
 use esc_envelope::Kind;
 use esc_tables::{Key, Object, Row};
 
-/// A field that links (this project's profile of RFC 9022).
+/// A field that links: its text names another object (this project's profile of RFC 9022).
 #[derive(Clone, Copy, Debug, PartialEq, Eq)]
 pub enum LinkField {
     ClId,
@@ -27,6 +27,7 @@ pub enum LinkField {
 }
 
 impl LinkField {
+    /// The name of the field, such as `clID`.
     #[tactic(auto, unfolding(crate::specs::Fields::field_name))]
     pub fn name(self) -> &'static str
         ensures { result.now ≡ field_name self }
@@ -40,7 +41,7 @@ impl LinkField {
         }
     }
 
-    /// The kind that the field links to.
+    /// The kind of the objects that the field names.
     pub fn target(self) -> Kind
         ensures { result ≡ field_target self }
     {
@@ -69,7 +70,7 @@ pub fn parent_fields(kind: Kind) -> &'static [LinkField]
     }
 }
 
-/// The field of a child row that links, by its table.
+/// The field of a child row that links, by the row's table, if it has one.
 pub fn child_field(kind: Kind, table: &str) -> Option<LinkField>
     ensures { result ≡ child_field kind table.now }
 {
@@ -87,6 +88,7 @@ pub fn child_field(kind: Kind, table: &str) -> Option<LinkField>
     }
 }
 
+/// Whether a kind is that of domains.
 pub fn is_domain(kind: Kind) -> bool
     ensures { result ≡ is_domain kind }
 {
@@ -119,7 +121,7 @@ fn has_created(kind: Kind) -> bool
     }
 }
 
-/// The text of an object's date of creation, empty where there is none to verify.
+/// The text of an object's date of creation, `crDate`; empty if there is none, or none to verify.
 pub fn created<'a>(key: &Key, object: &'a Object) -> &'a str
     ensures { result.now ≡ created key.now object.now }
 {
@@ -129,7 +131,7 @@ pub fn created<'a>(key: &Key, object: &'a Object) -> &'a str
     cell(&object.parent, "crDate")
 }
 
-/// The text of a domain's date of expiry, empty where there is none.
+/// The text of a domain's date of expiry, `exDate`; empty if there is none.
 pub fn expires<'a>(key: &Key, object: &'a Object) -> &'a str
     ensures { result.now ≡ expires key.now object.now }
 {

@@ -15,19 +15,22 @@ use std::alloc::Global;
 use std::cmp::Ordering;
 use std::marker::Model;
 
-/// Where the tables of a registry break a rule. Ordered by the fields in turn, texts by their
-/// bytes.
+/// A finding: where the tables of a registry break a rule of V1 to V7 (this project's profile).
+/// Findings are ordered by their fields in turn, texts by their bytes.
 #[derive(Debug, Drop)]
 pub struct Finding {
-    /// 1 to 7, of V1 to V7.
+    /// The number of the rule that is broken: 1 to 7, for V1 to V7.
     pub code: u8,
+    /// The kind of the object; in V2 the kind that is counted.
     pub kind: Kind,
-    /// The object's key, empty in V2.
+    /// The text of the object's key, empty in V2.
     pub key: String,
+    /// The name of the field; `count` in V2.
     pub field: String,
+    /// The text of the field: in V1 the target's key, in V2 the declared number, in V4 `ok`.
     pub value: String,
     /// What else is reported: the target's kind in V1, the number found in V2, the watermark in V5,
-    /// the date of creation in V6.
+    /// the date of creation in V6. Empty in V3, V4 and V7.
     pub other: String,
 }
 

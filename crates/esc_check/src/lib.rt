@@ -3,9 +3,9 @@
 //! The tables are a map from keys to objects, as `esc_tables` reads them from a deposit or as a
 //! chain of deposits makes them.
 //!
-//! `export_rows` writes all objects of a kind as CSV: a heading, and a line for each cell, by key,
-//! the parent row first and then each child row with its place among the object's rows of its
-//! table. Its contract gives the whole text.
+//! `export_rows` writes all objects of a kind as CSV: a heading, and a line for each cell, in the
+//! order of keys; of an object the parent row first, and then each child row with its number among
+//! the object's rows of its table. Its contract states the whole text.
 //!
 //! `verify` returns what breaks a rule of this project's profile, each finding once and in order:
 //!
@@ -15,14 +15,15 @@
 //! - V4: a domain is `ok` and has another status;
 //! - V5: an object was created after the watermark;
 //! - V6: a domain expires before it was created;
-//! - V7: a date has no watermark's form, or is no moment of its years.
+//! - V7: a date is no valid watermark: it has another form, or is no moment of the years 1970 to
+//!   2261.
 //!
-//! Where a row has a field twice, the first cell counts. An empty cell links nothing, is no status
-//! and no date.
+//! Where a row has a field twice, the first cell counts. An empty cell is no link, no status and no
+//! date.
 //!
-//! `export_from` and `verify_from` return the same of objects that come one at a time, from a
-//! source that is an `Objects` of `esc_apply`: by key, each key once. They ask for all of them, and
-//! keep none.
+//! `export_from` and `verify_from` return the same for objects that come one at a time, in the
+//! order of keys, each key once, from a source that is an `Objects` of `esc_apply`. They ask for
+//! all of the objects, and keep none.
 //!
 //! # Example
 //!
@@ -40,13 +41,14 @@
 //! strict order, so each of them once. `specs/Export.antt` has the lines of the export. Out of
 //! memory, either returns `NoMemory`.
 //!
-//! Over a source that is honest, `export_from` and `verify_from` return just that of what it lists;
-//! that findings are in strict order holds over any. Where the source fails they return its fault,
-//! and nothing of what came before. Whatever they return, the source `follows` from what it was.
+//! Over a source that is honest, `export_from` and `verify_from` return exactly that for the
+//! objects that it lists; that findings are in strict order holds over any source. Where the source
+//! fails they return its fault, and nothing of what came before. Whatever they return, the source
+//! `follows` from what it was.
 //!
-//! `specs/Gathered.antt` is what the functions here give one another, as lists with repeats: what
-//! is found of one object, where these keys are there. `proofs/FindingLaws.antt` shows that it is
-//! the same set.
+//! `specs/Gathered.antt` has what the functions here return to one another, as lists with repeats:
+//! what is found of one object, if these are the keys of the tables. `proofs/FindingLaws.antt`
+//! shows that it is the same set.
 //!
 //! `Lines` of `esc_csv`, in which the export is written, is re-exported for other reports.
 //!

@@ -1,4 +1,4 @@
-//! The links of objects, and those that lead to nothing.
+//! The links of objects, and those that lead to no object (V1).
 
 ghost use Rattle.std.specs.Prelude.{◌≡◌, ◌∷◌, [], ◌++◌, OnOk, IfOk, not, map, filter};
 ghost use Rattle.std.specs.List.{flat_map};
@@ -50,7 +50,7 @@ fn is_dns(kind: Kind) -> bool
     }
 }
 
-// The key of a kind that a text names: of a host in lower-case ASCII letters.
+// The key with this kind and name: of a host in lower-case ASCII letters.
 fn key_named(alloc: Global, kind: Kind, name: &str) -> Result<Key, NoMemory>
     ensures { IfOk result (λ key. key ≡ key_named kind name.now) }
 {
@@ -155,7 +155,7 @@ fn add_missing(alloc: Global, found: &mut Vec<Finding>, link: &Link) -> Result<(
     )
 }
 
-/// Adds the findings of links between the objects of these tables.
+/// Adds the findings V1 of these links: of each that leads to no object of these tables.
 pub fn check_links(
     alloc: Global,
     found: &mut Vec<Finding>,
@@ -174,7 +174,7 @@ pub fn check_links(
     Ok(())
 }
 
-/// Those of these links that lead to none of these keys. Doesn't allocate.
+/// The links that lead to none of these keys. Doesn't allocate.
 pub fn unmet(met: &BTreeSet<Key>, mut links: Vec<Link>) -> Vec<Link>
     ensures { result.items ≡ filter (λ l. not (sorted.contains key_cmp met.now l.to))
         links.items }
@@ -183,7 +183,7 @@ pub fn unmet(met: &BTreeSet<Key>, mut links: Vec<Link>) -> Vec<Link>
     links
 }
 
-/// Adds the findings of links to nothing.
+/// Adds a finding V1 for each of these links.
 pub fn add_all_missing(
     alloc: Global,
     found: &mut Vec<Finding>,

@@ -1,4 +1,4 @@
-//! The statuses of an object.
+//! The statuses of an object (V3 and V4).
 
 ghost use Rattle.std.specs.Prelude.{◌≡◌, ◌++◌, OnOk, IfOk, map, not};
 ghost use Rattle.std.specs.List.{flat_map, list_any};
@@ -23,7 +23,7 @@ use esc_envelope::Kind;
 use esc_tables::{Key, Object, Row};
 use std::alloc::Global;
 
-// The table of an object's statuses.
+// The name of the table with the statuses of a kind's objects, if there is one.
 fn status_table(kind: Kind) -> Option<&'static str>
     ensures { option_map (λ t. t.now) result ≡ status_table kind }
 {
@@ -35,7 +35,7 @@ fn status_table(kind: Kind) -> Option<&'static str>
     }
 }
 
-// The statuses of a kind (RFC 5733, 5732 and 5731).
+// The statuses that objects of a kind may have (RFC 5733, 5732 and 5731).
 #[tactic(auto, unfolding(crate::specs::Statuses::status_words))]
 fn status_words(kind: Kind) -> &'static [&'static str]
     ensures { map (λ w. w.now) result.now ≡ status_words kind }
@@ -103,7 +103,7 @@ fn is_status(kind: Kind, text: &str) -> bool
     is_among(text, status_words(kind))
 }
 
-// The statuses in a table of an object, in their order.
+// The statuses in this table of an object's child rows, in their order.
 fn statuses_in<'a>(
     alloc: Global,
     table: &str,
@@ -184,7 +184,7 @@ fn check_each(
     Ok(())
 }
 
-/// Adds what is found of an object's statuses.
+/// Adds the findings V3 and V4 of an object's statuses.
 pub fn check_statuses(
     alloc: Global,
     found: &mut Vec<Finding>,

@@ -28,7 +28,7 @@ use esc_tables::{Key, Object};
 use std::alloc::Global;
 use std::collections::BTreeMap;
 
-/// Adds what is found of an object by itself.
+/// Adds the findings V3 to V7 of an object.
 pub fn check_own(
     alloc: Global,
     found: &mut Vec<Finding>,
@@ -44,7 +44,7 @@ pub fn check_own(
     check_forms(alloc, found, key, object)
 }
 
-// Adds what is found of the links of an object of these tables.
+// Adds the findings V1 of an object of these tables.
 fn check_linked(
     alloc: Global,
     found: &mut Vec<Finding>,
@@ -93,9 +93,10 @@ fn check_objects(
     Ok(())
 }
 
-/// What breaks a rule in the tables of a registry, by its watermark (in nanoseconds since
-/// 1970-01-01T00:00:00Z) and the declared numbers of objects: V1 to V7, each once, in the order of
-/// code, kind, key, field and value, texts by their bytes (this project's profile).
+/// The findings V1 to V7 in the tables of a registry, by its watermark (in nanoseconds since
+/// 1970-01-01T00:00:00Z) and the declared numbers of objects: each once, in the order of code,
+/// kind, key, field and value, texts by their bytes (this project's profile). `NoMemory` out of
+/// memory.
 pub fn verify(
     alloc: Global,
     t: &BTreeMap<Key, Object>,

@@ -7,7 +7,7 @@ ghost use Rattle.esc_apply.specs.Objects.{InOrder};
 ghost use Rattle.esc_check.specs.FindingValue.{FindingValue, listing_cmp};
 ghost use Rattle.esc_check.specs.Findings.{IsFinding, printed};
 ghost use Rattle.esc_check.specs.Gathered.{Leads};
-ghost use Rattle.esc_check.specs.Streams.{IfSource};
+ghost use Rattle.esc_check.specs.Streams.{IfSource, OfSource};
 ghost use Rattle.esc_check.specs.Tables.{Entry, tables_of};
 
 use crate::count::check_met;
@@ -27,11 +27,11 @@ use std::collections::{BTreeMap, BTreeSet};
 /// What a walk over objects keeps of them.
 #[derive(Drop)]
 pub struct Gathering {
-    /// What is found of each object by itself.
+    /// The findings of each object by itself (V3 to V7).
     pub found: Vec<Finding>,
-    /// The keys of the objects.
+    /// The keys of the objects so far.
     pub met: BTreeSet<Key>,
-    /// The links to objects that were not met when the links came: they may come later.
+    /// The links to objects that had not come when the links did: they may still come.
     pub waiting: Vec<Link>,
 }
 
@@ -46,8 +46,8 @@ fn start(alloc: Global) -> Gathering
     }
 }
 
-// Takes in the next object. Nearly all links lead to objects of an earlier kind, so that they are
-// met, and are not kept.
+// Takes in the next object. Nearly all links lead to objects of an earlier kind, which have come
+// already, so that these links need not be kept.
 fn take_in(
     alloc: Global,
     g: &mut Gathering,
@@ -68,8 +68,8 @@ fn take_in(
     Ok(())
 }
 
-// What is found of all the objects that were taken in. Where a source that isn't honest gives a key
-// twice, findings may differ only in what else they report; then one of them is listed.
+// The findings of all the objects that were taken in. A source that isn't honest may give a key
+// twice: then findings may differ only in `other`, and one of them is listed.
 fn finish(
     alloc: Global,
     g: Gathering,
@@ -98,6 +98,7 @@ fn gather<O: Objects>(
 ) -> Result<Gathering, StreamFault<O::Error>>
     ensures follows { O.follows o.old o.new }
     ensures source { IfErr result (λ fault. IfSource fault (O.has_failed o.new)) }
+    ensures cause { IfErr result (OfSource O.fails) }
     ensures leads { IfOk result (λ g. O.is_honest o.new → (es : List Entry) → O.lists o.old es
         → InOrder es × Leads limit.now.moment (string_bytes limit.now.text) g [] es) }
 {
@@ -108,9 +109,9 @@ fn gather<O: Objects>(
     Ok(gathered)
 }
 
-/// What `verify` finds in the tables of a registry, from their objects as they come one at a time.
-/// It allocates for what is found, for the keys, and for the links that lead to what had not come
-/// before them.
+/// What `verify` returns for the tables of a registry, from their objects as they come one at a
+/// time. It allocates for the findings, for the keys, and for the links to objects that had not
+/// come when the links did. At `Err` the source failed, or it is out of memory.
 pub fn verify_from<O: Objects>(
     alloc: Global,
     o: &mut O,
@@ -119,6 +120,7 @@ pub fn verify_from<O: Objects>(
 ) -> Result<Vec<Finding>, StreamFault<O::Error>>
     ensures follows { O.follows o.old o.new }
     ensures source { IfErr result (λ fault. IfSource fault (O.has_failed o.new)) }
+    ensures cause { IfErr result (OfSource O.fails) }
     ensures ordered { IfOk result (λ found. IsStrictlySortedBy listing_cmp found.items) }
     ensures each { IfOk result (λ found. O.is_honest o.new → (es : List Entry)
         → O.lists o.old es

@@ -1,4 +1,4 @@
--- How long a client is waited for.
+-- How long a client is waited for (this project's profile).
 use Rattle.std.specs.Prelude.{ℕ, ◌≡◌, ◌+◌, ◌-◌, ◌*◌, ◌/◌, ◌≤◌, min}
 use Rattle.std.specs.Duration.{as_nanos}
 use Rattle.esc_client.specs.declared.patience.Patience.{Patience}
@@ -12,7 +12,7 @@ granted_seconds most bytes = min most (10 + bytes / 65_536)
 abbrev pub most_seconds : Patience → ℕ
 most_seconds patience = patience.most
 
--- the nanoseconds that a client may stand still
+-- the nanoseconds that a single wait may last
 abbrev pub pause : Patience → ℕ
 pause patience = as_nanos patience.pause
 
@@ -36,6 +36,6 @@ IsOver patience = granted patience ≤ waited patience
 abbrev pub next_wait : Patience → ℕ
 next_wait patience = min (pause patience) (granted patience - waited patience)
 
--- nothing has come or gone, and nobody was waited for
+-- no byte has come or gone, and the client has not been waited for
 abbrev pub IsNew : Patience → Type 0
 IsNew patience = (moved patience ≡ 0) × (waited patience ≡ 0)

@@ -13,10 +13,10 @@ use std::time::{Clock, Duration, Instant};
 
 /// A stream whose reads and writes can be limited in time.
 pub trait Timed {
-    /// From now on a read that waits longer fails.
+    /// Limits reads from now on: a read that waits longer fails.
     fn limit_reads(&self, time: Duration) -> Result<()>;
 
-    /// From now on a write that waits longer fails, or takes some bytes alone.
+    /// Limits writes from now on: a write that waits longer fails, or takes only some of its bytes.
     fn limit_writes(&self, time: Duration) -> Result<()>;
 }
 
@@ -59,7 +59,7 @@ impl<'a, C: Clock, S: Timed + Drop> Client<'a, C, S> {
         }
     }
 
-    // Counts a wait that began then, with the bytes that came or went in it.
+    // Counts a wait that began at `begun`, with the bytes that came or went in it.
     fn count(&mut self, begun: Instant, moved: &Result<usize>) -> Result<()> {
         let bytes = match moved {
             Ok(bytes) => *bytes,

@@ -1,9 +1,9 @@
-//! A client's connection, with a limit on the time that it is waited for.
+//! A client's connection, with a limit on the time for which the client is waited for.
 //!
-//! One connection is served at a time, so a client that sends a byte now and then, or takes its
-//! response a byte at a time, would hold up all others. A time limit for each read doesn't help: it
-//! would begin again with each byte. So the time that a client is waited for is counted as a whole,
-//! and bounded by what came or went.
+//! One connection is served at a time. A client that sends a byte now and then, or takes its
+//! response a byte at a time, would hold up all others. A time limit for each read doesn't help,
+//! since it begins anew with each byte. So the time for which a client is waited for is counted as
+//! a whole, and bounded by the number of bytes that came or went.
 //!
 //! What goes in: a clock, a stream whose reads and writes can be limited in time, and a
 //! [`Patience`]. What comes out: a [`Client`], a reader and writer over the stream, that fails once
@@ -29,9 +29,9 @@
 //!
 //! `specs/Patience.antt` has the rule: `granted`, the time for the bytes so far; `waited`, the time
 //! that its calls have taken; and `IsOver`, that the time waited is no less than the time granted.
-//! If its patience is over a read or a write of a `Client` fails at once, without a call of the
-//! stream. Else the stream is limited to `next_wait`. That a limited read ends in time is the
-//! system's, and so is the clock: no contract says so.
+//! Once its patience is over, a read or a write of a `Client` fails at once, without a call of the
+//! stream. Until then the stream is limited to `next_wait`. That a limited read ends in time is up
+//! to the system, and so is the clock: no contract says so.
 #![tactic(auto)]
 
 mod client;

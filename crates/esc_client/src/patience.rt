@@ -1,4 +1,4 @@
-//! How long a client is waited for.
+//! How long a client is waited for (this project's profile).
 
 ghost use Rattle.std.specs.Prelude.{◌≡◌, ◌+◌, ◌^◌, ◌-◌, ◌↔◌, min, IsNone, IfSome};
 ghost use Rattle.std.specs.Duration.{as_nanos, max_nanos};
@@ -18,7 +18,7 @@ use std::time::Duration;
 /// How many seconds a client is waited for before any byte has come or gone.
 pub const FIRST_SECONDS: u64 = 10;
 
-/// A client is waited for one more second for each piece of this many bytes that comes or goes.
+/// A client is granted one more second each time this many bytes have come or gone.
 pub const BYTES_A_SECOND: u64 = 65_536;
 
 /// How many seconds a request is waited for at most.
@@ -27,13 +27,13 @@ pub const MOST_REQUEST_SECONDS: u64 = 300;
 /// How many seconds are spent at most on reading what a client still sends after its response.
 pub const REST_SECONDS: u64 = 10;
 
-/// How many seconds such a client may stand still.
+/// The most seconds for which a client that has its response may send nothing.
 pub const REST_PAUSE_SECONDS: u64 = 1;
 
-/// How long a client is still waited for.
+/// How long a client may still be waited for.
 #[derive(Clone, Copy, Debug)]
 pub struct Patience {
-    /// The most seconds that are granted, whatever comes or goes.
+    /// The most seconds that are granted, however many bytes come or go.
     most: u64,
     /// The longest single wait.
     pause: Duration,
@@ -44,7 +44,8 @@ pub struct Patience {
 }
 
 impl Patience {
-    /// The patience with a client that sends its request.
+    /// The patience with a client that sends its request: 10 seconds, and one for each 65,536 bytes
+    /// that came; at most 300.
     pub fn for_request() -> Patience
         ensures new { IsNew result }
         ensures most { most_seconds result ≡ 300 }
@@ -53,7 +54,8 @@ impl Patience {
         Patience::new(MOST_REQUEST_SECONDS, Duration::MAX)
     }
 
-    /// The patience with a client that takes its response.
+    /// The patience with a client that takes its response: 10 seconds, and one for each 65,536
+    /// bytes that went.
     pub fn for_response() -> Patience
         ensures new { IsNew result }
         ensures most { most_seconds result ≡ 2 ^ 64 - 1 }
@@ -62,7 +64,8 @@ impl Patience {
         Patience::new(u64::MAX, Duration::MAX)
     }
 
-    /// The patience with a client that has its response and still sends.
+    /// The patience with a client that has its response and still sends: 10 seconds, and at most
+    /// one in each read.
     pub fn for_rest() -> Patience
         ensures new { IsNew result }
         ensures most { most_seconds result ≡ 10 }
@@ -84,7 +87,7 @@ impl Patience {
         }
     }
 
-    // How long the client is waited for in all, by the bytes so far.
+    // How long the client may be waited for in all, by the bytes so far.
     fn granted(&self) -> Duration
         ensures { as_nanos result ≡ granted self.now }
     {

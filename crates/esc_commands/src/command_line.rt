@@ -47,7 +47,7 @@ pub enum DeskTask<'a> {
 /// An argument of a command. Each is required.
 struct Argument {
     id: &'static str,
-    /// Whether its value is written after `--ID`, rather than known by its place.
+    /// Whether it is an option (`--ID VALUE`) rather than known by its place.
     is_option: bool,
     value_name: &'static str,
     values: ValueParser<'static>,
@@ -60,7 +60,7 @@ struct Form {
     about: &'static str,
     /// What its help ends with.
     details: Option<&'static str>,
-    /// Its arguments beside the store.
+    /// Its arguments beside `--store`.
     arguments: &'static [Argument],
 }
 

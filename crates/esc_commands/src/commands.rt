@@ -21,7 +21,7 @@ use std::alloc::{AllocError, Global};
 use std::io::Write;
 use std::net::{Net, TcpListener, TcpStream};
 
-/// How a command ended that wasn't stopped.
+/// The end of a command that wasn't stopped.
 #[derive(Drop)]
 struct Ended {
     /// The program's status.
@@ -226,7 +226,7 @@ where
     use_store(rt, net, store, DeskTask::Move { moment }, out, err)
 }
 
-// The moment that a word names; `latest` is none.
+// The moment that a word names, in nanoseconds since 1970-01-01T00:00:00Z; `latest` is none.
 fn moment_named(alloc: Global, word: &str) -> Result<Option<i64>, Stop> {
     if word == "latest" {
         return Ok(None);
@@ -237,13 +237,13 @@ fn moment_named(alloc: Global, word: &str) -> Result<Option<i64>, Stop> {
     }
 }
 
-// The manifest that a file has. One that is too long is refused by its first bytes.
+// The manifest in a file. Of a file that is too long only the first bytes are read.
 fn manifest_of(rt: &HostRuntime, path: &str) -> Result<Manifest, Stop> {
     let text = read_file(rt, path, MOST_MANIFEST_BYTES)?;
     manifest_in(rt.alloc(), &text)
 }
 
-// The manifest that a text is.
+// The manifest that a text reads as, or its refusal.
 fn manifest_in(alloc: Global, text: &[u8]) -> Result<Manifest, Stop> {
     match read_manifest(alloc, text) {
         Ok(manifest) => Ok(manifest),

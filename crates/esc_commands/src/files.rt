@@ -39,7 +39,7 @@ pub fn is_missing(rt: &HostRuntime, path: &str) -> bool {
     }
 }
 
-/// Returns `E1 PATH` if the system doesn't let a file be read and written. No file is made.
+/// Returns `E1 PATH` if a file can't be opened for reading and writing. Makes no file.
 pub fn check_access(rt: &HostRuntime, path: &str) -> Result<(), Stop> {
     match File::options().read(true).write(true).open(rt, path) {
         Ok(_) => Ok(()),
@@ -100,7 +100,7 @@ fn front_of(rt: &HostRuntime, path: &str, most: u64) -> Result<Vec<u8>, Error> {
     Ok(bytes)
 }
 
-/// The plain files of a folder. Folders in it are passed over.
+/// The plain files of a folder. Folders, links, pipes and devices in it are passed over.
 pub fn plain_files(rt: &HostRuntime, folder: &str) -> Result<Listing, Stop> {
     let entries = match fs::read_dir(rt, folder) {
         Ok(entries) => entries,

@@ -11,8 +11,8 @@
 //!
 //! | Module | Does |
 //! |---|---|
-//! | `command_line` | words to what is asked for, and help, by `clap` |
-//! | `commands` | what is asked for, from the words to the status |
+//! | `command_line` | from the words to what is asked for, and help, by `clap` |
+//! | `commands` | the commands: from what is asked for to the status |
 //! | `store_file` | opens the file of a store and closes it, once for each command |
 //! | `events` | arrivals, amendments and moments, each a run of the desk of its own |
 //! | `take` | takes the plain files of a folder, in byte order of names |

@@ -1,4 +1,4 @@
-//! The desk on a socket.
+//! The desk on a port.
 
 use crate::files::stop_at;
 use crate::stop::{DONE, Stop, print};
@@ -9,8 +9,8 @@ use sqlite::Alter;
 use std::io::{Error, Read, Write};
 use std::net::{Net, Shutdown, TcpListener, TcpStream};
 
-/// How many reads are spent at most on what a client still sends after its response. Each takes up
-/// to `BYTES_AT_ONCE` bytes.
+/// How many reads are spent at most on what a client still sends after its response: 32 MiB in all,
+/// since each takes up to `BYTES_AT_ONCE` bytes.
 const READS_AFTER: usize = 2048;
 
 const BYTES_AT_ONCE: usize = 16_384;
@@ -94,7 +94,7 @@ pub fn serve_streams<S: Alter, R: Read, W: Write, E: Write>(
         Err(ServeFault::Read) => b"read fault\n",
         Err(ServeFault::Write) => b"write fault\n",
     };
-    // Where standard error fails there is nobody to tell.
+    // A failure of standard error is ignored: there is nowhere to report it.
     let _ = err.write_all(line);
     false
 }

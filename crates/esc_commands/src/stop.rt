@@ -11,28 +11,28 @@ use std::io::Write;
 /// Done: nothing was refused.
 pub const DONE: u8 = 0;
 
-/// A manifest's fault, a word that is no moment, or a deposit that isn't held.
+/// `M1` to `M13`, `E3`, or `take` met `N1`, `E2` or a verdict other than `A1` and went on.
 pub const REFUSED: u8 = 1;
 
-/// Other words than the program knows.
+/// Words that are no command of the program.
 pub const USAGE: u8 = 2;
 
-/// The store or a file failed, and the program stopped there.
+/// `S1` to `S5`, `E1`: the store or a file failed, and the program stopped there.
 pub const STOPPED: u8 = 3;
 
-/// Memory was refused.
+/// Out of memory: `S2`.
 pub const NO_MEMORY: Stop = Stop::Store(SFault::S2);
 
 /// What the program stops for.
 #[derive(Debug, Drop)]
 pub enum Stop {
-    /// A file or folder can't be read, listed or written; standard output is `-`.
+    /// `E1`: a file or folder can't be read, listed or written. Standard output is `-`.
     Unreadable(String),
-    /// The manifest is refused.
+    /// `M1` to `M13`: the manifest is refused.
     Manifest(MFault),
-    /// The word is no moment.
+    /// `E3`: the word is no moment.
     Moment(String),
-    /// The store failed.
+    /// `S1` to `S5`: the store refuses.
     Store(SFault),
 }
 
@@ -115,8 +115,8 @@ pub fn print<O: Write>(rt: &HostRuntime, out: &mut O, text: &[u8]) -> Result<(),
     }
 }
 
-/// Prints a refusal that doesn't stop the program. A failure of standard error is ignored: nobody
-/// could be told.
+/// Prints a refusal that doesn't stop the program. A failure of standard error is ignored: there is
+/// nowhere to report it.
 pub fn tell<E: Write>(
     rt: &HostRuntime,
     err: &mut E,
@@ -128,7 +128,7 @@ pub fn tell<E: Write>(
     Ok(())
 }
 
-/// Prints that a word is no text, as `clap` does if it is given one, and returns the status.
+/// Prints that a word is no UTF-8, as `clap` does of such a word, and returns the status.
 pub fn tell_no_text<E: Write>(err: &mut E) -> u8 {
     let _ = err.write_all(
         b"error: invalid UTF-8 was detected in one or more arguments\n\nFor more information, try '--help'.\n",
@@ -136,8 +136,8 @@ pub fn tell_no_text<E: Write>(err: &mut E) -> u8 {
     USAGE
 }
 
-/// Prints what the program stops for, and returns its status. Where memory is refused to the line,
-/// the program stops for that. Printing so doesn't allocate.
+/// Prints what the program stops for, and returns its status. If there is no memory for the line,
+/// it prints `S2` instead, which doesn't allocate, and returns the status of that.
 pub fn tell_stop<E: Write>(rt: &HostRuntime, err: &mut E, stop: &Stop) -> u8 {
     let Ok(line) = format!(in rt.alloc(); "{stop}\n") else {
         let _ = err.write_all(b"S2\n");

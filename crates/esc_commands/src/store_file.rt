@@ -24,7 +24,8 @@ pub struct Closed<T> {
     pub closed: Result<(), Stop>,
 }
 
-/// The database of a file, which is made where there is none.
+/// The database of a file, which is made where there is none. `E1` if the system doesn't let the
+/// file be read and written, else the store's fault.
 pub fn open_file(rt: &HostRuntime, path: &str) -> Result<Connection<FileStore<File>>, Stop> {
     match Connection::open(rt, path) {
         Ok(connection) => Ok(connection),
@@ -85,7 +86,7 @@ pub fn migrate_store<S: Alter>(alloc: Global, connection: Connection<S>) -> Used
     made(Store::migrate(alloc, connection))
 }
 
-// A store that was made is not worked with: its connection is to be closed.
+// A store that was made isn't used further: its connection is to be closed.
 fn made<S: Alter>(store: Result<Store<S>, (SFault, Connection<S>)>) -> Used<S, ()> {
     match store {
         Ok(store) => Used {

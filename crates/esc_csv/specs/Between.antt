@@ -32,7 +32,7 @@ pub record IsReading (reader : Reader (Bor (List ℕ))) : Type 0 where
   pub rest : List ℕ
   pub source : unread reader ≡ Some rest
 
--- the writer is at the front of a line
+-- the writer is at the start of a line
 pub record IsReady {W : Type 0} (w : Writer W) : Type 0 where
   pub setup : writer_setup w ≡ line_writer
   pub fields : fields_written w ≡ 0

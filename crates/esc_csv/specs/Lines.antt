@@ -8,7 +8,8 @@ use Rattle.csv.specs.Writing.{default_writer, with_flexible, row_text}
 abbrev pub Line : Type 0
 Line = List (List ℕ)
 
--- how lines are written: ended by LF, quotes only where they are needed, any number of fields
+-- how lines are written: each is ended by LF, has quotes only where it needs them, and may have any
+-- number of fields
 abbrev pub line_writer : WriterBuilder
 line_writer = with_flexible default_writer true
 

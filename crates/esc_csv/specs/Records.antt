@@ -8,7 +8,7 @@ use Rattle.csv.specs.Reading.{records, default_config, strip_bom}
 abbrev pub records_of : List ℕ → List (List (List ℕ))
 records_of text = records default_config (strip_bom text)
 
--- a field of a record, counted from 0; one that is not there is empty
+-- a field of a record, by its index from 0; empty if there is none
 abbrev pub field : List (List ℕ) → ℕ → List ℕ
 field r place = slice_index_or r place []
 

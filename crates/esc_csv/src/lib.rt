@@ -2,14 +2,14 @@
 //!
 //! # In and out
 //!
-//! `Records` takes the bytes of a text and gives its records, one at a time. A record is a list of
-//! fields, each of them bytes: commas separate fields, a line ends a record, and a field in
-//! double quotes may hold any of these, a quote in it twice. Records may have any numbers of
-//! fields. Empty lines are no records, nothing is trimmed, no record is a heading, and a byte order
-//! mark at the start of a text is dropped. Every text has its records: what isn't right in one is
-//! the caller's to test.
+//! `Records` takes the bytes of a text and returns its records, one at a time. A record is a list
+//! of fields, each of them bytes: commas separate fields, the end of a line ends a record, and a
+//! field in double quotes may hold commas, line ends and quotes, where each quote is written twice.
+//! Records may differ in their number of fields. Empty lines are no records, nothing is trimmed, no
+//! record is a heading, and a byte order mark at the start of a text is dropped. Every text can be
+//! read as records: whether they are the right ones is for the caller to test.
 //!
-//! `Lines` takes records and gives the text of their lines: each is ended by LF, and a field has
+//! `Lines` takes records and returns the text of their lines: each is ended by LF, and a field has
 //! quotes only where it needs them.
 //!
 //! ```text
@@ -28,21 +28,21 @@
 //!
 //! `specs/Records.antt` has `records_of`, all records of a text, by the steps of the library `csv`
 //! over its bytes. `Records::of` is the list of them, and each `next` takes the first of those that
-//! are left; the list gets shorter by it, so a loop over it ends. `specs/Lines.antt` has
-//! `line_text`, a record as a line, and `text_of`, the lines of records. `Lines` is the text that
-//! was written, and each `write` adds a line to it.
+//! are left: the list gets shorter, so a loop over it ends. `specs/Lines.antt` has `line_text`, a
+//! record as a line, and `text_of`, the lines of records. `Lines` is the text that was written so
+//! far, and each `write` adds a line to it.
 //!
-//! `written_lines_read_back`, a law, says that the records of a text of lines are those that were
-//! written. A record without fields is written as one empty field, and a text that begins as a byte
-//! order mark would lose it. `fields_are_no_longer_than_the_text`, another, bounds each field by
-//! the text.
+//! `written_lines_read_back`, a law, says that the records that were written are read back from
+//! their text, with two exceptions: a record without fields is read back as one empty field, and a
+//! text that begins with a byte order mark loses it. `fields_are_no_longer_than_the_text`, another
+//! law, says that no field is longer than the text.
 //!
-//! Out of memory, a call returns `NoMemory`. From then on `Records` has no record, and `Lines`
-//! returns `NoMemory`.
+//! Out of memory, a call returns `NoMemory`. From then on `Records` has no more records, and each
+//! call of `Lines` returns `NoMemory`.
 //!
 //! # Cost
 //!
-//! One pass over a text. `next` fills the record that it is given, so its memory is used again.
+//! One pass over a text. `next` fills the record that it is given, so the memory of that is reused.
 //! `Lines` allocates for its text alone.
 #![tactic(auto)]
 

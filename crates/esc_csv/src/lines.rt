@@ -8,10 +8,10 @@ use esc_bundle::NoMemory;
 use std::alloc::Global;
 use std::marker::Model;
 
-/// A text of CSV lines, each ended by LF, with quotes only where a field needs them. Contracts see
-/// it as its bytes.
+/// The text of CSV lines (RFC 4180), each ended by LF, with quotes only where a field needs them.
+/// Contracts see it as its bytes.
 ///
-/// After an `Err` each later call is one.
+/// After an `Err` each later call returns `Err`.
 #[derive(Drop)]
 pub struct Lines {
     writer: Writer<Vec<u8>>,
@@ -31,7 +31,7 @@ impl Model for Lines {
 }
 
 impl Lines {
-    /// A text without lines.
+    /// A text without lines. Doesn't allocate: `write` does.
     pub fn new(alloc: Global) -> Lines
         ensures { result ≡ [] }
     {
@@ -43,7 +43,7 @@ impl Lines {
         }
     }
 
-    /// Writes one more line.
+    /// Adds a line with these fields.
     pub fn write(&mut self, fields: &[&[u8]]) -> Result<(), NoMemory>
         ensures { OnOk result (self.new ≡ self.old ++ line_text (map (λ f. f.now) fields.now)) }
     {
@@ -59,7 +59,7 @@ impl Lines {
         }
     }
 
-    /// The text.
+    /// The whole text; `Err` if an earlier call returned it.
     pub fn into_text(self) -> Result<Vec<u8>, NoMemory>
         ensures { IfOk result (λ text. text.items ≡ self) }
     {

@@ -44,7 +44,7 @@ impl Record {
         self.fields.len()
     }
 
-    /// The field at a place, from 0; one that isn't there is empty.
+    /// The field with this index, from 0; empty if there is none.
     pub fn field(&self, place: usize) -> &[u8]
         ensures { result.now ≡ field self.now place }
     {
@@ -66,7 +66,8 @@ impl Record {
         true
     }
 
-    /// The field at a place, from 0, of a record of texts; one that isn't there is empty.
+    /// The field with this index, from 0, as text; empty if there is none. Each field of the record
+    /// has to be UTF-8.
     pub fn text(&self, place: usize) -> &str
         requires { list_all is_utf8 self.now ≡ true }
         ensures { result.now ≡ field self.now place }
@@ -77,7 +78,7 @@ impl Record {
         }
     }
 
-    /// The fields of a record of texts, in one piece of memory.
+    /// The fields as one list of texts. Each field of the record has to be UTF-8.
     pub fn texts(&self) -> Result<StringRecord, NoMemory>
         requires { list_all is_utf8 self.now ≡ true }
         ensures { IfOk result (λ texts. fields_of texts ≡ self.now) }

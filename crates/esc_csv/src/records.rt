@@ -42,7 +42,8 @@ impl<'a> Records<'a> {
         }
     }
 
-    /// Reads the next record into `target`, and returns whether there was one.
+    /// Reads the next record into `target`, and returns whether there was one. Once it has returned
+    /// `Err` or `false`, there are no more records.
     pub fn next(&mut self, target: &mut Record) -> Result<bool, NoMemory>
         ensures { IfOk result (λ found.
             MatchBool found (self.old ≡ target.new ∷ self.new) (self.old ≡ [])) }
@@ -66,7 +67,7 @@ impl<'a> Records<'a> {
             Err(error) => {
                 self.has_ended = true;
                 match error.into_kind() {
-                    // A slice of bytes has no other failure than memory's.
+                    // A read of a slice of bytes fails only out of memory.
                     ErrorKind::Io(_) | ErrorKind::OutOfMemory => Err(NoMemory),
                     _ => unreachable!(),
                 }

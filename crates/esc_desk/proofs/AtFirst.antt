@@ -8,7 +8,7 @@ use Rattle.esc_tables.specs.Reading.{reading}
 use Rattle.esc_manifest.specs.declared.row.MRow.{MRow}
 use Rattle.esc_chain.specs.Chain.{Rows, IsChainBack, IsLatestChainAt}
 use Rattle.esc_apply.specs.Images.{chain_state}
-use Rattle.esc_apply.proofs.Chains.{empty-chain}
+use Rattle.esc_apply.specs.ChainLaws.{empty-chain}
 use Rattle.esc_store.specs.Kept.{fresh}
 use Rattle.esc_events.specs.ArrivalValue.{ArrivalValue}
 use Rattle.esc_events.specs.Events.{Coming, union, moment_after, moment_of, manifest_then}

@@ -9,7 +9,7 @@ use Rattle.std.proofs.lemmas.Bool.{cases_Bool}
 use Rattle.esc_tables.specs.KeyName.{KeyName, key_cmp, key_eq}
 use Rattle.esc_tables.specs.ObjectValue.{ObjectValue}
 use Rattle.esc_apply.specs.Objects.{Entry, InOrder}
-use Rattle.esc_apply.proofs.Keys.{keys_total, keys_exact, key_itself, same_key}
+use Rattle.esc_tables.specs.KeyLaws.{keys_total, keys_exact, key_itself, one_key as same_key}
 
 pub weaker : {X : Type 0} (P Q : X → Type 0) → ((x : X) → P x → Q x) → (xs : List X) → AllByRecursion P xs → AllByRecursion Q xs
 weaker P Q f [] all = tt

@@ -16,7 +16,7 @@ use Rattle.esc_tables.specs.KeyName.{KeyName, key_cmp, key_eq}
 use Rattle.esc_tables.specs.ObjectValue.{ObjectValue}
 use Rattle.esc_apply.specs.Objects.{Entry, InOrder}
 use Rattle.esc_apply.specs.Registry.{Content}
-use Rattle.esc_apply.proofs.Keys.{same_key}
+use Rattle.esc_tables.specs.KeyLaws.{one_key as same_key}
 use Rattle.esc_store.specs.Pages.{IsPage, last_text, is_on_page}
 use Rattle.esc_desk.specs.Places.{first_kind, later_kind, IsPlaceBehind}
 use Rattle.esc_desk.specs.Walking.{of_kinds, is_behind, AreBehind}

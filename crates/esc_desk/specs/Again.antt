@@ -1,7 +1,7 @@
 -- An arrival that comes again, and whose body may not be there.
 --
--- A store of version 1 didn't keep the bodies that no row listed, and answered A2. Where an arrival
--- alike one of those comes, it has that reply, and its body is taken in if it is missing.
+-- A store of version 1 didn't keep the bodies that no row listed, and gave them A2. A duplicate of
+-- such an arrival gets that reply, and its body is taken in if it is missing.
 use Rattle.std.specs.Prelude.{◌≡◌, ℕ, List, Option, Some, None}
 use Rattle.sha2.specs.Sha256.{sha256}
 use Rattle.esc_tables.specs.Reading.{reading}
@@ -20,13 +20,13 @@ use Rattle.esc_events.specs.Finding.{finding}
 use Rattle.esc_events.specs.Receipts.{reply_to}
 use Rattle.esc_events.specs.Stands.{held_body, parked_body}
 
--- no body was kept with the reply to an arrival like this one: there was none like it, or its
--- verdict was A2
+-- no body was kept for an arrival of which this one is a duplicate: there was none, or its verdict
+-- was A2
 abbrev pub IsUnkept : List EventValue → ArrivalValue → Type 0
 IsUnkept e a = (r : ReplyValue) → reply_to sha256 reading e a ≡ Some r → r.verdict ≡ A2
 
--- among these held and parked bodies one of which this was found is missing: no row lists it, and
--- it isn't parked; or it is the deposit of a row, of which no body is held
+-- a body with this digest, of which this was found, is missing among these held and parked bodies:
+-- no row lists it, and it isn't parked; or it is the deposit of a row that has no body
 abbrev pub IsMissing : (ℕ → Option (List ℕ)) → (List ℕ → Option (List ℕ)) → List ℕ → Finding
     → Type 0
 IsMissing bodies parked digest Unlisted = parked digest ≡ None

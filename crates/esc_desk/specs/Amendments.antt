@@ -1,4 +1,4 @@
--- What a desk answers to an amendment.
+-- What a desk returns for an amendment.
 use Rattle.std.specs.Prelude.{
   ◌≡◌,
   ◌≢◌,
@@ -37,15 +37,15 @@ use Rattle.esc_desk.specs.Crashes.{CrashLeaves, LeavesRefused}
 use Rattle.esc_desk.specs.Serving.{DeskServes}
 use Rattle.esc_desk.specs.Sources.{AreJudged}
 
--- a text reads as an accepted manifest, and so is the union with it, which has so many rows more
+-- a text reads as an accepted manifest; the union with it is accepted, and has this many rows more
 pub record AddsRows (e : List EventValue) (text : List ℕ) (count : ℕ) : Type 0 where
   pub rows : List MRow
   pub read : manifest_of text ≡ Ok rows
   pub accepted : extension (union e) rows ≡ Ok (extended (union e) rows)
   pub count_is : count ≡ length (new_rows (union e) rows)
 
--- of an amendment that was taken in, the desk serves the events with it, it has so many rows more,
--- and this was the work: none where no row is more
+-- an amendment was taken in: the desk serves the events with it, this many rows were added, and
+-- this was the work, none if no row was added
 pub record IsAmended {S : Type 0} (g : Ghosts S) (desk : Desk S) (e : List EventValue)
     (text : List ℕ) (count : ℕ) (work : Work) : Type 0 where
   pub adds : AddsRows e text count
@@ -53,8 +53,7 @@ pub record IsAmended {S : Type 0} (g : Ghosts S) (desk : Desk S) (e : List Event
   pub works : IsWorkOf e (amendment_of text) work
   pub idle : count ≡ 0 → work ≡ no_work
 
--- a text is no accepted manifest, or it is and the union of these rows with it is none, by this
--- refusal at this row
+-- a text is no accepted manifest, or its union with these rows is none, by this refusal at this row
 abbrev pub IsRefusedUnion : List MRow → List ℕ → ℕ → ℕ → Type 0
 IsRefusedUnion m text code row = (manifest_of text ≡ Err (code, row))
     ⊎ ((rows : List MRow) × (manifest_of text ≡ Ok rows)
@@ -99,13 +98,13 @@ pub record IsUnionWith (m : List MRow) (text : List ℕ) (united : List MRow) : 
   pub accepted : extension m rows ≡ Ok united
   pub is_union : united ≡ extended m rows
 
--- no body is held of these rows, and each is there once
+-- none of these rows has a body, and each occurs once
 abbrev pub AreApartRows : Kept → List ℕ → Type 0
 AreApartRows k [] = Unit {0}
 AreApartRows k (r ∷ rows) = (k.bodies r ≡ None) × (All (λ q. r ≢ q) rows) × AreApartRows k rows
 
--- a union is that of the rows that are kept and more, and this is judged of the bodies that are
--- parked for the new ones, of which none is held
+-- a union is that of the rows that are kept and more; this is what was judged of the bodies that
+-- are parked for the new rows; and no row that is to be adopted has a body
 pub record IsAmendmentOf (k : Kept) (more united : List MRow) (told : Judged) : Type 0 where
   pub is_union : united ≡ extended k.listed more
   pub are_judged : AreJudged united k.parked (length k.listed) told

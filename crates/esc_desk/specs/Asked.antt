@@ -26,12 +26,12 @@ use Rattle.esc_desk.specs.declared.event.EventOutcome.TheVariants.{Arrived, Amen
 use Rattle.esc_desk.specs.declared.event.Outcome.{Outcome}
 use Rattle.esc_desk.specs.declared.event.Outcome.TheVariants.{Done, Lost}
 
--- the rows of a manifest, or none where a text is none
+-- the rows that a manifest's text reads as; none if it was refused
 abbrev pub rows_read : Result (List MRow) (ℕ × ℕ) → List MRow
 rows_read (Ok rows) = rows
 rows_read (Err fault) = []
 
--- the event that a text is as an amendment
+-- an amendment's text, as an event
 abbrev pub amendment_of : List ℕ → EventValue
 amendment_of text = listed (rows_read (manifest_of text))
 
@@ -41,7 +41,7 @@ event_of (Arrival a) = arrived a
 event_of (Amend text) = amendment_of text.now
 event_of (AsOf moment) = moved moment
 
--- an event that came out so was taken in
+-- whether an event with this outcome was taken in
 abbrev pub is_taken : EventOutcome → Bool
 is_taken (Arrived (Done r)) = true
 is_taken (Arrived (Lost f)) = false

@@ -53,19 +53,19 @@ DeskLeaves g desk e doubtful = CrashLeaves g desk.store.conn e doubtful
 -- ---- a call, by the desk before it and after it
 
 module _ {S : Type 0} (g : Ghosts S) (old new : Desk S) where
-  -- where the store was honest, this is so of whatever events the desk served
+  -- where the store was honest, this holds for every list of events that the desk served
   abbrev pub After : (List EventValue → Type 0) → Type 0
   After says = IsHonestDesk g new → (e : List EventValue) → DeskServes g old e → says e
 
-  -- the same of these events and of the answer, where the call succeeded
+  -- the same of such a list and the result, where the call succeeded
   abbrev pub OkAfter : {X E : Type 0} → Result X E → (List EventValue → X → Type 0) → Type 0
   OkAfter result says = After (λ e. IfOk result (says e))
 
-  -- where the store was honest, this is so of whatever events the store stood for
+  -- where the store was honest, this holds for every list of events that the store stood for
   abbrev pub Over : (List EventValue → Type 0) → Type 0
   Over says = IsHonestDesk g new → (e : List EventValue) → Serves g old.store e → says e
 
-  -- the same of these events and of the answer, where the call succeeded
+  -- the same of such a list and the result, where the call succeeded
   abbrev pub OkOver : {X E : Type 0} → Result X E → (List EventValue → X → Type 0) → Type 0
   OkOver result says = Over (λ e. IfOk result (says e))
 
@@ -91,7 +91,7 @@ module _ {S : Type 0} (g : Ghosts S) (old new : Desk S) where
   abbrev pub Rests : Type 0
   Rests = Stays × RemembersStill
 
--- this is so of whatever events the desk served before the call, and whatever was in doubt
+-- this holds for every list of events that the desk served before the call, and those in doubt then
 abbrev pub CrashAfter : {S : Type 0} → Ghosts S → Desk S
     → (List EventValue → List EventValue → Type 0) → Type 0
 CrashAfter g old says = (e doubtful : List EventValue) → DeskServes g old e
@@ -99,20 +99,20 @@ CrashAfter g old says = (e doubtful : List EventValue) → DeskServes g old e
 
 -- ---- an arrival
 
--- an arrival alike an earlier one: this is that one's reply, and unless that says A2, nothing was
--- done
+-- of a duplicate of an earlier arrival: this is that one's reply, and unless that says A2, nothing
+-- was done
 abbrev pub RepeatsReply : List EventValue → ArrivalValue → ReplyValue → Work → Type 0
 RepeatsReply e a reply work = (r : ReplyValue) → reply_to sha256 reading e a ≡ Some r
     → (reply ≡ r) × (r.verdict ≢ A2 → work ≡ no_work)
 
--- there is no room for the receipt of an arrival: it is like none before it, and there are
--- 1,000,000,000 receipts
+-- there is no room for the receipt of an arrival: it is no duplicate, and there are 1,000,000,000
+-- receipts
 abbrev pub HasNoRoom : List EventValue → ArrivalValue → Type 0
 HasNoRoom e a = (reply_to sha256 reading e a ≡ None)
     × (1_000_000_000 ≤ length (receipts_of sha256 reading e))
 
--- the body of an arrival is to be parked: none was kept of one like it, no row lists it, and it
--- isn't parked
+-- the body of an arrival is to be parked: none was kept for an earlier one of which it is a
+-- duplicate, no row lists it, and it isn't parked
 pub record IsToBeParked (e : List EventValue) (a : ArrivalValue) : Type 0 where
   pub unkept : IsUnkept e a
   pub unlisted : row_of (union e) (sha256 a.body) ≡ None
@@ -132,7 +132,7 @@ IsCause e a S3 = ⊥
 IsCause e a S4 = HasNoRoom e a
 IsCause e a S5 = WhereApart e (HasNoPlace e a)
 
--- an arrival like none before it: there was room for its receipt
+-- if an arrival is no duplicate, there was room for its receipt
 abbrev pub HadRoom : List EventValue → ArrivalValue → Type 0
 HadRoom e a = reply_to sha256 reading e a ≡ None
     → length (receipts_of sha256 reading e) < 1_000_000_000

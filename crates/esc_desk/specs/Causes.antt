@@ -1,4 +1,4 @@
--- Why the store takes in no arrival.
+-- Why the store refuses an arrival.
 use Rattle.std.specs.Prelude.{◌≡◌, ◌⊎◌, ◌≤◌, ℕ, List, None, length}
 use Rattle.sqlite_trees.specs.declared.store.Store.{Ghosts}
 use Rattle.esc_store.specs.declared.fault.SFault.{SFault}

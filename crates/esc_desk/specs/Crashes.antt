@@ -76,7 +76,7 @@ abbrev pub still_doubtful : Option ReplyValue → List EventValue → List Event
 still_doubtful None doubtful = []
 still_doubtful (Some r) doubtful = doubtful
 
--- the events in doubt after one was refused: it is one of them, but where there was no room for it
+-- the events in doubt after one was refused: it is one of them, unless there was no room (S4, S5)
 abbrev pub doubtful_with : SFault → EventValue → List EventValue → List EventValue
 doubtful_with S1 x doubtful = x ∷ doubtful
 doubtful_with S2 x doubtful = x ∷ doubtful
@@ -126,7 +126,7 @@ abbrev pub doubtful_moved : List EventValue → Option ℤ → Result (Unit {0})
 doubtful_moved doubtful moment (Ok set) = []
 doubtful_moved doubtful moment (Err fault) = doubtful_with fault (moved moment) doubtful
 
--- the events in doubt after an event that came behind the events e, by what came of it
+-- the events in doubt after an event that came after the events e, by what came of it
 abbrev pub doubtful_by : List EventValue → List EventValue → Event → EventOutcome
     → List EventValue
 doubtful_by e doubtful (Arrival a) (Arrived (Done r)) =
@@ -151,20 +151,19 @@ doubtful_after e doubtful (x ∷ xs) (o ∷ os) =
 
 -- ---- from one call to the next
 
--- the answer is not that there is no room
+-- the result is not that there is no room (S4, S5)
 abbrev pub IsNotFull : {X : Type 0} → Result X SFault → Type 0
 IsNotFull (Ok x) = Unit {0}
 IsNotFull (Err f) = (f ≢ S4) × (f ≢ S5)
 
--- a call adds a store of this alone to what a crash may leave, and nothing where it answers that
--- there is no room
+-- a call adds at most a store of k to what a crash may leave, and nothing where it returns S4 or S5
 unfoldable pub AddsStore : {S X : Type 0} → Ghosts S → Held S → Held S → Result X SFault → Kept
     → Type 0
 AddsStore g old new result k =
     Survives (state g old) (state g new) (λ trees. IsNotFull result × IsStore trees k)
 
--- a call adds stores of these events alone to what a crash may leave, and nothing where it answers
--- that the store is full
+-- a call adds at most stores of these events to what a crash may leave, and nothing where it
+-- returns S4 or S5
 unfoldable pub AddsStoreFor : {S X : Type 0} → Ghosts S → Held S → Held S → Result X SFault
     → List EventValue
     → Type 0

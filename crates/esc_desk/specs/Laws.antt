@@ -1,4 +1,4 @@
--- What follows of lists of events, by the definitions alone.
+-- Laws of lists of events, by the definitions alone.
 use Rattle.std.specs.Prelude.{◌≡◌, ℕ, List, [], map}
 use Rattle.std.specs.FinSet as set
 use Rattle.sha2.specs.Sha256.{sha256}
@@ -80,7 +80,8 @@ pub record KeepTheSame (k l : Kept) : Type 0 where
   pub steps : k.steps ≡ l.steps
   pub registry : k.registry ≡ l.registry
 
--- in whatever order, however often and under whatever numbers the same deposits came
+-- where the same is held the same is kept, in whatever order, however often and under whatever
+-- numbers the deposits came
 abbrev pub SameHeldSameKept : Type 0
 SameHeldSameKept = (e f : List EventValue) (k l : Kept) → IsAccepted (union e) → HoldTheSame e f
     → WhereApart e (WhereApart f (StandsFor sha256 reading e k → StandsFor sha256 reading f l

@@ -15,7 +15,7 @@ use Rattle.esc_desk.specs.declared.event.Outcome.{Outcome}
 use Rattle.esc_desk.specs.declared.event.Outcome.TheVariants.{Done, Lost}
 use Rattle.esc_desk.specs.Amendments.{IsAmendFault}
 
--- an arrival was not lost, or by S1, S2, S4 or S5
+-- an arrival was answered, or lost by S1, S2, S4 or S5
 abbrev pub IsOutcome : Outcome → Type 0
 IsOutcome (Done r) = Unit {0}
 IsOutcome (Lost f) = IsS1OrS2OrS4OrS5 f
@@ -24,7 +24,7 @@ IsOutcome (Lost f) = IsS1OrS2OrS4OrS5 f
 abbrev pub IsAmendOutcome : Result ℕ AmendFault → Type 0
 IsAmendOutcome result = IfErr result IsAmendFault
 
--- a moment was set, or not by S1 or S2
+-- a moment was set or taken back, or refused by S1 or S2
 abbrev pub IsMoveOutcome : Result (Unit {0}) SFault → Type 0
 IsMoveOutcome result = IfErr result IsS1OrS2
 

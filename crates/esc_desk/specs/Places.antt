@@ -32,7 +32,7 @@ abbrev pub first_kind : Option Kind → Kind
 first_kind None = Registrar
 first_kind (Some kind) = kind
 
--- the kind behind a kind, if there is one
+-- the next kind in the order of kinds, if there is one
 abbrev pub later_kind : Kind → Option Kind
 later_kind Registrar = Some Contact
 later_kind Contact = Some Host
@@ -41,13 +41,13 @@ later_kind Domain = Some Idn
 later_kind Idn = Some Nndn
 later_kind Nndn = None
 
--- how many kinds are still to come
+-- how many kinds are still to be walked, with this one
 abbrev pub kinds_left : Option Kind → ℕ
 kinds_left None = 0
 kinds_left (Some kind) = 6 - kind_rank kind
 
--- where the next page begins: of the same kind with the first bytes behind this page's last key, or
--- where this page is empty with the next kind, unless one kind is walked alone
+-- where the next page begins: in the same kind, after this page's last key; or, if this page is
+-- empty, with the next kind, unless one kind is walked alone
 abbrev pub IsPlaceBehind : Kind → Bool → List Entry → Option Kind → List ℕ → Type 0
 IsPlaceBehind kind alone page next from
     = MatchOption (last_text page) ((next ≡ (if alone then None else later_kind kind))

@@ -1,4 +1,4 @@
--- What the reads of a desk answer after a list of events.
+-- What the reads of a desk return after a list of events.
 use Rattle.std.specs.Prelude.{
   ◌≡◌,
   ℕ,
@@ -42,7 +42,7 @@ module _ (e : List EventValue) where
   abbrev pub replies_of : List ReplyValue
   replies_of = replies_from (union e) 1 (receipts_of sha256 reading e)
 
-  -- these are the rows of which a body is held, rising
+  -- these are the rows that have a body, in ascending order
   abbrev pub AreHeldRows : List ℕ → Type 0
   AreHeldRows rows = WhereApart e (AreHeld (held_body sha256 reading e) rows)
 
@@ -50,7 +50,7 @@ module _ (e : List EventValue) where
   abbrev pub AreParkedOf : List ParkedBody → Type 0
   AreParkedOf bodies = WhereApart e (AreParkedBodies (parked_body sha256 reading e) bodies)
 
-  -- the last row of a chain says this; nothing is said by no row
+  -- this is what the deposit of a chain's last row says; if there is no row, it is nothing
   abbrev pub IsEndAt : Option ℕ → Option End → Type 0
   IsEndAt None None = Unit {0}
   IsEndAt None (Some end) = ⊥

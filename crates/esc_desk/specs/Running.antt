@@ -1,4 +1,4 @@
--- What a run over a list of events answers.
+-- What a run over a list of events returns.
 use Rattle.std.specs.Prelude.{◌≡◌, List, [], ◌∷◌, ◌++◌, Some, Ok, Err}
 use Rattle.sha2.specs.Sha256.{sha256}
 use Rattle.sqlite_trees.specs.declared.store.Store.{Ghosts}
@@ -18,14 +18,14 @@ use Rattle.esc_desk.specs.Asked.{taken_by, taken_in}
 use Rattle.esc_desk.specs.Calls.{IsCause}
 use Rattle.esc_desk.specs.Serving.{DeskServes}
 
--- an arrival after the events e was answered with its reply, where all are the events in the end;
--- or it was lost, and there was this cause
+-- an arrival after the events e got its reply by `all`, the events in the end; or it was lost, by a
+-- cause that held after e
 abbrev pub IsReply : List EventValue → List EventValue → ArrivalValue → Outcome → Type 0
 IsReply e all a (Done r) = reply_to sha256 reading all a ≡ Some r
 IsReply e all a (Lost f) = IsCause e a f
 
--- what came of an event after the events e is so, where all are the events in the end: an arrival's
--- reply, an amendment's count of rows, or why it was refused
+-- the outcome of an event after the events e is right, where `all` are the events in the end: an
+-- arrival's reply, an amendment's count of rows, or why it was refused
 abbrev pub IsAnswer : List EventValue → List EventValue → Event → EventOutcome → Type 0
 IsAnswer e all (Arrival a) (Arrived o) = IsReply e all a o
 IsAnswer e all (Arrival a) (Amended r) = ⊥
@@ -38,7 +38,7 @@ IsAnswer e all (AsOf moment) (Arrived o) = ⊥
 IsAnswer e all (AsOf moment) (Amended r) = ⊥
 IsAnswer e all (AsOf moment) (Moved r) = Unit {0}
 
--- there is one outcome for each event, and it is so after those that were taken in before it
+-- there is one outcome for each event, and it is right after those that were taken in before it
 abbrev pub AreAnswers : List EventValue → List EventValue → List Event → List EventOutcome
     → Type 0
 AreAnswers e all [] [] = Unit {0}
@@ -47,13 +47,13 @@ AreAnswers e all (x ∷ xs) [] = ⊥
 AreAnswers e all (x ∷ xs) (o ∷ os) = IsAnswer e all x o × AreAnswers (e ++ taken_by x o) all xs os
 
 -- after a run the desk serves the events before it and those that were taken in, and each outcome
--- is so
+-- is right
 pub record Ran {S : Type 0} (g : Ghosts S) (desk : Desk S) (before : List EventValue)
     (events : List Event) (outcomes : List EventOutcome) : Type 0 where
   pub serves : DeskServes g desk (before ++ taken_in events outcomes)
   pub answers : AreAnswers before (before ++ taken_in events outcomes) events outcomes
 
--- after one event the desk serves the events with it, if it was taken in, and its outcome is so
+-- after one event the desk serves the events with it, if it was taken in, and its outcome is right
 pub record Takes {S : Type 0} (g : Ghosts S) (desk : Desk S) (e : List EventValue) (x : Event)
     (o : EventOutcome) : Type 0 where
   pub serves : DeskServes g desk (e ++ taken_by x o)

@@ -1,4 +1,4 @@
--- A desk that stands for a list of events, and what its calls answer.
+-- A store and a desk that serve a list of events.
 use Rattle.std.specs.Prelude.{◌≡◌, List, [], ◌∷◌, ◌++◌, Some, IfSome}
 use Rattle.sha2.specs.Sha256.{sha256}
 use Rattle.sqlite_trees.specs.declared.store.Store.{Ghosts}
@@ -22,13 +22,13 @@ pub record Serves {S : Type 0} (g : Ghosts S) (store : Store S) (e : List EventV
   pub stands_for : StandsFor sha256 reading e kept
 
 -- a desk's store stands for this list of events, and what the desk remembers of its rows, if
--- anything, is so
+-- anything, is true
 pub record DeskServes {S : Type 0} (g : Ghosts S) (desk : Desk S)
     (e : List EventValue) : Type 0 where
   pub serves : Serves g desk.store e
   pub remembers : IfSome desk.known (IsKnown serves.kept)
 
--- after an arrival that was answered the desk serves the list with it, and the answer is its reply
+-- after an arrival that was answered the desk serves the list with it, and this is its reply
 pub record Answers {S : Type 0} (g : Ghosts S) (desk : Desk S) (e : List EventValue)
     (a : ArrivalValue) (reply : ReplyValue) : Type 0 where
   pub serves : DeskServes g desk (e ++ arrived a ∷ [])

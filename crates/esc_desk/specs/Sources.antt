@@ -62,8 +62,7 @@ IsJudgement rows parked row Dropped = (is_some (parked_for rows parked row) ≡ 
 IsJudgement rows parked row (Adopted d) = (text : List ℕ)
     × (judged rows row (parked_for rows parked row) ≡ Some text) × (reading text ≡ Ok d)
 
--- of the rows from this one on, those of which the parked body is the deposit, and those of which
--- it isn't
+-- the rows from this one on whose parked body is their deposit, and those whose parked body isn't
 pub record AreJudged (rows : List MRow) (parked : List ℕ → Option (List ℕ)) (from : ℕ)
     (told : Judged) : Type 0 where
   pub adopted : told.adopted.items ≡ adopted_rows rows parked from

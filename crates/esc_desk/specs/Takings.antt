@@ -55,8 +55,8 @@ module _ {S : Type 0} (g : Ghosts S) where
     pub works : IsWorkOf e (listed more) work
     pub left : LeavesOnlyFor g store.conn (e ++ listed more ∷ [])
 
-  -- an arrival like none before it was taken into a store with this reply and this work, and this is
-  -- known of the rows then
+  -- a new arrival was taken into a store with this reply and this work, and this is known of the
+  -- rows then
   pub record IsTaken (store : Store S) (e : List EventValue) (a : ArrivalValue) (known : Known)
       (reply : ReplyValue) (work : Work) : Type 0 where
     pub kept : IsKept store e a known work
@@ -69,8 +69,8 @@ module _ {S : Type 0} (g : Ghosts S) where
     pub works : IsWorkOf e x work
     pub left : LeavesOnlyFor g desk.store.conn (e ++ x ∷ [])
 
-  -- an arrival like none before it was taken in by a desk with this reply and this work, and a
-  -- crash leaves it taken in
+  -- a new arrival was taken in by a desk with this reply and this work, and a crash leaves it taken
+  -- in
   pub record IsTakenIn (desk : Desk S) (e : List EventValue) (a : ArrivalValue) (reply : ReplyValue)
       (work : Work) : Type 0 where
     pub answers : Answers g desk e a reply

@@ -1,4 +1,4 @@
--- What a walk over a desk's objects is still to give.
+-- What a walk over a desk's objects still returns.
 use Rattle.std.specs.Prelude.{
   ◌≡◌,
   ℕ,
@@ -49,14 +49,14 @@ is_behind (Some kind) from alone q =
     let is_from = is_ge (slice_cmp nat_cmp q.text from) in
     match_ordering (nat_cmp (kind_rank q.kind) (kind_rank kind)) false is_from (not alone)
 
--- by key, of each key from this place on what the content has, and nothing else
+-- the entries that the content has from this place on, by key, and nothing else
 pub record AreBehind (content : Content) (kind : Option Kind) (from : List ℕ) (alone : Bool)
     (es : List Entry) : Type 0 where
   pub order : InOrder es
   pub each : (q : KeyName)
       → lookup (key_eq q) es ≡ (if is_behind kind from alone q then content q else None)
 
--- these entries are still to come: the page at hand, and then what the tables have behind it
+-- these entries are still to come: the page at hand, and then what the tables have after it
 pub record AreToCome {S : Type 0} (g : Ghosts S) (store : Store S) (pages : Pages)
     (es : List Entry) : Type 0 where
   pub order : InOrder es
@@ -77,7 +77,7 @@ desk_of walk = walk.desk.now
 abbrev pub lent_as : {S P : Type 0} → Walk S P → ℕ
 lent_as walk = walk.desk.ghost_name
 
--- at most so many objects does a walk still give
+-- how many objects a walk still returns at most
 abbrev pub most_left : {S : Type 0} → Walk S Pages → ℕ
 most_left walk = walk.pages.left
 
@@ -85,19 +85,19 @@ most_left walk = walk.pages.left
 abbrev pub HasFailed : {S : Type 0} → Walk S Pages → Type 0
 HasFailed walk = walk.pages.has_failed ≡ true
 
--- a walk is still to give the objects of the tables after these events, of one kind or all
+-- a walk still returns the objects of the tables after these events, of one kind or all
 abbrev pub ListsTables : {S : Type 0} → Ghosts S → Walk S Pages → Option Kind → List EventValue
     → Type 0
 ListsTables g walk kind e = WhereApart e ((es : List Entry) → AreEntries e es → InOrder es
     → Lists g walk (of_kinds kind es))
 
--- the same of pages that stand before the first object
+-- the same of pages that are before the first object
 abbrev pub ListsPages : {S : Type 0} → Ghosts S → Store S → Pages → Option Kind → List EventValue
     → Type 0
 ListsPages g store pages kind e = WhereApart e ((es : List Entry) → AreEntries e es → InOrder es
     → AreToCome g store pages (of_kinds kind es))
 
--- what a walk leaves as it was, whatever its calls answer
+-- what a walk leaves as it was, whatever its calls return
 pub record Follows {S : Type 0} (g : Ghosts S) (old new : Walk S Pages) : Type 0 where
   pub same_reference : new.desk.ghost_name ≡ old.desk.ghost_name
   pub same : IsAsBefore g old.desk.now.store new.desk.now.store

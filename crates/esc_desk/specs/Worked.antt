@@ -103,7 +103,7 @@ of_domain name = record {
   children = [];
 }
 
--- a Differential behind the Full
+-- a Differential on the Full
 abbrev pub diff_header : HeaderValue
 diff_header = record {
   id = codes "D2";

@@ -1,8 +1,8 @@
 //! Arrivals that come again.
 //!
-//! A store of version 1 answered `A2` of a body that no row listed, and didn't keep the body. Where
-//! an arrival alike one of those comes, it has that reply, and its body is taken in as that of a new
-//! arrival would be, unless it is there.
+//! A store of version 1 gave `A2` to a body that no row listed, and didn't keep it. A duplicate of
+//! such an arrival gets that reply, and its body is taken in as that of a new arrival would be,
+//! unless it is there.
 
 ghost use Rattle.std.specs.Prelude.{
   ◌≡◌,
@@ -55,8 +55,8 @@ use sqlite::Alter;
 use std::alloc::Global;
 
 impl<S: Alter> Desk<S> {
-    /// Answers an arrival with the reply to an earlier one alike. Where that says `A2`, the body is
-    /// taken in.
+    /// Answers a duplicate of an earlier arrival with that one's reply. If that is `A2`, the body
+    /// is taken in.
     pub(crate) fn answer_again(
         &mut self,
         alloc: Global,
@@ -92,7 +92,7 @@ impl<S: Alter> Desk<S> {
         ensures cause { IfErr result
             (IsAgainFault S.Store self.old.store self.new.store digest.now) }
     {
-        // A proof knows that a count is below 2^64 where the body reads it.
+        // Read for the proof alone: it shows that the count is below 2^64.
         let _writes = self.store.writes();
         match reply.verdict {
             Verdict::A2 => {
@@ -103,8 +103,8 @@ impl<S: Alter> Desk<S> {
         }
     }
 
-    // Takes in the body of an arrival alike one that was answered `A2`. What is remembered is
-    // forgotten first, and is only remembered again once the body was taken in.
+    // Takes in the body of a duplicate of an arrival with `A2`. What is remembered is forgotten
+    // first, and is only remembered again once the body was taken in.
     #[tactic(auto, using(crate::proofs::StoreFacts::was_honest))]
     fn take_again(&mut self, alloc: Global, digest: &[u8; 32], body: &[u8]) -> Result<Work, SFault>
         requires { digest.now ≡ sha256 body.now }
@@ -139,8 +139,8 @@ impl<S: Alter> Desk<S> {
     }
 }
 
-// Takes in the body of an arrival alike one that was answered `A2`, where this is known of the
-// store's rows, and has it be what is known then. What it is after an `Err` says nothing.
+// Takes in the body of a duplicate of an arrival with `A2`. `known` is what is known of the store's
+// rows, and is updated; after an `Err` it has no meaning.
 #[tactic(auto, using(crate::proofs::StoreFacts::was_honest))]
 fn take_body<S: Alter>(
     store: &mut Store<S>,
@@ -207,7 +207,7 @@ fn take_found<S: Alter>(
 {
     books_after_a_lost_one_again();
     chain_after_an_event();
-    // A proof knows that a count is below 2^64 where the body reads it.
+    // Read for the proof alone: it shows that the count is below 2^64.
     let _writes = store.writes();
     match found {
         Finding::Unlisted => park_again(store, alloc, digest, body),
@@ -250,7 +250,7 @@ fn park_again<S: Alter>(
 {
     books_after_a_lost_one_again();
     chain_after_an_event();
-    // A proof knows that a count is below 2^64 where the body reads it.
+    // Read for the proof alone: it shows that the count is below 2^64.
     let _writes = store.writes();
     match parking_of(store, alloc, digest)? {
         Parking::Needless => Ok(NO_WORK),
@@ -264,7 +264,7 @@ fn park_again<S: Alter>(
 
 ghost use Rattle.esc_desk.specs.Causes.{IsParkAgainFault};
 
-// Holds the body of a row, unless one is held.
+// Stores the body of a row, unless the row has one.
 #[tactic(auto, using(crate::proofs::StoreFacts::was_honest))]
 fn hold_again<S: Alter>(
     store: &mut Store<S>,
@@ -294,7 +294,7 @@ fn hold_again<S: Alter>(
 {
     books_after_a_lost_one_again();
     chain_after_an_event();
-    // A proof knows that a count is below 2^64 where the body reads it.
+    // Read for the proof alone: it shows that the count is below 2^64.
     let _writes = store.writes();
     if known.held.contains(&row) {
         return Ok(NO_WORK);
@@ -303,8 +303,8 @@ fn hold_again<S: Alter>(
     move_with(store, alloc, &known.held, row, deposit, body)
 }
 
-// Holds the body of a row of which none was held, where these rows are held with it, and moves the
-// chain.
+// Stores the body of a row that has none yet, and moves the chain. `held` are the rows that are
+// held with it.
 #[tactic(auto, using(crate::proofs::StoreFacts::was_honest))]
 fn move_with<S: Alter>(
     store: &mut Store<S>,

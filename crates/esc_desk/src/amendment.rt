@@ -3,6 +3,7 @@
 ghost use Rattle.std.specs.Prelude.{
   ◌≡◌,
   ◌+◌,
+  ◌<◌,
   ◌≤◌,
   ◌++◌,
   ◌∷◌,
@@ -10,6 +11,7 @@ ghost use Rattle.std.specs.Prelude.{
   ℕ,
   List,
   None,
+  Err,
   IfSome,
   length,
   take,
@@ -80,9 +82,9 @@ use std::fmt;
 /// Why an amendment isn't taken in.
 #[derive(Clone, Copy, Debug, PartialEq, Eq)]
 pub enum AmendFault {
-    /// The text is no accepted manifest, or the union with it is none.
+    /// The text is no accepted manifest, or its union with the listed rows is none: M1 to M13.
     M(MFault),
-    /// The store failed, or memory was refused.
+    /// The store failed (`S1`), or memory was refused (`S2`).
     Store(SFault),
 }
 
@@ -98,18 +100,21 @@ impl fmt::Display for AmendFault {
 impl std::error::Error for AmendFault {}
 
 impl<S: Alter> Desk<S> {
-    /// Takes in an amendment: a manifest, of which the rows that aren't listed yet are from now on.
-    /// A body that is parked for a new row is held where it is the row's deposit, and is parked no
-    /// more in any case; replies that were given stay as they were. Returns how many rows are new,
-    /// and the work of the chain's move. At `Err` nothing has changed: the refusal of the text or
-    /// of the union (M1 to M13), `S1`, `S2`. A crash leaves an amendment that was taken in; after
-    /// `S1` or `S2` it may leave this one so.
+    /// Takes in an amendment, the text of a manifest: its rows that aren't listed yet are listed
+    /// from now on. A body that is parked for a new row is held if it is the row's deposit, and is
+    /// no longer parked in any case; replies that were given stay as they were. Returns how many
+    /// rows are new, and the work of the chain's move. At `Err` nothing has changed: the refusal of
+    /// the text or of the union (M1 to M13; a text that is too long is M1, whatever memory there
+    /// is), `S1`, `S2`. A crash leaves an amendment that was taken in; after `S1` or `S2` it may
+    /// leave this one taken in.
     pub fn amend(&mut self, alloc: Global, text: &[u8]) -> Result<(u32, Work), AmendFault>
         ensures amended { OkAfter S.Store self.old self.new result
             (λ e p. IsAmended S.Store self.new e text.now p.0 p.1) }
         ensures cause { After S.Store self.old self.new
             (λ e. IfErr result (IsAmendCause e text.now)) }
         ensures fault { IfErr result IsAmendFault }
+        ensures over_limit { most_bytes < length text.now
+            → result ≡ Err (AmendFault.M (MFault.Refused 1 0)) }
         ensures counted { IfOk result
             (λ p. writes_of self.new ≡ saturated (writes_of self.old + p.1.writes)) }
         ensures uncounted { OnErr result (writes_of self.new ≡ writes_of self.old) }
@@ -118,7 +123,7 @@ impl<S: Alter> Desk<S> {
         ensures crash { CrashAfter S.Store self.old
             (λ e doubtful. DeskLeavesAmended S.Store self.new e doubtful text.now result) }
     {
-        // A proof knows that a count is below 2^64 where the body reads it.
+        // Read for the proof alone: it shows that the count is below 2^64.
         let _writes = self.store.writes();
         let union = match self.union_with(alloc, text) {
             Ok(union) => union,
@@ -142,6 +147,7 @@ impl<S: Alter> Desk<S> {
         ensures united { IfOk result (IsUnionWith self.now.store.manifest text.now) }
         ensures refused { (code row : ℕ) → result ≡ Err (MFault.Refused code row)
             → IsRefusedUnion self.now.store.manifest text.now code row }
+        ensures over_limit { most_bytes < length text.now → result ≡ Err (MFault.Refused 1 0) }
     {
         let more = read_manifest(alloc, text)?;
         self.store.manifest().extend(alloc, &more)
@@ -179,10 +185,11 @@ impl<S: Alter> Desk<S> {
 
 ghost use Rattle.std.specs.Prelude.{Err};
 ghost use Rattle.esc_manifest.specs.declared.fault.MFault.TheVariants as MFault;
+ghost use Rattle.esc_manifest.specs.Manifest.{most_bytes};
 ghost use Rattle.esc_desk.specs.Amendments.{IsUnionWith, IsRefusedUnion};
 
-// Lists the rows of a union in a store of whose rows this is known, and has it be what is known
-// then. What it is after an `Err` says nothing.
+// Lists the rows of a union. `known` is what is known of the store's rows, and is updated; after an
+// `Err` it has no meaning.
 #[tactic(auto, using(crate::proofs::StoreFacts::was_honest))]
 fn list_in<S: Alter>(
     store: &mut Store<S>,
@@ -218,7 +225,7 @@ fn list_in<S: Alter>(
     list_rows(store, alloc, union, &judged, &plan)
 }
 
-// Puts rows behind others.
+// Appends rows.
 fn append_rows(rows: &mut Vec<usize>, more: &[usize]) -> Result<(), NoMemory>
     ensures { OnOk result (rows.new.items ≡ rows.old.items ++ more.now) }
 {
@@ -317,7 +324,7 @@ fn copies_of(alloc: Global, rows: &[MRow]) -> Result<Vec<MRow>, NoMemory>
     Ok(copies)
 }
 
-// Holds the bodies that are parked for these of the rows.
+// Holds, for each of these rows, the body that is parked under its digest.
 fn adopt_rows<S: Alter>(
     change: &mut Change<'_, S>,
     rows: &[MRow],
@@ -343,7 +350,7 @@ fn adopt_rows<S: Alter>(
 
 ghost use Rattle.esc_desk.specs.Amendments.{AreApartRows};
 
-// Lets the bodies go that are parked for these of the rows.
+// Drops, for each of these rows, the body that is parked under its digest.
 fn drop_rows<S: Alter>(
     change: &mut Change<'_, S>,
     rows: &[MRow],

@@ -1,4 +1,4 @@
-//! A body that is taken in without a receipt, whole or not at all.
+//! Storing a body without a receipt, whole or not at all.
 
 ghost use Rattle.std.specs.Prelude.{
   ◌≡◌,
@@ -36,7 +36,7 @@ use esc_store::{Change, SFault, Store};
 use sqlite::Alter;
 use std::alloc::Global;
 
-/// Parks a body.
+/// Parks a body under its digest.
 #[tactic(auto, using(crate::proofs::StoreFacts::clean_before))]
 pub(crate) fn park_body<S: Alter>(
     store: &mut Store<S>,
@@ -64,7 +64,7 @@ pub(crate) fn park_body<S: Alter>(
     commit_filled(change)
 }
 
-// Parks a body, all but the commit.
+// Parks a body in a change that isn't committed yet.
 #[tactic(auto, using(crate::proofs::StoreFacts::goes_then))]
 fn fill_parked<S: Alter>(
     change: &mut Change<'_, S>,
@@ -81,7 +81,7 @@ fn fill_parked<S: Alter>(
     change.park(digest, body)
 }
 
-/// Holds the body of a row, and moves the chain. Returns the work.
+/// Stores the body of a row that has none yet, and moves the chain. Returns the work.
 #[tactic(auto, using(crate::proofs::StoreFacts::clean_before))]
 pub(crate) fn hold_body<S: Alter>(
     store: &mut Store<S>,
@@ -121,7 +121,7 @@ pub(crate) fn hold_body<S: Alter>(
     Ok(work)
 }
 
-// Holds a body and moves the tables, all but the commit.
+// The same in a change that isn't committed yet.
 #[tactic(auto, using(crate::proofs::StoreFacts::goes_then))]
 fn fill_held<S: Alter>(
     change: &mut Change<'_, S>,

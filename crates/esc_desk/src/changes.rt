@@ -58,8 +58,8 @@ use esc_tables::Deposit;
 use sqlite::Alter;
 use std::alloc::Global;
 
-/// Keeps a receipt, and its body where that is to be parked; returns the receipt's number. `S4`
-/// comes before `S5`.
+/// Stores a receipt, and its body if that is to be parked. Returns the receipt's number. Where both
+/// `S4` and `S5` apply, it is `S4`.
 #[tactic(auto, using(crate::proofs::StoreFacts::clean_before))]
 pub(crate) fn note_receipt<S: Alter>(
     store: &mut Store<S>,
@@ -95,7 +95,7 @@ pub(crate) fn note_receipt<S: Alter>(
     Ok(number)
 }
 
-// Makes all of a note but its commit.
+// Makes the change of a receipt, all but its commit.
 #[tactic(auto, using(crate::proofs::StoreFacts::goes_then))]
 fn fill_note<S: Alter>(
     change: &mut Change<'_, S>,
@@ -124,8 +124,8 @@ fn fill_note<S: Alter>(
     Ok(number)
 }
 
-/// Keeps a receipt and the body of a row, and moves the chain. Returns the receipt's number and the
-/// work.
+/// Stores a receipt and the body of a row that has none yet, and moves the chain. Returns the
+/// receipt's number and the work.
 #[tactic(auto, using(crate::proofs::StoreFacts::clean_before))]
 pub(crate) fn hold_deposit<S: Alter>(
     store: &mut Store<S>,
@@ -233,7 +233,7 @@ pub(crate) fn move_in<S: Alter>(
     Ok(work)
 }
 
-// Moves the tables from one chain to the other. A registry's fault is one of the store.
+// Moves the tables from one chain to the other.
 fn move_here<S: Alter>(
     change: &mut Change<'_, S>,
     alloc: Global,
@@ -259,24 +259,10 @@ fn move_here<S: Alter>(
         → work ≡ cost c old.now new.now deposits.now) }
     ensures cause { IfErr result IsS1OrS2 }
 {
-    match move_chain(alloc, change, old, new, deposits) {
-        Ok(work) => Ok(work),
-        Err(fault) => Err(store_fault(fault)),
-    }
+    move_chain(alloc, change, old, new, deposits)
 }
 
-// A fault of a registry as one of the store, since a registry's contract doesn't say which faults
-// there are.
-fn store_fault(fault: SFault) -> SFault
-    ensures { IsS1OrS2 result }
-{
-    match fault {
-        SFault::S2 => SFault::S2,
-        SFault::S1 | SFault::S3 | SFault::S4 | SFault::S5 => SFault::S1,
-    }
-}
-
-/// Makes a change whole.
+/// Commits a change that has all its parts.
 pub(crate) fn commit_filled<S: Alter>(change: Change<'_, S>) -> Result<(), SFault>
     ensures manifest { OnOk result (change.exit.0.now.manifest ≡ listed_by change.entry) }
     ensures unlisted { OnErr result

@@ -73,8 +73,8 @@ use sha2::{Digest, Sha256};
 use sqlite::Alter;
 use std::alloc::Global;
 
-/// A desk over a store. It remembers what is known of the store's rows, so that an arrival needn't
-/// ask for it.
+/// A desk over a store. It remembers which rows are held, so that an arrival needn't ask the store
+/// for them.
 #[derive(Drop)]
 pub struct Desk<S: Alter> {
     pub(crate) store: Store<S>,
@@ -90,7 +90,7 @@ pub(crate) const NO_WORK: Work = Work {
 };
 
 impl<S: Alter> Desk<S> {
-    /// A desk over a store. Takes no memory.
+    /// A desk over a store. Doesn't allocate.
     pub fn open(store: Store<S>) -> Desk<S>
         ensures same { store_of result ≡ store }
         ensures serves { (e : List EventValue) → Serves S.Store store e
@@ -102,7 +102,7 @@ impl<S: Alter> Desk<S> {
         Desk { store, known: None }
     }
 
-    /// The desk's store. Takes no memory.
+    /// The desk's store. Doesn't allocate.
     pub fn into_store(self) -> Store<S>
         ensures same { result ≡ store_of self }
         ensures serves { (e : List EventValue) → DeskServes S.Store self e
@@ -111,15 +111,15 @@ impl<S: Alter> Desk<S> {
         self.store
     }
 
-    /// Takes an arrival: the reply, and the work of the move that it made. One alike an earlier one
-    /// has the first one's reply, and makes no work unless that is `A2`; then its body is taken in,
-    /// unless it is there. In any case the work is exactly the cost of going from the latest chain
-    /// before the arrival to the latest chain with it, which is none where it adds no row to those
-    /// that are held. A body that no row lists is parked. [`Desk::writes`] grows by the work's
-    /// writes.
+    /// Takes an arrival. Returns the reply, and the work of the move that it made. A duplicate of
+    /// an earlier arrival gets the first one's reply, and makes no work unless that is `A2`; then
+    /// its body is taken in, unless it is there. In any case the work is exactly the cost of going
+    /// from the latest chain before the arrival to the latest chain with it, which is none where it
+    /// adds no row to those that are held. A body that no row lists is parked. [`Desk::writes`]
+    /// grows by the work's writes.
     ///
-    /// At `Err` nothing has changed: `S1`, `S2`, `S4` where the store has 1,000,000,000 receipts and
-    /// the arrival is like none before it, or `S5` where its body would be parked and 1,024 others
+    /// At `Err` nothing has changed: `S1`, `S2`, `S4` where the store has 1,000,000,000 receipts
+    /// and the arrival is no duplicate, or `S5` where its body would be parked and 1,024 others
     /// are. A crash leaves what was answered; after `S1` or `S2` it may leave the arrival taken in.
     #[tactic(auto, using(crate::proofs::StoreFacts::was_honest))]
     pub fn arrive(
@@ -153,7 +153,7 @@ impl<S: Alter> Desk<S> {
             (an_arrival number.now body.now) result) }
     {
         let digest = Sha256::digest(body);
-        // A proof knows that a count is below 2^64 where the body reads it.
+        // Read for the proof alone: it shows that the count is below 2^64.
         let _writes = self.store.writes();
         match self.store.receipt_of(alloc, number, &digest)? {
             Some(reply) => self.answer_again(alloc, reply, &digest, body),
@@ -206,7 +206,7 @@ impl<S: Alter> Desk<S> {
     }
 
     /// What is known of the store's rows: what was remembered, which is forgotten, or else what the
-    /// store tells.
+    /// store reports.
     pub(crate) fn take_known(&mut self, alloc: Global) -> Result<Known, SFault>
         ensures same { IsAsBefore S.Store self.old.store self.new.store }
         ensures forgotten { self.new.known ≡ None }
@@ -222,8 +222,8 @@ impl<S: Alter> Desk<S> {
     }
 }
 
-// Takes in an arrival for which no receipt is kept, where this is known of the store's rows, and
-// has it be what is known with the arrival. What it is after an `Err` says nothing.
+// Takes in an arrival for which no receipt is kept. `known` is what is known of the store's rows,
+// and is updated; after an `Err` it has no meaning.
 #[tactic(auto, using(crate::proofs::StoreFacts::was_honest))]
 fn take_in<S: Alter>(
     store: &mut Store<S>,
@@ -314,8 +314,7 @@ fn keep<S: Alter>(
 
 ghost use Rattle.esc_desk.specs.Causes.{IsKeepFault, IsParkFault};
 
-// Keeps the receipt of a new arrival whose body no row lists, and the body where it is to be
-// parked.
+// Stores the receipt of a new arrival whose body no row lists, and the body if it is to be parked.
 #[tactic(auto, using(crate::proofs::StoreFacts::was_honest))]
 fn keep_parked<S: Alter>(
     store: &mut Store<S>,
@@ -354,8 +353,8 @@ fn keep_parked<S: Alter>(
     Ok((number, NO_WORK))
 }
 
-// Keeps the receipt of a new arrival with the deposit of a row, and the deposit if no body is held
-// of the row.
+// Stores the receipt of a new arrival that is the deposit of a row, and its body if the row has
+// none yet.
 #[tactic(auto, using(crate::proofs::StoreFacts::was_honest))]
 fn keep_held<S: Alter>(
     store: &mut Store<S>,
@@ -397,9 +396,9 @@ fn keep_held<S: Alter>(
     keep_deposit(store, alloc, receipt, &known.held, row, deposit, body)
 }
 
-// Keeps the receipt and the deposit of a row of which no body was held, where these rows are held
-// with it. The row was put in its place before anything changes in the store, so that nothing fails
-// for want of memory once the change is made.
+// Stores the receipt and the body of a row that has none yet. `held` are the rows that are held
+// with it: the row was inserted there before anything changes in the store, so that nothing can run
+// out of memory once the change is made.
 #[tactic(auto, using(crate::proofs::StoreFacts::was_honest))]
 fn keep_deposit<S: Alter>(
     store: &mut Store<S>,

@@ -9,7 +9,7 @@ use esc_store::{Reply, SFault};
 pub enum Event<'a> {
     /// A body arrives.
     Arrival(Arrival<'a>),
-    /// A manifest lists more rows. This is its text.
+    /// An amendment: the text of a manifest, whose rows are to be listed too.
     Amend(&'a [u8]),
     /// The registry is rebuilt as of a moment, in nanoseconds since 1970-01-01T00:00:00Z, from now
     /// on. `None` takes the moment back.
@@ -21,7 +21,7 @@ pub enum Event<'a> {
 pub enum Outcome {
     /// It was answered with this reply.
     Done(Reply),
-    /// The store refused it, and nothing has changed.
+    /// It was refused by `S1`, `S2`, `S4` or `S5`, and nothing has changed.
     Lost(SFault),
 }
 
@@ -32,6 +32,6 @@ pub enum EventOutcome {
     Arrived(Outcome),
     /// How many rows an amendment added, or why it wasn't taken in.
     Amended(Result<u32, AmendFault>),
-    /// Whether a moment was set or taken back, or why not.
+    /// That a moment was set or taken back, or why not.
     Moved(Result<(), SFault>),
 }

@@ -1,4 +1,4 @@
-//! What is found of a body: the verdict before it is told.
+//! What is found of a body by the listed rows.
 
 ghost use Rattle.std.specs.Prelude.{◌≡◌, ◌<◌, length, IfOk, IfSome, string_bytes};
 ghost use Rattle.std.specs.Option.{option_map};
@@ -21,7 +21,7 @@ use esc_manifest::{MRow, Manifest};
 use esc_tables::{Deposit, read_deposit};
 use std::alloc::Global;
 
-/// What is found of a body with this digest.
+/// What is found of a body with this digest by the rows of a manifest.
 pub(crate) fn find(
     alloc: Global,
     manifest: &Manifest,
@@ -42,7 +42,7 @@ pub(crate) fn find(
     }
 }
 
-/// A deposit that reads from a body, compared with what this row tells of it.
+/// Compares a deposit with what a row says of it.
 pub(crate) fn compare(rows: &[MRow], row: usize, deposit: Deposit) -> Finding
     requires { row < length rows.now }
     ensures compared { result ≡ compared rows.now row deposit }
@@ -88,7 +88,7 @@ fn is_same_option(a: &Option<String>, b: &Option<String>) -> bool
     }
 }
 
-/// The row whose deposit is held.
+/// The row whose deposit the body is, if any.
 pub(crate) fn held_row(finding: &Finding) -> Option<usize>
     ensures { result ≡ held_row finding.now }
 {

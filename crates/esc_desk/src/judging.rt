@@ -1,4 +1,4 @@
-//! What becomes of the bodies that are parked for rows that are new.
+//! Judges the bodies that are parked under the digests of new rows.
 
 ghost use Rattle.std.specs.Prelude.{◌≡◌, ◌<◌, ◌≤◌, ◌++◌, length, IfOk, IfErr, OnOk};
 ghost use Rattle.esc_store.specs.Faults.{IsS1OrS2};
@@ -26,8 +26,8 @@ pub(crate) enum Judgement {
     Adopted(Deposit),
 }
 
-/// Of new rows, those of which the parked body is the deposit, and those of which it isn't; both
-/// rise.
+/// The new rows whose parked body is their deposit, and those whose parked body isn't; both in
+/// ascending order.
 #[derive(Debug, Drop)]
 pub(crate) struct Judged {
     pub(crate) adopted: Vec<usize>,
@@ -35,7 +35,7 @@ pub(crate) struct Judged {
 }
 
 impl Judged {
-    // Puts a row behind the others, by what was judged of it.
+    // Appends a row to the list that it belongs to by its judgement, if any.
     fn take(&mut self, row: usize, judgement: Judgement) -> Result<(), NoMemory>
         ensures adopted { OnOk result (self.new.adopted.items
             ≡ self.old.adopted.items ++ adopted_by judgement row) }

@@ -17,8 +17,8 @@ use esc_store::{SFault, Store};
 use sqlite::Alter;
 use std::alloc::Global;
 
-/// What is known of a store's rows by its receipts and look-ups. A body is read for each row that
-/// was adopted from the parked ones; no other is.
+/// What is known of a store's rows by its receipts and look-ups: for each receipt with `A2` or `A5`
+/// whose digest a row lists now, the body of that row is looked up.
 pub(crate) fn known_of<S: Alter>(store: &mut Store<S>, alloc: Global) -> Result<Known, SFault>
     ensures same { IsAsBefore S.Store store.old store.new }
     ensures known { IsHonest S.Store store.new → (e : List EventValue) (k : Kept)
@@ -32,8 +32,8 @@ pub(crate) fn known_of<S: Alter>(store: &mut Store<S>, alloc: Global) -> Result<
     Ok(Known { held, told })
 }
 
-/// The rows of which a body is held: those that receipts tell, and of the rows that list these
-/// digests those that have one.
+/// The rows that have a body: those that receipts say are held (`told`), and those that list one of
+/// these digests and have one.
 pub(crate) fn held_of<S: Alter>(
     store: &mut Store<S>,
     alloc: Global,
@@ -52,7 +52,7 @@ pub(crate) fn held_of<S: Alter>(
     Ok(rows)
 }
 
-// Puts the row that lists a digest in its place among rows, if a body is held of it.
+// Inserts the row that lists a digest among rows in ascending order, if that row has a body.
 fn insert_held<S: Alter>(
     store: &mut Store<S>,
     alloc: Global,
@@ -77,7 +77,7 @@ fn insert_held<S: Alter>(
 
 ghost use Rattle.std.specs.Prelude.{◌++◌, ◌∷◌, []};
 
-/// Puts a row in its place among rows that rise, if it isn't one of them.
+/// Inserts a row among rows in ascending order, unless it is one of them.
 pub(crate) fn insert_row(rows: &mut Vec<usize>, row: usize) -> Result<(), NoMemory>
     ensures { OnOk result (IsRising rows.old.items
         → IsInserted rows.old.items row rows.new.items) }

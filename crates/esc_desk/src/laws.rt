@@ -1,4 +1,4 @@
-//! What follows of lists of arrivals, by the definitions alone.
+//! Laws of lists of events, by the definitions alone.
 //!
 //! The functions here do nothing. Each has a law as its contract: a caller who needs the law calls
 //! it.
@@ -37,9 +37,9 @@ pub fn new_store_stands_for_its_manifest()
     ensures stands_for { (m : List MRow) → StandsFor sha256 reading (listed m ∷ []) (fresh m) }
 {}
 
-/// What a store holds that stands for a manifest and arrivals after it, said without events: the
+/// What a store keeps that stands for a manifest and then arrivals, said without events: the
 /// manifest's rows, the receipts of the distinct arrivals, the latest chain of the rows that any
-/// arrival holds, and its tables.
+/// arrival holds, and its tables. Premise: no two different bodies that came have the same digest.
 pub fn stands_for_manifest_and_arrivals()
     ensures left { AreLeftByArrivals }
     ensures rows { (m : List MRow) (l : List ArrivalValue) → union (manifest_then m l) ≡ m }
@@ -47,17 +47,16 @@ pub fn stands_for_manifest_and_arrivals()
         → arrivals (manifest_then m l) ≡ l }
 {}
 
-/// A store that stands for a list of events has the tables of the latest chain, up to the moment
-/// that is set, of the rows that are held by all arrivals. It has the premise that no two different
-/// bodies that came have the same digest.
+/// A store that stands for a list of events has the tables of the latest chain of the held rows, up
+/// to the moment that is set. Premise: no two different bodies that came have the same digest.
 pub fn tables_are_of_events()
     ensures { TablesAreOfEvents }
 {}
 
 /// Two lists of events by which the same rows are listed and held and the same moment is set leave
 /// the same chain, tables and before-images, in whatever order, however often and under whatever
-/// numbers the deposits came. It has the premise that no two different bodies of the two lists have
-/// the same digest.
+/// numbers the deposits came. Premise: no two different bodies of the two lists have the same
+/// digest.
 pub fn same_held_same_kept()
     ensures { SameHeldSameKept }
 {
@@ -100,9 +99,9 @@ ghost use Rattle.esc_store.specs.Standing.{Stands};
 ghost use Rattle.esc_events.specs.FirstVersion.{StoodFor, events_before};
 ghost use Rattle.esc_desk.specs.Serving.{Serves};
 
-/// The definitions at a store of version 1 that was migrated: an arrival that it answered `A2` has
-/// that reply when it comes again, and its body is held then, if it is listed by now; or it is
-/// parked, and held once it is listed.
+/// The definitions at a store of version 1 that was migrated. An arrival with `A2` gets that reply
+/// when it comes again. Its body is held then if a row lists it by now; else it is parked, and held
+/// once a row lists it.
 pub fn worked_migration()
     ensures answered { reply_to itself reads_either migrated diff_2
         ≡ Some (lost_reply 2 (codes "2")) }

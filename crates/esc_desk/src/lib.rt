@@ -4,34 +4,34 @@
 //! A manifest lists the deposits that there are, each with the SHA-256 of its body
 //! (`esc_manifest`); it may come in parts. Bodies arrive under numbers that their sender gives: a
 //! body may come late, twice, never, before the row that lists it, or be another one than was
-//! listed. Each arrival gets a verdict by the rows that are listed then, and the reply tells it with
-//! the number of a receipt:
+//! listed. Each arrival gets a verdict by the rows that are listed then; its reply has the verdict
+//! and the number of a receipt:
 //!
 //! - `A1`: it is the deposit of the row with its digest, which is held from now on.
-//! - `A3`: the row of the digest has it, but no deposit reads from it, by the refusal U1 to U11 of
-//!   `esc_tables`.
-//! - `A4`: it is another deposit than the row says, by id, place, resend or, of a Differential,
-//!   previous id.
-//! - `A5`: no row has the body's digest. It is parked, until an amendment lists it.
+//! - `A3`: a row has its digest, but no deposit reads from the body, by one of the refusals U1 to
+//!   U11 of `esc_tables`.
+//! - `A4`: it is another deposit than the row with its digest says, by id, place, resend or, of a
+//!   Differential, previous id.
+//! - `A5`: no row has the body's digest. The body is parked until an amendment lists it.
 //!
-//! A store of version 1 answered `A2` in place of `A5`, and didn't keep the body. Its receipts are
-//! in a store that was made of it (`Store::migrate`); no new receipt has `A2`.
+//! A store of version 1 gave `A2` in place of `A5`, and didn't keep the body. Such receipts stay in
+//! a store that was migrated (`Store::migrate`); no new receipt has `A2`.
 //!
-//! Arrivals are *alike* if their numbers are the same and the digests of their bodies are. One
-//! alike an earlier one has the first one's reply, and changes nothing, unless that reply is `A2`:
-//! then its body is taken in as that of a new arrival would be, if it isn't there, and no receipt
-//! is added. Of any other arrival the receipt is kept; if it holds a row of which no body is held,
-//! its body is kept too, and the tables are moved from the latest chain of the rows held before
-//! (`esc_chain`) to the latest one of those held now (`esc_apply`).
+//! Two arrivals are *duplicates* (`alike` in the definitions) if their numbers are the same and the
+//! digests of their bodies are. A duplicate of an earlier arrival gets the first one's reply, and
+//! changes nothing, unless that reply is `A2`: then its body is taken in as that of a new arrival
+//! would be, if it isn't there yet, and no receipt is added. Any other arrival adds a receipt. If
+//! it is the deposit of a row that has no body yet, its body is stored too, and the tables are
+//! moved from the latest chain of the rows held before (`esc_chain`) to the latest one of those
+//! held now (`esc_apply`), both up to the moment that is set, if one is.
 //!
 //! What goes in is a [`Store`](esc_store::Store), then events: arrivals, further manifests, and the
 //! moment as of which the registry is to be rebuilt. A list of them goes to [`Desk::run_events`],
-//! one of arrivals alone to [`Desk::run`]; one by one they go to [`Desk::arrive`],
-//! [`Desk::amend`] and [`Desk::as_of`]. What comes out are replies, counts of added rows, the work
-//! of each move, and the reads: [`Desk::status`], [`Desk::receipts`],
-//! [`Desk::manifest`], [`Desk::held`], [`Desk::parked`], [`Desk::moment`], [`Desk::tables`],
-//! [`Desk::end`] and [`Desk::writes`]. The objects of the tables are given one at a time, too:
-//! [`Desk::walk`].
+//! one of arrivals alone to [`Desk::run`]; one by one they go to [`Desk::arrive`], [`Desk::amend`]
+//! and [`Desk::as_of`]. What comes out are replies, counts of added rows, the work of each move,
+//! and the reads: [`Desk::status`], [`Desk::receipts`], [`Desk::manifest`], [`Desk::held`],
+//! [`Desk::parked`], [`Desk::moment`], [`Desk::tables`], [`Desk::end`] and [`Desk::writes`].
+//! [`Desk::walk`] gives the objects of the tables one at a time.
 //!
 //! # What is promised
 //!
@@ -44,13 +44,13 @@
 //! The contracts speak of lists of events (`EventValue`, `esc_events`): a manifest was taken in, an
 //! arrival was answered, a moment was set or taken back, or an *early* arrival was answered, one
 //! that a store of version 1 took in. A store serves a list of events (`Serves`) if it holds the
-//! rows that are listed, the receipts that the arrivals leave, the body of each held row, the bodies
-//! that no row lists, the moment, the rows of the latest chain, and that chain's tables with their
-//! before-images (`StandsFor`). A store that was just made serves its manifest alone
+//! rows that are listed, the receipts that the arrivals leave, the body of each held row, the
+//! bodies that no row lists, the moment, the rows of the latest chain, and that chain's tables with
+//! their before-images (`StandsFor`). A store that was just made serves its manifest alone
 //! ([`new_store_stands_for_its_manifest`]), and one of version 1 that was migrated its manifest and
-//! its arrivals as early ones ([`migrated_store_serves`]); what it means to serve a manifest and then
-//! arrivals is said without events by [`stands_for_manifest_and_arrivals`]. A desk serves what its
-//! store serves (`DeskServes`): it also remembers which rows are held, and what it remembers is so.
+//! its arrivals as early ones ([`migrated_store_serves`]); what it means to serve a manifest and
+//! then arrivals is said without events by [`stands_for_manifest_and_arrivals`]. A desk serves what
+//! its store serves, if what it remembers of the held rows is true (`DeskServes`).
 //!
 //! Most clauses begin with a word of `specs/Calls.antt`, which says of which events they speak.
 //! `OkAfter` is "where the store was honest, of whatever events the desk served before the call, if
@@ -72,23 +72,23 @@
 //! Each clause on a store has the premise that the store was honest, which is that the disk gave
 //! back what was written to it. The definitions go by digests: what is said of the bodies that are
 //! held and parked, and so of chains, tables and works, is said where no two different bodies that
-//! came have the same digest (`WhereApart`). Replies, listed rows and the moment stand without that.
+//! came have the same digest (`WhereApart`). What is said of replies, listed rows and the moment
+//! holds without that.
 //!
 //! # Cost
 //!
-//! An arrival alike an earlier one costs a digest and a look-up, unless that was answered `A2`. Of
-//! another one the body is read
-//! once, and the bodies of those steps alone are read again that stand past the common front of
-//! both chains. The store is asked which rows are held at a desk's first event that changes it, and
-//! at the next one after an `Err`: its receipts tell, and of each row that was adopted from the
-//! parked bodies one body is read.
+//! A duplicate of an earlier arrival costs a SHA-256 and a look-up, unless that one's reply is
+//! `A2`. For any other arrival the body is read once, and of the new chain's steps only the bodies
+//! past the front that both chains have in common are read again. The store is asked which rows are
+//! held at a desk's first event that changes it, and at the next one after an `Err`: receipts with
+//! `A1` say so, and for each receipt with `A2` or `A5` whose digest a row lists now, the body of
+//! that row is looked up.
 //!
-//! [`Desk::end`] reads the body of the chain's last step, and takes apart its envelope alone: no
-//! row.
+//! [`Desk::end`] reads the body of the chain's last step, and parses its envelope alone, no row.
 //!
 //! [`Desk::tables`] holds all objects in memory. A [`Walk`] holds a page of 256 at most, and reads
-//! each page by a look-up in the index. While it lives the desk is lent to it, so nothing arrives
-//! in between.
+//! each page by a look-up in the index. While it exists it borrows the desk, so nothing arrives in
+//! between.
 #![tactic(auto)]
 
 mod again;

@@ -11,7 +11,7 @@ use esc_store::{MOST_PARKED, SFault, Store};
 use sqlite::Alter;
 use std::alloc::Global;
 
-/// What is done with a body with this digest, which no row lists. No body is read.
+/// Whether a body with this digest, which no row lists, is to be parked. No body is read.
 pub(crate) fn parking_of<S: Alter>(
     store: &mut Store<S>,
     alloc: Global,

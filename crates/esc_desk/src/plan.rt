@@ -30,7 +30,7 @@ use esc_tables::{Deposit, read_deposit};
 use sqlite::Alter;
 use std::alloc::Global;
 
-/// The most steps of a chain: as many as a manifest has rows.
+/// The most steps of a chain: as many as a manifest may have rows.
 const MOST_STEPS: usize = 4096;
 
 /// Where the deposits of a plan's new steps are read from.
@@ -38,14 +38,14 @@ const MOST_STEPS: usize = 4096;
 pub(crate) enum Source<'a> {
     /// From the bodies that the store holds.
     Kept,
-    /// As before, but of this row the deposit is at hand, until it is used.
+    /// As `Kept`, except that the deposit of this row is at hand. `None` once it was used.
     Arrived(usize, Option<Deposit>),
-    /// As before, but of these rows from this place on from the bodies that are parked for them.
+    /// As `Kept`, except for these rows from this index on: the bodies that are parked for them.
     Listed(&'a [MRow], usize),
 }
 
-/// The steps of the latest chain of these rows up to a moment. A row that the manifest doesn't have
-/// is a fault of the store.
+/// The steps of the latest chain of these rows up to a moment. `S1` if one of them isn't a row of
+/// the manifest; `S2`.
 pub(crate) fn latest_steps(
     alloc: Global,
     manifest: &Manifest,
@@ -180,7 +180,7 @@ fn next_deposit<S: Alter>(
     }
 }
 
-// The deposit of the body that is parked for a row.
+// The deposit of the body that is parked for a row. `S1` if none is, or it isn't that deposit.
 fn parked_deposit<S: Alter>(
     store: &mut Store<S>,
     alloc: Global,
@@ -202,7 +202,7 @@ fn parked_deposit<S: Alter>(
     }
 }
 
-// The deposit of the body that the store holds of a row.
+// The deposit of the body that the store keeps for a row. `S1` if there is none to be read.
 fn stored_deposit<S: Alter>(
     store: &mut Store<S>,
     alloc: Global,

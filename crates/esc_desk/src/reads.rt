@@ -1,4 +1,4 @@
-//! What a desk answers of its store.
+//! The reads of a desk.
 
 ghost use Rattle.std.specs.Prelude.{◌≡◌, ℕ, List, Ok, Some, length, option_map, IfOk, IfErr, map, All};
 ghost use Rattle.esc_tables.specs.DepositValue.{DepositValue};
@@ -37,7 +37,8 @@ use std::alloc::Global;
 use std::collections::BTreeMap;
 
 impl<S: Alter> Desk<S> {
-    /// The manifest that the desk's store was made with. Takes no memory.
+    /// The rows that are listed: those of the first manifest and of each amendment. Doesn't
+    /// allocate.
     pub fn manifest(&self) -> &Manifest
         ensures manifest { (e : List EventValue)
             → Serves S.Store (store_of self.now) e → result.now ≡ union e }
@@ -45,8 +46,8 @@ impl<S: Alter> Desk<S> {
         self.store.manifest()
     }
 
-    /// How many objects the desk has written or removed since its store was opened; it stays at its
-    /// greatest value. Takes no memory.
+    /// How many objects the desk has written or removed since its store was opened; it stays at
+    /// 2^64 - 1 once there. Doesn't allocate.
     pub fn writes(&self) -> u64
         ensures count { result ≡ writes_of self.now }
     {
@@ -64,8 +65,8 @@ impl<S: Alter> Desk<S> {
         self.store.receipts(alloc)
     }
 
-    /// The rows of the manifest of which a body is held, from 0, rising. A body is read for each row
-    /// that was adopted from the parked ones. `S1`, `S2`.
+    /// The listed rows that have a body, as indices from 0 in ascending order. For each receipt
+    /// with `A2` or `A5` whose digest a row lists now, the body of that row is read. `S1`, `S2`.
     #[tactic(auto, using(crate::proofs::ReadLemmas::read_stays))]
     pub fn held(&mut self, alloc: Global) -> Result<Vec<usize>, SFault>
         ensures stays { Stays S.Store self.old self.new }
@@ -77,8 +78,8 @@ impl<S: Alter> Desk<S> {
         Ok(known.held)
     }
 
-    /// The bodies that no row lists, in the order of their digests. Each is read, one at a time.
-    /// `S1`, `S2`.
+    /// The bodies that no row lists, each as its digest and length, in the order of digests. They
+    /// are read one at a time. `S1`, `S2`.
     #[tactic(auto, using(crate::proofs::ReadLemmas::read_stays, crate::proofs::StoreFacts::as_before_then))]
     pub fn parked(&mut self, alloc: Global) -> Result<Vec<ParkedBody>, SFault>
         ensures stays { Stays S.Store self.old self.new }
@@ -102,7 +103,7 @@ impl<S: Alter> Desk<S> {
         self.store.moment()
     }
 
-    /// The objects of the latest chain's tables. `S1`, `S2`.
+    /// The objects of the latest chain's tables by key, all in memory. `S1`, `S2`.
     #[tactic(auto, using(crate::proofs::ReadLemmas::read_stays))]
     pub fn tables(&mut self, alloc: Global) -> Result<BTreeMap<Key, Object>, SFault>
         ensures stays { Stays S.Store self.old self.new }
@@ -132,7 +133,7 @@ impl<S: Alter> Desk<S> {
         }
     }
 
-    /// How far the desk has come. `S1`, `S2`.
+    /// The desk's counts, and the end of its latest chain. `S1`, `S2`.
     #[tactic(auto, using(crate::proofs::ReadLemmas::read_stays, crate::proofs::StoreFacts::as_before_then))]
     pub fn status(&mut self, alloc: Global) -> Result<Status, SFault>
         ensures stays { Stays S.Store self.old self.new }
@@ -149,8 +150,8 @@ impl<S: Alter> Desk<S> {
     }
 }
 
-// The numbers of a store with so many listed rows, so many receipts, these held rows and steps, and
-// these objects.
+// The status of a store, by the number of its listed rows and receipts, its held rows, its chain's
+// steps, and the number of its objects.
 fn status_of(
     listed: usize,
     receipts: u64,
@@ -191,8 +192,7 @@ fn end_of_steps(steps: &[Step]) -> Option<(Place, u32)>
     Some((last.place, last.resend))
 }
 
-// The parked bodies with these digests, one of which is not parked any more being a fault of the
-// store.
+// The parked bodies with these digests. `S1` if one of them isn't parked.
 fn parked_bodies<S: Alter>(
     store: &mut Store<S>,
     alloc: Global,
@@ -211,7 +211,7 @@ fn parked_bodies<S: Alter>(
     Ok(bodies)
 }
 
-// The parked body with a digest.
+// The parked body with a digest. `S1` if there is none.
 fn parked_body<S: Alter>(store: &mut Store<S>, digest: &[u8; 32]) -> Result<ParkedBody, SFault>
     ensures same { IsAsBefore S.Store store.old store.new }
     ensures digest { IfOk result (λ p. p.digest ≡ digest.now) }
@@ -229,7 +229,7 @@ fn parked_body<S: Alter>(store: &mut Store<S>, digest: &[u8; 32]) -> Result<Park
 }
 
 // What the deposit of the body that the store keeps for a row says of the registry. Its envelope
-// says it: no row is read.
+// alone is parsed.
 fn stored_end<S: Alter>(store: &mut Store<S>, alloc: Global, row: usize) -> Result<End, SFault>
     ensures same { IsAsBefore S.Store store.old store.new }
     ensures says { IsHonest S.Store store.new → (k : Kept) → Stands S.Store store.old k

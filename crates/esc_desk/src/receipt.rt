@@ -1,4 +1,4 @@
-//! The receipt of a new arrival, and the reply that tells it.
+//! The receipt of a new arrival, and the reply that is made of it.
 
 ghost use Rattle.std.specs.Prelude.{◌≡◌, ◌<◌, length, false, IfOk, IfSome};
 ghost use Rattle.esc_store.specs.ReplyValue.{reply_kept};
@@ -10,7 +10,7 @@ use esc_manifest::MRow;
 use esc_store::{Number, Receipt, Reply, Verdict};
 use std::alloc::Global;
 
-/// The receipt by what was found, where `again` says whether the row was held before.
+/// The receipt by what was found. `again` says whether an earlier receipt has the row with `A1`.
 pub(crate) fn receipt_by<'a>(
     number: &Number<'a>,
     digest: [u8; 32],
@@ -40,7 +40,7 @@ pub(crate) fn receipt_by<'a>(
     }
 }
 
-/// The reply of a receipt. Its number is 0 until the store has given one.
+/// The reply for a receipt. Its receipt number is 0 until the store has given one.
 pub(crate) fn reply_of(
     alloc: Global,
     rows: &[MRow],

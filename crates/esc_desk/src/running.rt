@@ -22,19 +22,19 @@ use sqlite::Alter;
 use std::alloc::Global;
 
 impl<S: Alter> Desk<S> {
-    /// Takes events, one after another, and answers what came of each, in order.
+    /// Takes events, one after another, and returns the outcome of each, in order.
     ///
     /// For every list of accepted manifests, arrivals and moments, in any order among each other,
     /// with repeats, losses and reorderings, the tables hold for each object what the last deposit
     /// that mentions it says on the latest unbroken chain, up to the moment set last, of the listed
-    /// deposits that arrived, each at its highest arrived revision; and arrivals alike in number and
-    /// body get one receipt and the first one's reply. Where the desk served a list of events
-    /// before, it serves that list followed by the events that were taken in, so runs compose. There
-    /// is an outcome for each event:
+    /// deposits that arrived, each at its highest arrived revision; and arrivals alike in number
+    /// and body get one receipt and the first one's reply. Where the desk served a list of events
+    /// before, it serves that list followed by the events that were taken in, so runs compose.
+    /// There is an outcome for each event:
     ///
-    /// - an arrival's reply; or it is lost by `S1` or `S2`, by `S4` where it is like none before it
-    ///   and the store has 1,000,000,000 receipts, or by `S5` where its body would be parked and
-    ///   1,024 others are;
+    /// - an arrival's reply; or it is lost by `S1` or `S2`, by `S4` where it is no duplicate and
+    ///   the store has 1,000,000,000 receipts, or by `S5` where its body would be parked and 1,024
+    ///   others are;
     /// - how many rows an amendment added; or why it wasn't taken in, by M1 to M13, `S1` or `S2`;
     /// - that a moment was set; or `S1` or `S2`.
     ///
@@ -60,7 +60,7 @@ impl<S: Alter> Desk<S> {
         ensures refused { OnErr result (self.new ≡ self.old) }
         ensures honest { WasHonest S.Store self.old self.new }
     {
-        // A proof knows that a count is below 2^64 where the body reads it.
+        // Read for the proof alone: it shows that the count is below 2^64.
         let _writes = self.store.writes();
         let mut outcomes = Vec::with_capacity(alloc, events.len())?;
         for event in events {
@@ -70,12 +70,12 @@ impl<S: Alter> Desk<S> {
         Ok(outcomes)
     }
 
-    /// Takes arrivals, one after another, and answers what came of each, in order: a run over
-    /// events that are arrivals, and its contract is [`Desk::run_events`]'s of those. Once a
-    /// manifest is accepted, the tables hold for each object what the last deposit that mentions it
-    /// says on the latest unbroken chain of the listed deposits that arrived, each at its highest
-    /// arrived revision; and arrivals alike in number and body get one receipt and the first one's
-    /// reply. `NoMemory` is returned before the first arrival.
+    /// Takes arrivals, one after another, and returns the outcome of each, in order. It has the
+    /// contract of [`Desk::run_events`] over events that are arrivals. Once a manifest is accepted,
+    /// the tables hold for each object what the last deposit that mentions it says on the latest
+    /// unbroken chain, up to the moment that is set, if one is, of the listed deposits that
+    /// arrived, each at its highest arrived revision; and arrivals alike in number and body get one
+    /// receipt and the first one's reply. `NoMemory` is returned before the first arrival.
     pub fn run(&mut self, alloc: Global, arrivals: &[Arrival<'_>]) -> Result<Vec<Outcome>, NoMemory>
         ensures ran { OkAfter S.Store self.old self.new result
             (λ before outcomes. Ran S.Store self.new before
@@ -94,7 +94,7 @@ impl<S: Alter> Desk<S> {
         ensures refused { OnErr result (self.new ≡ self.old) }
         ensures honest { WasHonest S.Store self.old self.new }
     {
-        // A proof knows that a count is below 2^64 where the body reads it.
+        // Read for the proof alone: it shows that the count is below 2^64.
         let _writes = self.store.writes();
         let mut outcomes = Vec::with_capacity(alloc, arrivals.len())?;
         for arrival in arrivals {
@@ -116,7 +116,7 @@ impl<S: Alter> Desk<S> {
             (writes_of self.old) (writes_of self.new)) }
         ensures honest { WasHonest S.Store self.old self.new }
     {
-        // A proof knows that a count is below 2^64 where the body reads it.
+        // Read for the proof alone: it shows that the count is below 2^64.
         let _writes = self.store.writes();
         match event {
             Event::Arrival(arrival) => EventOutcome::Arrived(self.take(alloc, arrival)),
@@ -144,7 +144,7 @@ impl<S: Alter> Desk<S> {
             (writes_of self.old) (writes_of self.new)) }
         ensures honest { WasHonest S.Store self.old self.new }
     {
-        // A proof knows that a count is below 2^64 where the body reads it.
+        // Read for the proof alone: it shows that the count is below 2^64.
         let _writes = self.store.writes();
         match self.arrive(alloc, &arrival.number, arrival.body) {
             Ok((reply, _work)) => Outcome::Done(reply),

@@ -1,17 +1,18 @@
-//! What a desk tells of itself in numbers.
+//! The counts of a desk, and what the end of its chain says.
 
 use esc_envelope::{Kind, Place};
 use std::collections::BTreeMap;
 
-/// How far a desk has come.
+/// The counts of a desk, and the end of its latest chain.
 #[derive(Debug, Drop)]
 pub struct Status {
-    /// Rows of the manifest.
+    /// How many rows are listed.
     pub listed: u64,
-    /// Rows of which a body is held.
+    /// How many of them have a body.
     pub held: u64,
+    /// How many receipts there are.
     pub receipts: u64,
-    /// Steps of the latest chain.
+    /// How many steps the latest chain has.
     pub chain: u64,
     /// Place and resend of the chain's last deposit, if there is a chain.
     pub end: Option<(Place, u32)>,
@@ -24,6 +25,7 @@ pub struct Status {
 pub struct End {
     /// Nanoseconds since 1970-01-01T00:00:00Z.
     pub watermark: i64,
-    /// How many objects of a kind the registry had at the watermark, where the deposit tells.
+    /// How many objects of a kind the registry had at the watermark, for the kinds that the deposit
+    /// declares.
     pub counts: BTreeMap<Kind, u64>,
 }

@@ -32,7 +32,7 @@ use sqlite::Alter;
 use std::alloc::Global;
 use std::vec::IntoIter;
 
-/// Where a walk stands: a page of objects at hand, and where the next page begins.
+/// The position of a walk: a page of objects at hand, and where the next page begins.
 #[derive(Drop)]
 pub struct Pages {
     pub(crate) alloc: Global,
@@ -42,15 +42,16 @@ pub struct Pages {
     pub(crate) from: Vec<u8>,
     // Whether no other kind is walked.
     pub(crate) alone: bool,
-    // At most so many objects are still given. A table has fewer rows than this is at first.
+    // At most this many objects are still returned. It begins at 2^64 - 1, more than a table has
+    // rows.
     pub(crate) left: u64,
     pub(crate) has_failed: bool,
 }
 
-/// The objects of the latest chain's tables, one at a time, by key. While it lives the desk takes
-/// no arrival.
-// What owns memory stands under a type parameter, so that contracts see what is left behind the
-// reference in the end.
+/// The objects of the latest chain's tables, one at a time, by key. While it exists it borrows the
+/// desk, so nothing arrives.
+// What owns memory is under a type parameter, so that contracts can say what the reference leads to
+// once the walk is dropped.
 pub struct Walk<'a, S: Alter, P = Pages> {
     pub(crate) desk: &'a mut Desk<S>,
     pub(crate) pages: P,
@@ -60,8 +61,8 @@ impl<S: Alter> Desk<S> {
     ghost use Rattle.esc_desk.specs.contracts.desk.Desk.{the_row};
     ghost use Rattle.esc_desk.specs.Walking.{AreToCome, ListsPages, ListsTables, desk_of, lent_as};
 
-    /// The objects of the latest chain's tables, those of one kind or of all, one at a time by key.
-    /// No more than a page of them is held in memory. `S1`, `S2`.
+    /// The objects of the latest chain's tables, those of one kind or (`None`) of all, one at a
+    /// time by key. No more than a page of 256 is held in memory. `S1`, `S2`.
     pub fn walk(&mut self, alloc: Global, kind: Option<Kind>) -> Result<Walk<'_, S>, SFault>
         ensures* refused { sem 𝓛 (RestsIfErr (the_row S.row S.Store) self.entry
             (λ walk. lent_as walk) result (Rests S.Store self.old)) }
@@ -90,7 +91,7 @@ impl<S: Alter> Desk<S> {
         Ok(pages)
     }
 
-    // Reads pages until an object is at hand, or none is behind.
+    // Reads pages until an object is at hand, or no page is left.
     fn fill(&mut self, pages: &mut Pages) -> Result<(), SFault>
         ensures same { IsAsBefore S.Store self.old.store self.new.store }
         ensures known { self.new.known ≡ self.old.known }
@@ -112,7 +113,7 @@ impl<S: Alter> Desk<S> {
         Ok(())
     }
 
-    // Reads the page that begins where the one at hand, which is used up, ended.
+    // Reads the next page. The one at hand is used up.
     fn turn(&mut self, pages: &mut Pages, kind: Kind) -> Result<(), SFault>
         ensures same { IsAsBefore S.Store self.old.store self.new.store }
         ensures known { self.new.known ≡ self.old.known }
@@ -137,7 +138,7 @@ impl<S: Alter> Desk<S> {
     }
 }
 
-// Before the first page of one kind, or of all.
+// The position before the first page, of one kind or of all.
 fn first_place(alloc: Global, kind: Option<Kind>) -> Pages
     ensures page { into_iter_items result.page ≡ [] }
     ensures kind { result.kind ≡ Some (first_kind kind) }
@@ -155,7 +156,7 @@ fn first_place(alloc: Global, kind: Option<Kind>) -> Pages
     }
 }
 
-// Where the next page begins: behind the last key of this one, or where this one is empty with the
+// Where the next page begins: after the last key of this one, or, if this one is empty, with the
 // next kind, if any.
 fn next_place(
     alloc: Global,
@@ -174,7 +175,7 @@ fn next_place(
     }
 }
 
-// The first bytes behind these: with a zero behind them.
+// The least bytes that come after these in byte order: these and a zero.
 fn bytes_behind(alloc: Global, bytes: &[u8]) -> Result<Vec<u8>, SFault>
     ensures behind { IfOk result (λ behind. behind.items ≡ bytes.now ++ 0 ∷ []) }
     ensures cause { IfErr result IsS1OrS2 }
@@ -184,7 +185,7 @@ fn bytes_behind(alloc: Global, bytes: &[u8]) -> Result<Vec<u8>, SFault>
     Ok(behind)
 }
 
-// The kind behind this one, if there is one.
+// The next kind in the order of kinds, if any.
 fn kind_after(kind: Kind) -> Option<Kind>
     ensures { result ≡ later_kind kind }
 {
@@ -202,6 +203,7 @@ impl<'a, S: Alter> Objects for Walk<'a, S, Pages> {
     ghost use Rattle.std.proofs.Common.{true, refl, inl, ◌∙◌, arith};
     ghost use Rattle.sqlite.proofs.StateLemmas.{survives_then};
     ghost use Rattle.esc_desk.specs.Calls.{IsHonestDesk};
+    ghost use Rattle.esc_store.specs.Faults.{IsS1OrS2};
     ghost use Rattle.esc_desk.specs.Walking.{Lists, Follows, HasFailed, desk_of, most_left};
 
     type Error = SFault;
@@ -212,12 +214,13 @@ impl<'a, S: Alter> Objects for Walk<'a, S, Pages> {
 
     ghost has_failed = { λ walk. HasFailed walk };
 
+    ghost fails = { λ fault. IsS1OrS2 fault };
+
     ghost is_honest = { λ walk. IsHonestDesk S.Store (desk_of walk) };
 
     ghost follows = { λ a b. Follows S.Store a b };
 
-    // A walk that is in the midst of a call counts as failed, so that each way out but the last
-    // leaves it so.
+    // A walk counts as failed during a call, so that each early return leaves it failed.
     #[tactic(auto, using(crate::proofs::StoreFacts::still_serves))]
     fn next(&mut self) -> Result<Option<(Key, Object)>, SFault> {
         if self.pages.has_failed || self.pages.left == 0 {

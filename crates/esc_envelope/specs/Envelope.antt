@@ -12,8 +12,8 @@ use Rattle.esc_envelope.specs.Tables.{contents_in, deletes_in}
 unfoldable pub json_of : List ℕ → Option Data
 json_of text = if is_utf8 text then read text else None
 
--- the envelope that JSON data is. Fault 6 is a member outside the tables that is missing or of
--- another form, 7 a table that is not declared rightly
+-- the envelope that JSON data is. Fault 6: a member other than those of a table is missing, or not
+-- of its form. Fault 7: the declaration of a table is not valid
 unfoldable pub envelope_in : Data → Result EnvelopeValue ℕ
 envelope_in json = do
   header ← or_fault 6 (header_of json)
@@ -24,7 +24,7 @@ envelope_in json = do
   deletes ← or_fault 7 (deletes_in deleted)
   Ok (record { header = header; counts = counts; contents = contents; deletes = deletes })
 
--- the envelope that a text is. Fault 5 is a text that is no JSON
+-- the envelope that a text is. Fault 5: the text is no JSON
 unfoldable pub envelope_of : List ℕ → Result EnvelopeValue ℕ
 envelope_of text = do
   json ← or_fault 5 (json_of text)

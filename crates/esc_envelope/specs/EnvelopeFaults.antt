@@ -5,13 +5,13 @@ use Rattle.esc_envelope.specs.Envelope.{json_of}
 use Rattle.esc_envelope.specs.Members.{header_of, counts_of, array_of}
 use Rattle.esc_envelope.specs.Tables.{contents_in, deletes_in}
 
--- a member outside the tables is missing or of another form
+-- U6: a member other than those of a table is missing, or not of its form
 abbrev pub LacksMember : Data → Type 0
 LacksMember json =
     (header_of json ≡ None) ⊎ (counts_of json ≡ None)
     ⊎ (array_of (codes "contents") json ≡ None) ⊎ (array_of (codes "deletes") json ≡ None)
 
--- the tables of contents, or those of deletes, are not declared rightly
+-- U7: the declaration of a table of contents or of deletes is not valid
 abbrev pub LacksTables : Data → Type 0
 LacksTables json =
     ((values : List Data) × (array_of (codes "contents") json ≡ Some values)

@@ -3,9 +3,9 @@ use Rattle.std.specs.Prelude.{ℕ, List, Bool}
 use Rattle.esc_envelope.specs.declared.kind.Kind.{Kind}
 use Rattle.esc_envelope.specs.HeaderValue.{HeaderValue}
 
--- a table that the deposit declares: name, kind of its objects, whether its rows are the objects
--- themselves, the place of the key among the fields, the fields in order, and the section that has
--- its rows
+-- a table that the deposit declares: its name, the kind of its objects, whether it is a parent
+-- table, the index of the key among the fields, the names of the fields in order, and the name of
+-- the section that has its rows
 pub record TableValue : Type 0 where
   pub name : List ℕ
   pub kind : Kind

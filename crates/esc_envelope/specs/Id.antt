@@ -1,4 +1,4 @@
--- The form of ids and numbers (this project's profile).
+-- The form of ids and of the numbers of arrivals (this project's profile).
 use Rattle.std.specs.Prelude.{ℕ, List, Bool, ◌==◌, ◌&&◌, ◌||◌, nat_lt, nat_le, length}
 use Rattle.std.specs.List.{list_all}
 

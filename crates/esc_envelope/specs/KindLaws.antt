@@ -1,4 +1,4 @@
--- Laws of kinds: kinds of one rank are one kind.
+-- Laws of kinds: kinds with equal ranks are equal.
 use Rattle.std.proofs.Common.{◌≡◌, ◌∙◌, ℕ, zero, suc, refl, sym, ap}
 use Rattle.esc_envelope.specs.declared.kind.Kind.{Kind}
 use Rattle.esc_envelope.specs.declared.kind.Kind.TheVariants.{

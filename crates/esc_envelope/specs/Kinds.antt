@@ -23,7 +23,7 @@ use Rattle.esc_envelope.specs.declared.kind.Kind.TheVariants.{
   Nndn,
 }
 
--- the place of a kind in their order
+-- the index of a kind in the order of kinds, from 0
 abbrev pub kind_rank : Kind → ℕ
 kind_rank Registrar = 0
 kind_rank Contact = 1
@@ -49,7 +49,7 @@ kind_name Domain = codes "domain"
 kind_name Idn = codes "idn"
 kind_name Nndn = codes "nndn"
 
--- the kind of this name
+-- the kind with this name, if there is one
 abbrev pub kind_named : List ℕ → Option Kind
 kind_named name =
     if bytes_eq name (codes "registrar") then Some Registrar

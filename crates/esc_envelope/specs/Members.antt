@@ -49,7 +49,7 @@ type_name Diff = codes "DIFF"
 type_name Incr = codes "INCR"
 type_name Full = codes "FULL"
 
--- the type of this name
+-- the type with this name, if there is one
 abbrev pub type_named : List ℕ → Option DepositType
 type_named name =
     if bytes_eq name (codes "FULL") then Some Full
@@ -64,7 +64,7 @@ type_of json = option_and_then type_named (text_at (codes "type") json)
 abbrev pub moment_of : Data → Option ℤ
 moment_of json = option_and_then watermark_of (text_at (codes "watermark") json)
 
--- an empty text names no deposit, another is an id
+-- an empty text names no deposit; any other has to be an id
 abbrev pub id_if_any : List ℕ → Option (Option (List ℕ))
 id_if_any text = if length text == 0 then Some None else option_map (λ id. Some id) (if_id text)
 
@@ -94,7 +94,7 @@ resend_from (Some value) = if is_some (as_null value) then Some 0 else option_an
 abbrev pub resend_of : Data → Option ℕ
 resend_of json = resend_from (get (codes "resend") json)
 
--- the header, if each of its members is of its form
+-- the header, or nothing if one of its members is not of its form
 unfoldable pub header_of : Data → Option HeaderValue
 header_of json = do
   id ← id_of json
@@ -122,7 +122,7 @@ abbrev pub count_entry : Kind → Option ℕ → List (Kind × ℕ)
 count_entry kind None = []
 count_entry kind (Some n) = (kind, n) ∷ []
 
--- the entries are of kinds below a place in their order
+-- each entry is of a kind whose rank is below this one
 abbrev pub AreBelow : ℕ → List (Kind × ℕ) → Type 0
 AreBelow rank [] = Unit {0}
 AreBelow rank (entry ∷ others) = (kind_rank entry.0 < rank) × AreBelow rank others
@@ -158,6 +158,6 @@ abbrev pub array_from : Option Data → Option (List Data)
 array_from None = Some []
 array_from (Some value) = array_in value
 
--- `contents` or `deletes`: missing for nothing, else an array
+-- `contents` or `deletes`: missing for no tables, else an array
 abbrev pub array_of : List ℕ → Data → Option (List Data)
 array_of name json = array_from (get name json)

@@ -67,7 +67,7 @@ abbrev pub is_fraction : List ℕ → Bool
 is_fraction digits = nat_lt 0 (length digits) && nat_le (length digits) 9
     && list_all is_ascii_digit digits
 
--- the nanoseconds since 1970-01-01T00:00:00Z
+-- the moment as nanoseconds since 1970-01-01T00:00:00Z
 abbrev pub moment_value : Day → Clock → ℕ → ℤ
 moment_value d c nanosecond =
     days_from_civil (pos d.year) d.month d.day *ℤ pos 86_400_000_000_000

@@ -10,11 +10,11 @@ rank Diff = 0
 rank Incr = 1
 rank Full = 2
 
--- by watermark, and at equal watermarks by type
+-- the first place is before the second: by watermark, and at equal watermarks by type
 abbrev pub IsBefore : Place → Place → Type 0
 IsBefore a b = (a.watermark <ℤ b.watermark)
     ⊎ ((a.watermark ≡ b.watermark) × (rank a.kind < rank b.kind))
 
--- before, or the same place
+-- the first place is before the second, or the same
 abbrev pub IsUpTo : Place → Place → Type 0
 IsUpTo a b = IsBefore a b ⊎ (a ≡ b)

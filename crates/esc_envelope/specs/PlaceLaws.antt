@@ -1,4 +1,4 @@
--- Laws of places: types of one rank are one type, and a place is its watermark and its type.
+-- Laws of places: types with equal ranks are equal, and so are places with equal parts.
 use Rattle.std.proofs.Common.{◌≡◌, ◌∙◌, ℕ, zero, suc, refl, sym, ap}
 use Rattle.esc_envelope.specs.declared.place.DepositType.{DepositType}
 use Rattle.esc_envelope.specs.declared.place.DepositType.TheVariants.{Diff, Incr, Full}

@@ -5,13 +5,13 @@ use Rattle.std.proofs.Common.{refl, ap}
 use Rattle.std.proofs.lemmas.Bool.{false≢true}
 use Rattle.esc_envelope.specs.Steps.{◌>>=◌}
 
--- the first step gave `it`, and the next one y
+-- the first step gave `it`, and the next one gave y from that
 pub record Bound {A B : Type 0} (o : Option A) (f : A → Option B) (y : B) : Type 0 where
   pub it : A
   pub was : o ≡ Some it
   pub goes : f it ≡ Some y
 
--- both steps gave a value
+-- where two steps give a value, both gave one
 pub bound : {A B : Type 0} (o : Option A) (f : A → Option B) (y : B) → (o >>= f) ≡ Some y
     → Bound o f y
 bound None f y h = absurd (false≢true (ap is_some h))

@@ -38,7 +38,7 @@ use Rattle.esc_envelope.specs.Kinds.{kinds, is_kind, kind_named}
 use Rattle.esc_envelope.specs.Members.{text_at, array_in, if_id}
 use Rattle.esc_envelope.specs.Steps.{◌>>=◌}
 
--- the results of f for all elements, if it has one for each
+-- the results of f for all elements, if each element has one
 unfoldable pub all_of : {A B : Type 0} → (A → Option B) → List A → Option (List B)
 all_of f [] = Some []
 all_of f (x ∷ xs) = do
@@ -99,11 +99,11 @@ fields_in values = if nat_lt 0 (length values)
 abbrev pub fields_of : Data → Option (List (List ℕ))
 fields_of json = option_and_then fields_in (option_and_then array_in (get (codes "fields") json))
 
--- the place of a text
+-- the index of a text among others, from 0
 abbrev pub place_of : List (List ℕ) → List ℕ → Option ℕ
 place_of texts text = position (λ other. bytes_eq other text) texts
 
--- `key`: the place of one of the fields
+-- `key`: the name of one of the fields, as its index from 0
 abbrev pub key_of : Data → List (List ℕ) → Option ℕ
 key_of json fields = option_and_then (place_of fields) (text_at (codes "key") json)
 
@@ -116,7 +116,7 @@ pub record IsTable (t : TableValue) : Type 0 where
   pub distinct : are_distinct t.fields ≡ true
   pub keyed : t.key < length t.fields
 
--- the table of a declaration, if each member is of its form
+-- the table that a declaration declares, or nothing if one of its members is not of its form
 unfoldable pub table_of : Data → Option TableValue
 table_of json = do
   name ← name_of json
@@ -146,11 +146,11 @@ is_parent_of kind table = table.parent && is_kind kind table.kind
 abbrev pub have_one_parent : List TableValue → Bool
 have_one_parent tables = list_all (λ kind. nat_le (count_by (is_parent_of kind) tables) 1) kinds
 
--- tables of contents: names once, and at most one parent table for each kind
+-- tables of contents: no two with the same name, and at most one parent table for each kind
 abbrev pub AreContents : List TableValue → Type 0
 AreContents tables = (have_distinct_names tables ≡ true) × (have_one_parent tables ≡ true)
 
--- tables of deletes: names once, and parent tables alone
+-- tables of deletes: no two with the same name, and parent tables alone
 abbrev pub AreDeletes : List TableValue → Type 0
 AreDeletes tables = (have_distinct_names tables ≡ true) × (list_all (λ t. t.parent) tables ≡ true)
 
@@ -162,10 +162,10 @@ abbrev pub if_deletes : List TableValue → Option (List TableValue)
 if_deletes tables = if have_distinct_names tables
     && list_all (λ t. t.parent) tables then Some tables else None
 
--- the tables of contents: names once, and at most one parent table for each kind
+-- the tables of contents: no two with the same name, and at most one parent table for each kind
 abbrev pub contents_in : List Data → Option (List TableValue)
 contents_in values = option_and_then if_contents (all_of table_of values)
 
--- the tables of deletes: names once, and parent tables alone
+-- the tables of deletes: no two with the same name, and parent tables alone
 abbrev pub deletes_in : List Data → Option (List TableValue)
 deletes_in values = option_and_then if_deletes (all_of table_of values)

@@ -3,7 +3,7 @@ use Rattle.std.specs.Prelude.{option_map}
 use Rattle.esc_envelope.specs.declared.members.Told.{Told}
 use Rattle.esc_envelope.specs.HeaderValue.{HeaderValue}
 
--- the value of a header that was read
+-- what contracts see of such a header
 abbrev pub told_value : Told → HeaderValue
 told_value t = record {
   id = t.id.now;

@@ -1,4 +1,4 @@
--- Watermarks and their texts, computed.
+-- Watermarks and their texts, as functions (this project's profile of RFC 3339).
 use Rattle.std.specs.Prelude.{
   ℕ,
   zero,
@@ -47,7 +47,7 @@ two_at (a ∷ []) = None
 two_at (a ∷ b ∷ rest) = if is_ascii_digit a
     && is_ascii_digit b then Some ((a - 48) * 10 + (b - 48), rest) else None
 
--- what follows a byte that a text begins with
+-- the text after this byte, if the text begins with it
 abbrev pub byte_at : ℕ → List ℕ → Option (List ℕ)
 byte_at byte [] = None
 byte_at byte (b ∷ rest) = if b == byte then Some rest else None
@@ -57,7 +57,7 @@ abbrev pub before_z : List ℕ → Option (List ℕ)
 before_z text = if slice_index text (length text - 1) == 90 then Some
     (take (length text - 1) text) else None
 
--- `YYYY-MM-DD` and what follows it
+-- the day `YYYY-MM-DD` that a text begins with, and the text after it
 unfoldable pub day_at : List ℕ → Option (Day × List ℕ)
 day_at text = do
   century ← two_at text
@@ -68,7 +68,7 @@ day_at text = do
   day ← two_at second
   Some (record { year = century.0 * 100 + year.0; month = month.0; day = day.0 }, day.1)
 
--- `hh:mm:ss` and what follows it
+-- the time of day `hh:mm:ss` that a text begins with, and the text after it
 unfoldable pub clock_at : List ℕ → Option (Clock × List ℕ)
 clock_at text = do
   hour ← two_at text
@@ -78,18 +78,18 @@ clock_at text = do
   seconds ← two_at second
   Some (record { hour = hour.0; minute = minute.0; second = seconds.0 }, seconds.1)
 
--- the billionths of nothing, or of a dot and one to nine digits
+-- the nanoseconds of a fraction: of nothing, or of a dot and one to nine digits
 abbrev pub billionths_of : List ℕ → Option ℕ
 billionths_of [] = Some 0
 billionths_of (b ∷ digits) = if (b == 46)
     && is_fraction digits then Some (fraction_value 9 digits) else None
 
--- the value of a moment, if the calendar has it
+-- the value of a moment, if its day is in the calendar and its time on the clock
 abbrev pub value_if : Day → Clock → ℕ → Option ℤ
 value_if day clock nanosecond = if is_day day
     && is_clock clock then Some (moment_value day clock nanosecond) else None
 
--- the moment that a text writes, if it writes one
+-- the moment that a text writes, in nanoseconds since 1970-01-01T00:00:00Z, if it writes one
 unfoldable pub watermark_of : List ℕ → Option ℤ
 watermark_of text = do
   moment ← before_z text
@@ -99,30 +99,30 @@ watermark_of text = do
   nanosecond ← billionths_of clock.1
   value_if day.0 clock.0 nanosecond
 
--- of `count` years from `first` on: the year in which day n of them lies, and its place in the
--- year, both from 0
+-- of `count` years from `first` on: the year that has their day n, and the index of that day in its
+-- year; days count from 0
 unfoldable pub year_at : ℕ → ℕ → ℕ → ℕ × ℕ
 year_at zero first n = (first, n)
 year_at (suc count) first n =
     if nat_lt n (days_in_year (pos first)) then (first, n) else year_at count (suc first)
     (n - days_in_year (pos first))
 
--- of `count` months of a year from `first` on: the month in which day n of them lies, and its place
--- in the month from 0
+-- of `count` months of a year from `first` on: the month that has their day n, and the index of
+-- that day in its month; days count from 0
 unfoldable pub month_at : ℕ → ℤ → ℕ → ℕ → ℕ × ℕ
 month_at zero year first n = (first, n)
 month_at (suc count) year first n =
     if nat_lt n (days_in_month year first) then (first, n) else month_at count year (suc first)
     (n - days_in_month year first)
 
--- day n of the years from 1970 on
+-- the calendar's day n, counted from 0 at 1970-01-01
 unfoldable pub day_of : ℕ → Day
 day_of n =
     let year = year_at 292 1970 n in
     let month = month_at 12 (pos year.0) 1 year.1 in
     record { year = year.0; month = month.0; day = month.1 + 1 }
 
--- the time of day after n nanoseconds
+-- the time of day n nanoseconds after midnight
 abbrev pub clock_of : ℕ → Clock
 clock_of n = record {
   hour = n / 3_600_000_000_000;
@@ -130,8 +130,8 @@ clock_of n = record {
   second = n / 1_000_000_000 % 60;
 }
 
--- the text of a moment, if it is one of these years: the fraction goes up to its last digit that is
--- not zero
+-- the text of a moment of the years 1970 to 2261; its fraction ends with the last digit that is not
+-- zero
 unfoldable pub watermark_text_of : ℤ → Option (List ℕ)
 watermark_text_of (negsuc n) = None
 watermark_text_of (pos n) =

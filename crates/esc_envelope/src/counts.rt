@@ -1,4 +1,4 @@
-//! The declared numbers of objects.
+//! The declared numbers of objects of each kind.
 
 ghost use Rattle.std.specs.Prelude.{◌≡◌, ◌++◌, IfOk, OnOk, Some, option_map};
 ghost use Rattle.serde_json.specs.View.{view};
@@ -53,8 +53,8 @@ fn counts_in(alloc: Global, counts: &Value) -> Result<Option<BTreeMap<Kind, u64>
     Ok(Some(found))
 }
 
-/// The declared numbers of objects: `counts` is missing, or an object in which the members named as
-/// kinds are whole numbers.
+/// The declared numbers of objects, by kind. `None` if `counts` is neither missing nor an object in
+/// which each member that is named as a kind is a whole number.
 pub(crate) fn counts_of(
     alloc: Global,
     envelope: &Value,

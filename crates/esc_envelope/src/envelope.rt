@@ -36,12 +36,13 @@ use std::marker::Model;
 #[derive(Drop)]
 pub struct Envelope {
     pub header: Header,
-    /// The numbers of objects in the registry at the watermark, of the kinds for which they are
-    /// declared.
+    /// How many objects of each kind the registry had at the watermark, as declared. A kind without
+    /// a declared number has no entry.
     pub counts: BTreeMap<Kind, u64>,
-    /// The tables of contents: each name once, and at most one parent table for each kind.
+    /// The tables of contents: no two with the same name, and at most one parent table for each
+    /// kind.
     pub contents: Vec<Table>,
-    /// The tables of deletes: each name once, and parent tables alone.
+    /// The tables of deletes: no two with the same name, and parent tables alone.
     pub deletes: Vec<Table>,
 }
 
@@ -121,9 +122,17 @@ fn envelope_from(alloc: Global, json: &[u8]) -> Result<Envelope, Fault>
     envelope_in(alloc, &json)
 }
 
-/// The envelope that a JSON text is (RFC 8259, as `serde_json` reads it), or the least of U5, U6
-/// and U7 that applies: no JSON; a member outside the tables is missing or of another form; a table
-/// is not declared rightly.
+/// The envelope that a JSON text is (RFC 8259, as `serde_json` reads it; this project's profile).
+///
+/// # Errors
+///
+/// The first of these that applies:
+///
+/// - `Refused(5)`: the text is no JSON;
+/// - `Refused(6)`: a member other than those of a table is missing, or not of its form;
+/// - `Refused(7)`: the declaration of a table is not valid.
+///
+/// `NoMemory` out of memory.
 pub fn read_envelope(alloc: Global, json: &[u8]) -> Result<Envelope, Fault>
     ensures envelope { IfOk result (λ e. envelope_of json.now ≡ Ok e) }
     ensures refused { IfErr result (λ e. (n : ℕ) → e ≡ Fault.Refused n
@@ -138,7 +147,7 @@ pub fn read_envelope(alloc: Global, json: &[u8]) -> Result<Envelope, Fault>
     envelope_from(alloc, json)
 }
 
-/// A text has the refusal that `envelope_of` gives exactly if it is the least of U5 to U7 that
+/// `envelope_of` refuses a text with a number exactly if that is the least of U5 to U7 that
 /// applies: a law of the definitions.
 pub fn refusals_are_least()
     ensures least { (text : List ℕ) (n : ℕ)

@@ -10,12 +10,12 @@ use std::marker::Model;
 /// What a deposit says of itself (RFC 8909, section 4).
 #[derive(Debug, Drop)]
 pub struct Header {
-    /// 1 to 64 of `A-Z a-z 0-9 . _ -`.
+    /// The deposit's id: 1 to 64 of `A-Z a-z 0-9 . _ -`.
     pub id: String,
     pub place: Place,
-    /// The id of an earlier deposit, which a Differential builds on.
+    /// The `prevId`, the id of an earlier deposit: a Differential builds on that one.
     pub prev: Option<String>,
-    /// How often the deposit was generated again: 0 to 999,999.
+    /// The revision: how often the deposit was generated again, 0 to 999,999.
     pub resend: u32,
 }
 

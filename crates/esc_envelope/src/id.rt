@@ -1,4 +1,4 @@
-//! The form of ids and numbers.
+//! The form of ids and of the numbers of arrivals.
 
 ghost use Rattle.std.specs.Prelude.{◌≡◌};
 ghost use Rattle.std.specs.List.{list_all};

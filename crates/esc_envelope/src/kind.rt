@@ -1,6 +1,6 @@
 //! The kinds of objects.
 
-/// The kind of an object, in the order that keys have (RFC 9022, section 5).
+/// The kind of an object (RFC 9022, section 5). Keys are ordered by kind in this order.
 #[derive(Clone, Copy, Debug, PartialEq, Eq, PartialOrd, Ord)]
 pub enum Kind {
     Registrar,
@@ -15,7 +15,7 @@ impl Kind {
     ghost use Rattle.std.specs.Prelude.{◌≡◌};
     ghost use Rattle.esc_envelope.specs.Kinds.{kind_name, kind_named};
 
-    /// The kinds in their order.
+    /// All kinds, in their order.
     pub const ALL: [Kind; 6] = [
         Kind::Registrar,
         Kind::Contact,
@@ -25,7 +25,7 @@ impl Kind {
         Kind::Nndn,
     ];
 
-    /// The word for a kind, as `registrar`.
+    /// The word for a kind in envelopes and reports, such as `registrar`.
     pub fn name(self) -> &'static str
         ensures { result.now ≡ kind_name self }
     {
@@ -39,7 +39,7 @@ impl Kind {
         }
     }
 
-    /// The kind of this name.
+    /// The kind with this name, if there is one.
     pub fn from_name(name: &str) -> Option<Kind>
         ensures { result ≡ kind_named name.now }
     {

@@ -8,7 +8,8 @@ ghost use Rattle.esc_envelope.specs.EnvelopeValue.{EnvelopeValue};
 ghost use Rattle.esc_envelope.specs.Envelope.{envelope_of};
 ghost use Rattle.esc_envelope.specs.Tables.{IsTable, AreContents, AreDeletes};
 
-/// What an envelope declares: each table has its form, and the tables are compatible.
+/// What an envelope that is read declares: each table has its form, and the tables are compatible
+/// with one another.
 pub fn declared_tables_have_their_forms()
     ensures tables { (text : List ℕ) (e : EnvelopeValue) → envelope_of text ≡ Ok e
         → All IsTable (e.contents ++ e.deletes) }

@@ -10,11 +10,11 @@
 //!
 //! - U5: the bytes are no JSON as `serde_json` reads it (no UTF-8, nesting over its limit, a byte
 //!   order mark);
-//! - U6: a member outside the tables is missing or of another form;
-//! - U7: a table is not declared rightly.
+//! - U6: a member other than those of a table is missing, or not of its form;
+//! - U7: the declaration of a table is not valid.
 //!
-//! The first that applies, in this order, is returned. Of a member that occurs twice the last
-//! counts, and members of other names are ignored. A whole number is digits alone.
+//! The first that applies, in this order, is returned. If a member occurs twice the last one
+//! counts, and members of other names are ignored. A whole number is written in digits alone.
 //!
 //! ```text
 //! let envelope = read_envelope(alloc, bytes)?;
@@ -32,9 +32,8 @@
 //! A watermark is a moment in UTC, in nanoseconds since 1970-01-01T00:00:00Z, of the years 1970 to
 //! 2261. `watermark` reads its text and doesn't allocate, `watermark_text` prints it.
 //! `specs/Moment.antt` says what the text of a moment is and which moment it means, by the calendar
-//! of `jiff`; two functions with empty bodies state the laws: the texts that are read are exactly
-//! those of moments, every moment of these years has a text, and printing and reading undo each
-//! other.
+//! of `jiff`. Two functions with empty bodies state the laws: the texts that are read are exactly
+//! those of moments; every moment of these years has a text; and what is printed is read back.
 //!
 //! A `Place` is a watermark and a type, ordered by watermark and then `DIFF < INCR < FULL`.
 //!

@@ -103,7 +103,7 @@ fn resend_in(envelope: &Value) -> Option<u32>
     }
 }
 
-/// What a header says, with texts that are slices of the envelope.
+/// What a header says, as slices of the envelope's texts.
 #[derive(Clone, Copy)]
 struct Told<'a> {
     id: &'a str,
@@ -139,7 +139,7 @@ fn copy_prev(alloc: Global, prev: Option<&str>) -> Result<Option<String>, NoMemo
     }
 }
 
-/// The header, if each of its members is of its form.
+/// The header, or `None` if one of its members is not of its form.
 pub(crate) fn header_in(alloc: Global, envelope: &Value) -> Result<Option<Header>, NoMemory>
     ensures { IfOk result (λ o. o ≡ header_of (view envelope.now)) }
 {

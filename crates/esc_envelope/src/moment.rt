@@ -34,7 +34,7 @@ use jiff::civil::DateTime;
 use jiff::tz::Offset;
 use std::alloc::Global;
 
-/// 2262-01-01T00:00:00Z.
+/// The end of the years of watermarks: 2262-01-01T00:00:00Z, in nanoseconds.
 const END: i64 = 9_214_646_400_000_000_000;
 
 fn nanoseconds_at(civil: DateTime) -> i64
@@ -76,8 +76,10 @@ fn nanoseconds(day: Day, clock: Clock, nanosecond: u32) -> Option<i64>
     }
 }
 
-/// The nanoseconds since 1970-01-01T00:00:00Z that a text `YYYY-MM-DDThh:mm:ss[.fraction]Z` writes,
-/// of a real date of the years 1970 to 2261, with 1 to 9 digits of fraction. Doesn't allocate.
+/// The moment that a text `YYYY-MM-DDThh:mm:ss[.fraction]Z` writes, in nanoseconds since
+/// 1970-01-01T00:00:00Z (this project's profile of RFC 3339: UTC alone, without leap seconds).
+/// `None` if the text has another form, or isn't a moment of the years 1970 to 2261. A fraction has
+/// 1 to 9 digits. Doesn't allocate.
 #[tactic(auto, unfolding(crate::specs::Watermark::watermark_of))]
 pub fn watermark(text: &str) -> Option<i64>
     ensures value { result ≡ watermark_of text.now }
@@ -101,8 +103,9 @@ fn civil_at(watermark: i64) -> DateTime
     }
 }
 
-/// The text of a moment of the years 1970 to 2261, else `None`. A fraction is written only if it
-/// isn't zero, without trailing zeros. For another moment it doesn't allocate.
+/// The text of a moment, given in nanoseconds since 1970-01-01T00:00:00Z; `None` outside the years
+/// 1970 to 2261. A fraction is written only if it isn't zero, and without trailing zeros. Where the
+/// result is `None` nothing is allocated.
 pub fn watermark_text(alloc: Global, watermark: i64) -> Result<Option<String>, NoMemory>
     ensures text { IfOk result (λ o. option_map string_bytes o ≡ watermark_text_of watermark) }
     ensures outside { (IsInYears watermark → ⊥) → result ≡ Ok None }
@@ -121,8 +124,8 @@ pub fn watermarks_are_moments()
         → (watermark_of text ≡ Some w) ↔ IsWatermark text w }
 {}
 
-/// Printing and reading undo each other, and every moment of these years has a text: laws of the
-/// definitions.
+/// What is printed is read back as the same moment, and every moment of these years has a text:
+/// laws of the definitions.
 pub fn printed_watermarks_are_read()
     ensures read { (w : ℤ) (text : List ℕ) → watermark_text_of w ≡ Some text
         → watermark_of text ≡ Some w }

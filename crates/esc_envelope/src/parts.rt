@@ -15,7 +15,7 @@ ghost use Rattle.esc_envelope.specs.Watermark.{
 ghost use Rattle.std.specs.Char.{is_ascii_digit};
 ghost use Rattle.std.specs.List.{list_all};
 
-/// A day as a text writes it, whether the calendar has it or not.
+/// A day as a text writes it, valid or not.
 #[derive(Clone, Copy, Debug)]
 pub struct Day {
     pub year: u16,
@@ -23,7 +23,7 @@ pub struct Day {
     pub day: u8,
 }
 
-/// A time of day as a text writes it, whether a clock shows it or not.
+/// A time of day as a text writes it, valid or not.
 #[derive(Clone, Copy, Debug)]
 pub struct Clock {
     pub hour: u8,
@@ -56,7 +56,7 @@ pub(crate) fn after_byte(bytes: &[u8], byte: u8) -> Option<&[u8]>
     }
 }
 
-/// The text before a `Z` at the end.
+/// The text before a `Z` at the end; `None` if there is no such `Z`.
 pub(crate) fn before_z(bytes: &[u8]) -> Option<&[u8]>
     ensures { option_map (λ x. x.now) result ≡ before_z bytes.now }
 {
@@ -122,7 +122,7 @@ fn is_fraction(digits: &[u8]) -> bool
     are_digits(digits)
 }
 
-/// The billionths that one to nine digits of a fraction write.
+/// The nanoseconds of a fraction of a second, from its one to nine digits.
 fn fraction_value(digits: &[u8]) -> u32
     requires { is_fraction digits.now ≡ true }
     ensures value { result ≡ fraction_value 9 digits.now }
@@ -137,7 +137,7 @@ fn fraction_value(digits: &[u8]) -> u32
     value
 }
 
-/// The billionths of a fraction: of nothing, or of a dot and one to nine digits.
+/// The nanoseconds of a fraction of a second: of nothing, or of a dot and one to nine digits.
 pub(crate) fn billionths(bytes: &[u8]) -> Option<u32>
     ensures value { result ≡ billionths_of bytes.now }
     ensures small { IfSome result (λ n. n < 1_000_000_000) }

@@ -43,7 +43,7 @@ impl DepositType {
     ghost use Rattle.std.specs.Prelude.{◌≡◌};
     ghost use Rattle.esc_envelope.specs.Members.{type_name, type_named};
 
-    /// The word for a type, as `FULL` (RFC 8909, section 5).
+    /// The word for a type: `FULL`, `INCR` or `DIFF` (RFC 8909, section 5).
     pub fn name(self) -> &'static str
         ensures { result.now ≡ type_name self }
     {
@@ -54,7 +54,7 @@ impl DepositType {
         }
     }
 
-    /// The type of this name.
+    /// The type with this name, if there is one.
     pub fn from_name(name: &str) -> Option<DepositType>
         ensures { result ≡ type_named name.now }
     {

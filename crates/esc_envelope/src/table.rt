@@ -3,21 +3,23 @@
 use crate::kind::Kind;
 use std::marker::Model;
 
-/// A table of a deposit, as its envelope declares it (this project's profile): its fields have the
-/// forms that they say, and the key is one of them. Who makes a table proves it.
+/// A table of a deposit, as its envelope declares it (this project's profile). Each field of this
+/// struct has the form that is stated at it, and the key is one of the table's fields; whoever
+/// makes a `Table` proves it (`IsTable`).
 #[derive(Debug, Drop)]
 pub struct Table {
     /// 1 to 64 of `A-Z a-z 0-9 _`.
     pub name: String,
-    /// The kind of the objects whose rows it has.
+    /// The kind of the objects that its rows belong to.
     pub kind: Kind,
-    /// Whether its rows are the objects themselves, and not parts of them.
+    /// Whether it is a parent table, whose rows are the objects themselves; else it is a child
+    /// table.
     pub parent: bool,
-    /// The place of the key among the fields.
+    /// The index of the key field among the fields, from 0.
     pub key: usize,
-    /// 1 to 64 fields in order, none twice.
+    /// The names of the fields in order: 1 to 64 of them, none twice, each of the form of an id.
     pub fields: Vec<String>,
-    /// The section that has its rows.
+    /// The name of the section that has its rows, as CSV.
     pub file: String,
 }
 

@@ -94,7 +94,7 @@ fn key_in(table: &Value, fields: &[String]) -> Option<usize>
     place_of(fields, text_at(table, "key")?)
 }
 
-/// The table of a declaration, if each member is of its form.
+/// The table that a declaration declares, or `None` if one of its members is not of its form.
 #[tactic(auto, unfolding(crate::specs::Tables::table_of))]
 fn table_in(alloc: Global, table: &Value) -> Result<Option<Table>, NoMemory>
     ensures { IfOk result (λ o. o ≡ table_of (view table.now)) }
@@ -184,7 +184,7 @@ fn are_parents(tables: &[Table]) -> bool
     tables.iter().all(|table| table.parent)
 }
 
-/// The tables of contents: names once, and at most one parent table for each kind.
+/// The tables of contents: no two with the same name, and at most one parent table for each kind.
 pub(crate) fn contents_in(alloc: Global, values: &[Value]) -> Result<Option<Vec<Table>>, NoMemory>
     ensures { IfOk result (λ o. option_map (λ v. v.items) o
         ≡ contents_in (map view values.now)) }
@@ -199,7 +199,7 @@ pub(crate) fn contents_in(alloc: Global, values: &[Value]) -> Result<Option<Vec<
     }
 }
 
-/// The tables of deletes: names once, and parent tables alone.
+/// The tables of deletes: no two with the same name, and parent tables alone.
 pub(crate) fn deletes_in(alloc: Global, values: &[Value]) -> Result<Option<Vec<Table>>, NoMemory>
     ensures { IfOk result (λ o. option_map (λ v. v.items) o
         ≡ deletes_in (map view values.now)) }

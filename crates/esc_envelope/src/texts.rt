@@ -23,14 +23,14 @@ use esc_bundle::NoMemory;
 use serde_json::Value;
 use std::alloc::Global;
 
-/// The values of an array in order.
+/// The values of an array, in order; `None` if the value is no array.
 pub(crate) fn array_in(value: &Value) -> Option<&[Value]>
     ensures { option_map (λ values. map view values.now) result ≡ array_in (view value.now) }
 {
     Some(value.as_array()?.as_slice())
 }
 
-/// The values of a member that is an array or missing.
+/// The values of a member that is an array, none if the member is missing.
 pub(crate) fn array_of<'a>(envelope: &'a Value, name: &str) -> Option<&'a [Value]>
     ensures { option_map (λ values. map view values.now) result
         ≡ array_of name.now (view envelope.now) }
@@ -58,7 +58,7 @@ fn are_distinct(texts: &[String]) -> bool
     true
 }
 
-/// The place of a text among others.
+/// The index of a text among others, from 0.
 pub(crate) fn place_of(texts: &[String], text: &str) -> Option<usize>
     ensures { result ≡ position (λ other. bytes_eq (string_bytes other) text.now) texts.now }
 {
@@ -95,7 +95,7 @@ fn all_fields(alloc: Global, values: &[Value]) -> Result<Option<Vec<String>>, No
     Ok(Some(fields))
 }
 
-/// One to 64 fields, none twice.
+/// The names of 1 to 64 fields, none twice.
 pub(crate) fn fields_in(alloc: Global, values: &[Value]) -> Result<Option<Vec<String>>, NoMemory>
     ensures { IfOk result (λ o. option_map (λ v. map string_bytes v.items) o
         ≡ fields_in (map view values.now)) }

@@ -32,7 +32,7 @@ abbrev pub judged : List MRow → ℕ → Option (List ℕ) → Option (List ℕ
 judged n r None = None
 judged n r (Some body) = if holds_row r (found n r (reading body)) then Some body else None
 
--- numbers that rise by one: the first argument is the first of them, the second how many there are
+-- consecutive numbers: the first argument is the first of them, the second how many there are
 abbrev pub numbers_from : ℕ → ℕ → List ℕ
 numbers_from first zero = []
 numbers_from first (suc count) = first ∷ numbers_from (suc first) count
@@ -43,7 +43,7 @@ module _ (n : List MRow) (parked : List ℕ → Option (List ℕ)) where
   abbrev pub parked_for : ℕ → Option (List ℕ)
   parked_for r = parked (row_at n r).digest
 
-  -- the row has a parked body, and it is the row's deposit; the row has one, and it isn't
+  -- a body is parked for the row, and is its deposit; one is parked for the row, and isn't
   abbrev pub is_adopted : ℕ → Bool
   is_adopted r = is_some (judged n r (parked_for r))
 

@@ -59,7 +59,7 @@ as_listed row d = bytes_eq row.id d.id
     && ((row.resend == d.resend)
     && (not (is_differential row.place.kind) || same_option row.prev d.prev)))
 
--- the row with a digest
+-- the first row with this digest, if any
 abbrev pub row_of : List MRow → List ℕ → Option ℕ
 row_of m digest = position (λ row. bytes_eq row.digest digest) m
 

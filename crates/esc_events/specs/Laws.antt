@@ -54,24 +54,24 @@ use Rattle.esc_events.specs.Works.{IsWorkOf, MentionsFew, no_work}
 
 -- ---- an arrival
 
--- a new arrival whose body a row lists and that isn't kept: it isn't the row's deposit, or the row
--- has a body already. There is one receipt more
+-- a new arrival whose body a row lists and that isn't kept, since it isn't the row's deposit, or
+-- the row has a body already: one receipt is added
 abbrev pub NotedBooks : Type 0
 NotedBooks = (e : List EventValue) (a : ArrivalValue) (k : Kept) (found : Finding) (known : Known)
     (receipt : ReceiptValue) → IsNew e a k found known receipt → (found ≡ Unlisted → ⊥)
     → ((q : ℕ) → held_row found ≡ Some q → IsSome (k.bodies q))
     → AreBooks sha256 reading (e ++ arrived a ∷ []) (with_receipt k receipt)
 
--- a new arrival whose body no row lists: there is one receipt more, and the body is parked, unless
--- it is already
+-- a new arrival whose body no row lists: one receipt is added, and the body is parked, unless it is
+-- already
 abbrev pub ParkedBooks : Type 0
 ParkedBooks = (e : List EventValue) (a : ArrivalValue) (k : Kept) (known : Known)
     (receipt : ReceiptValue) → IsNew e a k Unlisted known receipt → (parking : Parking)
     → IsParking k.parked (sha256 a.body) parking → (parking ≡ Crowded → ⊥)
     → AreBooks sha256 reading (e ++ arrived a ∷ []) (noted_by receipt parking a.body k)
 
--- a new arrival with the deposit of a row that has no body: there is one receipt more, and the body
--- is held for the row
+-- a new arrival with the deposit of a row that has no body: one receipt is added, and the body is
+-- held for the row
 abbrev pub HeldBooks : Type 0
 HeldBooks = (e : List EventValue) (a : ArrivalValue) (k : Kept) (row : ℕ) (d : DepositValue)
     (known : Known) (receipt : ReceiptValue) → IsNew e a k (Holding row d) known receipt
@@ -160,7 +160,7 @@ StandsStill = (e f : List EventValue) (k l : Kept) → StandsFor sha256 reading 
     → l.moment ≡ k.moment → l.steps ≡ k.steps → l.registry ≡ k.registry
     → StandsFor sha256 reading f l
 
--- an event after which the store has the same listed rows and the same chain is no work
+-- an event that leaves the listed rows and the chain as they were is no work
 abbrev pub NoWork : Type 0
 NoWork = (e : List EventValue) (x : EventValue) (k l : Kept) → StandsFor sha256 reading e k
     → StandsFor sha256 reading (e ++ x ∷ []) l → union (e ++ x ∷ []) ≡ union e

@@ -1,4 +1,4 @@
--- Where a body that no row lists is parked.
+-- Whether a body that no row lists is to be parked, what is kept then, and all parked bodies.
 use Rattle.std.specs.Prelude.{◌≡◌, ℕ, List, length, map, All, Option, Some, None, IsSome}
 use Rattle.esc_store.specs.Kept.{Kept, IsFull, AreParked, with_parked}
 use Rattle.esc_events.specs.declared.parked.ParkedBody.{ParkedBody}

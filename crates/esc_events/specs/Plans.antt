@@ -63,12 +63,12 @@ pub record IsPlanned (k : Kept) (bodies : ℕ → Option (List ℕ)) (plan : Pla
   pub deposits : plan.deposits.items
       ≡ deposits_of reading bodies (rows_in (drop (front_of plan) plan.new.items))
 
--- the deposits of the new chain, where the old one is of these deposits
+-- the deposits of a plan's new chain, where c are those of its old chain
 abbrev pub deposits_by : Plan → List DepositValue → List DepositValue
 deposits_by plan c = take (front_of plan) c ++ plan.deposits.items
 
 -- what is kept once a plan was carried out: the plan's new chain, and the tables and before-images
--- of that chain, where the old one is of these deposits
+-- of that chain, where c are the deposits of the old chain
 abbrev pub moved_by : Plan → Kept → List DepositValue → Kept
 moved_by plan k c =
     with_registry (with_steps k (new_chain plan)) (chain_state (deposits_by plan c))
@@ -77,13 +77,13 @@ moved_by plan k c =
 abbrev pub HasDepositsPast : Plan → Type 0
 HasDepositsPast plan = length plan.deposits.items ≡ length plan.new.items - front_of plan
 
--- the tables and before-images that are kept are those of a plan's old chain, of these deposits
+-- the tables and before-images that are kept are those of a plan's old chain, whose deposits are c
 pub record IsMovedFrom (k : Kept) (c : List DepositValue) (plan : Plan) : Type 0 where
   pub count : length c ≡ length plan.old.items
   pub registry : k.registry ≡ chain_state c
 
--- this is the cost of a plan's move, where the old chain is of these deposits; unless they mention
--- 2^64 keys
+-- this is the cost of a plan's move, where c are the deposits of the old chain; nothing is said if
+-- c and the plan's deposits mention 2^64 keys or more
 abbrev pub IsCostOfMove : Plan → List DepositValue → Work → Type 0
 IsCostOfMove plan c work = sum_by mention_count (c ++ plan.deposits.items) < 2 ^ 64
     → work ≡ cost c plan.old.items plan.new.items plan.deposits.items

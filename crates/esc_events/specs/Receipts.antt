@@ -51,7 +51,7 @@ abbrev pub is_old : List ℕ → Option ℕ → Bool
 is_old rows None = true
 is_old rows (Some r) = list_any (λ q. nat_eq q r) rows
 
--- row r is held by what was found
+-- what was found is the deposit of row r
 abbrev pub holds_row : ℕ → Finding → Bool
 holds_row r f = is_row r (held_row f)
 
@@ -70,8 +70,8 @@ refusal number digest verdict row = record {
   orphans = None;
 }
 
--- the receipt by what was found. Whether the arrival is an early one counts for a body that no row
--- lists; the last argument, whether an earlier receipt holds the row, for a deposit that is held
+-- the receipt by what was found. `early` decides the verdict on a body that no row lists; `again`
+-- says of a deposit that is held whether an earlier receipt has the row with A1
 abbrev pub receipt_by : List ℕ → List ℕ → Bool → Finding → Bool → ReceiptValue
 receipt_by number digest early Unlisted again = refusal number digest (unlisted_verdict early) None
 receipt_by number digest early (Unreadable r n) again = refusal number digest (A3 n) (Some r)
@@ -104,7 +104,7 @@ module _ (digest : List ℕ → List ℕ) (reads : List ℕ → Result DepositVa
   abbrev pub holds : ℕ → Coming → Bool
   holds r c = holds_row r (found_then c)
 
-  -- a row, if any, was that of one of these with the verdict A1
+  -- there is a row, and one of these has the verdict A1 at it
   abbrev pub holds_any : List Coming → Option ℕ → Bool
   holds_any before None = false
   holds_any before (Some r) = list_any (holds r) before

@@ -38,7 +38,7 @@ use Rattle.esc_events.specs.Events.{EventValue, Coming, union, comings, moment_o
 use Rattle.esc_events.specs.Finding.{finding, held_row, row_of}
 use Rattle.esc_events.specs.Receipts.{holds_row, receipts_of}
 
--- a placeholder for a body from which no deposit reads; a held body never is one
+-- a placeholder where there is no body, or no deposit reads from it; a held row never has it
 abbrev pub no_deposit : DepositValue
 no_deposit = record {
   header = no_row.header;
@@ -79,8 +79,9 @@ body_of c = option_map (λ (c : Coming). c.body) c
 abbrev pub HaveBodies : (ℕ → Option (List ℕ)) → Rows → Type 0
 HaveBodies bodies held = (r : ℕ) → set.contains held r ≡ is_some (bodies r)
 
--- the receipt says that the deposit of this row is held; or that no row listed its digest, which is
--- the row's by these listed rows
+-- a receipt accounts for the body that is held for a row: it says that the row's deposit is held
+-- (A1), or that no row listed its digest then (A2 or A5), and that digest is the row's by these
+-- rows
 abbrev pub TellsOf : List MRow → ℕ → ReceiptValue → Type 0
 TellsOf m row r = SaysHeld row r ⊎ (TellsUnlisted r.digest r × (row_of m r.digest ≡ Some row))
 
@@ -143,8 +144,8 @@ module _ (digest : List ℕ → List ℕ) (reads : List ℕ → Result DepositVa
     -- what is kept, except for the chain and its tables: the rows that are listed, the receipts
     -- that the arrivals leave, the bodies that are held and parked (said only if no two different
     -- bodies have one digest), and the moment that is set. Even if bodies share a digest, each body
-    -- that is held or parked did come; each row that a receipt says is held has a body; and of each
-    -- body that is held or parked a receipt tells
+    -- that is held or parked did come; each row that a receipt says is held has a body; and a
+    -- receipt accounts for each body that is held or parked
     pub record AreBooks (k : Kept) : Type 0 where
       pub listed : k.listed ≡ union e
       pub receipts : k.receipts ≡ receipts_of digest reads e

@@ -1,17 +1,18 @@
-//! What is found of a body, from which its verdict follows.
+//! What is found of a body by the listed rows; its verdict follows from that.
 
 use esc_tables::Deposit;
 
-/// What is found of a body.
+/// What is found of a body by the listed rows (this project's profile). Rows are indices from 0.
 #[derive(Debug, Drop)]
 pub enum Finding {
-    /// No row has its digest.
+    /// No row has the body's SHA-256: verdict `A5`, or `A2` for an early arrival.
     Unlisted,
-    /// This row has its digest, but no deposit reads from it: it is refused with this number, U1 to
-    /// U11.
+    /// This row has the body's SHA-256, but the body is no deposit: verdict `A3`. The number is
+    /// that of the refusal, 1 to 11 for U1 to U11.
     Unreadable(usize, u8),
-    /// This row has its digest, but it is another deposit than the row says.
+    /// This row has the body's SHA-256, but the deposit has another id, place, resend or (if it is
+    /// a Differential) previous id than the row: verdict `A4`.
     Differing(usize),
-    /// It is the deposit of this row.
+    /// The body is the deposit of this row: verdict `A1`.
     Holding(usize, Deposit),
 }

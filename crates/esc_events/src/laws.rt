@@ -1,7 +1,8 @@
-//! What one more event makes of what a store keeps, by the definitions alone.
+//! Laws: what one more event changes in what a store keeps, by the definitions alone.
 //!
-//! The functions here do nothing. Each has a law as its contract: a caller who needs the law calls
-//! it.
+//! The *books* of a store (`AreBooks`) are what it keeps except for the chain and its tables: the
+//! listed rows, the receipts, the held and the parked bodies, and the moment. The functions here do
+//! nothing. Each has a law as its contract: a caller who needs the law calls it.
 
 ghost use Rattle.esc_events.specs.Laws.{
   NotedBooks,
@@ -24,7 +25,7 @@ ghost use Rattle.esc_events.specs.Laws.{
 };
 
 /// The books after an arrival. A new one adds a receipt, and its body is held or parked if it has
-/// to be; a duplicate of an earlier one changes nothing, unless that one's body was not kept.
+/// to be. A duplicate of an earlier one changes nothing, unless that one's verdict is `A2`.
 pub fn books_after_an_arrival()
     ensures noted { NotedBooks }
     ensures parked { ParkedBooks }
@@ -32,22 +33,23 @@ pub fn books_after_an_arrival()
     ensures repeated { RepeatedBooks }
 {}
 
-/// The books after an arrival comes again whose body a store of version 1 didn't keep, since no row
-/// listed it. Its body is held or parked if it has to be; there is no receipt more.
+/// The books after an arrival with the verdict `A2` comes again: a store of version 1 didn't keep
+/// its body, since no row listed it. The body is now held or parked if it has to be; no receipt is
+/// added.
 pub fn books_after_a_lost_one_again()
     ensures known { KnownAgain }
     ensures parked { ParkedAgain }
     ensures held { HeldAgain }
 {}
 
-/// A store of version 1 is one of version 2, with nothing parked and no moment: it stands for its
-/// manifest and for its arrivals as early ones.
+/// What a store of version 1 keeps, with nothing parked and no moment, stands for its manifest and
+/// for its arrivals as early ones.
 pub fn migrated_store_stands()
     ensures { MigratedStands }
 {}
 
 /// What is held and parked after an amendment, and the books. A body that is parked under the
-/// digest of a new row is held if it is the row's deposit, and is parked no longer in any case.
+/// digest of a new row is held if it is the row's deposit, and is no longer parked in any case.
 /// Replies that were given stay.
 pub fn books_after_an_amendment()
     ensures held { AmendedBodiesAreHeld }

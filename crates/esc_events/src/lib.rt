@@ -6,10 +6,10 @@
 //! a manifest was taken in (the first one, or an amendment, which adds the rows that aren't listed
 //! yet), an arrival was answered, a moment was set or taken back (`EventValue`, specs/Events.antt).
 //!
-//! A store that was made as one of version 1 has early arrivals besides (`arrived_early`): those
-//! that it took in as such. Version 1 kept no body that no row listed, and answered it with `A2` in
+//! A store that was migrated from version 1 also has early arrivals (`arrived_early`): those that
+//! it took in before the migration. Version 1 kept no body that no row listed, and gave it `A2` in
 //! place of `A5`. Such a body is lost: no amendment holds it, and it isn't parked, until it comes
-//! again. A duplicate of an arrival with `A2` has that one's reply, and its body counts as that of
+//! again. A duplicate of an arrival with `A2` gets that one's reply, but its body counts as that of
 //! a new arrival does (`counted`, specs/Stands.antt).
 //!
 //! After a list of events
@@ -20,25 +20,26 @@
 //!   the verdict that it got by the rows that were listed when it came: `A5`, or `A2` for an early
 //!   one, if none listed its body (`receipts_of`). An amendment leaves replies as they were;
 //! - each body that came and isn't lost is judged by all rows that are listed in the end: it is
-//!   held as that of the row whose deposit it is (`held_body`), and parked where no row lists it
+//!   held for the row whose deposit it is (`held_body`), and parked if no row lists it
 //!   (`parked_body`);
 //! - the chain is the latest one of the held rows whose last deposit is not later than the moment
 //!   that is set (`IsChainOf`), and the tables are those of its deposits.
 //!
-//! `StandsFor` says all of this of what a store keeps. The body that is held or parked under one
-//! digest is fixed only if no two different bodies that came have the same digest (`IsApart`); that
-//! what is held did come, and is the row's deposit, holds in any case (`came`, `waits`), and so
-//! does that a receipt tells of it (`held_told`, `parked_told`).
+//! `StandsFor` says all of this of what a store keeps. Which body is held or parked under a digest
+//! is fixed only if no two different bodies that came have the same digest (`IsApart`). In any case
+//! each body that is held did come and is the row's deposit, each that is parked did come (`came`,
+//! `waits`), and a receipt accounts for it (`held_told`, `parked_told`).
 //!
 //! # What is promised
 //!
-//! The laws say what one more event makes of a store that stands for a list: its books
-//! ([`books_after_an_arrival`], [`books_after_a_lost_one_again`], [`books_after_an_amendment`],
-//! [`books_after_a_moment`]), and its chain, its tables and the work of the move
-//! ([`chain_after_an_event`]). For example, `AmendedBooks` says of an amendment: before the chain
-//! moves, all that has to be done is to list the new rows, to hold the parked bodies that are their
-//! deposits, and to drop the other bodies that are parked for them. [`migrated_store_stands`] says
-//! that what a store of version 1 kept stands for its manifest and its arrivals as early ones.
+//! The laws say what one more event changes in a store that stands for a list: in its books, which
+//! are what it keeps except for the chain and its tables ([`books_after_an_arrival`],
+//! [`books_after_a_lost_one_again`], [`books_after_an_amendment`], [`books_after_a_moment`]), and
+//! in its chain and tables, with the work of the move ([`chain_after_an_event`]). For example,
+//! `AmendedBooks` says of an amendment: before the chain moves, all that has to be done is to list
+//! the new rows, to hold the parked bodies that are their deposits, and to drop the other bodies
+//! that are parked for them. [`migrated_store_stands`] says that what a store of version 1 kept
+//! stands for its manifest and its arrivals as early ones.
 //!
 //! No code here runs. The contracts of the desk (`esc_desk`) are stated by these definitions.
 #![tactic(auto)]

@@ -5,6 +5,6 @@
 pub struct ParkedBody {
     /// Its SHA-256.
     pub digest: [u8; 32],
-    /// How many bytes it has.
+    /// Its length in bytes.
     pub bytes: u64,
 }

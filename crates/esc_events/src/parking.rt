@@ -7,6 +7,6 @@ pub enum Parking {
     Needless,
     /// It is parked.
     Free,
-    /// It can't be parked: 1,024 others are.
+    /// It can't be parked, since 1,024 others are: its arrival is lost by `S5`.
     Crowded,
 }

@@ -4,7 +4,7 @@ use esc_apply::Step;
 use esc_tables::Deposit;
 
 /// The steps of the old and the new chain, and the deposits of the new chain's steps past the
-/// common front.
+/// common front (the steps that both chains begin with).
 #[derive(Debug, Drop)]
 pub struct Plan {
     pub old: Vec<Step>,

@@ -41,7 +41,8 @@ pub data Request : Type 0 where
   arrives : ArrivalValue → Request
   wants : Report → Request
 
--- what a head asks for, and the bytes that follow it: a body that is cut is no arrival
+-- what a head asks for, and the bytes that follow it: where fewer follow than its length says, it
+-- is a bad request
 abbrev pub with_body : Plan → List ℕ → Request
 with_body (Refuse refusal) rest = refused refusal
 with_body (Put number size) rest
@@ -82,9 +83,9 @@ module _ {S : Type 0} (g : Ghosts S) (old new : Desk S) where
   abbrev pub IsTaken : ArrivalValue → List ℕ → Type 0
   IsTaken a text = After g old new (λ e. TakesArrival a e text)
 
-  -- the arrival was lost: the desk serves what it served, and the text says why. That is S4 only if
-  -- the arrival is no duplicate and there is no room for its receipt, and S5 only if there is no
-  -- place to park its body
+  -- the arrival was lost: the desk serves what it served, and the text is the fault. That is S4
+  -- only if the arrival is no duplicate and there is no room for its receipt, and S5 only if there
+  -- is no place to park its body
   pub record LosesArrival (a : ArrivalValue) (text : List ℕ) : Type 0 where
     pub kept : ServesStill g old new
     pub fault : SFault

@@ -8,7 +8,7 @@ use Rattle.esc_store.specs.ReplyValue.{ReplyValue}
 use Rattle.esc_request.specs.Response.{response, unavailable}
 use Rattle.esc_texts.specs.ReplyText.{reply_text}
 
--- the store refuses; an open store never refuses by S3
+-- a fault of the desk; an open store never returns S3
 abbrev pub fault_response : SFault → List ℕ
 fault_response S1 = unavailable (codes "S1\n")
 fault_response S2 = unavailable (codes "S2\n")
@@ -16,7 +16,7 @@ fault_response S3 = unavailable (codes "S1\n")
 fault_response S4 = unavailable (codes "S4\n")
 fault_response S5 = unavailable (codes "S5\n")
 
--- held, parked, or refused by its verdict
+-- the deposit is held, its body is parked, or neither
 abbrev pub reply_status : Verdict → List ℕ
 reply_status A1 = codes "200 OK"
 reply_status A2 = codes "422 Unprocessable Content"

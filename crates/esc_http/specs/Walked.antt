@@ -5,7 +5,7 @@ use Rattle.esc_check.specs.FindingValue.{FindingValue}
 use Rattle.esc_check.specs.declared.stream.StreamFault.{StreamFault}
 use Rattle.esc_check.specs.declared.stream.StreamFault.TheVariants.{Source, NoMemory}
 use Rattle.esc_store.specs.declared.fault.SFault.{SFault}
-use Rattle.esc_store.specs.declared.fault.SFault.TheVariants.{S1, S2, S3, S4, S5}
+use Rattle.esc_store.specs.declared.fault.SFault.TheVariants.{S2}
 use Rattle.esc_desk.specs.declared.status.End.{End}
 use Rattle.esc_events.specs.Apart.{WhereApart}
 use Rattle.esc_events.specs.Events.{EventValue}
@@ -17,11 +17,7 @@ abbrev pub AreFoundAt : List EventValue → Option End → List FindingValue →
 AreFoundAt e end found = WhereApart e ((entries : List Entry) × AreEntries e entries
     × AreFindings entries end found)
 
--- the fault that ends a report over a walk: S2 where memory was refused, else S1
+-- the fault that ends a report over a walk: the walk's own, or S2 where memory was refused
 abbrev pub walk_fault : StreamFault SFault → SFault
-walk_fault (Source S1) = S1
-walk_fault (Source S2) = S2
-walk_fault (Source S3) = S1
-walk_fault (Source S4) = S1
-walk_fault (Source S5) = S1
+walk_fault (Source fault) = fault
 walk_fault NoMemory = S2

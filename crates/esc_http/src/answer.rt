@@ -57,7 +57,7 @@ pub(crate) fn answer_input<S: Alter, R: Source>(
     }
 }
 
-// The response to the request whose head is at the front of these bytes, which were read.
+// The response to the request whose head is at the front of these bytes, which were read already.
 fn answer_head<S: Alter, R: Source>(
     alloc: Global,
     desk: &mut Desk<S>,
@@ -117,7 +117,8 @@ fn answer_routed<S: Alter, R: Source>(
     }
 }
 
-// The response to an arrival. These bytes were read before: the body begins with them.
+// The response to an arrival. The bytes of `front` were read with the head: the body begins with
+// them.
 fn answer_put<S: Alter, R: Source>(
     alloc: Global,
     desk: &mut Desk<S>,

@@ -1,6 +1,6 @@
 //! One HTTP request over a reader and a writer, and the texts of a desk's reports.
 //!
-//! [`serve_one`] reads one HTTP/1.0 or 1.1 request, makes the response to it from a desk
+//! [`serve_one`] reads one HTTP/1.0 or 1.1 request (RFC 9112), makes the response to it from a desk
 //! (`esc_desk`), and writes that. The bytes may come and go in any pieces. The tests come in this
 //! order, and the first that fails decides the response:
 //!

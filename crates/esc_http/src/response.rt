@@ -9,7 +9,8 @@ use esc_request::response;
 use esc_texts::reply_text;
 use std::alloc::Global;
 
-/// The response where the store refuses.
+/// The response with a fault of the desk: 503, and `S1`, `S2`, `S4` or `S5`. `S3`, which no open
+/// store returns, is `S1`.
 pub(crate) fn fault_response(alloc: Global, fault: SFault) -> Option<Vec<u8>>
     ensures { IfSome result (λ text. text.items ≡ fault_response fault) }
 {
@@ -22,7 +23,8 @@ pub(crate) fn fault_response(alloc: Global, fault: SFault) -> Option<Vec<u8>>
     response(alloc, "503 Service Unavailable", "text/plain", "", words)
 }
 
-/// The response to an arrival that has a reply.
+/// The response to an arrival that has a reply: the reply as JSON, with 200 for `A1`, 202 for `A5`
+/// and 422 for any other verdict.
 pub(crate) fn reply_response(alloc: Global, reply: &Reply) -> Option<Vec<u8>>
     ensures { IfSome result (λ text. text.items ≡ reply_response reply.now) }
 {

@@ -17,7 +17,7 @@ use sqlite::Alter;
 use std::alloc::Global;
 use std::io::{Read, Write};
 
-/// Why a response did not go out whole.
+/// Why no whole response was sent.
 #[derive(Clone, Copy, Debug, PartialEq, Eq)]
 pub enum ServeFault {
     /// A read failed. Nothing was written, and nothing arrived.

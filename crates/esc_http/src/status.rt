@@ -19,8 +19,8 @@ use esc_envelope::{Kind, Place, watermark_text};
 use std::alloc::Global;
 use std::collections::BTreeMap;
 
-/// The status report: eleven lines. `S1` if the chain ends at a watermark that has no text, which
-/// no manifest lists; `S2`.
+/// The status report: eleven lines. `S1` if the chain ends at a watermark outside the years 1970 to
+/// 2261, as no listed one is; `S2`.
 pub(crate) fn status_text(alloc: Global, status: &Status) -> Result<String, SFault>
     ensures text { IfOk result (λ text. string_bytes text ≡ status_text status.now) }
     ensures cause { IfErr result IsS1OrS2 }
@@ -57,8 +57,8 @@ fn number_line(alloc: Global, name: &str, number: u64) -> Result<String, NoMemor
     Ok(format!(in alloc; "{name} {number}\n")?)
 }
 
-/// The line of the status report that says where a chain ends. `S1` if that is at a watermark that
-/// has no text, which no manifest lists; `S2`.
+/// The line of the status report that says where a chain ends: `end WATERMARK TYPE RESEND`, or
+/// `end none`. `S1` if the watermark is outside the years 1970 to 2261, as no listed one is; `S2`.
 pub fn end_line(alloc: Global, end: Option<(Place, u32)>) -> Result<String, SFault>
     ensures line { IfOk result (λ line. string_bytes line ≡ end_line end) }
     ensures cause { IfErr result IsS1OrS2 }

@@ -3,6 +3,7 @@
 ghost use Rattle.std.specs.Prelude.{◌≡◌, List, Some, IfOk, IfErr};
 ghost use Rattle.std.specs.FinSet as set;
 ghost use Rattle.esc_chain.specs.Chain.{InRange};
+ghost use Rattle.esc_check.specs.Streams.{OfSource};
 ghost use Rattle.esc_store.specs.Faults.{IsS1OrS2};
 ghost use Rattle.esc_desk.specs.Calls.{OkOver, Stays};
 ghost use Rattle.esc_request.specs.declared.reports.Report.TheVariants as what;
@@ -57,7 +58,7 @@ fn report_gaps<S: Alter>(alloc: Global, desk: &mut Desk<S>) -> Result<Vec<u8>, S
     gaps_text(alloc, &lines)
 }
 
-// The set of these rows. A stored row that no manifest has is a fault of the store.
+// The set of these rows. `S1` if one of them isn't a row of the manifest.
 fn held_of(alloc: Global, manifest: &Manifest, rows: &[usize]) -> Result<Held, SFault>
     ensures held { IfOk result (λ held. held ≡ set.from_list rows.now) }
     ensures in_range { IfOk result (InRange manifest.now) }
@@ -95,7 +96,7 @@ fn report_links<S: Alter>(alloc: Global, desk: &mut Desk<S>) -> Result<Vec<u8>, 
     Ok(links_text(alloc, &found)?)
 }
 
-// What is found in the tables at the end of their chain. Without a chain there is nothing to walk.
+// The findings in the tables, by what the end of their chain says. Without a chain there are none.
 fn findings_at<S: Alter>(
     alloc: Global,
     desk: &mut Desk<S>,
@@ -113,7 +114,7 @@ fn findings_at<S: Alter>(
     }
 }
 
-// What breaks a rule in the tables, by what the last deposit of their chain says.
+// The findings in the tables, by what the last deposit of their chain says.
 #[tactic(auto, using(crate::proofs::StoreFacts::walked))]
 fn findings<S: Alter>(alloc: Global, desk: &mut Desk<S>, end: &End) -> Result<Vec<Finding>, SFault>
     ensures stays { Stays S.Store desk.old desk.new }
@@ -129,14 +130,14 @@ fn findings<S: Alter>(alloc: Global, desk: &mut Desk<S>, end: &End) -> Result<Ve
     }
 }
 
-// The fault that ends a report over a walk. A walk's contract doesn't say which faults there are.
+// The fault that ends a report over a walk: the walk's own, or want of memory.
 fn walk_fault(fault: StreamFault<SFault>) -> SFault
+    requires { OfSource IsS1OrS2 fault }
     ensures told { result ≡ walk_fault fault }
     ensures cause { IsS1OrS2 result }
 {
     match fault {
-        StreamFault::Source(SFault::S2) => SFault::S2,
-        StreamFault::Source(SFault::S1 | SFault::S3 | SFault::S4 | SFault::S5) => SFault::S1,
+        StreamFault::Source(fault) => fault,
         StreamFault::NoMemory => SFault::S2,
     }
 }

@@ -6,6 +6,7 @@ use Rattle.sqlite_catalog.specs.Listing.{IsSound}
 use Rattle.sqlite.specs.Held.{Held, state}
 use Rattle.sqlite.specs.State.{HasCleanDisk, IsLive, Opens}
 use Rattle.esc_rows.specs.Schema.{no_schema}
+use Rattle.esc_desk.specs.declared.desk.Desk.{Desk}
 use Rattle.esc_store.specs.Kept.{Kept}
 use Rattle.esc_store.specs.Tables.{IsBlank, IsStore}
 
@@ -16,3 +17,7 @@ LeavesBlankOr g old new k =
     Opens (state g old) → IsLive (state g old) → IsBlank (state g old).now
     → HasCleanDisk (state g new)
     → (trees : Trees) → (state g new).may_leave trees → IsSound no_schema trees ⊎ IsStore trees k
+
+-- the same, where the call gives a desk
+abbrev pub DeskLeavesBlankOr : {S : Type 0} → Ghosts S → Held S → Desk S → Kept → Type 0
+DeskLeavesBlankOr g old desk k = LeavesBlankOr g old desk.store.conn k

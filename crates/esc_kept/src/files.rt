@@ -20,7 +20,7 @@ use sqlite_disk::Disk;
 use std::alloc::Global;
 
 /// The two files of a desk, as they are: nothing is written. Each pair of files that a crash may
-/// leave of them holds a store that a crash might have left of the desk.
+/// leave of them holds a store that a crash may leave of the desk.
 pub fn files_of<D: Disk + Drop>(desk: Desk<FileStore<D>>) -> Files<D>
     ensures left { AreClean D.Disk result.log result.db
         → (e doubtful : List EventValue)
@@ -64,8 +64,8 @@ pub fn desk_of_files<D: Disk + Drop>(
     }
 }
 
-/// The desk over the store of the files at a path, where `start` stands for what they hold. `S3`
-/// where they hold no store of this version, `S1`, `S2`.
+/// The desk over the store of the files at a path. `start` says in the contract what they hold.
+/// `S3` where they hold no store of this version, `S1`, `S2`.
 pub fn open_desk_at<S: Start>(
     rt: &HostRuntime,
     path: &str,
@@ -92,7 +92,8 @@ pub fn open_desk_at<S: Start>(
 }
 
 /// The desk over the files of another, which is closed first: what is still in the log is copied
-/// into the database. It serves what the other served. `S1`, `S2`.
+/// into the database. It serves what the other served. `S1`, `S2`, or `S3` where what is read back
+/// is no store.
 pub fn reopen_desk<D: Disk + Drop>(
     alloc: Global,
     desk: Desk<FileStore<D>>,
@@ -119,7 +120,7 @@ pub fn reopen_desk<D: Disk + Drop>(
     }
 }
 
-// Why files can't be opened or closed.
+// The desk's fault for an error of `sqlite`.
 fn fault_of(error: Error) -> SFault
     ensures { IsS1ToS3 result }
 {

@@ -6,7 +6,7 @@
 //! database and its log) to the next open.
 //!
 //! - [`new_desk`] makes a store of a manifest in an empty database, and gives the desk over it.
-//! - [`open_desk`] gives the desk over the store that a connection's database is. [`open_desk_at`]
+//! - [`open_desk`] gives the desk over the store in a connection's database. [`open_desk_at`]
 //!   does so from a path, and [`desk_of_files`] from the two files.
 //! - [`files_of`] gives the files of a desk back as they are, as a crash would find them: nothing
 //!   is written.

@@ -1,17 +1,17 @@
 //! The desk over a connection's database.
 
-ghost use Rattle.std.specs.Prelude.{List, [], ◌∷◌, IfOk, IfErr, MatchResult};
+ghost use Rattle.std.specs.Prelude.{◌≡◌, List, [], ◌∷◌, IsTrue, IfOk, IfErr, MatchResult};
 ghost use Rattle.sqlite.specs.Held.{state};
 ghost use Rattle.sqlite.specs.State.{HasCleanDisk};
 ghost use Rattle.esc_store.specs.Faults.{IsS1ToS3};
 ghost use Rattle.esc_store.specs.Kept.{fresh};
 ghost use Rattle.esc_store.specs.Opening.{IsAsItWas};
-ghost use Rattle.esc_desk.specs.Calls.{DeskLeaves, IsHonestDesk, store_of};
+ghost use Rattle.esc_desk.specs.Calls.{DeskLeaves, IsHonestDesk};
 ghost use Rattle.esc_events.specs.Events.{EventValue};
 ghost use Rattle.esc_events.specs.Events.EventValue.{listed};
 ghost use Rattle.esc_desk.specs.Serving.{DeskServes};
 ghost use Rattle.esc_desk.specs.Crashes.{IsStoreFor};
-ghost use Rattle.esc_kept.specs.Blank.{LeavesBlankOr};
+ghost use Rattle.esc_kept.specs.Blank.{LeavesBlankOr, DeskLeavesBlankOr};
 
 use esc_desk::{Desk, SFault, new_store_stands_for_its_manifest};
 use esc_manifest::Manifest;
@@ -20,15 +20,15 @@ use sqlite::{Alter, Connection};
 use std::alloc::Global;
 
 /// A desk over a new store of a manifest, made in a database without any table, index or view. At
-/// `Err` the connection is given back, with `S3` where the database has one, `S1`, or `S2`. A crash
-/// in the middle leaves no table, or the new store.
+/// `Err` the connection is given back: `S3` where the database has one of these, `S1`, `S2`. A
+/// crash in the middle leaves no table, or the new store.
 pub fn new_desk<S: Alter>(
     alloc: Global,
     connection: Connection<S>,
     manifest: &Manifest,
 ) -> Result<Desk<S>, (SFault, Connection<S>)>
     ensures crash { MatchResult result
-        (λ desk. LeavesBlankOr S.Store connection (store_of desk).conn (fresh manifest.now))
+        (λ desk. DeskLeavesBlankOr S.Store connection desk (fresh manifest.now))
         (λ e. LeavesBlankOr S.Store connection e.1 (fresh manifest.now)) }
     ensures left { IfOk result (λ desk. DeskLeaves S.Store desk (listed manifest.now ∷ []) []) }
     ensures unchanged { IfErr result
@@ -42,9 +42,9 @@ pub fn new_desk<S: Alter>(
     }
 }
 
-/// The desk over the store that the last commit of a connection's database is. At `Err` the
-/// connection is given back, with `S3` where the database is no store of this version, `S1`, or
-/// `S2`.
+/// The desk over the store in a connection's database, as last committed. At `Err` the connection
+/// is given back: `S3` where the database is no store of this version, and never where it serves a
+/// list of events; `S1`, `S2`.
 pub fn open_desk<S: Alter>(
     alloc: Global,
     connection: Connection<S>,
@@ -57,6 +57,9 @@ pub fn open_desk<S: Alter>(
     ensures left { IfOk result (λ desk. (e : List EventValue)
         → IsStoreFor (state S.Store connection).committed.trees e
         → DeskLeaves S.Store desk e []) }
+    ensures never { IfErr result (λ e. e.0 ≡ SFault.S3 → HasCleanDisk (state S.Store e.1)
+        → IsTrue (state S.Store e.1).is_open → (events : List EventValue)
+        → IsStoreFor (state S.Store connection).committed.trees events → ⊥) }
     ensures unchanged { IfErr result
         (λ e. IsAsItWas (state S.Store connection) (state S.Store e.1)) }
     ensures cause { IfErr result (λ e. IsS1ToS3 e.0) }

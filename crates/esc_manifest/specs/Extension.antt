@@ -1,4 +1,4 @@
--- A manifest and the rows of another one (this project's profile).
+-- The union of two manifests (this project's profile).
 use Rattle.std.specs.Prelude.{
   ℕ,
   suc,
@@ -60,9 +60,8 @@ new_rows m more = filter (λ r. not (is_listed m r)) more
 abbrev pub extended : List MRow → List MRow → List MRow
 extended m more = m ++ new_rows m more
 
--- the row repeats or contradicts one of m, by the fault of this number: M10, M11 or M13, or M12,
--- where it is a Differential that names a row of m which isn't earlier, or a Differential of m
--- names it so
+-- the row repeats or contradicts one of m, by the fault of this number: M10, M11 or M13; or M12,
+-- where a Differential, one of the two, names the other, which isn't earlier
 abbrev pub is_blamed : ℕ → List MRow → MRow → Bool
 is_blamed code m r =
     if code == 10 then list_any (λ q. same_revision q r) m

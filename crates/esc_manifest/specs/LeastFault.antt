@@ -119,7 +119,7 @@ StandsInText text code row =
     × (is_faulty (record_at (records_below text) r) code ≡ true))
 
 -- the least fault of a text: that of its bytes and records; or, if these have none, so that each
--- record below the heading writes a row, that of the rows
+-- record below the heading writes a row, the least fault of these rows
 abbrev pub IsLeastInText : List ℕ → ℕ → ℕ → Type 0
 IsLeastInText text code row =
     IsLeastOf (StandsInText text) code row

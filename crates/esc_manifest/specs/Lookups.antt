@@ -38,7 +38,7 @@ abbrev pub is_no_earlier : Option Place → ℤ → Bool
 is_no_earlier None moment = false
 is_no_earlier (Some place) moment = not (int_lt place.watermark moment)
 
--- a Differential whose prevId has a place in the map that isn't earlier
+-- a Differential whose prevId has a place in the map with a watermark that isn't earlier
 abbrev pub names_later : BTreeMap (Bor (List ℕ)) Place → MRow → Bool
 names_later places row =
     is_diff row.header.place.kind

@@ -1,6 +1,6 @@
 //! The first rows that contradict others. Look-ups in sorted collections show quickly that there is
-//! no such row, as in each manifest that is accepted; otherwise, or out of memory, each row is
-//! compared with each other one.
+//! no such row, as in each manifest that is accepted; otherwise, or out of memory, all pairs of
+//! rows are compared.
 
 ghost use Rattle.std.specs.Prelude.{◌≡◌, ◌<◌, length, not, IfOk, IfSome, Some, None, true};
 ghost use Rattle.std.specs.List.{list_all};
@@ -58,7 +58,7 @@ fn have_own_digests(alloc: Global, rows: &[MRow]) -> Result<bool, NoMemory>
     Ok(true)
 }
 
-// Whether an id was in no place before, or in this one.
+// Whether an id had no place so far, or the same place.
 fn is_own(before: Option<Place>, place: Place) -> bool
     ensures { result ≡ true → (other : Place) → before ≡ Some other → other ≡ place }
 {
@@ -68,7 +68,7 @@ fn is_own(before: Option<Place>, place: Place) -> bool
     }
 }
 
-// The place of each id, if no id is in two.
+// The place of each id; `None` if an id is in two places.
 fn own_places(alloc: Global, rows: &[MRow]) -> Result<Option<BTreeMap<&str, Place>>, NoMemory>
     ensures { IfOk result (λ o. IfSome o (HavePlaces rows.now)) }
 {
@@ -98,7 +98,7 @@ fn is_no_earlier(place: Option<Place>, moment: i64) -> bool
     }
 }
 
-// Whether a row is a Differential that names an id with a place that isn't earlier.
+// Whether a row is a Differential whose prevId has a place that isn't earlier.
 fn names_later(places: &BTreeMap<&str, Place>, row: &MRow) -> bool
     ensures { result ≡ names_later places.now row.now }
 {
@@ -139,7 +139,7 @@ pub(crate) fn repeated_digest(alloc: Global, rows: &[MRow]) -> Option<usize>
     }
 }
 
-/// The place of each id, if no id is in two, and if memory suffices.
+/// The place of each id; `None` if an id is in two places, or out of memory.
 pub(crate) fn places_of_ids(alloc: Global, rows: &[MRow]) -> Option<BTreeMap<&str, Place>>
     ensures { IfSome result (HavePlaces rows.now) }
 {
@@ -149,7 +149,7 @@ pub(crate) fn places_of_ids(alloc: Global, rows: &[MRow]) -> Option<BTreeMap<&st
     }
 }
 
-/// The least row whose id is in another place too.
+/// The least row whose id an earlier row has at another place.
 pub(crate) fn id_in_two_places(
     places: &Option<BTreeMap<&str, Place>>,
     rows: &[MRow],
@@ -164,7 +164,7 @@ pub(crate) fn id_in_two_places(
     }
 }
 
-/// The least Differential that names a row which isn't earlier.
+/// The least row that is a Differential whose prevId names a row that isn't earlier.
 pub(crate) fn after_later(places: &Option<BTreeMap<&str, Place>>, rows: &[MRow]) -> Option<usize>
     requires { IfSome places.now (HavePlaces rows.now) }
     ensures first { result ≡ first_against_any follows_later rows.now }

@@ -1,4 +1,4 @@
-//! Manifests that list more rows.
+//! The union of two manifests.
 
 ghost use Rattle.std.specs.Prelude.{
   ◌≡◌,
@@ -67,7 +67,7 @@ fn is_listed(rows: &[MRow], row: &MRow) -> bool
     rows.iter().any(|q| is_same_row(q, row))
 }
 
-// Rows equal to these.
+// Copies of these rows.
 fn copied(alloc: Global, rows: &[MRow]) -> Result<Vec<MRow>, NoMemory>
     ensures { IfOk result (λ copies. copies.items ≡ rows.now) }
 {
@@ -92,14 +92,14 @@ fn union_of(alloc: Global, rows: &[MRow], more: &[MRow]) -> Result<Vec<MRow>, No
     Ok(union)
 }
 
-// Whether a Differential of these rows names this row, which isn't earlier.
+// Whether a Differential of these rows names this row, though its watermark isn't earlier.
 fn is_named_late(rows: &[MRow], row: &MRow) -> bool
     ensures { result ≡ list_any (λ q. follows_later row.now q) rows.now }
 {
     rows.iter().any(|q| follows_later(row, q))
 }
 
-// Whether a row that isn't listed yet contradicts one of these rows, by the fault of a number.
+// Whether a row repeats or contradicts one of these rows, by the fault of this number.
 fn is_blamed(code: u8, rows: &[MRow], row: &MRow) -> bool
     ensures { result ≡ is_blamed code rows.now row.now }
 {
@@ -157,11 +157,16 @@ impl Manifest {
         }
     }
 
-    /// This manifest, and after its rows those of another one that aren't equal to one of them in
-    /// all six values, in their order. Refuses with the least of M1 (more than 4,096 rows, row 0)
-    /// and M10 to M13 that the union has. The row is the least of `more`, counted from 1 in `more`,
-    /// that isn't listed yet and repeats or contradicts another; for M12 the least that is a faulty
-    /// Differential or whose id a faulty Differential of this manifest names.
+    /// The union of two manifests: the rows of this one, and after them, in their order, the rows
+    /// of `more` that aren't equal to one of them in all six values.
+    ///
+    /// # Errors
+    ///
+    /// `Refused` with the least of M1 (more than 4,096 rows, at row 0) and M10 to M13 that the
+    /// union has. Its row is one of `more`, counted from 1: the first that isn't listed yet and
+    /// repeats or contradicts a row of this manifest. For M12 that is the first that is a faulty
+    /// Differential, or whose id a faulty Differential of this manifest names. `NoMemory` out of
+    /// memory.
     pub fn extend(&self, alloc: Global, more: &Manifest) -> Result<Manifest, MFault>
         ensures accepted { IfOk result (λ m. extension self.now more.now ≡ Ok m) }
         ensures union { IfOk result (λ m. m ≡ extended self.now more.now) }

@@ -3,12 +3,12 @@
 //! # In and out
 //!
 //! `read_manifest` takes the bytes of a manifest, which is CSV. The first record is the heading
-//! `id,type,watermark,prevId,resend,sha256`; each further record is one row, a deposit that was
-//! released at its place (its watermark and type) with a number of resends, under the SHA-256 of
-//! its bundle. It gives a `Manifest`, a list of typed rows in the order of the text, or an
-//! `MFault`. `from_rows` gives the `Manifest` of typed rows, as a store keeps them.
-//! `Manifest::extend` gives the union of two manifests: the rows of the first and those of the
-//! second that the first doesn't list yet. It is for a manifest that is released in parts.
+//! `id,type,watermark,prevId,resend,sha256`; each further record is one row: a deposit that was
+//! released, with its place (watermark and type), its resend, and the SHA-256 of its bundle. It
+//! returns a `Manifest`, a list of typed rows in the order of the text, or an `MFault`. `from_rows`
+//! returns the `Manifest` of typed rows, as a store keeps them. `Manifest::extend` returns the
+//! union of two manifests: the rows of the first, and after them those of the second that the first
+//! doesn't list yet. It is for a manifest that is released in parts.
 //!
 //! ```text
 //! let manifest = read_manifest(alloc, bytes)?;
@@ -21,7 +21,7 @@
 //! file:
 //!
 //! - M1: more than 4,096 rows, or more than 4,194,304 bytes (row 0);
-//! - M2: a record does not have six fields; M3: the heading is missing or another (row 0);
+//! - M2: a record does not have six fields; M3: the heading is missing or different (row 0);
 //! - M4: an id is not 1 to 64 of `A-Z a-z 0-9 . _ -`, or a prevId is neither empty nor of that
 //!   form;
 //! - M5: the type is not `FULL`, `INCR` or `DIFF`; M6: the watermark is no moment of its form;
@@ -41,8 +41,8 @@
 //! `specs/Manifest.antt` and `specs/RowFaults.antt` say for each number which records and rows have
 //! that fault, and `specs/LeastFault.antt` which fault is the least: no other fault of the text has
 //! a lesser number, nor the same number at a lesser row (`IsLeastInText`, `IsLeast`).
-//! `read_manifest` and `from_rows` refuse with exactly that one; out of memory, `read_manifest`
-//! returns `MFault::NoMemory`.
+//! `read_manifest` and `from_rows` refuse with exactly that one. Out of memory, `read_manifest` and
+//! `Manifest::extend` return `MFault::NoMemory`; `from_rows` never does.
 //! `manifest_of` and `rows_fault` are the same as functions; by a law they give the least fault.
 //! What the rows of an accepted manifest are is the one fact `IsAccepted` of `specs/Accepted.antt`,
 //! which each `Manifest` carries and `Manifest::rows` returns; by a law it holds of exactly the
@@ -53,7 +53,7 @@
 //! # Time
 //!
 //! Rows are tested by sets and a map of their keys, so that an accepted manifest takes time n log
-//! n; each row is compared with each only where there is a fault, or where the keys can't be
+//! n. All pairs of rows are compared only where there is a fault, or where the keys can't be
 //! allocated.
 #![tactic(auto)]
 

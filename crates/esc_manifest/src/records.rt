@@ -10,8 +10,7 @@ use crate::rows::MOST_ROWS;
 use esc_csv::{Record, Records};
 use std::alloc::Global;
 
-/// The records of a text, the heading among them, or M1 where there are more than a heading and
-/// 4,096 rows.
+/// The records of a text, with the heading; M1 if there are more than a heading and 4,096 rows.
 pub(crate) fn read_records(alloc: Global, text: &[u8]) -> Result<Vec<Record>, MFault>
     ensures all { IfOk result (λ v. v.items ≡ records_of text.now) }
     ensures few { IfOk result (λ v. length v.items ≤ most_rows + 1) }

@@ -1,4 +1,4 @@
-//! Manifests of rows.
+//! Making a manifest from typed rows.
 
 ghost use Rattle.std.specs.Prelude.{
   ◌≡◌,
@@ -43,7 +43,7 @@ use crate::row::MRow;
 use esc_envelope::{DepositType, Place, is_id};
 use std::alloc::Global;
 
-/// The end of the years that watermarks lie in, 2262-01-01T00:00:00Z in nanoseconds.
+/// The end of the years of watermarks: 2262-01-01T00:00:00Z, in nanoseconds.
 const END_OF_YEARS: i64 = 9_214_646_400_000_000_000;
 
 /// The greatest resend.
@@ -272,9 +272,13 @@ pub(crate) fn tested(alloc: Global, rows: Vec<MRow>) -> Result<Manifest, MFault>
     }
 }
 
-/// The manifest of these rows. Refuses with the least of M1 (more than 4,096 rows), M4, M6 to M8
-/// and M10 to M13 that they have; a `prev` with an empty text is M4. Where memory is refused it is
-/// slower, and returns the same.
+/// The manifest of these rows, as a store keeps them. Out of memory it is slower, and returns the
+/// same.
+///
+/// # Errors
+///
+/// `Refused` with the least of M1 (more than 4,096 rows), M4, M6 to M8 and M10 to M13 that the rows
+/// have, at its least row from 1 (0 for M1). A `prev` with an empty text is M4. Never `NoMemory`.
 pub fn from_rows(alloc: Global, rows: Vec<MRow>) -> Result<Manifest, MFault>
     ensures accepted { rows_fault rows.items ≡ None → result ≡ Ok rows.items }
     ensures refused { (code row : ℕ) → rows_fault rows.items ≡ Some (code, row) →

@@ -1,4 +1,4 @@
--- Reading a record from the front of a list, of texts that pass a test.
+-- Reading a record from the front of a list of bytes. Each text has to pass a test.
 use Rattle.std.specs.Prelude.{
   ℕ,
   zero,
@@ -28,13 +28,13 @@ None >>= f = None
 abbrev pub cut : ℕ → List ℕ → Option (List ℕ × List ℕ)
 cut n bytes = if nat_lt (length bytes) n then None else Some (take n bytes, drop n bytes)
 
--- a number and the rest
+-- the number that bytes begin with, and the rest
 abbrev pub number_at : List ℕ → Option (ℕ × List ℕ)
 number_at bytes = do
   p ← cut 4 bytes
   Some (from_be_bytes w32 p.0, p.1)
 
--- a list of n things and the rest
+-- a list of n things that bytes begin with, and the rest
 abbrev pub many : {A : Type 0} → (List ℕ → Option (A × List ℕ)) → ℕ → List ℕ
     → Option (List A × List ℕ)
 many one zero bytes = Some ([], bytes)
@@ -44,7 +44,7 @@ many one (suc n) bytes = do
   Some (x.0 ∷ xs.0, xs.1)
 
 module _ (is_text : List ℕ → Bool) where
-  -- a text and the rest
+  -- the text that bytes begin with, and the rest
   abbrev pub text_at : List ℕ → Option (List ℕ × List ℕ)
   text_at bytes = do
     n ← number_at bytes
@@ -52,14 +52,14 @@ module _ (is_text : List ℕ → Bool) where
     text ← if is_text p.0 then Some p.0 else None
     Some (text, p.1)
 
-  -- a cell and the rest
+  -- the cell that bytes begin with, and the rest
   unfoldable pub cell_at : List ℕ → Option ((List ℕ × List ℕ) × List ℕ)
   cell_at bytes = do
     field ← text_at bytes
     value ← text_at field.1
     Some ((field.0, value.0), value.1)
 
-  -- a row and the rest
+  -- the row that bytes begin with, and the rest
   unfoldable pub row_at : List ℕ → Option (RowValue × List ℕ)
   row_at bytes = do
     table ← text_at bytes
@@ -72,7 +72,7 @@ module _ (is_text : List ℕ → Bool) where
   of_rows [] = None
   of_rows (parent ∷ children) = Some (record { parent = parent; children = children })
 
-  -- the object whose record this is
+  -- the object whose record the bytes are, all of them
   unfoldable pub object_of : List ℕ → Option ObjectValue
   object_of bytes = do
     count ← number_at bytes

@@ -1,4 +1,4 @@
--- What the pieces of a record's writer do.
+-- What the functions that write a record do.
 use Rattle.std.specs.Prelude.{◌≡◌, ℕ, Bool, true, List, ◌++◌, Result, IfOk}
 use Rattle.esc_bundle.specs.declared.fault.NoMemory.{NoMemory}
 

@@ -11,7 +11,7 @@ ghost use Rattle.esc_record.specs.Record.{record_of};
 
 use esc_tables::read_objects_are_small;
 
-/// No record is a proper beginning of another, and no two objects have one record.
+/// No record is a proper beginning of another, and no two objects have the same record.
 pub fn no_record_begins_another()
     ensures { (o p : ObjectValue) (bytes more : List ℕ) → record_of o ≡ Some bytes
         → record_of p ≡ Some (bytes ++ more) → (more ≡ []) × (o ≡ p) }

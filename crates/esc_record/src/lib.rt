@@ -9,11 +9,11 @@
 //!
 //! # In and out
 //!
-//! - [`to_record`] takes an object and returns its record, or `None` where a length or a count
-//!   needs more than four bytes.
-//! - [`read_record`] takes bytes and returns the object whose record they are, or `None` where they
-//!   are the record of none.
-//! - Both return `NoMemory` out of memory.
+//! - [`to_record`] takes an object and returns its record, or `None` if a length or a count doesn't
+//!   fit four bytes.
+//! - [`read_record`] takes bytes and returns the object whose record they are, or `None` if they
+//!   are no object's record.
+//! - Out of memory, both return `NoMemory`.
 //!
 //! ```text
 //! let record = to_record(alloc, &object)?;
@@ -26,13 +26,13 @@
 //! # What the contracts mean
 //!
 //! `specs/Record.antt` has `record_of`, the record of an object as a value. `to_record` returns
-//! exactly what it gives. What `read_record` finds has these bytes as its record, and where it
-//! finds nothing no object of texts has them.
+//! exactly that. An object that `read_record` returns has these bytes as its record, and where it
+//! returns none, no object whose texts are UTF-8 has them.
 //!
 //! `no_record_begins_another`, a law, says that no record is a proper beginning of another, so that
-//! records may follow one another, and that each record is the record of one object.
-//! `read_objects_have_records`, another, says that each object of a deposit that was read from a
-//! body has a record.
+//! records may be put one after the other, and that no two objects have the same record.
+//! `read_objects_have_records`, another law, says that each object of a deposit that was read from
+//! a body has a record.
 //!
 //! # Cost
 //!

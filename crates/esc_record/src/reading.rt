@@ -31,7 +31,7 @@ use esc_tables::{Object, Row};
 use std::alloc::Global;
 use std::str;
 
-// A number, and the rest.
+// The number that bytes begin with, and the rest.
 fn number_at(bytes: &[u8]) -> Option<(u32, &[u8])>
     ensures { option_map (λ p. (p.0, p.1.now)) result ≡ number_at bytes.now }
 {
@@ -60,7 +60,7 @@ fn as_text(bytes: &[u8]) -> Option<&str>
     }
 }
 
-// A text, and the rest.
+// The text that bytes begin with, and the rest.
 fn text_at(bytes: &[u8]) -> Option<(&str, &[u8])>
     ensures { option_map (λ p. (p.0.now, p.1.now)) result ≡ text_at is_utf8 bytes.now }
 {
@@ -70,7 +70,7 @@ fn text_at(bytes: &[u8]) -> Option<(&str, &[u8])>
     Some((text, rest))
 }
 
-// A cell, field and text, and the rest.
+// The cell that bytes begin with, field and value, and the rest.
 #[tactic(auto, unfolding(crate::specs::Reading::cell_at))]
 fn cell_at(bytes: &[u8]) -> Option<((&str, &str), &[u8])>
     ensures { option_map (λ p. ((p.0.0.now, p.0.1.now), p.1.now)) result
@@ -81,7 +81,7 @@ fn cell_at(bytes: &[u8]) -> Option<((&str, &str), &[u8])>
     Some(((field, text), rest))
 }
 
-// n cells, and the rest.
+// The first n cells, and the rest.
 fn cells_at(
     alloc: Global,
     count: u32,
@@ -103,7 +103,7 @@ fn cells_at(
     Ok(Some((cells, rest)))
 }
 
-// A row, and the rest.
+// The row that bytes begin with, and the rest.
 #[tactic(auto, unfolding(crate::specs::Reading::row_at))]
 fn row_at(alloc: Global, bytes: &[u8]) -> Result<Option<(Row, &[u8])>, NoMemory>
     ensures { IfOk result (λ found. option_map (λ p. (p.0, p.1.now)) found
@@ -122,7 +122,7 @@ fn row_at(alloc: Global, bytes: &[u8]) -> Result<Option<(Row, &[u8])>, NoMemory>
     Ok(Some((row, rest)))
 }
 
-// n rows, and the rest.
+// The first n rows, and the rest.
 fn rows_at(alloc: Global, count: u32, bytes: &[u8]) -> Result<Option<(Vec<Row>, &[u8])>, NoMemory>
     ensures { IfOk result (λ found. option_map (λ p. (p.0.items, p.1.now)) found
         ≡ many (row_at is_utf8) count bytes.now) }
@@ -154,7 +154,8 @@ fn of_rows(rows: Vec<Row>) -> Option<Object>
     })
 }
 
-/// The object whose record the bytes are, if they are one.
+/// The object whose record the bytes are; `None` if they are no object's record (this project's
+/// profile).
 pub fn read_record(alloc: Global, bytes: &[u8]) -> Result<Option<Object>, NoMemory>
     ensures found { IfOk result (λ found. IfSome found (λ o. record_of o ≡ Some bytes.now)) }
     ensures none { IfOk result
@@ -163,7 +164,7 @@ pub fn read_record(alloc: Global, bytes: &[u8]) -> Result<Option<Object>, NoMemo
     object_of(alloc, bytes)
 }
 
-// The object that a list function reads.
+// The object whose record the bytes are, as the definition reads it.
 #[tactic(auto, unfolding(crate::specs::Reading::object_of))]
 fn object_of(alloc: Global, bytes: &[u8]) -> Result<Option<Object>, NoMemory>
     ensures { IfOk result (λ found. found ≡ object_of is_utf8 bytes.now) }

@@ -21,12 +21,12 @@ use esc_bundle::NoMemory;
 use esc_tables::{Object, Row};
 use std::alloc::Global;
 
-/// The bytes that a record starts with room for: most records fit, so that writing one takes one
-/// allocation.
+/// The bytes for which a record has room at first. Most records fit, so that most are written with
+/// one allocation.
 const USUAL_LENGTH: usize = 256;
 
-// Each of these returns whether the lengths and counts fit; where one doesn't, what was pushed is
-// of no use.
+// Each of these returns whether the lengths and counts fit four bytes. If one doesn't, the bytes
+// that were pushed are no record.
 
 #[tactic(auto, unfolding(crate::specs::Record::number_bytes))]
 fn push_number(bytes: &mut Vec<u8>, number: usize) -> Result<bool, NoMemory>
@@ -115,7 +115,8 @@ fn push_object(bytes: &mut Vec<u8>, o: &Object) -> Result<bool, NoMemory>
     push_rows(bytes, children)
 }
 
-/// The record of an object, or `None` where a length or a count needs more than four bytes.
+/// The record of an object, or `None` if a length or a count doesn't fit four bytes (this project's
+/// profile).
 #[tactic(auto, unfolding(crate::specs::Record::record_of))]
 pub fn to_record(alloc: Global, o: &Object) -> Result<Option<Vec<u8>>, NoMemory>
     ensures { IfOk result (λ bytes. option_map (λ b. b.items) bytes ≡ record_of o.now) }

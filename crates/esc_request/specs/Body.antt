@@ -3,7 +3,8 @@ use Rattle.std.specs.Prelude.{◌≡◌, ℕ, ◌≤◌, ◌<◌, List, length, 
 use Rattle.esc_request.specs.declared.body.Body.{Body}
 use Rattle.esc_request.specs.declared.body.Body.TheVariants.{Whole, Cut, NoMemory}
 
--- the body of this size at the front of the input, or that the input is shorter
+-- the body is the first `size` bytes of the input, or the input is shorter; out of memory is always
+-- possible
 abbrev pub IsBody : ℕ → List ℕ → Body → Type 0
 IsBody size input (Whole body) = (size ≤ length input) × (body.items ≡ take size input)
 IsBody size input Cut = length input < size

@@ -33,11 +33,11 @@ Line = List ℕ × List ℕ
 abbrev pub is_named : List ℕ → Line → Bool
 is_named name line = str_eq_ignore_ascii_case line.0 name
 
--- one digit or more, and nothing else; leading zeros are right
+-- one digit or more, and nothing else; leading zeros are allowed
 abbrev pub is_numeral : List ℕ → Bool
 is_numeral text = nat_lt 0 (length text) && list_all is_ascii_digit text
 
--- the length that a value says: a numeral up to 16,777,216
+-- the length that a value states: a numeral up to 16,777,216
 abbrev pub length_of_value : List ℕ → BodyLength
 length_of_value text =
     if is_numeral text then (if nat_le (digits_value 10 text) 16777216 then Bytes
@@ -69,8 +69,8 @@ length_of_values nothing = Missing
 length_of_values (one value) = length_of_value value
 length_of_values more = Malformed
 
--- what header lines say of the body's length: nothing if there is a Transfer-Encoding, else what
--- the one Content-Length says
+-- the length of the body by the header lines: none if there is a Transfer-Encoding, else what the
+-- one Content-Length states
 abbrev pub body_length : List Line → BodyLength
 body_length lines =
     if list_any (is_named (codes "transfer-encoding")) lines then Missing

@@ -57,7 +57,7 @@ refusal_response BadNumber = plain (codes "400 Bad Request") (codes "N1\n")
 refusal_response LengthRequired = plain (codes "411 Length Required") (codes "length required\n")
 refusal_response TooLarge = plain (codes "413 Content Too Large") (codes "too large\n")
 
--- 503 with these words: there is no result now
+-- 503 with these words: the request can't be served now
 abbrev pub unavailable : List ℕ → List ℕ
 unavailable words = plain (codes "503 Service Unavailable") words
 

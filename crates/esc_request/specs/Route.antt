@@ -39,11 +39,11 @@ pub data Leads : Type 0 where
   arrival : List ℕ → Leads
   tells : Report → Leads
 
--- what follows a front in a text, if the text begins with it
+-- what comes after this beginning of a text, if the text begins with it
 abbrev pub strip : List ℕ → List ℕ → Option (List ℕ)
 strip front text = if starts_with nat_eq text front then Some (drop (length front) text) else None
 
--- one segment of a path that isn't empty
+-- a segment of a path that isn't empty: no slash is in it
 abbrev pub is_segment : List ℕ → Bool
 is_segment [] = false
 is_segment (b ∷ bytes) = not (list_any (λ c. c == 47) (b ∷ bytes))
@@ -51,11 +51,11 @@ is_segment (b ∷ bytes) = not (list_any (λ c. c == 47) (b ∷ bytes))
 abbrev pub if_segment : List ℕ → Option (List ℕ)
 if_segment text = if is_segment text then Some text else None
 
--- the one segment that follows a front, if that is all that follows
+-- the one segment after this beginning of a path, if nothing else comes after it
 abbrev pub segment_after : List ℕ → List ℕ → Option (List ℕ)
 segment_after front path = option_and_then if_segment (strip front path)
 
--- the export of the kind of this name
+-- the export of the kind with this name, if there is one
 abbrev pub export_named : List ℕ → Option Leads
 export_named name = option_map (λ kind. tells (Export kind)) (kind_named name)
 

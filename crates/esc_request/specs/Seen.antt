@@ -1,4 +1,4 @@
--- What contracts see of values that lie in a buffer.
+-- What contracts see of values that are slices of a buffer.
 use Rattle.esc_request.specs.declared.length.Values.{Values as Lying}
 use Rattle.esc_request.specs.declared.length.Values.TheVariants.{Nothing, One, More}
 use Rattle.esc_request.specs.declared.route.Route.{Route}

@@ -8,17 +8,20 @@ ghost use Rattle.esc_request.specs.Body.{IsBody};
 use crate::streams::{ReadFailed, Source};
 use std::alloc::{AllocError, Global};
 
-/// What came of a body.
+/// A body that was read, or why there is none.
 #[derive(Drop)]
 pub enum Body {
+    /// All bytes of the body.
     Whole(Vec<u8>),
-    /// The input ended first.
+    /// The input ended before the body did.
     Cut,
+    /// Out of memory.
     NoMemory,
 }
 
-/// Reads a body of this length. `front` has the bytes after the head that were read with it: the
-/// body begins with them, and those past its length are ignored.
+/// Reads a body of `size` bytes. `front` has the bytes after the head that were read with it: the
+/// body begins with them, and those past its length are ignored. `ReadFailed` if a read of the
+/// source failed.
 pub fn read_body<R: Source>(
     alloc: Global,
     source: &mut R,
@@ -41,7 +44,7 @@ pub fn read_body<R: Source>(
     }
 }
 
-// A buffer of this length that begins with the first bytes of these.
+// A buffer of `size` bytes that begins with the first `here` bytes of `front`.
 fn begin_body(alloc: Global, front: &[u8], here: usize, size: usize) -> Result<Vec<u8>, AllocError>
     requires within { here ≤ length front.now }
     requires fits { here ≤ size }
@@ -54,7 +57,7 @@ fn begin_body(alloc: Global, front: &[u8], here: usize, size: usize) -> Result<V
     Ok(body)
 }
 
-// Fills a buffer from a place on, and returns whether the input was long enough.
+// Fills a buffer from index `filled` on, and returns whether the input was long enough.
 fn fill_body<R: Source>(
     source: &mut R,
     body: &mut Vec<u8>,

@@ -1,4 +1,4 @@
-//! The head of a request, from a reader that gives it in any pieces.
+//! The head of a request, from a reader that returns it in any pieces.
 
 ghost use Rattle.std.specs.Prelude.{◌≡◌, ◌≤◌, length, take, IfOk, IfSome, IfNone, IsTrue, OnErr};
 ghost use Rattle.std.specs.Io.KnownBytes.{Consumes};
@@ -15,15 +15,18 @@ pub const MOST_HEAD_BYTES: usize = 8192;
 /// The most header lines of a head.
 pub const MOST_LINES: usize = 32;
 
-/// Where a head is in the front of a buffer.
+/// A head at the front of a buffer.
 #[derive(Clone, Copy, Debug)]
 pub struct FoundHead {
+    /// Where in the buffer the parts of the head are.
     pub spans: RequestSpans,
     /// How many bytes of the buffer were read: the head, and perhaps some that follow it.
     pub filled: usize,
 }
 
-/// Reads until the head of a request is whole, or what was read can't begin one.
+/// Reads until the head of a request is whole (RFC 9112, as `httparse` reads it), or what was read
+/// can't begin one. `None` if no beginning of the input is a head of at most 8,192 bytes and 32
+/// header lines; `ReadFailed` if a read of the source failed.
 pub fn read_head<R: Source>(
     source: &mut R,
     buffer: &mut [u8],

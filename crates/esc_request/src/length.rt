@@ -19,16 +19,20 @@ use httparse::spans::HeaderSpan;
 /// The most bytes of a body.
 pub const MOST_BODY_BYTES: u32 = 16_777_216;
 
-/// What header lines say of the length of the body.
+/// The length of a body, or why there is none (RFC 9112, section 6, within this project's profile).
 #[derive(Clone, Copy, Debug, PartialEq, Eq)]
 pub enum BodyLength {
+    /// This many bytes, at most 16,777,216.
     Bytes(u32),
+    /// There is no Content-Length, or there is a Transfer-Encoding.
     Missing,
+    /// There is more than one Content-Length, or its value isn't one digit or more.
     Malformed,
+    /// It is over 16,777,216 bytes.
     TooLong,
 }
 
-/// What header lines say of the length of the body.
+/// The length of the body, by the header lines of a head; `bytes` is the buffer in which they are.
 pub fn body_length(bytes: &[u8], lines: &[HeaderSpan]) -> BodyLength
     requires { All (IsHeaderWithin (length bytes.now)) lines.now }
     ensures { result ≡ body_length (map (header_bytes bytes.now) lines.now) }
@@ -96,7 +100,7 @@ fn values_with<'b>(values: Values<'b>, bytes: &'b [u8], line: HeaderSpan, name: 
     }
 }
 
-// The length that a value says: one digit or more.
+// The length that a value states, in one digit or more.
 fn length_of_value(text: &[u8]) -> BodyLength
     ensures { result ≡ length_of_value text.now }
 {

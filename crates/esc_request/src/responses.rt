@@ -14,14 +14,14 @@ use crate::refusal::Refusal;
 use crate::reports::Report;
 use std::alloc::{AllocError, Global};
 
-/// The out-of-memory response. Doesn't allocate.
+/// The response for out of memory: 503 with the words `S2`. Doesn't allocate.
 pub fn out_of_memory() -> &'static [u8]
     ensures { result.now ≡ out_of_memory }
 {
     b"HTTP/1.1 503 Service Unavailable\r\nContent-Type: text/plain\r\nContent-Length: 3\r\nConnection: close\r\n\r\nS2\n"
 }
 
-/// The response to a request that is refused.
+/// The response to a request that is refused. `None` out of memory.
 pub fn refusal_response(alloc: Global, refusal: Refusal) -> Option<Vec<u8>>
     ensures { IfSome result (λ text. text.items ≡ refusal_response refusal) }
 {
@@ -66,7 +66,7 @@ pub fn refusal_response(alloc: Global, refusal: Refusal) -> Option<Vec<u8>>
     }
 }
 
-/// The response with a report.
+/// The response with the text of a report: 200. `None` out of memory.
 pub fn report_response(alloc: Global, report: Report, text: &[u8]) -> Option<Vec<u8>>
     ensures { IfSome result (λ whole. whole.items ≡ report_response report text.now) }
 {
@@ -83,8 +83,8 @@ fn report_media(report: Report) -> &'static str
     }
 }
 
-/// The response with this status, of this media type and with this body. `allow` is one more header
-/// line, or nothing.
+/// The response with this status (number and words), this media type and this body (RFC 9112,
+/// section 4). `allow` is one more header line, with its line end, or empty. `None` out of memory.
 pub fn response(
     alloc: Global,
     status: &str,

@@ -21,8 +21,9 @@ pub enum Target {
 /// Where a path leads.
 #[derive(Clone, Copy, Debug)]
 pub enum Route<'p> {
-    /// To an arrival, which would have this number.
+    /// To an arrival with this number, which isn't tested yet.
     Arrival(&'p str),
+    /// To a report.
     Tells(Report),
 }
 
@@ -49,7 +50,7 @@ fn add_routes(router: &mut Router<Target>) -> Result<(), InsertError>
     Ok(())
 }
 
-/// Where a path leads, if it has a route.
+/// Where a path leads, or `None` if it has no route (this project's profile). Nothing is decoded.
 pub fn route_of<'p>(router: &Router<Target>, path: &'p str) -> Option<Route<'p>>
     requires { router.now ≡ rows }
     ensures { option_map route_seen result ≡ route_of path.now }

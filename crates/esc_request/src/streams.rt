@@ -31,7 +31,7 @@ pub struct ReadFailed;
 #[derive(Clone, Copy, Debug, PartialEq, Eq)]
 pub struct WriteFailed;
 
-/// What bytes are read from.
+/// What bytes are read from, with a failure that contracts see.
 pub trait Source {
     // the bytes that are still to be read, where they are known
     ghost remaining: { Self → Option (List ℕ) };
@@ -46,7 +46,7 @@ pub trait Source {
         ensures err { OnErr result (IsTrue (failed self.new)) };
 }
 
-/// What bytes are written to.
+/// What bytes are written to, with a failure that contracts see.
 pub trait Sink {
     // the bytes that were written so far, where they are known
     ghost contents: { Self → Option (List ℕ) };

@@ -16,8 +16,8 @@ use Rattle.esc_rows.specs.Rows.{first_info_row}
 use Rattle.esc_rows.specs.StoreTable.{StoreTable, place_of, tree_of, stored_row}
 use Rattle.esc_rows.specs.Content.{Content, IsInOrder, HoldsContent, rows_of, content_in}
 
--- the trees have exactly these rows, of a store of version 1, which keeps neither a parked body nor
--- a moment
+-- the trees are those of version 1, with exactly these rows; so no body is parked, and no moment is
+-- set
 pub record HoldsFirstRows (trees : Trees) (c : Content) : Type 0 where
   pub info : trees info_tree ≡ first_info_row ∷ []
   pub tables : (t : StoreTable) → place_of t < 7
@@ -25,32 +25,32 @@ pub record HoldsFirstRows (trees : Trees) (c : Content) : Type 0 where
   pub parked : c.parked ≡ []
   pub moment : c.moment ≡ []
 
--- the trees are those of a store of version 1 that holds this: they list its schema and obey it
+-- the trees are those of a store of version 1 with this content: they list its schema and obey it
 pub record IsFirstStore (trees : Trees) (c : Content) : Type 0 where
   pub rows : HoldsFirstRows trees c
   pub ordered : IsInOrder c
   pub sound : IsSound first_schema trees
 
--- the database is a store of version 1 that holds this
+-- the database is a store of version 1 with this content
 pub record HoldsFirst (db : Database) (c : Content) : Type 0 where
   pub schema_is : db.schema ≡ first_schema
   pub store : IsFirstStore db.trees c
 
--- a function of the trees, which of a store of version 1 gives its content
+-- the content of a store of version 1 by its trees; of other trees it is of no meaning
 abbrev pub first_content_in : Trees → Content
 first_content_in trees = record (content_in trees) { parked = []; moment = [] }
 
 -- ---- from version 1 to version 2
 
--- the store holds what it held, and is of version 2
+-- a store of version 1 becomes one of version 2, with the same content
 abbrev pub Upgrades : Database → Database → Type 0
 Upgrades old new = (c : Content) → HoldsFirst old c → HoldsContent new c
 
--- the table at a place of the schema
+-- the table with this index in the schema, from 0
 abbrev pub table_at : ℕ → Table
 table_at at = slice_index_or store_schema.tables at info_table
 
--- the table at this place is added: it is empty, and each table before it has the rows that it had
+-- the table with this index is added: it is empty, and each table before it keeps its rows
 pub record IsTableAdded (at : ℕ) (old new : Database) : Type 0 where
   pub schema_is : new.schema ≡ schema_of (at + 1)
   pub empty : new.trees (table_at at).tree ≡ []
@@ -60,13 +60,13 @@ pub record IsTableAdded (at : ℕ) (old new : Database) : Type 0 where
 abbrev pub AddsTable : ℕ → Database → Database → Type 0
 AddsTable at old new = old.schema ≡ schema_of at → IsTableAdded at old new
 
--- the database has all tables of version 2 and this content, and tells version 1
+-- the database has all tables of version 2 and this content, and its version is still 1
 pub record IsToBeRaised (db : Database) (c : Content) : Type 0 where
   pub schema_is : db.schema ≡ store_schema
   pub info : db.trees info_tree ≡ first_info_row ∷ []
   pub tables : (t : StoreTable) → db.trees (tree_of t) ≡ map (stored_row t) (rows_of c t)
   pub ordered : IsInOrder c
 
--- the store holds what it held, and tells version 2
+-- such a database becomes a store of version 2, with the same content
 abbrev pub RaisesVersion : Database → Database → Type 0
 RaisesVersion old new = (c : Content) → IsToBeRaised old c → HoldsContent new c

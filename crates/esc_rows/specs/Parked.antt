@@ -33,7 +33,7 @@ use Rattle.esc_rows.specs.Content.{Content, HoldsContent, parked_at, is_parked_a
 
 -- ---- parked bodies
 
--- the body is parked under the digest, where none was, and each other digest keeps its own
+-- the body is parked under the digest, where none was, and each other digest keeps its body
 abbrev pub PutsParked : List ℕ → List ℕ → Database → Database → Type 0
 PutsParked digest body old new =
     (c : Content) → HoldsContent old c
@@ -42,7 +42,7 @@ PutsParked digest body old new =
     × ((d : List ℕ)
     → parked_at d ps ≡ (if bytes_eq digest d then Some body else parked_at d c.parked))
 
--- none is parked under the digest, and each other digest keeps its own
+-- no body is parked under the digest, and each other digest keeps its body
 abbrev pub RemovesParked : List ℕ → Database → Database → Type 0
 RemovesParked digest old new =
     (c : Content) → HoldsContent old c
@@ -52,7 +52,7 @@ RemovesParked digest old new =
 abbrev pub by_digest : ParkedRow → ParkedRow → Ordering
 by_digest a b = slice_cmp nat_cmp a.digest b.digest
 
--- the digests under which a body is parked, in the order of their bytes, each once
+-- the digests under which a body is parked, in byte order, each once
 pub record ListsParked (c : Content) (found : List (List ℕ)) : Type 0 where
   pub rising : IsAscending (λ a b. slice_cmp nat_cmp a b ≡ Less) found
   pub each : (d : List ℕ) → Contains found d ↔ IsSome (parked_at d c.parked)
@@ -70,7 +70,7 @@ abbrev pub SetsMoment : ℤ → Database → Database → Type 0
 SetsMoment watermark old new = (c : Content) → HoldsContent old c
     → HoldsContent new (record c { moment = moment_row watermark ∷ [] }) × (c.moment ≡ [])
 
--- ---- the rows of each answer
+-- ---- the rows of each result
 
 abbrev pub shown_parked : ParkedRow → Row
 shown_parked p = Blob p.body ∷ []

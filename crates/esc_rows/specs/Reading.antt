@@ -1,8 +1,8 @@
--- Rows of an answer, and the values that they are read as.
+-- Rows of a result, and the values that are read from them.
 use Rattle.std.specs.Prelude.{List, [], ◌∷◌}
 use Rattle.sqlite_value.specs.Order.{Row}
 
--- each value is read from the row at its place, and none is left out
+-- each value is read from the row with its index, and no row is left out
 abbrev pub AreRead : {V : Type 0} → (Row → V → Type 0) → List Row → List V → Type 0
 AreRead IsRead [] [] = Unit {0}
 AreRead IsRead [] (v ∷ vs) = ⊥

@@ -51,7 +51,7 @@ pub data StoreTable : Type 0 where
   Parked : StoreTable
   Moment : StoreTable
 
--- its place in the schema, from 0
+-- the index of a table in the schema, from 0
 abbrev pub place_of : StoreTable → ℕ
 place_of Listed = 1
 place_of Receipts = 2
@@ -72,11 +72,11 @@ schema_table Undo = undo_table
 schema_table Parked = parked_table
 schema_table Moment = moment_table
 
--- the number of its tree
+-- the number of a table's tree
 abbrev pub tree_of : StoreTable → ℕ
 tree_of t = (schema_table t).tree
 
--- its rows, typed
+-- the typed rows of a table
 abbrev pub RowOf : StoreTable → Type 0
 RowOf Listed = ListedRow
 RowOf Receipts = ReceiptRow
@@ -87,7 +87,7 @@ RowOf Undo = UndoRow
 RowOf Parked = ParkedRow
 RowOf Moment = MomentRow
 
--- the rowid, by which it is in order
+-- the rowid of a row, by which its table is in order
 abbrev pub row_number : (t : StoreTable) → RowOf t → ℤ
 row_number Listed = listed_number
 row_number Receipts = receipt_number
@@ -108,6 +108,6 @@ row_columns Undo = undo_columns
 row_columns Parked = parked_columns
 row_columns Moment = moment_columns
 
--- a row as its tree has it: the rowid, and then the columns
+-- a row as its tree keeps it: the rowid, and then the columns
 abbrev pub stored_row : (t : StoreTable) → RowOf t → Row
 stored_row t x = Int (row_number t x) ∷ row_columns t x

@@ -20,7 +20,8 @@ pub fn clear_moment<S: Alter>(conn: &mut Connection<S>) -> Result<(), Error>
     write_within(conn, "DELETE FROM moment", &[])
 }
 
-/// Sets the moment. Where one is set already it is an error.
+/// Sets the moment, in nanoseconds since 1970-01-01T00:00:00Z. If one is set already it is an
+/// error.
 pub fn insert_moment<S: Alter>(conn: &mut Connection<S>, watermark: i64) -> Result<(), Error>
     ensures part { IsPart (state S.Store conn.old) (state S.Store conn.new)
         (SetsMoment watermark) result }
@@ -50,7 +51,7 @@ fn moment_in(rows: &[Row]) -> Result<Option<i64>, Error>
     }
 }
 
-/// The moment that is set, if one is.
+/// The moment that is set, in nanoseconds since 1970-01-01T00:00:00Z, if one is.
 pub fn find_moment<S: Alter>(conn: &mut Connection<S>) -> Result<Option<i64>, Error>
     ensures read { IsRead (state S.Store conn.old) (state S.Store conn.new)
         (Tells (λ c found. found ≡ moment_of c.moment)) result }

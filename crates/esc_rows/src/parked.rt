@@ -1,4 +1,4 @@
-//! The table of parked bodies, which no row of the manifest lists, by their digests.
+//! The table of parked bodies, which no row of the manifest lists, by their SHA-256.
 
 ghost use Rattle.std.specs.Prelude.{◌≡◌, ℕ, List, map, option_map};
 ghost use Rattle.sqlite.specs.Held.{state};
@@ -60,7 +60,8 @@ pub fn find_parked<S: Alter>(
     digest: &[u8],
 ) -> Result<Option<Vec<u8>>, Error>
     ensures read { IsRead (state S.Store conn.old) (state S.Store conn.new)
-        (Tells (λ c found. option_map (λ b. b.items) found ≡ parked_at digest.now c.parked)) result }
+        (Tells (λ c found. option_map (λ b. b.items) found
+        ≡ parked_at digest.now c.parked)) result }
 {
     let rows = ask_parked(conn, digest)?;
     match rows.first() {
@@ -69,7 +70,7 @@ pub fn find_parked<S: Alter>(
     }
 }
 
-// The order is that of the index, which has all that is read, so no body is.
+// The index has the order and all that is read, so no body is read.
 fn ask_digests<S: Alter>(conn: &mut Connection<S>) -> Result<Vec<Row>, Error>
     ensures read { IsRead (state S.Store conn.old) (state S.Store conn.new)
         (λ db rows. Tells ShowsDigests db rows.items) result }
@@ -86,7 +87,7 @@ impl FromRow for Vec<u8> {
     }
 }
 
-/// The digests of the parked bodies, in the order of their bytes.
+/// The digests of the parked bodies, in byte order.
 pub fn parked_digests<S: Alter>(
     alloc: Global,
     conn: &mut Connection<S>,

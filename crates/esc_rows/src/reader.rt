@@ -1,4 +1,4 @@
-//! Rows of an answer as values.
+//! Rows of a query's result as values.
 
 ghost use Rattle.std.specs.Prelude.{◌≡◌, IfOk};
 ghost use Rattle.sqlite_value.specs.Order.{Row as StoredRow};
@@ -8,7 +8,7 @@ ghost use Rattle.esc_rows.specs.Reading.{AreRead};
 use sqlite::{Error, ErrorCode, Row};
 use std::alloc::Global;
 
-/// A value that can be read from a row of an answer: `is_read` relates a row to its value. A row
+/// A value that can be read from a row of a result: `is_read` relates a row to its value. A row
 /// without the value's columns is an error.
 pub trait FromRow: Drop {
     ghost is_read: { StoredRow → Self → Type 0 };

@@ -17,7 +17,7 @@ use Rattle.esc_tables.specs.ObjectValue.{ObjectValue}
 use Rattle.esc_record.specs.Record.{record_of}
 use Rattle.esc_apply.specs.Registry.{State, HasSize}
 use Rattle.esc_apply.specs.Registry.{Content as Objects}
-use Rattle.esc_apply.proofs.Keys.{keys_alike}
+use Rattle.esc_tables.specs.KeyLaws.{keys_alike}
 use Rattle.esc_rows.specs.Rows.{ObjectRow}
 use Rattle.esc_rows.specs.Content.{Content, is_object_at, object_at}
 use Rattle.esc_rows.specs.Changes.{ListsKinds}

@@ -12,7 +12,7 @@ use Rattle.esc_tables.specs.ObjectValue.{ObjectValue}
 use Rattle.esc_record.specs.Record.{record_of}
 use Rattle.esc_apply.specs.Registry.{State, Befores, IsEntriesOf}
 use Rattle.esc_apply.specs.Registry.{Content as Objects}
-use Rattle.esc_apply.proofs.Keys.{same_key}
+use Rattle.esc_tables.specs.KeyLaws.{one_key as same_key}
 use Rattle.esc_rows.specs.Content.{Content}
 use Rattle.esc_rows.specs.Changes.{ObjectEntry, ImageEntry, ListsObjects, ListsImages, is_entry_at, is_image_entry_at}
 use Rattle.esc_store.specs.Decoded.{AreObjectsOf, AreImagesOf, AreNotes}

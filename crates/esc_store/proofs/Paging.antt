@@ -15,7 +15,7 @@ use Rattle.esc_tables.specs.KeyName.{KeyName, key_cmp, key_eq}
 use Rattle.esc_record.specs.Record.{record_of}
 use Rattle.esc_apply.specs.Objects.{Entry, InOrder}
 use Rattle.esc_apply.specs.Registry.{State}
-use Rattle.esc_apply.proofs.Keys.{keys_alike}
+use Rattle.esc_tables.specs.KeyLaws.{keys_alike}
 use Rattle.esc_rows.specs.Content.{Content, object_at}
 use Rattle.esc_rows.specs.Changes.{ObjectEntry, by_entry, entry_at, is_entry_at, is_from, is_up_to, last_key, ListsFrom}
 use Rattle.esc_rows.proofs.Firsts.{last}

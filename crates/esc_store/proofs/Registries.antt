@@ -16,7 +16,7 @@ use Rattle.esc_record.proofs.Objects.{alone}
 use Rattle.std.proofs.lemmas.List.{append-nil}
 use Rattle.esc_apply.specs.Registry.{State, Befores, empty, nothing, with_key, written, noted, taken}
 use Rattle.esc_apply.specs.Registry.{Content as Objects}
-use Rattle.esc_apply.proofs.Keys.{key_itself, same_key}
+use Rattle.esc_tables.specs.KeyLaws.{key_itself, one_key as same_key}
 use Rattle.esc_rows.specs.Rows.{ObjectRow}
 use Rattle.esc_rows.specs.Content.{Content, content_in, HoldsContent, object_at, image_at, is_same_key, is_same_image}
 use Rattle.esc_rows.specs.Changes.{PutsObject, RemovesObject, without_objects, PutsImage, RemovesImages, without_undo, Becomes}

@@ -40,13 +40,13 @@ use Rattle.esc_store.specs.Kept.{IsRising}
 use Rattle.esc_store.specs.ReplyValue.{ReceiptValue}
 use Rattle.esc_store.specs.TypedRows.{image_kept, verdict_number}
 
--- an object stands at just the keys of the rows, and its record is the row's
+-- exactly the keys of the rows have an object, and its record is the row's
 abbrev pub AreObjectsOf : List ObjectEntry → List (KeyName × ObjectValue) → Type 0
 AreObjectsOf rows objects = (q : KeyName) → option_map record_of (lookup (key_eq q) objects)
     ≡ option_map (λ bytes. Some bytes) (entry_at (kind_rank q.kind) q.text rows)
 
--- a before-image stands at just the keys of the rows: an object, whose record is the row's, or
--- none, where the row has none
+-- exactly the keys of the rows have a before-image: an object, whose record is the row's, or none,
+-- if the row has no record
 abbrev pub AreImagesOf : List ImageEntry → List (KeyName × Option ObjectValue) → Type 0
 AreImagesOf rows images = (q : KeyName)
     → option_map (option_map record_of) (lookup (key_eq q) images)
@@ -58,25 +58,25 @@ pub record AreNotes (step : ℕ) (s : State) (rows : List ImageEntry) : Type 0 w
   pub recorded : (q : KeyName) (o : ObjectValue) → s.undo step q ≡ Some (Some o)
       → IsSome (record_of o)
 
--- no two objects have one key
+-- no two objects have the same key
 abbrev pub HaveOwnKeys : List ObjectRow → Type 0
 HaveOwnKeys = IsAscending (λ a b. is_object_at b.kind b.key a ≡ false)
 
--- the numbers of a list, rising, each once
+-- the numbers of a list, in ascending order, each once
 pub record AreOnce (numbers rows : List ℕ) : Type 0 where
   pub rising : IsRising rows
   pub each : (n : ℕ) → Contains rows n ↔ Contains numbers n
 
--- a receipt is of the verdict with this number, and its body has this digest
+-- a receipt has the verdict with this number, and its body has this digest
 abbrev pub IsOfVerdict : ℕ → List ℕ → ReceiptValue → Type 0
 IsOfVerdict verdict digest r = (verdict_number r.verdict ≡ verdict) × (r.digest ≡ digest)
 
--- the digests of the receipts of a verdict, in any order
+-- the digests of the receipts with a verdict, in any order
 abbrev pub AreOfVerdict : ℕ → List ReceiptValue → List (List ℕ) → Type 0
 AreOfVerdict verdict receipts digests =
     (digest : List ℕ) → Contains digests digest ↔ Any (IsOfVerdict verdict digest) receipts
 
--- how often the number of a kind stands among these
+-- how often the number of a kind occurs among these
 abbrev pub times : Kind → List ℕ → ℕ
 times kind numbers = length (filter (λ n. n == kind_rank kind) numbers)
 
@@ -84,10 +84,10 @@ times kind numbers = length (filter (λ n. n == kind_rank kind) numbers)
 abbrev pub all_kinds : List Kind
 all_kinds = Registrar ∷ Contact ∷ Host ∷ Domain ∷ Idn ∷ Nndn ∷ []
 
--- kinds, each with how often its number stands among these
+-- kinds, each with how often its number occurs among these
 abbrev pub tallies_of : List Kind → List ℕ → List (Kind × ℕ)
 tallies_of kinds numbers = map (λ kind. (kind, times kind numbers)) kinds
 
--- the kinds in their order, each with how often its number stands among these
+-- the kinds in their order, each with how often its number occurs among these
 abbrev pub tallies : List ℕ → List (Kind × ℕ)
 tallies = tallies_of all_kinds

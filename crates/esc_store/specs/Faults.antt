@@ -6,23 +6,23 @@ use Rattle.sqlite.specs.declared.error.ErrorCode.TheVariants.{OutOfMemory}
 use Rattle.esc_store.specs.declared.fault.SFault.{SFault}
 use Rattle.esc_store.specs.declared.fault.SFault.TheVariants.{S1, S2, S3, S4, S5}
 
--- want of memory, and every other fault
+-- an error of the database as a fault: S2 for out of memory, S1 for every other one
 abbrev pub fault_of : Error → SFault
 fault_of (SqliteFailure OutOfMemory) = S2
 fault_of _ = S1
 
--- the database failed, or memory was refused
+-- S1 or S2: the database failed, or out of memory
 abbrev pub IsS1OrS2 : SFault → Type 0
 IsS1OrS2 fault = (fault ≡ S1) ⊎ (fault ≡ S2)
 
--- the same, or the database is not what the call is for
+-- S1, S2, or S3: the database is not what the call is for
 abbrev pub IsS1ToS3 : SFault → Type 0
 IsS1ToS3 fault = (fault ≡ S3) ⊎ IsS1OrS2 fault
 
--- the first two, or the store has no room for a receipt
+-- S1, S2, or S4: the store has no room for a receipt
 abbrev pub IsS1OrS2OrS4 : SFault → Type 0
 IsS1OrS2OrS4 fault = (fault ≡ S4) ⊎ IsS1OrS2 fault
 
--- the same, or no other body can be parked
+-- S1, S2, S4, or S5: there is no room for a parked body
 abbrev pub IsS1OrS2OrS4OrS5 : SFault → Type 0
 IsS1OrS2OrS4OrS5 fault = (fault ≡ S5) ⊎ IsS1OrS2OrS4 fault

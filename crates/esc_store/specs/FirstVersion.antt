@@ -1,4 +1,4 @@
--- Stores of version 1, which kept no body that no row lists, and knew no moment.
+-- Stores of version 1, which keep no body that no row lists, and no moment.
 use Rattle.std.specs.Prelude.{◌≡◌, ◌≤◌, pos, false, length, slice_get, Some, option_map, IsTrue}
 use Rattle.sqlite_value.specs.declared.value.Value.TheVariants.{Int}
 use Rattle.sqlite_value.specs.Order.{Row, column}
@@ -20,34 +20,34 @@ pub record IsFirstKept (trees : Trees) (k : Kept) : Type 0 where
   pub books : IsBooks (first_content_in trees) k
   pub registry : IsRegistry (first_content_in trees) k.registry
 
--- these trees are a version 1 store of this
+-- these trees are a store of version 1 that keeps k
 unfoldable pub IsFirstStore : Trees → Kept → Type 0
 IsFirstStore trees k = IsFirstKept trees k
 
--- a database is a version 1 store of this
+-- a database is a store of version 1 that keeps k
 pub record IsFirstDatabase (db : Database) (k : Kept) : Type 0 where
   pub schema : db.schema ≡ first_schema
   pub kept : IsFirstKept db.trees k
 
--- a database has the seven tables, and the row that tells a version tells 1; the tables let there
--- be one such row at most
+-- a database has the seven tables, and its version is 1; the table of the version has at most one
+-- row
 pub record IsOfFirstVersion (db : Database) : Type 0 where
   pub schema : db.schema ≡ first_schema
   pub version : length (db.trees info_tree) ≤ 1
       → option_map (λ (r : Row). column r 2) (slice_get (db.trees info_tree) 0) ≡ Some (Int (pos 1))
 
--- the database of a connection is a version 1 store of this, and no transaction is on
+-- the database of a connection is a store of version 1 that keeps k, and no transaction is on
 pub record IsFirstAtRest (s : State) (k : Kept) : Type 0 where
   pub kept : IsFirstDatabase s.committed k
   pub same : s.now ≡ s.committed
   pub autocommit : s.in_transaction ≡ false
 
--- the same, so far as the disk gave back what was written, and as long as the connection is open
+-- the same, if the disk gave back what was written to it, and the connection is open
 unfoldable pub HoldsFirst : {S : Type 0} → Ghosts S → Held S → Kept → Type 0
 HoldsFirst g conn k = HasCleanDisk (state g conn) → IsTrue (state g conn).is_open
     → IsFirstAtRest (state g conn) k
 
--- what a connection sees is a version 1 store of this, so far as the disk gave back what was
--- written, and as long as the connection is open
+-- what a connection sees is a store of version 1 that keeps k, if the disk gave back what was
+-- written to it, and the connection is open
 abbrev pub SeesFirst : State → Kept → Type 0
 SeesFirst s k = HasCleanDisk s → IsTrue s.is_open → IsFirstKept s.now.trees k

@@ -70,40 +70,40 @@ fresh listed = record {
   registry = empty;
 }
 
--- with other rows of the manifest
+-- k with these rows of the manifest
 abbrev pub with_listed : Kept → List MRow → Kept
 with_listed k rows = record k { listed = rows }
 
--- with one receipt more
+-- k with one more receipt
 abbrev pub with_receipt : Kept → ReceiptValue → Kept
 with_receipt k r = record k { receipts = k.receipts ++ r ∷ [] }
 
--- bodies with one more, or another at this row
+-- bodies with this one for a row, in place of an earlier one
 abbrev pub body_put : (ℕ → Option (List ℕ)) → ℕ → List ℕ → ℕ → Option (List ℕ)
 body_put bodies row body n = if n == row then Some body else bodies n
 
--- with the body of a row
+-- k with this body for a row
 abbrev pub with_body : Kept → ℕ → List ℕ → Kept
 with_body k row body = record k { bodies = body_put k.bodies row body }
 
--- parked bodies with another one, or none, under this digest
+-- parked bodies with this one, or none, under a digest
 abbrev pub parked_put : (List ℕ → Option (List ℕ)) → List ℕ → Option (List ℕ) → List ℕ
     → Option (List ℕ)
 parked_put parked digest body d = if bytes_eq digest d then body else parked d
 
--- with a parked body, or with none, under a digest
+-- k with this parked body, or none, under a digest
 abbrev pub with_parked : Kept → List ℕ → Option (List ℕ) → Kept
 with_parked k digest body = record k { parked = parked_put k.parked digest body }
 
--- with another moment, or with none
+-- k with this moment, or without one
 abbrev pub with_moment : Kept → Option ℤ → Kept
 with_moment k moment = record k { moment = moment }
 
--- with another chain
+-- k with this chain
 abbrev pub with_steps : Kept → List ℕ → Kept
 with_steps k steps = record k { steps = steps }
 
--- with other tables and before-images
+-- k with these tables and before-images
 abbrev pub with_registry : Kept → State → Kept
 with_registry k s = record k { registry = s }
 
@@ -127,22 +127,22 @@ step_at listed row = record {
 abbrev pub kept_chain : Kept → List Step
 kept_chain k = map (step_at k.listed) k.steps
 
--- each number is below the ones behind it
+-- each number is less than those after it
 abbrev pub IsRising : List ℕ → Type 0
 IsRising [] = Unit {0}
 IsRising (n ∷ ns) = All (λ m. n < m) ns × IsRising ns
 
--- these are the rows that have a body, rising
+-- these are the rows that have a body, in ascending order
 pub record AreHeld (bodies : ℕ → Option (List ℕ)) (rows : List ℕ) : Type 0 where
   pub rising : IsRising rows
   pub each : (row : ℕ) → Contains rows row ↔ IsSome (bodies row)
 
--- texts in the order of their bytes, each once
+-- texts in byte order, each once
 abbrev pub AreRisingTexts : List (List ℕ) → Type 0
 AreRisingTexts [] = Unit {0}
 AreRisingTexts (t ∷ ts) = All (λ u. slice_cmp nat_cmp t u ≡ Less) ts × AreRisingTexts ts
 
--- these are the digests under which a body is parked, in the order of their bytes
+-- these are the digests under which a body is parked, in byte order
 pub record AreParked (parked : List ℕ → Option (List ℕ)) (digests : List (List ℕ)) : Type 0 where
   pub rising : AreRisingTexts digests
   pub each : (digest : List ℕ) → Contains digests digest ↔ IsSome (parked digest)
@@ -153,11 +153,11 @@ pub record IsFull (parked : List ℕ → Option (List ℕ)) : Type 0 where
   pub are : AreParked parked digests
   pub many : 1_024 ≤ length digests
 
--- a receipt says that the deposit of this row is held
+-- a receipt has A1 of this row: it says that the row's deposit is held
 abbrev pub SaysHeld : ℕ → ReceiptValue → Type 0
 SaysHeld row r = (r.verdict ≡ A1) × (r.row ≡ Some row)
 
--- these are the rows of which one of the receipts says so, rising
+-- these are the rows of which a receipt says so, in ascending order
 pub record AreHeldBy (receipts : List ReceiptValue) (rows : List ℕ) : Type 0 where
   pub rising : IsRising rows
   pub each : (row : ℕ) → Contains rows row ↔ Any (SaysHeld row) receipts

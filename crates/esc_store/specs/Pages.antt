@@ -28,20 +28,20 @@ last_text [] = None
 last_text (e ∷ []) = Some e.0.text
 last_text (e ∷ f ∷ es) = last_text (f ∷ es)
 
--- the keys of a page: those of the kind whose texts are at these bytes or behind them, and not
--- behind the last one, if there is one
+-- the keys of a page: of the kind, those whose texts are these bytes or come after them, up to the
+-- last one, if there is one
 abbrev pub is_on_page : Kind → List ℕ → Option (List ℕ) → KeyName → Bool
 is_on_page kind from last q = (kind_rank kind == kind_rank q.kind) && is_from from q.text
     && is_up_to last q.text
 
--- by key, of each key of the page what the content has, and nothing else; so where there is no
--- entry, the content has nothing of the kind from here on
+-- the entries are in the order of keys, and are what the content has at the keys of the page. If
+-- there is no entry, the content has nothing of the kind from these bytes on
 pub record IsPage (content : Content) (kind : Kind) (from : List ℕ) (es : List Entry) : Type 0 where
   pub order : InOrder es
   pub each : (q : KeyName) → lookup (key_eq q) es
       ≡ (if is_on_page kind from (last_text es) q then content q else None)
 
--- a key's number and bytes, with the record of its object, if it has one
+-- the number of a key's kind, the bytes of its text, and the record of its object, if it has one
 abbrev pub entry_row : Entry → ℕ × List ℕ × Option (List ℕ)
 entry_row e = (kind_rank e.0.kind, e.0.text, record_of e.1)
 

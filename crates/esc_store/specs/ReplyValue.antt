@@ -18,7 +18,7 @@ use Rattle.esc_manifest.specs.declared.row.MRow.{MRow}
 use Rattle.esc_manifest.specs.Rows.{id_at, resend_at}
 use Rattle.esc_store.specs.declared.reply.Verdict.{Verdict}
 
--- what the desk answers
+-- a reply of the desk
 pub record ReplyValue : Type 0 where
   pub receipt : ℕ
   pub number : List ℕ
@@ -28,7 +28,7 @@ pub record ReplyValue : Type 0 where
   pub again : Option Bool
   pub orphans : Option ℕ
 
--- what a store keeps of an arrival; the row is one of the manifest, from 0
+-- what a store keeps of an arrival; the row is an index in the manifest, from 0
 pub record ReceiptValue : Type 0 where
   pub number : List ℕ
   pub digest : List ℕ

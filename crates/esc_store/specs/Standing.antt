@@ -37,11 +37,11 @@ pub record IsAtRest (s : State) (k : Kept) : Type 0 where
   pub same : s.now ≡ s.committed
   pub autocommit : s.in_transaction ≡ false
 
--- so far as the disk gave back what was written, and as long as the connection is open
+-- the same, if the disk gave back what was written to it, and the connection is open
 abbrev pub RestsAt : State → Kept → Type 0
 RestsAt s k = HasCleanDisk s → IsTrue s.is_open → IsAtRest s k
 
--- the database of a connection is a store of this
+-- the database of a connection is a store that keeps k
 unfoldable pub HoldsKept : {S : Type 0} → Ghosts S → Held S → Kept → Type 0
 HoldsKept g conn k = RestsAt (state g conn) k
 
@@ -59,12 +59,13 @@ IsHonest g store = HasCleanDisk (state g store.conn)
 
 -- ---- what a crash leaves
 
--- what the next open finds after a crash now is a store of this
+-- after a crash now, the next open finds a store that keeps k
 unfoldable pub LeavesOnly : {S : Type 0} → Ghosts S → Store S → Kept → Type 0
 LeavesOnly g store k = HasCleanDisk (state g store.conn) → (trees : Trees)
     → (state g store.conn).may_leave trees → IsStore trees k
 
--- what a crash may leave after a call is what it might leave before, or a store of this
+-- what a crash after a call may leave is what it might leave before the call, or a store that keeps
+-- k
 unfoldable pub LeavesOr : {S : Type 0} → Ghosts S → Held S → Held S → Kept → Type 0
 LeavesOr g old new k = Survives (state g old) (state g new) (λ trees. IsStore trees k)
 
@@ -74,8 +75,8 @@ LeavesNoMore g old new = Survives (state g old) (state g new) (λ trees. ⊥)
 
 -- ---- a change
 
--- nothing is committed yet: either the transaction is on, and has the store's tables, or it was
--- given up
+-- nothing is committed yet: either the transaction is on, and sees the store's tables, or it was
+-- rolled back
 pub record IsBegun (s : State) (manifest : List MRow) (k : Kept) : Type 0 where
   pub listed : manifest ≡ k.listed
   pub on : HasCleanDisk s → s.in_transaction ≡ true → IsTrue s.is_open
@@ -93,7 +94,7 @@ pub record IsMade (s : State) (manifest rows : List MRow) (before k : Kept) : Ty
   pub books : HasCleanDisk s → s.in_transaction ≡ true → IsBooks (content_in s.now.trees) k
 
 -- a change that was begun on a store of `before`, and that lists these rows in place of the store's
--- if it lists any, has made this of its rows, receipts, bodies and chain
+-- if it lists any, has made k of its rows, receipts, bodies, parked bodies, moment and chain
 unfoldable pub RestIn : {S : Type 0} → Ghosts S → Store S → Option (List MRow) → Kept → Kept
     → Type 0
 RestIn g store listing before k =
@@ -122,8 +123,8 @@ listed_by change = unwrap_or change.listing change.store.now.manifest
 abbrev pub Began : {S L : Type 0} → Ghosts S → Change S L → Kept → Type 0
 Began g change k = BeganIn g change.store.now k
 
--- a change that was begun on a store of `before` has made this of its rows, receipts, bodies and
--- chain; this says nothing of k's registry
+-- a change that was begun on a store of `before` has made k of its rows, receipts, bodies, parked
+-- bodies, moment and chain; this says nothing of k's registry
 abbrev pub Rest : {S : Type 0} → Ghosts S → ChangeOf S → Kept → Kept → Type 0
 Rest g change before k = RestIn g change.store.now change.listing before k
 
@@ -133,14 +134,14 @@ HoldsNow g change tables = HoldsIn g change.store.now tables
 
 -- ---- from one call to the next
 
--- what a read leaves as it was, whatever it answers
+-- what a read leaves as it was, whatever it returns
 pub record IsAsBefore {S : Type 0} (g : Ghosts S) (old new : Store S) : Type 0 where
   pub manifest : new.manifest ≡ old.manifest
   pub writes : new.writes ≡ old.writes
   pub survives : LeavesNoMore g old.conn new.conn
   pub stands : (k : Kept) → Stands g old k → Stands g new k
 
--- what each part of a change leaves as it was, whatever it answers: nothing is committed
+-- what each part of a change leaves as it was, whatever it returns: nothing is committed
 pub record IsUncommitted {S : Type 0} (g : Ghosts S) (old new : ChangeOf S) : Type 0 where
   pub same_reference : new.store.ghost_name ≡ old.store.ghost_name
   pub manifest : new.store.now.manifest ≡ old.store.now.manifest
@@ -157,23 +158,23 @@ pub record GoesOn {S : Type 0} (g : Ghosts S) (old new : ChangeOf S) : Type 0 wh
   pub survives : LeavesNoMore g old.store.now.conn new.store.now.conn
   pub began : (k : Kept) → Began g old k → Began g new k
 
--- what the calls of a change as a registry leave as it was, whatever they answer: nothing is
--- committed, and the rows, receipts, bodies and chain are as they were
+-- what the calls of a change as a registry leave as it was, whatever they return: nothing is
+-- committed, and the rows, receipts, bodies, parked bodies, moment and chain are as they were
 pub record Follows {S : Type 0} (g : Ghosts S) (old new : ChangeOf S) : Type 0 where
   pub goes_on : GoesOn g old new
   pub rest : (before k : Kept) → Rest g old before k → Rest g new before k
 
 -- ---- parts of a change, and reads, by the state of the connection
 
--- what a failure left of a transaction is given up: none is on, and nothing was committed
+-- what a failure left of a transaction is rolled back: none is on, and nothing was committed
 pub record IsGivenUp (old new : State) : Type 0 where
   pub survives : Survives old new (λ trees. ⊥)
   pub kept : HasCleanDisk new → KeepsCommit old new
   pub ended : HasCleanDisk new → new.in_transaction ≡ false
   pub settled : HasCleanDisk new → IsTrue new.is_open → new.now ≡ new.committed
 
--- a part of a change: where it succeeds it is made within the transaction, and where it fails that
--- is given up
+-- a part of a change: where it succeeds it is made within the transaction, and where it fails the
+-- transaction is rolled back
 pub record IsStep {X E : Type 0} (old new : State) (Made : Database → Database → Type 0)
     (result : Result X E) : Type 0 where
   pub survives : Survives old new (λ trees. ⊥)
@@ -199,7 +200,7 @@ pub record IsStoreRead {S X E : Type 0} (g : Ghosts S) (old new : Store S) (Says
   pub writes : new.writes ≡ old.writes
   pub look : IsLook (state g old.conn) (state g new.conn) (Tells Says) result
 
--- the outcome of a statement is settled: where it failed, what is on is given up
+-- the outcome of a statement is settled: where it failed, a transaction that is on is rolled back
 pub record Settles {S X D E : Type 0} (g : Ghosts S) (old new : Store S) (outcome : Result X D)
     (result : Result X E) : Type 0 where
   pub survives : LeavesNoMore g old.conn new.conn

@@ -1,4 +1,4 @@
--- What a store's parts do to its rows.
+-- What the parts of a change do to the rows of a store.
 use Rattle.std.specs.Prelude.{◌≡◌, ◌≤◌, ◌+◌, ℕ, true, List, [], ◌∷◌, ◌++◌, take, Result, IfOk}
 use Rattle.sqlite.specs.Effect.{Database}
 use Rattle.sqlite.specs.State.{State}
@@ -11,7 +11,7 @@ use Rattle.esc_store.specs.TypedRows.{receipt_row, steps_from}
 abbrev pub next_number : Content → ℕ
 next_number c = last_number c.receipts + 1
 
--- a receipt after the others, under the next number
+-- a content with one more receipt, after the others, under the next number
 abbrev pub with_next_receipt : ReceiptValue → Content → Content
 with_next_receipt r c = record c { receipts = c.receipts ++ receipt_row (next_number c) r ∷ [] }
 
@@ -23,13 +23,13 @@ abbrev pub IsFull : State → Type 0
 IsFull s = (s.in_transaction ≡ true)
     × ((c : Content) → HoldsContent s.now c → 1_000_000_000 ≤ last_number c.receipts)
 
--- these rows are the steps
+-- a content with these rows as the steps of the chain
 abbrev pub with_step_rows : List ℕ → Content → Content
 with_step_rows rows c = record c { steps = steps_from 1 rows }
 
 abbrev pub SetsSteps : List ℕ → Database → Database → Type 0
 SetsSteps rows = Becomes (with_step_rows rows)
 
--- the steps are as many of the first of these rows as the result says
+-- the steps are the first of these rows, as many as the result says
 abbrev pub SetsFront : {E : Type 0} → List ℕ → Result ℕ E → Database → Database → Type 0
 SetsFront rows result old new = IfOk result (λ front. SetsSteps (take front rows) old new)

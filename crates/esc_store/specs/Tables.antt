@@ -16,7 +16,7 @@ pub record IsKept (trees : Trees) (k : Kept) : Type 0 where
   pub books : IsBooks (content_in trees) k
   pub registry : IsRegistry (content_in trees) k.registry
 
--- the next open of these trees finds a store of this
+-- these trees are a store that keeps k: the next open finds it
 unfoldable pub IsStore : Trees → Kept → Type 0
 IsStore trees k = IsKept trees k
 
@@ -24,13 +24,13 @@ IsStore trees k = IsKept trees k
 abbrev pub HoldsTables : Database → Type 0
 HoldsTables db = HoldsContent db (content_in db.trees)
 
--- a database is a store of this
+-- a database is a store that keeps k
 pub record IsStoreDatabase (db : Database) (k : Kept) : Type 0 where
   pub schema : db.schema ≡ store_schema
   pub kept : IsKept db.trees k
 
--- a database has the nine tables, and the row that tells a version tells 2; the tables let there
--- be one such row at most
+-- a database has the nine tables, and its version is 2; the table of the version has at most one
+-- row
 pub record IsOfVersion (db : Database) : Type 0 where
   pub schema : db.schema ≡ store_schema
   pub version : length (db.trees info_tree) ≤ 1

@@ -1,4 +1,4 @@
--- How what a store keeps stands in the rows of its tables (this project's profile).
+-- How the rows of its tables say what a store keeps (this project's profile).
 use Rattle.std.specs.Prelude.{◌≡◌, ℕ, suc, ◌==◌, Bool, if◌then◌else◌, List, [], ◌∷◌, Option, None, Some, IsSome, IfSome, option_map}
 use Rattle.std.specs.Option.{option_and_then}
 use Rattle.esc_envelope.specs.declared.kind.Kind.{Kind}
@@ -25,7 +25,7 @@ use Rattle.esc_store.specs.declared.reply.Verdict.TheVariants.{A1, A2, A3, A4, A
 use Rattle.esc_store.specs.ReplyValue.{ReceiptValue}
 use Rattle.esc_store.specs.Kept.{Kept}
 
--- a row of the manifest in the table of listed rows, at this place from 0
+-- a row of the manifest as the table of listed rows keeps it, with its index from 0
 abbrev pub listed_row : ℕ → MRow → ListedRow
 listed_row n r = record {
   row = n;
@@ -41,7 +41,7 @@ abbrev pub listed_from : ℕ → List MRow → List ListedRow
 listed_from n [] = []
 listed_from n (r ∷ rs) = listed_row n r ∷ listed_from (suc n) rs
 
--- A1 to A5 as 1 to 5
+-- the number of a verdict in the tables: A1 to A5 as 1 to 5
 abbrev pub verdict_number : Verdict → ℕ
 verdict_number A1 = 1
 verdict_number A2 = 2
@@ -49,7 +49,7 @@ verdict_number (A3 n) = 3
 verdict_number A4 = 4
 verdict_number A5 = 5
 
--- the number of the refusal of a body that doesn't read
+-- the number of the refusal of a body that is no valid deposit (A3)
 abbrev pub fault_number : Verdict → Option ℕ
 fault_number A1 = None
 fault_number A2 = None
@@ -60,7 +60,7 @@ fault_number A5 = None
 abbrev pub bit : Bool → ℕ
 bit b = if b then 1 else 0
 
--- a receipt in its table, under its number
+-- a receipt as its table keeps it, with its number
 abbrev pub receipt_row : ℕ → ReceiptValue → ReceiptRow
 receipt_row n r = record {
   receipt = n;
@@ -77,30 +77,30 @@ abbrev pub receipts_from : ℕ → List ReceiptValue → List ReceiptRow
 receipts_from n [] = []
 receipts_from n (r ∷ rs) = receipt_row n r ∷ receipts_from (suc n) rs
 
--- the rows of a chain in the table of steps
+-- the rows of a chain as the table of steps keeps them, numbered from n
 abbrev pub steps_from : ℕ → List ℕ → List StepRow
 steps_from n [] = []
 steps_from n (row ∷ rows) = record { pos = n; row = row } ∷ steps_from (suc n) rows
 
--- the kind that a number is for
+-- the kind with this number, if there is one
 abbrev pub kind_at : ℕ → Option Kind
 kind_at n = if n == 0 then Some Registrar else if n == 1 then Some Contact else if n == 2 then Some
     Host else if n == 3 then Some Domain else if n == 4 then Some Idn else if n == 5 then Some Nndn
     else None
 
--- what a function of keys has at a kind's number and a key's bytes
+-- what a function of keys has at the key with this kind's number and these bytes as its text
 abbrev pub at_key : {X : Type 0} → (KeyName → Option X) → ℕ → List ℕ → Option X
 at_key {X} f n text = option_and_then (λ kind. f (record { kind = kind; text = text })) (kind_at n)
 
--- the record of the object at a key
+-- the record of a key's object, if it has one
 abbrev pub record_at : Objects → ℕ → List ℕ → Option (List ℕ)
 record_at content n text = option_and_then record_of (at_key content n text)
 
--- the record of what stood at a key before a step, or that nothing stood there, if that was noted
+-- the record that a key had before a step, or that it had none, if that was noted
 abbrev pub image_kept : Befores → ℕ → List ℕ → Option (Option (List ℕ))
 image_kept before n text = option_map (λ o. option_and_then record_of o) (at_key before n text)
 
--- the rows, receipts, bodies, moment and chain
+-- the rows say what is kept of the manifest, receipts, bodies, parked bodies, moment and chain
 pub record IsBooks (c : Content) (k : Kept) : Type 0 where
   pub listed : c.listed ≡ listed_from 0 k.listed
   pub receipts : c.receipts ≡ receipts_from 1 k.receipts
@@ -109,7 +109,7 @@ pub record IsBooks (c : Content) (k : Kept) : Type 0 where
   pub moment : moment_of c.moment ≡ k.moment
   pub steps : c.steps ≡ steps_from 1 k.steps
 
--- the objects and before-images: of each key its record, and nothing else
+-- the rows say which objects and before-images are kept: of each key its record, and nothing else
 pub record IsRegistry (c : Content) (s : State) : Type 0 where
   pub objects : (n : ℕ) (text : List ℕ) → object_at n text c.objects ≡ record_at s.content n text
   pub images : (step n : ℕ) (text : List ℕ) → image_at step n text c.undo

@@ -1,4 +1,4 @@
-//! The next receipt, and the chain, of a change: several statements each.
+//! Parts of a change that take several statements each: the next receipt, and the chain.
 
 ghost use Rattle.std.specs.Prelude.{◌≡◌, ◌≤◌, ℕ, List, map, take, length, IfOk, IfErr};
 ghost use Rattle.sqlite.specs.Held.{state};
@@ -85,8 +85,8 @@ impl<S: Alter> Store<S> {
         Ok(front)
     }
 
-    // Makes these the steps of the chain. A step that stands already is not written anew: each
-    // INSERT makes the database read the held body that the step names.
+    // Makes these the steps of the chain. Steps that are there already are not written again, since
+    // each INSERT makes the database read the held body that the step names.
     pub(crate) fn set_steps_here(&mut self, steps: &[ChainStep]) -> Result<(), SFault>
         ensures manifest { self.new.manifest ≡ self.old.manifest }
         ensures writes { self.new.writes ≡ self.old.writes }

@@ -49,10 +49,10 @@ use esc_rows::held::insert_held;
 use esc_rows::step::ChainStep;
 use sqlite::Alter;
 
-/// A change of a store: one transaction. It is made whole by `commit`, and leaves all as before
-/// where it is dropped.
-// What owns memory stands under a type parameter, so that contracts see what is left behind the
-// reference in the end.
+/// A change of a store: one transaction. `commit` makes all of it; where it is dropped, nothing has
+/// changed.
+// What owns memory is under a type parameter, so that contracts see the final value of what the
+// reference points to.
 pub struct Change<'a, S: Alter, L = Option<Manifest>> {
     pub(crate) store: &'a mut Store<S>,
     pub(crate) count: u64,
@@ -81,7 +81,7 @@ impl<'a, S: Alter> Change<'a, S> {
         self.store.add_next_here(receipt)
     }
 
-    /// Holds the body of a listed row, of which no body is held. `S1`, `S2`.
+    /// Stores the body of a listed row that has none yet. `S1`, `S2`.
     pub fn hold(&mut self, row: usize, body: &[u8]) -> Result<(), SFault>
         ensures goes_on { GoesOn S.Store self.old self.new }
         ensures count { self.new.count ≡ self.old.count }
@@ -96,7 +96,7 @@ impl<'a, S: Alter> Change<'a, S> {
         self.hold_row(row, body)
     }
 
-    // Holds a body in its table.
+    // Stores a body in its table.
     fn hold_row(&mut self, row: u32, body: &[u8]) -> Result<(), SFault>
         ensures goes_on { GoesOn S.Store self.old self.new }
         ensures count { self.new.count ≡ self.old.count }
@@ -110,7 +110,8 @@ impl<'a, S: Alter> Change<'a, S> {
         self.store.settle(done)
     }
 
-    /// Makes these the steps of the chain, each of a row of its own that is held. `S1`, `S2`.
+    /// Makes these the steps of the chain; their rows have to be held, and no two are the same.
+    /// `S1`, `S2`.
     pub fn set_chain(&mut self, steps: &[Step]) -> Result<(), SFault>
         ensures goes_on { GoesOn S.Store self.old self.new }
         ensures count { self.new.count ≡ self.old.count }
@@ -124,7 +125,7 @@ impl<'a, S: Alter> Change<'a, S> {
         self.set_rows(stored.as_slice(), steps)
     }
 
-    // Sets the steps in their table, of the rows of these steps.
+    // Sets the table of steps to the rows of these steps.
     fn set_rows(&mut self, stored: &[ChainStep], steps: &[Step]) -> Result<(), SFault>
         requires { map step_row stored.now ≡ steps_from 1 (map (λ step. step.row) steps.now) }
         ensures goes_on { GoesOn S.Store self.old self.new }
@@ -139,7 +140,7 @@ impl<'a, S: Alter> Change<'a, S> {
         self.store.set_steps_here(stored)
     }
 
-    /// Makes the whole change at once. At `Err` nothing is changed: `S1`, `S2`.
+    /// Commits the whole change at once. At `Err` (`S1`, `S2`) nothing has changed.
     pub fn commit(self) -> Result<(), SFault>
         ensures manifest { OnOk result (self.exit.0.now.manifest ≡ listed_by self.entry) }
         ensures unlisted { OnErr result

@@ -10,7 +10,7 @@ use esc_envelope::Kind;
 use std::alloc::Global;
 use std::collections::BTreeMap;
 
-// How often the number of a kind stands among these.
+// How often the number of a kind occurs among these.
 fn count_of(kinds: &[u32], kind: Kind) -> u64
     ensures { result ≡ times kind kinds.now }
 {
@@ -18,7 +18,7 @@ fn count_of(kinds: &[u32], kind: Kind) -> u64
     kinds.iter().filter(|it| **it == number).count() as u64
 }
 
-// The kinds in their order, each with how often its number stands among these.
+// The kinds in their order, each with how often its number occurs among these.
 pub(crate) fn counts_of(alloc: Global, kinds: &[u32]) -> Result<BTreeMap<Kind, u64>, SFault>
     ensures counts { IfOk result (λ counts. counts.entries ≡ tallies kinds.now) }
     ensures cause { IfErr result IsS1OrS2 }

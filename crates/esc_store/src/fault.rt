@@ -9,19 +9,21 @@ use sqlite::{Error, ErrorCode};
 use std::alloc::{AllocError, AllocFailed};
 use std::fmt;
 
-/// Why a call of the store fails.
+/// Why a call of the store fails (this project's profile).
 #[derive(Clone, Copy, Debug, PartialEq, Eq)]
 pub enum SFault {
-    /// The database failed for another cause than want of memory, or an object has no record.
+    /// The database failed for another reason than memory, or holds what no store writes; or what
+    /// is to be kept has no form in its tables (an object without a record).
     S1,
-    /// Memory was refused, or the database wanted memory.
+    /// Out of memory, here or in the database.
     S2,
     /// `create`: the database isn't empty. `open`: it is no store of this version. `migrate`: it is
     /// no store of version 1.
     S3,
-    /// The store has 1,000,000,000 receipts.
+    /// The store has 1,000,000,000 receipts, so there is no room for one more.
     S4,
-    /// 1,024 bodies are parked.
+    /// 1,024 bodies are parked, so there is no room for one more. No call of this crate returns it:
+    /// the desk counts them.
     S5,
 }
 

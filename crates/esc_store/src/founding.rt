@@ -20,7 +20,7 @@ use esc_rows::open::is_unused;
 use esc_rows::transaction::{abandon_in, begin_in, commit_in};
 use sqlite::{Alter, Connection, Error};
 
-// Gives up what a failure left of a transaction.
+// Rolls back what a failure left of a transaction.
 pub(crate) fn give_up_in<S: Alter>(conn: &mut Connection<S>)
     ensures { IsGivenUp (state S.Store conn.old) (state S.Store conn.new) }
 {
@@ -30,7 +30,7 @@ pub(crate) fn give_up_in<S: Alter>(conn: &mut Connection<S>)
     abandon_in(conn);
 }
 
-// Begins a transaction, and makes the tables of a manifest's rows in it.
+// Begins a transaction, and makes a store of a manifest's rows in it.
 fn build_here<S: Alter>(conn: &mut Connection<S>, rows: &[Listed]) -> Result<(), Error>
     ensures survives { Survives (state S.Store conn.old) (state S.Store conn.new) (λ _. ⊥) }
     ensures kept { HasCleanDisk (state S.Store conn.new)
@@ -43,7 +43,7 @@ fn build_here<S: Alter>(conn: &mut Connection<S>, rows: &[Listed]) -> Result<(),
     build(conn, rows)
 }
 
-// The same, and commits it.
+// The same as `build_here`, and commits it.
 fn found_whole<S: Alter>(conn: &mut Connection<S>, rows: &[Listed]) -> Result<(), Error>
     ensures survives { (m : _) → map stored_row rows.now ≡ listed_from 0 m
         → (state S.Store conn.old).now.schema ≡ no_schema

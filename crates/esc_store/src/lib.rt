@@ -18,7 +18,7 @@
 //! |---|---|
 //! | `store`, `founding`, `opening` | a store, how it is made, and how one is found |
 //! | `migrating` | a store of version 1, which becomes one of this version |
-//! | `reads` | what a store answers of itself |
+//! | `reads` | what a store returns of what it keeps |
 //! | `change`, `books`, `registry`, `records` | a change: its receipt, body and chain, and its objects |
 //! | `parked`, `moment` | parked bodies and the moment: what a store returns, and parts of a change |
 //! | `listing` | a change: the rows that an amended manifest adds |
@@ -48,7 +48,8 @@
 //! - A read leaves the store as it was (`IsAsBefore`), whatever it returns, and what it returns is
 //!   a function of each k that the store stood for.
 //! - A change that was begun on a store of k has `Began`: nothing is committed. `Rest` says what it
-//!   has made of rows, receipts, bodies and chain, and `HoldsNow` what of tables and before-images.
+//!   has made of rows, receipts, bodies, parked bodies, moment and chain, and `HoldsNow` what of
+//!   tables and before-images.
 //!   `listed_by` are the rows of its manifest, which the store has once the change is committed.
 //!   `commit` turns both into `Stands`; at `Err`, and where a change is dropped, the store stands
 //!   for what it stood for.

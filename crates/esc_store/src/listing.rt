@@ -37,8 +37,9 @@ use esc_rows::listed::{Listed, insert_listed};
 use sqlite::Alter;
 
 impl<'a, S: Alter> Change<'a, S> {
-    /// Lists the rows of a union, which begins with those that are listed. It is the store's
-    /// manifest once the change is committed. At `Err` what is listed is as it was: `S1`, `S2`.
+    /// Lists the rows of a union, which has to begin with those that are listed. It becomes the
+    /// store's manifest once the change is committed. At `Err` (`S1`, `S2`) no other rows are
+    /// listed than before.
     #[tactic(auto, using(crate::proofs::Lists::unchanged, crate::proofs::Lists::uncommitted))]
     pub fn list(&mut self, union: Manifest) -> Result<(), SFault>
         requires begins { take (length (listed_by self.now)) union ≡ listed_by self.now }
@@ -69,7 +70,7 @@ impl<'a, S: Alter> Change<'a, S> {
         }
     }
 
-    // Puts the rows of a union from a place on into their table, which has those before it.
+    // Adds the rows of a union, from an index on, to their table, which has those before it.
     #[tactic(auto, using(crate::proofs::Parking::goes_then))]
     fn list_rows(&mut self, rows: &[Listed], from: usize) -> Result<(), SFault>
         ensures goes_on { GoesOn S.Store self.old self.new }

@@ -72,7 +72,7 @@ fn upgrade_here<S: Alter>(conn: &mut Connection<S>) -> Result<(), Error>
     upgrade(conn)
 }
 
-// The same. The result is the manifest of the store.
+// The same as `upgrade_here`. Returns the manifest of the store.
 fn read_upgraded<S: Alter>(alloc: Global, conn: &mut Connection<S>) -> Result<Manifest, SFault>
     ensures survives { Survives (state S.Store conn.old) (state S.Store conn.new) (λ _. ⊥) }
     ensures kept { HasCleanDisk (state S.Store conn.new)
@@ -90,7 +90,7 @@ fn read_upgraded<S: Alter>(alloc: Global, conn: &mut Connection<S>) -> Result<Ma
     kept_manifest(alloc, stored.as_slice())
 }
 
-// The same, and commits it.
+// The same as `read_upgraded`, and commits it.
 fn commit_upgraded<S: Alter>(alloc: Global, conn: &mut Connection<S>) -> Result<Manifest, SFault>
     ensures survives { (k : Kept) → (HasCleanDisk (state S.Store conn.old)
         → IsFirstDatabase (state S.Store conn.old).now k)
@@ -112,7 +112,8 @@ fn commit_upgraded<S: Alter>(alloc: Global, conn: &mut Connection<S>) -> Result<
     Ok(manifest)
 }
 
-// The same of a store of version 1. `S3` where the database is none.
+// The same as `commit_upgraded`, where the database is tested first: `S3` if it is no store of
+// version 1.
 fn migrate_whole<S: Alter>(alloc: Global, conn: &mut Connection<S>) -> Result<Manifest, SFault>
     ensures survives { (k : Kept) → SeesFirst (state S.Store conn.old) k
         → Survives (state S.Store conn.old) (state S.Store conn.new) (λ trees. IsStore trees k) }
@@ -135,8 +136,8 @@ fn migrate_whole<S: Alter>(alloc: Global, conn: &mut Connection<S>) -> Result<Ma
     commit_upgraded(alloc, conn)
 }
 
-// The same, on a connection without a transaction: where it fails the connection is as it was. `S1`
-// also in a transaction, which goes on.
+// The same as `migrate_whole`, on a connection without a transaction: where it fails the connection
+// is as it was. `S1` also in a transaction, which goes on.
 fn migrate_here<S: Alter>(alloc: Global, conn: &mut Connection<S>) -> Result<Manifest, SFault>
     ensures survives { (k : Kept) → IsFirstStore (state S.Store conn.old).committed.trees k
         → Survives (state S.Store conn.old) (state S.Store conn.new) (λ trees. IsStore trees k) }
@@ -168,10 +169,14 @@ fn migrate_here<S: Alter>(alloc: Global, conn: &mut Connection<S>) -> Result<Man
 }
 
 impl<S: Alter> Store<S> {
-    /// The store of this version that a version 1 store becomes, in one change: it keeps what it
-    /// kept, parks no body, and has no moment. At `Err` the connection is given back as it was:
-    /// `S3` where the database is no version 1 store, as where it is a store of this version; `S1`,
-    /// also in a transaction, or where the rows of its manifest make none; `S2`.
+    /// Makes a store of version 1 one of this version, in one change: it keeps what it kept, has no
+    /// parked body, and has no moment.
+    ///
+    /// # Errors
+    ///
+    /// The connection is returned as it was. `S3` if the database is no store of version 1, for
+    /// instance one of this version; `S1`, also in a transaction, or if the rows of its manifest
+    /// are not those of an accepted one; `S2`.
     pub fn migrate(
         alloc: Global,
         connection: Connection<S>,

@@ -22,7 +22,7 @@ use esc_rows::moment::{clear_moment, find_moment, insert_moment};
 use sqlite::Alter;
 
 impl<S: Alter> Store<S> {
-    // The moment that is set.
+    // The moment that is set, if one is.
     fn moment_here(&mut self) -> Result<Option<i64>, SFault>
         ensures read { IsStoreRead S.Store self.old self.new
             (λ c found. found ≡ moment_of c.moment) result }
@@ -32,7 +32,7 @@ impl<S: Alter> Store<S> {
         self.settle(found)
     }
 
-    /// The moment that is set, if one is. `S1`, `S2`.
+    /// The moment that is set, in nanoseconds since 1970-01-01T00:00:00Z, if one is. `S1`, `S2`.
     #[tactic(auto, using(crate::proofs::Sure::as_before))]
     pub fn moment(&mut self) -> Result<Option<i64>, SFault>
         ensures same { IsAsBefore S.Store self.old self.new }
@@ -45,7 +45,8 @@ impl<S: Alter> Store<S> {
 }
 
 impl<'a, S: Alter> Change<'a, S> {
-    /// Sets this moment, or none. `S1`, `S2`.
+    /// Sets the moment, in nanoseconds since 1970-01-01T00:00:00Z, or removes it (`None`). The
+    /// chain and the tables stay as they are. `S1`, `S2`.
     #[tactic(auto, using(crate::proofs::Parking::goes_then))]
     pub fn set_moment(&mut self, moment: Option<i64>) -> Result<(), SFault>
         ensures goes_on { GoesOn S.Store self.old self.new }
@@ -63,7 +64,7 @@ impl<'a, S: Alter> Change<'a, S> {
         }
     }
 
-    // Sets no moment.
+    // Removes the moment, if one is set.
     fn clear_moment(&mut self) -> Result<(), SFault>
         ensures goes_on { GoesOn S.Store self.old self.new }
         ensures count { self.new.count ≡ self.old.count }

@@ -24,7 +24,7 @@ impl<'a> Model for Number<'a> {
     ghost invariant = { λ n. IsTrue (is_id n.text.now) };
 }
 
-/// A text is no number of an arrival.
+/// N1: a text is no number of an arrival.
 #[derive(Clone, Copy, Debug, PartialEq, Eq)]
 pub struct N1;
 
@@ -45,7 +45,7 @@ impl<'a> Number<'a> {
         Number { text }
     }
 
-    /// The number's text. Takes no memory.
+    /// The number's text. Doesn't allocate.
     pub fn text(&self) -> &'a str
         ensures text { result.now ≡ self.now }
         ensures form { IsTrue (is_id self.now) }

@@ -1,4 +1,4 @@
-//! The store that a connection's database is.
+//! Finding the store in a connection's database.
 
 ghost use Rattle.std.specs.Prelude.{◌≡◌, IsTrue, IfOk, IfErr, OnOk, OnErr};
 ghost use Rattle.sqlite.specs.Held.{state};
@@ -63,8 +63,8 @@ fn read_manifest<S: Alter>(alloc: Global, conn: &mut Connection<S>) -> Result<Ma
     kept_manifest(alloc, stored.as_slice())
 }
 
-// The same, on a connection without a transaction: where it fails the connection is as it was. `S1`
-// also in a transaction, which goes on.
+// The same as `read_manifest`, on a connection without a transaction: where it fails the connection
+// is as it was. `S1` also in a transaction, which goes on.
 pub(crate) fn find_manifest<S: Alter>(
     alloc: Global,
     conn: &mut Connection<S>,

@@ -1,4 +1,4 @@
-//! Parked bodies, which no row lists: what a store returns of them, and what a change does to them.
+//! Parked bodies, which no row lists: what a store returns of them, and parts of a change.
 
 ghost use Rattle.std.specs.Prelude.{
   ◌≡◌,
@@ -36,11 +36,11 @@ use esc_rows::parked::{delete_parked, find_parked, insert_parked, parked_digests
 use sqlite::Alter;
 use std::alloc::Global;
 
-/// The most parked bodies.
+/// The most bodies that may be parked. The desk tests it: `park` parks any number.
 pub const MOST_PARKED: usize = 1024;
 
 impl<S: Alter> Store<S> {
-    // The body that is parked under a digest.
+    // The body that is parked under a digest, if one is.
     fn parked_here(&mut self, digest: &[u8]) -> Result<Option<Vec<u8>>, SFault>
         ensures read { IsStoreRead S.Store self.old self.new
             (λ c found. option_map (λ b. b.items) found ≡ parked_at digest.now c.parked) result }
@@ -60,7 +60,7 @@ impl<S: Alter> Store<S> {
         self.settle(found)
     }
 
-    /// The body that is parked under a digest, if one is. `S1`, `S2`.
+    /// The body that is parked under a SHA-256, if one is. `S1`, `S2`.
     #[tactic(auto, using(crate::proofs::Sure::as_before))]
     pub fn parked_body(&mut self, digest: &[u8; 32]) -> Result<Option<Vec<u8>>, SFault>
         ensures same { IsAsBefore S.Store self.old self.new }
@@ -71,7 +71,7 @@ impl<S: Alter> Store<S> {
         self.parked_here(digest)
     }
 
-    /// The digests of the parked bodies, in the order of their bytes. No body is read. `S1`, `S2`.
+    /// The SHA-256 of each parked body, in byte order. No body is read. `S1`, `S2`.
     #[tactic(auto, using(crate::proofs::Sure::as_before))]
     pub fn parked(&mut self, alloc: Global) -> Result<Vec<[u8; 32]>, SFault>
         ensures same { IsAsBefore S.Store self.old self.new }
@@ -85,7 +85,7 @@ impl<S: Alter> Store<S> {
 }
 
 impl<'a, S: Alter> Change<'a, S> {
-    /// Parks a body under its digest, under which none is parked. `S1`, `S2`.
+    /// Parks a body under its SHA-256. `S1`, also if one is parked under it already; `S2`.
     pub fn park(&mut self, digest: &[u8; 32], body: &[u8]) -> Result<(), SFault>
         ensures goes_on { GoesOn S.Store self.old self.new }
         ensures count { self.new.count ≡ self.old.count }
@@ -101,7 +101,7 @@ impl<'a, S: Alter> Change<'a, S> {
         self.store.settle(done)
     }
 
-    /// Parks no body under this digest any more. `S1`, `S2`.
+    /// Removes the body that is parked under this SHA-256, if one is. `S1`, `S2`.
     pub fn unpark(&mut self, digest: &[u8; 32]) -> Result<(), SFault>
         ensures goes_on { GoesOn S.Store self.old self.new }
         ensures count { self.new.count ≡ self.old.count }
@@ -134,8 +134,8 @@ impl<'a, S: Alter> Change<'a, S> {
         self.store.settle(found)
     }
 
-    /// Holds the body that is parked under a digest as that of a listed row, of which no body is
-    /// held, and parks it no more. `S1`, also where none is parked under it; `S2`.
+    /// Moves the body that is parked under a SHA-256 to a listed row that has none yet: it is the
+    /// row's body then, and is parked no more. `S1`, also if none is parked under it; `S2`.
     #[tactic(auto, using(crate::proofs::Parking::goes_then))]
     pub fn adopt(&mut self, row: usize, digest: &[u8; 32]) -> Result<(), SFault>
         ensures goes_on { GoesOn S.Store self.old self.new }
@@ -157,7 +157,7 @@ impl<'a, S: Alter> Change<'a, S> {
     }
 }
 
-// Bytes as digests.
+// Bytes as digests. `S1` if one doesn't have the length of a digest; `S2`.
 pub(crate) fn digests_of(alloc: Global, stored: &[Vec<u8>]) -> Result<Vec<[u8; 32]>, SFault>
     ensures digests { IfOk result (λ digests. digests.items ≡ map (λ d. d.items) stored.now) }
     ensures cause { IfErr result IsS1OrS2 }

@@ -1,4 +1,4 @@
-//! What a store answers of itself.
+//! What a store returns of what it keeps.
 
 ghost use Rattle.std.specs.Prelude.{◌≡◌, ℕ, map, length, IfOk, IfErr, option_map};
 ghost use Rattle.esc_apply.specs.Registry.{IsEntriesOf};
@@ -35,8 +35,8 @@ use std::alloc::Global;
 use std::collections::BTreeMap;
 
 impl<S: Alter> Store<S> {
-    /// The reply that was kept for an arrival with this number and a body of this SHA-256. `S1`,
-    /// `S2`.
+    /// The reply that was kept for an arrival with this number and a body of this SHA-256, if one
+    /// was. `S1`, `S2`.
     #[tactic(auto, using(crate::proofs::Sure::as_before))]
     pub fn receipt_of(
         &mut self,
@@ -53,7 +53,7 @@ impl<S: Alter> Store<S> {
         reply_found(alloc, &self.manifest, found)
     }
 
-    /// All replies that were kept, in order. `S1`, `S2`.
+    /// The replies of all receipts, in the order of their numbers. `S1`, `S2`.
     #[tactic(auto, using(crate::proofs::Sure::as_before))]
     pub fn receipts(&mut self, alloc: Global) -> Result<Vec<Reply>, SFault>
         ensures same { IsAsBefore S.Store self.old self.new }
@@ -77,7 +77,7 @@ impl<S: Alter> Store<S> {
         Ok(u64::from(last))
     }
 
-    /// The body that is held of a row, from 0, if one is. `S1`, `S2`.
+    /// The body of the row with this index, from 0, if it is held. `S1`, `S2`.
     #[tactic(auto, using(crate::proofs::Sure::as_before))]
     pub fn body_of(&mut self, _alloc: Global, row: usize) -> Result<Option<Vec<u8>>, SFault>
         ensures same { IsAsBefore S.Store self.old self.new }
@@ -89,8 +89,8 @@ impl<S: Alter> Store<S> {
         self.body_here(row)
     }
 
-    /// The rows, from 0, of which a receipt says that their deposit is held (`A1`), rising. No body
-    /// is read. `S1`, `S2`.
+    /// The indices, from 0, of the rows whose deposit is held according to a receipt (`A1`), in
+    /// ascending order. No body is read. `S1`, `S2`.
     #[tactic(auto, using(crate::proofs::Sure::as_before))]
     pub fn held_by_receipts(&mut self, alloc: Global) -> Result<Vec<usize>, SFault>
         ensures same { IsAsBefore S.Store self.old self.new }
@@ -119,8 +119,8 @@ impl<S: Alter> Store<S> {
         digests_of(alloc, stored.as_slice())
     }
 
-    /// The digests of the bodies of which a receipt says that no row listed them (`A2` of version
-    /// 1, which did not keep them, and `A5` of this one, which parked them), with repeats, in any
+    /// The SHA-256 of each body that no row listed, according to a receipt (`A2` of version 1,
+    /// which did not keep them, and `A5` of this one, which parked them), with repeats, in any
     /// order. No body is read. `S1`, `S2`.
     pub fn unlisted_digests(&mut self, alloc: Global) -> Result<Vec<[u8; 32]>, SFault>
         ensures same { IsAsBefore S.Store self.old self.new }
@@ -146,7 +146,7 @@ impl<S: Alter> Store<S> {
         steps_of(alloc, &self.manifest, stored.as_slice())
     }
 
-    /// The objects of the chain's tables. `S1`, `S2`.
+    /// The objects of the chain's tables, by their keys. `S1`, `S2`.
     #[tactic(auto, using(crate::proofs::Sure::as_before))]
     pub fn tables(&mut self, alloc: Global) -> Result<BTreeMap<Key, Object>, SFault>
         ensures same { IsAsBefore S.Store self.old self.new }
@@ -158,8 +158,8 @@ impl<S: Alter> Store<S> {
         objects_of(alloc, stored.as_slice())
     }
 
-    /// The first objects of a kind whose keys are not below these bytes, by key: a page of them,
-    /// none only where there is none. `S1`, `S2`.
+    /// A page: the first objects of a kind whose keys are not below these bytes, in the order of
+    /// keys. It is empty only if there is no such object. `S1`, `S2`.
     #[tactic(auto, using(crate::proofs::Sure::as_before))]
     pub fn objects_from(
         &mut self,

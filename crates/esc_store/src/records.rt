@@ -1,6 +1,17 @@
 //! The records of objects and before-images in a change, by their keys.
 
-ghost use Rattle.std.specs.Prelude.{◌≡◌, Some, None, map, option_map, IfOk, OnOk, IfSome, IsSome};
+ghost use Rattle.std.specs.Prelude.{
+  ◌≡◌,
+  Some,
+  None,
+  map,
+  option_map,
+  IfOk,
+  IfErr,
+  OnOk,
+  IfSome,
+  IsSome,
+};
 ghost use Rattle.std.specs.Option.{option_and_then};
 ghost use Rattle.sqlite.specs.Held.{state};
 ghost use Rattle.sqlite.specs.State.{HasCleanDisk};
@@ -9,6 +20,7 @@ ghost use Rattle.esc_record.specs.Record.{record_of};
 ghost use Rattle.esc_apply.specs.Registry.{State, empty, written, noted, taken};
 ghost use Rattle.esc_rows.specs.Entries.{image_of};
 ghost use Rattle.esc_store.specs.Decoded.{AreNotes};
+ghost use Rattle.esc_store.specs.Faults.{IsS1OrS2};
 ghost use Rattle.esc_store.specs.Standing.{HoldsNow, Follows};
 
 use crate::change::Change;
@@ -29,6 +41,7 @@ impl<'a, S: Alter> Change<'a, S> {
             → (s : State) → HoldsNow S.Store self.old s
             → (option_map (λ b. b.items) found ≡ option_and_then record_of (s.content k.now))
             × IfSome (s.content k.now) (λ x. IsSome (record_of x)) × HoldsNow S.Store self.new s) }
+        ensures cause { IfErr result IsS1OrS2 }
     {
         let found = find_object(&mut self.store.conn, kind_number(k.kind), k.text.as_bytes());
         self.store.settle(found)
@@ -41,6 +54,7 @@ impl<'a, S: Alter> Change<'a, S> {
         ensures written { OnOk result ((s : State) (o : ObjectValue)
             → record_of o ≡ Some bytes.now
             → HoldsNow S.Store self.old s → HoldsNow S.Store self.new (written s k.now (Some o))) }
+        ensures cause { IfErr result IsS1OrS2 }
     {
         let done = put_object(
             &mut self.store.conn,
@@ -51,18 +65,19 @@ impl<'a, S: Alter> Change<'a, S> {
         self.store.settle(done)
     }
 
-    // Takes the record at a key away.
+    // Removes the record of a key, if there is one.
     pub(crate) fn remove_record(&mut self, k: &Key) -> Result<(), SFault>
         ensures count { self.new.count ≡ self.old.count }
         ensures follows { Follows S.Store self.old self.new }
         ensures written { OnOk result ((s : State) → HoldsNow S.Store self.old s
             → HoldsNow S.Store self.new (written s k.now None)) }
+        ensures cause { IfErr result IsS1OrS2 }
     {
         let done = delete_object(&mut self.store.conn, kind_number(k.kind), k.text.as_bytes());
         self.store.settle(done)
     }
 
-    // Notes the record that stood at a key before a step, or that none did.
+    // Notes the record that a key had before a step, or that it had none.
     pub(crate) fn note_record(
         &mut self,
         step: u32,
@@ -75,6 +90,7 @@ impl<'a, S: Alter> Change<'a, S> {
             → option_and_then record_of o ≡ option_map (λ b. b.now) before.entry
             → IfSome o (λ x. IsSome (record_of x)) → HoldsNow S.Store self.old s
             → HoldsNow S.Store self.new (noted s step k.now o)) }
+        ensures cause { IfErr result IsS1OrS2 }
     {
         let done = insert_undo(
             &mut self.store.conn,
@@ -97,40 +113,44 @@ impl<'a, S: Alter> Change<'a, S> {
         ensures found { IfOk result (λ found. HasCleanDisk (state S.Store self.new.store.now.conn)
             → (s : State) → HoldsNow S.Store self.old s
             → AreNotes step s (map image_of found.items) × HoldsNow S.Store self.new s) }
+        ensures cause { IfErr result IsS1OrS2 }
     {
         let found = select_undo(alloc, &mut self.store.conn, step);
         self.store.settle(found)
     }
 
-    // Forgets what was noted of a step.
+    // Removes what was noted for a step.
     pub(crate) fn forget_records(&mut self, step: u32) -> Result<(), SFault>
         ensures count { self.new.count ≡ self.old.count }
         ensures follows { Follows S.Store self.old self.new }
         ensures taken { OnOk result ((s : State) → HoldsNow S.Store self.old s
             → HoldsNow S.Store self.new (taken s step)) }
+        ensures cause { IfErr result IsS1OrS2 }
     {
         let done = delete_undo(&mut self.store.conn, step);
         self.store.settle(done)
     }
 
-    // Takes all records away.
+    // Removes all records.
     pub(crate) fn clear_records(&mut self) -> Result<(), SFault>
         ensures count { self.new.count ≡ self.old.count }
         ensures follows { Follows S.Store self.old self.new }
         ensures cleared { OnOk result ((s : State) → HoldsNow S.Store self.old s
             → HoldsNow S.Store self.new (record { content = empty.content; undo = s.undo })) }
+        ensures cause { IfErr result IsS1OrS2 }
     {
         let done = clear_objects(&mut self.store.conn);
         self.store.settle(done)
     }
 
-    // Forgets what was noted of all steps.
+    // Removes what was noted for all steps.
     pub(crate) fn clear_notes(&mut self) -> Result<(), SFault>
         ensures count { self.new.count ≡ self.old.count }
         ensures follows { Follows S.Store self.old self.new }
         ensures cleared { OnOk result ((s : State)
             → HoldsNow S.Store self.old (record { content = empty.content; undo = s.undo })
             → HoldsNow S.Store self.new empty) }
+        ensures cause { IfErr result IsS1OrS2 }
     {
         let done = clear_undo(&mut self.store.conn);
         self.store.settle(done)

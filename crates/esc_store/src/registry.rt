@@ -14,9 +14,10 @@ impl<'a, S: Alter> Registry for Change<'a, S> {
     ghost use Rattle.sqlite.specs.State.{HasCleanDisk};
     ghost use Rattle.sqlite.specs.Held.{state};
     ghost use Rattle.esc_apply.specs.Registry.{saturated};
+    ghost use Rattle.esc_store.specs.Faults.{IsS1OrS2};
     ghost use Rattle.esc_store.specs.Kept.{Kept};
     ghost use Rattle.esc_store.specs.Standing.{HoldsNow, Follows};
-    ghost use Rattle.std.proofs.Common.{inl, refl, ◌∙◌, arith};
+    ghost use Rattle.std.proofs.Common.{inl, inr, refl, ◌∙◌, arith};
     ghost use Rattle.sqlite.proofs.StateLemmas.{survives_then};
 
     type Error = SFault;
@@ -24,6 +25,10 @@ impl<'a, S: Alter> Registry for Change<'a, S> {
     ghost holds = { λ r s. HoldsNow S.Store r s };
 
     ghost count = { λ r. saturated r.count };
+
+    ghost fails = { λ fault. IsS1OrS2 fault };
+
+    ghost wants_memory = { λ m fault given. inr given };
 
     ghost is_honest = { λ r. HasCleanDisk (state S.Store r.store.now.conn) };
 

@@ -1,4 +1,4 @@
-//! What the desk answers a sender, and what the store keeps of it.
+//! What the desk replies to a sender, and what the store keeps of it.
 
 ghost use Rattle.std.specs.Prelude.{◌≡◌, IfOk};
 
@@ -6,36 +6,38 @@ use esc_bundle::NoMemory;
 use std::alloc::Global;
 use std::marker::Model;
 
-/// What an arrival is found to be.
+/// What an arrival was found to be, by the rows that were listed when it came (this project's
+/// profile).
 #[derive(Clone, Copy, Debug, PartialEq, Eq)]
 pub enum Verdict {
-    /// The deposit is held.
+    /// The body is the deposit of its row, and is held.
     A1,
-    /// The body isn't listed, and isn't kept.
+    /// No row listed the body, and it was not kept. Only version 1 gave this verdict.
     A2,
-    /// No deposit reads from the body: the refusal of this number, from U1 to U11.
+    /// A row lists the body, but it is no valid deposit: the number of its refusal, from U1 to U11.
     A3(u8),
-    /// The deposit says another id, place, resend or previous id than the manifest.
+    /// A row lists the body, but its deposit has another id, place, resend or previous id than the
+    /// row.
     A4,
-    /// The body isn't listed, and is parked until a manifest lists it.
+    /// No row listed the body, and it was parked until a manifest lists it.
     A5,
 }
 
 /// The reply to an arrival.
 #[derive(Debug, Drop)]
 pub struct Reply {
-    /// From 1, without a hole.
+    /// The number of the receipt: receipts are numbered from 1, without gaps.
     pub receipt: u64,
-    /// The number that the sender gave.
+    /// The number under which the sender sent it.
     pub number: String,
     pub verdict: Verdict,
     /// The id of the manifest's row, if the body is listed.
     pub id: Option<String>,
     /// The resend of that row.
     pub resend: Option<u32>,
-    /// Whether an earlier receipt held the same row. Of a held deposit alone.
+    /// Whether an earlier receipt has `A1` of the same row. With `A1` alone.
     pub again: Option<bool>,
-    /// How many child rows had no parent row. Of a held deposit alone.
+    /// The number of orphans, child rows without a parent row. With `A1` alone.
     pub orphans: Option<u64>,
 }
 
@@ -85,7 +87,7 @@ pub struct Receipt<'a> {
     /// The SHA-256 of the body.
     pub digest: [u8; 32],
     pub verdict: Verdict,
-    /// The row of the manifest that lists the digest, from 0.
+    /// The index, from 0, of the manifest's row that lists the digest.
     pub row: Option<usize>,
     pub again: Option<bool>,
     pub orphans: Option<u64>,

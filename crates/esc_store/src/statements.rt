@@ -1,5 +1,5 @@
-//! The statements of a store: a write or a read of its tables each. Where one fails, what is on is
-//! given up.
+//! The statements of a store: each is one write or one read of its tables. Where one fails, a
+//! transaction that is on is rolled back.
 
 ghost use Rattle.std.specs.Prelude.{◌≡◌, map, option_map, IfErr};
 ghost use Rattle.sqlite.specs.Held.{state};
@@ -47,7 +47,7 @@ impl<S: Alter> Store<S> {
         self.settle(done)
     }
 
-    // Takes the steps of the chain from a place on away.
+    // Removes the steps of the chain from number `pos` on.
     pub(crate) fn clear_steps_from_here(&mut self, pos: u32) -> Result<(), SFault>
         ensures manifest { self.new.manifest ≡ self.old.manifest }
         ensures writes { self.new.writes ≡ self.old.writes }
@@ -59,7 +59,7 @@ impl<S: Alter> Store<S> {
         self.settle(done)
     }
 
-    // Adds a step to the chain.
+    // Adds a step after the others of the chain.
     pub(crate) fn add_step_here(&mut self, step: ChainStep) -> Result<(), SFault>
         ensures manifest { self.new.manifest ≡ self.old.manifest }
         ensures writes { self.new.writes ≡ self.old.writes }
@@ -71,7 +71,7 @@ impl<S: Alter> Store<S> {
         self.settle(done)
     }
 
-    // All receipts.
+    // All receipts, in the order of their numbers.
     pub(crate) fn receipts_here(&mut self, alloc: Global) -> Result<Vec<Receipt>, SFault>
         ensures read { IsStoreRead S.Store self.old self.new
             (λ c found. map receipt_row found.items ≡ c.receipts) result }
@@ -81,7 +81,7 @@ impl<S: Alter> Store<S> {
         self.settle(found)
     }
 
-    // The receipt of an arrival.
+    // The receipt of an arrival, if there is one.
     pub(crate) fn receipt_here(
         &mut self,
         number: &str,
@@ -96,7 +96,8 @@ impl<S: Alter> Store<S> {
         self.settle(found)
     }
 
-    // The rows that the receipts of a verdict name.
+    // The indices of the rows that the receipts with a verdict name, in ascending order, with
+    // repeats.
     pub(crate) fn rows_here(&mut self, alloc: Global, verdict: u32) -> Result<Vec<u32>, SFault>
         ensures read { IsStoreRead S.Store self.old self.new
             (λ c found. ListsRows verdict c found.items) result }
@@ -121,7 +122,7 @@ impl<S: Alter> Store<S> {
         self.settle(found)
     }
 
-    // The body of a row.
+    // The body of a row, if it is held.
     pub(crate) fn body_here(&mut self, row: u32) -> Result<Option<Vec<u8>>, SFault>
         ensures read { IsStoreRead S.Store self.old self.new
             (λ c found. option_map (λ b. b.items) found ≡ body_of row c.held) result }
@@ -151,7 +152,7 @@ impl<S: Alter> Store<S> {
         self.settle(found)
     }
 
-    // The first records of a kind from a key on.
+    // The first records of a kind from a key on, one page of them.
     pub(crate) fn page_here(
         &mut self,
         alloc: Global,
@@ -176,7 +177,7 @@ impl<S: Alter> Store<S> {
         self.settle(found)
     }
 
-    // The number of the last receipt, or 0.
+    // The number of the last receipt, or 0 if there is none.
     pub(crate) fn last_here(&mut self) -> Result<u32, SFault>
         ensures read { IsStoreRead S.Store self.old self.new
             (λ c found. found ≡ last_number c.receipts) result }

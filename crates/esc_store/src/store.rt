@@ -55,8 +55,8 @@ use sqlite::{Alter, Connection, Error};
 use std::alloc::Global;
 
 /// A store: a database of nine tables. Contracts see what it *stands for*: the rows of its
-/// manifest, a receipt for each distinct arrival, the bodies of the held rows, and the chain with
-/// its tables and before-images.
+/// manifest, a receipt for each distinct arrival, the bodies of the held rows, the parked bodies,
+/// the moment, and the chain with its tables and before-images.
 #[derive(Drop)]
 pub struct Store<S: Alter> {
     pub(crate) conn: Connection<S>,
@@ -68,9 +68,13 @@ pub struct Store<S: Alter> {
 impl<S: Alter> Store<S> {
     ghost use Rattle.esc_store.specs.contracts.store.Store.{the_row};
 
-    /// A new store of a manifest, over a database without any table, index or view, in one change.
-    /// At `Err` the connection is given back as it was: `S3` where it has a table, an index or a
-    /// view; `S1`, also in a transaction; `S2`.
+    /// Makes a new store of a manifest in a database without any table, index or view, in one
+    /// change.
+    ///
+    /// # Errors
+    ///
+    /// The connection is returned as it was. `S3` if its database has a table, an index or a view;
+    /// `S1`, also in a transaction; `S2`.
     pub fn create(
         alloc: Global,
         connection: Connection<S>,
@@ -109,9 +113,13 @@ impl<S: Alter> Store<S> {
         }
     }
 
-    /// The store that a database is, also where the database is what a crash left of one. At `Err`
-    /// the connection is given back as it was: `S3` where it is no store of this version; `S1`,
-    /// also in a transaction, or where the rows of its manifest make none; `S2`.
+    /// The store that a database is, also if the database is what a crash left of one.
+    ///
+    /// # Errors
+    ///
+    /// The connection is returned as it was. `S3` if its database is no store of this version;
+    /// `S1`, also in a transaction, or if the rows of its manifest are not those of an accepted
+    /// one; `S2`.
     pub fn open(
         alloc: Global,
         connection: Connection<S>,
@@ -146,7 +154,7 @@ impl<S: Alter> Store<S> {
         }
     }
 
-    /// The connection, with the store as it is. Takes no memory.
+    /// The connection of the store, whose database stays as it is. Doesn't allocate.
     pub fn into_connection(self) -> Connection<S>
         ensures same { result ≡ self.conn }
         ensures holds { (k : Kept) → Stands S.Store self k → HoldsKept S.Store result k }
@@ -154,8 +162,8 @@ impl<S: Alter> Store<S> {
         self.conn
     }
 
-    /// The manifest: the rows that the store was made with, and those that were listed since. Takes
-    /// no memory.
+    /// The manifest: the rows with which the store was made, and those that were listed since.
+    /// Doesn't allocate.
     pub fn manifest(&self) -> &Manifest
         ensures manifest { result.now ≡ self.now.manifest }
         ensures kept { (k : Kept) → Stands S.Store self.now k → result.now ≡ k.listed }
@@ -163,15 +171,15 @@ impl<S: Alter> Store<S> {
         &self.manifest
     }
 
-    /// How many objects were written or removed by the changes that were committed since the store
-    /// was opened; it stays at its greatest value. Takes no memory.
+    /// The number of objects that were written or removed by the changes that were committed since
+    /// the store was opened; it stays at 2^64 - 1 once there. Doesn't allocate.
     pub fn writes(&self) -> u64
         ensures { result ≡ self.now.writes }
     {
         self.writes
     }
 
-    /// Begins a change.
+    /// Begins a change. At `Err` (`S1`, `S2`) the store stands for what it stood for.
     pub fn begin(&mut self) -> Result<Change<'_, S>, SFault>
         ensures* refused { sem 𝓛
             (RestsIfErr (the_row S.row S.Store) self.entry
@@ -244,7 +252,7 @@ impl<S: Alter> Store<S> {
         self.settle(committed)
     }
 
-    // Takes over the rows that a change listed, if it listed any.
+    // Makes the rows that a change listed, if it listed any, those of the store's manifest.
     pub(crate) fn take_over(&mut self, listing: Option<Manifest>)
         ensures { self.new ≡ record self.old { manifest = unwrap_or listing self.old.manifest } }
     {
@@ -253,7 +261,7 @@ impl<S: Alter> Store<S> {
         }
     }
 
-    // Gives up what a failure left of a transaction.
+    // Rolls back what a failure left of a transaction.
     pub(crate) fn give_up(&mut self)
         ensures manifest { self.new.manifest ≡ self.old.manifest }
         ensures writes { self.new.writes ≡ self.old.writes }
@@ -262,7 +270,7 @@ impl<S: Alter> Store<S> {
         give_up_in(&mut self.conn);
     }
 
-    // What the database answered. After a failure no transaction is on.
+    // The outcome of a statement. Where it failed, a transaction that is on is rolled back.
     pub(crate) fn settle<T>(&mut self, outcome: Result<T, Error>) -> Result<T, SFault>
         ensures manifest { self.new.manifest ≡ self.old.manifest }
         ensures writes { self.new.writes ≡ self.old.writes }
@@ -278,7 +286,7 @@ impl<S: Alter> Store<S> {
         }
     }
 
-    // Whether a transaction is on: after a failure it is given up, and a change goes on no more.
+    // `S1` if no transaction is on: after a failure it was rolled back, and the change can't go on.
     pub(crate) fn goes_on(&self) -> Result<(), SFault>
         ensures on { OnOk result (self.now.conn.in_transaction ≡ true) }
         ensures off { OnErr result ((self.now.conn.in_transaction ≡ false)

@@ -1,4 +1,4 @@
--- What it is for a body to be a deposit, and which refusal applies (RFC 8909, section 2, and this
+-- When a body is a deposit, and which refusal applies otherwise (RFC 8909, section 2, and this
 -- project's profile).
 use Rattle.std.specs.Prelude.{
   ◌≡◌,
@@ -32,7 +32,8 @@ use Rattle.esc_tables.specs.Reading.{tables_of, parent_rows, child_rows, most_ro
 abbrev pub all_rows : List Named → EnvelopeValue → List TableRow
 all_rows files e = rows_in files (tables_of e)
 
--- the rows make this deposit: its keys rise, and each has the object that the rows have for it
+-- the rows make this deposit: its keys are in ascending order, and each has the object that the
+-- rows make of it
 pub record Makes (files : List Named) (e : EnvelopeValue) (d : DepositValue) : Type 0 where
   pub header : d.header ≡ e.header
   pub counts : d.counts ≡ e.counts
@@ -42,7 +43,7 @@ pub record Makes (files : List Named) (e : EnvelopeValue) (d : DepositValue) : T
       ≡ object_of (parent_rows files e) (child_rows files e) k
   pub orphans : d.orphans ≡ orphans_of (parent_rows files e) (child_rows files e)
 
--- the body is a bundle of an envelope and of files with rows, and these make this deposit
+-- the body is a bundle of an envelope and of files, and their rows make this deposit
 pub record IsDepositOf (body : List ℕ) (d : DepositValue) : Type 0 where
   pub first : Named
   pub files : List Named
@@ -55,7 +56,7 @@ pub record IsDepositOf (body : List ℕ) (d : DepositValue) : Type 0 where
   pub few : length (all_rows files envelope) ≤ most_rows
   pub made : Makes files envelope d
 
--- the refusal of this number, one of those of files, applies
+-- the refusal of this number, one of the four of files and rows (U8 to U11), applies
 abbrev pub Stands : List Named → EnvelopeValue → ℕ → Type 0
 Stands files e n =
     ((n ≡ 8) × (are_filed files (tables_of e) ≡ false))
@@ -72,7 +73,7 @@ abbrev pub IsRefusedAt : Named → List Named → ℕ → Type 0
 IsRefusedAt first files n = (envelope_of first.bytes ≡ Err n)
     ⊎ ((e : EnvelopeValue) × (envelope_of first.bytes ≡ Ok e) × IsLeast files e n)
 
--- the body is refused with this number: it is no bundle, or a bundle that is refused
+-- the body is refused with this number: its frame is refused, or its envelope, or its files are
 abbrev pub IsRefused : List ℕ → ℕ → Type 0
 IsRefused body n = IsFault body n
     ⊎ ((first : Named) × (files : List Named) × IsBundle body (first ∷ files)

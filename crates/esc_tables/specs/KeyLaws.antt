@@ -1,4 +1,4 @@
--- Laws of keys: their order is total, and keys that tie are one key.
+-- Laws of keys: their order is total, and keys that compare equal are equal.
 use Rattle.std.proofs.Common.{◌≡◌, ℕ, true, List, ap}
 use Rattle.std.specs.Ordering.{nat_cmp}
 use Rattle.std.specs.Cmp.{
@@ -43,5 +43,6 @@ keys_exact a b h =
 pub one_key : (a b : KeyName) → key_eq a b ≡ true → a ≡ b
 one_key a b h = keys_exact a b ((Equal-is (key_cmp a b)).0 h)
 
+-- a key equals itself
 pub key_itself : (k : KeyName) → key_eq k k ≡ true
 key_itself k = keys_alike.refl k

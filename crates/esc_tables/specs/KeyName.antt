@@ -11,7 +11,7 @@ pub record KeyName : Type 0 where
   pub kind : Kind
   pub text : List ℕ
 
--- by kind, and then by bytes
+-- the order of keys: by kind, and then by bytes
 abbrev pub key_cmp : KeyName → KeyName → Ordering
 key_cmp = then_cmp (on (λ k. kind_rank k.kind) nat_cmp) (on (λ k. k.text) (slice_cmp nat_cmp))
 

@@ -36,7 +36,7 @@ abbrev pub object_of : List (KeyName × RowValue) → List (KeyName × RowValue)
 object_of parents children k = option_map (with_children (at_key k children))
     (last_or None (at_key k parents))
 
--- how many child rows have no parent row
+-- the number of orphans: child rows without a parent row
 abbrev pub orphans_of : List (KeyName × RowValue) → List (KeyName × RowValue) → ℕ
 orphans_of parents children = count_by (λ c. not (has_pair parents c.0)) children
 
@@ -50,7 +50,7 @@ unfoldable pub objects_of : List (KeyName × RowValue) → List (KeyName × RowV
 objects_of parents children = map (λ e. (e.0, with_children (at_key e.0 children) e.1))
     (in_order parents)
 
--- an object of a parent row alone, with its key
+-- an object that is a parent row without child rows, with its key
 abbrev pub alone : KeyName × RowValue → KeyName × ObjectValue
 alone p = (p.0, with_children [] p.1)
 

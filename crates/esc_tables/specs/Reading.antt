@@ -1,4 +1,4 @@
--- The deposit of a bundle, or its least fault (RFC 8909, section 2, and this project's profile).
+-- The deposit of a bundle, or its least refusal (RFC 8909, section 2, and this project's profile).
 use Rattle.std.specs.Prelude.{
   ℕ,
   List,
@@ -38,7 +38,7 @@ use Rattle.esc_tables.specs.TableRow.{
 use Rattle.esc_tables.specs.Objects.{objects_of, orphans_of}
 
 infixl 10 ◌>>=◌
--- the next step, on the value of the one before, unless that had a fault
+-- the next step, applied to the value of the one before it, or the fault of that one
 abbrev pub ◌>>=◌ : {A B : Type 0} → Result A ℕ → (A → Result B ℕ) → Result B ℕ
 (Ok x) >>= next = next x
 (Err n) >>= next = Err n
@@ -86,23 +86,24 @@ deposit_of files e = record {
   orphans = orphans_of (parent_rows files e) (child_rows files e);
 }
 
--- fault 9 is a row of another length or a field that is no UTF-8, 10 a key that is empty or too
--- long, 11 too many rows
+-- fault 9: a row has another number of fields, or a field that is no UTF-8. Fault 10: a key is
+-- empty or too long. Fault 11: there are too many rows
 unfoldable pub check_rows : List TableRow → Result (Unit {0}) ℕ
 check_rows rows = do
   whole ← check (list_all is_whole rows) 9
   named ← check (list_all has_key rows) 10
   check (nat_le (length rows) most_rows) 11
 
--- fault 8 is a declared file that is no section after the envelope, or a section after the envelope
--- that is not declared exactly once
+-- fault 8: a declared file is no section after the envelope, or a section after the envelope isn't
+-- declared exactly once
 unfoldable pub deposit_in : List Named → EnvelopeValue → Result DepositValue ℕ
 deposit_in files e = do
   filed ← check (are_filed files (tables_of e)) 8
   right ← check_rows (rows_in files (tables_of e))
   Ok (deposit_of files e)
 
--- the deposit that sections make, where the first one is the envelope; each bundle has a section
+-- the deposit that sections make, the first of which is the envelope. A bundle has at least one
+-- section, so the case without any does not occur
 unfoldable pub sections_deposit : List Named → Result DepositValue ℕ
 sections_deposit [] = Err 5
 sections_deposit (first ∷ files) = envelope_of first.bytes >>= deposit_in files
@@ -111,7 +112,8 @@ sections_deposit (first ∷ files) = envelope_of first.bytes >>= deposit_in file
 unfoldable pub reading : List ℕ → Result DepositValue ℕ
 reading body = frame body >>= sections_deposit
 
--- the envelope of sections, which is the first of them; each bundle has a section
+-- the envelope of sections, which is the first of them. A bundle has at least one section, so the
+-- case without any does not occur
 unfoldable pub sections_envelope : List Named → Result EnvelopeValue ℕ
 sections_envelope [] = Err 5
 sections_envelope (first ∷ files) = envelope_of first.bytes

@@ -4,7 +4,7 @@ use Rattle.esc_bundle.specs.Bundle.{limit}
 use Rattle.esc_tables.specs.ObjectValue.{RowValue, ObjectValue}
 use Rattle.esc_tables.specs.Reading.{most_rows}
 
--- names of at most 64 bytes, at most 64 cells, and no text longer than a bundle
+-- names of at most 64 bytes, at most 64 cells, and no text longer than a bundle may be
 pub record IsSmallRow (row : RowValue) : Type 0 where
   pub table : length row.table ≤ 64
   pub few : length row.cells ≤ 64

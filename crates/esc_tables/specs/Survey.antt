@@ -11,6 +11,6 @@ noted s r = record {
   rows = if nat_le s.rows most_rows then s.rows + 1 else s.rows;
 }
 
--- what is seen of no rows
+-- what was seen before the first row
 abbrev pub unseen : Survey
 unseen = record { has_keys = true; rows = 0 }

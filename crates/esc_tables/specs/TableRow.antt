@@ -48,11 +48,12 @@ is_there files t = list_any (λ s. bytes_eq s.name t.file) files
 abbrev pub is_declared : List TableValue → Named → Bool
 is_declared tables s = count_by (λ t. bytes_eq t.file s.name) tables == 1
 
--- whether each table has its file among these sections, and each of them is some one table's
+-- whether the file of each table is one of these sections, and each of them is the file of exactly
+-- one table
 abbrev pub are_filed : List Named → List TableValue → Bool
 are_filed files tables = list_all (is_there files) tables && list_all (is_declared tables) files
 
--- the bytes of the section with this name
+-- the bytes of the section with this name; no bytes if there is no such section
 abbrev pub bytes_named : List Named → List ℕ → List ℕ
 bytes_named files name = option_map_or (λ s. s.bytes) (find (λ s. bytes_eq s.name name) files) []
 
@@ -88,13 +89,14 @@ is_dns Domain = true
 is_dns Idn = false
 is_dns Nndn = false
 
--- the key of a kind that a text names: of a host or a domain in lower case
+-- the key with this kind and name: of a host or a domain in lower case
 abbrev pub key_named : Kind → List ℕ → KeyName
 key_named kind text = record {
   kind = kind;
   text = if is_dns kind then map to_ascii_lowercase text else text;
 }
 
+-- the key of the object that a row belongs to
 abbrev pub key_of : TableRow → KeyName
 key_of r = key_named r.table.kind (key_field r)
 
@@ -102,7 +104,7 @@ key_of r = key_named r.table.kind (key_field r)
 abbrev pub heading_of : TableValue → HeadingValue
 heading_of t = record { name = t.name; fields = t.fields }
 
--- the cells: each field with its text as it is in the file
+-- a row as its cells: each field with its text, as it is in the file
 abbrev pub row_of : TableRow → RowValue
 row_of r = record { table = r.table.name; cells = zip r.table.fields r.fields }
 

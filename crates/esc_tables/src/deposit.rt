@@ -6,16 +6,18 @@ use esc_envelope::{Header, Kind};
 use std::collections::BTreeMap;
 use std::marker::Model;
 
-/// A deposit, as it was read from a bundle.
+/// A deposit, as it was read from a bundle (RFC 8909, section 2, and this project's profile).
 #[derive(Debug, Drop)]
 pub struct Deposit {
     pub header: Header,
-    /// How many objects of a kind the registry had at the watermark, where the deposit says.
+    /// How many objects of each kind the registry had at the watermark, for the kinds of which the
+    /// deposit declares it.
     pub counts: BTreeMap<Kind, u64>,
     /// The keys of the delete rows, in the order of declarations and rows.
     pub deletes: Vec<Key>,
+    /// The objects by their keys.
     pub contents: BTreeMap<Key, Object>,
-    /// How many child rows have no parent row of their kind and key.
+    /// The number of orphans: child rows without a parent row of their kind and key.
     pub orphans: u64,
 }
 

@@ -16,7 +16,7 @@ fn section_named<'a, 'b>(files: &'b [Section<'a>], name: &str) -> Option<&'b Sec
     files.iter().find(|file| file.name == name)
 }
 
-/// The bytes of the section with this name, or none if there is no such section.
+/// The bytes of the section with this name; no bytes if there is no such section.
 pub fn bytes_named<'a>(files: &[Section<'a>], name: &str) -> &'a [u8]
     ensures { result.now ≡ bytes_named (views files.now) name.now }
 {
@@ -74,7 +74,8 @@ fn are_declared(contents: &[Table], deletes: &[Table], files: &[Section<'_>]) ->
         .all(|file| is_declared(contents, deletes, file))
 }
 
-/// Whether each table has its file among these sections, and each of them is some one table's.
+/// Whether the file of each table is one of these sections, and each section is the file of exactly
+/// one table.
 pub fn are_filed(files: &[Section<'_>], contents: &[Table], deletes: &[Table]) -> bool
     ensures { result ≡ are_filed (views files.now) (contents.now ++ deletes.now) }
 {

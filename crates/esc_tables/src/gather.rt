@@ -11,7 +11,7 @@ use esc_bundle::NoMemory;
 use std::alloc::Global;
 use std::collections::BTreeMap;
 
-/// What rows make: the objects, and how many child rows have no parent row.
+/// What rows make: the objects, and the number of child rows without a parent row.
 #[derive(Drop)]
 pub struct Gathered {
     pub objects: BTreeMap<Key, Object>,
@@ -54,7 +54,7 @@ fn push_child(object: &mut Object, row: Row) -> Result<(), NoMemory>
     }
 }
 
-// Adds a child row to the object of its key, and returns whether there is one.
+// Adds a child row to the object of its key, and returns whether there is such an object.
 fn add_child(objects: &mut BTreeMap<Key, Object>, key: &Key, row: Row) -> Result<bool, NoMemory>
     ensures added { OnOk result ((k : KeyName) → get key_cmp objects.new k
         ≡ (if key_eq k key.now then option_map (with_child row)
@@ -71,7 +71,7 @@ fn add_child(objects: &mut BTreeMap<Key, Object>, key: &Key, row: Row) -> Result
     }
 }
 
-/// The objects of parent rows, with the child rows of their keys in order.
+/// The objects of parent rows, each with the child rows of its key, in their order.
 pub fn gather(
     alloc: Global,
     parents: Vec<(Key, Row)>,

@@ -13,11 +13,12 @@ use std::alloc::Global;
 use std::cmp::Ordering;
 use std::marker::Model;
 
-/// The key of an object, ordered by kind and then by bytes.
+/// The key of an object: its kind and its name. Keys are ordered by kind and then by bytes.
 #[derive(Debug, Drop)]
 pub struct Key {
     pub kind: Kind,
-    /// The key field's text, in lower-case ASCII letters for a domain or a host: 1 to 255 bytes.
+    /// The text of the key field, 1 to 255 bytes; of a domain or a host with ASCII letters in lower
+    /// case.
     pub text: String,
 }
 

@@ -38,8 +38,9 @@ pub fn refusals_are_1_to_11()
     envelope_refusals_are_5_to_7();
 }
 
-/// Each object of a deposit that is read is small: names of at most 64 bytes, at most 64 cells in a
-/// row, no text longer than a bundle, and no more child rows than a bundle has rows.
+/// Each object of a deposit that is read is small: its names have at most 64 bytes, its rows at
+/// most 64 cells, no text is longer than a bundle may be, and there are no more child rows than a
+/// bundle may have rows (100,000).
 pub fn read_objects_are_small()
     ensures { (body : List ℕ) (d : DepositValue) → reading body ≡ Ok d
         → All (λ e. IsSmallObject e.1) d.contents }
@@ -56,8 +57,8 @@ pub fn read_deposits_are_small()
         → length d.deletes + length d.contents ≤ 100_000 }
 {}
 
-/// Tables in the order of their names are the same tables, and none comes before one that is
-/// earlier in the list.
+/// `by_name` returns the same tables in another order, in which no table has a name before that of
+/// an earlier one.
 pub fn tables_are_in_order()
     ensures same { (tables : List TableValue) → IsPermutation tables (by_name tables) }
     ensures rising { (tables : List TableValue) → IsSortedBy is_before (by_name tables) }

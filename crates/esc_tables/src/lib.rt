@@ -49,7 +49,8 @@
 //! the range of the numbers. `read_deposits_are_small` says that a deposit has no more deletes and
 //! objects than a bundle may have rows, and `read_objects_are_small` how large each object can be.
 //! `tables_are_in_order` says that child tables are put in the order of their names.
-//! `specs/KeyLaws.antt` has the laws of keys: their order is total, and keys that tie are one key.
+//! `specs/KeyLaws.antt` has the laws of keys: their order is total, and keys that compare equal are
+//! equal.
 //!
 //! # Cost
 //!

@@ -39,7 +39,7 @@ impl Heading {
     }
 }
 
-// The record of these texts.
+// These texts as one record.
 fn record_of(alloc: Global, texts: &[String]) -> Result<StringRecord, NoMemory>
     ensures { IfOk result (λ r. fields_of r ≡ map string_bytes texts.now) }
 {
@@ -62,8 +62,8 @@ fn shared(alloc: Global, name: &str, fields: StringRecord) -> Result<Rc<Heading>
 }
 
 /// A row of a table: its cells in the declared order, each with its field's name. It has as many
-/// texts as its heading has fields. Rows that are read of one table share its heading, and a row's
-/// texts are one after the other in memory.
+/// texts as its heading has fields. Rows that were read from one table share their heading, and the
+/// texts of a row are in one piece of memory.
 #[derive(Debug, Drop)]
 pub struct Row {
     heading: Rc<Heading>,
@@ -86,12 +86,12 @@ impl Model for Row {
     ghost invariant = { λ r. length (fields_of r.texts) ≡ length r.heading.value.fields };
 }
 
-/// How many bytes most fields' names and texts have at most, so that a row's memory is mostly taken
-/// at once.
+/// The length, in bytes, that most names of fields and texts don't exceed: mostly the memory of a
+/// row is allocated at once.
 const USUAL_LENGTH: usize = 16;
 
 impl Row {
-    /// The row of a heading and of as many texts as it has fields.
+    /// The row of a heading and of one text for each of its fields.
     pub(crate) fn under(heading: Rc<Heading>, texts: StringRecord) -> Row
         requires { length (fields_of texts) ≡ length heading.value.fields }
         ensures { result ≡ record {
@@ -132,7 +132,8 @@ impl Row {
         self.texts.len()
     }
 
-    /// The field's name and the text of the cell at this place, from 0.
+    /// The field's name and the text of the cell with this index, from 0; `None` if there is no
+    /// such cell.
     pub fn cell(&self, at: usize) -> Option<(&str, &str)>
         ensures { option_map (λ c. (c.0.now, c.1.now)) result ≡ slice_get self.now.cells at }
     {
@@ -152,12 +153,12 @@ impl Row {
     }
 }
 
-/// An object: a parent row with the child rows of its key (this project's profile of RFC 9022's CSV
-/// model).
+/// An object: a parent row with the child rows of its kind and key (this project's profile of RFC
+/// 9022's CSV model).
 #[derive(Debug, Drop)]
 pub struct Object {
     pub parent: Row,
-    /// By table name in byte order, and in a table as in its file.
+    /// By table name in byte order; the rows of one table in the order of its file.
     pub children: Vec<Row>,
 }
 

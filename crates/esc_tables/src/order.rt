@@ -16,14 +16,15 @@ fn comes_before(name: &str, table: &Table) -> bool
     name < table.name.as_str()
 }
 
-// The first table whose name is after this one.
+// The index of the first table whose name is after this one.
 fn first_after(tables: &[&Table], name: &str) -> Option<usize>
     ensures { result ≡ position (λ t. is_lt (slice_cmp nat_cmp name.now t.now.name)) tables.now }
 {
     tables.iter().position(|table| comes_before(name, table))
 }
 
-/// The child tables among these, in the byte order of their names. There are at most 64.
+/// The child tables among these, in the byte order of their names. A bundle has at most 64
+/// sections, so they are few enough to insert one by one.
 pub fn child_tables<'a>(alloc: Global, tables: &'a [Table]) -> Result<Vec<&'a Table>, NoMemory>
     ensures { IfOk result (λ v. map (λ t. t.now) v.items
         ≡ by_name (filter (λ t. not t.parent) tables.now)) }

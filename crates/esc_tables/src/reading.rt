@@ -1,8 +1,23 @@
 //! Reading a bundle as a deposit.
 
-ghost use Rattle.std.specs.Prelude.{◌≡◌, ◌≤◌, ℕ, true, Ok, Err, IfOk, IfErr, MatchResult};
+ghost use Rattle.std.specs.Prelude.{
+  ◌≡◌,
+  ◌≢◌,
+  ◌<◌,
+  ◌≤◌,
+  ◌++◌,
+  ℕ,
+  List,
+  length,
+  true,
+  Ok,
+  Err,
+  IfOk,
+  IfErr,
+  MatchResult,
+};
 ghost use Rattle.std.specs.List.{list_all};
-ghost use Rattle.esc_bundle.specs.Bundle.{views};
+ghost use Rattle.esc_bundle.specs.Bundle.{views, limit, first_line};
 ghost use Rattle.esc_tables.specs.TableRow.{rows_in, is_whole};
 ghost use Rattle.esc_tables.specs.DepositValue.{DepositValue};
 ghost use Rattle.esc_tables.specs.Reading.{
@@ -23,10 +38,11 @@ use esc_bundle::{Fault, NoMemory, Section, sections};
 use esc_envelope::{Envelope, read_envelope};
 use std::alloc::Global;
 
-/// A declared file is no section after the envelope, or such a section is not declared once.
+/// U8: a declared file is no section after the envelope, or such a section isn't declared exactly
+/// once.
 const WRONG_FILES: Fault = Fault::Refused(8);
 
-// What whole rows make.
+// The deposit that the rows make, where all of them are whole.
 fn make_deposit(
     alloc: Global,
     files: &[Section<'_>],
@@ -68,13 +84,30 @@ fn read_files(alloc: Global, files: &[Section<'_>], envelope: Envelope) -> Resul
     Ok(make_deposit(alloc, files, envelope)?)
 }
 
-/// The deposit that a bundle is, or the least refusal from U1 to U11.
+/// The deposit that the bytes of a bundle are (RFC 8909, section 2, and this project's profile).
+///
+/// # Errors
+///
+/// `Refused(n)` with the least of U1 to U11 that applies:
+///
+/// - 1 to 4: the frame, as `sections` of `esc_bundle` returns it;
+/// - 5 to 7: the envelope, as `read_envelope` of `esc_envelope` returns it;
+/// - 8: a declared file is no section after the envelope, or such a section isn't declared exactly
+///   once;
+/// - 9: a row has another number of fields than declared, or a field that is no UTF-8;
+/// - 10: a key is empty or longer than 255 bytes;
+/// - 11: there are more than 100,000 rows.
+///
+/// `NoMemory` out of memory.
 pub fn read_deposit(alloc: Global, body: &[u8]) -> Result<Deposit, Fault>
     ensures read { IfOk result (λ d. reading body.now ≡ Ok d) }
     ensures refused { IfErr result (λ e. (n : ℕ) → e ≡ Fault.Refused n
         → reading body.now ≡ Err n) }
     ensures numbers { IfErr result (λ e. (n : ℕ) → e ≡ Fault.Refused n
         → (1 ≤ n) × (n ≤ 11)) }
+    ensures over_limit { limit < length body.now → result ≡ Err (Fault.Refused 4) }
+    ensures other_line { length body.now ≤ limit →
+        ((rest : List ℕ) → body.now ≢ first_line ++ rest) → result ≡ Err (Fault.Refused 1) }
 {
     refusals_are_1_to_11();
     read_body(alloc, body)
@@ -84,6 +117,9 @@ fn read_body(alloc: Global, body: &[u8]) -> Result<Deposit, Fault>
     ensures read { IfOk result (λ d. reading body.now ≡ Ok d) }
     ensures refused { IfErr result (λ e. (n : ℕ) → e ≡ Fault.Refused n
         → reading body.now ≡ Err n) }
+    ensures over_limit { limit < length body.now → result ≡ Err (Fault.Refused 4) }
+    ensures other_line { length body.now ≤ limit →
+        ((rest : List ℕ) → body.now ≢ first_line ++ rest) → result ≡ Err (Fault.Refused 1) }
 {
     let sections = sections(alloc, body)?;
     let [first, files @ ..] = sections.as_slice() else {
@@ -93,9 +129,13 @@ fn read_body(alloc: Global, body: &[u8]) -> Result<Deposit, Fault>
     read_files(alloc, files, envelope)
 }
 
-/// The envelope of a bundle, or the least refusal from U1 to U7. Of the files the frame alone is
-/// read, and their rows are not; of a body that is a deposit, header and counts are the
-/// deposit's.
+/// The envelope of a bundle. Of the files only the frame is read, and no row. If the body is a
+/// deposit, header and counts are those of the deposit.
+///
+/// # Errors
+///
+/// `Refused(n)` with the least of U1 to U7 that applies, as of `read_deposit`; `NoMemory` out of
+/// memory.
 pub fn read_bundled_envelope(alloc: Global, body: &[u8]) -> Result<Envelope, Fault>
     ensures read { IfOk result (λ e. bundled_envelope body.now ≡ Ok e) }
     ensures refused { IfErr result (λ e. (n : ℕ) → e ≡ Fault.Refused n
@@ -105,6 +145,9 @@ pub fn read_bundled_envelope(alloc: Global, body: &[u8]) -> Result<Envelope, Fau
     ensures deposit { (d : DepositValue) → reading body.now ≡ Ok d →
         MatchResult result (λ e. (e.header ≡ d.header) × (e.counts ≡ d.counts))
         (λ e. e ≡ Fault.NoMemory) }
+    ensures over_limit { limit < length body.now → result ≡ Err (Fault.Refused 4) }
+    ensures other_line { length body.now ≤ limit →
+        ((rest : List ℕ) → body.now ≢ first_line ++ rest) → result ≡ Err (Fault.Refused 1) }
 {
     refusals_are_1_to_11();
     first_envelope(alloc, body)
@@ -114,6 +157,9 @@ fn first_envelope(alloc: Global, body: &[u8]) -> Result<Envelope, Fault>
     ensures read { IfOk result (λ e. bundled_envelope body.now ≡ Ok e) }
     ensures refused { IfErr result (λ e. (n : ℕ) → e ≡ Fault.Refused n
         → bundled_envelope body.now ≡ Err n) }
+    ensures over_limit { limit < length body.now → result ≡ Err (Fault.Refused 4) }
+    ensures other_line { length body.now ≤ limit →
+        ((rest : List ℕ) → body.now ≢ first_line ++ rest) → result ≡ Err (Fault.Refused 1) }
 {
     let sections = sections(alloc, body)?;
     let [envelope, ..] = sections.as_slice() else {

@@ -20,7 +20,7 @@ use esc_envelope::{Kind, Table};
 use std::alloc::Global;
 use std::rc::Rc;
 
-/// The most bytes of a key.
+/// The greatest length of a key, in bytes.
 const LONGEST_KEY: usize = 255;
 
 /// Whether a row has as many fields as its table declares, each of them UTF-8.
@@ -57,7 +57,7 @@ fn key_named(alloc: Global, kind: Kind, name: &str) -> Result<Key, NoMemory>
     Ok(Key { kind, text })
 }
 
-/// The key of a row's object: of a host or a domain in lower-case ASCII letters.
+/// The key of a row's object: of a host or a domain with ASCII letters in lower case.
 pub fn read_key(alloc: Global, table: &Table, row: &Record) -> Result<Key, NoMemory>
     requires { is_whole (in_table table.now row.now) ≡ true }
     ensures { IfOk result (λ key. key ≡ key_of (in_table table.now row.now)) }

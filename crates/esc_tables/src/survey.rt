@@ -17,21 +17,21 @@ use std::alloc::Global;
 /// The most rows of a bundle.
 const MOST_ROWS: u32 = 100_000;
 
-/// A row has another number of fields than its table declares, or a field that is no UTF-8.
+/// U9: a row has another number of fields than its table declares, or a field that is no UTF-8.
 const BROKEN_ROW: Fault = Fault::Refused(9);
 
-/// A key is empty or over 255 bytes.
+/// U10: a key is empty or longer than 255 bytes.
 const WRONG_KEY: Fault = Fault::Refused(10);
 
-/// There are too many rows.
+/// U11: there are too many rows.
 const TOO_MANY_ROWS: Fault = Fault::Refused(11);
 
 /// What was seen of the rows so far, all of them whole.
 #[derive(Clone, Copy)]
 pub struct Survey {
-    /// Whether each has a key.
+    /// Whether each of them has a valid key.
     has_keys: bool,
-    /// How many there are, as far as one past the most.
+    /// How many there are, counted up to one more than the limit.
     rows: u32,
 }
 
@@ -91,8 +91,8 @@ fn survey_tables(
     Ok(survey)
 }
 
-/// Whether all rows are whole and have keys, and are not too many; else the least fault that
-/// applies.
+/// Returns `Ok` if all rows are whole, all have valid keys, and they are not too many; else the
+/// least of U9 to U11 that applies.
 pub fn check_rows(
     alloc: Global,
     files: &[Section<'_>],

@@ -1,4 +1,4 @@
--- The report of links, and of what else breaks a rule (this project's profile).
+-- The report of links, and of what else breaks a rule, V1 to V7 (this project's profile).
 use Rattle.std.specs.Prelude.{ℕ, List, [], ◌∷◌, ◌++◌, map, codes}
 use Rattle.std.specs.Fmt.{decimal}
 use Rattle.esc_envelope.specs.Kinds.{kind_name}

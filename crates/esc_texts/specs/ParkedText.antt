@@ -9,7 +9,7 @@ use Rattle.esc_events.specs.declared.parked.ParkedBody.{ParkedBody}
 abbrev pub heading : Line
 heading = codes "sha256" ∷ codes "bytes" ∷ []
 
--- the line of a body: its digest in lower case, and its length
+-- the line of a body: its digest as lower-case hexadecimal digits, and its length in bytes
 abbrev pub parked_line : ParkedBody → Line
 parked_line p = encode_lower p.digest ∷ decimal p.bytes ∷ []
 

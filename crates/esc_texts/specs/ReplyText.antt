@@ -1,4 +1,5 @@
--- A reply as JSON: an object of eight members in the order of their names, without white space.
+-- A reply as JSON (RFC 8259, and this project's profile): an object of eight members in the order
+-- of their names, without white space.
 use Rattle.std.specs.Prelude.{ℕ, List, Bool, Option, Some, None, codes}
 use Rattle.serde_json.specs.Data.{
   Data,

@@ -13,12 +13,12 @@ verdict_word (A3 n) = codes "A3"
 verdict_word A4 = codes "A4"
 verdict_word A5 = codes "A5"
 
--- whether a row was held before
+-- whether an earlier receipt has the row with A1
 abbrev pub copy_word : Bool → List ℕ
 copy_word false = codes "new"
 copy_word true = codes "again"
 
--- why a body is unreadable, if it is: U and the refusal's number
+-- why no deposit reads from a body: U and the refusal's number; none for a verdict other than A3
 abbrev pub fault_of : Verdict → Option (List ℕ)
 fault_of A1 = None
 fault_of A2 = None

@@ -26,8 +26,9 @@ use esc_envelope::{Place, watermark_text};
 use esc_store::SFault;
 use std::alloc::{AllocError, Global};
 
-/// The report of gaps: the heading, and a line for each of these. `S1` where a place has a moment
-/// that has no text, as none of a manifest has.
+/// The report of gaps: the heading `watermark,type,used,state,blocker,awaited`, and a line for each
+/// of these places. `S1` if a watermark is outside the years 1970 to 2261, as no listed one is;
+/// `S2`.
 pub fn gaps_text(alloc: Global, gaps: &[GapLine]) -> Result<Vec<u8>, SFault>
     ensures text { IfOk result (λ text. text.items ≡ gaps_text gaps.now) }
     ensures cause { IfErr result IsS1OrS2 }

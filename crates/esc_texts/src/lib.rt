@@ -2,15 +2,16 @@
 //!
 //! | Call | Text |
 //! |---|---|
-//! | [`reply_text`] | a reply as JSON: an object of eight members, where null is what isn't told |
+//! | [`reply_text`] | a reply as JSON: an object of eight members, null where there is no value |
 //! | [`receipts_text`] | the report of receipts: a heading, and a line for each reply |
 //! | [`receipts_heading`], [`receipt_line`] | its heading, and the line of one reply |
 //! | [`gaps_text`] | the report of gaps: a heading, and a line for each listed place |
 //! | [`links_text`] | the report of links: a heading, and a line for each finding |
 //! | [`parked_text`] | the report of parked bodies: a heading, and a line for each |
 //!
-//! The reports are CSV, as `csv` writes it, and a value that isn't there is empty. No desk is
-//! needed: each takes the values, and `esc_http` asks a desk for them.
+//! The reports are CSV as `csv` writes it (RFC 4180, except that lines end with a line feed alone);
+//! a value that isn't there is empty. No desk is needed: each call takes the values, and `esc_http`
+//! asks a desk for them.
 //!
 //! # Example
 //!

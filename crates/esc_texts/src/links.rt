@@ -1,4 +1,4 @@
-//! The report of links, and of what else breaks a rule.
+//! The report of links, and of what else breaks a rule (V1 to V7).
 
 ghost use Rattle.std.specs.Prelude.{◌≡◌, ◌∷◌, [], ◌++◌, IfOk, OnOk, string_bytes};
 ghost use Rattle.std.specs.Fmt.{decimal};
@@ -16,7 +16,7 @@ use esc_check::Finding;
 use esc_csv::Lines;
 use std::alloc::Global;
 
-/// The report of links: the heading, and a line for each finding.
+/// The report of links: the heading `code,kind,key,field,value,other`, and a line for each finding.
 pub fn links_text(alloc: Global, found: &[Finding]) -> Result<Vec<u8>, NoMemory>
     ensures { IfOk result (λ text. text.items ≡ links_text found.now) }
 {

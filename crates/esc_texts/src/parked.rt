@@ -11,7 +11,8 @@ use esc_csv::Lines;
 use esc_events::ParkedBody;
 use std::alloc::Global;
 
-/// The report of parked bodies: the heading, and a line for each of these.
+/// The report of parked bodies: the heading `sha256,bytes`, and a line for each of these: its
+/// digest as 64 lower-case hexadecimal digits, and its length in bytes.
 pub fn parked_text(alloc: Global, bodies: &[ParkedBody]) -> Result<Vec<u8>, NoMemory>
     ensures { IfOk result (λ text. text.items ≡ parked_text bodies.now) }
 {

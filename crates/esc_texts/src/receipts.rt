@@ -18,7 +18,8 @@ use esc_csv::Lines;
 use esc_store::Reply;
 use std::alloc::Global;
 
-/// The heading of the receipts report, as a line.
+/// The heading of the receipts report, with its line feed:
+/// `receipt,number,verdict,fault,id,resend,copy,orphans`.
 pub fn receipts_heading(alloc: Global) -> Result<Vec<u8>, NoMemory>
     ensures { IfOk result (λ text. text.items ≡ line_text heading) }
 {
@@ -27,7 +28,8 @@ pub fn receipts_heading(alloc: Global) -> Result<Vec<u8>, NoMemory>
     lines.into_text()
 }
 
-/// The line of a reply in the receipts report.
+/// The line of a reply in the receipts report, with its line feed. A value that isn't there is
+/// empty.
 pub fn receipt_line(alloc: Global, reply: &Reply) -> Result<Vec<u8>, NoMemory>
     ensures { IfOk result (λ text. text.items ≡ line_text (receipt_line reply.now)) }
 {
@@ -110,7 +112,7 @@ fn number_text(alloc: Global, number: Option<u64>) -> Result<String, NoMemory>
     }
 }
 
-/// A resend in digits; nothing where there is none.
+/// A resend in digits; the empty text where there is none.
 pub(crate) fn resend_text(alloc: Global, resend: Option<u32>) -> Result<String, NoMemory>
     ensures { IfOk result (λ text. string_bytes text ≡ or_empty (option_map decimal resend)) }
 {

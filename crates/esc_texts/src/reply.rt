@@ -20,7 +20,9 @@ use esc_store::{Reply, Verdict};
 use serde_json::{Map, Value, json, put};
 use std::alloc::{AllocError, Global};
 
-/// The JSON text of a reply: an object of eight members, where a value that isn't there is null.
+/// The JSON text of a reply (RFC 8259; the members are this project's profile): an object of the
+/// members `copy`, `fault`, `id`, `number`, `orphans`, `receipt`, `resend` and `verdict`, in this
+/// order and without white space. A value that isn't there is null.
 pub fn reply_text(alloc: Global, reply: &Reply) -> Result<String, NoMemory>
     ensures { IfOk result (λ text. string_bytes text ≡ reply_text reply.now) }
 {
@@ -38,7 +40,7 @@ fn reply_value(alloc: Global, reply: &Reply) -> Result<Value, AllocError>
     Ok(Value::Object(members))
 }
 
-// Puts what each receipt says.
+// Puts receipt, number, verdict and fault.
 fn put_receipt(
     alloc: Global,
     members: &mut Map<String, Value>,
@@ -56,7 +58,7 @@ fn put_receipt(
     put(members, alloc, "fault", fault)
 }
 
-// Puts what is said of the row that lists the body.
+// Puts id and resend, those of the row that lists the body.
 fn put_row(alloc: Global, members: &mut Map<String, Value>, reply: &Reply) -> Result<(), AllocError>
     ensures { OnOk result (members_view members.new.entries
         ≡ with_row reply.now (members_view members.old.entries)) }
@@ -66,7 +68,7 @@ fn put_row(alloc: Global, members: &mut Map<String, Value>, reply: &Reply) -> Re
     put(members, alloc, "resend", resend_value(reply.resend))
 }
 
-// Puts what is said of a held deposit alone.
+// Puts copy and orphans, which a held deposit alone has.
 fn put_holding(
     alloc: Global,
     members: &mut Map<String, Value>,

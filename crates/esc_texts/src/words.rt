@@ -20,14 +20,14 @@ pub(crate) fn verdict_word(verdict: Verdict) -> &'static str
     }
 }
 
-/// The word for whether a row was held before.
+/// The word for whether an earlier receipt has the row with `A1`.
 pub(crate) fn copy_word(again: bool) -> &'static str
     ensures { result.now ≡ copy_word again }
 {
     if again { "again" } else { "new" }
 }
 
-/// Why a body is unreadable, as `U9`, if it is.
+/// Why no deposit reads from a body, as `U9`; `None` for a verdict other than `A3`.
 pub(crate) fn fault_of(alloc: Global, verdict: Verdict) -> Result<Option<String>, AllocError>
     ensures { IfOk result (λ fault. option_map string_bytes fault ≡ fault_of verdict) }
 {

@@ -1,4 +1,4 @@
-//! A manifest in its table, and back.
+//! A manifest as its table keeps it, and back.
 
 ghost use Rattle.std.specs.Prelude.{◌≡◌, ◌⊎◌, ℕ, List, map, option_map, string_bytes, IfOk, IfErr};
 ghost use Rattle.esc_envelope.specs.declared.place.DepositType.{DepositType as deposit_type};
@@ -25,7 +25,7 @@ fn type_number(kind: DepositType) -> u32
     }
 }
 
-// The type that a number is for.
+// The type with this number in the tables. `S1` if there is none.
 fn type_of(number: u32) -> Result<DepositType, SFault>
     ensures kind { IfOk result (λ k. (t : deposit_type) → number ≡ rank t → k ≡ t) }
     ensures cause { IfErr result (λ fault. fault ≡ SFault.S1) }
@@ -38,7 +38,7 @@ fn type_of(number: u32) -> Result<DepositType, SFault>
     }
 }
 
-// A text that there may be.
+// A copy of a text, if there is one.
 fn copy_of(alloc: Global, text: &Option<String>) -> Result<Option<String>, SFault>
     ensures text { IfOk result (λ t. option_map string_bytes t
         ≡ option_map string_bytes text.now) }
@@ -80,7 +80,7 @@ pub(crate) fn stored_manifest(alloc: Global, rows: &[MRow]) -> Result<Vec<Listed
     Ok(stored)
 }
 
-// Rows equal to these.
+// Copies of these rows.
 fn copied_rows(alloc: Global, rows: &[MRow]) -> Result<Vec<MRow>, SFault>
     ensures rows { IfOk result (λ copies. copies.items ≡ rows.now) }
     ensures cause { IfErr result (λ fault. fault ≡ SFault.S2) }
@@ -92,7 +92,7 @@ fn copied_rows(alloc: Global, rows: &[MRow]) -> Result<Vec<MRow>, SFault>
     Ok(copies)
 }
 
-// The manifest of rows that make one.
+// The manifest of these rows. `S1` if they aren't those of an accepted one.
 fn accepted(alloc: Global, rows: Vec<MRow>) -> Result<Manifest, SFault>
     ensures rows { IfOk result (λ manifest. manifest ≡ rows.items) }
     ensures cause { IfErr result (λ fault. fault ≡ SFault.S1) }
@@ -103,7 +103,7 @@ fn accepted(alloc: Global, rows: Vec<MRow>) -> Result<Manifest, SFault>
     }
 }
 
-// An equal manifest.
+// A copy of a manifest.
 fn copied_manifest(alloc: Global, manifest: &Manifest) -> Result<Manifest, SFault>
     ensures same { IfOk result (λ copy. copy ≡ manifest.now) }
     ensures cause { IfErr result (λ fault. (fault ≡ SFault.S1) ⊎ (fault ≡ SFault.S2)) }
@@ -112,7 +112,7 @@ fn copied_manifest(alloc: Global, manifest: &Manifest) -> Result<Manifest, SFaul
     accepted(alloc, rows)
 }
 
-// The digest that bytes are.
+// The digest that these bytes are. `S1` if they don't have the length of a digest.
 pub(crate) fn digest_of(bytes: &[u8]) -> Result<[u8; 32], SFault>
     ensures digest { IfOk result (λ digest. digest ≡ bytes.now) }
     ensures cause { IfErr result (λ fault. fault ≡ SFault.S1) }
@@ -126,7 +126,7 @@ pub(crate) fn digest_of(bytes: &[u8]) -> Result<[u8; 32], SFault>
     }
 }
 
-// The row of a manifest that a row of the table is of.
+// The manifest's row that a row of the table keeps.
 fn manifest_row(alloc: Global, stored: &Listed) -> Result<MRow, SFault>
     ensures row { IfOk result (λ row. (n : ℕ) (r : manifest_row)
         → stored_row stored.now ≡ listed_row n r → row ≡ r) }

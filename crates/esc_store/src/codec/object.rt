@@ -52,7 +52,7 @@ pub(crate) fn kind_number(kind: Kind) -> u32
     }
 }
 
-// The kind that a number in the tables is for. `S1` where it is for none.
+// The kind with this number in the tables. `S1` if there is none.
 fn kind_of(number: u32) -> Result<Kind, SFault>
     ensures kind { IfOk result (λ kind. number ≡ kind_rank kind) }
     ensures cause { IfErr result IsS1OrS2 }
@@ -68,7 +68,7 @@ fn kind_of(number: u32) -> Result<Kind, SFault>
     }
 }
 
-// The key of a kind's number and a text's bytes. `S1` where they are of none; `S2`.
+// The key with this kind's number and these bytes as its text. `S1` if there is none; `S2`.
 fn key_of(alloc: Global, kind: u32, text: &[u8]) -> Result<Key, SFault>
     ensures kind { IfOk result (λ key. kind ≡ kind_rank key.kind) }
     ensures text { IfOk result (λ key. text.now ≡ key.text) }
@@ -106,7 +106,7 @@ pub(crate) fn record_object(alloc: Global, bytes: &[u8]) -> Result<Object, SFaul
     }
 }
 
-// The object that a record is of, if there is one. `S1` where the bytes are no record; `S2`.
+// The object with this record, if there is a record. `S1` if the bytes are no record; `S2`.
 pub(crate) fn object_in(alloc: Global, found: Option<Vec<u8>>) -> Result<Option<Object>, SFault>
     ensures object { IfOk result (λ object. (o : _) → option_map (λ b. b.items) found
         ≡ option_and_then record_of o → IfSome o (λ x. IsSome (record_of x)) → object ≡ o) }
@@ -118,8 +118,7 @@ pub(crate) fn object_in(alloc: Global, found: Option<Vec<u8>>) -> Result<Option<
     }
 }
 
-// Adds what stands at a key. `S1` where something stands there, since a key has one row at most;
-// `S2`.
+// Adds the value of a key. `S1` if the key has one already, since a key has at most one row; `S2`.
 fn add_new<X: Drop>(all: &mut BTreeMap<Key, X>, key: Key, value: X) -> Result<(), SFault>
     ensures absent { OnOk result (lookup (key_eq key) all.old.entries ≡ None) }
     ensures added { OnOk result ((q : KeyName) → lookup (key_eq q) all.new.entries
@@ -150,7 +149,7 @@ fn add_object(
     add_new(objects, key, object)
 }
 
-// The objects of all rows of the table of objects. `S1` where they are of none; `S2`.
+// The objects of all rows of the table of objects. `S1` if a row is no object's; `S2`.
 pub(crate) fn objects_of(
     alloc: Global,
     stored: &[StoredObject],
@@ -177,7 +176,7 @@ fn entry_of(alloc: Global, stored: &StoredObject) -> Result<(Key, Object), SFaul
     Ok((key, object))
 }
 
-// The keys and objects of rows, in their order. `S1` where they are of none; `S2`.
+// The keys and objects of rows, in their order. `S1` if a row is no object's; `S2`.
 pub(crate) fn entries_of(
     alloc: Global,
     stored: &[StoredObject],
@@ -194,7 +193,7 @@ pub(crate) fn entries_of(
     Ok(entries)
 }
 
-// What stood at a key before a step: the object of the row's record, or none.
+// What a key had before a step: the object of the row's record, or none.
 fn before_of(alloc: Global, stored: &StoredImage) -> Result<Option<Object>, SFault>
     ensures before { IfOk result (λ before. option_map record_of before
         ≡ option_map (λ bytes. Some bytes) (image_of stored.now).bytes) }
@@ -238,7 +237,7 @@ fn images_by_key(
     Ok(images)
 }
 
-// The before-images of these rows, in the order of keys. `S1` where they are of none; `S2`.
+// The before-images of these rows, in the order of keys. `S1` if a row is no before-image; `S2`.
 pub(crate) fn images_of(
     alloc: Global,
     stored: &[StoredImage],

@@ -113,7 +113,7 @@ pub(crate) fn stored_receipt(
     })
 }
 
-// The verdict that two numbers stand for.
+// The verdict with this number, and with this refusal's number if it is A3.
 fn verdict_of(number: u32, fault: Option<u32>) -> Result<Verdict, SFault>
     ensures verdict { IfOk result (λ v. (w : verdict) → number ≡ verdict_number w
         → fault ≡ fault_number w → v ≡ w) }
@@ -132,7 +132,7 @@ fn verdict_of(number: u32, fault: Option<u32>) -> Result<Verdict, SFault>
     }
 }
 
-// What a bit stands for.
+// What a 0 or 1 stands for.
 fn again_of(again: Option<u32>) -> Result<Option<bool>, SFault>
     ensures again { IfOk result (λ a. (b : Option Bool) → again ≡ option_map bit b
         → a ≡ b) }
@@ -180,7 +180,7 @@ fn listed_of(
     Ok((Some(id), Some(listed.resend)))
 }
 
-// The reply that a row of the table of receipts is of.
+// The reply that a row of the table of receipts keeps.
 pub(crate) fn reply_of(
     alloc: Global,
     manifest: &Manifest,
@@ -205,7 +205,7 @@ pub(crate) fn reply_of(
     })
 }
 
-// The reply of the row that was found for an arrival.
+// The reply that the row keeps which was found for an arrival, if one was.
 pub(crate) fn reply_found(
     alloc: Global,
     manifest: &Manifest,
@@ -253,7 +253,7 @@ fn indices_of(alloc: Global, numbers: &[u32]) -> Result<Vec<usize>, SFault>
     Ok(rows)
 }
 
-// Numbers of 32 bits that don't fall as row indices, each once.
+// The distinct ones of ascending numbers of 32 bits, as row indices.
 pub(crate) fn distinct_indices_of(alloc: Global, numbers: &[u32]) -> Result<Vec<usize>, SFault>
     ensures once { IsSorted nat_cmp numbers.now
         → IfOk result (λ rows. AreOnce numbers.now rows.items) }

@@ -28,7 +28,7 @@ pub(crate) fn stored_steps(alloc: Global, steps: &[Step]) -> Result<Vec<ChainSte
     Ok(stored)
 }
 
-// The step that a row of the table of steps is of.
+// The step that a row of the table of steps keeps.
 fn step_of(manifest: &Manifest, stored: ChainStep) -> Result<Step, SFault>
     ensures step { IfOk result (λ step. step ≡ step_at manifest.now stored.row) }
     ensures cause { IfErr result IsS1OrS2 }

@@ -1,4 +1,5 @@
 use Rattle.std.proofs.Common.{◌≡◌, ◌++◌, map, ap, sym, subst, ◌∙◌, arith}
+use Rattle.std.proofs.lemmas.Result.{err_from_is_err_and}
 use Rattle.std.proofs.lemmas.Map.Keys.{IsDistinct-from_sorted}
 use Rattle.esc_tables.specs.KeyName.{key_cmp}
 use Rattle.esc_tables.specs.DepositValue.{DepositValue}
@@ -52,3 +53,8 @@ pub returns-clause-applied : goal.returns-clause-applied
 returns-clause-applied g c = λ honest k at held.
     applied_next (g.R.Registry.holds c.remove_deletes.new.r) k c.args.pos c.args.d.now at
     (all_stepped g c honest (chain_state k) held (fresh-chain k c.args.pos (omega (arith, at))))
+
+pub returns-in_err-deletes-clause-cause : goal.returns-in_err-deletes-clause-cause
+returns-in_err-deletes-clause-cause g c =
+    let p = err_from_is_err_and c.from_residual.result c.from_residual.ensures.1 in
+    rw p.1 (g.met.R.Registry.wants_memory _ _ p.2)
