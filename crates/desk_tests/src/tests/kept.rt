@@ -4,7 +4,7 @@ use super::model::{
     Book, Coming, Finding, distinct, found_then, held_rows, latest_chain, was_held,
 };
 use super::tables::{count_orphans, deposit_of, last_line, last_mention, mentions};
-use super::universe::{Body, KEYS, Key, Line, Row};
+use super::universe::{Body, Header, KEYS, Key, Line, Row};
 use sqlite::{Alter, Connection};
 use std::alloc::Global;
 use std::test::Fail;
@@ -40,6 +40,23 @@ fn name_of(alloc: Global, id: Option<u64>) -> Result<Option<String>, Fail> {
     }
 }
 
+// The row of version 1 that says this header, with the names that it has there.
+fn listed_of<'a>(
+    header: &Header,
+    id: &'a str,
+    prev: Option<&'a str>,
+    digest: &'a [u8],
+) -> Result<FirstListed<'a>, Fail> {
+    Ok(FirstListed {
+        id,
+        kind: u32::try_from(header.place.form.rank())?,
+        watermark: watermark(header.place.day)?,
+        prev,
+        resend: u32::try_from(header.resend)?,
+        digest,
+    })
+}
+
 fn put_row<S: Alter>(
     alloc: Global,
     conn: &mut Connection<S>,
@@ -51,14 +68,8 @@ fn put_row<S: Alter>(
     let id = format!(in alloc; "N{}", header.id)?;
     let prev = name_of(alloc, header.prev)?;
     let body = bodies.get(row.body).ok_or("no body")?;
-    let listed = FirstListed {
-        id: id.as_str(),
-        kind: u32::try_from(header.place.form.rank())?,
-        watermark: watermark(header.place.day)?,
-        prev: prev.as_deref(),
-        resend: u32::try_from(header.resend)?,
-        digest: &body.digest,
-    };
+    let digest = body.digest.as_slice();
+    let listed = listed_of(header, id.as_str(), prev.as_deref(), digest)?;
     put_listed(conn, number(at)?, &listed)?;
     Ok(())
 }
@@ -146,20 +157,42 @@ fn kind_of(key: Key) -> u32 {
     if key.is_contact() { CONTACT } else { DOMAIN }
 }
 
-fn push_parent(alloc: Global, record: &mut Vec<u8>, line: &Line) -> Result<(), Fail> {
-    let (table, field) = if line.key.is_contact() {
-        ("contact", "id")
+fn parent_table(key: Key) -> &'static str {
+    if key.is_contact() {
+        "contact"
     } else {
-        ("domain", "name")
-    };
+        "domain"
+    }
+}
+
+fn name_field(key: Key) -> &'static str {
+    if key.is_contact() { "id" } else { "name" }
+}
+
+// Two cells: the field and the text of each.
+fn cells_of<'a>(
+    field: &'a str,
+    text: &'a str,
+    next_field: &'a str,
+    next_text: &'a str,
+) -> [(&'a str, &'a str); 2] {
+    [(field, text), (next_field, next_text)]
+}
+
+fn push_parent(alloc: Global, record: &mut Vec<u8>, line: &Line) -> Result<(), Fail> {
     let registrar = format!(in alloc; "r{}", line.mark)?;
-    let cells = [(field, line.key.name()), ("clID", registrar.as_str())];
-    push_row(record, table, &cells)
+    let cells = cells_of(
+        name_field(line.key),
+        line.key.name(),
+        "clID",
+        registrar.as_str(),
+    );
+    push_row(record, parent_table(line.key), &cells)
 }
 
 fn push_child(alloc: Global, record: &mut Vec<u8>, line: &Line) -> Result<(), Fail> {
     let host = format!(in alloc; "ns{}", line.mark)?;
-    let cells = [("domainName", line.key.name()), ("hostName", host.as_str())];
+    let cells = cells_of("domainName", line.key.name(), "hostName", host.as_str());
     push_row(record, "domainNs", &cells)
 }
 
