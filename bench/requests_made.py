@@ -142,7 +142,7 @@ def cut_request(rng, desk):
 
 
 def large_request(rng, desk):
-    return rng.choice(((put_request(rng, 'n1', bytes(2**24 + 1)), 413), (put_request(rng, 'n1', bytes(2**24)), 422)))
+    return rng.choice(((put_request(rng, 'n1', bytes(2**24 + 1)), 413), (put_request(rng, 'n1', bytes(2**24)), 202)))
 
 
 REQUESTS = (other_length, other_length, repeated_lines, without_length, many_lines, long_head, without_end, other_target,
