@@ -1,7 +1,7 @@
 //! Which deposits the registry is rebuilt from: revisions, bases and the latest chain.
 //!
 //! A release manifest lists deposits; each has a place, which is its watermark and its type, and a
-//! `resend`, which says how often it was generated again (RFC 8909, section 4). Some of the listed
+//! `resend`, which says how often it was generated again (RFC 8909, section 5.1). Some of the listed
 //! deposits are held: they arrived, and were found to be what the manifest says. This crate says
 //! which of the held ones count, and in which order.
 //!

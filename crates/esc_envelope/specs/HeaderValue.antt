@@ -1,4 +1,4 @@
--- What a deposit says of itself, as a value (RFC 8909, section 4).
+-- What a deposit says of itself, as a value (RFC 8909, section 5.1).
 use Rattle.std.specs.Prelude.{ℕ, List, Option}
 use Rattle.esc_envelope.specs.declared.place.Place.{Place}
 

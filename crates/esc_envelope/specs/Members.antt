@@ -1,4 +1,4 @@
--- The members of an envelope outside its tables (this project's profile of RFC 8909, section 4).
+-- The members of an envelope outside its tables (this project's profile of RFC 8909, section 5.1).
 use Rattle.std.specs.Prelude.{
   ℕ,
   ◌<◌,

@@ -32,7 +32,7 @@ use std::alloc::Global;
 use std::collections::BTreeMap;
 use std::marker::Model;
 
-/// What the envelope of a deposit says (this project's profile of RFC 8909, section 4).
+/// What the envelope of a deposit says (this project's profile of RFC 8909, section 5.1).
 #[derive(Drop)]
 pub struct Envelope {
     pub header: Header,

@@ -7,7 +7,7 @@ use esc_bundle::NoMemory;
 use std::alloc::Global;
 use std::marker::Model;
 
-/// What a deposit says of itself (RFC 8909, section 4).
+/// What a deposit says of itself (RFC 8909, section 5.1).
 #[derive(Debug, Drop)]
 pub struct Header {
     /// The deposit's id: 1 to 64 of `A-Z a-z 0-9 . _ -`.

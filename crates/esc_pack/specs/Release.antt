@@ -1,4 +1,4 @@
--- The rows of a release: what bundles say of themselves (RFC 8909, section 4), in order.
+-- The rows of a release: what bundles say of themselves (RFC 8909, section 5.1), in order.
 use Rattle.std.specs.Prelude.{◌≡◌, ℕ, List, map, Bool, Result, Ok}
 use Rattle.std.specs.List.Sorted.{IsPermutation, IsSortedBy}
 use Rattle.std.specs.Ordering.{nat_cmp, int_cmp, on, then_cmp, is_lt}
