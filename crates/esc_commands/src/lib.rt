@@ -13,6 +13,7 @@
 //! |---|---|
 //! | `command_line` | from the words to what is asked for, and help, by `clap` |
 //! | `commands` | the commands: from what is asked for to the status |
+//! | `jobs` | what a command does with the database of a file, and with the desk of its store |
 //! | `store_file` | opens the file of a store and closes it, once for each command |
 //! | `events` | arrivals, amendments and moments, each a run of the desk of its own |
 //! | `take` | takes the plain files of a folder, in byte order of names |
@@ -52,6 +53,7 @@ mod command_line;
 mod commands;
 mod events;
 mod files;
+mod jobs;
 mod serve;
 mod stop;
 mod store_file;

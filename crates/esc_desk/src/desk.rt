@@ -4,14 +4,11 @@ ghost use Rattle.std.specs.Prelude.{
   ◌≡◌,
   ◌+◌,
   ◌<◌,
-  ◌≤◌,
   ◌++◌,
   ◌∷◌,
   [],
-  ℕ,
   List,
   length,
-  true,
   false,
   Some,
   None,
@@ -28,16 +25,13 @@ ghost use Rattle.esc_store.specs.Faults.{IsS1OrS2, IsS1OrS2OrS4OrS5};
 ghost use Rattle.esc_store.specs.Kept.{Kept};
 ghost use Rattle.esc_store.specs.ReplyValue.{reply_alike};
 ghost use Rattle.esc_store.specs.Standing.{Stands, IsHonest, IsAsBefore, LeavesOnly};
-ghost use Rattle.esc_events.specs.declared.finding.Finding.{Finding};
-ghost use Rattle.esc_events.specs.declared.finding.Finding.TheVariants.{Unlisted, Holding};
 ghost use Rattle.esc_events.specs.ArrivalValue.{an_arrival};
 ghost use Rattle.esc_events.specs.Events.{EventValue, union};
 ghost use Rattle.esc_events.specs.Events.EventValue.{arrived};
-ghost use Rattle.esc_events.specs.Finding.{held_row, row_of};
 ghost use Rattle.esc_events.specs.Known.{IsKnown};
 ghost use Rattle.esc_events.specs.Stands.{StandsFor};
-ghost use Rattle.esc_events.specs.Taking.{IsNew};
 ghost use Rattle.esc_events.specs.Works.{IsWorkOf, IsIdle};
+ghost use Rattle.esc_events.specs.declared.known.Known.{Known};
 ghost use Rattle.esc_desk.specs.Calls.{
   store_of,
   writes_of,
@@ -53,22 +47,16 @@ ghost use Rattle.esc_desk.specs.Calls.{
   HadPlace,
   IsCause,
 };
-ghost use Rattle.esc_desk.specs.Causes.{IsCrowded, IsStoreFault, IsArrivalFault};
+ghost use Rattle.esc_desk.specs.Causes.{IsCrowded, IsArrivalFault};
 ghost use Rattle.esc_desk.specs.Crashes.{AddsStoreFor};
 ghost use Rattle.esc_desk.specs.Serving.{Serves, DeskServes, Answers};
-ghost use Rattle.esc_desk.specs.Takings.{IsKept, IsTaken, IsTakenIn};
+ghost use Rattle.esc_desk.specs.Takings.{IsTakenIn};
 
-use crate::changes::{hold_deposit, note_receipt};
-use crate::finding::{find, held_row};
-use crate::knowing::{insert_row, known_of};
-use crate::parking::parking_of;
-use crate::plan::{Source, latest_steps, plan_move};
-use crate::receipt::{is_among, receipt_by, reply_of};
-use esc_apply::{Work, read_deposits_mention_few};
-use esc_chain::latest_chain_at_rows_are_held;
-use esc_events::{Finding, Known, Parking, chain_after_an_event};
-use esc_store::{Number, Receipt, Reply, SFault, Store};
-use esc_tables::Deposit;
+use crate::keeping::take_in;
+use crate::knowing::known_of;
+use esc_apply::Work;
+use esc_events::Known;
+use esc_store::{Number, Reply, SFault, Store};
 use sha2::{Digest, Sha256};
 use sqlite::Alter;
 use std::alloc::Global;
@@ -221,228 +209,3 @@ impl<S: Alter> Desk<S> {
         }
     }
 }
-
-// Takes in an arrival for which no receipt is kept. `known` is what is known of the store's rows,
-// and is updated; after an `Err` it has no meaning.
-#[tactic(auto, using(crate::proofs::StoreFacts::was_honest))]
-fn take_in<S: Alter>(
-    store: &mut Store<S>,
-    alloc: Global,
-    number: &Number<'_>,
-    digest: [u8; 32],
-    body: &[u8],
-    known: &mut Known,
-) -> Result<(Reply, Work), SFault>
-    requires { digest ≡ sha256 body.now }
-    ensures answered { IsHonest S.Store store.new → (e : List EventValue) (k : Kept)
-        → Stands S.Store store.old k → StandsFor sha256 reading e k → IsKnown k known.old
-        → reply_alike (union e) 1 number.now digest k.receipts ≡ None
-        → IfOk result (λ p. IsTaken S.Store store.new e (an_arrival number.now body.now)
-        known.new p.0 p.1) }
-    ensures room { IsHonest S.Store store.new → (k : Kept) → Stands S.Store store.old k
-        → OnOk result (length k.receipts < 1_000_000_000) }
-    ensures place { IsHonest S.Store store.new → (k : Kept) → Stands S.Store store.old k
-        → OnOk result (IsCrowded k digest → ⊥) }
-    ensures counted { IfOk result (λ p. store.new.writes
-        ≡ saturated (store.old.writes + p.1.writes)) }
-    ensures uncounted { OnErr result (store.new.writes ≡ store.old.writes) }
-    ensures lost { OnErr result ((k : Kept) → Stands S.Store store.old k
-        → Stands S.Store store.new k) }
-    ensures crash { IsHonest S.Store store.new → (e : List EventValue) (k : Kept)
-        → Stands S.Store store.old k → StandsFor sha256 reading e k → IsKnown k known.old
-        → reply_alike (union e) 1 number.now digest k.receipts ≡ None
-        → AddsStoreFor S.Store store.old.conn store.new.conn result
-        (e ++ arrived (an_arrival number.now body.now) ∷ []) }
-    ensures honest { IsHonest S.Store store.new → IsHonest S.Store store.old }
-    ensures cause { IfErr result (IsArrivalFault S.Store store.old store.new digest) }
-{
-    let found = find(alloc, store.manifest(), &digest, body)?;
-    let again = is_among(&known.told, held_row(&found));
-    let receipt = receipt_by(number, digest, &found, again);
-    let mut reply = reply_of(alloc, store.manifest().rows(), &receipt)?;
-    let kept = keep(store, alloc, &receipt, known, found, body)?;
-    reply.receipt = kept.0;
-    Ok((reply, kept.1))
-}
-
-// Keeps the receipt of a new arrival, and its body where it is to be held or parked. The result is
-// the receipt's number and the work.
-fn keep<S: Alter>(
-    store: &mut Store<S>,
-    alloc: Global,
-    receipt: &Receipt<'_>,
-    known: &mut Known,
-    found: Finding,
-    body: &[u8],
-) -> Result<(u64, Work), SFault>
-    ensures manifest { store.new.manifest ≡ store.old.manifest }
-    ensures lost { OnErr result ((k : Kept) → Stands S.Store store.old k
-        → Stands S.Store store.new k) }
-    ensures kept { IfOk result (λ p. IsHonest S.Store store.new
-        → (e : List EventValue) (n : List ℕ) (k : Kept) → Stands S.Store store.old k
-        → IsNew e (an_arrival n body.now) k found known.old receipt.now
-        → IsKept S.Store store.new e (an_arrival n body.now) known.new p.1) }
-    ensures numbered { IfOk result (λ p. IsHonest S.Store store.new → (k : Kept)
-        → Stands S.Store store.old k → p.0 ≡ length k.receipts + 1) }
-    ensures room { IfOk result (λ p. p.0 ≤ 1_000_000_000) }
-    ensures place { IsHonest S.Store store.new → (k : Kept) → Stands S.Store store.old k
-        → found ≡ Unlisted → OnOk result (IsCrowded k receipt.now.digest → ⊥) }
-    ensures crash { IsHonest S.Store store.new
-        → (e : List EventValue) (n : List ℕ) (k : Kept)
-        → Stands S.Store store.old k
-        → IsNew e (an_arrival n body.now) k found known.old receipt.now
-        → AddsStoreFor S.Store store.old.conn store.new.conn result
-        (e ++ arrived (an_arrival n body.now) ∷ []) }
-    ensures counted { IfOk result (λ p. store.new.writes
-        ≡ saturated (store.old.writes + p.1.writes)) }
-    ensures uncounted { OnErr result (store.new.writes ≡ store.old.writes) }
-    ensures honest { IsHonest S.Store store.new → IsHonest S.Store store.old }
-    ensures cause { IfErr result (IsKeepFault S.Store store.old store.new found
-        receipt.now.digest) }
-{
-    match found {
-        Finding::Unlisted => keep_parked(store, alloc, receipt, known, body),
-        Finding::Unreadable(..) | Finding::Differing(_) => {
-            let number = note_receipt(store, receipt, Parking::Needless, body)?;
-            Ok((number, NO_WORK))
-        }
-        Finding::Holding(row, deposit) => {
-            keep_held(store, alloc, receipt, known, row, deposit, body)
-        }
-    }
-}
-
-ghost use Rattle.esc_desk.specs.Causes.{IsKeepFault, IsParkFault};
-
-// Stores the receipt of a new arrival whose body no row lists, and the body if it is to be parked.
-#[tactic(auto, using(crate::proofs::StoreFacts::was_honest))]
-fn keep_parked<S: Alter>(
-    store: &mut Store<S>,
-    alloc: Global,
-    receipt: &Receipt<'_>,
-    known: &mut Known,
-    body: &[u8],
-) -> Result<(u64, Work), SFault>
-    ensures manifest { store.new.manifest ≡ store.old.manifest }
-    ensures lost { OnErr result ((k : Kept) → Stands S.Store store.old k
-        → Stands S.Store store.new k) }
-    ensures kept { IfOk result (λ p. IsHonest S.Store store.new
-        → (e : List EventValue) (n : List ℕ) (k : Kept) → Stands S.Store store.old k
-        → IsNew e (an_arrival n body.now) k Unlisted known.old receipt.now
-        → IsKept S.Store store.new e (an_arrival n body.now) known.new p.1) }
-    ensures numbered { IfOk result (λ p. IsHonest S.Store store.new → (k : Kept)
-        → Stands S.Store store.old k → p.0 ≡ length k.receipts + 1) }
-    ensures room { IfOk result (λ p. p.0 ≤ 1_000_000_000) }
-    ensures place { IsHonest S.Store store.new → (k : Kept) → Stands S.Store store.old k
-        → OnOk result (IsCrowded k receipt.now.digest → ⊥) }
-    ensures crash { IsHonest S.Store store.new
-        → (e : List EventValue) (n : List ℕ) (k : Kept)
-        → Stands S.Store store.old k
-        → IsNew e (an_arrival n body.now) k Unlisted known.old receipt.now
-        → AddsStoreFor S.Store store.old.conn store.new.conn result
-        (e ++ arrived (an_arrival n body.now) ∷ []) }
-    ensures counted { IfOk result (λ p. store.new.writes
-        ≡ saturated (store.old.writes + p.1.writes)) }
-    ensures uncounted { OnErr result (store.new.writes ≡ store.old.writes) }
-    ensures honest { IsHonest S.Store store.new → IsHonest S.Store store.old }
-    ensures cause { IfErr result (IsParkFault S.Store store.old store.new receipt.now.digest) }
-{
-    let _ = known;
-    let parking = parking_of(store, alloc, &receipt.digest)?;
-    let number = note_receipt(store, receipt, parking, body)?;
-    Ok((number, NO_WORK))
-}
-
-// Stores the receipt of a new arrival that is the deposit of a row, and its body if the row has
-// none yet.
-#[tactic(auto, using(crate::proofs::StoreFacts::was_honest))]
-fn keep_held<S: Alter>(
-    store: &mut Store<S>,
-    alloc: Global,
-    receipt: &Receipt<'_>,
-    known: &mut Known,
-    row: usize,
-    deposit: Deposit,
-    body: &[u8],
-) -> Result<(u64, Work), SFault>
-    ensures manifest { store.new.manifest ≡ store.old.manifest }
-    ensures lost { OnErr result ((k : Kept) → Stands S.Store store.old k
-        → Stands S.Store store.new k) }
-    ensures kept { IfOk result (λ p. IsHonest S.Store store.new
-        → (e : List EventValue) (n : List ℕ) (k : Kept) → Stands S.Store store.old k
-        → IsNew e (an_arrival n body.now) k (Holding row deposit) known.old receipt.now
-        → IsKept S.Store store.new e (an_arrival n body.now) known.new p.1) }
-    ensures numbered { IfOk result (λ p. IsHonest S.Store store.new → (k : Kept)
-        → Stands S.Store store.old k → p.0 ≡ length k.receipts + 1) }
-    ensures room { IfOk result (λ p. p.0 ≤ 1_000_000_000) }
-    ensures crash { IsHonest S.Store store.new
-        → (e : List EventValue) (n : List ℕ) (k : Kept)
-        → Stands S.Store store.old k
-        → IsNew e (an_arrival n body.now) k (Holding row deposit) known.old receipt.now
-        → AddsStoreFor S.Store store.old.conn store.new.conn result
-        (e ++ arrived (an_arrival n body.now) ∷ []) }
-    ensures counted { IfOk result (λ p. store.new.writes
-        ≡ saturated (store.old.writes + p.1.writes)) }
-    ensures uncounted { OnErr result (store.new.writes ≡ store.old.writes) }
-    ensures honest { IsHonest S.Store store.new → IsHonest S.Store store.old }
-    ensures cause { IfErr result (IsStoreFault S.Store store.old store.new) }
-{
-    insert_row(&mut known.told, row)?;
-    if known.held.contains(&row) {
-        let number = note_receipt(store, receipt, Parking::Needless, body)?;
-        return Ok((number, NO_WORK));
-    }
-    insert_row(&mut known.held, row)?;
-    keep_deposit(store, alloc, receipt, &known.held, row, deposit, body)
-}
-
-// Stores the receipt and the body of a row that has none yet. `held` are the rows that are held
-// with it: the row was inserted there before anything changes in the store, so that nothing can run
-// out of memory once the change is made.
-#[tactic(auto, using(crate::proofs::StoreFacts::was_honest))]
-fn keep_deposit<S: Alter>(
-    store: &mut Store<S>,
-    alloc: Global,
-    receipt: &Receipt<'_>,
-    held: &[usize],
-    row: usize,
-    deposit: Deposit,
-    body: &[u8],
-) -> Result<(u64, Work), SFault>
-    ensures manifest { store.new.manifest ≡ store.old.manifest }
-    ensures lost { OnErr result ((k : Kept) → Stands S.Store store.old k
-        → Stands S.Store store.new k) }
-    ensures kept { IfOk result (λ p. IsHonest S.Store store.new
-        → (e : List EventValue) (n : List ℕ) (k : Kept) (known : Known)
-        → Stands S.Store store.old k → k.bodies row ≡ None
-        → IsNew e (an_arrival n body.now) k (Holding row deposit) known receipt.now
-        → AreHeld (body_put k.bodies row body.now) held.now
-        → IsHeldNow S.Store store.new e (an_arrival n body.now) k row receipt.now p.1) }
-    ensures numbered { IfOk result (λ p. IsHonest S.Store store.new → (k : Kept)
-        → Stands S.Store store.old k → p.0 ≡ length k.receipts + 1) }
-    ensures room { IfOk result (λ p. p.0 ≤ 1_000_000_000) }
-    ensures crash { IsHonest S.Store store.new
-        → (e : List EventValue) (n : List ℕ) (k : Kept) (known : Known)
-        → Stands S.Store store.old k → k.bodies row ≡ None
-        → IsNew e (an_arrival n body.now) k (Holding row deposit) known receipt.now
-        → AreHeld (body_put k.bodies row body.now) held.now
-        → AddsStoreFor S.Store store.old.conn store.new.conn result
-        (e ++ arrived (an_arrival n body.now) ∷ []) }
-    ensures counted { IfOk result (λ p. store.new.writes
-        ≡ saturated (store.old.writes + p.1.writes)) }
-    ensures uncounted { OnErr result (store.new.writes ≡ store.old.writes) }
-    ensures honest { IsHonest S.Store store.new → IsHonest S.Store store.old }
-    ensures cause { IfErr result (IsStoreFault S.Store store.old store.new) }
-{
-    latest_chain_at_rows_are_held();
-    read_deposits_mention_few();
-    chain_after_an_event();
-    let moment = store.moment()?;
-    let new = latest_steps(alloc, store.manifest(), held, moment)?;
-    let plan = plan_move(store, alloc, new, Source::Arrived(row, Some(deposit)))?;
-    hold_deposit(store, alloc, receipt, row, body, &plan)
-}
-
-ghost use Rattle.esc_store.specs.Kept.{AreHeld, body_put};
-ghost use Rattle.esc_events.specs.declared.known.Known.{Known};
-ghost use Rattle.esc_desk.specs.Takings.{IsHeldNow};

@@ -100,6 +100,7 @@ mod desk;
 mod event;
 mod finding;
 mod judging;
+mod keeping;
 mod knowing;
 mod laws;
 mod moment;

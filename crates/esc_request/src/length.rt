@@ -34,8 +34,8 @@ pub enum BodyLength {
 
 /// The length of the body, by the header lines of a head; `bytes` is the buffer in which they are.
 pub fn body_length(bytes: &[u8], lines: &[HeaderSpan]) -> BodyLength
-    requires { All (IsHeaderWithin (length bytes.now)) lines.now }
-    ensures { result ≡ body_length (map (header_bytes bytes.now) lines.now) }
+    requires within { All (IsHeaderWithin (length bytes.now)) lines.now }
+    ensures said { result ≡ body_length (map (header_bytes bytes.now) lines.now) }
 {
     if has_line(bytes, lines, b"transfer-encoding") {
         return BodyLength::Missing;

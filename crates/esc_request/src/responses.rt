@@ -16,14 +16,14 @@ use std::alloc::{AllocError, Global};
 
 /// The response for out of memory: 503 with the words `S2`. Doesn't allocate.
 pub fn out_of_memory() -> &'static [u8]
-    ensures { result.now ≡ out_of_memory }
+    ensures text { result.now ≡ out_of_memory }
 {
     b"HTTP/1.1 503 Service Unavailable\r\nContent-Type: text/plain\r\nContent-Length: 3\r\nConnection: close\r\n\r\nS2\n"
 }
 
 /// The response to a request that is refused. `None` out of memory.
 pub fn refusal_response(alloc: Global, refusal: Refusal) -> Option<Vec<u8>>
-    ensures { IfSome result (λ text. text.items ≡ refusal_response refusal) }
+    ensures text { IfSome result (λ text. text.items ≡ refusal_response refusal) }
 {
     match refusal {
         Refusal::BadRequest => response(
@@ -68,7 +68,7 @@ pub fn refusal_response(alloc: Global, refusal: Refusal) -> Option<Vec<u8>>
 
 /// The response with the text of a report: 200. `None` out of memory.
 pub fn report_response(alloc: Global, report: Report, text: &[u8]) -> Option<Vec<u8>>
-    ensures { IfSome result (λ whole. whole.items ≡ report_response report text.now) }
+    ensures text { IfSome result (λ whole. whole.items ≡ report_response report text.now) }
 {
     response(alloc, "200 OK", report_media(report), "", text)
 }
@@ -92,7 +92,7 @@ pub fn response(
     allow: &str,
     body: &[u8],
 ) -> Option<Vec<u8>>
-    ensures { IfSome result (λ text. text.items
+    ensures text { IfSome result (λ text. text.items
         ≡ response status.now media.now allow.now body.now) }
 {
     let head = response_head(alloc, status, media, allow, body.len()).ok()?;

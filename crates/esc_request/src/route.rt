@@ -29,7 +29,7 @@ pub enum Route<'p> {
 
 /// The router of all routes.
 pub fn router(alloc: Global) -> Result<Router<Target>, InsertError>
-    ensures { IfOk result (λ router. router ≡ rows) }
+    ensures routes { IfOk result (λ router. router ≡ rows) }
 {
     let mut router = Router::new(alloc);
     add_routes(&mut router)?;
@@ -52,8 +52,8 @@ fn add_routes(router: &mut Router<Target>) -> Result<(), InsertError>
 
 /// Where a path leads, or `None` if it has no route (this project's profile). Nothing is decoded.
 pub fn route_of<'p>(router: &Router<Target>, path: &'p str) -> Option<Route<'p>>
-    requires { router.now ≡ rows }
-    ensures { option_map route_seen result ≡ route_of path.now }
+    requires routes { router.now ≡ rows }
+    ensures leads { option_map route_seen result ≡ route_of path.now }
 {
     match router.at(path) {
         Ok(found) => way_to(*found.value, path),

@@ -1,6 +1,7 @@
 -- What a store stands for, and a change of it while it is on.
 use Rattle.std.specs.Prelude.{
   ◌≡◌,
+  ℕ,
   true,
   false,
   IsTrue,
@@ -14,6 +15,7 @@ use Rattle.std.specs.Prelude.{
   IsErr,
 }
 use Rattle.std.specs.Option.{unwrap_or}
+use Rattle.std.specs.Borrow.{GName}
 use Rattle.sqlite_trees.specs.declared.store.Store.{Ghosts}
 use Rattle.sqlite_trees.specs.Tree.{Trees}
 use Rattle.sqlite.specs.Effect.{Database}
@@ -30,6 +32,17 @@ use Rattle.esc_store.specs.TypedRows.{IsBooks, IsRegistry}
 use Rattle.esc_store.specs.Tables.{IsStore, IsStoreDatabase, HoldsTables}
 
 -- ---- a store
+
+-- its connection, the rows that it lists, and how many objects were written or removed since it was
+-- opened
+abbrev pub connection_of : {S : Type 0} → Store S → Held S
+connection_of store = store.conn
+
+abbrev pub rows_of : {S : Type 0} → Store S → List MRow
+rows_of store = store.manifest
+
+abbrev pub writes_of : {S : Type 0} → Store S → ℕ
+writes_of store = store.writes
 
 -- the database of a connection holds exactly this, and no transaction is on
 pub record IsAtRest (s : State) (k : Kept) : Type 0 where
@@ -69,9 +82,17 @@ LeavesOnly g store k = HasCleanDisk (state g store.conn) → (trees : Trees)
 unfoldable pub LeavesOr : {S : Type 0} → Ghosts S → Held S → Held S → Kept → Type 0
 LeavesOr g old new k = Survives (state g old) (state g new) (λ trees. IsStore trees k)
 
+-- the same of two stores
+abbrev pub StoreLeavesOr : {S : Type 0} → Ghosts S → Store S → Store S → Kept → Type 0
+StoreLeavesOr g old new k = LeavesOr g old.conn new.conn k
+
 -- a call adds nothing to what a crash may leave
 abbrev pub LeavesNoMore : {S : Type 0} → Ghosts S → Held S → Held S → Type 0
 LeavesNoMore g old new = Survives (state g old) (state g new) (λ trees. ⊥)
+
+-- the same of two stores
+abbrev pub StoreLeavesNoMore : {S : Type 0} → Ghosts S → Store S → Store S → Type 0
+StoreLeavesNoMore g old new = LeavesNoMore g old.conn new.conn
 
 -- ---- a change
 
@@ -109,6 +130,17 @@ pub record IsUnderWay (s : State) (tables : Tables) : Type 0 where
 -- a change goes on, and has made this of its tables and before-images
 unfoldable pub HoldsIn : {S : Type 0} → Ghosts S → Store S → Tables → Type 0
 HoldsIn g store tables = HasCleanDisk (state g store.conn) → IsUnderWay (state g store.conn) tables
+
+-- the store that a change is of, by what it holds now, and by the name of the reference to it
+abbrev pub store_in : {S L : Type 0} → Change S L → Store S
+store_in change = change.store.now
+
+abbrev pub store_name : {S L : Type 0} → Change S L → GName
+store_name change = change.store.ghost_name
+
+-- how many objects a change has written or removed so far
+abbrev pub count_of : {S L : Type 0} → Change S L → ℕ
+count_of change = change.count
 
 -- a change of a store, which lists rows or none
 abbrev pub ChangeOf : Type 0 → Type 0

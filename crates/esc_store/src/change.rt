@@ -18,8 +18,6 @@ ghost use Rattle.std.specs.Prelude.{
   IfOk,
   IfErr,
 };
-ghost use Rattle.sqlite.specs.Held.{state};
-ghost use Rattle.sqlite.specs.State.{HasCleanDisk};
 ghost use Rattle.esc_apply.specs.Registry.{State};
 ghost use Rattle.esc_rows.specs.Entries.{step_row};
 ghost use Rattle.esc_store.specs.Faults.{IsS1OrS2, IsS1OrS2OrS4};
@@ -32,10 +30,14 @@ ghost use Rattle.esc_store.specs.Standing.{
   HoldsNow,
   GoesOn,
   LeavesOnly,
-  LeavesOr,
-  LeavesNoMore,
+  StoreLeavesOr,
+  StoreLeavesNoMore,
   IsHonest,
   listed_by,
+  store_in,
+  count_of,
+  rows_of,
+  writes_of,
 };
 
 use crate::codec::small;
@@ -64,16 +66,16 @@ impl<'a, S: Alter> Change<'a, S> {
     /// the store has 1,000,000,000 receipts, and only there; `S1`, `S2`.
     pub fn record_receipt(&mut self, receipt: &Receipt<'_>) -> Result<u64, SFault>
         ensures goes_on { GoesOn S.Store self.old self.new }
-        ensures count { self.new.count ≡ self.old.count }
+        ensures count { count_of self.new ≡ count_of self.old }
         ensures recorded { OnOk result ((before k : Kept) → Rest S.Store self.old before k
             → Rest S.Store self.new before (with_receipt k receipt.now)) }
-        ensures number { IfOk result (λ n. IsHonest S.Store self.new.store.now
+        ensures number { IfOk result (λ n. IsHonest S.Store (store_in self.new)
             → (before k : Kept)
             → Rest S.Store self.old before k → n ≡ length k.receipts + 1) }
         ensures holds { OnOk result ((s : State) → HoldsNow S.Store self.old s
             → HoldsNow S.Store self.new s) }
         ensures room { IfOk result (λ n. n ≤ 1_000_000_000) }
-        ensures full { IfErr result (λ e. e ≡ SFault.S4 → IsHonest S.Store self.new.store.now
+        ensures full { IfErr result (λ e. e ≡ SFault.S4 → IsHonest S.Store (store_in self.new)
             → (before k : Kept) → Rest S.Store self.old before k
             → 1_000_000_000 ≤ length k.receipts) }
         ensures cause { IfErr result IsS1OrS2OrS4 }
@@ -84,7 +86,7 @@ impl<'a, S: Alter> Change<'a, S> {
     /// Stores the body of a listed row that has none yet. `S1`, `S2`.
     pub fn hold(&mut self, row: usize, body: &[u8]) -> Result<(), SFault>
         ensures goes_on { GoesOn S.Store self.old self.new }
-        ensures count { self.new.count ≡ self.old.count }
+        ensures count { count_of self.new ≡ count_of self.old }
         ensures held { OnOk result ((before k : Kept) → k.bodies row ≡ None
             → Rest S.Store self.old before k
             → Rest S.Store self.new before (with_body k row body.now)) }
@@ -114,7 +116,7 @@ impl<'a, S: Alter> Change<'a, S> {
     /// `S1`, `S2`.
     pub fn set_chain(&mut self, steps: &[Step]) -> Result<(), SFault>
         ensures goes_on { GoesOn S.Store self.old self.new }
-        ensures count { self.new.count ≡ self.old.count }
+        ensures count { count_of self.new ≡ count_of self.old }
         ensures set { OnOk result ((before k : Kept) → Rest S.Store self.old before k
             → Rest S.Store self.new before (with_steps k (map (λ step. step.row) steps.now))) }
         ensures holds { OnOk result ((s : State) → HoldsNow S.Store self.old s
@@ -142,14 +144,15 @@ impl<'a, S: Alter> Change<'a, S> {
 
     /// Commits the whole change at once. At `Err` (`S1`, `S2`) nothing has changed.
     pub fn commit(self) -> Result<(), SFault>
-        ensures manifest { OnOk result (self.exit.0.now.manifest ≡ listed_by self.entry) }
+        ensures manifest { OnOk result (rows_of self.exit.0.now ≡ listed_by self.entry) }
         ensures unlisted { OnErr result
-            (self.exit.0.now.manifest ≡ self.entry.store.now.manifest) }
-        ensures honest { HasCleanDisk (state S.Store self.exit.0.now.conn)
-            → HasCleanDisk (state S.Store self.entry.store.now.conn) }
-        ensures written { OnOk result (self.exit.0.now.writes
-            ≡ min (self.entry.store.now.writes + self.entry.count) (2 ^ 64 - 1)) }
-        ensures unwritten { OnErr result (self.exit.0.now.writes ≡ self.entry.store.now.writes) }
+            (rows_of self.exit.0.now ≡ rows_of (store_in self.entry)) }
+        ensures honest { IsHonest S.Store self.exit.0.now
+            → IsHonest S.Store (store_in self.entry) }
+        ensures written { OnOk result (writes_of self.exit.0.now
+            ≡ min (writes_of (store_in self.entry) + count_of self.entry) (2 ^ 64 - 1)) }
+        ensures unwritten { OnErr result
+            (writes_of self.exit.0.now ≡ writes_of (store_in self.entry)) }
         ensures committed { OnOk result ((before k : Kept) (s : State)
             → Rest S.Store self.entry before (with_registry k s)
             → HoldsNow S.Store self.entry k.registry → Stands S.Store self.exit.0.now k) }
@@ -158,7 +161,7 @@ impl<'a, S: Alter> Change<'a, S> {
         ensures crash { (before k : Kept) (s : State)
             → Rest S.Store self.entry before (with_registry k s)
             → HoldsNow S.Store self.entry k.registry
-            → LeavesOr S.Store self.entry.store.now.conn self.exit.0.now.conn k }
+            → StoreLeavesOr S.Store (store_in self.entry) self.exit.0.now k }
         ensures left { OnOk result ((before k : Kept) (s : State)
             → Rest S.Store self.entry before (with_registry k s)
             → HoldsNow S.Store self.entry k.registry → LeavesOnly S.Store self.exit.0.now k) }
@@ -178,11 +181,11 @@ impl<'a, S: Alter> Change<'a, S> {
 
 impl<S: Alter, L: Drop> Drop for Change<'_, S, L> {
     fn drop(self)
-        ensures manifest { self.exit.0.now.manifest ≡ self.entry.store.now.manifest }
-        ensures writes { self.exit.0.now.writes ≡ self.entry.store.now.writes }
+        ensures manifest { rows_of self.exit.0.now ≡ rows_of (store_in self.entry) }
+        ensures writes { writes_of self.exit.0.now ≡ writes_of (store_in self.entry) }
         ensures kept { (before : Kept) → Began S.Store self.entry before
             → Stands S.Store self.exit.0.now before }
-        ensures survives { LeavesNoMore S.Store self.entry.store.now.conn self.exit.0.now.conn }
+        ensures survives { StoreLeavesNoMore S.Store (store_in self.entry) self.exit.0.now }
     {
         let Change {
             store,

@@ -27,6 +27,7 @@ ghost use Rattle.esc_store.specs.Standing.{
   IsUncommitted,
   GoesOn,
   listed_by,
+  count_of,
 };
 
 use crate::change::Change;
@@ -44,7 +45,7 @@ impl<'a, S: Alter> Change<'a, S> {
     pub fn list(&mut self, union: Manifest) -> Result<(), SFault>
         requires begins { take (length (listed_by self.now)) union ≡ listed_by self.now }
         ensures goes_on { IsUncommitted S.Store self.old self.new }
-        ensures count { self.new.count ≡ self.old.count }
+        ensures count { count_of self.new ≡ count_of self.old }
         ensures listed { OnOk result ((before k : Kept) → Rest S.Store self.old before k
             → Rest S.Store self.new before (with_listed k union)) }
         ensures manifest { OnOk result (listed_by self.new ≡ union) }

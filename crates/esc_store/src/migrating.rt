@@ -14,6 +14,8 @@ ghost use Rattle.esc_store.specs.Standing.{
   LeavesOnly,
   LeavesOr,
   IsHonest,
+  connection_of,
+  writes_of,
 };
 ghost use Rattle.esc_store.specs.FirstVersion.{
   IsFirstStore,
@@ -188,7 +190,7 @@ impl<S: Alter> Store<S> {
         ensures left { IfOk result (λ store. (k : Kept)
             → IsFirstStore (state S.Store connection).committed.trees k
             → LeavesOnly S.Store store k) }
-        ensures writes { IfOk result (λ store. store.writes ≡ 0) }
+        ensures writes { IfOk result (λ store. writes_of store ≡ 0) }
         ensures version { IfOk result (λ store. IsHonest S.Store store
             → IsOfFirstVersion (state S.Store connection).now) }
         ensures never { IfErr result (λ e. e.0 ≡ SFault.S3 → HasCleanDisk (state S.Store e.1)
@@ -201,7 +203,7 @@ impl<S: Alter> Store<S> {
             (λ e. IsAsItWas (state S.Store connection) (state S.Store e.1)) }
         ensures cause { IfErr result (λ e. IsS1ToS3 e.0) }
         ensures crash { (k : Kept) → IsFirstStore (state S.Store connection).committed.trees k
-            → MatchResult result (λ store. LeavesOr S.Store connection store.conn k)
+            → MatchResult result (λ store. LeavesOr S.Store connection (connection_of store) k)
             (λ e. LeavesOr S.Store connection e.1 k) }
     {
         let mut connection = connection;

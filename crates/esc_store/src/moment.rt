@@ -13,6 +13,7 @@ ghost use Rattle.esc_store.specs.Standing.{
   IsAsBefore,
   IsHonest,
   IsStoreRead,
+  count_of,
 };
 
 use crate::change::Change;
@@ -50,7 +51,7 @@ impl<'a, S: Alter> Change<'a, S> {
     #[tactic(auto, using(crate::proofs::Parking::goes_then))]
     pub fn set_moment(&mut self, moment: Option<i64>) -> Result<(), SFault>
         ensures goes_on { GoesOn S.Store self.old self.new }
-        ensures count { self.new.count ≡ self.old.count }
+        ensures count { count_of self.new ≡ count_of self.old }
         ensures set { OnOk result ((before k : Kept) → Rest S.Store self.old before k
             → Rest S.Store self.new before (with_moment k moment)) }
         ensures holds { OnOk result ((s : State) → HoldsNow S.Store self.old s

@@ -26,6 +26,8 @@ ghost use Rattle.esc_store.specs.Standing.{
   IsAsBefore,
   IsHonest,
   IsStoreRead,
+  store_in,
+  count_of,
 };
 
 use crate::change::Change;
@@ -88,10 +90,10 @@ impl<'a, S: Alter> Change<'a, S> {
     /// Parks a body under its SHA-256. `S1`, also if one is parked under it already; `S2`.
     pub fn park(&mut self, digest: &[u8; 32], body: &[u8]) -> Result<(), SFault>
         ensures goes_on { GoesOn S.Store self.old self.new }
-        ensures count { self.new.count ≡ self.old.count }
+        ensures count { count_of self.new ≡ count_of self.old }
         ensures parked { OnOk result ((before k : Kept) → Rest S.Store self.old before k
             → Rest S.Store self.new before (with_parked k digest.now (Some body.now))) }
-        ensures free { OnOk result (IsHonest S.Store self.new.store.now → (before k : Kept)
+        ensures free { OnOk result (IsHonest S.Store (store_in self.new) → (before k : Kept)
             → Rest S.Store self.old before k → k.parked digest.now ≡ None) }
         ensures holds { OnOk result ((s : State) → HoldsNow S.Store self.old s
             → HoldsNow S.Store self.new s) }
@@ -104,7 +106,7 @@ impl<'a, S: Alter> Change<'a, S> {
     /// Removes the body that is parked under this SHA-256, if one is. `S1`, `S2`.
     pub fn unpark(&mut self, digest: &[u8; 32]) -> Result<(), SFault>
         ensures goes_on { GoesOn S.Store self.old self.new }
-        ensures count { self.new.count ≡ self.old.count }
+        ensures count { count_of self.new ≡ count_of self.old }
         ensures dropped { OnOk result ((before k : Kept) → Rest S.Store self.old before k
             → Rest S.Store self.new before (with_parked k digest.now None)) }
         ensures holds { OnOk result ((s : State) → HoldsNow S.Store self.old s
@@ -139,8 +141,8 @@ impl<'a, S: Alter> Change<'a, S> {
     #[tactic(auto, using(crate::proofs::Parking::goes_then))]
     pub fn adopt(&mut self, row: usize, digest: &[u8; 32]) -> Result<(), SFault>
         ensures goes_on { GoesOn S.Store self.old self.new }
-        ensures count { self.new.count ≡ self.old.count }
-        ensures adopted { OnOk result (IsHonest S.Store self.new.store.now
+        ensures count { count_of self.new ≡ count_of self.old }
+        ensures adopted { OnOk result (IsHonest S.Store (store_in self.new)
             → (before k : Kept) → k.bodies row ≡ None → Rest S.Store self.old before k
             → (body : List ℕ) × (k.parked digest.now ≡ Some body)
             × Rest S.Store self.new before (with_parked (with_body k row body) digest.now None)) }

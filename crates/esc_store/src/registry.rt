@@ -11,12 +11,10 @@ use sqlite::Alter;
 use std::alloc::Global;
 
 impl<'a, S: Alter> Registry for Change<'a, S> {
-    ghost use Rattle.sqlite.specs.State.{HasCleanDisk};
-    ghost use Rattle.sqlite.specs.Held.{state};
     ghost use Rattle.esc_apply.specs.Registry.{saturated};
     ghost use Rattle.esc_store.specs.Faults.{IsS1OrS2};
     ghost use Rattle.esc_store.specs.Kept.{Kept};
-    ghost use Rattle.esc_store.specs.Standing.{HoldsNow, Follows};
+    ghost use Rattle.esc_store.specs.Standing.{HoldsNow, Follows, IsHonest, store_in, count_of};
     ghost use Rattle.std.proofs.Common.{inl, inr, refl, ◌∙◌, arith};
     ghost use Rattle.sqlite.proofs.StateLemmas.{survives_then};
 
@@ -24,13 +22,13 @@ impl<'a, S: Alter> Registry for Change<'a, S> {
 
     ghost holds = { λ r s. HoldsNow S.Store r s };
 
-    ghost count = { λ r. saturated r.count };
+    ghost count = { λ r. saturated (count_of r) };
 
     ghost fails = { λ fault. IsS1OrS2 fault };
 
     ghost wants_memory = { λ m fault given. inr given };
 
-    ghost is_honest = { λ r. HasCleanDisk (state S.Store r.store.now.conn) };
+    ghost is_honest = { λ r. IsHonest S.Store (store_in r) };
 
     ghost follows = { λ a b. Follows S.Store a b };
 

@@ -61,7 +61,7 @@ impl Model for Reply {
 impl Reply {
     /// An equal reply.
     pub fn copy(&self, alloc: Global) -> Result<Reply, NoMemory>
-        ensures { IfOk result (λ r. r ≡ self.now) }
+        ensures same { IfOk result (λ r. r ≡ self.now) }
     {
         let number = String::from_str(alloc, self.number.as_str())?;
         let id = match &self.id {

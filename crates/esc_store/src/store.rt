@@ -40,7 +40,14 @@ ghost use Rattle.esc_store.specs.Standing.{
   IsHonest,
   IsGivenUp,
   Settles,
+  StoreLeavesNoMore,
   listed_by,
+  connection_of,
+  rows_of,
+  writes_of,
+  store_in,
+  store_name,
+  count_of,
 };
 ghost use Rattle.sqlite.specs.State.{HasCleanDisk};
 
@@ -82,7 +89,7 @@ impl<S: Alter> Store<S> {
     ) -> Result<Store<S>, (SFault, Connection<S>)>
         ensures created { IfOk result (λ store. Stands S.Store store (fresh manifest.now)) }
         ensures left { IfOk result (λ store. LeavesOnly S.Store store (fresh manifest.now)) }
-        ensures writes { IfOk result (λ store. store.writes ≡ 0) }
+        ensures writes { IfOk result (λ store. writes_of store ≡ 0) }
         ensures blank { OnOk result (IsBlank (state S.Store connection).now) }
         ensures refused { IfErr result (λ e. HasCleanDisk (state S.Store e.1)
             → IsTrue (state S.Store e.1).is_open → (e.0 ≡ SFault.S3)
@@ -94,7 +101,7 @@ impl<S: Alter> Store<S> {
             (λ e. IsAsItWas (state S.Store connection) (state S.Store e.1)) }
         ensures cause { IfErr result (λ e. IsS1ToS3 e.0) }
         ensures crash { MatchResult result
-            (λ store. LeavesOr S.Store connection store.conn (fresh manifest.now))
+            (λ store. LeavesOr S.Store connection (connection_of store) (fresh manifest.now))
             (λ e. LeavesOr S.Store connection e.1 (fresh manifest.now)) }
     {
         let (own, rows) = match both_forms(alloc, manifest) {
@@ -130,7 +137,7 @@ impl<S: Alter> Store<S> {
             → IsStore (state S.Store connection).committed.trees k → Stands S.Store store k) }
         ensures left { IfOk result (λ store. (k : Kept)
             → IsStore (state S.Store connection).committed.trees k → LeavesOnly S.Store store k) }
-        ensures writes { IfOk result (λ store. store.writes ≡ 0) }
+        ensures writes { IfOk result (λ store. writes_of store ≡ 0) }
         ensures version { IfOk result (λ store. IsHonest S.Store store
             → IsOfVersion (state S.Store connection).now) }
         ensures never { IfErr result (λ e. e.0 ≡ SFault.S3 → HasCleanDisk (state S.Store e.1)
@@ -139,7 +146,8 @@ impl<S: Alter> Store<S> {
         ensures unchanged { IfErr result
             (λ e. IsAsItWas (state S.Store connection) (state S.Store e.1)) }
         ensures cause { IfErr result (λ e. IsS1ToS3 e.0) }
-        ensures survives { MatchResult result (λ store. LeavesNoMore S.Store connection store.conn)
+        ensures survives { MatchResult result
+            (λ store. LeavesNoMore S.Store connection (connection_of store))
             (λ e. LeavesNoMore S.Store connection e.1) }
     {
         let mut connection = connection;
@@ -156,7 +164,7 @@ impl<S: Alter> Store<S> {
 
     /// The connection of the store, whose database stays as it is. Doesn't allocate.
     pub fn into_connection(self) -> Connection<S>
-        ensures same { result ≡ self.conn }
+        ensures same { result ≡ connection_of self }
         ensures holds { (k : Kept) → Stands S.Store self k → HoldsKept S.Store result k }
     {
         self.conn
@@ -165,7 +173,7 @@ impl<S: Alter> Store<S> {
     /// The manifest: the rows with which the store was made, and those that were listed since.
     /// Doesn't allocate.
     pub fn manifest(&self) -> &Manifest
-        ensures manifest { result.now ≡ self.now.manifest }
+        ensures manifest { result.now ≡ rows_of self.now }
         ensures kept { (k : Kept) → Stands S.Store self.now k → result.now ≡ k.listed }
     {
         &self.manifest
@@ -174,7 +182,7 @@ impl<S: Alter> Store<S> {
     /// The number of objects that were written or removed by the changes that were committed since
     /// the store was opened; it stays at 2^64 - 1 once there. Doesn't allocate.
     pub fn writes(&self) -> u64
-        ensures { result ≡ self.now.writes }
+        ensures count { result ≡ writes_of self.now }
     {
         self.writes
     }
@@ -183,16 +191,16 @@ impl<S: Alter> Store<S> {
     pub fn begin(&mut self) -> Result<Change<'_, S>, SFault>
         ensures* refused { sem 𝓛
             (RestsIfErr (the_row S.row S.Store) self.entry
-            (λ change. change.store.ghost_name) result (λ last. (last.manifest ≡ self.old.manifest)
-            × (last.writes ≡ self.old.writes) × LeavesNoMore S.Store self.old.conn last.conn
+            store_name result (λ last. (rows_of last ≡ rows_of self.old)
+            × (writes_of last ≡ writes_of self.old) × StoreLeavesNoMore S.Store self.old last
             × ((k : Kept) → Stands S.Store self.old k → Stands S.Store last k))) }
-        ensures same_reference { IfOk result (λ change. change.store.ghost_name
+        ensures same_reference { IfOk result (λ change. store_name change
             ≡ self.entry.ghost_name) }
-        ensures count { IfOk result (λ change. change.count ≡ 0) }
-        ensures writes { IfOk result (λ change. change.store.now.writes ≡ self.old.writes) }
-        ensures manifest { IfOk result (λ change. change.store.now.manifest
-            ≡ self.old.manifest) }
-        ensures listed { IfOk result (λ change. listed_by change ≡ self.old.manifest) }
+        ensures count { IfOk result (λ change. count_of change ≡ 0) }
+        ensures writes { IfOk result (λ change. writes_of (store_in change) ≡ writes_of self.old) }
+        ensures manifest { IfOk result (λ change. rows_of (store_in change)
+            ≡ rows_of self.old) }
+        ensures listed { IfOk result (λ change. listed_by change ≡ rows_of self.old) }
         ensures began { IfOk result (λ change. (k : Kept) → Stands S.Store self.old k
             → Began S.Store change k) }
         ensures rest { IfOk result (λ change. (k : Kept) → Stands S.Store self.old k
@@ -200,7 +208,7 @@ impl<S: Alter> Store<S> {
         ensures holds { IfOk result (λ change. (k : Kept) → Stands S.Store self.old k
             → HoldsNow S.Store change k.registry) }
         ensures survives { IfOk result
-            (λ change. LeavesNoMore S.Store self.old.conn change.store.now.conn) }
+            (λ change. StoreLeavesNoMore S.Store self.old (store_in change)) }
         ensures cause { IfErr result IsS1OrS2 }
     {
         self.begin_here()?;

@@ -18,7 +18,7 @@ use std::alloc::Global;
 
 /// The report of links: the heading `code,kind,key,field,value,other`, and a line for each finding.
 pub fn links_text(alloc: Global, found: &[Finding]) -> Result<Vec<u8>, NoMemory>
-    ensures { IfOk result (λ text. text.items ≡ links_text found.now) }
+    ensures text { IfOk result (λ text. text.items ≡ links_text found.now) }
 {
     let mut lines = Lines::new(alloc);
     write_heading(&mut lines)?;

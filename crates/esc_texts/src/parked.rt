@@ -14,7 +14,7 @@ use std::alloc::Global;
 /// The report of parked bodies: the heading `sha256,bytes`, and a line for each of these: its
 /// digest as 64 lower-case hexadecimal digits, and its length in bytes.
 pub fn parked_text(alloc: Global, bodies: &[ParkedBody]) -> Result<Vec<u8>, NoMemory>
-    ensures { IfOk result (λ text. text.items ≡ parked_text bodies.now) }
+    ensures text { IfOk result (λ text. text.items ≡ parked_text bodies.now) }
 {
     let mut lines = Lines::new(alloc);
     write_fields(&mut lines, b"sha256", b"bytes")?;

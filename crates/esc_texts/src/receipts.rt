@@ -21,7 +21,7 @@ use std::alloc::Global;
 /// The heading of the receipts report, with its line feed:
 /// `receipt,number,verdict,fault,id,resend,copy,orphans`.
 pub fn receipts_heading(alloc: Global) -> Result<Vec<u8>, NoMemory>
-    ensures { IfOk result (λ text. text.items ≡ line_text heading) }
+    ensures text { IfOk result (λ text. text.items ≡ line_text heading) }
 {
     let mut lines = Lines::new(alloc);
     write_heading(&mut lines)?;
@@ -31,7 +31,7 @@ pub fn receipts_heading(alloc: Global) -> Result<Vec<u8>, NoMemory>
 /// The line of a reply in the receipts report, with its line feed. A value that isn't there is
 /// empty.
 pub fn receipt_line(alloc: Global, reply: &Reply) -> Result<Vec<u8>, NoMemory>
-    ensures { IfOk result (λ text. text.items ≡ line_text (receipt_line reply.now)) }
+    ensures text { IfOk result (λ text. text.items ≡ line_text (receipt_line reply.now)) }
 {
     let mut lines = Lines::new(alloc);
     write_reply(alloc, &mut lines, reply)?;
@@ -40,7 +40,7 @@ pub fn receipt_line(alloc: Global, reply: &Reply) -> Result<Vec<u8>, NoMemory>
 
 /// The receipts report: the heading, and a line for each reply.
 pub fn receipts_text(alloc: Global, replies: &[Reply]) -> Result<Vec<u8>, NoMemory>
-    ensures { IfOk result (λ text. text.items ≡ receipts_text replies.now) }
+    ensures text { IfOk result (λ text. text.items ≡ receipts_text replies.now) }
 {
     let mut lines = Lines::new(alloc);
     write_heading(&mut lines)?;

@@ -24,7 +24,7 @@ use std::alloc::{AllocError, Global};
 /// members `copy`, `fault`, `id`, `number`, `orphans`, `receipt`, `resend` and `verdict`, in this
 /// order and without white space. A value that isn't there is null.
 pub fn reply_text(alloc: Global, reply: &Reply) -> Result<String, NoMemory>
-    ensures { IfOk result (λ text. string_bytes text ≡ reply_text reply.now) }
+    ensures text { IfOk result (λ text. string_bytes text ≡ reply_text reply.now) }
 {
     let value = reply_value(alloc, reply)?;
     Ok(value.to_string(alloc)?)

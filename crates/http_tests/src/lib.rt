@@ -1,4 +1,4 @@
-//! Tests of the requests and reports of `esc_http`, and of a desk whose disk, reader or writer
+//! Tests of the requests and reports of `esc_http`, also where the disk, the reader or the writer
 //! fails once.
 //!
 //! They stand in a crate of their own, since a crate with tests is proved twice, with them and

@@ -3,13 +3,10 @@
 mod amendments;
 mod answers;
 mod crowded;
-mod disks;
-mod list;
 mod lying;
 mod migrating;
 mod moments;
 mod routes;
-mod sweeps;
 
 use esc_desk::{Desk, SFault};
 use esc_flaky::{FailingReader, FailingWriter};

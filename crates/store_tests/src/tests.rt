@@ -4,6 +4,8 @@ mod chains;
 mod database;
 mod listing;
 mod migrating;
+mod no_stores;
+mod objects;
 mod parking;
 mod receipts;
 mod store;

@@ -4,7 +4,7 @@
 //! | Module | What it does |
 //! |---|---|
 //! | `bodies` | the bodies, and the manifests that list them |
-//! | `rows` | the rows |
+//! | `rows`, `list` | the rows, and the list of all of them |
 //! | `desks` | desks over databases, and what arrives at them |
 //! | `first` | stores of version 1 |
 //! | `seen` | what is seen of a desk, and what a row says of it |
@@ -28,6 +28,7 @@
 pub mod bodies;
 pub mod desks;
 pub mod first;
+mod list;
 pub mod rows;
 pub mod seen;
 pub mod shown;

@@ -1,8 +1,8 @@
 //! Amendments and moments of a desk that is asked over HTTP.
 
-use super::list::NOON;
 use super::{OPEN, Wire, served};
 use esc_desk::Desk;
+use failing_desks::list::NOON;
 use sqlite::{Alter, Connection};
 use std::alloc::Global;
 use std::process::Abort;

@@ -1,9 +1,6 @@
 //! Each route where one thing fails in the middle: a call of either file, a read, a write or the
 //! flush. The same request again has the response of a desk that nothing happened to.
 
-use super::disks::{
-    Call, FlakyDesk, Origin, Room, begin, close, flaky, have_failed, new_files, reopen,
-};
 use super::{
     HELD, OPEN, PUT_SAMPLE, RECEIPTS, Wire, assert_told, count_receipts, desk, manifest, served,
     told_of,
@@ -11,6 +8,9 @@ use super::{
 use esc_desk::{Desk, SFault};
 use esc_flaky::FlakyDisk;
 use esc_http::ServeFault;
+use failing_desks::disks::{
+    Call, FlakyDesk, Origin, Room, begin, close, flaky, have_failed, new_files, reopen,
+};
 use sqlite::{Alter, Files};
 use sqlite_disk::Disk;
 use std::alloc::Global;

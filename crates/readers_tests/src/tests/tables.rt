@@ -1,38 +1,13 @@
-//! Deposits: what bundles hold, what is refused, and how much there may be.
+//! Deposits: what bundles hold, and what is refused.
 
 use super::asserts::assert_told;
+use super::fulls::{Full, bundle_of};
 use super::shown::push_object;
 use esc_bundle::{Fault, NoMemory};
-use esc_tables::{Deposit, Key, Object, Row, read_bundled_envelope, read_deposit};
+use esc_tables::{Deposit, Key, Object, read_bundled_envelope, read_deposit};
 use std::alloc::Global;
 use std::collections::BTreeMap;
 use std::process::Abort;
-
-const CONTACTS: &str =
-    r#"{"name":"contact","kind":"contact","role":"parent","key":"id","fields":["id","clID"],"file":"c.csv"}"#;
-
-const DOMAINS: &str =
-    r#"{"name":"domain","kind":"domain","role":"parent","key":"name","fields":["name","clID","registrant"],"file":"d.csv"}"#;
-
-const DELETED_DOMAINS: &str =
-    r#"{"name":"domain","kind":"domain","role":"parent","key":"name","fields":["name"],"file":"gone.csv"}"#;
-
-const NAME_SERVERS: &str =
-    r#"{"name":"domainNs","kind":"domain","role":"child","key":"domainName","fields":["domainName","hostName"],"file":"ns.csv"}"#;
-
-const STATUSES: &str =
-    r#"{"name":"domainStatus","kind":"domain","role":"child","key":"name","fields":["status","name"],"file":"st.csv"}"#;
-
-const CONTACT_STATUSES: &str =
-    r#"{"name":"contactStatus","kind":"contact","role":"child","key":"id","fields":["id","status"],"file":"cs.csv"}"#;
-
-/// A Full: the tables that its contents and its deletes declare, and the sections of its files.
-#[derive(Clone, Copy, Debug)]
-struct Full<'a> {
-    contents: &'a str,
-    deletes: &'a str,
-    files: &'a [u8],
-}
 
 /// Fulls, each with the id and the number of contents of its envelope, and what it holds or the
 /// least refusal.
@@ -171,87 +146,6 @@ static UNREADABLE: [(&[u8], &str); 8] = [
     ),
 ];
 
-/// Contacts: how many letters come before each one's number, how many there are, whether the
-/// deposit has a deleted domain too, and what is said.
-static SIZES: [(u8, u32, bool, &str); 8] = [
-    (254, 1, false, "1 objects"),
-    (254, 1, true, "1 objects"),
-    (255, 1, false, "U10"),
-    (255, 1, true, "U10"),
-    (0, 100_000, false, "100000 objects"),
-    (0, 100_000, true, "U11"),
-    (0, 100_001, false, "U11"),
-    (0, 100_001, true, "U11"),
-];
-
-/// Tables and cells of rows, and what is said: how many cells there are, each of them, and `none`
-/// for the one after the last.
-static ROWS: [(&str, &[(&str, &str)], &str); 2] = [
-    (
-        "contact",
-        &[("id", "C1"), ("voice", ""), ("clID", "R\u{e9}1")],
-        "contact 3: id=C1 voice= clID=R\u{e9}1 none\n",
-    ),
-    ("idn", &[], "idn 0: none\n"),
-];
-
-// The declaration of a table. Another name is that of the delete table of domains.
-fn declaration(name: &str) -> &'static str {
-    match name {
-        "contact" => CONTACTS,
-        "domain" => DOMAINS,
-        "domainNs" => NAME_SERVERS,
-        "domainStatus" => STATUSES,
-        "contactStatus" => CONTACT_STATUSES,
-        _ => DELETED_DOMAINS,
-    }
-}
-
-// The declarations of these tables.
-fn declared(alloc: Global, names: &str) -> Result<String, NoMemory> {
-    let mut text = String::new(alloc);
-    for name in names.split_whitespace() {
-        if !text.is_empty() {
-            text.push_str(",")?;
-        }
-        text.push_str(declaration(name))?;
-    }
-    Ok(text)
-}
-
-fn envelope_of(alloc: Global, full: &Full) -> Result<String, NoMemory> {
-    let contents = declared(alloc, full.contents)?;
-    let deletes = declared(alloc, full.deletes)?;
-    Ok(format!(in alloc;
-        "{{\"id\":\"F1\",\"type\":\"FULL\",\"watermark\":\"2024-03-03T00:00:00Z\",\"contents\":[{contents}],\"deletes\":[{deletes}]}}"
-    )?)
-}
-
-// Adds a section.
-fn push_section(
-    body: &mut Vec<u8>,
-    alloc: Global,
-    name: &str,
-    bytes: &[u8],
-) -> Result<(), NoMemory> {
-    let length = bytes.len();
-    let line = format!(in alloc; "{name} {length}\n")?;
-    body.extend_from_slice(line.as_bytes())?;
-    body.extend_from_slice(bytes)?;
-    body.push(b'\n')?;
-    Ok(())
-}
-
-// The bundle of a Full.
-fn bundle_of(alloc: Global, full: &Full) -> Result<Vec<u8>, NoMemory> {
-    let envelope = envelope_of(alloc, full)?;
-    let mut body = Vec::from_slice(alloc, b"escrow-bundle 1\n")?;
-    push_section(&mut body, alloc, "envelope.json", envelope.as_bytes())?;
-    body.extend_from_slice(full.files)?;
-    body.extend_from_slice(b"end\n")?;
-    Ok(body)
-}
-
 fn push_key(text: &mut String, key: &Key) -> Result<(), NoMemory> {
     let kind = key.kind;
     let name = key.text.as_str();
@@ -347,83 +241,6 @@ fn told_of(alloc: Global, full: &Full, copied: bool) -> Result<String, NoMemory>
     told(alloc, body.as_slice(), copied)
 }
 
-fn count_objects(alloc: Global, body: &[u8]) -> Result<usize, Fault> {
-    Ok(read_deposit(alloc, body)?.contents.len())
-}
-
-// How many objects a body has, or its refusal.
-fn count_told(alloc: Global, full: &Full) -> Result<String, NoMemory> {
-    let body = bundle_of(alloc, full)?;
-    match count_objects(alloc, body.as_slice()) {
-        Ok(count) => Ok(format!(in alloc; "{count} objects")?),
-        Err(fault) => Ok(format!(in alloc; "{fault}")?),
-    }
-}
-
-// Rows of contacts whose keys are this many letters and a number.
-fn contact_rows(alloc: Global, letters: u8, count: u32) -> Result<Vec<u8>, NoMemory> {
-    let mut rows = Vec::new(alloc);
-    for number in 0..count {
-        rows.resize(rows.len() + letters as usize, b'x')?;
-        let row = format!(in alloc; "{number},R1\n")?;
-        rows.extend_from_slice(row.as_bytes())?;
-    }
-    Ok(rows)
-}
-
-// The section of contacts, and beside it that of a deleted domain or not.
-fn files_of(alloc: Global, letters: u8, count: u32, beside: bool) -> Result<Vec<u8>, NoMemory> {
-    let rows = contact_rows(alloc, letters, count)?;
-    let mut files = Vec::new(alloc);
-    push_section(&mut files, alloc, "c.csv", rows.as_slice())?;
-    if beside {
-        files.extend_from_slice(b"gone.csv 10\na.example\n\n")?;
-    }
-    Ok(files)
-}
-
-// What is said of contacts, beside a deleted domain or not.
-fn size_told(alloc: Global, letters: u8, count: u32, beside: bool) -> Result<String, NoMemory> {
-    let files = files_of(alloc, letters, count, beside)?;
-    let full = Full {
-        contents: "contact",
-        deletes: if beside { "deleted" } else { "" },
-        files: files.as_slice(),
-    };
-    count_told(alloc, &full)
-}
-
-// A row's table, how many cells it has, each of them, and `none` for the one after the last.
-fn push_cells(text: &mut String, row: &Row) -> Result<(), NoMemory> {
-    let table = row.table();
-    let count = row.len();
-    write!(text, "{table} {count}:")?;
-    for at in 0..=count {
-        match row.cell(at) {
-            Some((field, cell)) => write!(text, " {field}={cell}")?,
-            None => text.push_str(" none\n")?,
-        }
-    }
-    Ok(())
-}
-
-// A row of these cells, or its copy.
-fn cells_told(
-    alloc: Global,
-    table: &str,
-    cells: &[(&str, &str)],
-    copied: bool,
-) -> Result<String, NoMemory> {
-    let row = Row::from_cells(alloc, table, cells)?;
-    let mut text = String::new(alloc);
-    if copied {
-        push_cells(&mut text, &row.copy()?)?;
-    } else {
-        push_cells(&mut text, &row)?;
-    }
-    Ok(text)
-}
-
 // Compares what is said of each Full, and counts how often memory was refused.
 fn count_refused(rt: &impl Abort, alloc: Global) -> u32 {
     let mut refused = 0u32;
@@ -450,28 +267,6 @@ fn deposits_and_envelopes_are_read(rt: HostRuntime) -> Result<(), NoMemory> {
 fn an_envelope_is_refused_as_its_deposit_is(rt: HostRuntime) {
     for (body, text) in &UNREADABLE {
         assert_told(&rt, *body, told(rt.alloc(), body, false), text);
-    }
-}
-
-#[test]
-fn rows_are_made_of_their_cells(rt: HostRuntime) {
-    for (table, cells, text) in &ROWS {
-        for copied in [false, true] {
-            assert_told(
-                &rt,
-                *table,
-                cells_told(rt.alloc(), table, cells, copied),
-                text,
-            );
-        }
-    }
-}
-
-#[test]
-fn keys_and_rows_have_limits(rt: HostRuntime) {
-    for (letters, count, beside, text) in &SIZES {
-        let found = size_told(rt.alloc(), *letters, *count, *beside);
-        assert_told(&rt, (*letters, *count, *beside), found, text);
     }
 }
 

@@ -9,7 +9,7 @@ returns-in-Ok-clause-answers g c = (
   inl (record {
     body = c.deref.result.now;
     is = λ clean e serves. subst (IsReport e c.args.what) (sym c.deref.ensures.value) (c.in-Ok.ensures.text clean e serves);
-    told = text_is _ _ c.report_response.result c.report_response.ensures;
+    told = text_is _ _ c.report_response.result c.report_response.ensures.text;
   }),
 )
 

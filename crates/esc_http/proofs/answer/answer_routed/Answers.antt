@@ -12,7 +12,7 @@ pub returns-in-Refuse-clause-answers : goal.returns-in-Refuse-clause-answers
 returns-in-Refuse-clause-answers g c = λ h at. (
   refused c.in-Refuse.refusal,
   always _ _ (λ rest. ap (λ (p : Plan). with_body p rest) (c.in-Refuse.ensures h at)),
-  (refl, text_is _ _ c.refusal_response.result c.refusal_response.ensures),
+  (refl, text_is _ _ c.refusal_response.result c.refusal_response.ensures.text),
 )
 
 pub returns-in-Get-clause-answers : goal.returns-in-Get-clause-answers

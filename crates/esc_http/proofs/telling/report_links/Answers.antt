@@ -15,5 +15,5 @@ returns-clause-text g c = λ clean e serves apart.
       ends = c.in_ok-end.ensures.end before e serves apart;
       found = c.in_ok-found.found.items;
       findings = found.2;
-      is = c.in_ok-links_text.ensures ∙ ap links_text c.deref.ensures.value;
+      is = c.in_ok-links_text.ensures.text ∙ ap links_text c.deref.ensures.value;
     }

@@ -4,4 +4,4 @@ use Rattle.esc_request.proofs.responses.out_of_memory.Goals as goal
 
 pub returns : goal.returns
 unfolding digits
-returns c = refl
+returns c = record { text = refl }

@@ -10,7 +10,7 @@ use Rattle.esc_desk.proofs.CrashLemmas.{adds_at_rest, adds_as, adds_for}
 use Rattle.esc_desk.proofs.CrashSteps.{not_full_by}
 use Rattle.esc_desk.proofs.Holding.{holding_listed, stands_noted, kept_noted, told_held, kept_held}
 use Rattle.esc_desk.proofs.KnownRows.{contained, no_body, held_more}
-use Rattle.esc_desk.proofs.desk.keep_held.Goals as goal
+use Rattle.esc_desk.proofs.keeping.keep_held.Goals as goal
 
 pub returns-in_err-insert_row-clause-crash : goal.returns-in_err-insert_row-clause-crash
 returns-in_err-insert_row-clause-crash g c = λ clean e n k stood is. adds_at_rest g.S.Store _ _ _

@@ -7,7 +7,7 @@
 //! The other is over a store of version 1, which is migrated. Of the bodies that it did not keep
 //! `abc` comes again before its row, and D2 after it.
 
-use super::disks::Origin;
+use crate::disks::Origin;
 use esc_desk::{AmendFault, Arrival, Desk, Event, EventOutcome, Outcome, SFault, number};
 use sqlite::{Alter, Connection};
 use std::alloc::Global;
@@ -32,7 +32,7 @@ enum Sent {
 const FIRST: &[Body] = &[Body::F1, Body::D3, Body::D2Resent];
 
 /// 2024-03-04T12:00:00Z.
-pub(crate) const NOON: i64 = 1_709_553_600_000_000_000;
+pub const NOON: i64 = 1_709_553_600_000_000_000;
 
 /// The events, in order. Each of them changes a store that has not seen it.
 static EVENTS: [Sent; 8] = [
@@ -59,7 +59,7 @@ static AGAIN: [Sent; 4] = [
 
 /// What the store is made of, the events, and the body or the text of each of them.
 #[derive(Drop)]
-pub(crate) struct List {
+pub struct List {
     pub origin: Origin,
     events: &'static [Sent],
     texts: Vec<Vec<u8>>,
@@ -67,7 +67,7 @@ pub(crate) struct List {
 
 /// What came of a list that was sent.
 #[derive(Drop)]
-pub(crate) struct Came {
+pub struct Came {
     /// A line for each event: its answer, or `S1` where it was refused.
     pub lines: String,
     /// Whether each was answered.
@@ -76,7 +76,7 @@ pub(crate) struct Came {
 
 impl Came {
     /// Whether an event was refused.
-    pub(crate) fn has_lost(&self) -> bool {
+    pub fn has_lost(&self) -> bool {
         self.answered.iter().any(|is_answered| !*is_answered)
     }
 }
@@ -102,19 +102,19 @@ fn list_of(alloc: Global, origin: Origin, events: &'static [Sent]) -> Result<Lis
 }
 
 /// The list over a new store.
-pub(crate) fn worked_list(alloc: Global) -> Result<List, Fail> {
+pub fn worked_list(alloc: Global) -> Result<List, Fail> {
     let manifest = manifest_of(alloc, FIRST)?;
     list_of(alloc, Origin::Listed(manifest), EVENTS.as_slice())
 }
 
 /// The list over a store that is migrated.
-pub(crate) fn migrated_list(alloc: Global) -> Result<List, Fail> {
+pub fn migrated_list(alloc: Global) -> Result<List, Fail> {
     list_of(alloc, Origin::First, AGAIN.as_slice())
 }
 
 /// What a database has before its store is made: a store of version 1 if that is to be migrated,
 /// else nothing.
-pub(crate) fn prepare<S: Alter>(
+pub fn prepare<S: Alter>(
     alloc: Global,
     connection: &mut Connection<S>,
     list: &List,
@@ -183,17 +183,13 @@ fn run<S: Alter + Drop>(
 }
 
 /// Sends the whole list.
-pub(crate) fn send<S: Alter + Drop>(
-    alloc: Global,
-    desk: &mut Desk<S>,
-    list: &List,
-) -> Result<Came, Fail> {
+pub fn send<S: Alter + Drop>(alloc: Global, desk: &mut Desk<S>, list: &List) -> Result<Came, Fail> {
     let events = events(alloc, list)?;
     run(alloc, desk, events.as_slice())
 }
 
 /// Sends the list to a desk of which nothing fails.
-pub(crate) fn send_soundly<S: Alter + Drop>(
+pub fn send_soundly<S: Alter + Drop>(
     alloc: Global,
     desk: &mut Desk<S>,
     list: &List,
@@ -208,7 +204,7 @@ pub(crate) fn send_soundly<S: Alter + Drop>(
 
 /// Sends the events that were answered to a desk of which nothing fails, and gives their lines,
 /// with `S1` for the others. Where the first of the others was kept all the same it is sent, too.
-pub(crate) fn send_answered<S: Alter + Drop>(
+pub fn send_answered<S: Alter + Drop>(
     alloc: Global,
     desk: &mut Desk<S>,
     list: &List,
@@ -247,10 +243,7 @@ fn push_line<S: Alter + Drop>(
 
 /// All rows of a store: version, what is listed, receipts, bodies, steps, objects, before-images,
 /// parked bodies and the moment.
-pub(crate) fn tables<S: Alter + Drop>(
-    alloc: Global,
-    conn: &mut Connection<S>,
-) -> Result<String, Fail> {
+pub fn tables<S: Alter + Drop>(alloc: Global, conn: &mut Connection<S>) -> Result<String, Fail> {
     let mut text = String::new(alloc);
     tell_all(&mut text, conn, &VERSION)?;
     tell_all(&mut text, conn, &FIRST_TABLES)?;

@@ -6,15 +6,15 @@
 //! the list. Where it is open whether a change was kept, as after a sync that failed, the desk
 //! refuses until its files are opened again, and the event of that change may have been taken in.
 
-use super::disks::{
+use esc_desk::{Desk, SFault};
+use esc_flaky::FlakyDisk;
+use failing_desks::disks::{
     Call, FlakyDesk, Origin, PLENTY, Room, begin, close, closed, connect, copied, flaky,
     have_failed, inner, new_files, refusal, reopen, sound, sound_desk,
 };
-use super::list::{
+use failing_desks::list::{
     Came, List, migrated_list, prepare, send, send_answered, send_soundly, tables, worked_list,
 };
-use esc_desk::{Desk, SFault};
-use esc_flaky::FlakyDisk;
 use sqlite::{Alter, Connection, Files};
 use sqlite_disk::{Disk, Memory};
 use std::alloc::Global;

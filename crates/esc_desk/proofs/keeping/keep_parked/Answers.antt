@@ -8,7 +8,7 @@ use Rattle.esc_desk.proofs.CauseLemmas.{if_err_is, faults_then}
 use Rattle.esc_desk.proofs.CrashLemmas.{adds_none, adds_then, adds_as}
 use Rattle.esc_desk.proofs.CrashSteps.{not_full_by}
 use Rattle.esc_desk.proofs.Holding.{stands_parked, adds_parked, kept_noted, told_still}
-use Rattle.esc_desk.proofs.desk.keep_parked.Goals as goal
+use Rattle.esc_desk.proofs.keeping.keep_parked.Goals as goal
 
 pub returns-in_err-parking-clause-crash : goal.returns-in_err-parking-clause-crash
 returns-in_err-parking-clause-crash g c = λ clean e n k stood is. adds_none g.S.Store _ _ _ _ c.in_err-parking.ensures.same.survives

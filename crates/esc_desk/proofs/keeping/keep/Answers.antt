@@ -8,7 +8,7 @@ use Rattle.esc_events.proofs.Searches.{no_answer}
 use Rattle.esc_desk.proofs.CrashLemmas.{adds_as, adds_for}
 use Rattle.esc_desk.proofs.CrashSteps.{not_full_by}
 use Rattle.esc_desk.proofs.Holding.{refused_listed, refused_row, stands_noted, kept_noted, told_still}
-use Rattle.esc_desk.proofs.desk.keep.Goals as goal
+use Rattle.esc_desk.proofs.keeping.keep.Goals as goal
 
 pub returns-in_err-number-in-Unreadable-clause-crash : goal.returns-in_err-number-in-Unreadable-clause-crash
 returns-in_err-number-in-Unreadable-clause-crash g c = λ clean e n k stood is.

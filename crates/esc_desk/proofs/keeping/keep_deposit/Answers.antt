@@ -13,7 +13,7 @@ use Rattle.esc_desk.proofs.StoreFacts.{was_honest}
 use Rattle.esc_desk.proofs.Holding.{held_source, move_of}
 use Rattle.esc_desk.proofs.Working.{both_ok, idle_held}
 use Rattle.esc_desk.proofs.CrashLemmas.{leaves_for, adds_none, adds_then, adds_for}
-use Rattle.esc_desk.proofs.desk.keep_deposit.Goals as goal
+use Rattle.esc_desk.proofs.keeping.keep_deposit.Goals as goal
 
 pub returns-in_err-moment-clause-crash : goal.returns-in_err-moment-clause-crash
 returns-in_err-moment-clause-crash g c = λ clean e n k known stood none is held. adds_none g.S.Store _ _ _ _ c.in_err-moment.ensures.same.survives

@@ -18,7 +18,7 @@ use Rattle.esc_desk.proofs.CauseLemmas.{if_err_is, faults_of}
 use Rattle.esc_desk.proofs.CrashLemmas.{adds_at_rest, adds_as}
 use Rattle.esc_desk.proofs.CrashSteps.{not_full_by}
 use Rattle.esc_desk.proofs.Holding.{row_within}
-use Rattle.esc_desk.proofs.desk.take_in.Goals as goal
+use Rattle.esc_desk.proofs.keeping.take_in.Goals as goal
 
 pub returns-in_err-found-clause-crash : goal.returns-in_err-found-clause-crash
 returns-in_err-found-clause-crash g c = λ clean e k stood stands known none. adds_at_rest g.S.Store _ _ _

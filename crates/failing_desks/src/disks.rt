@@ -10,11 +10,11 @@ use std::alloc::Global;
 use std::test::Fail;
 
 /// A desk over files of which one call fails.
-pub(crate) type FlakyDesk<D> = Desk<FileStore<FlakyDisk<D>>>;
+pub type FlakyDesk<D> = Desk<FileStore<FlakyDisk<D>>>;
 
 /// What a store is made of, where there is none of this version.
 #[derive(Drop)]
-pub(crate) enum Origin {
+pub enum Origin {
     /// A manifest, in a database without tables.
     Listed(Manifest),
     /// A store of version 1, which is migrated.
@@ -23,7 +23,7 @@ pub(crate) enum Origin {
 
 /// A call of one of the two files.
 #[derive(Clone, Copy, Debug)]
-pub(crate) struct Call {
+pub struct Call {
     /// Whether the file is the log, or that of the database.
     pub of_the_log: bool,
     /// How many calls of the file come before.
@@ -31,7 +31,7 @@ pub(crate) struct Call {
 }
 
 /// The files, of which this call fails.
-pub(crate) fn flaky<D: Disk + Drop>(files: Files<D>, call: Call) -> Files<FlakyDisk<D>> {
+pub fn flaky<D: Disk + Drop>(files: Files<D>, call: Call) -> Files<FlakyDisk<D>> {
     if call.of_the_log {
         Files {
             log: FlakyDisk::new(files.log, call.at),
@@ -46,7 +46,7 @@ pub(crate) fn flaky<D: Disk + Drop>(files: Files<D>, call: Call) -> Files<FlakyD
 }
 
 /// The files, of which no call fails from now on.
-pub(crate) fn inner<D: Disk + Drop>(files: Files<FlakyDisk<D>>) -> Files<D> {
+pub fn inner<D: Disk + Drop>(files: Files<FlakyDisk<D>>) -> Files<D> {
     Files {
         log: files.log.into_inner(),
         db: files.db.into_inner(),
@@ -54,7 +54,7 @@ pub(crate) fn inner<D: Disk + Drop>(files: Files<FlakyDisk<D>>) -> Files<D> {
 }
 
 /// The same, as files of which a call may be told to fail again.
-pub(crate) fn sound<D: Disk + Drop>(files: Files<D>) -> Files<FlakyDisk<D>> {
+pub fn sound<D: Disk + Drop>(files: Files<D>) -> Files<FlakyDisk<D>> {
     Files {
         log: FlakyDisk::sound(files.log),
         db: FlakyDisk::sound(files.db),
@@ -62,7 +62,7 @@ pub(crate) fn sound<D: Disk + Drop>(files: Files<D>) -> Files<FlakyDisk<D>> {
 }
 
 /// Files without a byte.
-pub(crate) fn new_files(alloc: Global) -> Files<Memory> {
+pub fn new_files(alloc: Global) -> Files<Memory> {
     Files {
         log: Memory::new(alloc),
         db: Memory::new(alloc),
@@ -83,7 +83,7 @@ fn synced(alloc: Global, file: &Memory) -> Result<Memory, Fail> {
 }
 
 /// Files with the same bytes.
-pub(crate) fn copied(alloc: Global, files: &Files<Memory>) -> Result<Files<Memory>, Fail> {
+pub fn copied(alloc: Global, files: &Files<Memory>) -> Result<Files<Memory>, Fail> {
     Ok(Files {
         log: synced(alloc, &files.log)?,
         db: synced(alloc, &files.db)?,
@@ -91,7 +91,7 @@ pub(crate) fn copied(alloc: Global, files: &Files<Memory>) -> Result<Files<Memor
 }
 
 /// Why files of which no call is to fail are refused.
-pub(crate) fn refusal<D: Disk + Drop>(fault: SFault, files: Files<FlakyDisk<D>>) -> Fail {
+pub fn refusal<D: Disk + Drop>(fault: SFault, files: Files<FlakyDisk<D>>) -> Fail {
     if want_memory(&files) {
         Fail::new("a file in memory: OutOfMemory")
     } else {
@@ -100,13 +100,13 @@ pub(crate) fn refusal<D: Disk + Drop>(fault: SFault, files: Files<FlakyDisk<D>>)
 }
 
 /// Whether the call that is to fail has come.
-pub(crate) fn have_failed<D: Disk + Drop>(files: &Files<FlakyDisk<D>>) -> bool {
+pub fn have_failed<D: Disk + Drop>(files: &Files<FlakyDisk<D>>) -> bool {
     files.log.has_failed() && files.db.has_failed()
 }
 
 /// How much of a database is kept in memory, so that it isn't asked of the disk.
 #[derive(Clone, Copy)]
-pub(crate) struct Room {
+pub struct Room {
     /// How many pages that were read.
     pub cache_pages: usize,
     /// How many pages the log may have before it is copied into the database file.
@@ -114,13 +114,13 @@ pub(crate) struct Room {
 }
 
 /// Everything.
-pub(crate) const PLENTY: Room = Room {
+pub const PLENTY: Room = Room {
     cache_pages: 2_000,
     log_pages: 1_000,
 };
 
 /// A connection, or the fault and the files.
-pub(crate) fn connect<D: Disk + Drop>(
+pub fn connect<D: Disk + Drop>(
     alloc: Global,
     files: Files<D>,
     room: Room,
@@ -140,7 +140,7 @@ pub(crate) fn connect<D: Disk + Drop>(
 }
 
 /// A desk's files, unless one in memory wanted more of it.
-pub(crate) fn close<D: Disk + Drop>(desk: FlakyDesk<D>) -> Result<Files<FlakyDisk<D>>, Fail> {
+pub fn close<D: Disk + Drop>(desk: FlakyDesk<D>) -> Result<Files<FlakyDisk<D>>, Fail> {
     let files = disconnect(desk.into_store().into_connection());
     if want_memory(&files) {
         return Err(refusal(SFault::S1, files));
@@ -153,9 +153,7 @@ fn disconnect<D: Disk + Drop>(connection: Connection<FileStore<D>>) -> Files<D> 
 }
 
 /// The files of a connection, where all of the log is copied into the database file.
-pub(crate) fn closed<D: Disk + Drop>(
-    connection: Connection<FileStore<D>>,
-) -> Result<Files<D>, Fail> {
+pub fn closed<D: Disk + Drop>(connection: Connection<FileStore<D>>) -> Result<Files<D>, Fail> {
     match connection.close_files() {
         Ok(files) => Ok(files),
         Err((error, store)) => {
@@ -217,7 +215,7 @@ fn open_twice<S: Alter + Drop>(
 }
 
 /// The desk over a database of which no call fails.
-pub(crate) fn sound_desk<S: Alter + Drop>(
+pub fn sound_desk<S: Alter + Drop>(
     alloc: Global,
     connection: Connection<S>,
     origin: &Origin,
@@ -229,7 +227,7 @@ pub(crate) fn sound_desk<S: Alter + Drop>(
 }
 
 /// The desk over files that are opened again, of which no call fails any more.
-pub(crate) fn reopen<D: Disk + Drop>(
+pub fn reopen<D: Disk + Drop>(
     alloc: Global,
     files: Files<FlakyDisk<D>>,
     room: Room,
@@ -259,7 +257,7 @@ fn reopen_refused<D: Disk + Drop>(
 
 /// The desk over these files, in which a store is made if there is none. Where it is refused that
 /// is done once more, and where it is refused again over the files that are opened again.
-pub(crate) fn begin<D: Disk + Drop>(
+pub fn begin<D: Disk + Drop>(
     alloc: Global,
     files: Files<FlakyDisk<D>>,
     room: Room,

@@ -1,0 +1,3 @@
+//! Lists of events over files of which one call fails.
+
+mod sweeps;

@@ -1,0 +1,303 @@
+//! Objects, before-images, receipts and bodies: what is read back of them, and what is gone once it
+//! is removed.
+
+use super::assert_text;
+use super::store::{key, new_store, object, take_first};
+use esc_apply::Registry;
+use esc_envelope::Kind;
+use esc_store::{Change, Reply, SFault, Store, number};
+use esc_tables::{Key, Object};
+use sqlite::{Alter, Connection};
+use std::alloc::Global;
+use std::collections::BTreeMap;
+use std::fmt::Write;
+use std::test::Fail;
+
+// Writes an object at each key, and before-images for step 1: none, except for the last key, which
+// has one.
+fn fill<S: Alter>(
+    alloc: Global,
+    store: &mut Store<S>,
+    keys: &[Key],
+    object: &Object,
+) -> Result<(), SFault> {
+    let mut change = store.begin()?;
+    for at in 0..keys.len() {
+        change.put(alloc, &keys[at], object)?;
+        let before = if at + 1 == keys.len() {
+            Some(object)
+        } else {
+            None
+        };
+        change.put_undo(alloc, 1, &keys[at], before)?;
+    }
+    change.commit()
+}
+
+fn keys_of(alloc: Global, named: &[(Kind, &str)]) -> Result<Vec<Key>, Fail> {
+    let mut keys = Vec::new(alloc);
+    for (kind, text) in named {
+        keys.push(key(alloc, *kind, text)?)?;
+    }
+    Ok(keys)
+}
+
+fn put_all<S: Alter>(
+    alloc: Global,
+    store: &mut Store<S>,
+    named: &[(Kind, &str)],
+) -> Result<(), Fail> {
+    let object = object(alloc)?;
+    let keys = keys_of(alloc, named)?;
+    Ok(fill(alloc, store, keys.as_slice(), &object)?)
+}
+
+fn images<S: Alter>(
+    alloc: Global,
+    change: &mut Change<'_, S>,
+    step: u32,
+) -> Result<Vec<(Key, Option<Object>)>, Fail> {
+    Ok(change.take_undo(alloc, step)?)
+}
+
+fn tell_images(text: &mut String, images: &[(Key, Option<Object>)]) -> Result<(), Fail> {
+    for (key, before) in images {
+        write!(text, "{} {}; ", key.text, before.is_some())?;
+    }
+    Ok(())
+}
+
+// The before-images of a step, and that they are gone afterwards.
+fn tell_undone<S: Alter>(
+    alloc: Global,
+    text: &mut String,
+    change: &mut Change<'_, S>,
+    step: u32,
+) -> Result<(), Fail> {
+    let noted = images(alloc, change, step)?;
+    tell_images(text, noted.as_slice())?;
+    let left = images(alloc, change, step)?;
+    writeln!(text, "{} left", left.len())?;
+    Ok(())
+}
+
+// The same in a change that isn't committed.
+fn tell_step<S: Alter>(
+    alloc: Global,
+    text: &mut String,
+    store: &mut Store<S>,
+    step: u32,
+) -> Result<(), Fail> {
+    let mut change = store.begin()?;
+    tell_undone(alloc, text, &mut change, step)
+}
+
+fn tell_keys(text: &mut String, tables: &BTreeMap<Key, Object>) -> Result<(), Fail> {
+    for (key, _) in tables {
+        write!(text, "{} {}; ", key.kind.name(), key.text)?;
+    }
+    Ok(())
+}
+
+fn tell_counts(text: &mut String, counts: &BTreeMap<Kind, u64>) -> Result<(), Fail> {
+    for (_, count) in counts {
+        write!(text, "{count} ")?;
+    }
+    text.push_str("\n")?;
+    Ok(())
+}
+
+// The keys of the tables and the counts by kind.
+fn tell_tables<S: Alter>(
+    alloc: Global,
+    text: &mut String,
+    store: &mut Store<S>,
+) -> Result<(), Fail> {
+    let tables = store.tables(alloc)?;
+    tell_keys(text, &tables)?;
+    let counts = store.counts_by_kind(alloc)?;
+    tell_counts(text, &counts)
+}
+
+// The keys and counts, and what is undone of step 1, of step 1 again, since the change wasn't
+// committed, and of step 2.
+const READ_BACK: &str =
+    "host ns.a.example; domain a.example; domain b.example; 0 0 1 2 0 0 \nns.a.example false; a.example true; b.example false; 0 left\nns.a.example false; a.example true; b.example false; 0 left\n0 left\n";
+
+fn read_back<S: Alter + Drop>(alloc: Global, mut store: Store<S>) -> Result<String, Fail> {
+    let keys = [
+        (Kind::Domain, "b.example"),
+        (Kind::Host, "ns.a.example"),
+        (Kind::Domain, "a.example"),
+    ];
+    put_all(alloc, &mut store, &keys)?;
+    let mut text = String::new(alloc);
+    tell_tables(alloc, &mut text, &mut store)?;
+    for step in [1, 1, 2] {
+        tell_step(alloc, &mut text, &mut store, step)?;
+    }
+    Ok(text)
+}
+
+#[test]
+fn objects_and_before_images_are_read_back(rt: HostRuntime) -> Result<(), Fail> {
+    let alloc = rt.alloc();
+    let store = new_store(alloc, Connection::open_in_memory(alloc)?)?;
+    let text = read_back(alloc, store)?;
+    assert_text(&rt, "read back", text.as_str(), READ_BACK);
+    Ok(())
+}
+
+fn reply<S: Alter>(
+    alloc: Global,
+    store: &mut Store<S>,
+    name: &str,
+    digest: u8,
+) -> Result<Option<Reply>, Fail> {
+    let number = number(name)?;
+    Ok(store.receipt_of(alloc, &number, &[digest; 32])?)
+}
+
+// The receipt that was kept for an arrival, or 0.
+fn tell_receipt<S: Alter>(
+    alloc: Global,
+    text: &mut String,
+    store: &mut Store<S>,
+    arrival: (&str, u8),
+) -> Result<(), Fail> {
+    let (name, digest) = arrival;
+    let receipt = match reply(alloc, store, name, digest)? {
+        Some(reply) => reply.receipt,
+        None => 0,
+    };
+    writeln!(text, "{name} {digest}: receipt {receipt}")?;
+    Ok(())
+}
+
+fn body<S: Alter>(
+    alloc: Global,
+    store: &mut Store<S>,
+    row: usize,
+) -> Result<Option<Vec<u8>>, Fail> {
+    Ok(store.body_of(alloc, row)?)
+}
+
+// The length of the body of a row, or 0.
+fn tell_body<S: Alter>(
+    alloc: Global,
+    text: &mut String,
+    store: &mut Store<S>,
+    row: usize,
+) -> Result<(), Fail> {
+    let length = match body(alloc, store, row)? {
+        Some(body) => body.len(),
+        None => 0,
+    };
+    writeln!(text, "row {row}: {length} bytes")?;
+    Ok(())
+}
+
+// Numbers and digests with the receipt that was kept for them, and rows with the length of their
+// bodies.
+const FOUND: &str = "one 1: receipt 1
+one 2: receipt 0
+two 1: receipt 0
+row 0: 4 bytes
+row 1: 0 bytes
+";
+
+fn found<S: Alter + Drop>(alloc: Global, mut store: Store<S>) -> Result<String, Fail> {
+    let mut text = String::new(alloc);
+    take_first(alloc, &mut store)?;
+    for arrival in [("one", 1), ("one", 2), ("two", 1)] {
+        tell_receipt(alloc, &mut text, &mut store, arrival)?;
+    }
+    for row in [0, 1] {
+        tell_body(alloc, &mut text, &mut store, row)?;
+    }
+    Ok(text)
+}
+
+#[test]
+fn receipts_and_bodies_are_found(rt: HostRuntime) -> Result<(), Fail> {
+    let alloc = rt.alloc();
+    let store = new_store(alloc, Connection::open_in_memory(alloc)?)?;
+    let found = found(alloc, store)?;
+    assert_text(&rt, "found", found.as_str(), FOUND);
+    Ok(())
+}
+
+fn is_there<S: Alter>(
+    alloc: Global,
+    change: &mut Change<'_, S>,
+    key: &Key,
+) -> Result<bool, SFault> {
+    Ok(change.get(alloc, key)?.is_some())
+}
+
+// Removes an object: whether it was there, and whether it is there afterwards.
+fn removed<S: Alter>(
+    alloc: Global,
+    store: &mut Store<S>,
+    key: &Key,
+) -> Result<(bool, bool), SFault> {
+    let mut change = store.begin()?;
+    let was_there = is_there(alloc, &mut change, key)?;
+    change.remove(key)?;
+    let stays = is_there(alloc, &mut change, key)?;
+    change.commit()?;
+    Ok((was_there, stays))
+}
+
+// Removes all objects and before-images, which counts no write: how many before-images are left.
+fn cleared<S: Alter>(alloc: Global, store: &mut Store<S>) -> Result<usize, Fail> {
+    let mut change = store.begin()?;
+    change.clear()?;
+    let images = images(alloc, &mut change, 1)?;
+    change.commit()?;
+    Ok(images.len())
+}
+
+// How many writes a store has counted, and how many objects it has.
+fn tell_size<S: Alter>(alloc: Global, text: &mut String, store: &mut Store<S>) -> Result<(), Fail> {
+    let writes = store.writes();
+    let count = store.tables(alloc)?.len();
+    writeln!(text, "{writes} writes, {count} objects")?;
+    Ok(())
+}
+
+const REMOVED: &str = "it was there: true, it stays: false
+3 writes, 1 objects
+0 images
+3 writes, 0 objects
+";
+
+// Two objects, of which one is removed and then all.
+fn removals<S: Alter + Drop>(
+    alloc: Global,
+    store: &mut Store<S>,
+    first: &Key,
+) -> Result<String, Fail> {
+    let mut text = String::new(alloc);
+    let (was_there, stays) = removed(alloc, store, first)?;
+    writeln!(text, "it was there: {was_there}, it stays: {stays}")?;
+    tell_size(alloc, &mut text, store)?;
+    writeln!(text, "{} images", cleared(alloc, store)?)?;
+    tell_size(alloc, &mut text, store)?;
+    Ok(text)
+}
+
+#[test]
+fn what_is_removed_is_gone(rt: HostRuntime) -> Result<(), Fail> {
+    let alloc = rt.alloc();
+    let first = key(alloc, Kind::Contact, "C1")?;
+    let mut store = new_store(alloc, Connection::open_in_memory(alloc)?)?;
+    put_all(
+        alloc,
+        &mut store,
+        &[(Kind::Contact, "C1"), (Kind::Domain, "a.example")],
+    )?;
+    let text = removals(alloc, &mut store, &first)?;
+    assert_text(&rt, "removed", text.as_str(), REMOVED);
+    Ok(())
+}
