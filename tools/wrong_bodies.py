@@ -24,10 +24,15 @@ class Function:
 
 @dataclass
 class Edit:
-    """An edit: the changes of its file's texts, and the functions that it changes (None where it changes what is in no function)."""
+    """An edit: the changes of its file's texts, the functions that it changes (None where it changes what is in no function), and
+    what a check is asked for besides: the functions that it adds in the place of a comment."""
     name: str
     changes: list
     functions: list
+    added: list
+
+    def asked(self):
+        return {it.asked for it in self.functions} | set(self.added)
 
 
 @dataclass
@@ -117,15 +122,24 @@ def function_at(crate, folder, file, text, at):
     return Function(f'{module}::{inner}', re.compile(rf'fn {module}::(?:{path}|(?:{closure}|fn::{path})::\S+):'))
 
 
+def added_function(crate, file, old, new):
+    """What a check is asked for of a function that a change adds in the place of a comment between functions; None of another change."""
+    item = re.match(r'fn (\w+)', new)
+    return '::'.join([crate, *module_of(file), item[1]]) if item and old.startswith('//') else None
+
+
 def read_edit(crate, folder, path):
-    changes, functions = changes_of(path), []
-    for file, old, _ in changes:
+    changes, functions, added = changes_of(path), [], []
+    for file, old, new in changes:
         with open(f'{folder}/{file}') as it:
             text = it.read()
         if text.count(old) != 1:
             raise ValueError(f'its old text is in {file} {text.count(old)} times')
-        functions.append(function_at(crate, folder, file, text, text.index(old)))
-    return Edit(os.path.basename(path), changes, functions)
+        if one := added_function(crate, file, old, new):
+            added.append(one)
+        else:
+            functions.append(function_at(crate, folder, file, text, text.index(old)))
+    return Edit(os.path.basename(path), changes, functions, added)
 
 
 def check_words(tree, crate):
@@ -162,7 +176,7 @@ class Room:
             if os.path.isdir(f'{tree}/crates/{crate}/{part}'):
                 shutil.copytree(f'{tree}/crates/{crate}/{part}', f'{folder}/{part}')
 
-    def said(self, edits, functions):
+    def said(self, edits, asked):
         """What a check of these functions (of all where there is none) says of the crate with these edits."""
         own = {}
         for edit in edits:
@@ -172,7 +186,7 @@ class Room:
                 own.setdefault(file, text)
                 with open(f'{self.folder}/{file}', 'w') as it:
                     it.write(text.replace(old, new))
-        only = [word for it in sorted({it.asked for it in functions}) for word in ('--only', it)]
+        only = [word for it in sorted(asked) for word in ('--only', it)]
         try:
             ran = subprocess.run([*self.words, *only], cwd=self.folder, text=True, errors='replace',
                                  stdin=subprocess.DEVNULL, stdout=subprocess.PIPE, stderr=subprocess.STDOUT)
@@ -184,7 +198,7 @@ class Room:
 
     def tried_together(self, edits):
         """The verdicts on edits of different functions that one check gives: those that it refuses, by name."""
-        lines = self.said(edits, [function for edit in edits for function in edit.functions])
+        lines = self.said(edits, set().union(*(edit.asked() for edit in edits)))
         if not any(it.startswith('only=') for it in lines):
             return {}
         refused = {}
@@ -198,7 +212,7 @@ class Room:
 
     def tried_alone(self, edit):
         """The verdict on an edit by a check of the whole crate."""
-        lines = self.said([edit], [])
+        lines = self.said([edit], ())
         last = next((it for it in lines if it.startswith('logic=')), '')
         unread = next((it for it in lines if re.match(r'src/\S+:\d+:\d+: error', it) and UNREAD.search(it)), None)
         if unread or not last:
@@ -214,8 +228,7 @@ def rounds_of(edits):
     """The edits in rounds, so that no two edits of a round change one function."""
     rounds = []
     for edit in edits:
-        asked = {it.asked for it in edit.functions}
-        fits = next((it for it in rounds if not any(asked & {other.asked for other in one.functions} for one in it)), None)
+        fits = next((it for it in rounds if not any(edit.asked() & one.asked() for one in it)), None)
         if fits is None:
             rounds.append([edit])
         else:
