@@ -66,8 +66,8 @@ pub fn apply_step<R: Registry>(
     Ok((d.contents.len() + deletes.len()) as u64)
 }
 
-/// Applies deposits after a chain of `steps` steps. Returns the number of writes (at most 2^64 -
-/// 1).
+/// Applies deposits after a chain of `steps` steps. Returns the number of writes, which is at most
+/// 2^64 - 1.
 pub(crate) fn apply_all<R: Registry>(
     r: &mut R,
     alloc: Global,

@@ -39,7 +39,8 @@ pub struct Work {
     pub undone: u32,
     /// How many steps were applied.
     pub applied: u32,
-    /// The number of objects that were written or removed, one by one (at most 2^64 - 1).
+    /// How many objects were put or removed, one by one (at most 2^64 - 1). A removal counts even
+    /// if there was no object.
     pub writes: u64,
 }
 

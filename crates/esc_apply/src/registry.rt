@@ -25,8 +25,8 @@ pub trait Registry {
     /// What the registry contains. A relation, since it may hold of no content or of several.
     ghost holds: { Self → State → Type 0 };
 
-    /// The number of writes so far: it grows by one with each `put` and `remove`, and stays at 2^64
-    /// - 1 once there.
+    /// The number of writes so far. It grows by one with each `put` and `remove`, and stays at
+    /// 2^64 - 1 once there.
     ghost count: { Self → ℕ };
 
     /// Which errors its calls return.

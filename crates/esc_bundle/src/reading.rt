@@ -175,7 +175,7 @@ fn is_repeated(before: &[Section<'_>], name: &[u8]) -> bool
     is_any_named(before, name)
 }
 
-// Whether the first section is the envelope.
+// Whether a section of this name may come here: the first one has to be the envelope.
 fn is_in_order(before: &[Section<'_>], name: &[u8]) -> bool
     ensures { result ≡ (not (length (views before.now) == 0) || bytes_eq name.now envelope_name) }
 {

@@ -1,9 +1,9 @@
 //! Which deposits the registry is rebuilt from: revisions, bases and the latest chain.
 //!
 //! A release manifest lists deposits; each has a place, which is its watermark and its type, and a
-//! `resend`, which says how often it was generated again (RFC 8909, section 5.1). Some of the listed
-//! deposits are held: they arrived, and were found to be what the manifest says. This crate says
-//! which of the held ones count, and in which order.
+//! `resend`, which says how often it was generated again (RFC 8909, section 5.1). Some of the
+//! listed deposits are held: they arrived, and were found to be what the manifest says. This crate
+//! says which of the held ones count, and in which order.
 //!
 //! - [`Held`] is a set of rows of one manifest: those whose deposits are held. Contracts see a
 //!   finite set of row indices, counted from 0: the order of arrivals and how often a deposit

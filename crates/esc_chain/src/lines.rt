@@ -149,7 +149,7 @@ fn state_by(in_chain: bool, stop: Option<usize>) -> State
     }
 }
 
-// The blocker of a row whose chain is broken, if any.
+// The blocker, if the way back from a used row stops at a row.
 fn blocker_if(
     alloc: Global,
     m: &Manifest,

@@ -306,8 +306,8 @@ fn command_line<'a>(alloc: Global) -> Result<Command<'a>, AllocError> {
     Ok(command)
 }
 
-/// What the words ask for; the first of them is the program's name. An error that asks for help is
-/// one, too.
+/// What the words ask for; the first of them is the program's name. A request for help or for the
+/// version is an `Err`, too.
 pub fn parse<'a>(alloc: Global, words: &'a [&'a str]) -> Result<Option<Invocation<'a>>, Error> {
     let matches = command_line(alloc)?.try_get_matches_from(words)?;
     Ok(invocation_of(&matches))

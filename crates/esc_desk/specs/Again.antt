@@ -20,8 +20,8 @@ use Rattle.esc_events.specs.Finding.{finding}
 use Rattle.esc_events.specs.Receipts.{reply_to}
 use Rattle.esc_events.specs.Stands.{held_body, parked_body}
 
--- no body was kept for an arrival of which this one is a duplicate: there was none, or its verdict
--- was A2
+-- this arrival is no duplicate of an earlier one, or that one's verdict was A2, so that its body
+-- was not kept
 abbrev pub IsUnkept : List EventValue → ArrivalValue → Type 0
 IsUnkept e a = (r : ReplyValue) → reply_to sha256 reading e a ≡ Some r → r.verdict ≡ A2
 

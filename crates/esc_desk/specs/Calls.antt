@@ -53,7 +53,8 @@ DeskLeaves g desk e doubtful = CrashLeaves g desk.store.conn e doubtful
 -- ---- a call, by the desk before it and after it
 
 module _ {S : Type 0} (g : Ghosts S) (old new : Desk S) where
-  -- where the store was honest, this holds for every list of events that the desk served
+  -- if the store is honest after the call, this holds for every list of events that the desk served
+  -- before it
   abbrev pub After : (List EventValue → Type 0) → Type 0
   After says = IsHonestDesk g new → (e : List EventValue) → DeskServes g old e → says e
 
@@ -61,7 +62,8 @@ module _ {S : Type 0} (g : Ghosts S) (old new : Desk S) where
   abbrev pub OkAfter : {X E : Type 0} → Result X E → (List EventValue → X → Type 0) → Type 0
   OkAfter result says = After (λ e. IfOk result (says e))
 
-  -- where the store was honest, this holds for every list of events that the store stood for
+  -- if the store is honest after the call, this holds for every list of events that the store stood
+  -- for before it, whatever the desk remembers
   abbrev pub Over : (List EventValue → Type 0) → Type 0
   Over says = IsHonestDesk g new → (e : List EventValue) → Serves g old.store e → says e
 
@@ -83,11 +85,11 @@ module _ {S : Type 0} (g : Ghosts S) (old new : Desk S) where
     pub same : IsAsBefore g old.store new.store
     pub serves : ServesStill
 
-  -- the desk remembers what it did
+  -- the desk remembers what it remembered before
   abbrev pub RemembersStill : Type 0
   RemembersStill = new.known ≡ old.known
 
-  -- the call changed nothing, and the desk remembers what it did
+  -- the call changed nothing, and the desk remembers what it remembered before
   abbrev pub Rests : Type 0
   Rests = Stays × RemembersStill
 
@@ -111,8 +113,8 @@ abbrev pub HasNoRoom : List EventValue → ArrivalValue → Type 0
 HasNoRoom e a = (reply_to sha256 reading e a ≡ None)
     × (1_000_000_000 ≤ length (receipts_of sha256 reading e))
 
--- the body of an arrival is to be parked: none was kept for an earlier one of which it is a
--- duplicate, no row lists it, and it isn't parked
+-- the body of an arrival is to be parked: the arrival is no duplicate of an earlier one, or that
+-- one's verdict was A2; no row lists the body, and it isn't parked
 pub record IsToBeParked (e : List EventValue) (a : ArrivalValue) : Type 0 where
   pub unkept : IsUnkept e a
   pub unlisted : row_of (union e) (sha256 a.body) ≡ None
@@ -124,7 +126,8 @@ pub record HasNoPlace (e : List EventValue) (a : ArrivalValue) : Type 0 where
   pub full : IsFull (parked_body sha256 reading e)
 
 -- why an arrival may be lost: the database failed (S1), memory was refused (S2), there is no room
--- for its receipt (S4), or no place to park its body (S5)
+-- for its receipt (S4), or no place to park its body (S5; said if no two different bodies have the
+-- same digest)
 abbrev pub IsCause : List EventValue → ArrivalValue → SFault → Type 0
 IsCause e a S1 = Unit {0}
 IsCause e a S2 = Unit {0}
@@ -137,7 +140,8 @@ abbrev pub HadRoom : List EventValue → ArrivalValue → Type 0
 HadRoom e a = reply_to sha256 reading e a ≡ None
     → length (receipts_of sha256 reading e) < 1_000_000_000
 
--- there was a place to park its body, if it was to be parked
+-- there was a place to park its body, if it was to be parked; said if no two different bodies have
+-- the same digest
 abbrev pub HadPlace : List EventValue → ArrivalValue → Type 0
 HadPlace e a = WhereApart e (HasNoPlace e a → ⊥)
 

@@ -85,7 +85,8 @@ doubtful_with S4 x doubtful = doubtful
 doubtful_with S5 x doubtful = doubtful
 
 -- what a crash leaves after an arrival that was answered: the events with it, or with it and one
--- that is still in doubt; none is, where the arrival's body was missing
+-- that is still in doubt; none is, where the arrival's body was missing and was taken in (said if
+-- no two different bodies have the same digest)
 pub record LeavesAnswered {S : Type 0} (g : Ghosts S) (conn : Held S) (e doubtful : List EventValue)
     (a : ArrivalValue) : Type 0 where
   pub answered : CrashLeaves g conn (e ++ arrived a ∷ [])

@@ -28,7 +28,7 @@ IsAmendOutcome result = IfErr result IsAmendFault
 abbrev pub IsMoveOutcome : Result (Unit {0}) SFault → Type 0
 IsMoveOutcome result = IfErr result IsS1OrS2
 
--- the outcome of an event is of its kind
+-- the outcome is of the event's kind, and a refusal is one that this kind may have
 abbrev pub IsOutcomeOf : Event → EventOutcome → Type 0
 IsOutcomeOf (Arrival a) (Arrived o) = IsOutcome o
 IsOutcomeOf (Arrival a) (Amended r) = ⊥

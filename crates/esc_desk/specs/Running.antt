@@ -25,7 +25,8 @@ IsReply e all a (Done r) = reply_to sha256 reading all a ≡ Some r
 IsReply e all a (Lost f) = IsCause e a f
 
 -- the outcome of an event after the events e is right, where `all` are the events in the end: an
--- arrival's reply, an amendment's count of rows, or why it was refused
+-- arrival's reply, or why it was lost; an amendment's count of rows, or why it was refused; of a
+-- moment's outcome nothing is said
 abbrev pub IsAnswer : List EventValue → List EventValue → Event → EventOutcome → Type 0
 IsAnswer e all (Arrival a) (Arrived o) = IsReply e all a o
 IsAnswer e all (Arrival a) (Amended r) = ⊥

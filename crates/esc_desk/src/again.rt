@@ -174,7 +174,7 @@ fn take_body<S: Alter>(
     take_found(store, alloc, digest, known, found, body)
 }
 
-// Takes in the body of an arrival alike one that was answered `A2`, of which this was found.
+// Takes in the body of a duplicate of an arrival with `A2`, by what was found of it.
 #[tactic(auto, using(crate::proofs::StoreFacts::was_honest))]
 fn take_found<S: Alter>(
     store: &mut Store<S>,

@@ -121,7 +121,7 @@ pub(crate) fn hold_body<S: Alter>(
     Ok(work)
 }
 
-// The same in a change that isn't committed yet.
+// Stores the body and moves the chain in a change that isn't committed yet.
 #[tactic(auto, using(crate::proofs::StoreFacts::goes_then))]
 fn fill_held<S: Alter>(
     change: &mut Change<'_, S>,

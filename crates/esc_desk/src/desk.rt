@@ -61,12 +61,12 @@ use sha2::{Digest, Sha256};
 use sqlite::Alter;
 use std::alloc::Global;
 
-/// A desk over a store. It remembers which rows are held, so that an arrival needn't ask the store
-/// for them.
+/// A desk over a store. It remembers which rows have a body and which have a receipt with `A1`, so
+/// that an event needn't ask the store for them.
 #[derive(Drop)]
 pub struct Desk<S: Alter> {
     pub(crate) store: Store<S>,
-    // `None` until the store was asked, and after an event that was refused.
+    // `None` until an event needs it, and again once such an event has failed.
     pub(crate) known: Option<Known>,
 }
 
@@ -101,10 +101,10 @@ impl<S: Alter> Desk<S> {
 
     /// Takes an arrival. Returns the reply, and the work of the move that it made. A duplicate of
     /// an earlier arrival gets the first one's reply, and makes no work unless that is `A2`; then
-    /// its body is taken in, unless it is there. In any case the work is exactly the cost of going
-    /// from the latest chain before the arrival to the latest chain with it, which is none where it
-    /// adds no row to those that are held. A body that no row lists is parked. [`Desk::writes`]
-    /// grows by the work's writes.
+    /// its body is taken in, unless it is there. If no two different bodies have the same digest,
+    /// the work is exactly the cost of going from the latest chain before the arrival to the latest
+    /// chain with it, which is none where it adds no row to those that are held. A body that no row
+    /// lists is parked. [`Desk::writes`] grows by the work's writes.
     ///
     /// At `Err` nothing has changed: `S1`, `S2`, `S4` where the store has 1,000,000,000 receipts
     /// and the arrival is no duplicate, or `S5` where its body would be parked and 1,024 others

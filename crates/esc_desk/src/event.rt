@@ -25,7 +25,7 @@ pub enum Outcome {
     Lost(SFault),
 }
 
-/// What came of an event. At an `Err` nothing has changed.
+/// What came of an event. Where it was refused nothing has changed.
 #[derive(Debug, Drop)]
 pub enum EventOutcome {
     /// What came of an arrival.

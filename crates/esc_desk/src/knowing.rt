@@ -17,8 +17,8 @@ use esc_store::{SFault, Store};
 use sqlite::Alter;
 use std::alloc::Global;
 
-/// What is known of a store's rows by its receipts and look-ups: for each receipt with `A2` or `A5`
-/// whose digest a row lists now, the body of that row is looked up.
+/// What is known of a store's rows by its receipts and bodies: for each receipt with `A2` or `A5`
+/// whose digest a row lists now, the body of that row is read.
 pub(crate) fn known_of<S: Alter>(store: &mut Store<S>, alloc: Global) -> Result<Known, SFault>
     ensures same { IsAsBefore S.Store store.old store.new }
     ensures known { IsHonest S.Store store.new → (e : List EventValue) (k : Kept)

@@ -63,8 +63,9 @@ pub fn same_held_same_kept()
     latest_chain_at_is_one();
 }
 
-/// The definitions at some lists of arrivals: a repeat has the first reply, the same body under
-/// another number is held again, and another body under the same number has a receipt of its own.
+/// The definitions at some lists of arrivals: a duplicate has the first reply, the same body under
+/// another number gets `A1` with `again`, and another body under the same number has a receipt of
+/// its own.
 pub fn worked_replies()
     ensures distinct_ones { distinct itself reads_full
         (comings (listed_then (full_1 ∷ full_1 ∷ other_1 ∷ full_1 ∷ full_9 ∷ [])))

@@ -35,11 +35,12 @@
 //!
 //! # What is promised
 //!
-//! For every list of accepted manifests and arrivals, in any order among each other, with repeats,
-//! losses and reorderings, the tables hold for each object what the last deposit that mentions it
-//! says on the latest unbroken chain, up to the moment set last, of the listed deposits that
-//! arrived, each at its highest arrived revision; and arrivals alike in number and body get one
-//! receipt and the first one's reply. This is the contract of [`Desk::run_events`].
+//! For every list of accepted manifests, arrivals and moments, in any order among each other, with
+//! repeats, losses and reorderings, the tables hold for each object what the last deposit that
+//! mentions it says on the latest unbroken chain, up to the moment set last, of the listed deposits
+//! that arrived, each at its highest arrived revision; and arrivals alike in number and body get
+//! one receipt and the first one's reply. This is the contract of [`Desk::run_events`], read with
+//! [`tables_are_of_events`].
 //!
 //! The contracts speak of lists of events (`EventValue`, `esc_events`): a manifest was taken in, an
 //! arrival was answered, a moment was set or taken back, or an *early* arrival was answered, one
@@ -53,14 +54,15 @@
 //! its store serves, if what it remembers of the held rows is true (`DeskServes`).
 //!
 //! Most clauses begin with a word of `specs/Calls.antt`, which says of which events they speak.
-//! `OkAfter` is "where the store was honest, of whatever events the desk served before the call, if
-//! it succeeded": a desk that served a list serves, after an arrival that was answered, that list
-//! with the arrival. `OkOver` is the same of a read, and `Stays` says that a call changed nothing.
-//! After an `Err` the desk serves the list as it was (`ServesStill`). What one event changes is one
-//! change of the store, whole or not at all, so an arrival that was refused by `S1` (the store
-//! failed), `S2` (out of memory), `S4` (there are 1,000,000,000 receipts) or `S5` (1,024 bodies are
-//! parked) is as one that never came. So runs compose, whatever came before them and however they
-//! were cut.
+//! `OkAfter` is "if the store is honest after the call, and the call succeeded, then for every list
+//! of events that the desk served before it": a desk that served a list serves, after an arrival
+//! that was answered, that list with the arrival. `OkOver` is the same for every list that the
+//! desk's store stood for, even where what the desk remembers is wrong; reads have it. `Stays` says
+//! that a call changed nothing. After an `Err` the desk serves the list as it was (`ServesStill`).
+//! What one event changes is one change of the store, whole or not at all, so an arrival that was
+//! refused by `S1` (the store failed), `S2` (out of memory), `S4` (there are 1,000,000,000
+//! receipts) or `S5` (1,024 bodies are parked) is as one that never came. So runs compose, whatever
+//! came before them and however they were cut.
 //!
 //! What was answered is kept through a crash. An event is *in doubt* once it was refused by `S1` or
 //! `S2`, until another changes a table: a crash may leave it taken in. The clauses `left` of
@@ -70,19 +72,21 @@
 //! was just made or opened. `esc_kept` follows it to the next open.
 //!
 //! Each clause on a store has the premise that the store was honest, which is that the disk gave
-//! back what was written to it. The definitions go by digests: what is said of the bodies that are
-//! held and parked, and so of chains, tables and works, is said where no two different bodies that
-//! came have the same digest (`WhereApart`). What is said of replies, listed rows and the moment
-//! holds without that.
+//! back what was written to it. What a store is said to keep holds while its connection is open; a
+//! call of the disk that fails may close it. The definitions go by digests: what is said of the
+//! bodies that are held and parked, and so of chains, tables and works, is said where no two
+//! different bodies that came have the same digest (`WhereApart`). What is said of replies, listed
+//! rows and the moment holds without that.
 //!
 //! # Cost
 //!
 //! A duplicate of an earlier arrival costs a SHA-256 and a look-up, unless that one's reply is
-//! `A2`. For any other arrival the body is read once, and of the new chain's steps only the bodies
-//! past the front that both chains have in common are read again. The store is asked which rows are
-//! held at a desk's first event that changes it, and at the next one after an `Err`: receipts with
-//! `A1` say so, and for each receipt with `A2` or `A5` whose digest a row lists now, the body of
-//! that row is looked up.
+//! `A2`. The body of any other arrival is parsed once, if a row lists it, and of the new chain's
+//! steps only the bodies past the front that both chains have in common are parsed again. Each
+//! [`Desk::held`] and [`Desk::status`] asks the store which rows are held; so do a desk's first
+//! event that may change the store, and the next one after such an event failed. Receipts with `A1`
+//! say so, and for each receipt with `A2` or `A5` whose digest a row lists now, the body of that
+//! row is read.
 //!
 //! [`Desk::end`] reads the body of the chain's last step, and parses its envelope alone, no row.
 //!

@@ -42,9 +42,10 @@ use std::alloc::Global;
 
 impl<S: Alter> Desk<S> {
     /// Rebuilds the registry as of a moment, in nanoseconds since 1970-01-01T00:00:00Z: from now on
-    /// no chain ends later than that, whatever arrives. `None` takes the moment back. Returns the
-    /// work of the move. At `Err` nothing has changed: `S1`, `S2`. A crash leaves the moment that
-    /// was set; after `S1` or `S2` it may leave this one set.
+    /// the tables are those of the latest chain that ends no later than that, whatever arrives.
+    /// `None` takes the moment back. Returns the work of the move. At `Err` nothing has changed:
+    /// `S1`, `S2`. A crash leaves the moment that was set; after `S1` or `S2` it may leave this one
+    /// set.
     pub fn as_of(&mut self, alloc: Global, moment: Option<i64>) -> Result<Work, SFault>
         ensures set { OkAfter S.Store self.old self.new result
             (λ e _. DeskServes S.Store self.new (e ++ moved moment ∷ [])) }

@@ -180,7 +180,8 @@ fn next_deposit<S: Alter>(
     }
 }
 
-// The deposit of the body that is parked for a row. `S1` if none is, or it isn't that deposit.
+// The deposit of the body that is parked for a row. `S1` if none is parked for it, or the one that
+// is isn't the row's deposit.
 fn parked_deposit<S: Alter>(
     store: &mut Store<S>,
     alloc: Global,

@@ -46,8 +46,8 @@ impl<S: Alter> Desk<S> {
         self.store.manifest()
     }
 
-    /// How many objects the desk has written or removed since its store was opened; it stays at
-    /// 2^64 - 1 once there. Doesn't allocate.
+    /// How many objects the desk has put or removed since its store was opened. A removal counts
+    /// even if there was no object. It stays at 2^64 - 1 once there. Doesn't allocate.
     pub fn writes(&self) -> u64
         ensures count { result ≡ writes_of self.now }
     {
@@ -133,7 +133,8 @@ impl<S: Alter> Desk<S> {
         }
     }
 
-    /// The desk's counts, and the end of its latest chain. `S1`, `S2`.
+    /// The desk's counts, and the end of its latest chain. Reads what [`Desk::held`] reads, and the
+    /// kind of each object. `S1`, `S2`.
     #[tactic(auto, using(crate::proofs::ReadLemmas::read_stays, crate::proofs::StoreFacts::as_before_then))]
     pub fn status(&mut self, alloc: Global) -> Result<Status, SFault>
         ensures stays { Stays S.Store self.old self.new }

@@ -36,11 +36,11 @@ impl<S: Alter> Desk<S> {
     ///   the store has 1,000,000,000 receipts, or by `S5` where its body would be parked and 1,024
     ///   others are;
     /// - how many rows an amendment added; or why it wasn't taken in, by M1 to M13, `S1` or `S2`;
-    /// - that a moment was set; or `S1` or `S2`.
+    /// - that a moment was set or taken back; or why not, by `S1` or `S2`.
     ///
     /// [`Desk::writes`] grows by the writes of the work of each event that was taken in. A crash
-    /// leaves the events that were taken in, or them and one that is in doubt. `NoMemory` is
-    /// returned before the first event.
+    /// leaves the events from before the run and those that were taken in, or these and one that is
+    /// in doubt. `NoMemory` is returned before the first event, and then nothing has changed.
     pub fn run_events(
         &mut self,
         alloc: Global,

@@ -43,10 +43,10 @@
 //! `specs/Answering.antt` says what request the bytes of an input make (`Asks`), and what the
 //! response to a request is (`IsAnswered`): its text, from the first byte to the last, and what the
 //! desk's store stands for then. That is the list of events that it stood for before, followed by
-//! the arrival if one was taken. Where the response did not go out whole (`ServeFault::Write`), a
-//! beginning of that text was written; where a read failed (`ServeFault::Read`) nothing was written
-//! and the desk is as it was. A clause on what the store stands for has the premise that the store
-//! was honest, as in `esc_desk`.
+//! the arrival if one was taken. Where a write or a flush failed (`ServeFault::Write`), a beginning
+//! of that text was written, perhaps all of it; where a read failed (`ServeFault::Read`) nothing
+//! was written and the desk is as it was. A clause on what the store stands for has the premise
+//! that the store was honest, as in `esc_desk`.
 //!
 //! The contract of [`serve_one`] speaks of readers and writers of std, whose contracts give their
 //! bytes, but not whether a call failed. [`serve_one`] is [`serve`] over these. [`serve`] takes a
@@ -56,9 +56,9 @@
 //! # Cost
 //!
 //! A body is read into one buffer of its length. Nothing is read that the response doesn't need,
-//! and a response begins only when it is whole in memory, so a fault of the store is never found in
-//! the middle of one. The reports of links and of a kind's objects walk the desk's objects one at a
-//! time, and hold no map of them.
+//! except what comes with the head in one piece. A response begins only when it is whole in memory,
+//! so a fault of the store is never found in the middle of one. The reports of links and of a
+//! kind's objects walk the desk's objects one at a time, and hold no map of them.
 #![tactic(auto)]
 
 mod answer;

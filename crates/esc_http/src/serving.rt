@@ -17,13 +17,13 @@ use sqlite::Alter;
 use std::alloc::Global;
 use std::io::{Read, Write};
 
-/// Why no whole response was sent.
+/// Why a request was not served to its end.
 #[derive(Clone, Copy, Debug, PartialEq, Eq)]
 pub enum ServeFault {
     /// A read failed. Nothing was written, and nothing arrived.
     Read,
-    /// A write or a flush failed. A beginning of the response was written, and an arrival that was
-    /// taken is kept.
+    /// A write or a flush failed. A beginning of the response was written, perhaps all of it, and
+    /// an arrival that was taken is kept.
     Write,
 }
 

@@ -130,7 +130,7 @@ fn findings<S: Alter>(alloc: Global, desk: &mut Desk<S>, end: &End) -> Result<Ve
     }
 }
 
-// The fault that ends a report over a walk: the walk's own, or want of memory.
+// The fault that ends a report over a walk: the walk's own, or `S2` when out of memory.
 fn walk_fault(fault: StreamFault<SFault>) -> SFault
     requires { OfSource IsS1OrS2 fault }
     ensures told { result ≡ walk_fault fault }

@@ -47,8 +47,8 @@
 //! 2. `files_of`: each pair of files that a crash may leave holds a store of the events so far, or
 //!    of them and one of those in doubt (`HoldsOneOf`).
 //! 3. `desk_of_files` and `open_desk_at`: where that is what the files hold, the desk serves the
-//!    events so far, or them and one of those in doubt (`ServesOneOf`), and none is in doubt any
-//!    more. `reopen_desk`: the desk serves what it served before.
+//!    events so far, or them and one of those in doubt (`ServesOneOf`). After `desk_of_files` none
+//!    is in doubt any more. `reopen_desk`: the desk serves what it served before.
 //!
 //! From there on `Desk::arrive` promises that a duplicate of an earlier arrival has the first one's
 //! reply. So an arrival that was answered before the crash has the same reply after it, and one in

@@ -21,7 +21,7 @@ use std::alloc::Global;
 
 /// A desk over a new store of a manifest, made in a database without any table, index or view. At
 /// `Err` the connection is given back: `S3` where the database has one of these, `S1`, `S2`. A
-/// crash in the middle leaves no table, or the new store.
+/// crash in the middle leaves a database without any of these, or the new store.
 pub fn new_desk<S: Alter>(
     alloc: Global,
     connection: Connection<S>,

@@ -47,7 +47,7 @@ use Rattle.esc_store.specs.declared.reply.Verdict.TheVariants.{A1, A2, A3, A4, A
 use Rattle.esc_store.specs.ReplyValue.{ReceiptValue, ReplyValue, replies_from, reply_alike}
 
 -- the manifest's rows, a receipt for each distinct arrival in order, the bodies of held rows, the
--- bodies that no row lists by their digests, the moment that is set, the rows of the chain in
+-- bodies that no row lists (by their digests), the moment that is set, the rows of the chain in
 -- order, and its tables with their before-images
 pub record Kept : Type 0 where
   pub listed : List MRow

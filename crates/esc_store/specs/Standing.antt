@@ -54,7 +54,7 @@ pub record IsAtRest (s : State) (k : Kept) : Type 0 where
 abbrev pub RestsAt : State → Kept → Type 0
 RestsAt s k = HasCleanDisk s → IsTrue s.is_open → IsAtRest s k
 
--- the database of a connection is a store that keeps k
+-- the same of a connection: its database is then a store that keeps k
 unfoldable pub HoldsKept : {S : Type 0} → Ghosts S → Held S → Kept → Type 0
 HoldsKept g conn k = RestsAt (state g conn) k
 
@@ -62,7 +62,8 @@ pub record IsStanding (s : State) (manifest : List MRow) (k : Kept) : Type 0 whe
   pub listed : manifest ≡ k.listed
   pub rests : RestsAt s k
 
--- a store stands for this: its manifest is that of k, and its database holds exactly k
+-- a store stands for this: its manifest is that of k, and, if the disk gave back what was written
+-- to it and the connection is open, its database holds exactly k
 unfoldable pub Stands : {S : Type 0} → Ghosts S → Store S → Kept → Type 0
 Stands g store k = IsStanding (state g store.conn) store.manifest k
 

@@ -142,7 +142,8 @@ impl<'a, S: Alter> Change<'a, S> {
         self.store.set_steps_here(stored)
     }
 
-    /// Commits the whole change at once. At `Err` (`S1`, `S2`) nothing has changed.
+    /// Commits the whole change at once. At `Err` (`S1`, `S2`) nothing has changed, but a crash may
+    /// leave the change made.
     pub fn commit(self) -> Result<(), SFault>
         ensures manifest { OnOk result (rows_of self.exit.0.now ≡ listed_by self.entry) }
         ensures unlisted { OnErr result

@@ -12,8 +12,9 @@ use std::fmt;
 /// Why a call of the store fails (this project's profile).
 #[derive(Clone, Copy, Debug, PartialEq, Eq)]
 pub enum SFault {
-    /// The database failed for another reason than memory, or holds what no store writes; or what
-    /// is to be kept has no form in its tables (an object without a record).
+    /// The database failed for another reason than memory, or holds what no store writes; what is
+    /// to be kept has no form in its tables (an object without a record); `create`, `open` or
+    /// `migrate` was called in a transaction; or an earlier part of the same change failed.
     S1,
     /// Out of memory, here or in the database.
     S2,

@@ -11,16 +11,16 @@
 //!
 //! In: a connection over a disk of any kind (`S: Alter`), a manifest, and the parts of a change.
 //! Out: replies, bodies, steps and objects as the desk's values, or an `SFault`: `S1` the database
-//! failed, `S2` out of memory, `S3` no store of this version, `S4` no room for a receipt. `S5`, no
-//! room for a parked body, is for the desk above, which counts them.
+//! failed, `S2` out of memory, `S3` the database is not what the call is for, `S4` no room for a
+//! receipt. `S5`, no room for a parked body, is for the desk above, which counts them.
 //!
 //! | Module | What it has |
 //! |---|---|
 //! | `store`, `founding`, `opening` | a store, how it is made, and how one is found |
 //! | `migrating` | a store of version 1, which becomes one of this version |
 //! | `reads` | what a store returns of what it keeps |
-//! | `change`, `books`, `registry`, `records` | a change: its receipt, body and chain, and its objects |
-//! | `parked`, `moment` | parked bodies and the moment: what a store returns, and parts of a change |
+//! | `change`, `books`, `registry`, `records` | a change: its receipt, body, chain and objects |
+//! | `parked`, `moment` | parked bodies and the moment: reads, and parts of a change |
 //! | `listing` | a change: the rows that an amended manifest adds |
 //! | `statements` | a write or a read of the tables: one call of `esc_rows` each |
 //! | `codec` | what the tables keep, as their rows and bytes, and back |
@@ -49,10 +49,9 @@
 //!   a function of each k that the store stood for.
 //! - A change that was begun on a store of k has `Began`: nothing is committed. `Rest` says what it
 //!   has made of rows, receipts, bodies, parked bodies, moment and chain, and `HoldsNow` what of
-//!   tables and before-images.
-//!   `listed_by` are the rows of its manifest, which the store has once the change is committed.
-//!   `commit` turns both into `Stands`; at `Err`, and where a change is dropped, the store stands
-//!   for what it stood for.
+//!   tables and before-images. `commit` turns `Rest` and `HoldsNow` into `Stands`; at `Err`, and
+//!   where a change is dropped, the store stands for what it stood for. `listed_by` are the rows
+//!   that the store lists once the change is committed.
 //! - What a crash leaves is in `LeavesOnly`, `LeavesOr` and `LeavesNoMore`.
 //! - Each clause `cause` says which faults a call returns: `S3` comes of `create`, `open` and
 //!   `migrate` alone, and `S4` of `record_receipt` alone, where the store has 1,000,000,000

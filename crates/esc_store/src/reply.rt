@@ -16,8 +16,8 @@ pub enum Verdict {
     A2,
     /// A row lists the body, but it is no valid deposit: the number of its refusal, from U1 to U11.
     A3(u8),
-    /// A row lists the body, but its deposit has another id, place, resend or previous id than the
-    /// row.
+    /// A row lists the body, but its deposit has another id, place or resend than the row or, if it
+    /// is a Differential, another previous id.
     A4,
     /// No row listed the body, and it was parked until a manifest lists it.
     A5,
@@ -31,7 +31,7 @@ pub struct Reply {
     /// The number under which the sender sent it.
     pub number: String,
     pub verdict: Verdict,
-    /// The id of the manifest's row, if the body is listed.
+    /// The id of the row that listed the body when it came, if one did.
     pub id: Option<String>,
     /// The resend of that row.
     pub resend: Option<u32>,

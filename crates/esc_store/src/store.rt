@@ -179,8 +179,9 @@ impl<S: Alter> Store<S> {
         &self.manifest
     }
 
-    /// The number of objects that were written or removed by the changes that were committed since
-    /// the store was opened; it stays at 2^64 - 1 once there. Doesn't allocate.
+    /// How many objects were put or removed by the changes that were committed since the store was
+    /// opened. A removal counts even if there was no object. It stays at 2^64 - 1 once there.
+    /// Doesn't allocate.
     pub fn writes(&self) -> u64
         ensures count { result ≡ writes_of self.now }
     {

@@ -2,8 +2,8 @@
 //!
 //! They stand in a crate of their own, since a crate with tests is proved twice, with them and
 //! without. What they say is not promised by any clause: that each event is answered or refused by
-//! `S1`, and that a list that is sent again has the answers and leaves the rows of a desk that
-//! nothing happened to.
+//! `S1`, and that a list that is sent again has the answers, and leaves the rows, that it has on a
+//! desk whose disk doesn't fail.
 #![tactic(auto)]
 
 #[cfg(test)]
