@@ -48,7 +48,7 @@ with tempfile.TemporaryDirectory(prefix='walk-alone-') as top:
     libraries = re.search(r'^esc_desk: (.*)$', listed, re.M).group(1)
     with open(os.path.join(top, 'crates.txt'), 'w') as out:
         out.write(f'{listed}walk_alone: esc_desk {libraries}\n')
-    behind, between = check(top, '', ARRIVAL), check(top, ARRIVAL, '')
+    behind, between = check(top, '', '    drop(walk);\n' + ARRIVAL), check(top, ARRIVAL, '')
     if 'logic=proved' not in behind:
         sys.exit(f'walk_alone: an arrival behind a walk was refused\n{behind[-2000:]}')
     if 'borrow-e0499' not in between or 'logic=proved' in between:
