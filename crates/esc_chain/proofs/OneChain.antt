@@ -21,7 +21,7 @@ leads_same m h ok range r (s ∷ c) (t ∷ d) a b =
     λ i. e i ∷ rest i
 
 -- there is one latest chain
-latest_same : (m : List MRow) (h : Rows) (t : Option ℤ) → IsAccepted m → InRange m h → (c d : List ℕ) → IsLatestBackAt m h t c → IsLatestBackAt m h t d → c ≡ d
+pub latest_same : (m : List MRow) (h : Rows) (t : Option ℤ) → IsAccepted m → InRange m h → (c d : List ℕ) → IsLatestBackAt m h t c → IsLatestBackAt m h t d → c ≡ d
 latest_same m h t ok range [] [] a b = refl
 latest_same m h t ok range [] (q ∷ d) a b = absurd (a q d b.0 b.1)
 latest_same m h t ok range (r ∷ c) [] a b = absurd (b r c a.0 a.1)

@@ -3,6 +3,7 @@
 ghost use Rattle.esc_chain.specs.Laws.{
   OneLatestChain,
   OneLatestChainAt,
+  ChainsAreOfRows,
   LatestChainsAreHeldRows,
   LatestChainsAtAreHeldRows,
   OneListOfLines,
@@ -18,6 +19,13 @@ pub fn latest_chain_is_one()
 /// which rows are held. There is nothing to run: a caller calls it for what it ensures.
 pub fn latest_chain_at_is_one()
     ensures { OneLatestChainAt }
+{}
+
+/// The order in which a manifest lists its rows plays no part: two manifests that list the same
+/// rows, of which the same are held, have latest chains of the same rows, up to a moment if there
+/// is one. There is nothing to run: a caller calls it for what it ensures.
+pub fn chains_are_of_rows()
+    ensures { ChainsAreOfRows }
 {}
 
 /// The rows of the latest chain are held; each occurs once, and there are at most 4,096. There is

@@ -40,7 +40,9 @@
 //!
 //! Laws without a body say what follows from the definitions alone: [`latest_chain_is_one`],
 //! [`latest_chain_rows_are_held`], the same two up to a moment, [`latest_chain_at_is_one`] and
-//! [`latest_chain_at_rows_are_held`], and [`gap_lines_are_one`].
+//! [`latest_chain_at_rows_are_held`], and [`gap_lines_are_one`]. By [`chains_are_of_rows`], two
+//! manifests that list the same rows, in whatever order, have latest chains of the same rows where
+//! the same are held.
 #![tactic(auto)]
 
 mod base;
@@ -60,8 +62,8 @@ pub use gap::{Blocker, GapLine, Id, ListedPlace, State};
 pub use held::Held;
 pub use latest::{latest_chain, latest_chain_at};
 pub use laws::{
-    gap_lines_are_one, latest_chain_at_is_one, latest_chain_at_rows_are_held, latest_chain_is_one,
-    latest_chain_rows_are_held,
+    chains_are_of_rows, gap_lines_are_one, latest_chain_at_is_one, latest_chain_at_rows_are_held,
+    latest_chain_is_one, latest_chain_rows_are_held,
 };
 pub use lines::{gaps, gaps_at};
 pub use revision::used;

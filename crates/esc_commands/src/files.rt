@@ -31,11 +31,12 @@ pub fn stop_at(rt: &HostRuntime, path: &str, error: &Error) -> Stop {
     }
 }
 
-/// Whether there is no file at a path.
+/// Whether there is no file at a path: nothing of that name, or a plain file where the path has a
+/// folder.
 pub fn is_missing(rt: &HostRuntime, path: &str) -> bool {
     match fs::metadata(rt, path) {
         Ok(_) => false,
-        Err(error) => error.kind() == ErrorKind::NotFound,
+        Err(error) => matches!(error.kind(), ErrorKind::NotFound | ErrorKind::NotADirectory),
     }
 }
 
@@ -50,15 +51,14 @@ pub fn check_access(rt: &HostRuntime, path: &str) -> Result<(), Stop> {
 /// The bytes of a plain file, or of one that a link leads to: at most one more than `most`. So a
 /// file that is too long shows in the length of what was read, and its end is not waited for.
 pub fn read_file(rt: &HostRuntime, path: &str, most: u64) -> Result<Vec<u8>, Stop> {
-    plain_length(rt, path, fs::metadata(rt, path))?;
+    check_plain(rt, path, fs::metadata(rt, path))?;
     read_front(rt, path, most)
 }
 
-/// The body in a plain file, which may not be a link. `None` if the file is too long for a body.
+/// The body in a plain file, which may not be a link. `None` if the file can be read, and is too
+/// long for a body.
 pub fn read_body(rt: &HostRuntime, path: &str) -> Result<Option<Vec<u8>>, Stop> {
-    if plain_length(rt, path, fs::symlink_metadata(rt, path))? > MOST_BYTES {
-        return Ok(None);
-    }
+    check_plain(rt, path, fs::symlink_metadata(rt, path))?;
     let body = read_front(rt, path, MOST_BYTES)?;
     if body.len() as u64 > MOST_BYTES {
         Ok(None)
@@ -67,15 +67,15 @@ pub fn read_body(rt: &HostRuntime, path: &str) -> Result<Option<Vec<u8>>, Stop> 
     }
 }
 
-// The length of what was found at a path, which has to be a plain file: a pipe would be waited for
-// until somebody writes it, and a device may have no end.
-fn plain_length(
+// What was found at a path has to be a plain file: a pipe would be waited for until somebody writes
+// it, and a device may have no end.
+fn check_plain(
     rt: &HostRuntime,
     path: &str,
     found: Result<fs::Metadata, Error>,
-) -> Result<u64, Stop> {
+) -> Result<(), Stop> {
     match found {
-        Ok(found) if found.is_file() => Ok(found.len()),
+        Ok(found) if found.is_file() => Ok(()),
         Ok(_) => Err(stop_at(rt, path, &Error::from(ErrorKind::Unsupported))),
         Err(error) => Err(stop_at(rt, path, &error)),
     }

@@ -52,6 +52,7 @@ impl fmt::Display for Stop {
             Stop::Unreadable(path) => write!(f, "E1 {}", OneLine(path.as_str())),
             Stop::Manifest(MFault::NoMemory) => f.write_str("S2"),
             Stop::Manifest(fault) => write!(f, "{fault}"),
+            Stop::Moment(word) if word.is_empty() => f.write_str("E3 (an empty moment)"),
             Stop::Moment(word) => write!(f, "E3 {}", OneLine(word.as_str())),
             Stop::Store(fault) => write!(f, "{fault}"),
         }

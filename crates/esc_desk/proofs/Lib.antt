@@ -21,6 +21,7 @@ pub mod ReadLemmas
 pub mod Remembering
 pub mod RunLemmas
 pub mod SameHeld
+pub mod SameRows
 pub mod StoreFacts
 pub mod WalkSteps
 pub mod Walks

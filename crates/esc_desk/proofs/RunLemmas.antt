@@ -21,7 +21,7 @@ use Rattle.esc_events.specs.Events.EventValue.{listed, arrived, moved, arrived_e
 use Rattle.esc_events.specs.Receipts.{alike, distinct, receipt_for, receipts_after, receipts_of, reply_to}
 use Rattle.esc_events.specs.Works.{IsWorkOf}
 use Rattle.esc_desk.specs.Asked.{event_of, is_taken, taken_by, taken_in}
-use Rattle.esc_desk.specs.Calls.{DeskLeaves, DeskLeavesEvent}
+use Rattle.esc_desk.specs.Calls.{DeskLeaves, DeskLeavesEvent, HadRoom, HadPlace}
 use Rattle.esc_desk.specs.Crashes.{doubtful_by, doubtful_after}
 use Rattle.esc_desk.specs.Outcomes.{IsOutcomeOf, AreOutcomesOf, AreWorksOf, writes_in, HasWorked}
 use Rattle.esc_desk.specs.Running.{IsAnswer, AreAnswers, Ran, Takes}
@@ -63,7 +63,7 @@ reply_kept false e x a r is = ap (λ (k : List EventValue). reply_to sha256 read
 -- ---- one more event of a run
 
 answer_kept : (e all more : List EventValue) → ((a : ArrivalValue) (r : ReplyValue) → reply_to sha256 reading all a ≡ Some r → reply_to sha256 reading more a ≡ Some r) → (x : Event) (o : EventOutcome) → IsAnswer e all x o → IsAnswer e more x o
-answer_kept e all more keep (Arrival a) (Arrived (Done r)) is = keep a r is
+answer_kept e all more keep (Arrival a) (Arrived (Done r)) is = (keep a r is.0, is.1, is.2)
 answer_kept e all more keep (Arrival a) (Arrived (Lost f)) is = is
 answer_kept e all more keep (Arrival a) (Amended r) is = is
 answer_kept e all more keep (Arrival a) (Moved r) is = is
@@ -156,8 +156,8 @@ module _ {S : Type 0} (g : Ghosts S) where
   leaves_without desk e doubtful left = subst (λ (k : List EventValue). DeskLeaves g desk k doubtful) (sym (append-nil e)) left
 
   -- an answer to an arrival is one to the same arrival
-  pub answers_same : (desk : Desk S) (e : List EventValue) (a b : ArrivalValue) (r : ReplyValue) → a ≡ b → Answers g desk e a r → Takes g desk e (Arrival b) (Arrived (Done r))
-  answers_same desk e a b r same told = subst (λ (x : ArrivalValue). Takes g desk e (Arrival x) (Arrived (Done r))) same (record { serves = told.serves; answer = told.told })
+  pub answers_same : (desk : Desk S) (e : List EventValue) (a b : ArrivalValue) (r : ReplyValue) → a ≡ b → Answers g desk e a r → HadRoom e a → HadPlace e a → Takes g desk e (Arrival b) (Arrived (Done r))
+  answers_same desk e a b r same told room place = subst (λ (x : ArrivalValue). Takes g desk e (Arrival x) (Arrived (Done r))) same (record { serves = told.serves; answer = (told.told, room, place) })
 
   -- before the first event
   pub ran_none : (desk : Desk S) (before : List EventValue) → DeskServes g desk before → Ran g desk before [] []

@@ -41,7 +41,8 @@ store_of desk = desk.store
 abbrev pub IsHonestDesk : {S : Type 0} → Ghosts S → Desk S → Type 0
 IsHonestDesk g desk = IsHonest g desk.store
 
--- how many objects were written or removed since the desk's store was opened
+-- how many objects were put or removed since the desk's store was opened; a removal counts even if
+-- there was no object
 abbrev pub writes_of : {S : Type 0} → Desk S → ℕ
 writes_of desk = desk.store.writes
 

@@ -6,6 +6,7 @@ use Rattle.esc_tables.specs.Reading.{reading}
 use Rattle.esc_manifest.specs.declared.row.MRow.{MRow}
 use Rattle.esc_manifest.specs.Accepted.{IsAccepted}
 use Rattle.esc_chain.specs.Chain.{IsLatestChain}
+use Rattle.esc_chain.specs.Laws.{ListEqualRows, HoldEqualRows, rows_along}
 use Rattle.esc_apply.specs.Images.{chain_state}
 use Rattle.esc_store.specs.Kept.{Kept}
 use Rattle.esc_events.specs.Apart.{WhereApart}
@@ -62,15 +63,18 @@ AreLeftByArrivals = (m : List MRow) (l : List ArrivalValue) (k : Kept)
 
 -- ---- two lists
 
--- the same rows are listed, the same are held, the same moment is set, and no two different bodies,
--- one of either list, have the same digest
+-- no two different bodies, one of either list, have the same digest
+abbrev pub AreApart : List EventValue → List EventValue → Type 0
+AreApart e f = (a b : Coming) → Among (counted sha256 reading e) a
+    → Among (counted sha256 reading f) b → sha256 a.body ≡ sha256 b.body → a.body ≡ b.body
+
+-- the same rows are listed, in the same order, the same are held, the same moment is set, and no
+-- two different bodies, one of either list, have the same digest
 pub record HoldTheSame (e f : List EventValue) : Type 0 where
   pub listed : union e ≡ union f
   pub held : held_rows sha256 reading e ≡ held_rows sha256 reading f
   pub moment : moment_of e ≡ moment_of f
-  pub apart : (a b : Coming) → Among (counted sha256 reading e) a
-      → Among (counted sha256 reading f) b
-      → sha256 a.body ≡ sha256 b.body → a.body ≡ b.body
+  pub apart : AreApart e f
 
 -- two stores keep the same, but for the receipts and the parked bodies: the rows, the bodies, the
 -- chain, its tables and its before-images
@@ -80,9 +84,33 @@ pub record KeepTheSame (k l : Kept) : Type 0 where
   pub steps : k.steps ≡ l.steps
   pub registry : k.registry ≡ l.registry
 
--- where the same is held the same is kept, in whatever order, however often and under whatever
--- numbers the deposits came
+-- where the same rows are listed, in the same order, and the same are held, the same is kept, in
+-- whatever order, however often and under whatever numbers the deposits came
 abbrev pub SameHeldSameKept : Type 0
 SameHeldSameKept = (e f : List EventValue) (k l : Kept) → IsAccepted (union e) → HoldTheSame e f
     → WhereApart e (WhereApart f (StandsFor sha256 reading e k → StandsFor sha256 reading f l
     → KeepTheSame k l))
+
+-- ---- two lists by which the rows are listed in different orders
+
+-- the same rows are listed, in whatever order, the same are held, the same moment is set, and no
+-- two different bodies, one of either list, have the same digest
+pub record HoldTheSameRows (e f : List EventValue) : Type 0 where
+  pub listed : ListEqualRows (union e) (union f)
+  pub held : HoldEqualRows (union e) (held_rows sha256 reading e) (union f)
+      (held_rows sha256 reading f)
+  pub moment : moment_of e ≡ moment_of f
+  pub apart : AreApart e f
+
+-- two stores have the same rows along the chain, and its tables and before-images are the same
+pub record KeepTheSameTables (k l : Kept) : Type 0 where
+  pub chain : rows_along k.listed k.steps ≡ rows_along l.listed l.steps
+  pub registry : k.registry ≡ l.registry
+
+-- where the same rows are listed and held the tables are the same, in whatever order the rows were
+-- listed, and in whatever order, however often and under whatever numbers the deposits came
+abbrev pub SameRowsSameTables : Type 0
+SameRowsSameTables = (e f : List EventValue) (k l : Kept) → IsAccepted (union e)
+    → HoldTheSameRows e f
+    → WhereApart e (WhereApart f (StandsFor sha256 reading e k → StandsFor sha256 reading f l
+    → KeepTheSameTables k l))

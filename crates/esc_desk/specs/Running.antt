@@ -15,13 +15,13 @@ use Rattle.esc_events.specs.Events.{EventValue}
 use Rattle.esc_events.specs.Receipts.{reply_to}
 use Rattle.esc_desk.specs.Amendments.{AddsRows, IsAmendCause}
 use Rattle.esc_desk.specs.Asked.{taken_by, taken_in}
-use Rattle.esc_desk.specs.Calls.{IsCause}
+use Rattle.esc_desk.specs.Calls.{IsCause, HadRoom, HadPlace}
 use Rattle.esc_desk.specs.Serving.{DeskServes}
 
--- an arrival after the events e got its reply by `all`, the events in the end; or it was lost, by a
--- cause that held after e
+-- an arrival after the events e got its reply by `all`, the events in the end, and there was room
+-- for its receipt and a place for its body; or it was lost, by a cause that held after e
 abbrev pub IsReply : List EventValue → List EventValue → ArrivalValue → Outcome → Type 0
-IsReply e all a (Done r) = reply_to sha256 reading all a ≡ Some r
+IsReply e all a (Done r) = (reply_to sha256 reading all a ≡ Some r) × HadRoom e a × HadPlace e a
 IsReply e all a (Lost f) = IsCause e a f
 
 -- the outcome of an event after the events e is right, where `all` are the events in the end: an

@@ -51,7 +51,12 @@ ghost use Rattle.esc_events.specs.Events.EventValue.{listed};
 ghost use Rattle.esc_events.specs.Known.{IsKnown};
 ghost use Rattle.esc_events.specs.Plans.{HasDepositsPast, IsMovedFrom, IsCostOfMove, moved_by};
 ghost use Rattle.esc_events.specs.Stands.{StandsFor};
-ghost use Rattle.esc_desk.specs.Amendments.{IsAmended, IsAmendCause, IsAmendFault, DeskLeavesAmended};
+ghost use Rattle.esc_desk.specs.Amendments.{
+  IsAmended,
+  IsAmendCause,
+  IsAmendFault,
+  DeskLeavesAmended,
+};
 ghost use Rattle.esc_desk.specs.Calls.{
   writes_of,
   After,

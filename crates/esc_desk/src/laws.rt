@@ -13,7 +13,12 @@ ghost use Rattle.esc_events.specs.Events.{union, comings, arrivals, manifest_the
 ghost use Rattle.esc_events.specs.Events.EventValue.{listed};
 ghost use Rattle.esc_events.specs.Receipts.{distinct, reply_to};
 ghost use Rattle.esc_events.specs.Stands.{StandsFor};
-ghost use Rattle.esc_desk.specs.Laws.{TablesAreOfEvents, AreLeftByArrivals, SameHeldSameKept};
+ghost use Rattle.esc_desk.specs.Laws.{
+  TablesAreOfEvents,
+  AreLeftByArrivals,
+  SameHeldSameKept,
+  SameRowsSameTables,
+};
 ghost use Rattle.esc_desk.specs.Worked.{
   itself,
   reads_full,
@@ -26,7 +31,7 @@ ghost use Rattle.esc_desk.specs.Worked.{
   came,
 };
 
-use esc_chain::latest_chain_at_is_one;
+use esc_chain::{chains_are_of_rows, latest_chain_at_is_one};
 use esc_events::migrated_store_stands;
 use esc_store::Store;
 use sqlite::Alter;
@@ -53,14 +58,25 @@ pub fn tables_are_of_events()
     ensures { TablesAreOfEvents }
 {}
 
-/// Two lists of events by which the same rows are listed and held and the same moment is set leave
-/// the same chain, tables and before-images, in whatever order, however often and under whatever
-/// numbers the deposits came. Premise: no two different bodies of the two lists have the same
-/// digest.
+/// Two lists of events by which the same rows are listed in the same order, the same are held and
+/// the same moment is set leave the same bodies, chain, tables and before-images, in whatever
+/// order, however often and under whatever numbers the deposits came. (`same_rows_same_tables` is
+/// of rows that are listed in different orders.) Premise: no two different bodies of the two lists
+/// have the same digest.
 pub fn same_held_same_kept()
     ensures { SameHeldSameKept }
 {
     latest_chain_at_is_one();
+}
+
+/// Two lists of events by which the same rows are listed and held and the same moment is set leave
+/// the same rows along the chain, tables and before-images, in whatever order the rows were listed,
+/// and in whatever order, however often and under whatever numbers the deposits came. Premise: no
+/// two different bodies of the two lists have the same digest.
+pub fn same_rows_same_tables()
+    ensures { SameRowsSameTables }
+{
+    chains_are_of_rows();
 }
 
 /// The definitions at some lists of arrivals: a duplicate has the first reply, the same body under
@@ -107,7 +123,8 @@ pub fn worked_migration()
     ensures answered { reply_to itself reads_either migrated diff_2
         ≡ Some (lost_reply 2 (codes "2")) }
     ensures not_kept { parked_body itself reads_either migrated (codes "d2") ≡ None }
-    ensures not_held { held_body itself reads_either (migrated ++ listed two_rows ∷ []) 1 ≡ None }
+    ensures not_held { held_body itself reads_either (migrated ++ listed two_rows ∷ []) 1
+        ≡ None }
     ensures again { reply_to itself reads_either amended_then_again diff_2
         ≡ Some (lost_reply 2 (codes "2")) }
     ensures held { held_body itself reads_either amended_then_again 1 ≡ Some (codes "d2") }

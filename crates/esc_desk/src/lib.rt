@@ -124,7 +124,8 @@ pub use esc_store::{N1, Number, Reply, SFault, Verdict, number};
 pub use event::{Event, EventOutcome, Outcome};
 pub use laws::{
     migrated_store_serves, new_store_stands_for_its_manifest, same_held_same_kept,
-    stands_for_manifest_and_arrivals, tables_are_of_events, worked_migration, worked_replies,
+    same_rows_same_tables, stands_for_manifest_and_arrivals, tables_are_of_events,
+    worked_migration, worked_replies,
 };
 pub use status::{End, Status};
 pub use walk::{Pages, Walk};

@@ -1,7 +1,14 @@
 //! Runs: lists of events, one after another.
 
 ghost use Rattle.std.specs.Prelude.{◌≡◌, length, IfOk, OnErr};
-ghost use Rattle.esc_desk.specs.Asked.{as_event, as_events, as_outcome, as_outcomes, taken_by, taken_in};
+ghost use Rattle.esc_desk.specs.Asked.{
+  as_event,
+  as_events,
+  as_outcome,
+  as_outcomes,
+  taken_by,
+  taken_in,
+};
 ghost use Rattle.esc_desk.specs.Calls.{
   After,
   OkAfter,

@@ -33,8 +33,8 @@ use Rattle.esc_store.specs.Tables.{IsStore, IsStoreDatabase, HoldsTables}
 
 -- ---- a store
 
--- its connection, the rows that it lists, and how many objects were written or removed since it was
--- opened
+-- its connection, the rows that it lists, and how many objects were put or removed since it was
+-- opened; a removal counts even if there was no object
 abbrev pub connection_of : {S : Type 0} → Store S → Held S
 connection_of store = store.conn
 
@@ -139,7 +139,7 @@ store_in change = change.store.now
 abbrev pub store_name : {S L : Type 0} → Change S L → GName
 store_name change = change.store.ghost_name
 
--- how many objects a change has written or removed so far
+-- how many objects a change has put or removed so far, counted in the same way
 abbrev pub count_of : {S L : Type 0} → Change S L → ℕ
 count_of change = change.count
 

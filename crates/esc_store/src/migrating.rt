@@ -148,7 +148,8 @@ fn migrate_here<S: Alter>(alloc: Global, conn: &mut Connection<S>) -> Result<Man
     ensures settled { OnOk result (IsSettled (state S.Store conn.old)) }
     ensures stands { IfOk result (λ manifest. (k : Kept) → SeesFirst (state S.Store conn.old) k
         → HasCleanDisk (state S.Store conn.new) → IsStanding (state S.Store conn.new) manifest k) }
-    ensures left { OnOk result ((k : Kept) → IsFirstStore (state S.Store conn.old).committed.trees k
+    ensures left { OnOk result ((k : Kept)
+        → IsFirstStore (state S.Store conn.old).committed.trees k
         → HasCleanDisk (state S.Store conn.new)
         → (trees : Trees) → (state S.Store conn.new).may_leave trees → IsStore trees k) }
     ensures never { IfErr result (λ fault. fault ≡ SFault.S3

@@ -198,7 +198,8 @@ impl<S: Alter> Store<S> {
         ensures same_reference { IfOk result (λ change. store_name change
             ≡ self.entry.ghost_name) }
         ensures count { IfOk result (λ change. count_of change ≡ 0) }
-        ensures writes { IfOk result (λ change. writes_of (store_in change) ≡ writes_of self.old) }
+        ensures writes { IfOk result (λ change. writes_of (store_in change)
+            ≡ writes_of self.old) }
         ensures manifest { IfOk result (λ change. rows_of (store_in change)
             ≡ rows_of self.old) }
         ensures listed { IfOk result (λ change. listed_by change ≡ rows_of self.old) }

@@ -1,8 +1,9 @@
 //! Lists of events, and what a desk gives for them.
 //!
-//! One is over a new store. The first manifest lists F1, D3 and D2 at resend 1, so D2 and `abc` are parked. The amendment
-//! lists D2, which is held from then on; `abc` stays parked. A moment between D2 and D3 takes D3's
-//! step back. D2 at resend 1 comes under it, and D3 stands on that once the moment is taken back.
+//! One is over a new store. The first manifest lists F1, D3 and D2 at resend 1, so D2 and `abc` are
+//! parked. The amendment lists D2, which is held from then on; `abc` stays parked. A moment between
+//! D2 and D3 takes D3's step back. D2 at resend 1 comes under it, and D3 stands on that once the
+//! moment is taken back.
 //!
 //! The other is over a store of version 1, which is migrated. Of the bodies that it did not keep
 //! `abc` comes again before its row, and D2 after it.

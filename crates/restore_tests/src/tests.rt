@@ -22,6 +22,7 @@ use std::fs;
 use std::net::{Net, TcpListener, TcpStream};
 use std::process::Abort;
 use std::test::Fail;
+use streams::Pipe;
 
 const HEADING: &str = "receipt,number,verdict,fault,id,resend,copy,orphans\n";
 
@@ -93,8 +94,8 @@ fn check(
     row: Row<'_>,
 ) -> Result<(), Fail> {
     let words = words_of(rt, row.0)?;
-    let mut said: Vec<u8> = Vec::new(rt.alloc());
-    let mut told: Vec<u8> = Vec::new(rt.alloc());
+    let mut said = Pipe::new(rt);
+    let mut told = Pipe::new(rt);
     let status = run_words(rt, handles, &words, &mut said, &mut told);
     compare(handles, row, status, &said, &told)
 }
@@ -108,17 +109,19 @@ fn words_of(rt: &HostRuntime, line: &str) -> Result<Vec<String>, Fail> {
     Ok(words)
 }
 
-// Compares status and streams.
+// Compares status and streams, unless memory was refused.
 fn compare(
     handles: &impl Abort,
     row: Row<'_>,
     status: u8,
-    said: &[u8],
-    told: &[u8],
+    said: &Pipe,
+    told: &Pipe,
 ) -> Result<(), Fail> {
+    told.check_memory()?;
+    said.check_memory()?;
     let (line, want, out, err) = row;
-    assert_eq!(handles; str::from_utf8(told)?, err, "{line}");
-    assert_eq!(handles; str::from_utf8(said)?, out, "{line}");
+    assert_eq!(handles; str::from_utf8(&told.text)?, err, "{line}");
+    assert_eq!(handles; str::from_utf8(&said.text)?, out, "{line}");
     assert_eq!(handles; status, want, "{line}");
     Ok(())
 }

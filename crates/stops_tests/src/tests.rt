@@ -1,8 +1,9 @@
-//! Stops at the calls of a file.
+//! Stops at the calls of a file, and files that are closed and opened again.
 
 mod events;
 mod files;
 mod migrating;
+mod reopening;
 mod stops;
 mod story;
 

@@ -264,46 +264,79 @@ fn steps_note_what_stood_before(rt: HostRuntime) {
 // The work of a move, and the writes that a registry counts.
 fn push_counted(text: &mut String, work: &Work, writes: u64) -> Result<(), NoMemory> {
     push_work(text, work)?;
-    write!(text, ", {writes}")?;
+    write!(text, ", {writes}:")?;
     Ok(())
 }
 
-// A registry with F1, D2 and D3 that then lets this number of calls through.
-fn stopping_registry(rt: &impl Abort, alloc: Global, calls: u32) -> Result<Stopping, NoMemory> {
+// A registry with this chain that then lets this number of calls through.
+fn stopping_registry(
+    rt: &impl Abort,
+    alloc: Global,
+    chain: &str,
+    calls: u32,
+) -> Result<Stopping, NoMemory> {
     let mut inner = MemRegistry::new(alloc);
-    go(rt, alloc, &mut inner, "", "F1 D2 D3")?;
+    go(rt, alloc, &mut inner, "", chain)?;
     Ok(Stopping { inner, left: calls })
 }
 
-// The work of a move that undoes two steps and applies two.
-fn stopping_move(rt: &impl Abort, alloc: Global, r: &mut Stopping) -> Result<Work, Stopped> {
-    go(rt, alloc, r, "F1 D2 D3", "F1 D2-resent D3")
-}
-
-// What is said of that move if this number of calls is let through, with the writes that the
-// registry counts.
-fn moved_within(rt: &impl Abort, alloc: Global, calls: u32) -> Result<String, NoMemory> {
-    let mut r = stopping_registry(rt, alloc, calls)?;
+// What is said of a move if this number of calls is let through: its work, with the writes that the
+// registry counts, and the domains. At a fault nothing is said of what the registry has.
+fn moved_within(
+    rt: &impl Abort,
+    alloc: Global,
+    old: &str,
+    new: &str,
+    calls: u32,
+) -> Result<String, NoMemory> {
+    let mut r = stopping_registry(rt, alloc, old, calls)?;
     let mut text = String::new(alloc);
-    match stopping_move(rt, alloc, &mut r) {
-        Ok(work) => push_counted(&mut text, &work, r.writes())?,
+    match go(rt, alloc, &mut r, old, new) {
+        Ok(work) => {
+            push_counted(&mut text, &work, r.writes())?;
+            push_domains(&mut text, alloc, &mut r.inner)?;
+        }
         Err(Stopped::Here) => text.push_str("stopped")?,
         Err(Stopped::NoMemory) => return Err(NoMemory),
     }
     Ok(text)
 }
 
-// How many calls a move makes, and what is said of it if all are let through. Back: for each step
-// `take_undo` and one write; forward: three calls for each of three mentions.
-const CALLS: u32 = 13;
+/// The old chain, the new chain, how many calls the move makes, and what is said of it if all are
+/// let through. Back: for each step `take_undo` and one write for each of its keys, or one `clear`
+/// for the whole chain; forward: three calls for each mention.
+static STOPPED: [(&str, &str, u32, &str); 3] = [
+    // Two steps of one key back, three mentions forward.
+    (
+        "F1 D2 D3",
+        "F1 D2-resent D3",
+        13,
+        "kept, 2 back, 2 on, 5 writes, 10: b=R1 c=R1\n",
+    ),
+    // The clear alone: no later call fails in its place if its fault is not answered.
+    ("F1 D2 D3", "", 1, "cleared, 0 back, 0 on, 0 writes, 5:\n"),
+    // The clear, and three mentions forward.
+    (
+        "F1 D2",
+        "F2",
+        10,
+        "cleared, 0 back, 1 on, 3 writes, 7: z=R1\n",
+    ),
+];
 
-const WHOLE: &str = "kept, 2 back, 2 on, 5 writes, 10";
+// A fault at each call of a move, and at none.
+fn assert_stops(rt: &impl Abort, alloc: Global, old: &str, new: &str, calls: u32, whole: &str) {
+    for through in 0..=calls {
+        let text = if through < calls { "stopped" } else { whole };
+        let moved = moved_within(rt, alloc, old, new, through);
+        assert_told(rt, (old, new, through), moved, text);
+    }
+}
 
 #[test]
 fn a_fault_of_the_registry_is_answered(rt: HostRuntime) {
-    for calls in 0..=CALLS {
-        let text = if calls < CALLS { "stopped" } else { WHOLE };
-        assert_told(&rt, calls, moved_within(&rt, rt.alloc(), calls), text);
+    for (old, new, calls, whole) in &STOPPED {
+        assert_stops(&rt, rt.alloc(), old, new, *calls, whole);
     }
 }
 

@@ -11,8 +11,9 @@ mod moments;
 use super::asserts::assert_told;
 use esc_bundle::NoMemory;
 use esc_chain::{
-    Base, GapLine, Held, base_of, gap_lines_are_one, gaps, latest_chain, latest_chain_at_is_one,
-    latest_chain_at_rows_are_held, latest_chain_is_one, latest_chain_rows_are_held, used,
+    Base, GapLine, Held, base_of, chains_are_of_rows, gap_lines_are_one, gaps, latest_chain,
+    latest_chain_at_is_one, latest_chain_at_rows_are_held, latest_chain_is_one,
+    latest_chain_rows_are_held, used,
 };
 use esc_envelope::{DepositType, Place, watermark_text};
 use esc_manifest::{MFault, Manifest, read_manifest};
@@ -265,6 +266,7 @@ fn bases_used_and_held_rows(rt: HostRuntime) {
     gap_lines_are_one();
     latest_chain_at_is_one();
     latest_chain_at_rows_are_held();
+    chains_are_of_rows();
 }
 
 // A manifest, the rows that are held in the order of their arrivals, and the lines of the gaps.

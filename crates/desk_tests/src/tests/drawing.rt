@@ -344,7 +344,8 @@ fn draw_events(
     Ok(events)
 }
 
-/// The row that is listed first: that of a Full, since a row that contradicts itself makes no store.
+/// The row that is listed first: that of a Full, since a row that contradicts itself makes no
+/// store.
 pub fn draw_first(chance: &mut Chance, rows: &[Row]) -> Option<Row> {
     match rows.get(chance.low_below(BODIES)) {
         Some(row) if row.header.place.form == Form::Full => Some(*row),

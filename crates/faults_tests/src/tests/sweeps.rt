@@ -24,7 +24,8 @@ use std::test::Fail;
 /// When a call fails.
 #[derive(Clone, Copy)]
 struct Phase {
-    /// While a store is made or migrated and takes the list, or while one that took it is opened and takes it.
+    /// While a store is made or migrated and takes the list, or while one that took it is opened
+    /// and takes it.
     is_new: bool,
     of_the_log: bool,
     room: Room,

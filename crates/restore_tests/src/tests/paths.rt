@@ -1,26 +1,46 @@
-//! Paths that are links, and an empty path.
+//! Paths that are links, and empty words.
 
 use super::bodies::{F1, F5, FULLS};
-use super::{Scene, check_all, compare, set_up, words_of};
+use super::streams::Pipe;
+use super::{Row, Scene, check_all, compare, set_up};
 use esc_commands::run_words;
 use std::fs;
 use std::os::unix::fs::symlink;
 use std::test::Fail;
 
-#[test]
-fn an_empty_path_is_told(rt: HostRuntime) -> Result<(), Fail> {
-    let mut words = words_of(&rt, "init --store absent.db --manifest")?;
-    words.push(String::new(rt.alloc()))?;
-    let mut said: Vec<u8> = Vec::new(rt.alloc());
-    let mut told: Vec<u8> = Vec::new(rt.alloc());
-    let status = run_words(&rt, &rt, &words, &mut said, &mut told);
-    let row = (
-        "--manifest and an empty word",
+/// Lines with an empty word, where two spaces meet or at the end.
+const EMPTY_WORDS: [Row<'static>; 4] = [
+    (
+        "init --store absent.db --manifest ",
         3,
         "",
         "E1 (an empty path)\n",
-    );
-    compare(&rt, row, status, &said, &told)
+    ),
+    // No file has an empty path, so there is no store.
+    ("take --store  absent", 3, "", "S3\n"),
+    ("report --store  status", 3, "", "S3\n"),
+    ("as-of --store absent.db ", 1, "", "E3 (an empty moment)\n"),
+];
+
+// The words of a line, each but the last with one space after it.
+fn words_between(rt: &HostRuntime, line: &str) -> Result<Vec<String>, Fail> {
+    let mut words = Vec::new(rt.alloc());
+    for word in line.split(' ') {
+        words.push(String::from_str(rt.alloc(), word)?)?;
+    }
+    Ok(words)
+}
+
+#[test]
+fn empty_words_are_told(rt: HostRuntime) -> Result<(), Fail> {
+    for row in EMPTY_WORDS {
+        let words = words_between(&rt, row.0)?;
+        let mut said = Pipe::new(&rt);
+        let mut told = Pipe::new(&rt);
+        let status = run_words(&rt, &rt, &words, &mut said, &mut told);
+        compare(&rt, row, status, &said, &told)?;
+    }
+    Ok(())
 }
 
 /// Links are followed, but for those in the folder that is taken. One that leads to nothing can't

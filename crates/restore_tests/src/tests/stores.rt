@@ -44,6 +44,14 @@ const STORES: Scene = Scene {
             "",
             "S3\n",
         ),
+        // A file has nothing below it, so there is no store.
+        (
+            "take --store stores/text.db/a.db stores/nowhere",
+            3,
+            "",
+            "S3\n",
+        ),
+        ("report --store stores/text.db/a.db status", 3, "", "S3\n"),
         ("take --store stores/text.db stores/nowhere", 3, "", "S1\n"),
         ("take --store stores stores/nowhere", 3, "", "E1 stores\n"),
         ("take --store stores/empty.db stores/nowhere", 3, "", "S3\n"),

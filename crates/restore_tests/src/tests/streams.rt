@@ -10,20 +10,63 @@ use std::net::{Net, TcpListener, TcpStream};
 use std::process::Abort;
 use std::test::Fail;
 
-/// A stream that has room for a number of bytes, and then fails.
-#[derive(Drop)]
-pub struct Narrow {
-    pub text: Vec<u8>,
-    pub room: usize,
+/// Whether a text says at its end that memory was refused, as a line on standard error or as a
+/// response.
+pub fn tells_s2(text: &[u8]) -> bool {
+    text.ends_with(b"S2\n")
 }
 
-impl Write for Narrow {
+/// A pipe that keeps what is written to it as long as it has room, and then is broken.
+#[derive(Drop)]
+pub struct Pipe {
+    pub text: Vec<u8>,
+    room: usize,
+    /// Whether memory was refused to the pipe, or it was to take `S2`, room or no room for it.
+    lacks_memory: bool,
+}
+
+impl Pipe {
+    /// A pipe with room for whatever is written.
+    pub fn new(rt: &HostRuntime) -> Pipe {
+        Pipe::narrow(rt, usize::MAX)
+    }
+
+    /// A pipe with room for a number of bytes.
+    pub fn narrow(rt: &HostRuntime, room: usize) -> Pipe {
+        Pipe {
+            text: Vec::new(rt.alloc()),
+            room,
+            lacks_memory: false,
+        }
+    }
+
+    /// Notes whether an error is want of memory.
+    pub fn note(&mut self, error: &io::Error) {
+        if error.kind() == io::ErrorKind::OutOfMemory {
+            self.lacks_memory = true;
+        }
+    }
+
+    /// Fails where memory was refused: what was written then can't be compared.
+    pub fn check_memory(&self) -> Result<(), Fail> {
+        if self.lacks_memory {
+            return Err(Fail::new("out of memory"));
+        }
+        Ok(())
+    }
+}
+
+impl Write for Pipe {
     fn write(&mut self, buf: &[u8]) -> io::Result<usize> {
+        if tells_s2(buf) {
+            self.lacks_memory = true;
+        }
         if self.room == 0 {
             return Err(io::Error::from(io::ErrorKind::BrokenPipe));
         }
         let count = self.room.min(buf.len());
         if self.text.extend_from_slice(&buf[..count]).is_err() {
+            self.lacks_memory = true;
             return Err(io::Error::from(io::ErrorKind::OutOfMemory));
         }
         self.room -= count;
@@ -43,16 +86,10 @@ pub fn check_narrow(
     rooms: (usize, usize),
 ) -> Result<(), Fail> {
     let words = words_of(rt, row.0)?;
-    let mut out = Narrow {
-        text: Vec::new(rt.alloc()),
-        room: rooms.0,
-    };
-    let mut err = Narrow {
-        text: Vec::new(rt.alloc()),
-        room: rooms.1,
-    };
+    let mut out = Pipe::narrow(rt, rooms.0);
+    let mut err = Pipe::narrow(rt, rooms.1);
     let status = run_words(rt, handles, &words, &mut out, &mut err);
-    compare(handles, row, status, &out.text, &err.text)
+    compare(handles, row, status, &out, &err)
 }
 
 const AMPLE: usize = 10_000;
@@ -176,13 +213,13 @@ fn standard_error_fails(rt: HostRuntime) -> Result<(), Fail> {
 struct Removing<'a> {
     rt: &'a HostRuntime,
     path: &'a str,
-    text: Vec<u8>,
+    pipe: Pipe,
 }
 
 impl Write for Removing<'_> {
     fn write(&mut self, buf: &[u8]) -> io::Result<usize> {
         let _ = fs::remove_file(self.rt, self.path);
-        self.text.write(buf)
+        self.pipe.write(buf)
     }
 
     fn flush(&mut self) -> io::Result<()> {
@@ -201,11 +238,11 @@ fn check_removing(
     let mut out = Removing {
         rt,
         path,
-        text: Vec::new(rt.alloc()),
+        pipe: Pipe::new(rt),
     };
-    let mut told: Vec<u8> = Vec::new(rt.alloc());
+    let mut told = Pipe::new(rt);
     let status = run_words(rt, handles, &words, &mut out, &mut told);
-    compare(handles, row, status, &out.text, &told)
+    compare(handles, row, status, &out.pipe, &told)
 }
 
 /// The second file is removed once the heading is written.

@@ -1,6 +1,7 @@
 //! How long clients are waited for, by a clock that moves only while one is waited for.
 
 use super::bodies::WITH_SAMPLE;
+use super::streams::{Pipe, tells_s2};
 use esc_client::{Client, Patience, Timed};
 use esc_commands::serve_streams;
 use esc_desk::Desk;
@@ -14,21 +15,39 @@ use std::time::{Clock, Duration};
 
 /// A clock that the clients of a test set.
 #[derive(Drop)]
-struct Hands(Cell<Duration>);
+struct Hands {
+    time: Cell<Duration>,
+    /// Whether a client was to take `S2`: what is waited for then can't be compared.
+    has_told_s2: Cell<bool>,
+}
 
 impl Hands {
+    fn new() -> Hands {
+        Hands {
+            time: Cell::new(Duration::ZERO),
+            has_told_s2: Cell::new(false),
+        }
+    }
+
     fn advance(&self, time: Duration) {
-        self.0.set(self.0.get().saturating_add(time));
+        self.time.set(self.time.get().saturating_add(time));
+    }
+
+    fn check_memory(&self) -> Result<(), Fail> {
+        if self.has_told_s2.get() {
+            return Err(Fail::new("out of memory"));
+        }
+        Ok(())
     }
 }
 
 impl Clock for Hands {
     fn monotonic(&self) -> io::Result<Duration> {
-        Ok(self.0.get())
+        Ok(self.time.get())
     }
 
     fn since_1970(&self) -> io::Result<Duration> {
-        Ok(self.0.get())
+        Ok(self.time.get())
     }
 }
 
@@ -40,8 +59,6 @@ struct Slow<'a> {
     at_once: usize,
     /// What it still has to give.
     rest: &'a [u8],
-    /// What it took.
-    text: Vec<u8>,
     /// How long one read or write waits for it at most.
     limit: Cell<Duration>,
 }
@@ -82,12 +99,11 @@ impl Read for Slow<'_> {
 
 impl Write for Slow<'_> {
     fn write(&mut self, buf: &[u8]) -> io::Result<usize> {
-        self.wait()?;
-        let count = self.at_once.min(buf.len());
-        if self.text.extend_from_slice(&buf[..count]).is_err() {
-            return Err(io::Error::from(io::ErrorKind::OutOfMemory));
+        if tells_s2(buf) {
+            self.hands.has_told_s2.set(true);
         }
-        Ok(count)
+        self.wait()?;
+        Ok(self.at_once.min(buf.len()))
     }
 
     fn flush(&mut self) -> io::Result<()> {
@@ -96,13 +112,12 @@ impl Write for Slow<'_> {
 }
 
 // A client that has given nothing yet.
-fn slow_client<'a>(rt: &HostRuntime, hands: &'a Hands, millis: u64, at_once: usize) -> Slow<'a> {
+fn slow_client(hands: &Hands, millis: u64, at_once: usize) -> Slow<'_> {
     Slow {
         hands,
         pause: Duration::from_millis(millis),
         at_once,
         rest: b"",
-        text: Vec::new(rt.alloc()),
         limit: Cell::new(Duration::MAX),
     }
 }
@@ -135,16 +150,18 @@ const HEADS: [(u64, usize, &str, u64); 5] = [
 fn a_head_is_waited_for_as_a_whole(rt: HostRuntime) -> Result<(), Fail> {
     let mut desk = desk(&rt)?;
     for (millis, at_once, want, at) in HEADS {
-        let hands = Hands(Cell::new(Duration::ZERO));
-        let mut client = slow_client(&rt, &hands, millis, at_once);
+        let hands = Hands::new();
+        let mut client = slow_client(&hands, millis, at_once);
         client.rest = STATUS;
         let mut reader = Client::new(&hands, client, Patience::for_request());
-        let mut text: Vec<u8> = Vec::new(rt.alloc());
-        let mut told: Vec<u8> = Vec::new(rt.alloc());
-        serve_streams(&rt, &mut desk, &mut reader, &mut text, &mut told);
-        assert_eq!(rt; str::from_utf8(&told)?, want, "{millis}");
-        assert_eq!(rt; text.is_empty(), !want.is_empty(), "{millis}");
-        assert_eq!(rt; hands.0.get(), Duration::from_millis(at), "{millis}");
+        let mut response = Pipe::new(&rt);
+        let mut told = Pipe::new(&rt);
+        serve_streams(&rt, &mut desk, &mut reader, &mut response, &mut told);
+        told.check_memory()?;
+        response.check_memory()?;
+        assert_eq!(rt; str::from_utf8(&told.text)?, want, "{millis}");
+        assert_eq!(rt; response.text.is_empty(), !want.is_empty(), "{millis}");
+        assert_eq!(rt; hands.time.get(), Duration::from_millis(at), "{millis}");
     }
     Ok(())
 }
@@ -170,16 +187,18 @@ fn a_body_earns_its_time(rt: HostRuntime) -> Result<(), Fail> {
     let length = request.len() + 700_000;
     request.resize(length, b'x')?;
     for (at_once, want, at) in BODIES {
-        let hands = Hands(Cell::new(Duration::ZERO));
-        let mut client = slow_client(&rt, &hands, 1_000, at_once);
+        let hands = Hands::new();
+        let mut client = slow_client(&hands, 1_000, at_once);
         client.rest = &request;
         let mut reader = Client::new(&hands, client, Patience::for_request());
-        let mut text: Vec<u8> = Vec::new(rt.alloc());
-        let mut told: Vec<u8> = Vec::new(rt.alloc());
-        serve_streams(&rt, &mut desk, &mut reader, &mut text, &mut told);
-        assert_eq!(rt; str::from_utf8(&told)?, want, "{at_once}");
-        assert_eq!(rt; text.is_empty(), !want.is_empty(), "{at_once}");
-        assert_eq!(rt; hands.0.get(), Duration::from_secs(at), "{at_once}");
+        let mut response = Pipe::new(&rt);
+        let mut told = Pipe::new(&rt);
+        serve_streams(&rt, &mut desk, &mut reader, &mut response, &mut told);
+        told.check_memory()?;
+        response.check_memory()?;
+        assert_eq!(rt; str::from_utf8(&told.text)?, want, "{at_once}");
+        assert_eq!(rt; response.text.is_empty(), !want.is_empty(), "{at_once}");
+        assert_eq!(rt; hands.time.get(), Duration::from_secs(at), "{at_once}");
     }
     Ok(())
 }
@@ -197,14 +216,16 @@ const TAKERS: [(u64, usize, &str, u64); 4] = [
 fn a_response_is_waited_for_as_a_whole(rt: HostRuntime) -> Result<(), Fail> {
     let mut desk = desk(&rt)?;
     for (millis, at_once, want, at) in TAKERS {
-        let hands = Hands(Cell::new(Duration::ZERO));
-        let client = slow_client(&rt, &hands, millis, at_once);
+        let hands = Hands::new();
+        let client = slow_client(&hands, millis, at_once);
         let mut request = STATUS;
         let mut writer = Client::new(&hands, client, Patience::for_response());
-        let mut told: Vec<u8> = Vec::new(rt.alloc());
+        let mut told = Pipe::new(&rt);
         serve_streams(&rt, &mut desk, &mut request, &mut writer, &mut told);
-        assert_eq!(rt; str::from_utf8(&told)?, want, "{millis}");
-        assert_eq!(rt; hands.0.get(), Duration::from_millis(at), "{millis}");
+        told.check_memory()?;
+        hands.check_memory()?;
+        assert_eq!(rt; str::from_utf8(&told.text)?, want, "{millis}");
+        assert_eq!(rt; hands.time.get(), Duration::from_millis(at), "{millis}");
     }
     Ok(())
 }
@@ -216,8 +237,8 @@ const RESTS: [(u64, u64); 3] = [(900, 10_000), (1_000, 10_000), (1_001, 1_000)];
 #[test]
 fn what_comes_after_the_response_is_read_for_ten_seconds(rt: HostRuntime) -> Result<(), Fail> {
     for (millis, at) in RESTS {
-        let hands = Hands(Cell::new(Duration::ZERO));
-        let mut client = slow_client(&rt, &hands, millis, 1);
+        let hands = Hands::new();
+        let mut client = slow_client(&hands, millis, 1);
         client.rest = STATUS;
         let mut reader = Client::new(&hands, client, Patience::for_rest());
         let mut byte = [0; 1];
@@ -226,7 +247,7 @@ fn what_comes_after_the_response_is_read_for_ten_seconds(rt: HostRuntime) -> Res
                 break;
             }
         }
-        assert_eq!(rt; hands.0.get(), Duration::from_millis(at), "{millis}");
+        assert_eq!(rt; hands.time.get(), Duration::from_millis(at), "{millis}");
     }
     Ok(())
 }

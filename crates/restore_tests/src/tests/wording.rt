@@ -1,5 +1,6 @@
 //! Words that are no command, help and the version.
 
+use super::streams::Pipe;
 use super::words_of;
 use esc_commands::run_words;
 use std::test::Fail;
@@ -51,11 +52,13 @@ const OTHER_WORDS: [&str; 39] = [
 fn other_words_are_refused(rt: HostRuntime) -> Result<(), Fail> {
     for line in OTHER_WORDS {
         let words = words_of(&rt, line)?;
-        let mut said: Vec<u8> = Vec::new(rt.alloc());
-        let mut told: Vec<u8> = Vec::new(rt.alloc());
+        let mut said = Pipe::new(&rt);
+        let mut told = Pipe::new(&rt);
         let ended = run_words(&rt, &rt, &words, &mut said, &mut told);
+        told.check_memory()?;
+        said.check_memory()?;
         assert_eq!(rt; ended, 2, "{line}");
-        assert!(rt; said.is_empty() && !told.is_empty(), "{line}");
+        assert!(rt; said.text.is_empty() && !told.text.is_empty(), "{line}");
     }
     Ok(())
 }
@@ -90,12 +93,14 @@ const HELP: [(&str, &str); 13] = [
 fn help_is_no_mistake(rt: HostRuntime) -> Result<(), Fail> {
     for (line, part) in HELP {
         let words = words_of(&rt, line)?;
-        let mut said: Vec<u8> = Vec::new(rt.alloc());
-        let mut told: Vec<u8> = Vec::new(rt.alloc());
+        let mut said = Pipe::new(&rt);
+        let mut told = Pipe::new(&rt);
         let ended = run_words(&rt, &rt, &words, &mut said, &mut told);
+        told.check_memory()?;
+        said.check_memory()?;
         assert_eq!(rt; ended, 0, "{line}");
-        assert!(rt; str::from_utf8(&said)?.contains(part), "{line}");
-        assert!(rt; told.is_empty(), "{line}");
+        assert!(rt; str::from_utf8(&said.text)?.contains(part), "{line}");
+        assert!(rt; told.text.is_empty(), "{line}");
     }
     Ok(())
 }

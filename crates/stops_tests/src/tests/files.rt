@@ -1,7 +1,7 @@
 //! Two files in memory, one of which stops; desks over them; and what a crash leaves.
 
 use esc_desk::{Desk, SFault};
-use esc_kept::{files_of, new_desk, open_desk};
+use esc_kept::{files_of, new_desk, open_desk, reopen_desk};
 use esc_manifest::Manifest;
 use sqlite::{Alter, Connection, FileStore, Files, Options};
 use sqlite_disk::{Crash, Disk, Fuse, Memory};
@@ -78,6 +78,17 @@ pub(crate) fn begin<D: Disk + Drop>(
 /// The files of a desk, as they are.
 pub(crate) fn left_of<D: Disk + Drop>(desk: Desk<FileStore<D>>) -> Files<D> {
     files_of(desk)
+}
+
+/// The desk over its files, which are closed and opened again.
+pub(crate) fn reopened<D: Disk + Drop>(
+    alloc: Global,
+    desk: Desk<FileStore<D>>,
+) -> Result<Desk<FileStore<D>>, Fail> {
+    match reopen_desk(alloc, desk, Options::new(7)) {
+        Ok(desk) => Ok(desk),
+        Err(fault) => Err(Fail::new(fault)),
+    }
 }
 
 // The desk over a database, or the connection where it has no tables.

@@ -23,8 +23,8 @@ use worked_rows::shown::{tell_lines, tell_reply};
 // More calls than a run makes.
 const MOST_CALLS: u64 = 400;
 
-// The before-images of the row's chain: step, kind, key and record.
-const IMAGES: [&str; 6] = [
+/// The before-images of the row's chain: step, kind, key and record.
+pub(crate) const IMAGES: [&str; 6] = [
     "1 0 R1 none",
     "1 1 C1 none",
     "1 3 a.example none",
