@@ -278,7 +278,9 @@ def stores():
     for what, path in not_files(at('stores')).items():
         if what != 'a link to nothing':
             expected = [LISTED] if what.endswith('not there') else [refused(path)]
-            opened(what, path, expected, [NOTHING_TAKEN] if expected == [LISTED] else [refused(path)])
+            # A plain file has nothing below it, so there is no store.
+            there = [s3] if what == 'a path through a file' else [refused(path)]
+            opened(what, path, expected, [NOTHING_TAKEN] if expected == [LISTED] else there)
     opened('an empty file', put(at('empty.db'), b''), [LISTED], [NOTHING_TAKEN])
     opened('a text', put(at('text.db'), b'words\n' * 1000), [s1], [s1])
     opened('/dev/null', '/dev/null', [s1, s3], [s1, s3])
