@@ -18,7 +18,6 @@ ghost use Rattle.std.specs.Prelude.{
   Ok,
   Err,
   true,
-  if◌then◌else◌,
   Some,
   None,
   ◌==◌,

@@ -9,7 +9,6 @@ ghost use Rattle.std.specs.Prelude.{
   ◌∷◌,
   ◌++◌,
   List,
-  map,
   length,
   count_by,
   IfOk,

@@ -1,6 +1,6 @@
 //! Verification of objects that come one at a time.
 
-ghost use Rattle.std.specs.Prelude.{◌≡◌, ◌↔◌, ℕ, ℤ, [], ◌∷◌, List, IfOk, IfErr, OnOk, string_bytes};
+ghost use Rattle.std.specs.Prelude.{◌↔◌, ℕ, ℤ, [], ◌∷◌, List, IfOk, IfErr, OnOk, string_bytes};
 ghost use Rattle.std.specs.List.{Contains};
 ghost use Rattle.std.specs.List.Sorted.{IsStrictlySortedBy};
 ghost use Rattle.esc_apply.specs.Objects.{InOrder};

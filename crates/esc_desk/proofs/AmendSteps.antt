@@ -2,10 +2,6 @@
 use Rattle.std.proofs.Common.{◌≡◌, ℕ, ℤ, ◌<◌, ◌≤◌, Bool, true, cond, List, [], ◌∷◌, ◌++◌, length, nat_lt, Option, Some, None, Result, Ok, Err, IfOk, refl, sym, ap, subst, ◌∙◌, arith, length-append}
 use Rattle.std.proofs.lemmas.Bool.Decides.{nat_tests}
 use Rattle.sha2.specs.Sha256.{sha256}
-use Rattle.sqlite_trees.specs.declared.store.Store.{Ghosts}
-use Rattle.sqlite.specs.Held.{Held, state}
-use Rattle.sqlite.specs.State.{Survives}
-use Rattle.sqlite.proofs.StateLemmas.{survives_weaker}
 use Rattle.esc_tables.specs.Reading.{reading}
 use Rattle.esc_manifest.specs.declared.row.MRow.{MRow}
 use Rattle.esc_manifest.specs.Rows.{row_at}
@@ -13,11 +9,8 @@ use Rattle.esc_manifest.specs.Accepted.{IsAccepted}
 use Rattle.esc_manifest.specs.Extension.{new_rows, extended}
 use Rattle.esc_chain.specs.Laws.{LatestChainsAtAreHeldRows}
 use Rattle.esc_apply.specs.declared.moves.Work.{Work}
-use Rattle.esc_store.specs.declared.fault.SFault.{SFault}
-use Rattle.esc_store.specs.declared.store.Store.{Store}
 use Rattle.esc_store.specs.Kept.{Kept, AreHeld, AreHeldBy}
 use Rattle.esc_store.specs.ReplyValue.{ReceiptValue}
-use Rattle.esc_store.specs.Standing.{LeavesOnly}
 use Rattle.esc_events.specs.declared.known.Known.{Known}
 use Rattle.esc_events.specs.declared.plan.Plan.{Plan}
 use Rattle.esc_events.specs.Amended.{judged, adopted_rows, amended_bodies, with_listed, amended_kept}
@@ -33,10 +26,8 @@ use Rattle.esc_events.proofs.Moving.{moved_from, stands_moved, works_moved}
 use Rattle.esc_events.proofs.MovingLemmas.{held_within}
 use Rattle.esc_desk.specs.declared.judging.Judged.{Judged}
 use Rattle.esc_desk.specs.Amendments.{AreApartRows, IsAmendmentOf}
-use Rattle.esc_desk.specs.Crashes.{IsNotFull, AddsStore, AddsStoreFor, LeavesOnlyFor}
 use Rattle.esc_desk.specs.Sources.{AreJudged}
 use Rattle.esc_desk.proofs.AmendedRows.{adopted_apart, held_with_adopted}
-use Rattle.esc_desk.proofs.CrashSteps.{none_then, none_is_fine}
 
 pub if_ok_at : {X E : Type 0} (r : Result X E) (P : X → Type 0) → ((x : X) → r ≡ Ok x → P x) → IfOk r P
 if_ok_at (Ok x) P h = h x refl

@@ -19,7 +19,7 @@ use Rattle.esc_store.specs.declared.reply.Verdict.{Verdict}
 use Rattle.esc_store.specs.declared.reply.Verdict.TheVariants.{A1, A2, A3, A4, A5}
 use Rattle.esc_store.specs.declared.store.Store.{Store}
 use Rattle.esc_store.specs.Kept.{Kept, AreHeld, body_put, with_body, with_parked}
-use Rattle.esc_store.specs.ReplyValue.{ReplyValue, ReceiptValue, reply_alike}
+use Rattle.esc_store.specs.ReplyValue.{ReplyValue, reply_alike}
 use Rattle.esc_store.specs.Standing.{Stands}
 use Rattle.esc_events.specs.declared.finding.Finding.{Finding}
 use Rattle.esc_events.specs.declared.finding.Finding.TheVariants.{Unlisted, Unreadable, Differing, Holding}
@@ -29,14 +29,14 @@ use Rattle.esc_events.specs.Apart.{WhereApart}
 use Rattle.esc_events.specs.ArrivalValue.{ArrivalValue, an_arrival}
 use Rattle.esc_events.specs.Events.{EventValue, union, coming, comings}
 use Rattle.esc_events.specs.Events.EventValue.{arrived}
-use Rattle.esc_events.specs.Finding.{finding, found_at, row_of, held_row}
+use Rattle.esc_events.specs.Finding.{finding, row_of, held_row}
 use Rattle.esc_events.specs.Known.{IsKnown}
 use Rattle.esc_events.specs.Laws.{IsMove}
 use Rattle.esc_events.specs.Plans.{AreLatestSteps, IsPlanned}
 use Rattle.esc_events.specs.Receipts.{distinct, reply_to}
-use Rattle.esc_events.specs.Stands.{StandsFor, AreBooks, IsApart, counted, holds_by, has_digest, held_rows, held_body, parked_body}
+use Rattle.esc_events.specs.Stands.{StandsFor, AreBooks, IsApart, counted, holds_by, has_digest, held_body, parked_body}
 use Rattle.esc_events.specs.Taking.{IsAgain}
-use Rattle.esc_events.specs.Works.{IsWorkOf, IsIdle, no_work}
+use Rattle.esc_events.specs.Works.{IsIdle, no_work}
 use Rattle.esc_events.proofs.Distinct.{both}
 use Rattle.esc_events.proofs.EventLemmas.{union-arrived}
 use Rattle.esc_events.proofs.HeldRows.{is_row_of, same_number, listed_row}
@@ -44,7 +44,7 @@ use Rattle.esc_events.proofs.Lost.{alike_counts, came_counts}
 use Rattle.esc_events.proofs.Members.{any_of, distinct_among}
 use Rattle.esc_events.proofs.Moving.{apart_before, stands_still, no_work_of}
 use Rattle.esc_events.proofs.MovingLemmas.{contains_held}
-use Rattle.esc_events.proofs.Searches.{same_answer, no_answer}
+use Rattle.esc_events.proofs.Searches.{no_answer}
 use Rattle.esc_desk.specs.declared.desk.Desk.{Desk}
 use Rattle.esc_desk.specs.declared.plan.Source.TheVariants.{Arrived}
 use Rattle.esc_desk.specs.Again.{IsUnkept, IsMissing, IsMissingAfter}

@@ -1,6 +1,6 @@
 -- What a crash leaves by the events that a store stands for, from one call to the next.
 use Rattle.std.proofs.Common.{◌≡◌, ◌≢◌, inl, inr, List, [], ◌∷◌, ◌++◌, Option, Some, None, Result, Ok, Err, refl, sym, subst, arith}
-use Rattle.std.specs.Prelude.{OnOk, MatchResult}
+use Rattle.std.specs.Prelude.{OnOk}
 use Rattle.sha2.specs.Sha256.{sha256}
 use Rattle.sqlite_trees.specs.declared.store.Store.{Ghosts}
 use Rattle.sqlite_trees.specs.Tree.{Trees}
@@ -21,7 +21,7 @@ use Rattle.esc_events.specs.Events.EventValue.{arrived}
 use Rattle.esc_events.specs.Receipts.{reply_to}
 use Rattle.esc_events.specs.Stands.{StandsFor}
 use Rattle.esc_desk.specs.Again.{IsUnkept, IsMissingAfter}
-use Rattle.esc_desk.specs.Crashes.{IsStoreFor, IsStoreForOneOf, CrashLeaves, LeavesOnlyFor, LeavesAnswered, LeavesTaken, LeavesMade, still_doubtful, doubtful_with, IsNotFull, AddsStore, AddsStoreFor}
+use Rattle.esc_desk.specs.Crashes.{IsStoreFor, IsStoreForOneOf, CrashLeaves, LeavesOnlyFor, LeavesTaken, LeavesMade, still_doubtful, doubtful_with, IsNotFull, AddsStore, AddsStoreFor}
 use Rattle.esc_desk.proofs.CrashSteps.{none_then, none_is_fine}
 use Rattle.esc_desk.specs.Takings.{LeavesWith}
 use Rattle.esc_desk.proofs.Likeness.{AddsNothing, still_stands, still_stands_with}

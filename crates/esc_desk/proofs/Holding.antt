@@ -33,7 +33,7 @@ use Rattle.esc_events.specs.Receipts.{is_among, receipt_by}
 use Rattle.esc_events.specs.Plans.{AreLatestSteps, IsPlanned}
 use Rattle.esc_events.specs.Stands.{StandsFor}
 use Rattle.esc_events.specs.Taking.{IsNew}
-use Rattle.esc_events.specs.Works.{IsWorkOf, no_work}
+use Rattle.esc_events.specs.Works.{no_work}
 use Rattle.esc_events.proofs.Arriving.{books_noted, books_parked, books_held}
 use Rattle.esc_events.proofs.EventLemmas.{union-arrived}
 use Rattle.esc_events.proofs.HeldRows.{same_number}

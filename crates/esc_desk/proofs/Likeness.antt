@@ -1,5 +1,5 @@
 -- An arrival that is like an earlier one, and whose body is there or needn't be, changes nothing, whatever one event comes behind it.
-use Rattle.std.proofs.Common.{◌≡◌, ◌⊎◌, inl, inr, ℕ, suc, ◌+◌, ◌<◌, Bool, true, false, cond, not, ◌||◌, List, [], ◌∷◌, ◌++◌, length, Option, Some, None, IsSome, is_some, Result, Ok, Err, refl, sym, ap, ap₂, subst, ◌∙◌, append-nil, append_assoc, arith, true≢false}
+use Rattle.std.proofs.Common.{◌≡◌, ◌⊎◌, inl, inr, ℕ, suc, ◌+◌, ◌<◌, Bool, true, false, cond, not, ◌||◌, List, [], ◌∷◌, ◌++◌, length, Option, Some, None, is_some, Result, Ok, Err, refl, sym, ap, ap₂, subst, ◌∙◌, append-nil, arith}
 use Rattle.std.specs.List.{list_any, find, Any, position_or_len}
 use Rattle.std.specs.Str.{bytes_eq}
 use Rattle.std.specs.Cmp.Lexicographic.{bytes_decides}
@@ -14,7 +14,7 @@ use Rattle.esc_manifest.specs.declared.row.MRow.{MRow}
 use Rattle.esc_manifest.specs.Extension.{new_rows, extended}
 use Rattle.esc_manifest.specs.Rows.{no_row}
 use Rattle.esc_store.specs.Kept.{Kept}
-use Rattle.esc_store.specs.ReplyValue.{ReceiptValue, ReplyValue}
+use Rattle.esc_store.specs.ReplyValue.{ReplyValue}
 use Rattle.esc_events.specs.declared.finding.Finding.TheVariants.{Differing, Holding}
 use Rattle.esc_events.specs.ArrivalValue.{ArrivalValue}
 use Rattle.esc_events.specs.Events.{EventValue, Coming, union, coming, early_coming, comings, moment_of}
@@ -28,7 +28,7 @@ use Rattle.esc_events.proofs.Distinct.{alike_laws, distinct-push}
 use Rattle.esc_events.proofs.Members.{any_of, one_of, among-front, among-last}
 use Rattle.esc_events.proofs.Moving.{stands_still}
 use Rattle.esc_events.proofs.OneArrival.{any_kept}
-use Rattle.esc_events.proofs.Searches.{some_alike, find-front, find-back, find-push-old, same_answer, no_answer}
+use Rattle.esc_events.proofs.Searches.{some_alike, find-front, find-back, find-push-old, no_answer}
 use Rattle.esc_desk.proofs.EarlyEvents.{union-early, comings-early, moment-early, counting, counting-append}
 
 or_true : (b : Bool) → (b || true) ≡ true

@@ -12,7 +12,7 @@ use Rattle.esc_manifest.specs.declared.row.MRow.{MRow}
 use Rattle.esc_apply.specs.declared.front.Step.{Step}
 use Rattle.esc_apply.specs.Registry.{State, Content, IsEntriesOf}
 use Rattle.esc_apply.specs.Tables.{tables}
-use Rattle.esc_store.specs.Kept.{Kept, kept_replies, kept_chain, step_at, AreHeld, AreParked}
+use Rattle.esc_store.specs.Kept.{Kept, kept_replies, kept_chain, step_at, AreHeld}
 use Rattle.esc_store.specs.declared.store.Store.{Store}
 use Rattle.esc_store.specs.Standing.{IsAsBefore}
 use Rattle.esc_store.specs.ReplyValue.{ReceiptValue, replies_from}
@@ -20,7 +20,7 @@ use Rattle.esc_events.specs.Events.{EventValue, union}
 use Rattle.esc_events.specs.Finding.{found_at, row_of, held_row}
 use Rattle.esc_events.specs.Receipts.{is_row}
 use Rattle.esc_events.specs.Reads.{tables_of, AreTables}
-use Rattle.esc_events.specs.Stands.{or_no_deposit, deposit_of, held_body, parked_body, IsApart, StandsFor}
+use Rattle.esc_events.specs.Stands.{or_no_deposit, deposit_of, held_body, IsApart, StandsFor}
 use Rattle.esc_events.proofs.Moving.{chain_of}
 use Rattle.esc_events.proofs.MovingLemmas.{same_deposits}
 use Rattle.esc_desk.specs.declared.desk.Desk.{Desk}

@@ -25,7 +25,6 @@ ghost use Rattle.esc_tables.specs.DepositValue.{DepositValue};
 ghost use Rattle.esc_tables.specs.Reading.{reading};
 ghost use Rattle.esc_manifest.specs.declared.row.MRow.{MRow};
 ghost use Rattle.esc_manifest.specs.Extension.{extended};
-ghost use Rattle.esc_manifest.specs.Rows.{row_at};
 ghost use Rattle.esc_apply.specs.Registry.{saturated, State};
 ghost use Rattle.esc_store.specs.Faults.{IsS1OrS2};
 ghost use Rattle.esc_store.specs.Kept.{Kept};
@@ -40,12 +39,7 @@ ghost use Rattle.esc_store.specs.Standing.{
   listed_by,
 };
 ghost use Rattle.esc_events.specs.declared.known.Known.{Known};
-ghost use Rattle.esc_events.specs.Amended.{
-  with_adopted,
-  with_all_adopted,
-  with_all_dropped,
-  amended_kept,
-};
+ghost use Rattle.esc_events.specs.Amended.{with_all_adopted, with_all_dropped, amended_kept};
 ghost use Rattle.esc_events.specs.Events.{EventValue, union as union_of};
 ghost use Rattle.esc_events.specs.Events.EventValue.{listed};
 ghost use Rattle.esc_events.specs.Known.{IsKnown};
@@ -67,7 +61,6 @@ ghost use Rattle.esc_desk.specs.Calls.{
 };
 ghost use Rattle.esc_desk.specs.Crashes.{AddsStore, AddsStoreFor};
 ghost use Rattle.esc_desk.specs.Filled.{IsFilled};
-ghost use Rattle.esc_desk.specs.Sources.{AreJudged};
 ghost use Rattle.esc_desk.specs.Takings.{IsMade, IsListedNow};
 
 use crate::changes::{commit_filled, move_in};

@@ -7,7 +7,6 @@ ghost use Rattle.std.specs.Prelude.{
   ◌≤◌,
   ◌-◌,
   ◌++◌,
-  ℕ,
   List,
   None,
   length,

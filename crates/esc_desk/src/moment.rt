@@ -1,6 +1,6 @@
 //! The moment as of which the registry is rebuilt.
 
-ghost use Rattle.std.specs.Prelude.{◌≡◌, ◌+◌, ◌≤◌, ℕ, ℤ, List, length, IfOk, IfErr, OnOk, OnErr};
+ghost use Rattle.std.specs.Prelude.{◌≡◌, ◌+◌, ◌≤◌, List, length, IfOk, IfErr, OnOk, OnErr};
 ghost use Rattle.esc_tables.specs.DepositValue.{DepositValue};
 ghost use Rattle.esc_apply.specs.Registry.{saturated};
 ghost use Rattle.esc_store.specs.Faults.{IsS1OrS2};
@@ -13,14 +13,12 @@ ghost use Rattle.esc_store.specs.Standing.{
   HoldsNow,
   GoesOn,
 };
-ghost use Rattle.esc_events.specs.Events.{EventValue};
 ghost use Rattle.esc_events.specs.Events.EventValue.{moved};
 ghost use Rattle.esc_events.specs.Plans.{HasDepositsPast, IsMovedFrom, IsCostOfMove, moved_by};
 ghost use Rattle.esc_events.specs.Works.{IsWorkOf};
 ghost use Rattle.esc_desk.specs.Calls.{
   writes_of,
   DeskLeavesMade,
-  After,
   OkAfter,
   CrashAfter,
   WasHonest,

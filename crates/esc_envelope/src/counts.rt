@@ -3,14 +3,7 @@
 ghost use Rattle.std.specs.Prelude.{◌≡◌, ◌++◌, IfOk, OnOk, Some, option_map};
 ghost use Rattle.serde_json.specs.View.{view};
 ghost use Rattle.esc_envelope.specs.Kinds.{kind_rank};
-ghost use Rattle.esc_envelope.specs.Members.{
-  AreBelow,
-  count_of,
-  count_entry,
-  whole_number,
-  counts_of,
-  counts_in,
-};
+ghost use Rattle.esc_envelope.specs.Members.{AreBelow, count_of, count_entry, counts_of, counts_in};
 
 use crate::kind::Kind;
 use esc_bundle::NoMemory;

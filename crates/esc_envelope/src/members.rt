@@ -1,7 +1,7 @@
 //! The members of an envelope outside its tables: each function returns what one definition on JSON
 //! data gives.
 
-ghost use Rattle.std.specs.Prelude.{◌≡◌, IfOk, IfSome, option_map, string_bytes};
+ghost use Rattle.std.specs.Prelude.{◌≡◌, IfOk, option_map, string_bytes};
 ghost use Rattle.serde_json.specs.View.{view};
 ghost use Rattle.esc_envelope.specs.Members.{
   text_at,
@@ -13,7 +13,6 @@ ghost use Rattle.esc_envelope.specs.Members.{
   id_if_any,
   resend_of,
   resend_from,
-  whole_number,
   header_of,
 };
 ghost use Rattle.esc_envelope.specs.Told.{told_value};

@@ -16,7 +16,6 @@ ghost use Rattle.std.specs.Prelude.{
   option_map,
   string_bytes,
   pos,
-  ◌≤ℤ◌,
 };
 ghost use Rattle.jiff.specs.Words.{civil_nanos, IsBetween};
 ghost use Rattle.esc_envelope.specs.Moment.{IsWatermark};

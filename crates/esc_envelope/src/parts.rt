@@ -1,7 +1,7 @@
 //! The parts of a moment's text: from left to right, each reader returns a part and what follows
 //! it.
 
-ghost use Rattle.std.specs.Prelude.{◌≡◌, ◌<◌, ◌≤◌, ◌^◌, true, option_map, IfSome};
+ghost use Rattle.std.specs.Prelude.{◌≡◌, ◌<◌, true, option_map, IfSome};
 ghost use Rattle.jiff_fmt.specs.Reader.{fraction_value};
 ghost use Rattle.esc_envelope.specs.Moment.{is_fraction};
 ghost use Rattle.esc_envelope.specs.Watermark.{

@@ -1,10 +1,9 @@
 //! The tables that an envelope declares: each function returns what one definition on JSON data
 //! gives.
 
-ghost use Rattle.std.specs.Prelude.{◌≡◌, IfOk, OnOk, map, option_map, string_bytes, count_by};
+ghost use Rattle.std.specs.Prelude.{◌≡◌, IfOk, map, option_map, string_bytes, count_by};
 ghost use Rattle.std.specs.List.{list_all};
 ghost use Rattle.serde_json.specs.View.{view};
-ghost use Rattle.esc_envelope.specs.Kinds.{is_kind};
 ghost use Rattle.esc_envelope.specs.Tables.{
   all_of,
   is_name_byte,

@@ -1,8 +1,6 @@
 //! The status report.
 
-ghost use Rattle.std.specs.Prelude.{◌≡◌, ◌++◌, ℕ, IfOk, IfErr, OnOk, string_bytes, option_map};
-ghost use Rattle.std.specs.Fmt.{decimal};
-ghost use Rattle.esc_envelope.specs.Watermark.{watermark_text_of};
+ghost use Rattle.std.specs.Prelude.{◌≡◌, ◌++◌, IfOk, IfErr, OnOk, string_bytes};
 ghost use Rattle.esc_store.specs.Faults.{IsS1OrS2};
 ghost use Rattle.esc_http.specs.StatusText.{
   number_line,

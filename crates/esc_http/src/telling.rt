@@ -1,6 +1,6 @@
 //! The texts of reports.
 
-ghost use Rattle.std.specs.Prelude.{◌≡◌, List, Some, IfOk, IfErr};
+ghost use Rattle.std.specs.Prelude.{◌≡◌, Some, IfOk, IfErr};
 ghost use Rattle.std.specs.FinSet as set;
 ghost use Rattle.esc_chain.specs.Chain.{InRange};
 ghost use Rattle.esc_check.specs.Streams.{OfSource};

@@ -13,10 +13,10 @@ ghost use Rattle.std.specs.Prelude.{
   OnOk,
   string_bytes,
 };
-ghost use Rattle.std.specs.List.{list_all, flat_map};
+ghost use Rattle.std.specs.List.{list_all};
 ghost use Rattle.csv.specs.Reading.{is_bom};
 ghost use Rattle.esc_csv.specs.Lines.{line_text, text_of};
-ghost use Rattle.esc_csv.specs.Records.{records_of, IsUnmarked};
+ghost use Rattle.esc_csv.specs.Records.{IsUnmarked};
 ghost use Rattle.esc_pack.specs.GivenRows.{file_rows, given_rows, has_width};
 ghost use Rattle.esc_pack.specs.GivenRows.{IsHeaded, IsReadBack};
 ghost use Rattle.esc_pack.specs.Bundling.{AreHeaded};

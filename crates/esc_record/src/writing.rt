@@ -13,7 +13,6 @@ ghost use Rattle.esc_record.specs.Record.{
   is_small_row,
   is_small_object,
   record_of,
-  rows_of,
 };
 ghost use Rattle.esc_record.specs.Writing.{Pushes};
 

@@ -9,7 +9,6 @@ ghost use Rattle.esc_request.specs.BodyLength.{
   values_of,
   value_after,
   length_of_value,
-  length_of_values,
   body_length,
 };
 ghost use Rattle.esc_request.specs.Seen.{values_seen};

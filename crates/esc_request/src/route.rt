@@ -1,7 +1,7 @@
 //! Where the path of a request leads.
 
-ghost use Rattle.std.specs.Prelude.{◌≡◌, [], IfOk, OnOk, option_map, option_and_then};
-ghost use Rattle.esc_request.specs.Route.{Leads, route_of, strip, way_to};
+ghost use Rattle.std.specs.Prelude.{◌≡◌, [], IfOk, OnOk, option_map};
+ghost use Rattle.esc_request.specs.Route.{route_of, strip, way_to};
 ghost use Rattle.esc_request.specs.Seen.{route_seen};
 ghost use Rattle.esc_request.specs.Router.{rows};
 

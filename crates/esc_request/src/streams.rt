@@ -5,7 +5,6 @@
 //! reporting a failure.
 
 ghost use Rattle.std.specs.Prelude.{
-  ◌≡◌,
   ℕ,
   ◌≤◌,
   ◌<◌,

@@ -1,7 +1,7 @@
 -- What the statements on the moment do.
-use Rattle.std.proofs.Common.{◌≡◌, ℕ, ℤ, pos, ◌≤◌, ◌<ℤ◌, false, true, List, [], ◌∷◌, map, filter, length, slice_get, Option, Some, None, option_map, Ok, refl, sym, ap, subst, ◌∙◌, arith, int_eq}
+use Rattle.std.proofs.Common.{◌≡◌, ℕ, ℤ, pos, ◌≤◌, ◌<ℤ◌, false, true, List, [], ◌∷◌, map, filter, length, slice_get, Option, Some, None, option_map, Ok, refl, sym, ap, subst, ◌∙◌, arith}
 use Rattle.std.proofs.lemmas.Int.{ints}
-use Rattle.sqlite_value.specs.declared.value.Value.TheVariants.{Null, Int}
+use Rattle.sqlite_value.specs.declared.value.Value.TheVariants.{Int}
 use Rattle.sqlite_value.specs.Order.{Row}
 use Rattle.sqlite.specs.Term.{col}
 use Rattle.sqlite.specs.Query.{Output}

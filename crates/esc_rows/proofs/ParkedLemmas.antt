@@ -1,10 +1,10 @@
 -- What the statements on parked bodies do.
-use Rattle.std.proofs.Common.{◌≡◌, ◌⊎◌, inl, inr, ℕ, pos, ◌≤◌, ◌+◌, ◌&&◌, ◌||◌, Bool, true, false, not, cond, List, [], ◌∷◌, map, filter, length, Option, Some, None, option_map, Ok, refl, sym, ap, ap₂, subst, ◌∙◌, ◌↔◌, arith, int_eq, is_eq, Ordering, Less, Equal}
-use Rattle.std.specs.Prelude.{fold, find, bytes_eq, IsSome, is_some}
+use Rattle.std.proofs.Common.{◌≡◌, inl, inr, ℕ, pos, ◌≤◌, ◌+◌, ◌&&◌, ◌||◌, Bool, true, false, not, cond, List, [], ◌∷◌, map, filter, length, Option, Some, None, option_map, Ok, refl, sym, ap, subst, ◌∙◌, int_eq, is_eq, Less, Equal}
+use Rattle.std.specs.Prelude.{fold, find, bytes_eq, is_some}
 use Rattle.std.specs.Ordering.{nat_cmp, ordering_then}
 use Rattle.std.specs.Cmp.{IsTotalOrder, IsEquivalence}
 use Rattle.std.specs.Cmp.Lexicographic.{slice_cmp}
-use Rattle.std.specs.List.{AllByRecursion, Contains, list_any}
+use Rattle.std.specs.List.{Contains, list_any}
 use Rattle.std.proofs.lemmas.Bool.{cases_Bool}
 use Rattle.std.proofs.lemmas.Cmp.{nat_list_cmp_total, on_total}
 use Rattle.std.proofs.lemmas.Map.Text.{is_eq-slice_cmp}

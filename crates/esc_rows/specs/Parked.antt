@@ -15,14 +15,12 @@ use Rattle.std.specs.Prelude.{
   ◌∷◌,
   map,
   find,
-  Option,
   Some,
   None,
   IsSome,
   bytes_eq,
   if◌then◌else◌,
 }
-use Rattle.sqlite_value.specs.declared.value.Value.{Value}
 use Rattle.sqlite_value.specs.declared.value.Value.TheVariants.{Int, Blob}
 use Rattle.sqlite_value.specs.Order.{Row}
 use Rattle.sqlite.specs.Effect.{Database}

@@ -1,7 +1,6 @@
 //! The report of links, and of what else breaks a rule (V1 to V7).
 
 ghost use Rattle.std.specs.Prelude.{◌≡◌, ◌∷◌, [], ◌++◌, IfOk, OnOk, string_bytes};
-ghost use Rattle.std.specs.Fmt.{decimal};
 ghost use Rattle.esc_csv.specs.Lines.{line_text};
 ghost use Rattle.esc_texts.specs.LinksText.{
   code_text,

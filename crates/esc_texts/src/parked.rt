@@ -4,7 +4,7 @@ ghost use Rattle.std.specs.Prelude.{◌≡◌, ◌∷◌, [], ◌++◌, IfOk, On
 ghost use Rattle.std.specs.Fmt.{decimal};
 ghost use Rattle.hex.specs.Hex.{encode_lower};
 ghost use Rattle.esc_csv.specs.Lines.{line_text};
-ghost use Rattle.esc_texts.specs.ParkedText.{heading, parked_line, parked_lines, parked_text};
+ghost use Rattle.esc_texts.specs.ParkedText.{parked_line, parked_lines, parked_text};
 
 use esc_bundle::NoMemory;
 use esc_csv::Lines;

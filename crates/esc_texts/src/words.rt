@@ -1,7 +1,6 @@
 //! The words of replies, in JSON and in CSV.
 
 ghost use Rattle.std.specs.Prelude.{◌≡◌, IfOk, string_bytes, option_map};
-ghost use Rattle.std.specs.Fmt.{decimal};
 ghost use Rattle.esc_texts.specs.Words.{verdict_word, copy_word, fault_of};
 
 use esc_store::Verdict;

@@ -11,7 +11,7 @@ use std::process::Abort;
 
 /// Fulls, each with the id and the number of contents of its envelope, and what it holds or the
 /// least refusal.
-static FULLS: [(Full<'static>, &str); 13] = [
+static FULLS: [(Full<'static>, &str); 17] = [
     // The last row of a lowered key counts.
     (
         Full {
@@ -113,6 +113,40 @@ static FULLS: [(Full<'static>, &str); 13] = [
             files: b"gone.csv 12\na.example\n\xFF\n\n",
         },
         "F1, 0 tables\nU9\n",
+    ),
+    // A broken row is refused first, wherever a key is wrong; and so is a wrong key of a child row
+    // or a delete.
+    (
+        Full {
+            contents: "contactStatus contact",
+            deletes: "",
+            files: b"cs.csv 3\nC1\n\nc.csv 4\n,R1\n\n",
+        },
+        "F1, 2 tables\nU9\n",
+    ),
+    (
+        Full {
+            contents: "contact",
+            deletes: "deleted",
+            files: b"c.csv 4\n,R1\n\ngone.csv 12\na.example,x\n\n",
+        },
+        "F1, 1 tables\nU9\n",
+    ),
+    (
+        Full {
+            contents: "domainNs domain",
+            deletes: "",
+            files: b"ns.csv 7\n,ns1.x\n\nd.csv 16\na.example,R1,C1\n\n",
+        },
+        "F1, 2 tables\nU10\n",
+    ),
+    (
+        Full {
+            contents: "",
+            deletes: "deleted",
+            files: b"gone.csv 3\n\"\"\n\n",
+        },
+        "F1, 0 tables\nU10\n",
     ),
     // Deletes, an object with a child row, and no orphan.
     (

@@ -1,15 +1,12 @@
-use Rattle.std.proofs.Common.{rules, ◌≡◌, ℕ, List, Some, IsSome, is_some, sym, ap, subst, ◌∙◌, true≢false}
-use Rattle.sha2.specs.Sha256.{sha256}
-use Rattle.sqlite_trees.specs.declared.store.Store.{Ghosts}
-use Rattle.esc_store.specs.Kept.{Kept, with_parked}
+use Rattle.std.proofs.Common.{rules, ℕ, List, Some, IsSome, is_some, sym, ap, subst, ◌∙◌, true≢false}
+use Rattle.esc_store.specs.Kept.{with_parked}
 use Rattle.esc_store.specs.Standing.{Stands, LeavesOnly}
 use Rattle.esc_events.specs.declared.parking.Parking.{Parking}
-use Rattle.esc_events.specs.declared.parking.Parking.TheVariants.{Needless, Free, Crowded}
+use Rattle.esc_events.specs.declared.parking.Parking.TheVariants.{Free}
 use Rattle.esc_events.specs.declared.finding.Finding.TheVariants.{Unlisted}
 use Rattle.esc_events.specs.ArrivalValue.{an_arrival}
 use Rattle.esc_events.specs.Parks.{IsParking}
 use Rattle.esc_desk.specs.Crashes.{AddsStore}
-use Rattle.esc_desk.proofs.CauseLemmas.{if_err_is}
 use Rattle.esc_desk.proofs.ComingAgain.{nothing_parked, nothing_taken, parked_stands, parked_taken}
 use Rattle.esc_desk.proofs.CrashLemmas.{adds_none, adds_then, adds_as, adds_for, leaves_for, leaves_with_nothing}
 use Rattle.esc_desk.proofs.CrashSteps.{not_full_by, not_full_of}

@@ -1,18 +1,14 @@
-use Rattle.std.proofs.Common.{rules, ◌≡◌, ℕ, List, sym, ap, ap₂, subst, ◌∙◌}
+use Rattle.std.proofs.Common.{◌≡◌, List, sym, ap, subst, ◌∙◌}
 use Rattle.std.proofs.lemmas.Result.{IfOk-weaker}
 use Rattle.sha2.specs.Sha256.{sha256}
 use Rattle.esc_tables.specs.Reading.{reading}
 use Rattle.esc_manifest.specs.declared.row.MRow.{MRow}
 use Rattle.esc_events.specs.declared.finding.Finding.{Finding}
-use Rattle.esc_events.specs.declared.finding.Finding.TheVariants.{Unlisted}
 use Rattle.esc_events.specs.ArrivalValue.{an_arrival}
 use Rattle.esc_events.specs.Events.{union}
-use Rattle.esc_events.specs.Finding.{finding, row_of}
+use Rattle.esc_events.specs.Finding.{finding}
 use Rattle.esc_events.specs.Taking.{IsAgain}
-use Rattle.esc_events.proofs.HeldRows.{unlisted_row}
-use Rattle.esc_desk.specs.Causes.{IsCrowded}
 use Rattle.esc_desk.specs.Takings.{IsTakenAgain}
-use Rattle.esc_desk.proofs.CauseLemmas.{if_err_each}
 use Rattle.esc_desk.proofs.CrashLemmas.{adds_at_rest}
 use Rattle.esc_desk.proofs.again.take_body.Goals as goal
 

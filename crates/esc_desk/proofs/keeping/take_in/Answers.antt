@@ -4,16 +4,14 @@ use Rattle.esc_tables.specs.Reading.{reading}
 use Rattle.esc_manifest.specs.declared.row.MRow.{MRow}
 use Rattle.esc_store.specs.ReplyValue.{ReceiptValue, ReplyValue, reply_kept, reply_alike}
 use Rattle.esc_events.specs.declared.finding.Finding.{Finding}
-use Rattle.esc_events.specs.declared.finding.Finding.TheVariants.{Unlisted}
 use Rattle.esc_events.specs.ArrivalValue.{an_arrival}
 use Rattle.esc_events.specs.Events.{union}
-use Rattle.esc_events.specs.Finding.{finding, found_at, row_of, held_row}
+use Rattle.esc_events.specs.Finding.{finding, row_of, held_row}
 use Rattle.esc_events.specs.Receipts.{is_among, receipt_by}
 use Rattle.esc_events.specs.Taking.{IsNew}
 use Rattle.esc_events.proofs.Arriving.{new_receipt}
 use Rattle.esc_events.proofs.HeldRows.{unlisted_row}
 use Rattle.esc_events.proofs.OneArrival.{new_reply}
-use Rattle.esc_desk.specs.Causes.{IsCrowded}
 use Rattle.esc_desk.proofs.CauseLemmas.{if_err_is, faults_of}
 use Rattle.esc_desk.proofs.CrashLemmas.{adds_at_rest, adds_as}
 use Rattle.esc_desk.proofs.CrashSteps.{not_full_by}

@@ -1,4 +1,4 @@
-use Rattle.std.proofs.Common.{◌≡◌, List, map, take, All}
+use Rattle.std.proofs.Common.{◌≡◌, map, take, All}
 use Rattle.esc_store.specs.Kept.{Kept}
 use Rattle.esc_store.specs.Standing.{Stands, IsHonest, IsAsBefore}
 use Rattle.esc_events.specs.declared.parked.ParkedBody.{ParkedBody}

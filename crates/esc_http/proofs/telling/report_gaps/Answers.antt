@@ -4,7 +4,7 @@ use Rattle.std.proofs.lemmas.Result.{IfOk-weaker}
 use Rattle.esc_manifest.specs.declared.row.MRow.{MRow}
 use Rattle.esc_chain.specs.Chain.{Rows}
 use Rattle.esc_chain.specs.Gap.{AreGapLinesAt}
-use Rattle.esc_events.specs.Events.{union, moment_of}
+use Rattle.esc_events.specs.Events.{union}
 use Rattle.esc_texts.specs.GapsText.{gaps_text}
 use Rattle.esc_http.proofs.StoreFacts.{was_honest, stays}
 use Rattle.esc_http.proofs.telling.report_gaps.Goals as goal

@@ -1,7 +1,6 @@
-use Rattle.std.proofs.Common.{◌≡◌, ◌∙◌, ap, option_map, slice_get}
+use Rattle.std.proofs.Common.{◌≡◌, ◌∙◌}
 use Rattle.sqlite.specs.Held.{state}
 use Rattle.esc_rows.specs.Content.{moment_of}
-use Rattle.esc_rows.specs.Entries.{first_of}
 use Rattle.esc_rows.specs.Parked.{ShowsMoment}
 use Rattle.esc_rows.proofs.MomentLemmas.{moment_is}
 use Rattle.esc_rows.proofs.PartLemmas.{read_then, if_ok}

@@ -1,15 +1,6 @@
-use Rattle.std.proofs.Common.{rules, ◌≡◌, [], ◌∷◌, ◌++◌, List, ℕ, Some, refl, sym, ap, subst, ◌∙◌}
-use Rattle.sha2.specs.Sha256.{sha256}
-use Rattle.esc_tables.specs.Reading.{reading}
-use Rattle.esc_store.specs.ReplyValue.{ReplyValue, reply_alike}
-use Rattle.esc_store.specs.Kept.{Kept}
-use Rattle.esc_events.specs.ArrivalValue.{an_arrival}
-use Rattle.esc_events.specs.Events.{union}
-use Rattle.esc_events.specs.Events.EventValue.{arrived}
-use Rattle.esc_events.specs.Finding.{finding}
-use Rattle.esc_events.specs.Taking.{IsAgain}
-use Rattle.esc_desk.proofs.CauseLemmas.{if_err_is}
-use Rattle.esc_desk.proofs.ComingAgain.{nothing_repeated, answered_nothing, is_again, IsOther, no_verdict}
+use Rattle.std.proofs.Common.{rules, sym, ap, subst, ◌∙◌}
+use Rattle.esc_store.specs.ReplyValue.{ReplyValue}
+use Rattle.esc_desk.proofs.ComingAgain.{answered_nothing, is_again, IsOther, no_verdict}
 use Rattle.esc_desk.proofs.CrashLemmas.{adds_as, adds_at_rest}
 use Rattle.esc_desk.proofs.CrashSteps.{not_full_by}
 use Rattle.esc_desk.proofs.desk.Desk.answer_again.Goals as goal

@@ -1,4 +1,4 @@
-use Rattle.std.proofs.Common.{◌≡◌, ◌≤◌, ◌++◌, List, length, take, vec_capacity}
+use Rattle.std.proofs.Common.{◌≡◌, ◌≤◌, List, length, take, vec_capacity}
 use Rattle.esc_store.specs.Standing.{IsHonest}
 use Rattle.esc_events.specs.Events.{EventValue}
 use Rattle.esc_desk.specs.Asked.{as_events, as_outcomes, taken_in}

@@ -1,10 +1,10 @@
-use Rattle.std.proofs.Common.{◌≡◌, ◌++◌, ◌∷◌, [], ◌^◌, ◌<◌, List, Ok, Err, subst, arith}
+use Rattle.std.proofs.Common.{subst, arith}
 use Rattle.esc_events.specs.ArrivalValue.{ArrivalValue}
 use Rattle.esc_events.specs.Events.EventValue.{arrived}
 use Rattle.esc_events.specs.Works.{IsWorkOf}
 use Rattle.esc_desk.specs.declared.event.Outcome.TheVariants.{Done, Lost}
 use Rattle.esc_desk.specs.Asked.{as_event, as_outcome}
-use Rattle.esc_desk.specs.Calls.{IsCause, DeskLeavesEvent, DeskLeavesTaken, writes_of}
+use Rattle.esc_desk.specs.Calls.{IsCause, DeskLeavesEvent, writes_of}
 use Rattle.esc_desk.proofs.RunLemmas.{answers_same, serves_without, leaves_without, worked_once, worked_lost}
 use Rattle.esc_desk.proofs.desk.Desk.take.Goals as goal
 

@@ -1,4 +1,3 @@
-use Rattle.std.proofs.Common.{◌≡◌, ◌++◌, ◌∷◌, [], List}
 use Rattle.esc_events.specs.Events.EventValue.{moved}
 use Rattle.esc_desk.specs.Asked.{amendment_of}
 use Rattle.esc_desk.specs.Crashes.{doubtful_with}
