@@ -1,44 +1,16 @@
 -- From the tests in order to the deposit or its fault.
-use Rattle.std.proofs.Common.{◌≡◌, ◌∙◌, ◌≤◌, ◌-◌, ℕ, Bool, true, false, List, [], ◌∷◌, ◌++◌, length, map, get_or, take, drop, refl, sym, ap, arith}
-use Rattle.std.specs.Prelude.{Ok, Err, All}
-use Rattle.std.specs.List.{list_all}
-use Rattle.std.proofs.lemmas.List.Folds.{list_all-append}
-use Rattle.std.proofs.lemmas.List.Elements.{All-nil, All-cons}
-use Rattle.std.proofs.lemmas.Bool.{and_parts}
+use Rattle.std.proofs.Common.{◌≡◌, ◌∙◌, ◌≤◌, ◌-◌, ℕ, true, false, List, [], ◌∷◌, length, map, get_or, take, drop, refl, sym, ap, arith}
+use Rattle.std.specs.Prelude.{Result, Ok, Err, IfOk, OnOk}
 use Rattle.std.proofs.Math.Seq.{take-length}
 use Rattle.esc_bundle.specs.Bundle.{Named, view, views}
 use Rattle.esc_bundle.specs.declared.section.Section.{Section}
 use Rattle.esc_bundle.specs.Frame.{frame}
-use Rattle.esc_envelope.specs.EnvelopeValue.{TableValue, EnvelopeValue}
+use Rattle.esc_envelope.specs.EnvelopeValue.{EnvelopeValue}
 use Rattle.esc_envelope.specs.Envelope.{envelope_of}
 use Rattle.esc_tables.specs.DepositValue.{DepositValue}
-use Rattle.esc_tables.specs.TableRow.{TableRow, are_filed, table_rows, rows_in, is_whole, key_of}
+use Rattle.esc_tables.specs.TableRow.{are_filed, rows_in, key_of}
 use Rattle.esc_tables.specs.Objects.{objects_of, orphans_of}
 use Rattle.esc_tables.specs.Reading.{tables_of, check_rows, deposit_of, deposit_in, parent_rows, child_rows, sections_deposit, reading}
-use Rattle.esc_tables.proofs.SurveyFacts.{all_in_each}
-
--- ---- the rows that passed are whole, table by table
-
-whole_from : (rows : List TableRow) (b : Bool) → list_all is_whole rows ≡ b → check_rows rows ≡ Ok tt → list_all is_whole rows ≡ true
-unfolding check_rows
-whole_from rows true is passed = is
-whole_from rows false is passed = absurd (cc (rw is at passed))
-
-pub whole_rows : (rows : List TableRow) → check_rows rows ≡ Ok tt → list_all is_whole rows ≡ true
-whole_rows rows passed = whole_from rows (list_all is_whole rows) refl passed
-
-abbrev pub AreWhole : List Named → List TableValue → Type 0
-AreWhole files tables = All (λ t. list_all is_whole (table_rows files t) ≡ true) tables
-
-all_from : {X : Type 0} (test : X → Bool) (xs : List X) → list_all test xs ≡ true → All (λ x. test x ≡ true) xs
-all_from test [] h = All-nil (λ x. test x ≡ true)
-all_from test (x ∷ xs) h = let parts = and_parts (test x) (list_all test xs) h in All-cons (λ y. test y ≡ true) x xs parts.0 (all_from test xs parts.1)
-
-pub whole_tables : (files : List Named) (e : EnvelopeValue) → list_all is_whole (rows_in files (tables_of e)) ≡ true → AreWhole files e.contents × AreWhole files e.deletes
-whole_tables files e whole =
-    let each : list_all (λ t. list_all is_whole (table_rows files t)) (e.contents ++ e.deletes) ≡ true = sym (all_in_each is_whole (table_rows files) (e.contents ++ e.deletes)) ∙ whole in
-    let parts = and_parts (list_all (λ t. list_all is_whole (table_rows files t)) e.contents) (list_all (λ t. list_all is_whole (table_rows files t)) e.deletes) (sym (list_all-append (λ t. list_all is_whole (table_rows files t)) e.contents e.deletes) ∙ each) in
-    (all_from (λ t. list_all is_whole (table_rows files t)) e.contents parts.0, all_from (λ t. list_all is_whole (table_rows files t)) e.deletes parts.1)
 
 -- ---- the tests in order
 
@@ -53,6 +25,12 @@ told_rows files e n filed wrong = rw (filed, wrong) refl
 pub told_deposit : (files : List Named) (e : EnvelopeValue) → are_filed files (tables_of e) ≡ true → check_rows (rows_in files (tables_of e)) ≡ Ok tt → deposit_in files e ≡ Ok (deposit_of files e)
 unfolding deposit_in
 told_deposit files e filed right = rw (filed, right) refl
+
+-- what returns the deposit of rows that pass returns that of files, where they are filed
+pub read_filed : {E : Type 0} (files : List Named) (e : EnvelopeValue) (r : Result DepositValue E) → are_filed files (tables_of e) ≡ true
+    → OnOk r (check_rows (rows_in files (tables_of e)) ≡ Ok tt) → IfOk r (λ d. d ≡ deposit_of files e) → IfOk r (λ d. deposit_in files e ≡ Ok d)
+read_filed files e (Ok d) filed passed made = told_deposit files e filed passed ∙ ap (λ (x : DepositValue). Ok x) (sym made)
+read_filed files e (Err fault) filed passed made = tt
 
 pub no_frame : (body : List ℕ) (n : ℕ) → frame body ≡ Err n → reading body ≡ Err n
 unfolding reading

@@ -1,5 +1,5 @@
 -- Tables in the order of their names.
-use Rattle.std.proofs.Common.{◌≡◌, ◌∙◌, ℕ, zero, suc, ◌+◌, ◌<◌, ◌≤◌, Bool, false, cond, List, [], ◌∷◌, ◌++◌, length, map, filter, take, get_or, refl, sym, ap, inl, inr, arith, subst, add-one}
+use Rattle.std.proofs.Common.{◌≡◌, ◌∙◌, ℕ, zero, suc, ◌+◌, ◌<◌, ◌≤◌, Bool, false, cond, List, [], ◌∷◌, ◌++◌, length, map, filter, take, get_or, refl, sym, ap, inl, inr, arith, add-one}
 use Rattle.std.specs.Borrow.{Bor}
 use Rattle.std.specs.Prelude.{not, unwrap_or, nat_lt, All}
 use Rattle.std.specs.List.{insert, position, position_or_len, fold}
@@ -44,7 +44,7 @@ inserted us t i is = rw (is, place_or_end (is_after t.now) us) (inserted_at us t
 
 -- ---- one more table
 
-take_next : {X : Type 0} (xs : List X) (i : ℕ) (x : X) → i < length xs → x ≡ get_or xs i x → take (suc i) xs ≡ take i xs ++ (x ∷ [])
+pub take_next : {X : Type 0} (xs : List X) (i : ℕ) (x : X) → i < length xs → x ≡ get_or xs i x → take (suc i) xs ≡ take i xs ++ (x ∷ [])
 take_next [] i x lt is = absurd (omega arith)
 take_next {X = X} (y ∷ ys) zero x lt is = ap (λ (z : X). z ∷ []) (sym is)
 take_next {X = X} (y ∷ ys) (suc i) x lt is = ap (λ (zs : List X). y ∷ zs) (take_next ys i x (omega arith) is)
@@ -73,8 +73,3 @@ onward_all P (t ∷ ts) us todo all = onward_all P ts (placed us t) (All-tail P 
 
 pub by_name_all : (P : TableValue → Type 0) (test : TableValue → Bool) (ts : List TableValue) → All P ts → All P (by_name (filter test ts))
 by_name_all P test ts all = onward_all P (filter test ts) [] (All-filter test P ts all) (All-nil P)
-
-pub all_pointed : (P : TableValue → Type 0) (rs : List (Bor TableValue)) (i : ℕ) (r : Bor TableValue) → All P (map pointed rs) → i < length rs → r ≡ get_or rs i r → P r.now
-all_pointed P [] i r all lt is = absurd (omega arith)
-all_pointed P (x ∷ rs) zero r all lt is = subst P (ap pointed (sym is)) (all 0 x.now (omega arith))
-all_pointed P (x ∷ rs) (suc i) r all lt is = all_pointed P rs i r (All-tail P x.now (map pointed rs) all) (omega arith) is

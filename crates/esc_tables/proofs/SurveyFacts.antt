@@ -1,19 +1,17 @@
 -- What a pass over all rows says of them.
-use Rattle.std.proofs.Common.{◌≡◌, ◌∙◌, ℕ, ◌+◌, ◌<◌, ◌≤◌, Bool, true, false, cond, List, [], ◌∷◌, ◌++◌, length, get_or, min, refl, sym, ap, inl, inr, arith}
-use Rattle.std.specs.Prelude.{not, ◌&&◌, nat_le, Ok, Err}
+use Rattle.std.proofs.Common.{◌≡◌, ◌∙◌, ℕ, ◌+◌, ◌<◌, ◌≤◌, Bool, true, false, cond, List, [], ◌∷◌, length, get_or, min, refl, sym, ap, inl, inr, arith}
+use Rattle.std.specs.Prelude.{◌&&◌, nat_le, Ok, Err}
 use Rattle.std.specs.List.{list_all, flat_map, fold}
-use Rattle.std.proofs.lemmas.Bool.{cases_Bool, not-true, not-false}
+use Rattle.std.proofs.lemmas.Bool.{cases_Bool, and_parts}
 use Rattle.std.proofs.lemmas.Bool.Decides.{nat_tests}
 use Rattle.std.proofs.lemmas.List.Folds.{list_all-append, list_all_at}
-use Rattle.std.proofs.lemmas.List.Sums.{fold-append}
-use Rattle.std.proofs.lemmas.Grind.{flat_map-append}
 use Rattle.std.proofs.Math.Bool.{and_assoc}
 use Rattle.esc_bundle.specs.Bundle.{Named}
 use Rattle.esc_envelope.specs.EnvelopeValue.{TableValue}
 use Rattle.esc_tables.specs.declared.survey.Survey.{Survey}
 use Rattle.esc_tables.specs.TableRow.{TableRow, rows_in, table_rows, is_whole, has_key}
-use Rattle.esc_tables.specs.Reading.{check_rows}
-use Rattle.esc_tables.specs.Survey.{noted, unseen}
+use Rattle.esc_tables.specs.Reading.{check_rows, check, ◌>>=◌}
+use Rattle.esc_tables.specs.Survey.{noted, unseen, is_right, verdict}
 
 -- a test of all rows is a test of the rows of each table
 pub all_in_each : {A B : Type 0} (test : B → Bool) (f : A → List B) (xs : List A) → list_all test (flat_map f xs) ≡ list_all (λ x. list_all test (f x)) xs
@@ -47,42 +45,40 @@ rows_seen s (r ∷ rows) h = let more = one_more s.rows (length rows) h in rows_
 abbrev pub SeenOf : List TableRow → Survey → Type 0
 SeenOf rows s = (s.has_keys ≡ list_all has_key rows) × (s.rows ≡ min (length rows) 100_001)
 
-seen_is : (rows : List TableRow) → SeenOf rows (fold noted unseen rows)
+pub seen_is : (rows : List TableRow) → SeenOf rows (fold noted unseen rows)
 seen_is rows = (keys_seen unseen rows, rows_seen unseen rows (omega arith) ∙ omega arith)
-
-pub seen_all : (files : List Named) (contents deletes : List TableValue) (s t : Survey) → s ≡ fold noted unseen (rows_in files contents) → t ≡ fold noted s (rows_in files deletes) → SeenOf (rows_in files (contents ++ deletes)) t
-seen_all files contents deletes s t first then =
-    let all : t ≡ fold noted unseen (rows_in files (contents ++ deletes)) = then ∙ ap (λ (u : Survey). fold noted u (rows_in files deletes)) first ∙ sym (fold-append noted unseen (rows_in files contents) (rows_in files deletes)) ∙ ap (fold noted unseen) (sym (flat_map-append (table_rows files) contents deletes)) in
-    rw all (seen_is (rows_in files (contents ++ deletes)))
-
-pub whole_all : (files : List Named) (contents deletes : List TableValue) → list_all is_whole (rows_in files contents) ≡ true → list_all is_whole (rows_in files deletes) ≡ true → list_all is_whole (rows_in files (contents ++ deletes)) ≡ true
-whole_all files contents deletes first then = rw (flat_map-append, list_all-append, first, then) refl
-
-pub broken_first : (files : List Named) (contents deletes : List TableValue) → list_all is_whole (rows_in files contents) ≡ false → list_all is_whole (rows_in files (contents ++ deletes)) ≡ false
-broken_first files contents deletes first = rw (flat_map-append, list_all-append, first) refl
-
-pub broken_then : (files : List Named) (contents deletes : List TableValue) → list_all is_whole (rows_in files contents) ≡ true → list_all is_whole (rows_in files deletes) ≡ false → list_all is_whole (rows_in files (contents ++ deletes)) ≡ false
-broken_then files contents deletes first then = rw (flat_map-append, list_all-append, first, then) refl
 
 -- the fault that applies
 pub told_9 : (rows : List TableRow) → list_all is_whole rows ≡ false → check_rows rows ≡ Err 9
 unfolding check_rows
 told_9 rows broken = rw broken refl
 
-pub told_10 : (rows : List TableRow) (s : Survey) → list_all is_whole rows ≡ true → SeenOf rows s → not s.has_keys ≡ true → check_rows rows ≡ Err 10
-unfolding check_rows
-told_10 rows s whole seen keyless = rw (whole, ← seen.0, not-true s.has_keys keyless) refl
+test_seen : (len n : ℕ) → n ≡ min len 100_001 → nat_le len 100_000 ≡ nat_le n 100_000
+test_seen len n is = elim (cases_Bool (nat_le len 100_000)) [
+  | inl few ↦ let within : len ≤ 100_000 = grind (arith, nat_tests) in let same : n ≡ len = omega (arith, is, within) in rw same refl
+  | inr many ↦ let over : 100_000 < len = grind (arith, nat_tests) in let same : n ≡ 100_001 = omega (arith, is, over) in rw (many, same) refl
+]
 
-pub told_11 : (rows : List TableRow) (s : Survey) → list_all is_whole rows ≡ true → SeenOf rows s → not s.has_keys ≡ false → 100_000 < s.rows → check_rows rows ≡ Err 11
+pub judged : (rows : List TableRow) (s : Survey) → list_all is_whole rows ≡ true → SeenOf rows s → check_rows rows ≡ verdict s
 unfolding check_rows
-told_11 rows s whole seen keys many =
-    let over : 100_000 < length rows = omega (arith, seen.1, many) in
-    let test : nat_le (length rows) 100_000 ≡ false = grind (arith, nat_tests) in
-    rw (whole, ← seen.0, not-false s.has_keys keys, test) refl
+judged rows s whole seen = rw (whole, ← seen.0, test_seen (length rows) s.rows seen.1) refl
 
-pub told_right : (rows : List TableRow) (s : Survey) → list_all is_whole rows ≡ true → SeenOf rows s → not s.has_keys ≡ false → s.rows ≤ 100_000 → check_rows rows ≡ Ok tt
-unfolding check_rows
-told_right rows s whole seen keys few =
-    let within : length rows ≤ 100_000 = omega (arith, seen.1, few) in
-    let test : nat_le (length rows) 100_000 ≡ true = grind (arith, nat_tests) in
-    rw (whole, ← seen.0, not-false s.has_keys keys, test) refl
+both_pass : (a b : Bool) → (check a 10 >>= λ _. check b 11) ≡ Ok tt → (a && b) ≡ true
+both_pass true true h = refl
+both_pass true false h = absurd cc
+both_pass false b h = absurd cc
+
+pub right_verdict : (s : Survey) → verdict s ≡ Ok tt → is_right s ≡ true
+right_verdict s h = both_pass s.has_keys (nat_le s.rows 100_000) h
+
+-- what is right after a row was right before it
+pub right_before : (s : Survey) (r : TableRow) → is_right (noted s r) ≡ true → is_right s ≡ true
+right_before s r h = by_test (nat_le s.rows 100_000) refl
+  where
+    by_test : (b : Bool) → nat_le s.rows 100_000 ≡ b → is_right s ≡ true
+    by_test true few = rw ((and_parts s.has_keys (has_key r) (and_parts (s.has_keys && has_key r) (nat_le (noted s r).rows 100_000) h).0).0, few) refl
+    by_test false many = absurd (cc (sym many ∙ (and_parts (s.has_keys && has_key r) (nat_le s.rows 100_000) (rw many at h)).1))
+
+pub right_at_first : (s : Survey) (rows : List TableRow) → is_right (fold noted s rows) ≡ true → is_right s ≡ true
+right_at_first s [] h = h
+right_at_first s (r ∷ rows) h = right_before s r (right_at_first (noted s r) rows h)

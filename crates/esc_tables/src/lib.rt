@@ -54,11 +54,12 @@
 //!
 //! # Cost
 //!
-//! Two passes over the text: the first looks at every row and keeps none, the second copies each
-//! row's texts once, in one piece; the table's name and its fields' names are kept once for all its
-//! rows. Objects are found by a map, so the time is n log n in the number of rows. Nothing passes
-//! over all rows for one object or one table. For the envelope alone no row is looked at: the frame
-//! is passed over from section to section.
+//! One pass over the text: each row is tested, and its texts are copied once, in one piece; the
+//! table's name and its fields' names are kept once for all its rows. After a wrong key or too many
+//! rows the later rows are only tested, so no more rows are kept than a bundle may have. Objects
+//! are found by a map, so the time is n log n in the number of rows. Nothing passes over all rows
+//! for one object or one table. For the envelope alone no row is looked at: the frame is passed
+//! over from section to section.
 #![tactic(auto)]
 
 mod deposit;

@@ -9,19 +9,19 @@ ghost use Rattle.std.specs.Prelude.{
   ℕ,
   List,
   length,
-  true,
   Ok,
   Err,
   IfOk,
   IfErr,
+  OnOk,
   MatchResult,
 };
-ghost use Rattle.std.specs.List.{list_all};
 ghost use Rattle.esc_bundle.specs.Bundle.{views, limit, first_line};
-ghost use Rattle.esc_tables.specs.TableRow.{rows_in, is_whole};
+ghost use Rattle.esc_tables.specs.TableRow.{rows_in};
 ghost use Rattle.esc_tables.specs.DepositValue.{DepositValue};
 ghost use Rattle.esc_tables.specs.Reading.{
   tables_of,
+  check_rows,
   deposit_of,
   deposit_in,
   reading,
@@ -32,9 +32,8 @@ use crate::deposit::Deposit;
 use crate::files::are_filed;
 use crate::gather::gather;
 use crate::laws::refusals_are_1_to_11;
-use crate::survey::check_rows;
-use crate::tables::{read_children, read_deletes, read_parents};
-use esc_bundle::{Fault, NoMemory, Section, sections};
+use crate::tables::read_rows;
+use esc_bundle::{Fault, Section, sections};
 use esc_envelope::{Envelope, read_envelope};
 use std::alloc::Global;
 
@@ -42,14 +41,13 @@ use std::alloc::Global;
 /// once.
 const WRONG_FILES: Fault = Fault::Refused(8);
 
-// The deposit that the rows make, where all of them are whole.
-fn make_deposit(
-    alloc: Global,
-    files: &[Section<'_>],
-    envelope: Envelope,
-) -> Result<Deposit, NoMemory>
-    requires { list_all is_whole (rows_in (views files.now) (tables_of envelope)) ≡ true }
-    ensures { IfOk result (λ d. d ≡ deposit_of (views files.now) envelope) }
+// The deposit that the rows make, or the least fault of theirs.
+fn make_deposit(alloc: Global, files: &[Section<'_>], envelope: Envelope) -> Result<Deposit, Fault>
+    ensures passed { OnOk result
+        (check_rows (rows_in (views files.now) (tables_of envelope)) ≡ Ok tt) }
+    ensures made { IfOk result (λ d. d ≡ deposit_of (views files.now) envelope) }
+    ensures refused { IfErr result (λ e. (n : ℕ) → e ≡ Fault.Refused n
+        → check_rows (rows_in (views files.now) (tables_of envelope)) ≡ Err n) }
 {
     let Envelope {
         header,
@@ -57,14 +55,12 @@ fn make_deposit(
         contents,
         deletes,
     } = envelope;
-    let parents = read_parents(alloc, files, contents.as_slice())?;
-    let children = read_children(alloc, files, contents.as_slice())?;
-    let deletes = read_deletes(alloc, files, deletes.as_slice())?;
-    let gathered = gather(alloc, parents, children)?;
+    let rows = read_rows(alloc, files, contents.as_slice(), deletes.as_slice())?;
+    let gathered = gather(alloc, rows.parents, rows.children)?;
     Ok(Deposit {
         header,
         counts,
-        deletes,
+        deletes: rows.deletes,
         contents: gathered.objects,
         orphans: gathered.orphans,
     })
@@ -80,8 +76,7 @@ fn read_files(alloc: Global, files: &[Section<'_>], envelope: Envelope) -> Resul
     if !are_filed(files, contents, deletes) {
         return Err(WRONG_FILES);
     }
-    check_rows(alloc, files, contents, deletes)?;
-    Ok(make_deposit(alloc, files, envelope)?)
+    make_deposit(alloc, files, envelope)
 }
 
 /// The deposit that the bytes of a bundle are (RFC 8909, section 2, and this project's profile).

@@ -1,121 +1,238 @@
-//! The rows of declared tables, read with the keys of their objects.
+//! The rows of declared tables, tested and read with the keys of their objects in one pass.
+//!
+//! A row that isn't whole ends the pass, since its fault is the least. After a wrong key, or after
+//! too many rows, later rows are still tested, as one of them may not be whole, but no row is kept
+//! any more: so no more rows are kept than a bundle may have.
 
-ghost use Rattle.std.specs.Prelude.{◌≡◌, ◌++◌, true, IfOk, OnOk, map, filter, not, All};
-ghost use Rattle.std.specs.List.{list_all};
+ghost use Rattle.std.specs.Prelude.{
+  ◌≡◌,
+  ◌++◌,
+  ℕ,
+  true,
+  false,
+  Ok,
+  Err,
+  IfOk,
+  IfErr,
+  OnOk,
+  map,
+  filter,
+  not,
+};
+ghost use Rattle.std.specs.List.{list_all, fold};
 ghost use Rattle.esc_bundle.specs.Bundle.{views};
 ghost use Rattle.esc_tables.specs.TableRow.{table_rows, rows_in, is_whole, key_of, keyed};
-ghost use Rattle.esc_tables.specs.Reading.{by_name};
+ghost use Rattle.esc_tables.specs.Reading.{check_rows, by_name};
+ghost use Rattle.esc_tables.specs.Survey.{noted, is_right};
 
 use crate::files::bytes_named;
 use crate::key::Key;
 use crate::object::{Heading, Row};
 use crate::order::child_tables;
 use crate::row::{read_key, read_row};
-use esc_bundle::{NoMemory, Section};
+use crate::survey::Survey;
+use esc_bundle::{Fault, Section};
 use esc_csv::{Record, Records};
 use esc_envelope::Table;
 use std::alloc::Global;
 
+// Appends the rows of a table to `found`. They are all there if the survey after them is right.
 fn read_table(
     alloc: Global,
     files: &[Section<'_>],
     table: &Table,
+    mut survey: Survey,
     found: &mut Vec<(Key, Row)>,
-) -> Result<(), NoMemory>
-    requires { list_all is_whole (table_rows (views files.now) table.now) ≡ true }
-    ensures { OnOk result (found.new.items ≡ found.old.items
+) -> Result<Survey, Fault>
+    ensures seen { IfOk result
+        (λ s. s ≡ fold noted survey (table_rows (views files.now) table.now)) }
+    ensures whole { OnOk result (list_all is_whole (table_rows (views files.now) table.now)
+        ≡ true) }
+    ensures rows { IfOk result (λ s. is_right s ≡ true → found.new.items ≡ found.old.items
         ++ map keyed (table_rows (views files.now) table.now)) }
+    ensures refused { IfErr result (λ e. (n : ℕ) → e ≡ Fault.Refused n
+        → (n ≡ 9) × (list_all is_whole (table_rows (views files.now) table.now) ≡ false)) }
 {
     let heading = Heading::of(alloc, table)?;
     let mut rows = Records::of(alloc, bytes_named(files, table.file.as_str()));
     let mut row = Record::new(alloc);
     while rows.next(&mut row)? {
+        survey = survey.note(table, &row)?;
+        if !survey.is_right() {
+            continue;
+        }
         found.push(read_row(alloc, &heading, table, &row)?)?;
     }
-    Ok(())
+    Ok(survey)
 }
 
+// Appends the keys of a table's rows to `found`, as `read_table` its rows.
 fn read_keys(
     alloc: Global,
     files: &[Section<'_>],
     table: &Table,
+    mut survey: Survey,
     found: &mut Vec<Key>,
-) -> Result<(), NoMemory>
-    requires { list_all is_whole (table_rows (views files.now) table.now) ≡ true }
-    ensures { OnOk result (found.new.items ≡ found.old.items
+) -> Result<Survey, Fault>
+    ensures seen { IfOk result
+        (λ s. s ≡ fold noted survey (table_rows (views files.now) table.now)) }
+    ensures whole { OnOk result (list_all is_whole (table_rows (views files.now) table.now)
+        ≡ true) }
+    ensures keys { IfOk result (λ s. is_right s ≡ true → found.new.items ≡ found.old.items
         ++ map key_of (table_rows (views files.now) table.now)) }
+    ensures refused { IfErr result (λ e. (n : ℕ) → e ≡ Fault.Refused n
+        → (n ≡ 9) × (list_all is_whole (table_rows (views files.now) table.now) ≡ false)) }
 {
     let mut rows = Records::of(alloc, bytes_named(files, table.file.as_str()));
     let mut row = Record::new(alloc);
     while rows.next(&mut row)? {
+        survey = survey.note(table, &row)?;
+        if !survey.is_right() {
+            continue;
+        }
         found.push(read_key(alloc, table, &row)?)?;
     }
-    Ok(())
+    Ok(survey)
 }
 
-/// The rows of the parent tables among these, in the order of tables and rows.
-pub fn read_parents(
+// The same of the parent tables among these, in the order of tables and rows.
+fn read_parents(
     alloc: Global,
     files: &[Section<'_>],
     tables: &[Table],
-) -> Result<Vec<(Key, Row)>, NoMemory>
-    requires { All (λ t. list_all is_whole (table_rows (views files.now) t) ≡ true) tables.now }
-    ensures { IfOk result (λ v. v.items
-        ≡ map keyed (rows_in (views files.now) (filter (λ t. t.parent) tables.now))) }
+    mut survey: Survey,
+    found: &mut Vec<(Key, Row)>,
+) -> Result<Survey, Fault>
+    ensures seen { IfOk result (λ s. s ≡ fold noted survey
+        (rows_in (views files.now) (filter (λ t. t.parent) tables.now))) }
+    ensures whole { OnOk result (list_all is_whole
+        (rows_in (views files.now) (filter (λ t. t.parent) tables.now)) ≡ true) }
+    ensures rows { IfOk result (λ s. is_right s ≡ true → found.new.items ≡ found.old.items
+        ++ map keyed (rows_in (views files.now) (filter (λ t. t.parent) tables.now))) }
+    ensures refused { IfErr result (λ e. (n : ℕ) → e ≡ Fault.Refused n → (n ≡ 9)
+        × (list_all is_whole (rows_in (views files.now) (filter (λ t. t.parent) tables.now))
+        ≡ false)) }
 {
-    let mut found = Vec::new(alloc);
     for table in tables {
         if !table.parent {
             continue;
         }
-        read_table(alloc, files, table, &mut found)?;
+        survey = read_table(alloc, files, table, survey, found)?;
     }
-    Ok(found)
+    Ok(survey)
 }
 
+// The same of all these tables, in this order.
 fn read_tables(
     alloc: Global,
     files: &[Section<'_>],
     tables: &[&Table],
-) -> Result<Vec<(Key, Row)>, NoMemory>
-    requires { All (λ t. list_all is_whole (table_rows (views files.now) t) ≡ true)
-        (map (λ t. t.now) tables.now) }
-    ensures { IfOk result (λ v. v.items
-        ≡ map keyed (rows_in (views files.now) (map (λ t. t.now) tables.now))) }
+    mut survey: Survey,
+    found: &mut Vec<(Key, Row)>,
+) -> Result<Survey, Fault>
+    ensures seen { IfOk result (λ s. s ≡ fold noted survey
+        (rows_in (views files.now) (map (λ t. t.now) tables.now))) }
+    ensures whole { OnOk result (list_all is_whole
+        (rows_in (views files.now) (map (λ t. t.now) tables.now)) ≡ true) }
+    ensures rows { IfOk result (λ s. is_right s ≡ true → found.new.items ≡ found.old.items
+        ++ map keyed (rows_in (views files.now) (map (λ t. t.now) tables.now))) }
+    ensures refused { IfErr result (λ e. (n : ℕ) → e ≡ Fault.Refused n → (n ≡ 9)
+        × (list_all is_whole (rows_in (views files.now) (map (λ t. t.now) tables.now))
+        ≡ false)) }
 {
-    let mut found = Vec::new(alloc);
     for table in tables {
-        read_table(alloc, files, table, &mut found)?;
+        survey = read_table(alloc, files, table, survey, found)?;
     }
-    Ok(found)
+    Ok(survey)
 }
 
-/// The rows of the child tables among these, by table name and then as in the file.
-pub fn read_children(
+// The same of the child tables among these, by table name and then as in the file.
+fn read_children(
     alloc: Global,
     files: &[Section<'_>],
     tables: &[Table],
-) -> Result<Vec<(Key, Row)>, NoMemory>
-    requires { All (λ t. list_all is_whole (table_rows (views files.now) t) ≡ true) tables.now }
-    ensures { IfOk result (λ v. v.items
-        ≡ map keyed (rows_in (views files.now) (by_name (filter (λ t. not t.parent) tables.now)))) }
+    survey: Survey,
+    found: &mut Vec<(Key, Row)>,
+) -> Result<Survey, Fault>
+    ensures seen { IfOk result (λ s. s ≡ fold noted survey
+        (rows_in (views files.now) (by_name (filter (λ t. not t.parent) tables.now)))) }
+    ensures whole { OnOk result (list_all is_whole
+        (rows_in (views files.now) (by_name (filter (λ t. not t.parent) tables.now)))
+        ≡ true) }
+    ensures rows { IfOk result (λ s. is_right s ≡ true → found.new.items ≡ found.old.items
+        ++ map keyed (rows_in (views files.now)
+        (by_name (filter (λ t. not t.parent) tables.now)))) }
+    ensures refused { IfErr result (λ e. (n : ℕ) → e ≡ Fault.Refused n → (n ≡ 9)
+        × (list_all is_whole (rows_in (views files.now)
+        (by_name (filter (λ t. not t.parent) tables.now))) ≡ false)) }
 {
     let sorted = child_tables(alloc, tables)?;
-    read_tables(alloc, files, sorted.as_slice())
+    read_tables(alloc, files, sorted.as_slice(), survey, found)
 }
 
-/// The keys of the rows of these tables, in the order of tables and rows.
-pub fn read_deletes(
+// The same of the keys of these tables' rows, in the order of tables and rows.
+fn read_deletes(
     alloc: Global,
     files: &[Section<'_>],
     tables: &[Table],
-) -> Result<Vec<Key>, NoMemory>
-    requires { All (λ t. list_all is_whole (table_rows (views files.now) t) ≡ true) tables.now }
-    ensures { IfOk result (λ v. v.items ≡ map key_of (rows_in (views files.now) tables.now)) }
+    mut survey: Survey,
+    found: &mut Vec<Key>,
+) -> Result<Survey, Fault>
+    ensures seen { IfOk result
+        (λ s. s ≡ fold noted survey (rows_in (views files.now) tables.now)) }
+    ensures whole { OnOk result (list_all is_whole (rows_in (views files.now) tables.now)
+        ≡ true) }
+    ensures keys { IfOk result (λ s. is_right s ≡ true → found.new.items ≡ found.old.items
+        ++ map key_of (rows_in (views files.now) tables.now)) }
+    ensures refused { IfErr result (λ e. (n : ℕ) → e ≡ Fault.Refused n
+        → (n ≡ 9) × (list_all is_whole (rows_in (views files.now) tables.now) ≡ false)) }
 {
-    let mut found = Vec::new(alloc);
     for table in tables {
-        read_keys(alloc, files, table, &mut found)?;
+        survey = read_keys(alloc, files, table, survey, found)?;
     }
-    Ok(found)
+    Ok(survey)
+}
+
+/// The rows of a bundle, read with the keys of their objects.
+#[derive(Drop)]
+pub struct Rows {
+    /// Those of parent tables, in the order of tables and rows.
+    pub parents: Vec<(Key, Row)>,
+    /// Those of child tables, by table name and then as in the file.
+    pub children: Vec<(Key, Row)>,
+    /// Of the delete tables the keys alone, in the order of tables and rows.
+    pub deletes: Vec<Key>,
+}
+
+/// Returns the rows of these tables if all are whole, all have valid keys, and they are not too
+/// many; else the least of U9 to U11 that applies.
+pub fn read_rows(
+    alloc: Global,
+    files: &[Section<'_>],
+    contents: &[Table],
+    deletes: &[Table],
+) -> Result<Rows, Fault>
+    ensures passed { OnOk result
+        (check_rows (rows_in (views files.now) (contents.now ++ deletes.now)) ≡ Ok tt) }
+    ensures parents { IfOk result (λ r. r.parents.items
+        ≡ map keyed (rows_in (views files.now) (filter (λ t. t.parent) contents.now))) }
+    ensures children { IfOk result (λ r. r.children.items ≡ map keyed
+        (rows_in (views files.now) (by_name (filter (λ t. not t.parent) contents.now)))) }
+    ensures deletes { IfOk result (λ r. r.deletes.items
+        ≡ map key_of (rows_in (views files.now) deletes.now)) }
+    ensures refused { IfErr result (λ e. (n : ℕ) → e ≡ Fault.Refused n
+        → check_rows (rows_in (views files.now) (contents.now ++ deletes.now)) ≡ Err n) }
+{
+    let mut parents = Vec::new(alloc);
+    let mut children = Vec::new(alloc);
+    let mut keys = Vec::new(alloc);
+    let survey = read_parents(alloc, files, contents, Survey::new(), &mut parents)?;
+    let survey = read_children(alloc, files, contents, survey, &mut children)?;
+    let survey = read_deletes(alloc, files, deletes, survey, &mut keys)?;
+    survey.verdict()?;
+    Ok(Rows {
+        parents,
+        children,
+        deletes: keys,
+    })
 }

@@ -1,7 +1,13 @@
-use Rattle.std.proofs.Common.{◌≡◌, map, take}
+use Rattle.std.proofs.Common.{◌≡◌, ◌++◌, map, take, true}
+use Rattle.std.specs.List.{list_all, fold}
 use Rattle.esc_bundle.specs.Bundle.{views}
-use Rattle.esc_tables.specs.TableRow.{rows_in, key_of}
+use Rattle.esc_tables.specs.TableRow.{rows_in, is_whole, key_of}
+use Rattle.esc_tables.specs.Survey.{noted, is_right}
 use Rattle.esc_tables.proofs.tables.read_deletes.Given as goal
 
 abbrev pub invariant-loop-table : goal.invariant-loop-table
-invariant-loop-table l = l.found.items ≡ map key_of (rows_in (views l.files) (take l.table-index l.tables))
+invariant-loop-table l = record {
+  seen : l.survey ≡ fold noted l.fn.survey (rows_in (views l.files) (take l.table-index l.tables));
+  whole : list_all is_whole (rows_in (views l.files) (take l.table-index l.tables)) ≡ true;
+  read : is_right l.survey ≡ true → l.found.items ≡ l.fn.found.items ++ map key_of (rows_in (views l.files) (take l.table-index l.tables));
+}

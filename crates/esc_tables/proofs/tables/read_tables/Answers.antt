@@ -1,10 +1,23 @@
-use Rattle.std.proofs.Common.{◌≡◌, true}
-use Rattle.std.specs.List.{list_all}
+use Rattle.std.proofs.Common.{take, map}
+use Rattle.std.proofs.lemmas.Result.{err_from_is_err_and}
 use Rattle.esc_bundle.specs.Bundle.{views}
-use Rattle.esc_envelope.specs.EnvelopeValue.{TableValue}
-use Rattle.esc_tables.specs.TableRow.{table_rows, is_whole}
-use Rattle.esc_tables.proofs.OrderFacts.{all_pointed}
+use Rattle.esc_tables.specs.TableRow.{table_rows, rows_in, keyed}
+use Rattle.esc_tables.proofs.ReadFacts.{more_read, next_pointed}
+use Rattle.esc_tables.proofs.TurnFacts.{fails_in_pointed}
 use Rattle.esc_tables.proofs.tables.read_tables.Goals as goal
 
-pub read_table-requires : goal.read_table-requires
-read_table-requires c = all_pointed (λ (t : TableValue). list_all is_whole (table_rows (views c.args.files.now) t) ≡ true) c.args.tables.now c.loop-table.table-index c.table-item.result c.requires c.loop-table-test.true c.table-item.is
+pub returns-in_err-survey-clause-refused : goal.returns-in_err-survey-clause-refused
+returns-in_err-survey-clause-refused c =
+    let p = err_from_is_err_and c.from_residual.result c.from_residual.ensures.1 in
+    rw (p.1, p.2) (λ n same.
+    let told = c.in_err-survey.ensures.refused n same in
+    (told.0, fails_in_pointed (views c.args.files.now) c.args.tables.now c.loop-table.table-index c.table-item.result c.loop-table-test.true c.table-item.is told.1))
+
+pub loop-table-preserved : goal.loop-table-preserved
+loop-table-preserved c =
+    let files = views c.args.files.now in
+    let before = c.loop-table.invariant in
+    let after = c.in_ok-survey.ensures in
+    let all = next_pointed files c.args.tables.now c.loop-table.table-index c.table-item.result c.loop-table-test.true c.table-item.is in
+    let read = more_read keyed c.args.survey c.args.found.now.items (rows_in files (map (λ t. t.now) (take c.loop-table.table-index c.args.tables.now))) (table_rows files c.table-item.result.now) _ c.loop-table.survey c.in_ok-survey.survey c.loop-table.found.items c.read_table.new.found.items all before.seen before.whole before.read after.seen after.whole after.rows in
+    record { seen = read.seen; whole = read.whole; read = read.read }

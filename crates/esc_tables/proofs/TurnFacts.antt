@@ -1,0 +1,162 @@
+-- The tables of a bundle in the order in which they are read: parents, children by name, deletes.
+use Rattle.std.proofs.Common.{◌≡◌, ◌∙◌, ℕ, zero, suc, ◌+◌, ◌<◌, Bool, true, false, cond, List, [], ◌∷◌, ◌++◌, length, map, filter, get_or, refl, sym, ap, inl, inr, arith}
+use Rattle.std.specs.Borrow.{Bor}
+use Rattle.std.specs.Prelude.{not, ◌&&◌, Err}
+use Rattle.std.specs.List.{list_all, fold}
+use Rattle.std.proofs.lemmas.Bool.{cases_Bool}
+use Rattle.std.proofs.lemmas.List.{length-append}
+use Rattle.std.proofs.lemmas.List.Folds.{list_all-append, list_all-map, list_all_at}
+use Rattle.std.proofs.lemmas.List.Sums.{fold-append}
+use Rattle.std.proofs.lemmas.Grind.{flat_map-append}
+use Rattle.std.proofs.Math.Bool.{and_assoc}
+use Rattle.esc_bundle.specs.Bundle.{Named}
+use Rattle.esc_envelope.specs.EnvelopeValue.{TableValue}
+use Rattle.esc_tables.specs.declared.survey.Survey.{Survey}
+use Rattle.esc_tables.specs.TableRow.{TableRow, table_rows, rows_in, is_whole, has_key}
+use Rattle.esc_tables.specs.Reading.{placed, by_name, is_before, check_rows}
+use Rattle.esc_tables.specs.Survey.{noted, unseen, verdict}
+use Rattle.esc_tables.proofs.OrderFacts.{pointed}
+use Rattle.esc_tables.proofs.SizeFacts.{same_length}
+use Rattle.esc_tables.proofs.SurveyFacts.{all_in_each, SeenOf, seen_is, judged, told_9}
+
+-- ---- one table with a row that fails
+
+fails_kept : (kept test : TableValue → Bool) (ts : List TableValue) (i : ℕ) (t : TableValue) → i < length ts → t ≡ get_or ts i t → kept t ≡ true → test t ≡ false → list_all test (filter kept ts) ≡ false
+fails_kept kept test [] i t lt is here fails = absurd (omega arith)
+fails_kept kept test (y ∷ ys) zero t lt is here fails =
+    let there : kept y ≡ true = ap kept (sym is) ∙ here in
+    let wrong : test y ≡ false = ap test (sym is) ∙ fails in
+    rw (there, wrong) refl
+fails_kept kept test (y ∷ ys) (suc i) t lt is here fails =
+    let later : list_all test (filter kept ys) ≡ false = fails_kept kept test ys i t (omega arith) is here fails in
+    elim (cases_Bool (kept y)) [ inl e ↦ rw (e, later) (and_false (test y)) | inr e ↦ rw e later ]
+  where
+    and_false : (b : Bool) → (b && false) ≡ false
+    and_false true = refl
+    and_false false = refl
+
+pub fails_in_parent : (files : List Named) (ts : List TableValue) (i : ℕ) (t : TableValue) → i < length ts → t ≡ get_or ts i t → t.parent ≡ true → list_all is_whole (table_rows files t) ≡ false → list_all is_whole (rows_in files (filter (λ t. t.parent) ts)) ≡ false
+fails_in_parent files ts i t lt is here fails =
+    all_in_each is_whole (table_rows files) (filter (λ t. t.parent) ts) ∙ fails_kept (λ t. t.parent) (λ u. list_all is_whole (table_rows files u)) ts i t lt is here fails
+
+pub fails_in_pointed : (files : List Named) (rs : List (Bor TableValue)) (i : ℕ) (r : Bor TableValue) → i < length rs → r ≡ get_or rs i r → list_all is_whole (table_rows files r.now) ≡ false → list_all is_whole (rows_in files (map pointed rs)) ≡ false
+fails_in_pointed files rs i r lt is fails =
+    all_in_each is_whole (table_rows files) (map pointed rs) ∙ list_all-map (λ u. list_all is_whole (table_rows files u)) pointed rs
+    ∙ list_all_at (λ u. list_all is_whole (table_rows files u.now)) rs i r lt (ap (λ (u : Bor TableValue). list_all is_whole (table_rows files u.now)) (sym is) ∙ fails)
+
+-- ---- a test of tables in turn
+
+abbrev is_parent : TableValue → Bool
+is_parent t = t.parent
+
+abbrev is_child : TableValue → Bool
+is_child t = not t.parent
+
+abbrev in_turn : List TableValue → List TableValue → List TableValue
+in_turn contents deletes = filter is_parent contents ++ (by_name (filter is_child contents) ++ deletes)
+
+past : (a b c : Bool) → (a && (b && c)) ≡ (b && (a && c))
+past true b c = refl
+past false true c = refl
+past false false c = refl
+
+with_true : (b : Bool) → b ≡ (b && true)
+with_true true = refl
+with_true false = refl
+
+placed_tested : (test : TableValue → Bool) (us : List TableValue) (t : TableValue) → list_all test (placed us t) ≡ (test t && list_all test us)
+placed_tested test [] t = refl
+placed_tested test (u ∷ us) t = elim (cases_Bool (is_before t u)) [
+  | inl e ↦ rw e refl
+  | inr e ↦ rw e (ap (λ (b : Bool). test u && b) (placed_tested test us t) ∙ past (test u) (test t) (list_all test us))
+]
+
+onward_tested : (test : TableValue → Bool) (ts us : List TableValue) → list_all test (fold placed us ts) ≡ (list_all test us && list_all test ts)
+onward_tested test [] us = with_true (list_all test us)
+onward_tested test (t ∷ ts) us =
+    onward_tested test ts (placed us t) ∙ ap (λ (b : Bool). b && list_all test ts) (placed_tested test us t)
+    ∙ and_assoc (test t) (list_all test us) (list_all test ts) ∙ past (test t) (list_all test us) (list_all test ts)
+
+parted_tested : (test : TableValue → Bool) (ts : List TableValue) → (list_all test (filter is_parent ts) && list_all test (filter is_child ts)) ≡ list_all test ts
+parted_tested test [] = refl
+parted_tested test (t ∷ ts) = by_test t.parent (parted_tested test ts)
+  where
+    by_test : (b : Bool) → (list_all test (filter is_parent ts) && list_all test (filter is_child ts)) ≡ list_all test ts
+        → (list_all test (cond b (t ∷ filter is_parent ts) (filter is_parent ts)) && list_all test (cond (not b) (t ∷ filter is_child ts) (filter is_child ts))) ≡ list_all test (t ∷ ts)
+    by_test true later = and_assoc (test t) (list_all test (filter is_parent ts)) (list_all test (filter is_child ts)) ∙ ap (λ (b : Bool). test t && b) later
+    by_test false later = past (list_all test (filter is_parent ts)) (test t) (list_all test (filter is_child ts)) ∙ ap (λ (b : Bool). test t && b) later
+
+turn_tested : (test : TableValue → Bool) (cs ds : List TableValue) → list_all test (in_turn cs ds) ≡ list_all test (cs ++ ds)
+turn_tested test cs ds =
+    let parents = list_all test (filter is_parent cs) in
+    let children = list_all test (by_name (filter is_child cs)) in
+    let deletes = list_all test ds in
+    list_all-append test (filter is_parent cs) (by_name (filter is_child cs) ++ ds) ∙ ap (λ (b : Bool). parents && b) (list_all-append test (by_name (filter is_child cs)) ds)
+    ∙ sym (and_assoc parents children deletes) ∙ ap (λ (b : Bool). (parents && b) && deletes) (onward_tested test (filter is_child cs) [])
+    ∙ ap (λ (b : Bool). b && deletes) (parted_tested test cs) ∙ sym (list_all-append test cs ds)
+
+-- ---- as many rows
+
+parted_length : (files : List Named) (ts : List TableValue) → length (rows_in files (filter is_parent ts)) + length (rows_in files (filter is_child ts)) ≡ length (rows_in files ts)
+parted_length files [] = refl
+parted_length files (t ∷ ts) = by_test t.parent (parted_length files ts)
+  where
+    by_test : (b : Bool) → length (rows_in files (filter is_parent ts)) + length (rows_in files (filter is_child ts)) ≡ length (rows_in files ts)
+        → length (rows_in files (cond b (t ∷ filter is_parent ts) (filter is_parent ts))) + length (rows_in files (cond (not b) (t ∷ filter is_child ts) (filter is_child ts))) ≡ length (rows_in files (t ∷ ts))
+    by_test true later = omega (arith, later, length-append (table_rows files t) (rows_in files (filter is_parent ts)), length-append (table_rows files t) (rows_in files ts))
+    by_test false later = omega (arith, later, length-append (table_rows files t) (rows_in files (filter is_child ts)), length-append (table_rows files t) (rows_in files ts))
+
+-- ---- the rows of tables in turn have the same faults
+
+abbrev pub parents_in : List Named → List TableValue → List TableRow
+parents_in files contents = rows_in files (filter is_parent contents)
+
+abbrev pub children_in : List Named → List TableValue → List TableRow
+children_in files contents = rows_in files (by_name (filter is_child contents))
+
+-- the rows of a bundle in the order in which they are read
+abbrev pub in_parts : List Named → List TableValue → List TableValue → List TableRow
+in_parts files contents deletes = parents_in files contents ++ (children_in files contents ++ rows_in files deletes)
+
+parts_turn : (files : List Named) (cs ds : List TableValue) → in_parts files cs ds ≡ rows_in files (in_turn cs ds)
+parts_turn files cs ds =
+    ap (λ (rows : List TableRow). rows_in files (filter is_parent cs) ++ rows) (sym (flat_map-append (table_rows files) (by_name (filter is_child cs)) ds))
+    ∙ sym (flat_map-append (table_rows files) (filter is_parent cs) (by_name (filter is_child cs) ++ ds))
+
+parts_tested : (files : List Named) (cs ds : List TableValue) (test : TableRow → Bool) → list_all test (in_parts files cs ds) ≡ list_all test (rows_in files (cs ++ ds))
+parts_tested files cs ds test =
+    ap (list_all test) (parts_turn files cs ds) ∙ all_in_each test (table_rows files) (in_turn cs ds)
+    ∙ turn_tested (λ t. list_all test (table_rows files t)) cs ds ∙ sym (all_in_each test (table_rows files) (cs ++ ds))
+
+parts_length : (files : List Named) (cs ds : List TableValue) → length (in_parts files cs ds) ≡ length (rows_in files (cs ++ ds))
+parts_length files cs ds =
+    let all : length (rows_in files (cs ++ ds)) ≡ length (rows_in files cs) + length (rows_in files ds) = ap (λ (rows : List TableRow). length rows) (flat_map-append (table_rows files) cs ds) ∙ length-append (rows_in files cs) (rows_in files ds) in
+    omega (arith, all, parted_length files cs, same_length files (filter is_child cs), length-append (rows_in files (filter is_parent cs)) (rows_in files (by_name (filter is_child cs)) ++ rows_in files ds), length-append (rows_in files (by_name (filter is_child cs))) (rows_in files ds))
+
+pub same_faults : (files : List Named) (cs ds : List TableValue) → check_rows (rows_in files (cs ++ ds)) ≡ check_rows (in_parts files cs ds)
+unfolding check_rows
+same_faults files cs ds = rw (parts_tested files cs ds is_whole, parts_tested files cs ds has_key, parts_length files cs ds) refl
+
+-- ---- the least fault of rows that were read in three parts
+
+seen_in_parts : (ps cs ds : List TableRow) (s t u : Survey) → s ≡ fold noted unseen ps → t ≡ fold noted s cs → u ≡ fold noted t ds → SeenOf (ps ++ (cs ++ ds)) u
+seen_in_parts ps cs ds s t u first second third =
+    let all : u ≡ fold noted unseen (ps ++ (cs ++ ds)) =
+    third ∙ ap (λ (x : Survey). fold noted x ds) second ∙ ap (λ (x : Survey). fold noted (fold noted x cs) ds) first
+    ∙ sym (fold-append noted (fold noted unseen ps) cs ds) ∙ sym (fold-append noted unseen ps (cs ++ ds)) in
+    rw all (seen_is (ps ++ (cs ++ ds)))
+
+-- of rows in three parts, all of them whole, the verdict is that of what was seen of them
+pub judged_in_parts : (ps cs ds : List TableRow) (s t u : Survey) → s ≡ fold noted unseen ps → t ≡ fold noted s cs → u ≡ fold noted t ds
+    → list_all is_whole ps ≡ true → list_all is_whole cs ≡ true → list_all is_whole ds ≡ true → check_rows (ps ++ (cs ++ ds)) ≡ verdict u
+judged_in_parts ps cs ds s t u first second third whole1 whole2 whole3 =
+    judged (ps ++ (cs ++ ds)) u (rw (list_all-append is_whole ps (cs ++ ds), list_all-append is_whole cs ds, whole1, whole2, whole3) refl) (seen_in_parts ps cs ds s t u first second third)
+
+pub broken_first : (ps cs ds : List TableRow) → list_all is_whole ps ≡ false → check_rows (ps ++ (cs ++ ds)) ≡ Err 9
+broken_first ps cs ds broken = told_9 (ps ++ (cs ++ ds)) (rw (list_all-append is_whole ps (cs ++ ds), broken) refl)
+
+pub broken_second : (ps cs ds : List TableRow) → list_all is_whole ps ≡ true → list_all is_whole cs ≡ false → check_rows (ps ++ (cs ++ ds)) ≡ Err 9
+broken_second ps cs ds whole broken = told_9 (ps ++ (cs ++ ds)) (rw (list_all-append is_whole ps (cs ++ ds), list_all-append is_whole cs ds, whole, broken) refl)
+
+pub broken_third : (ps cs ds : List TableRow) → list_all is_whole ps ≡ true → list_all is_whole cs ≡ true → list_all is_whole ds ≡ false → check_rows (ps ++ (cs ++ ds)) ≡ Err 9
+broken_third ps cs ds whole1 whole2 broken = told_9 (ps ++ (cs ++ ds)) (rw (list_all-append is_whole ps (cs ++ ds), list_all-append is_whole cs ds, whole1, whole2, broken) refl)
