@@ -3,7 +3,7 @@ use Rattle.std.proofs.Common.{◌≡◌, ◌⊎◌, inl, inr, ◌↔◌, ℕ, �
 use Rattle.std.specs.FinSet as set
 use Rattle.std.specs.Cmp.{nat_cmp_total}
 use Rattle.std.specs.Ordering.{nat_cmp, eq_by_cmp}
-use Rattle.std.proofs.lemmas.Bool.{cases_order, false≢true, or_cases}
+use Rattle.std.proofs.lemmas.Bool.{false≢true, or_cases}
 use Rattle.std.proofs.lemmas.Bool.Decides.{nat_tests}
 use Rattle.std.proofs.lemmas.Int.{ints}
 use Rattle.std.proofs.lemmas.Map.Lookups.{exact_unsigned}
@@ -16,8 +16,9 @@ use Rattle.esc_manifest.specs.Accepted.{IsAccepted}
 use Rattle.esc_chain.specs.Chain.{Rows, IsHeld, InRange, IsUsed, LeadsBack, IsChainBack, IsLatestChain, IsBy, IsLatestBackAt, IsLatestChainAt, AreUntil}
 use Rattle.esc_chain.proofs.Chains.{base_earlier}
 use Rattle.esc_chain.proofs.HeldRows.{none_in_range, one_more_in_range}
+use Rattle.esc_chain.proofs.Rows.{at_more}
 
--- what is earlier is not later than the moment or_cases
+-- what is earlier is not later than the moment
 earlier_by : (t : Option ℤ) (v w : ℤ) → v <ℤ w → IsBy t w → IsBy t v
 earlier_by None v w lt by = tt
 earlier_by (Some t) v w lt by = omega (arith, ints, lt, by)
@@ -33,7 +34,9 @@ module _ (m : List MRow) (h g : Rows) (t : Option ℤ) (ok : IsAccepted m) (rang
   used_out : (r : ℕ) → IsUsed m g r → IsUsed m h r
   used_out r row = record {
     held = ((are r).0 row.held).0;
-    greatest = λ q there same. row.greatest q ((are q).1 (there, subst (λ (p : Place). IsBy t p.watermark) (sym same) ((are r).0 row.held).1)) same;
+    greatest = λ q there same.
+        let until = subst (λ (p : Place). IsBy t p.watermark) (sym same) ((are r).0 row.held).1 in
+        row.greatest q ((are q).1 (there, until)) same;
   }
 
   by_of : (r : ℕ) → IsUsed m g r → IsBy t (watermark_at m r)
@@ -50,7 +53,8 @@ module _ (m : List MRow) (h g : Rows) (t : Option ℤ) (ok : IsAccepted m) (rang
       let before : IsBy t (watermark_at m s) = earlier_by t (watermark_at m s) (watermark_at m r) lt by in
       (leads.0, used_in s leads.1 before, leads_in s c (range s leads.1.held) before leads.2)
 
-  chain_in : (q : ℕ) (other : List ℕ) → IsChainBack m h (q ∷ other) → IsBy t (watermark_at m q) → IsChainBack m g (q ∷ other)
+  chain_in : (q : ℕ) (other : List ℕ) → IsChainBack m h (q ∷ other) → IsBy t (watermark_at m q)
+      → IsChainBack m g (q ∷ other)
   chain_in q other is by = (used_in q is.0 by, leads_in q other (range q is.0.held) by is.1)
 
   back_until : (c : List ℕ) → IsLatestBackAt m g None c → IsLatestBackAt m h t c
@@ -74,37 +78,54 @@ pub record IsUntilBelow (m : List MRow) (h : Rows) (t : Option ℤ) (n : ℕ) (g
 pub until_none : (m : List MRow) (h : Rows) (t : Option ℤ) (g : Rows) → g ≡ set.empty → IsUntilBelow m h t 0 g
 until_none m h t g is = record {
   in_range = none_in_range m g is;
-  each = λ r. (λ there. absurd (false≢true (sym (ap (λ (x : Rows). set.contains x r) is ∙ set.contains-empty nat_cmp r) ∙ there)), λ at. absurd (let lt = at.0 in omega (arith, lt)));
+  each = λ r. (
+    λ there. absurd (false≢true (sym (ap (λ (x : Rows). set.contains x r) is ∙ set.contains-empty nat_cmp r) ∙ there)),
+    λ at. absurd (let lt = at.0 in omega (arith, lt)),
+  );
 }
 
-pub until_skip : (m : List MRow) (h : Rows) (t : Option ℤ) (n : ℕ) (g : Rows) → ((IsHeld h n × IsBy t (watermark_at m n)) → ⊥) → IsUntilBelow m h t n g → IsUntilBelow m h t (n + 1) g
+pub until_skip : (m : List MRow) (h : Rows) (t : Option ℤ) (n : ℕ) (g : Rows)
+    → ((IsHeld h n × IsBy t (watermark_at m n)) → ⊥) → IsUntilBelow m h t n g → IsUntilBelow m h t (n + 1) g
 until_skip m h t n g not_here known = record {
   in_range = known.in_range;
-  each = λ r. (λ there. let at = (known.each r).0 there in (let lt = at.0 in omega (arith, lt), at.1, at.2), λ at. back r at (cases_order r n));
+  each = λ r. (
+    λ there. let at = (known.each r).0 there in (let lt = at.0 in omega (arith, lt), at.1, at.2),
+    λ at. at_more n (λ q. (IsHeld h q × IsBy t (watermark_at m q)) → IsHeld g q)
+        (λ q lt is. (known.each q).1 (lt, is.0, is.1)) (λ is. absurd (not_here is)) r at.0 (at.1, at.2),
+  );
 }
-  where
-    back : (r : ℕ) → ((r < n + 1) × IsHeld h r × IsBy t (watermark_at m r)) → (r ≡ n) ⊎ ((r < n) ⊎ (n < r)) → IsHeld g r
-    back r at (inl same) = absurd (not_here (subst (λ (q : ℕ). IsHeld h q × IsBy t (watermark_at m q)) same (at.1, at.2)))
-    back r at (inr (inl before)) = (known.each r).1 (before, at.1, at.2)
-    back r at (inr (inr after)) = absurd (let lt = at.0 in omega (arith, lt, after))
 
-same_is : (r n : ℕ) → r ≡ n → eq_by_cmp nat_cmp r n ≡ true
-same_is r n same = grind (arith, nat_tests, same)
-
-pub until_more : (m : List MRow) (h : Rows) (t : Option ℤ) (n : ℕ) (g : Rows) → n < length m → (IsHeld h n × IsBy t (watermark_at m n)) → IsUntilBelow m h t n g → IsUntilBelow m h t (n + 1) (set.insert g n)
+pub until_more : (m : List MRow) (h : Rows) (t : Option ℤ) (n : ℕ) (g : Rows) → n < length m
+    → (IsHeld h n × IsBy t (watermark_at m n)) → IsUntilBelow m h t n g → IsUntilBelow m h t (n + 1) (set.insert g n)
 until_more m h t n g within here known = record {
   in_range = one_more_in_range m g n within known.in_range;
-  each = λ r. (λ there. out r (or_cases _ _ (sym (set.contains-insert nat_cmp_total g n r) ∙ there)), λ at. back r at (cases_order r n));
+  each = λ r. (
+    λ there. out r (or_cases _ _ (sym (set.contains-insert nat_cmp_total g n r) ∙ there)),
+    λ at. at_more n (λ q. (IsHeld h q × IsBy t (watermark_at m q)) → IsHeld (set.insert g n) q)
+        (λ q lt is. stays q ((known.each q).1 (lt, is.0, is.1))) (λ is. own) r at.0 (at.1, at.2),
+  );
 }
   where
-    out : (r : ℕ) → (eq_by_cmp nat_cmp r n ≡ true) ⊎ (set.contains g r ≡ true) → (r < n + 1) × IsHeld h r × IsBy t (watermark_at m r)
-    out r (inl same) = let e : r ≡ n = tells_apart exact_unsigned r n same in (omega (arith, e), subst (λ (q : ℕ). IsHeld h q) (sym e) here.0, subst (λ (q : ℕ). IsBy t (watermark_at m q)) (sym e) here.1)
+    out : (r : ℕ) → (eq_by_cmp nat_cmp r n ≡ true) ⊎ (set.contains g r ≡ true)
+        → (r < n + 1) × IsHeld h r × IsBy t (watermark_at m r)
+    out r (inl same) =
+        let e : r ≡ n = tells_apart exact_unsigned r n same in
+        let is = subst (λ (q : ℕ). IsHeld h q × IsBy t (watermark_at m q)) (sym e) here in
+        (omega (arith, e), is.0, is.1)
     out r (inr old) = let at = (known.each r).0 old in (let lt = at.0 in omega (arith, lt), at.1, at.2)
 
-    back : (r : ℕ) → ((r < n + 1) × IsHeld h r × IsBy t (watermark_at m r)) → (r ≡ n) ⊎ ((r < n) ⊎ (n < r)) → IsHeld (set.insert g n) r
-    back r at (inl same) = set.contains-insert nat_cmp_total g n r ∙ ap (λ b. b || set.contains g r) (same_is r n same)
-    back r at (inr (inl before)) = set.contains-insert nat_cmp_total g n r ∙ ap (λ b. eq_by_cmp nat_cmp r n || b) ((known.each r).1 (before, at.1, at.2)) ∙ or-true (eq_by_cmp nat_cmp r n)
-    back r at (inr (inr after)) = absurd (let lt = at.0 in omega (arith, lt, after))
+    own : IsHeld (set.insert g n) n
+    own =
+        let same : eq_by_cmp nat_cmp n n ≡ true = grind (arith, nat_tests) in
+        set.contains-insert nat_cmp_total g n n ∙ ap (λ b. b || set.contains g n) same
 
-pub until_all : (m : List MRow) (h : Rows) (t : Option ℤ) (g : Rows) → InRange m h → IsUntilBelow m h t (length m) g → AreUntil m h t g
-until_all m h t g range known r = (λ there. let at = (known.each r).0 there in (at.1, at.2), λ at. (known.each r).1 (range r at.0, at.0, at.1))
+    stays : (q : ℕ) → IsHeld g q → IsHeld (set.insert g n) q
+    stays q is =
+        set.contains-insert nat_cmp_total g n q ∙ ap (λ b. eq_by_cmp nat_cmp q n || b) is ∙ or-true (eq_by_cmp nat_cmp q n)
+
+pub until_all : (m : List MRow) (h : Rows) (t : Option ℤ) (g : Rows) → InRange m h → IsUntilBelow m h t (length m) g
+    → AreUntil m h t g
+until_all m h t g range known r = (
+  λ there. let at = (known.each r).0 there in (at.1, at.2),
+  λ at. (known.each r).1 (range r at.0, at.0, at.1),
+)

@@ -22,10 +22,19 @@ are_also m n listed r within =
     let x = listed (row_at m r) (r, within, get_or_default m r (row_at m r) no_row within) in
     (x.0, x.1, get_or_default n x.0 no_row (row_at m r) x.1 ∙ x.2)
 
+-- each held row of the first is a held row of the second
+abbrev HeldAlso : List MRow → Rows → List MRow → Rows → Type 0
+HeldAlso m h n g = (x : MRow) → HoldsRow m h x → HoldsRow n g x
+
 -- ---- bases are of rows
 
-full_also : (m n : List MRow) (w : ℤ) (r s : ℕ) → s < length n → row_at n s ≡ row_at m r → IsFullBefore m w r → IsFullBefore n w s
-full_also m n w r s within is full = (within, ap (λ (x : MRow). x.header.place.kind) is ∙ full.1, subst (λ (x : MRow). x.header.place.watermark <ℤ w) (sym is) full.2)
+full_also : (m n : List MRow) (w : ℤ) (r s : ℕ) → s < length n → row_at n s ≡ row_at m r → IsFullBefore m w r
+    → IsFullBefore n w s
+full_also m n w r s within is full = (
+  within,
+  ap (λ (x : MRow). x.header.place.kind) is ∙ full.1,
+  subst (λ (x : MRow). x.header.place.watermark <ℤ w) (sym is) full.2,
+)
 
 module _ (m n : List MRow) (also : AreAlso m n) (back : AreAlso n m) where
   last_also : (w : ℤ) (p : Place) → IsLastFull m w (At p) → IsLastFull n w (At p)
@@ -45,44 +54,56 @@ module _ (m n : List MRow) (also : AreAlso m n) (back : AreAlso n m) where
 
   -- a row builds on the same place, wherever it is listed
   base_also : (r s : ℕ) (p : Place) → row_at n s ≡ row_at m r → IsBase m r (At p) → IsBase n s (At p)
-  base_also r s p is base = subst (λ (k : DepositType). IsBaseOf n k s (At p)) (ap (λ (x : MRow). x.header.place.kind) (sym is)) (by_kind (kind_at m r) base)
+  base_also r s p is base =
+      subst (λ (k : DepositType). IsBaseOf n k s (At p)) (ap (λ (x : MRow). x.header.place.kind) (sym is))
+      (by_kind (kind_at m r) base)
     where
       by_kind : (k : DepositType) → IsBaseOf m k r (At p) → IsBaseOf n k s (At p)
       by_kind Full none = none
-      by_kind Incr last = subst (λ (w : ℤ). IsLastFull n w (At p)) (ap (λ (x : MRow). x.header.place.watermark) (sym is)) (last_also (watermark_at m r) p last)
-      by_kind Diff named = subst (λ (o : Option (List ℕ)). IsNamedBy n o (At p)) (ap (λ (x : MRow). x.header.prev) (sym is)) (named_also (prev_at m r) p named)
+      by_kind Incr last =
+          subst (λ (w : ℤ). IsLastFull n w (At p)) (ap (λ (x : MRow). x.header.place.watermark) (sym is))
+          (last_also (watermark_at m r) p last)
+      by_kind Diff named =
+          subst (λ (o : Option (List ℕ)). IsNamedBy n o (At p)) (ap (λ (x : MRow). x.header.prev) (sym is))
+          (named_also (prev_at m r) p named)
 
   -- ---- chains are of rows
-  module _ (h g : Rows) (held_also : (x : MRow) → HoldsRow m h x → HoldsRow n g x) (held_back : (x : MRow) → HoldsRow n g x → HoldsRow m h x) where
+  module _ (h g : Rows) (held_also : HeldAlso m h n g) (held_back : HeldAlso n g m h) where
     -- a used row is used by the other manifest too
     used_also : (r : ℕ) → IsUsed m h r → (s : ℕ) × IsUsed n g s × (row_at n s ≡ row_at m r)
     used_also r used =
         let x = held_also (row_at m r) (r, used.held, refl) in
         let greatest : (q : ℕ) → IsHeld g q → place_at n q ≡ place_at n x.0 → resend_at n q ≤ resend_at n x.0 = λ q held same.
         let y = held_back (row_at n q) (q, held, refl) in
-        let le : resend_at m y.0 ≤ resend_at m r = used.greatest y.0 y.1 (ap (λ (z : MRow). z.header.place) y.2 ∙ same ∙ ap (λ (z : MRow). z.header.place) x.2) in
+        let there = ap (λ (z : MRow). z.header.place) y.2 ∙ same ∙ ap (λ (z : MRow). z.header.place) x.2 in
+        let le : resend_at m y.0 ≤ resend_at m r = used.greatest y.0 y.1 there in
         subst₂ (λ (a b : MRow). a.header.resend ≤ b.header.resend) y.2 (sym x.2) le in
         (x.0, record { held = x.1; greatest = greatest }, x.2)
 
     -- a way back by the one manifest is one by the other, through the same rows
-    leads_also : (r s : ℕ) (c : List ℕ) → row_at n s ≡ row_at m r → LeadsBack m h r c → (d : List ℕ) × LeadsBack n g s d × (rows_along n d ≡ rows_along m c)
+    leads_also : (r s : ℕ) (c : List ℕ) → row_at n s ≡ row_at m r → LeadsBack m h r c
+        → (d : List ℕ) × LeadsBack n g s d × (rows_along n d ≡ rows_along m c)
     leads_also r s [] is full = ([], ap (λ (x : MRow). x.header.place.kind) is ∙ full, refl)
     leads_also r s (q ∷ c) is leads =
         let x = used_also q leads.1 in
         let rest = leads_also q x.0 c x.2 leads.2 in
-        let base : IsBase n s (At (place_at n x.0)) = subst (λ (y : MRow). IsBase n s (At y.header.place)) (sym x.2) (base_also r s (place_at m q) is leads.0) in
+        let base : IsBase n s (At (place_at n x.0)) =
+        subst (λ (y : MRow). IsBase n s (At y.header.place)) (sym x.2) (base_also r s (place_at m q) is leads.0) in
         (x.0 ∷ rest.0, (base, x.1, rest.1), ap₂ (λ (y : MRow) (ys : List MRow). y ∷ ys) x.2 rest.2)
 
     -- and so is a chain
-    chain_also : (r : ℕ) (c : List ℕ) → IsChainBack m h (r ∷ c) → (s : ℕ) × (d : List ℕ) × IsChainBack n g (s ∷ d) × (row_at n s ≡ row_at m r) × (rows_along n d ≡ rows_along m c)
+    chain_also : (r : ℕ) (c : List ℕ) → IsChainBack m h (r ∷ c)
+        → (s : ℕ) × (d : List ℕ) × IsChainBack n g (s ∷ d) × (row_at n s ≡ row_at m r) × (rows_along n d ≡ rows_along m c)
     chain_also r c chain =
         let x = used_also r chain.0 in
         let rest = leads_also r x.0 c x.2 chain.1 in
         (x.0, rest.0, (x.1, rest.1), x.2, rest.2)
 
 -- by the rows of the first manifest, the latest chain of the second is one of the first
-module _ (m n : List MRow) (also : AreAlso m n) (back : AreAlso n m) (h g : Rows) (held_also : (x : MRow) → HoldsRow m h x → HoldsRow n g x) (held_back : (x : MRow) → HoldsRow n g x → HoldsRow m h x) where
-  latest_also : (t : Option ℤ) (d : List ℕ) → IsLatestBackAt n g t d → (c : List ℕ) × IsLatestBackAt m h t c × (rows_along m c ≡ rows_along n d)
+module _ (m n : List MRow) (also : AreAlso m n) (back : AreAlso n m)
+    (h g : Rows) (held_also : HeldAlso m h n g) (held_back : HeldAlso n g m h) where
+  latest_also : (t : Option ℤ) (d : List ℕ) → IsLatestBackAt n g t d
+      → (c : List ℕ) × IsLatestBackAt m h t c × (rows_along m c ≡ rows_along n d)
   latest_also t [] none = (
     [],
     λ q other chain by.
@@ -93,7 +114,8 @@ module _ (m n : List MRow) (also : AreAlso m n) (back : AreAlso n m) (h g : Rows
   latest_also t (s ∷ d) latest =
       let x = chain_also n m back also g h held_back held_also s d latest.0 in
       let by : IsBy t (watermark_at m x.0) = subst (λ (y : MRow). IsBy t y.header.place.watermark) (sym x.3) latest.1 in
-      let greatest : (q : ℕ) (other : List ℕ) → IsChainBack m h (q ∷ other) → IsBy t (watermark_at m q) → IsUpTo (place_at m q) (place_at m x.0) = λ q other chain until.
+      let greatest : (q : ℕ) (other : List ℕ) → IsChainBack m h (q ∷ other) → IsBy t (watermark_at m q)
+      → IsUpTo (place_at m q) (place_at m x.0) = λ q other chain until.
       let y = chain_also m n also back h g held_also held_back q other chain in
       let until_there : IsBy t (watermark_at n y.0) = subst (λ (z : MRow). IsBy t z.header.place.watermark) (sym y.3) until in
       subst₂ (λ (a b : MRow). IsUpTo a.header.place b.header.place) y.3 (sym x.3) (latest.2 y.0 y.1 y.2 until_there) in
@@ -111,5 +133,7 @@ chains_are_of m n h g t c d ok range listed held a b =
     let also = are_also m n (λ x. (listed x).0) in
     let back = are_also n m (λ x. (listed x).1) in
     let x = latest_also m n also back h g (λ y. (held y).0) (λ y. (held y).1) t (reverse d) b in
-    let turned : rows_along m (reverse c) ≡ rows_along n (reverse d) = ap (rows_along m) (latest_same m h t ok range (reverse c) x.0 a x.1) ∙ x.2 in
-    sym (reverse-reverse (rows_along m c)) ∙ ap (λ (xs : List MRow). reverse xs) (sym (along_reverse m c) ∙ turned ∙ along_reverse n d) ∙ reverse-reverse (rows_along n d)
+    let turned : rows_along m (reverse c) ≡ rows_along n (reverse d) = ap (rows_along m) (latest_same m h ok range t (reverse c) x.0 a x.1) ∙ x.2 in
+    sym (reverse-reverse (rows_along m c))
+    ∙ ap reverse (sym (along_reverse m c) ∙ turned ∙ along_reverse n d)
+    ∙ reverse-reverse (rows_along n d)

@@ -1,5 +1,5 @@
 -- How a store of version 1 becomes one of version 2.
-use Rattle.std.proofs.Common.{◌≡◌, ℕ, pos, true, List, [], ◌∷◌, map, Ok, refl, sym, ap, ◌∙◌, arith}
+use Rattle.std.proofs.Common.{◌≡◌, ◌<◌, ℕ, pos, true, List, [], ◌∷◌, map, Ok, refl, sym, ap, ◌∙◌, arith}
 use Rattle.sqlite_value.specs.declared.value.Value.TheVariants.{Null, Int}
 use Rattle.sqlite_value.proofs.OrderLemmas.{value_cmp-Int}
 use Rattle.sqlite_value.specs.Order.{Row}
@@ -17,13 +17,13 @@ use Rattle.sqlite_rules.specs.Calls.{ids_of}
 use Rattle.esc_rows.specs.Schema.{store_schema, info_tree, info_table}
 use Rattle.esc_rows.specs.Texts.{raise_version_text}
 use Rattle.esc_rows.specs.Rows.{info_row, first_info_row}
-use Rattle.esc_rows.specs.StoreTable.{StoreTable, Listed, Receipts, Held, Steps, Objects, Undo, Parked, Moment, tree_of, stored_row}
+use Rattle.esc_rows.specs.StoreTable.{StoreTable, Parked, Moment, place_of, tree_of, stored_row}
 use Rattle.esc_rows.specs.Content.{Content, rows_of}
 use Rattle.esc_rows.specs.FirstVersion.{HoldsFirst, IsTableAdded, AddsTable, IsToBeRaised, RaisesVersion}
 use Rattle.esc_rows.proofs.Compiled.{program_of, version_sets, raise_version_is}
 use Rattle.esc_rows.proofs.Scan.{scan, no_limit, scanned, in_order}
 use Rattle.esc_rows.proofs.Forms.{uncounted, updated}
-use Rattle.esc_rows.proofs.Frame.{not_info, written, other_rows}
+use Rattle.esc_rows.proofs.Frame.{not_info, of_first, written, other_rows}
 use Rattle.esc_rows.proofs.Values.{cast_null, cast_int}
 
 -- ---- the version
@@ -32,7 +32,8 @@ use Rattle.esc_rows.proofs.Values.{cast_null, cast_int}
 abbrev raised_row : Row
 raised_row = Int (pos 1) ∷ info_row
 
-raised : (db : Trees) (rows : List Row) → db info_tree ≡ first_info_row ∷ [] → rows ≡ raised_row ∷ [] → edited db (edit_of db (uncounted info_table) (ids_of rows) Given 1 rows) ≡ info_row ∷ []
+raised : (db : Trees) (rows : List Row) → db info_tree ≡ first_info_row ∷ [] → rows ≡ raised_row ∷ []
+    → edited db (edit_of db (uncounted info_table) (ids_of rows) Given 1 rows) ≡ info_row ∷ []
 raised db rows was is = rw (is, was, cast_null, cast_int (pos 1), cast_int (pos 2), value_cmp-Int (pos 1) (pos 1)) refl
 
 pub raises : (old new : State) (count : ℕ) → Executes raise_version_text [] old new (Ok count) → RaisesVersion old.now new.now
@@ -63,6 +64,11 @@ raises old new count ran c h =
 abbrev pub AddsBoth : Database → Database → Type 0
 AddsBoth old new = (c : Content) → HoldsFirst old c → IsToBeRaised new c
 
+-- each older table keeps its rows
+stay : (at : ℕ) (old new : Database) → IsTableAdded at old new → (t : StoreTable) → place_of t < at
+    → new.trees (tree_of t) ≡ old.trees (tree_of t)
+stay at old new added t = of_first (λ s. new.trees s.tree ≡ old.trees s.tree) at t added.others
+
 pub adds_both : (a b d : Database) → AddsTable 7 a b → AddsTable 8 b d → AddsBoth a d
 adds_both a b d parked moment c h = record {
   schema_is = last.schema_is;
@@ -77,12 +83,11 @@ adds_both a b d parked moment c h = record {
     last : IsTableAdded 8 b d
     last = moment first.schema_is
 
+    older : (t : StoreTable) → place_of t < 7 → d.trees (tree_of t) ≡ map (stored_row t) (rows_of c t)
+    older t low = stay 8 b d last t (omega arith) ∙ (stay 7 a b first t low ∙ h.store.rows.tables t low)
+
     tables : (t : StoreTable) → d.trees (tree_of t) ≡ map (stored_row t) (rows_of c t)
-    tables Listed = last.others.1.0 ∙ (first.others.1.0 ∙ h.store.rows.tables Listed (omega arith))
-    tables Receipts = last.others.1.1.0 ∙ (first.others.1.1.0 ∙ h.store.rows.tables Receipts (omega arith))
-    tables Held = last.others.1.1.1.0 ∙ (first.others.1.1.1.0 ∙ h.store.rows.tables Held (omega arith))
-    tables Steps = last.others.1.1.1.1.0 ∙ (first.others.1.1.1.1.0 ∙ h.store.rows.tables Steps (omega arith))
-    tables Objects = last.others.1.1.1.1.1.0 ∙ (first.others.1.1.1.1.1.0 ∙ h.store.rows.tables Objects (omega arith))
-    tables Undo = last.others.1.1.1.1.1.1.0 ∙ (first.others.1.1.1.1.1.1.0 ∙ h.store.rows.tables Undo (omega arith))
-    tables Parked = last.others.1.1.1.1.1.1.1.0 ∙ (first.empty ∙ ap (map (stored_row Parked)) (sym h.store.rows.parked))
+    tables Parked =
+        stay 8 b d last Parked (omega arith) ∙ (first.empty ∙ ap (map (stored_row Parked)) (sym h.store.rows.parked))
     tables Moment = last.empty ∙ ap (map (stored_row Moment)) (sym h.store.rows.moment)
+    tables t = older t (omega arith)

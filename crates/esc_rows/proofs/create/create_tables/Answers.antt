@@ -1,29 +1,26 @@
-use Rattle.std.proofs.Common.{◌≡◌, ◌+◌, Ok, subst, arith}
+use Rattle.std.proofs.Common.{◌≡◌, Ok, subst, arith}
 use Rattle.sqlite.specs.Held.{state}
 use Rattle.sqlite.specs.declared.error.Error.{Error}
 use Rattle.esc_rows.specs.Part.{IsPart}
 use Rattle.esc_rows.specs.Creation.{Builds}
-use Rattle.esc_rows.specs.FirstVersion.{AddsTable}
 use Rattle.esc_rows.specs.Schema.{no_schema, schema_of}
 use Rattle.esc_rows.proofs.PartLemmas.{parts, part_as}
 use Rattle.esc_rows.proofs.CreateLemmas.{builds}
 use Rattle.esc_rows.proofs.create.create_tables.Goals as goal
 
 pub loop-at-init : goal.loop-at-init
-loop-at-init g c =
-    part_as (state g.S.Store c.args.conn.now) (state g.S.Store c.create_table.new.conn) (AddsTable 0) (Builds no_schema (schema_of 1)) tt tt
-    (λ p q adds. builds 0 (omega arith) p q adds) c.in_ok-create_table.ensures.part
+loop-at-init g c = part_as c.in_ok-create_table.ensures.part (builds 0 (omega arith))
 
 pub loop-at-preserved : goal.loop-at-preserved
 loop-at-preserved g c =
     let at = c.loop-at.at in
-    parts (state g.S.Store c.args.conn.now) (state g.S.Store c.loop-at.conn) (state g.S.Store c.create_table-in-loop-at.new.conn)
-    (Builds no_schema (schema_of at)) (AddsTable at) (Builds no_schema (schema_of (at + 1))) tt tt tt
-    (λ p q r first second was. builds at (omega (arith, c.loop-at-test.true)) q r second (first was)) c.loop-at.invariant c.in_ok-create_table-2.ensures.part
+    parts c.loop-at.invariant c.in_ok-create_table-2.ensures.part
+    (λ p q r first second was. builds at (omega (arith, c.loop-at-test.true)) q r second (first was))
 
 pub returns : goal.returns
 returns g c =
     let all : c.loop-at.at ≡ 9 = omega (arith, c.loop-at-test.false, c.loop-at.auto.at-end) in
     record {
-      part = subst (λ n. IsPart {X = Unit {0}} {E = Error} (state g.S.Store c.args.conn.now) (state g.S.Store c.loop-at.conn) (Builds no_schema (schema_of n)) (Ok tt)) all c.loop-at.invariant;
+      part = subst (λ n. IsPart {X = Unit {0}} {E = Error} (state g.S.Store c.args.conn.now)
+          (state g.S.Store c.loop-at.conn) (Builds no_schema (schema_of n)) (Ok tt)) all c.loop-at.invariant;
     }

@@ -8,4 +8,6 @@ loop-at-preserved g c =
     let k = c.loop-at.at in
     let low : k < length rows = search rules in
     let pushed : c.push.new.self.items ≡ c.loop-at.all.items ++ c.in_ok-one.one ∷ [] = search rules in
-    rw pushed (one_more g.T.FromRow.is_read rows c.loop-at.all.items c.in_ok-one.one k c.index-rows-at.result low c.loop-at.invariant (subst (λ row. g.T.FromRow.is_read row c.in_ok-one.one) c.index-rows-at.is c.in_ok-one.ensures))
+    let read = subst (λ row. g.T.FromRow.is_read row c.in_ok-one.one) c.index-rows-at.is c.in_ok-one.ensures in
+    rw pushed (one_more g.T.FromRow.is_read rows c.loop-at.all.items c.in_ok-one.one k c.index-rows-at.result low
+    c.loop-at.invariant read)

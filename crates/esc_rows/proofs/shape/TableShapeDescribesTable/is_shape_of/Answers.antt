@@ -5,7 +5,7 @@ use Rattle.esc_rows.proofs.shape.TableShapeDescribesTable.is_shape_of.Goals as g
 
 pub returns : goal.returns
 returns c = (
-  λ t. table_made c.args.it.now _ _ _ _ _ _ _ _ _ _ _ _
-      (first_of (search rules, grind (arith, common_steps))) (first_of (search rules, grind (arith, common_steps))) (first_of (search rules, grind (arith, common_steps))) (first_of (search rules, grind (arith, common_steps))) (first_of (search rules, grind (arith, common_steps))) (first_of (search rules, grind (arith, common_steps))) (first_of (search rules, grind (arith, common_steps))) (first_of (search rules, grind (arith, common_steps))) (first_of (search rules, grind (arith, common_steps))) (first_of (search rules, grind (arith, common_steps))) (first_of (search rules, grind (arith, common_steps))) (first_of (search rules, grind (arith, common_steps))),
+  λ t. table_made c.args.it.now _ _ _ _ _ _ _ _ _ _ _ _ (search rules) (search rules)
+      (grind (arith, common_steps)),
   λ e. refl,
 )
