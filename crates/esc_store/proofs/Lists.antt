@@ -29,8 +29,8 @@ all_below n m (r ∷ rs) h = (omega (arith, ints, h), all_below (suc n) m rs (om
 listed_put : (rs : List MRow) (r : MRow) → insert_by listed_number (listed_from 0 rs) (listed_row (length rs) r) ≡ listed_from 0 (rs ++ r ∷ [])
 listed_put rs r = insert_last listed_number (listed_from 0 rs) (listed_row (length rs) r) (all_below 0 (length rs) rs (omega arith)) ∙ sym (listed_push 0 rs r (length rs) (omega arith))
 
-pub books_listed : (k : Kept) (row : ListedRow) (r : MRow) (c c' : Content) → row ≡ listed_row (length k.listed) r → Becoming (with_listed_row row) c c' → IsBooks c k → IsBooks c' (with_listed k (k.listed ++ r ∷ []))
-books_listed k row r c c' row_is turn books = subst (λ x. IsBooks x (with_listed k (k.listed ++ r ∷ []))) (sym turn.is) (record {
+pub books_listed : (k : Kept) (row : ListedRow) (r : MRow) → row ≡ listed_row (length k.listed) r → (c c' : Content) → Becoming (with_listed_row row) c c' → IsBooks c k → IsBooks c' (with_listed k (k.listed ++ r ∷ []))
+books_listed k row r row_is c c' turn books = subst (λ x. IsBooks x (with_listed k (k.listed ++ r ∷ []))) (sym turn.is) (record {
   listed = rw (row_is, books.listed) (listed_put k.listed r);
   receipts = books.receipts;
   held = books.held;

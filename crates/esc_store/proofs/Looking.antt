@@ -14,11 +14,11 @@ use Rattle.esc_store.specs.declared.store.Store.{Store}
 use Rattle.esc_store.specs.Kept.{Kept}
 use Rattle.esc_store.specs.TypedRows.{IsBooks, IsRegistry}
 use Rattle.esc_store.specs.Tables.{IsStoreDatabase, HoldsTables}
-use Rattle.esc_store.specs.Standing.{ChangeOf, IsBegun, IsMade, IsUnderWay, IsLook, BeganIn, RestIn, HoldsIn, Follows}
+use Rattle.esc_store.specs.Standing.{ChangeOf, IsBegun, IsMade, IsUnderWay, IsLook, IsStoreRead, BeganIn, RestIn, HoldsIn, Follows}
 use Rattle.esc_store.proofs.Ends.{at_said, was_clean, begun_committed}
 use Rattle.esc_store.proofs.Parts.{not_both}
 
-module _ {X E : Type 0} (old new : State) (P : Content → X → Type 0) (r : Result X E) (look : IsLook old new (Tells P) r) where
+module _ {X E : Type 0} {old new : State} {P : Content → X → Type 0} {r : Result X E} (look : IsLook old new (Tells P) r) where
   clean_before : HasCleanDisk new → HasCleanDisk old
   clean_before = was_clean old new (λ trees. ⊥) look.survives
 
@@ -32,13 +32,16 @@ module _ {X E : Type 0} (old new : State) (P : Content → X → Type 0) (r : Re
   begun_look m k begun = elim r as (λ y. r ≡ y → IsBegun new m k) [
     | Ok x ↦ λ is. record {
       listed = begun.listed;
-      on = λ clean on. let it = shown x is clean in let was = begun.on (clean_before clean) (sym it.mode ∙ on) in (it.is_open, subst (λ db. IsStoreDatabase db k) (sym it.committed_is) was.1, subst HoldsTables (sym it.now_is) was.2);
-      off = λ clean off up. let it = shown x is clean in let was = begun.off (clean_before clean) (sym it.mode ∙ off) it.was_open in (subst (λ db. IsStoreDatabase db k) (sym it.committed_is) was.0, it.now_is ∙ (was.1 ∙ sym it.committed_is));
+      on = λ clean on. let it = shown x is clean in let was = begun.on (clean_before clean) (sym it.mode ∙ on) in
+          (it.is_open, subst (λ db. IsStoreDatabase db k) (sym it.committed_is) was.1, subst HoldsTables (sym it.now_is) was.2);
+      off = λ clean off up. let it = shown x is clean in let was = begun.off (clean_before clean) (sym it.mode ∙ off) it.was_open in
+          (subst (λ db. IsStoreDatabase db k) (sym it.committed_is) was.0, it.now_is ∙ (was.1 ∙ sym it.committed_is));
     }
     | Err e ↦ λ is. record {
       listed = begun.listed;
       on = λ clean on. absurd (not_both new.in_transaction on (bad e is (look.failed clean)).0);
-      off = λ clean off up. let kept = look.kept clean in (subst (λ db. IsStoreDatabase db k) (sym (kept.committed up)) (begun_committed old m k begun (clean_before clean) (kept.was_open up)), (bad e is (look.failed clean)).1 up);
+      off = λ clean off up. let kept = look.kept clean in (subst (λ db. IsStoreDatabase db k) (sym (kept.committed up))
+          (begun_committed old m k begun (clean_before clean) (kept.was_open up)), (bad e is (look.failed clean)).1 up);
     }
   ] refl
 
@@ -53,35 +56,37 @@ module _ {X E : Type 0} (old new : State) (P : Content → X → Type 0) (r : Re
   pub under_way_seen : (s : Tables) (x : X) → r ≡ Ok x → HasCleanDisk new → IsUnderWay old s → IsUnderWay new s
   under_way_seen s x is clean goes =
       let it = shown x is clean in
-      record { is_open = it.is_open; in_transaction = it.mode ∙ goes.in_transaction; tables_are = subst HoldsTables (sym it.now_is) goes.tables_are; registry = subst (λ (db : Database). IsRegistry (content_in db.trees) s) (sym it.now_is) goes.registry }
+      record { is_open = it.is_open; in_transaction = it.mode ∙ goes.in_transaction; tables_are = subst HoldsTables (sym it.now_is) goes.tables_are;
+          registry = subst (λ (db : Database). IsRegistry (content_in db.trees) s) (sym it.now_is) goes.registry }
 
   pub said_seen : (s : Tables) (x : X) → r ≡ Ok x → HasCleanDisk new → IsUnderWay old s → P (content_in old.now.trees) x
   said_seen s x is clean goes = (at_said r x _ is (look.said clean)).0 (content_in old.now.trees) goes.tables_are
 
-module _ {S : Type 0} (g : Ghosts S) {X E : Type 0} (old new : Store S) {P : Content → X → Type 0} (r : Result X E) (manifest : new.manifest ≡ old.manifest) (look : IsLook (state g old.conn) (state g new.conn) (Tells P) r) where
+module _ {S : Type 0} {g : Ghosts S} {X E : Type 0} {old new : Store S} {P : Content → X → Type 0} {r : Result X E} (read : IsStoreRead g old new P r) where
   began_look : (k : Kept) → BeganIn g old k → BeganIn g new k
   unfolding BeganIn
-  began_look k begun = subst (λ m. IsBegun (state g new.conn) m k) (sym manifest) (begun_look (state g old.conn) (state g new.conn) P r look old.manifest k begun)
+  began_look k begun = subst (λ m. IsBegun (state g new.conn) m k) (sym read.manifest) (begun_look read.look old.manifest k begun)
 
   rest_look : (listing : Option (List MRow)) (before k : Kept) → RestIn g old listing before k → RestIn g new listing before k
   unfolding RestIn
-  rest_look listing before k made = subst (λ m. IsMade (state g new.conn) m (unwrap_or listing m) before k) (sym manifest) (made_look (state g old.conn) (state g new.conn) P r look old.manifest (unwrap_or listing old.manifest) before k made)
+  rest_look listing before k made = subst (λ m. IsMade (state g new.conn) m (unwrap_or listing m) before k) (sym read.manifest)
+    (made_look read.look old.manifest (unwrap_or listing old.manifest) before k made)
 
-  pub holds_look : (s : Tables) (x : X) → r ≡ Ok x → HoldsIn g old s → HoldsIn g new s
+  pub holds_look : {x : X} → r ≡ Ok x → (s : Tables) → HoldsIn g old s → HoldsIn g new s
   unfolding HoldsIn
-  holds_look s x is goes clean = under_way_seen (state g old.conn) (state g new.conn) P r look s x is clean (goes (clean_before (state g old.conn) (state g new.conn) P r look clean))
+  holds_look {x} is s goes clean = under_way_seen read.look s x is clean (goes (clean_before read.look clean))
 
-  pub says_look : (s : Tables) (x : X) → r ≡ Ok x → HasCleanDisk (state g new.conn) → HoldsIn g old s → (c : Content) × IsRegistry c s × P c x
+  pub says_look : {s : Tables} {x : X} → r ≡ Ok x → HasCleanDisk (state g new.conn) → HoldsIn g old s → (c : Content) × IsRegistry c s × P c x × HoldsIn g new s
   unfolding HoldsIn
-  says_look s x is clean goes =
-      let was = goes (clean_before (state g old.conn) (state g new.conn) P r look clean) in
-      (content_in (state g old.conn).now.trees, was.registry, said_seen (state g old.conn) (state g new.conn) P r look s x is clean was)
+  says_look {s} {x} is clean goes =
+      let was = goes (clean_before read.look clean) in
+      (content_in (state g old.conn).now.trees, was.registry, said_seen read.look s x is clean was, holds_look is s goes)
 
-pub follows_look : {S : Type 0} (g : Ghosts S) {X E : Type 0} (old new : ChangeOf S) {P : Content → X → Type 0} (r : Result X E) → new.store.ghost_name ≡ old.store.ghost_name → new.listing ≡ old.listing → new.store.now.manifest ≡ old.store.now.manifest → new.store.now.writes ≡ old.store.now.writes
-    → IsLook (state g old.store.now.conn) (state g new.store.now.conn) (Tells P) r → Follows g old new
-follows_look g old new r same listing manifest writes look = record {
-  goes_on = record { same_reference = same; manifest = manifest; listed = rw (listing, manifest) refl; writes = writes; survives = look.survives; began = began_look g old.store.now new.store.now r manifest look };
-  rest = λ before k h. subst (λ l. RestIn g new.store.now l before k) (sym listing) (rest_look g old.store.now new.store.now r manifest look old.listing before k h);
+pub follows_look : {S : Type 0} {g : Ghosts S} {X E : Type 0} {old : ChangeOf S} {new : Store S} {P : Content → X → Type 0} {r : Result X E}
+    → IsStoreRead g old.store.now new P r → Follows g old (record old { store = record old.store { now = new } })
+follows_look {old = old} read = record {
+  goes_on = record { same_reference = refl; manifest = read.manifest; listed = rw read.manifest refl; writes = read.writes; survives = read.look.survives; began = began_look read };
+  rest = rest_look read old.listing;
 }
 
 -- what follows from a result, of its value

@@ -40,6 +40,10 @@ pub is_off : (b on : Bool) → b ≡ not on → IsTrue b → on ≡ false
 is_off b false e t = refl
 is_off b true e t = let off : b ≡ false = e in let none : ⊥ = cc in absurd none
 
+-- what a call that asks whether no transaction is on makes known where none is
+pub at_rest : {b on : Bool} {P : Type 0} → b ≡ not on → (IsTrue b → P) → IsTrue b → (on ≡ false) × P
+at_rest value settled t = (is_off _ _ value t, settled t)
+
 -- nothing was committed, and no transaction was on and none is
 pub as_it_was : (old new : State) → IsSettled old → (HasCleanDisk new → KeepsCommit old new) → (HasCleanDisk new → new.in_transaction ≡ false) → (HasCleanDisk new → IsTrue new.is_open → new.now ≡ new.committed) → IsAsItWas old new
 as_it_was old new settled kept ended same = record {

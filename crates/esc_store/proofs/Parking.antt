@@ -15,14 +15,13 @@ use Rattle.sqlite.proofs.StateLemmas.{survives_then}
 use Rattle.esc_manifest.specs.declared.row.MRow.{MRow}
 use Rattle.esc_apply.specs.Registry.{State as Tables}
 use Rattle.esc_rows.specs.Content.{Content, content_in, HoldsContent, parked_at}
-use Rattle.esc_rows.specs.Changes.{Tells}
 use Rattle.esc_rows.specs.Parked.{PutsParked, RemovesParked, ListsParked, SetsMoment, without_moment, moment_row}
 use Rattle.esc_store.specs.declared.store.Store.{Store}
 use Rattle.esc_store.specs.Kept.{Kept, with_parked, with_moment, AreRisingTexts, AreParked}
 use Rattle.esc_store.specs.TypedRows.{IsBooks, IsRegistry}
-use Rattle.esc_store.specs.Standing.{ChangeOf, IsStep, IsLook, RestIn, GoesOn, Follows}
+use Rattle.esc_store.specs.Standing.{ChangeOf, IsStep, IsStoreRead, RestIn, GoesOn, Follows}
 use Rattle.esc_store.proofs.Ends.{at_ok, at_said, was_clean}
-use Rattle.esc_store.proofs.Parts.{Turns, becomes}
+use Rattle.esc_store.proofs.Parts.{Turns, turning}
 use Rattle.esc_store.proofs.Standings.{survives_same}
 use Rattle.esc_store.proofs.RowSteps.{Becoming}
 
@@ -32,16 +31,10 @@ pub record SetsParked (digest : List ℕ) (w : Option (List ℕ)) (c c' : Conten
   pub map_is : (d : List ℕ) → parked_at d c'.parked ≡ (if bytes_eq digest d then w else parked_at d c.parked)
 
 pub park_turns : (digest body : List ℕ) (old new : Database) → PutsParked digest body old new → Turns (SetsParked digest (Some body)) old new
-park_turns digest body old new made tables =
-    let m = made (content_in old.trees) tables in
-    let b = becomes new (record (content_in old.trees) { parked = m.0 }) m.1 in
-    (b.0, subst (SetsParked digest (Some body) (content_in old.trees)) (sym b.1) (record { only = refl; map_is = m.3 }))
+park_turns digest body old new made = turning (λ tables. let m = made (content_in old.trees) tables in (record (content_in old.trees) { parked = m.0 }, m.1, record { only = refl; map_is = m.3 }))
 
 pub unpark_turns : (digest : List ℕ) (old new : Database) → RemovesParked digest old new → Turns (SetsParked digest None) old new
-unpark_turns digest old new made tables =
-    let m = made (content_in old.trees) tables in
-    let b = becomes new (record (content_in old.trees) { parked = m.0 }) m.1 in
-    (b.0, subst (SetsParked digest None (content_in old.trees)) (sym b.1) (record { only = refl; map_is = m.2 }))
+unpark_turns digest old new made = turning (λ tables. let m = made (content_in old.trees) tables in (record (content_in old.trees) { parked = m.0 }, m.1, record { only = refl; map_is = m.2 }))
 
 pub books_parked : (k : Kept) (digest : List ℕ) (w : Option (List ℕ)) (c c' : Content) → SetsParked digest w c c' → IsBooks c k → IsBooks c' (with_parked k digest w)
 books_parked k digest w c c' set books = subst (λ x. IsBooks x (with_parked k digest w)) (sym set.only) (record {
@@ -57,10 +50,10 @@ pub registry_parked : (s : Tables) (digest : List ℕ) (w : Option (List ℕ)) (
 registry_parked s digest w c c' set it = subst (λ x. IsRegistry x s) (sym set.only) (record { objects = it.objects; images = it.images; recorded = it.recorded; noted = it.noted })
 
 -- what is put was not there before
-pub was_free : {S X E : Type 0} (g : Ghosts S) (old new : Store S) (digest body : List ℕ) (r : Result X E) (x : X) → r ≡ Ok x → IsStep (state g old.conn) (state g new.conn) (PutsParked digest body) r → HasCleanDisk (state g new.conn)
+pub was_free : {S X E : Type 0} (g : Ghosts S) (old new : Store S) (digest body : List ℕ) {r : Result X E} {x : X} → r ≡ Ok x → IsStep (state g old.conn) (state g new.conn) (PutsParked digest body) r → HasCleanDisk (state g new.conn)
     → (listing : Option (List MRow)) (before k : Kept) → RestIn g old listing before k → k.parked digest ≡ None
 unfolding RestIn
-was_free g old new digest body r x is step clean listing before k made =
+was_free g old new digest body {r} {x} is step clean listing before k made =
     let m = at_ok r x _ is (step.made clean) in
     let was = was_clean (state g old.conn) (state g new.conn) (λ trees. ⊥) step.survives clean in
     let tables = (made.begun.on was m.0).2 in
@@ -90,9 +83,8 @@ abbrev pub with_moment_row : ℤ → Content → Content
 with_moment_row w c = record c { moment = moment_row w ∷ [] }
 
 pub moment_turns : (v w : ℤ) → v ≡ w → (old new : Database) → SetsMoment v old new → Turns (Becoming (with_moment_row w)) old new
-moment_turns v w is old new made tables =
-    let b = becomes new (with_moment_row w (content_in old.trees)) (subst (λ x. HoldsContent new (with_moment_row x (content_in old.trees))) is (made (content_in old.trees) tables).0) in
-    (b.0, record { is = b.1 })
+moment_turns v w is old new made = turning (λ tables.
+    (with_moment_row w (content_in old.trees), subst (λ x. HoldsContent new (with_moment_row x (content_in old.trees))) is (made (content_in old.trees) tables).0, record { is = refl }))
 
 pub books_moment : (k : Kept) (w : ℤ) (c c' : Content) → Becoming (with_moment_row w) c c' → IsBooks c k → IsBooks c' (with_moment k (Some w))
 books_moment k w c c' turn books = subst (λ x. IsBooks x (with_moment k (Some w))) (sym turn.is) (record { listed = books.listed; receipts = books.receipts; held = books.held; parked = books.parked; moment = refl; steps = books.steps })
@@ -117,11 +109,11 @@ pub follows_same : {S : Type 0} (g : Ghosts S) (c : ChangeOf S) → Follows g c 
 follows_same g c = record { goes_on = record { same_reference = refl; manifest = refl; listed = refl; writes = refl; survives = survives_same _ _; began = λ k h. h }; rest = λ before k h. h }
 
 -- what a read in a change found is what the change keeps
-pub found_parked : {S X E : Type 0} (g : Ghosts S) (old new : Store S) (digest : List ℕ) (view : X → Option (List ℕ)) (r : Result X E) (x : X) → r ≡ Ok x → old.conn.in_transaction ≡ true
-    → IsLook (state g old.conn) (state g new.conn) (Tells (λ c found. view found ≡ parked_at digest c.parked)) r → HasCleanDisk (state g new.conn) → (listing : Option (List MRow)) (before k : Kept) → RestIn g old listing before k → view x ≡ k.parked digest
+pub found_parked : {S X E : Type 0} {g : Ghosts S} {old new : Store S} {digest : List ℕ} (view : X → Option (List ℕ)) {r : Result X E} {x : X} → r ≡ Ok x → old.conn.in_transaction ≡ true
+    → IsStoreRead g old new (λ c found. view found ≡ parked_at digest c.parked) r → HasCleanDisk (state g new.conn) → (listing : Option (List MRow)) (before k : Kept) → RestIn g old listing before k → view x ≡ k.parked digest
 unfolding RestIn
-found_parked g old new digest view r x is on look clean listing before k made =
-    let was = was_clean (state g old.conn) (state g new.conn) (λ trees. ⊥) look.survives clean in
+found_parked {g = g} {old} {new} {digest} view {r} {x} is on read clean listing before k made =
+    let was = was_clean (state g old.conn) (state g new.conn) (λ trees. ⊥) read.look.survives clean in
     let tables = (made.begun.on was on).2 in
-    let s = at_said r x _ is (look.said clean) in
+    let s = at_said r x _ is (read.look.said clean) in
     s.0 (content_in (state g old.conn).now.trees) tables ∙ (made.books was on).parked digest

@@ -1,9 +1,9 @@
 -- What a part of a change does to what the change has made.
 use Rattle.std.proofs.Common.{◌≡◌, Bool, true, false, List, refl, sym, subst, ◌∙◌}
-use Rattle.std.specs.Prelude.{IsTrue, Result, Ok, Err, IfOk, OnErr, IsErr}
+use Rattle.std.specs.Prelude.{IsTrue, Result, Ok, Err, IfOk, IfErr, OnErr, IsErr}
 use Rattle.sqlite_trees.specs.declared.store.Store.{Ghosts}
 use Rattle.sqlite.specs.Effect.{Database}
-use Rattle.sqlite.specs.Held.{Held, state}
+use Rattle.sqlite.specs.Held.{state}
 use Rattle.sqlite.specs.State.{State, HasCleanDisk, Survives, KeepsCommit}
 use Rattle.sqlite.proofs.StateLemmas.{survives_then}
 use Rattle.esc_manifest.specs.declared.row.MRow.{MRow}
@@ -11,7 +11,9 @@ use Rattle.esc_apply.specs.Registry.{State as Tables}
 use Rattle.esc_rows.specs.Content.{Content, content_in, HoldsContent}
 use Rattle.esc_rows.specs.ContentIs.{content_is}
 use Rattle.esc_rows.specs.Part.{IsPart, IsRead}
+use Rattle.esc_store.specs.declared.fault.SFault.{SFault}
 use Rattle.esc_store.specs.declared.store.Store.{Store}
+use Rattle.esc_store.specs.Faults.{IsS1OrS2}
 use Rattle.esc_store.specs.Kept.{Kept}
 use Rattle.esc_store.specs.TypedRows.{IsBooks, IsRegistry}
 use Rattle.esc_store.specs.Tables.{IsStoreDatabase, HoldsTables}
@@ -23,52 +25,70 @@ not_both b is_on is_off = let e : true ≡ false = sym is_on ∙ is_off in cc
 
 -- ---- from statements to steps
 
-module _ {S : Type 0} (g : Ghosts S) (old : Store S) (conn : Held S) {new : Store S} {X D E : Type 0} {outcome : Result X D} {result : Result X E} (settled : Settles g (record old { conn = conn }) new outcome result) where
-  after : IsGivenUp (state g conn) (state g new.conn) → Survives (state g old.conn) (state g conn) (λ trees. ⊥) → Survives (state g old.conn) (state g new.conn) (λ trees. ⊥)
-  after up survives = survives_then (state g old.conn) (state g conn) (state g new.conn) (λ trees. ⊥) (λ trees. ⊥) (λ trees. ⊥) (λ _ db none. none) (λ _ db none. none) survives up.survives
+-- what holds once the outcome of a statement is settled
+abbrev pub Settled : {S X D : Type 0} → Ghosts S → Store S → Store S → Result X D → Result X SFault → Type 0
+Settled g before new outcome result = record {
+  manifest : new.manifest ≡ before.manifest;
+  writes : new.writes ≡ before.writes;
+  settled : Settles g before new outcome result;
+  cause : IfErr result IsS1OrS2;
+}
 
-  keeps_after : IsGivenUp (state g conn) (state g new.conn) → (HasCleanDisk (state g conn) → KeepsCommit (state g old.conn) (state g conn)) → HasCleanDisk (state g new.conn) → KeepsCommit (state g old.conn) (state g new.conn)
-  keeps_after up kept clean = keeps_then (state g old.conn) (state g conn) (state g new.conn) (kept (was_clean (state g conn) (state g new.conn) (λ trees. ⊥) up.survives clean)) (up.kept clean)
+module _ (old : State) {mid new : State} (up : IsGivenUp mid new) where
+  after : Survives old mid (λ trees. ⊥) → Survives old new (λ trees. ⊥)
+  after survives = survives_then old mid new (λ trees. ⊥) (λ trees. ⊥) (λ trees. ⊥) (λ _ db none. none) (λ _ db none. none) survives up.survives
 
+  keeps_after : (HasCleanDisk mid → KeepsCommit old mid) → HasCleanDisk new → KeepsCommit old new
+  keeps_after kept clean = keeps_then old mid new (kept (was_clean mid new (λ trees. ⊥) up.survives clean)) (up.kept clean)
+
+module _ {S : Type 0} {g : Ghosts S} {old : State} {before new : Store S} {X D E : Type 0} {outcome : Result X D} {result : Result X E}
+    (settled : Settles g before new outcome result) where
   -- a statement within the transaction, settled
-  pub step_is : (Made : Database → Database → Type 0) → IsPart (state g old.conn) (state g conn) Made outcome → IsStep (state g old.conn) (state g new.conn) Made result
-  step_is Made part = elim result as (λ r. IfOk r (λ x. (outcome ≡ Ok x) × (new ≡ record old { conn = conn })) → OnErr r (IsErr outcome × IsGivenUp (state g conn) (state g new.conn)) → IsStep (state g old.conn) (state g new.conn) Made r) [
-    | Ok x ↦ λ ok err. subst (λ (s : Store S). IsStep {X = X} {E = E} (state g old.conn) (state g s.conn) Made (Ok x)) (sym ok.1) (record {
+  pub step_is : {Made : Database → Database → Type 0} → IsPart old (state g before.conn) Made outcome → IsStep old (state g new.conn) Made result
+  step_is {Made} part = elim result as (λ r. IfOk r (λ x. (outcome ≡ Ok x) × (new ≡ before)) → OnErr r (IsErr outcome × IsGivenUp (state g before.conn) (state g new.conn))
+      → IsStep old (state g new.conn) Made r) [
+    | Ok x ↦ λ ok err. subst (λ (s : Store S). IsStep {X = X} {E = E} old (state g s.conn) Made (Ok x)) (sym ok.1) (record {
       survives = part.survives;
       kept = part.kept;
       made = λ clean. let m = at_ok outcome x _ ok.0 (part.made clean) in (at_ok outcome x _ ok.0 part.within, m.0, m.1, m.2);
       failed = λ clean. tt;
     })
-    | Err e ↦ λ ok err. record { survives = after err.1 part.survives; kept = keeps_after err.1 part.kept; made = λ clean. tt; failed = λ clean. (err.1.ended clean, err.1.settled clean) }
+    | Err e ↦ λ ok err. record { survives = after old err.1 part.survives; kept = keeps_after old err.1 part.kept; made = λ clean. tt; failed = λ clean. (err.1.ended clean, err.1.settled clean) }
   ] settled.ok settled.err
 
   -- a read, settled
-  pub look_is : (Says : Database → X → Type 0) → IsRead (state g old.conn) (state g conn) Says outcome → IsLook (state g old.conn) (state g new.conn) Says result
-  look_is Says read = elim result as (λ r. IfOk r (λ x. (outcome ≡ Ok x) × (new ≡ record old { conn = conn })) → OnErr r (IsErr outcome × IsGivenUp (state g conn) (state g new.conn)) → IsLook (state g old.conn) (state g new.conn) Says r) [
-    | Ok x ↦ λ ok err. subst (λ (s : Store S). IsLook {X = X} {E = E} (state g old.conn) (state g s.conn) Says (Ok x)) (sym ok.1) (record {
+  pub look_is : {Says : Database → X → Type 0} → IsRead old (state g before.conn) Says outcome → IsLook old (state g new.conn) Says result
+  look_is {Says} read = elim result as (λ r. IfOk r (λ x. (outcome ≡ Ok x) × (new ≡ before)) → OnErr r (IsErr outcome × IsGivenUp (state g before.conn) (state g new.conn))
+      → IsLook old (state g new.conn) Says r) [
+    | Ok x ↦ λ ok err. subst (λ (s : Store S). IsLook {X = X} {E = E} old (state g s.conn) Says (Ok x)) (sym ok.1) (record {
       survives = read.survives;
       kept = read.kept;
       said = λ clean. at_said outcome x _ ok.0 (read.said clean);
       failed = λ clean. tt;
     })
-    | Err e ↦ λ ok err. record { survives = after err.1 read.survives; kept = keeps_after err.1 read.kept; said = λ clean. tt; failed = λ clean. (err.1.ended clean, err.1.settled clean) }
+    | Err e ↦ λ ok err. record { survives = after old err.1 read.survives; kept = keeps_after old err.1 read.kept; said = λ clean. tt; failed = λ clean. (err.1.ended clean, err.1.settled clean) }
   ] settled.ok settled.err
 
 -- ---- a step
 
--- what a step makes of tables and what they hold
-abbrev pub Turns : (Content → Content → Type 0) → Database → Database → Type 0
-Turns R old new = HoldsTables old → HoldsTables new × R (content_in old.trees) (content_in new.trees)
-
 -- a database that holds a content has tables that hold it
-pub becomes : (new : Database) (c : Content) → HoldsContent new c → HoldsTables new × (content_in new.trees ≡ c)
+becomes : (new : Database) (c : Content) → HoldsContent new c → HoldsTables new × (content_in new.trees ≡ c)
 becomes new c holds = let e = content_is new.trees c holds.store.rows in (subst (HoldsContent new) (sym e) holds, e)
 
-pub step_turns : {X E : Type 0} (old new : State) (Made Other : Database → Database → Type 0) (r : Result X E) → (Made old.now new.now → Other old.now new.now) → IsStep old new Made r → IsStep old new Other r
-step_turns {X} {E} old new Made Other (Ok x) f step = record { survives = step.survives; kept = step.kept; made = λ clean. let m = step.made clean in (m.0, f m.1, m.2, m.3); failed = step.failed }
-step_turns {X} {E} old new Made Other (Err e) f step = record { survives = step.survives; kept = step.kept; made = λ clean. tt; failed = step.failed }
+-- what a step makes of tables and what they hold
+pub record Turns (R : Content → Content → Type 0) (old new : Database) : Type 0 where
+  pub by : HoldsTables old → HoldsTables new × R (content_in old.trees) (content_in new.trees)
 
-module _ {X E : Type 0} (old new : State) (R : Content → Content → Type 0) (r : Result X E) (step : IsStep old new (Turns R) r) where
+-- by the content that the new database holds
+pub turning : {R : Content → Content → Type 0} {old new : Database} → (HoldsTables old → (c : Content) × HoldsContent new c × R (content_in old.trees) c) → Turns R old new
+turning {R} {old} {new} f = record { by = λ tables. let m = f tables in let b = becomes new m.0 m.1 in (b.0, subst (R (content_in old.trees)) (sym b.1) m.2) }
+
+pub step_turns : {X E : Type 0} {old new : State} {Made Other : Database → Database → Type 0} {r : Result X E}
+    → ((a b : Database) → Made a b → Other a b) → IsStep old new Made r → IsStep old new Other r
+step_turns {r = Ok x} f step = record { survives = step.survives; kept = step.kept; made = λ clean. let m = step.made clean in (m.0, f _ _ m.1, m.2, m.3); failed = step.failed }
+step_turns {r = Err e} f step = record { survives = step.survives; kept = step.kept; made = λ clean. tt; failed = step.failed }
+
+module _ {X E : Type 0} {old new : State} {R : Content → Content → Type 0} {r : Result X E} (step : IsStep old new (Turns R) r) where
   record Made : Type 0 where
     was_on : old.in_transaction ≡ true
     turns : Turns R old.now new.now
@@ -85,23 +105,26 @@ module _ {X E : Type 0} (old new : State) (R : Content → Content → Type 0) (
   begun_on m k begun = elim r as (λ x. r ≡ x → IsBegun new m k) [
     | Ok x ↦ λ is. record {
       listed = begun.listed;
-      on = λ clean on. let it = made_of x is clean in let was = begun.on (clean_before clean) it.was_on in (it.is_open, subst (λ db. IsStoreDatabase db k) (sym ((step.kept clean).committed it.is_open)) was.1, (it.turns was.2).0);
+      on = λ clean on. let it = made_of x is clean in let was = begun.on (clean_before clean) it.was_on in
+          (it.is_open, subst (λ db. IsStoreDatabase db k) (sym ((step.kept clean).committed it.is_open)) was.1, (it.turns.by was.2).0);
       off = λ clean off. absurd (not_both new.in_transaction (made_of x is clean).on off);
     }
     | Err e ↦ λ is. record {
       listed = begun.listed;
       on = λ clean on. absurd (not_both new.in_transaction on (at_bad e is (step.failed clean)).0);
-      off = λ clean off up. (subst (λ db. IsStoreDatabase db k) (sym ((step.kept clean).committed up)) (begun_committed old m k begun (clean_before clean) ((step.kept clean).was_open up)), (at_bad e is (step.failed clean)).1 up);
+      off = λ clean off up. (subst (λ db. IsStoreDatabase db k) (sym ((step.kept clean).committed up))
+          (begun_committed old m k begun (clean_before clean) ((step.kept clean).was_open up)), (at_bad e is (step.failed clean)).1 up);
     }
   ] refl where
     at_bad : {P : Type 0} (e : E) → r ≡ Err e → OnErr r P → P
     at_bad e is h = rw is at h
 
-  pub made_on : (m rows rows' : List MRow) (before k k' : Kept) (x : X) → r ≡ Ok x → (rows ≡ k.listed → rows' ≡ k'.listed) → ((c c' : Content) → R c c' → IsBooks c k → IsBooks c' k') → IsMade old m rows before k → IsMade new m rows' before k'
+  pub made_on : (m rows rows' : List MRow) (before k k' : Kept) (x : X) → r ≡ Ok x → (rows ≡ k.listed → rows' ≡ k'.listed)
+      → ((c c' : Content) → R c c' → IsBooks c k → IsBooks c' k') → IsMade old m rows before k → IsMade new m rows' before k'
   made_on m rows rows' before k k' x is listed turn made = record {
     begun = begun_on m before made.begun;
     listed = listed made.listed;
-    books = λ clean on. let it = made_of x is clean in let was = made.begun.on (clean_before clean) it.was_on in turn _ _ (it.turns was.2).1 (made.books (clean_before clean) it.was_on);
+    books = λ clean on. let it = made_of x is clean in let was = made.begun.on (clean_before clean) it.was_on in turn _ _ (it.turns.by was.2).1 (made.books (clean_before clean) it.was_on);
   }
 
   pub made_kept : (m rows : List MRow) (before k : Kept) → ((c c' : Content) → R c c' → IsBooks c k → IsBooks c' k) → IsMade old m rows before k → IsMade new m rows before k
@@ -120,5 +143,5 @@ module _ {X E : Type 0} (old new : State) (R : Content → Content → Type 0) (
   under_way_on s s' x is turn goes clean =
       let it = made_of x is clean in
       let was = goes (clean_before clean) in
-      let now = it.turns was.tables_are in
+      let now = it.turns.by was.tables_are in
       record { is_open = it.is_open; in_transaction = it.on; tables_are = now.0; registry = turn _ _ now.1 was.registry }

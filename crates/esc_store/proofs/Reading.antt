@@ -35,8 +35,10 @@ counted (r ∷ rs) = last_is 1 rs r ∙ omega arith
 
 -- ---- replies
 
-pub found_reply : {S : Type 0} (g : Ghosts S) (old new : Store S) (k : Kept) (number digest : List ℕ) (found : Option Receipt) (reply : Option ReplyValue) → new.manifest ≡ old.manifest → Stands g old k
-    → IsTold k (λ c. option_map stored_row found ≡ receipt_of number digest c.receipts) → ((rs : List ReceiptValue) (n d : List ℕ) → option_map stored_row found ≡ receipt_of n d (receipts_from 1 rs) → reply ≡ reply_alike new.manifest 1 n d rs)
+pub found_reply : {S : Type 0} (g : Ghosts S) (old new : Store S) (k : Kept) (number digest : List ℕ) (found : Option Receipt)
+    (reply : Option ReplyValue) → new.manifest ≡ old.manifest → Stands g old k
+    → IsTold k (λ c. option_map stored_row found ≡ receipt_of number digest c.receipts)
+    → ((rs : List ReceiptValue) (n d : List ℕ) → option_map stored_row found ≡ receipt_of n d (receipts_from 1 rs) → reply ≡ reply_alike new.manifest 1 n d rs)
     → reply ≡ reply_alike k.listed 1 number digest k.receipts
 found_reply g old new k number digest found reply same stands told is =
     is k.receipts number digest (told.says ∙ ap (receipt_of number digest) told.books.receipts) ∙ ap (λ m. reply_alike m 1 number digest k.receipts) (same ∙ stands_listed g old k stands)

@@ -22,7 +22,7 @@ use Rattle.esc_rows.specs.Content.{Content, content_in, HoldsContent, object_at,
 use Rattle.esc_rows.specs.Changes.{PutsObject, RemovesObject, without_objects, PutsImage, RemovesImages, without_undo, Becomes}
 use Rattle.esc_store.specs.Kept.{Kept}
 use Rattle.esc_store.specs.TypedRows.{kind_at, at_key, record_at, image_kept, IsBooks, IsRegistry}
-use Rattle.esc_store.proofs.Parts.{Turns, becomes}
+use Rattle.esc_store.proofs.Parts.{Turns, turning}
 
 -- ---- kinds by number
 
@@ -128,10 +128,7 @@ pub record SetsObject (kind : ℕ) (key : List ℕ) (w : Option (List ℕ)) (c c
 
 turned : (kind : ℕ) (key : List ℕ) (w : Option (List ℕ)) (old new : Database) → ((c : Content) → HoldsContent old c → (os : List ObjectRow) × HoldsContent new (record c { objects = os }) × ((k : ℕ) (q : List ℕ) → object_at k q os ≡ (if is_same_key kind key k q then w else object_at k q c.objects)))
     → Turns (SetsObject kind key w) old new
-turned kind key w old new made tables =
-    let m = made (content_in old.trees) tables in
-    let b = becomes new (record (content_in old.trees) { objects = m.0 }) m.1 in
-    (b.0, subst (SetsObject kind key w (content_in old.trees)) (sym b.1) (record { only = refl; map_is = m.2 }))
+turned kind key w old new made = turning (λ tables. let m = made (content_in old.trees) tables in (record (content_in old.trees) { objects = m.0 }, m.1, record { only = refl; map_is = m.2 }))
 
 pub put_turns : (kind : ℕ) (key bytes : List ℕ) (old new : Database) → PutsObject kind key bytes old new → Turns (SetsObject kind key (Some bytes)) old new
 put_turns kind key bytes old new made = turned kind key (Some bytes) old new made
@@ -139,11 +136,11 @@ put_turns kind key bytes old new made = turned kind key (Some bytes) old new mad
 pub remove_turns : (kind : ℕ) (key : List ℕ) (old new : Database) → RemovesObject kind key old new → Turns (SetsObject kind key None) old new
 remove_turns kind key old new made = turned kind key None old new made
 
-pub books_objects : (k : Kept) (c c' : Content) → c' ≡ record c { objects = c'.objects } → IsBooks c k → IsBooks c' k
-books_objects k c c' only books = subst (λ x. IsBooks x k) (sym only) (record { listed = books.listed; receipts = books.receipts; held = books.held; parked = books.parked; moment = books.moment; steps = books.steps })
+pub books_objects : {kind : ℕ} {key : List ℕ} {w : Option (List ℕ)} (k : Kept) (c c' : Content) → SetsObject kind key w c c' → IsBooks c k → IsBooks c' k
+books_objects k c c' set books = subst (λ x. IsBooks x k) (sym set.only) (record { listed = books.listed; receipts = books.receipts; held = books.held; parked = books.parked; moment = books.moment; steps = books.steps })
 
-pub set_registry : (s : State) (k : KeyName) (o : Option ObjectValue) (w : Option (List ℕ)) (c c' : Content) → option_and_then record_of o ≡ w → IfSome o (λ x. IsSome (record_of x)) → SetsObject (kind_rank k.kind) k.text w c c' → IsRegistry c s → IsRegistry c' (written s k o)
-set_registry s k o w c c' bytes has set it = record {
+pub set_registry : {s : State} (k : KeyName) (o : Option ObjectValue) {w : Option (List ℕ)} {c c' : Content} → option_and_then record_of o ≡ w → IfSome o (λ x. IsSome (record_of x)) → SetsObject (kind_rank k.kind) k.text w c c' → IsRegistry c s → IsRegistry c' (written s k o)
+set_registry {s} k o {w} {c} {c'} bytes has set it = record {
   objects = λ n text. set.map_is n text ∙ rw (record_put s.content k o n text, bytes) (ap (λ x. if is_same_key (kind_rank k.kind) k.text n text then w else x) (it.objects n text));
   images = λ step n text. ap (λ (x : Content). image_at step n text x.undo) set.only ∙ it.images step n text;
   recorded = λ q. at_test (key_eq k q) (s.content q) o (it.recorded q) has;
@@ -159,24 +156,21 @@ pub record SetsImages (step : ℕ) (g : ℕ → List ℕ → Option (Option (Lis
   pub only : c' ≡ record c { undo = c'.undo }
   pub map_is : (p n : ℕ) (text : List ℕ) → image_at p n text c'.undo ≡ (if step == p then g n text else image_at p n text c.undo)
 
-pub books_images : (k : Kept) (c c' : Content) → c' ≡ record c { undo = c'.undo } → IsBooks c k → IsBooks c' k
-books_images k c c' only books = subst (λ x. IsBooks x k) (sym only) (record { listed = books.listed; receipts = books.receipts; held = books.held; parked = books.parked; moment = books.moment; steps = books.steps })
+pub books_images : {k : Kept} {c c' : Content} → c' ≡ record c { undo = c'.undo } → IsBooks c k → IsBooks c' k
+books_images {k} only books = subst (λ x. IsBooks x k) (sym only) (record { listed = books.listed; receipts = books.receipts; held = books.held; parked = books.parked; moment = books.moment; steps = books.steps })
 
 pub record PutsOneImage (step kind : ℕ) (key : List ℕ) (before : Option (List ℕ)) (c c' : Content) : Type 0 where
   pub only : c' ≡ record c { undo = c'.undo }
   pub map_is : (p n : ℕ) (text : List ℕ) → image_at p n text c'.undo ≡ (if is_same_image step kind key p n text then Some before else image_at p n text c.undo)
 
 pub image_turns : (step kind : ℕ) (key : List ℕ) (before : Option (List ℕ)) (old new : Database) → PutsImage step kind key before old new → Turns (PutsOneImage step kind key before) old new
-image_turns step kind key before old new made tables =
-    let m = made (content_in old.trees) tables in
-    let b = becomes new (record (content_in old.trees) { undo = m.0 }) m.1 in
-    (b.0, subst (PutsOneImage step kind key before (content_in old.trees)) (sym b.1) (record { only = refl; map_is = m.3 }))
+image_turns step kind key before old new made = turning (λ tables. let m = made (content_in old.trees) tables in (record (content_in old.trees) { undo = m.0 }, m.1, record { only = refl; map_is = m.3 }))
 
 some_inner : {X : Type 0} (a b : X) → Some a ≡ Some b → a ≡ b
 some_inner a b h = cc
 
-pub note_registry : (s : State) (step : ℕ) (k : KeyName) (o : Option ObjectValue) (w : Option (List ℕ)) (c c' : Content) → option_and_then record_of o ≡ w → IfSome o (λ x. IsSome (record_of x)) → PutsOneImage step (kind_rank k.kind) k.text w c c' → IsRegistry c s → IsRegistry c' (noted s step k o)
-note_registry s step k o w c c' bytes has set it = record {
+pub note_registry : {s : State} {step : ℕ} (k : KeyName) (o : Option ObjectValue) {w : Option (List ℕ)} {c c' : Content} → option_and_then record_of o ≡ w → IfSome o (λ x. IsSome (record_of x)) → PutsOneImage step (kind_rank k.kind) k.text w c c' → IsRegistry c s → IsRegistry c' (noted s step k o)
+note_registry {s} {step} k o {w} {c} {c'} bytes has set it = record {
   objects = λ n text. ap (λ (x : Content). object_at n text x.objects) set.only ∙ it.objects n text;
   images = λ p n text. set.map_is p n text ∙ by_step p n text (step == p) refl;
   recorded = it.recorded;
@@ -201,10 +195,7 @@ pub record DropsImages (step : ℕ) (c c' : Content) : Type 0 where
   pub map_is : (p n : ℕ) (text : List ℕ) → image_at p n text c'.undo ≡ (if step == p then None else image_at p n text c.undo)
 
 pub drop_turns : (step : ℕ) (old new : Database) → RemovesImages step old new → Turns (DropsImages step) old new
-drop_turns step old new made tables =
-    let m = made (content_in old.trees) tables in
-    let b = becomes new (record (content_in old.trees) { undo = m.0 }) m.1 in
-    (b.0, subst (DropsImages step (content_in old.trees)) (sym b.1) (record { only = refl; map_is = m.2 }))
+drop_turns step old new made = turning (λ tables. let m = made (content_in old.trees) tables in (record (content_in old.trees) { undo = m.0 }, m.1, record { only = refl; map_is = m.2 }))
 
 pub nothing_kept : (n : ℕ) (text : List ℕ) → image_kept nothing n text ≡ None
 nothing_kept n text = by_kind (kind_at n) where
@@ -235,10 +226,10 @@ pub record DropsUndo (c c' : Content) : Type 0 where
   pub is : c' ≡ without_undo c
 
 pub objects_turn : (old new : Database) → Becomes without_objects old new → Turns DropsObjects old new
-objects_turn old new made tables = let b = becomes new (without_objects (content_in old.trees)) (made (content_in old.trees) tables) in (b.0, record { is = b.1 })
+objects_turn old new made = turning (λ tables. (without_objects (content_in old.trees), made (content_in old.trees) tables, record { is = refl }))
 
 pub undo_turns : (old new : Database) → Becomes without_undo old new → Turns DropsUndo old new
-undo_turns old new made tables = let b = becomes new (without_undo (content_in old.trees)) (made (content_in old.trees) tables) in (b.0, record { is = b.1 })
+undo_turns old new made = turning (λ tables. (without_undo (content_in old.trees), made (content_in old.trees) tables, record { is = refl }))
 
 pub books_no_objects : (k : Kept) (c c' : Content) → DropsObjects c c' → IsBooks c k → IsBooks c' k
 books_no_objects k c c' drops books = subst (λ x. IsBooks x k) (sym drops.is) (record { listed = books.listed; receipts = books.receipts; held = books.held; parked = books.parked; moment = books.moment; steps = books.steps })
@@ -264,19 +255,20 @@ undo_gone s c c' drops it = subst (λ x. IsRegistry x empty) (sym drops.is) (rec
 
 -- ---- by the key's own kind and bytes
 
-pub key_set : (kind : ℕ) (key : List ℕ) (w : Option (List ℕ)) (k : KeyName) (c c' : Content) → kind ≡ kind_rank k.kind → key ≡ k.text → SetsObject kind key w c c' → SetsObject (kind_rank k.kind) k.text w c c'
-key_set kind key w k c c' kinds keys set = subst (λ n. SetsObject n k.text w c c') kinds (subst (λ t. SetsObject kind t w c c') keys set)
+pub key_set : {kind : ℕ} {key : List ℕ} {w : Option (List ℕ)} {q k : KeyName} {c c' : Content} → kind ≡ kind_rank q.kind → key ≡ q.text → q ≡ k → SetsObject kind key w c c' → SetsObject (kind_rank k.kind) k.text w c c'
+key_set {w = w} {c = c} {c'} kinds keys same set = subst (λ (p : KeyName). SetsObject (kind_rank p.kind) p.text w c c') same (rw (sym kinds, sym keys) set)
 
-pub key_note : (step kind : ℕ) (key : List ℕ) (w : Option (List ℕ)) (k : KeyName) (c c' : Content) → kind ≡ kind_rank k.kind → key ≡ k.text → PutsOneImage step kind key w c c' → PutsOneImage step (kind_rank k.kind) k.text w c c'
-key_note step kind key w k c c' kinds keys set = subst (λ n. PutsOneImage step n k.text w c c') kinds (subst (λ t. PutsOneImage step kind t w c c') keys set)
+pub key_note : {step kind : ℕ} {key : List ℕ} {w : Option (List ℕ)} {q k : KeyName} {c c' : Content} → kind ≡ kind_rank q.kind → key ≡ q.text → q ≡ k → PutsOneImage step kind key w c c' → PutsOneImage step (kind_rank k.kind) k.text w c c'
+key_note {step} {w = w} {c = c} {c'} kinds keys same set = subst (λ (p : KeyName). PutsOneImage step (kind_rank p.kind) p.text w c c') same (rw (sym kinds, sym keys) set)
 
 pub has_record : (o : ObjectValue) (bytes : List ℕ) → record_of o ≡ Some bytes → IsSome (record_of o)
 has_record o bytes h = rw h refl
 
 -- what is found at a key is the record of the object there
-pub record_found : (s : State) (k : KeyName) (kind : ℕ) (key : List ℕ) (c : Content) (found : Option (List ℕ)) → kind ≡ kind_rank k.kind → key ≡ k.text → IsRegistry c s → found ≡ object_at kind key c.objects → found ≡ option_and_then record_of (s.content k)
-record_found s k kind key c found kinds keys it is =
-    is ∙ (it.objects kind key ∙ (ap (λ n. record_at s.content n key) kinds ∙ (ap (λ t. record_at s.content (kind_rank k.kind) t) keys ∙ ap (λ o. option_and_then record_of (option_and_then (λ (kind : Kind). s.content (record { kind = kind; text = k.text })) o)) (kind_back k.kind))))
+pub record_found : {s : State} {q k : KeyName} {kind : ℕ} {key : List ℕ} {c : Content} {found : Option (List ℕ)} → kind ≡ kind_rank q.kind → key ≡ q.text → q ≡ k → IsRegistry c s → found ≡ object_at kind key c.objects → found ≡ option_and_then record_of (s.content k)
+record_found {s} {q} {k} {kind} {key} {found = found} kinds keys same it is =
+    subst (λ (p : KeyName). found ≡ option_and_then record_of (s.content p)) same
+    (is ∙ (it.objects kind key ∙ (ap (λ n. record_at s.content n key) kinds ∙ (ap (λ t. record_at s.content (kind_rank q.kind) t) keys ∙ ap (λ o. option_and_then record_of (option_and_then (λ (kind : Kind). s.content (record { kind = kind; text = q.text })) o)) (kind_back q.kind)))))
 
 -- of one record there is one object
 pub one_object : (x : ObjectValue) (bytes : List ℕ) (o : Option ObjectValue) → record_of x ≡ Some bytes → Some bytes ≡ option_and_then record_of o → Some x ≡ o

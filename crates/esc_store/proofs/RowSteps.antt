@@ -30,7 +30,7 @@ use Rattle.esc_store.specs.TypedRows.{IsBooks, IsRegistry, receipt_row, receipts
 use Rattle.esc_store.specs.Steps.{next_number, with_next_receipt, AddsNext, with_step_rows, SetsSteps, SetsFront}
 use Rattle.esc_store.specs.Standing.{IsStep, IsLook, RestIn}
 use Rattle.esc_store.proofs.Ends.{at_said, was_clean, keeps_then}
-use Rattle.esc_store.proofs.Parts.{Turns, becomes}
+use Rattle.esc_store.proofs.Parts.{Turns, turning}
 use Rattle.esc_store.proofs.Reading.{counted}
 use Rattle.sqlite_trees.specs.declared.store.Store.{Ghosts}
 use Rattle.sqlite.specs.Held.{state}
@@ -80,7 +80,7 @@ pub record Becoming (change : Content → Content) (c c' : Content) : Type 0 whe
   pub is : c' ≡ change c
 
 pub become_turns : (change : Content → Content) (old new : Database) → Becomes change old new → Turns (Becoming change) old new
-become_turns change old new made tables = let b = becomes new (change (content_in old.trees)) (made (content_in old.trees) tables) in (b.0, record { is = b.1 })
+become_turns change old new made = turning (λ tables. (change (content_in old.trees), made (content_in old.trees) tables, record { is = refl }))
 
 receipts_push : (n : ℕ) (rs : List ReceiptValue) (r : ReceiptValue) (m : ℕ) → length rs + n ≡ m → receipts_from n (rs ++ (r ∷ [])) ≡ receipts_from n rs ++ (receipt_row m r ∷ [])
 receipts_push n [] r m is = let e : n ≡ m = omega (arith, is) in rw e refl
@@ -136,7 +136,7 @@ abbrev pub with_held_row : HeldRow → Content → Content
 with_held_row h c = record c { held = insert_by held_number c.held h }
 
 pub held_turns : (h : HeldRow) (old new : Database) → HoldsBody h old new → Turns (Becoming (with_held_row h)) old new
-held_turns h old new made tables = let b = becomes new (with_held_row h (content_in old.trees)) (made (content_in old.trees) tables).0 in (b.0, record { is = b.1 })
+held_turns h old new made = turning (λ tables. (with_held_row h (content_in old.trees), (made (content_in old.trees) tables).0, record { is = refl }))
 
 body_in : (h : HeldRow) (hs : List HeldRow) (row : ℕ) → body_of row (insert_by held_number hs h) ≡ (if row == h.row then Some h.body else body_of row hs)
 body_in h hs row = ap (option_map (λ (x : HeldRow). x.body)) (get_put held_number hs h (pos row) ∙ ap (λ (b : Bool). if b then Some h else get_by held_number hs (pos row)) (row_test h.row row)) ∙ branch (row == h.row) where
@@ -144,8 +144,8 @@ body_in h hs row = ap (option_map (λ (x : HeldRow). x.body)) (get_put held_numb
   branch true = refl
   branch false = refl
 
-pub books_held : (k : Kept) (h : HeldRow) (row : ℕ) (body : List ℕ) (c c' : Content) → h.row ≡ row → h.body ≡ body → Becoming (with_held_row h) c c' → IsBooks c k → IsBooks c' (with_body k row body)
-books_held k h row body c c' row_is body_is turn books = subst (λ x. IsBooks x (with_body k row body)) (sym turn.is) (record {
+pub books_held : (k : Kept) (h : HeldRow) (row : ℕ) (body : List ℕ) → h.row ≡ row → h.body ≡ body → (c c' : Content) → Becoming (with_held_row h) c c' → IsBooks c k → IsBooks c' (with_body k row body)
+books_held k h row body row_is body_is c c' turn books = subst (λ x. IsBooks x (with_body k row body)) (sym turn.is) (record {
   listed = books.listed;
   receipts = books.receipts;
   held = λ n. body_in h c.held n ∙ rw (row_is, body_is) (ap (λ o. if n == row then Some body else o) (books.held n));

@@ -10,14 +10,15 @@ use Rattle.esc_rows.specs.Changes.{Tells}
 use Rattle.esc_rows.specs.Part.{IsRead}
 use Rattle.esc_rows.proofs.ObjectLemmas.{content_apart}
 use Rattle.esc_store.specs.Decoded.{HaveOwnKeys}
+use Rattle.esc_store.specs.declared.fault.SFault.{SFault}
 use Rattle.esc_store.specs.declared.store.Store.{Store}
 use Rattle.esc_store.specs.Kept.{Kept}
 use Rattle.esc_store.specs.Tables.{IsStoreDatabase}
-use Rattle.esc_store.specs.Standing.{IsAtRest, IsStanding, Settles, IsStoreRead, IsLook, IsAsBefore, IsTold, Stands, IsHonest}
+use Rattle.esc_store.specs.Standing.{IsAtRest, IsStanding, IsStoreRead, IsLook, IsAsBefore, IsTold, Stands, IsHonest}
 use Rattle.esc_store.proofs.Ends.{at_said, was_clean}
-use Rattle.esc_store.proofs.Parts.{look_is}
+use Rattle.esc_store.proofs.Parts.{Settled, look_is}
 
-module _ {X E : Type 0} (old new : State) (P : Content → X → Type 0) (r : Result X E) (look : IsLook old new (Tells P) r) where
+module _ {X E : Type 0} {old new : State} {P : Content → X → Type 0} {r : Result X E} (look : IsLook old new (Tells P) r) where
   pub stands_sure : (m : List MRow) (k : Kept) → IsStanding old m k → IsStanding new m k
   stands_sure m k stands = record { listed = stands.listed; rests = λ clean up. rested clean up } where
     rested : HasCleanDisk new → IsTrue new.is_open → IsAtRest new k
@@ -26,7 +27,8 @@ module _ {X E : Type 0} (old new : State) (P : Content → X → Type 0) (r : Re
         let was = stands.rests (was_clean old new (λ trees. ⊥) look.survives clean) (kept.was_open up) in
         let held : IsStoreDatabase new.committed k = subst (λ db. IsStoreDatabase db k) (sym (kept.committed up)) was.kept in
         elim r as (λ y. r ≡ y → IsAtRest new k) [
-          | Ok x ↦ λ is. let shown = (at_said r x _ is (look.said clean)).1.0 in record { kept = held; same = shown.now_is ∙ (was.same ∙ sym shown.committed_is); autocommit = shown.mode ∙ was.autocommit }
+          | Ok x ↦ λ is. let shown = (at_said r x _ is (look.said clean)).1.0 in
+              record { kept = held; same = shown.now_is ∙ (was.same ∙ sym shown.committed_is); autocommit = shown.mode ∙ was.autocommit }
           | Err e ↦ λ is. let f = bad e is (look.failed clean) in record { kept = held; same = f.1 up; autocommit = f.0 }
         ] refl where
           bad : {Q : Type 0} (e : E) → r ≡ Err e → OnErr r Q → Q
@@ -37,12 +39,13 @@ module _ {X E : Type 0} (old new : State) (P : Content → X → Type 0) (r : Re
       let s = at_said r x _ is (look.said clean) in
       let was = stands.rests (was_clean old new (λ trees. ⊥) look.survives clean) s.1.0.was_open in
       let kept = subst (λ db. IsStoreDatabase db k) (sym was.same) was.kept in
-      record { content = content_in old.now.trees; ordered = kept.kept.tables.ordered; books = kept.kept.books; registry = kept.kept.registry; says = s.0 (content_in old.now.trees) (record { schema_is = kept.schema; store = kept.kept.tables }) }
+      record { content = content_in old.now.trees; ordered = kept.kept.tables.ordered; books = kept.kept.books; registry = kept.kept.registry;
+          says = s.0 (content_in old.now.trees) (record { schema_is = kept.schema; store = kept.kept.tables }) }
 
 -- the same of a store
-pub read_settled : {S : Type 0} (g : Ghosts S) (old : Store S) (conn : Held S) {new : Store S} {X D E : Type 0} {outcome : Result X D} {result : Result X E} → new.manifest ≡ old.manifest → new.writes ≡ old.writes → Settles g (record old { conn = conn }) new outcome result
-    → {P : Content → X → Type 0} → IsRead (state g old.conn) (state g conn) (Tells P) outcome → IsStoreRead g old new P result
-read_settled g old conn manifest writes settled {P} read = record { manifest = manifest; writes = writes; look = look_is g old conn settled (Tells P) read }
+pub read_settled : {S X D : Type 0} {g : Ghosts S} {old new : Store S} {conn : Held S} {outcome : Result X D} {result : Result X SFault} {P : Content → X → Type 0}
+    → Settled g (record old { conn = conn }) new outcome result → IsRead (state g old.conn) (state g conn) (Tells P) outcome → IsStoreRead g old new P result
+read_settled settle read = record { manifest = settle.manifest; writes = settle.writes; look = look_is settle.settled read }
 
 module _ {S X E : Type 0} {g : Ghosts S} {old new : Store S} {P : Content → X → Type 0} where
   pub as_before : {r : Result X E} → IsStoreRead g old new P r → IsAsBefore g old new
@@ -51,23 +54,27 @@ module _ {S X E : Type 0} {g : Ghosts S} {old new : Store S} {P : Content → X 
     manifest = it.manifest;
     writes = it.writes;
     survives = it.look.survives;
-    stands = λ k stands. subst (λ m. IsStanding (state g new.conn) m k) (sym it.manifest) (stands_sure (state g old.conn) (state g new.conn) P r it.look old.manifest k stands);
+    stands = λ k stands. subst (λ m. IsStanding (state g new.conn) m k) (sym it.manifest) (stands_sure it.look old.manifest k stands);
   }
 
   pub told_of : {x : X} → IsStoreRead {E = E} g old new P (Ok x) → IsHonest g new → (k : Kept) → Stands g old k → IsTold k (λ c. P c x)
   unfolding Stands
-  told_of {x} it honest k stands = told (state g old.conn) (state g new.conn) P (Ok x) it.look old.manifest k x refl honest stands
+  told_of {x} it honest k stands = told it.look old.manifest k x refl honest stands
 
 -- a read gave back what was written only where that was so before
 pub was_honest : {S : Type 0} (g : Ghosts S) (old new : Store S) → IsAsBefore g old new → IsHonest g new → IsHonest g old
 was_honest g old new same clean = was_clean (state g old.conn) (state g new.conn) (λ trees. ⊥) same.survives clean
 
-pub told_at : {S X E : Type 0} {g : Ghosts S} {old new : Store S} {P : Content → X → Type 0} (r : Result X E) (x : X) → r ≡ Ok x → IsStoreRead g old new P r → IsHonest g new → (k : Kept) → Stands g old k → IsTold k (λ c. P c x)
+pub told_at : {S X E : Type 0} {g : Ghosts S} {old new : Store S} {P : Content → X → Type 0} (r : Result X E) (x : X) → r ≡ Ok x
+    → IsStoreRead g old new P r → IsHonest g new → (k : Kept) → Stands g old k → IsTold k (λ c. P c x)
 told_at {S} {X} {E} {g} {old} {new} {P} r x is it = told_of {E = E} (subst (IsStoreRead g old new P) is it)
 
 -- the objects of a store's tables have keys of their own
-pub read_keyed : {S X E : Type 0} {g : Ghosts S} {old new : Store S} {P : Content → X → Type 0} {r : Result X E} → IsStoreRead g old new P r → IsStoreRead g old new (λ c x. P c x × HaveOwnKeys c.objects) r
-read_keyed {S} {X} {E} {g} {old} {new} {P} {r} it = record { manifest = it.manifest; writes = it.writes; look = record { survives = it.look.survives; kept = it.look.kept; said = λ clean. said_keyed r (it.look.said clean); failed = it.look.failed } } where
-  said_keyed : (y : Result X E) → IfOk y (λ x. Tells P (state g old.conn).now x × IsUnchanged (state g old.conn) (state g new.conn)) → IfOk y (λ x. Tells (λ c x. P c x × HaveOwnKeys c.objects) (state g old.conn).now x × IsUnchanged (state g old.conn) (state g new.conn))
+pub read_keyed : {S X E : Type 0} {g : Ghosts S} {old new : Store S} {P : Content → X → Type 0} {r : Result X E} → IsStoreRead g old new P r
+    → IsStoreRead g old new (λ c x. P c x × HaveOwnKeys c.objects) r
+read_keyed {S} {X} {E} {g} {old} {new} {P} {r} it = record { manifest = it.manifest; writes = it.writes; look =
+    record { survives = it.look.survives; kept = it.look.kept; said = λ clean. said_keyed r (it.look.said clean); failed = it.look.failed } } where
+  said_keyed : (y : Result X E) → IfOk y (λ x. Tells P (state g old.conn).now x × IsUnchanged (state g old.conn) (state g new.conn))
+      → IfOk y (λ x. Tells (λ c x. P c x × HaveOwnKeys c.objects) (state g old.conn).now x × IsUnchanged (state g old.conn) (state g new.conn))
   said_keyed (Ok x) said = (λ c holds. (said.0 c holds, content_apart (state g old.conn).now c holds), said.1)
   said_keyed (Err e) said = tt

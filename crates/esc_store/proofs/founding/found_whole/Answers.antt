@@ -1,4 +1,3 @@
-use Rattle.sqlite.specs.Held.{state}
 use Rattle.esc_store.specs.Kept.{fresh}
 use Rattle.esc_store.proofs.Ends.{at_ok}
 use Rattle.esc_store.proofs.Following.{on_ok}
@@ -7,14 +6,14 @@ use Rattle.esc_store.proofs.founding.found_whole.Goals as goal
 
 pub returns-clause-survives : goal.returns-clause-survives
 returns-clause-survives g c = λ m e blank.
-    founded_survives (state g.S.Store c.args.conn.now) (state g.S.Store c.build_here.new.conn) (state g.S.Store c.commit_in.new.conn) (fresh m) c.build_here.ensures.survives (c.in_ok-build_here.ensures.built m e blank) c.commit_in.ensures.survives
+    founded_survives _ _ _ (fresh m) c.build_here.ensures.survives (c.in_ok-build_here.ensures.built m e blank) c.commit_in.ensures.survives
 
 pub returns-clause-rests : goal.returns-clause-rests
 returns-clause-rests g c = on_ok c.commit_in.result _ (λ x is m e blank.
-    founded_rests (state g.S.Store c.args.conn.now) (state g.S.Store c.build_here.new.conn) (state g.S.Store c.commit_in.new.conn) (fresh m) c.build_here.ensures.survives (c.in_ok-build_here.ensures.built m e blank) c.commit_in.ensures.survives
+    founded_rests _ _ _ (fresh m) c.build_here.ensures.survives (c.in_ok-build_here.ensures.built m e blank) c.commit_in.ensures.survives
     (λ clean. at_ok c.commit_in.result x _ is (c.commit_in.ensures.committed clean)))
 
 pub returns-clause-left : goal.returns-clause-left
 returns-clause-left g c = on_ok c.commit_in.result _ (λ x is m e blank.
-    founded_left (state g.S.Store c.args.conn.now) (state g.S.Store c.build_here.new.conn) (state g.S.Store c.commit_in.new.conn) (fresh m) c.build_here.ensures.survives (c.in_ok-build_here.ensures.built m e blank) c.commit_in.ensures.survives
+    founded_left _ _ _ (fresh m) c.build_here.ensures.survives (c.in_ok-build_here.ensures.built m e blank) c.commit_in.ensures.survives
     (λ clean. at_ok c.commit_in.result x _ is (c.commit_in.ensures.committed clean)) c.commit_in.ensures.only)

@@ -1,33 +1,32 @@
 use Rattle.sqlite.specs.Held.{state}
 use Rattle.esc_store.proofs.Ends.{was_clean, keeps_then}
-use Rattle.esc_store.proofs.OpeningLemmas.{is_off, as_it_was}
+use Rattle.esc_store.proofs.OpeningLemmas.{at_rest, as_it_was}
 use Rattle.esc_store.proofs.MigratingLemmas.{sees_committed, given_up_survives}
 use Rattle.esc_store.proofs.migrating.migrate_here.Goals as goal
 
 pub returns-in-Ok-clause-survives : goal.returns-in-Ok-clause-survives
 returns-in-Ok-clause-survives g c = λ k stored.
-    c.migrate_whole.ensures.survives k (sees_committed (state g.S.Store c.args.conn.now) k (is_off c.is_autocommit.result _ c.is_autocommit.ensures.value c.if-not-is_autocommit.false, c.is_autocommit.ensures.settled c.if-not-is_autocommit.false) stored)
+    c.migrate_whole.ensures.survives k (sees_committed (state g.S.Store c.args.conn.now) k
+        (at_rest c.is_autocommit.ensures.value c.is_autocommit.ensures.settled c.if-not-is_autocommit.false) stored)
 
 pub returns-in-Err-clause-survives : goal.returns-in-Err-clause-survives
 returns-in-Err-clause-survives g c = λ k stored.
-    let old = state g.S.Store c.args.conn.now in
-    let mid = state g.S.Store c.migrate_whole.new.conn in
-    given_up_survives old mid (state g.S.Store c.give_up_in.new.conn) k (c.migrate_whole.ensures.survives k (sees_committed old k (is_off c.is_autocommit.result _ c.is_autocommit.ensures.value c.if-not-is_autocommit.false, c.is_autocommit.ensures.settled c.if-not-is_autocommit.false) stored)) c.give_up_in.ensures.survives
+    given_up_survives _ _ _ k (c.migrate_whole.ensures.survives k (sees_committed (state g.S.Store c.args.conn.now) k
+        (at_rest c.is_autocommit.ensures.value c.is_autocommit.ensures.settled c.if-not-is_autocommit.false) stored)) c.give_up_in.ensures.survives
 
 pub returns-in-Ok-clause-left : goal.returns-in-Ok-clause-left
 returns-in-Ok-clause-left g c = λ k stored.
-    c.in-Ok.ensures.left k (sees_committed (state g.S.Store c.args.conn.now) k (is_off c.is_autocommit.result _ c.is_autocommit.ensures.value c.if-not-is_autocommit.false, c.is_autocommit.ensures.settled c.if-not-is_autocommit.false) stored)
+    c.in-Ok.ensures.left k (sees_committed (state g.S.Store c.args.conn.now) k
+        (at_rest c.is_autocommit.ensures.value c.is_autocommit.ensures.settled c.if-not-is_autocommit.false) stored)
 
 pub returns-in-Err-clause-never : goal.returns-in-Err-clause-never
 returns-in-Err-clause-never g c = λ is clean up.
     let ended = c.give_up_in.ensures in
-    let mid = state g.S.Store c.migrate_whole.new.conn in
-    c.in-Err.ensures.never is (was_clean mid (state g.S.Store c.give_up_in.new.conn) (λ _. ⊥) ended.survives clean) ((ended.kept clean).was_open up) (is_off c.is_autocommit.result _ c.is_autocommit.ensures.value c.if-not-is_autocommit.false, c.is_autocommit.ensures.settled c.if-not-is_autocommit.false)
+    c.in-Err.ensures.never is (was_clean _ _ _ ended.survives clean) ((ended.kept clean).was_open up)
+        (at_rest c.is_autocommit.ensures.value c.is_autocommit.ensures.settled c.if-not-is_autocommit.false)
 
 pub returns-in-Err-clause-unchanged : goal.returns-in-Err-clause-unchanged
 returns-in-Err-clause-unchanged g c =
     let ended = c.give_up_in.ensures in
-    let old = state g.S.Store c.args.conn.now in
-    let mid = state g.S.Store c.migrate_whole.new.conn in
-    let new = state g.S.Store c.give_up_in.new.conn in
-    as_it_was old new (is_off c.is_autocommit.result _ c.is_autocommit.ensures.value c.if-not-is_autocommit.false, c.is_autocommit.ensures.settled c.if-not-is_autocommit.false) (λ clean. keeps_then old mid new (c.in-Err.ensures.kept (was_clean mid new (λ _. ⊥) ended.survives clean)) (ended.kept clean)) ended.ended ended.settled
+    as_it_was _ _ (at_rest c.is_autocommit.ensures.value c.is_autocommit.ensures.settled c.if-not-is_autocommit.false)
+        (λ clean. keeps_then _ _ _ (c.in-Err.ensures.kept (was_clean _ _ _ ended.survives clean)) (ended.kept clean)) ended.ended ended.settled

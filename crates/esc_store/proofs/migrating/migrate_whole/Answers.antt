@@ -1,4 +1,3 @@
-use Rattle.sqlite.specs.Held.{state}
 use Rattle.esc_store.proofs.Ends.{at_ok}
 use Rattle.esc_store.proofs.Following.{on_ok}
 use Rattle.esc_store.proofs.Reading.{if_goes}
@@ -7,17 +6,16 @@ use Rattle.esc_store.proofs.migrating.migrate_whole.Goals as goal
 
 pub returns-clause-survives : goal.returns-clause-survives
 returns-clause-survives g c = λ k sees.
-    let old = state g.S.Store c.args.conn.now in
-    let mid = state g.S.Store c.test_first.new.conn in
-    migrated_survives old mid (state g.S.Store c.commit_upgraded.new.conn) k c.test_first.ensures.survives (c.commit_upgraded.ensures.survives k (tested old mid k c.test_first.ensures.survives c.in_ok-test_first.ensures.version sees))
+    migrated_survives _ _ _ k c.test_first.ensures.survives
+        (c.commit_upgraded.ensures.survives k (tested _ _ k c.test_first.ensures.survives c.in_ok-test_first.ensures.version sees))
 
 pub returns-clause-version : goal.returns-clause-version
 returns-clause-version g c = on_ok c.commit_upgraded.result _ (λ x is clean. (c.in_ok-test_first.ensures.version (c.commit_upgraded.ensures.honest clean)).1)
 
 pub returns-clause-stands : goal.returns-clause-stands
 returns-clause-stands g c = if_goes c.commit_upgraded.result _ _ c.commit_upgraded.ensures.stands (λ manifest stands k sees.
-    stands k (tested (state g.S.Store c.args.conn.now) (state g.S.Store c.test_first.new.conn) k c.test_first.ensures.survives c.in_ok-test_first.ensures.version sees))
+    stands k (tested _ _ k c.test_first.ensures.survives c.in_ok-test_first.ensures.version sees))
 
 pub returns-clause-left : goal.returns-clause-left
 returns-clause-left g c = on_ok c.commit_upgraded.result _ (λ x is k sees.
-    at_ok c.commit_upgraded.result x _ is c.commit_upgraded.ensures.left k (tested (state g.S.Store c.args.conn.now) (state g.S.Store c.test_first.new.conn) k c.test_first.ensures.survives c.in_ok-test_first.ensures.version sees))
+    at_ok c.commit_upgraded.result x _ is c.commit_upgraded.ensures.left k (tested _ _ k c.test_first.ensures.survives c.in_ok-test_first.ensures.version sees))

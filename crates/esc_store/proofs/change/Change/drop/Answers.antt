@@ -1,5 +1,4 @@
 use Rattle.std.proofs.Common.{◌∙◌}
-use Rattle.sqlite.specs.Held.{state}
 use Rattle.esc_store.specs.Standing.{BeganIn, Stands}
 use Rattle.esc_store.proofs.Ends.{given_up, begun_committed}
 use Rattle.esc_store.proofs.change.Change.drop.Goals as goal
@@ -8,4 +7,4 @@ pub returns-clause-kept : goal.returns-clause-kept
 unfolding BeganIn Stands
 returns-clause-kept g c = λ before begun.
     let up = c.give_up.ensures.given_up in
-    given_up (state g.S.Store c.args.self.store.now.conn) (state g.S.Store c.give_up.new.self.conn) _ before (λ trees. ⊥) up.survives up.kept up.ended up.settled (c.give_up.ensures.manifest ∙ begun.listed) (begun_committed (state g.S.Store c.args.self.store.now.conn) _ before begun)
+    given_up _ _ _ before _ up.survives up.kept up.ended up.settled (c.give_up.ensures.manifest ∙ begun.listed) (begun_committed _ _ before begun)

@@ -7,5 +7,5 @@ use Rattle.esc_store.proofs.codec.object.add_image.Goals as goal
 
 pub returns-clause-added : goal.returns-clause-added
 returns-clause-added c = on_ok c.add_new.result _ (λ x is rows all.
-    image_more rows c.args.images.now.entries c.add_new.new.all.entries (image_of c.args.stored.now) c.in_ok-key.key c.in_ok-before.before c.in_ok-key.ensures.kind (sym c.as_slice.ensures.value ∙ c.in_ok-key.ensures.text)
+    image_more rows _ _ (image_of c.args.stored.now) _ _ c.in_ok-key.ensures.kind (sym c.as_slice.ensures.value ∙ c.in_ok-key.ensures.text)
     c.in_ok-before.ensures.before (at_ok c.add_new.result x _ is c.add_new.ensures.absent) (at_ok c.add_new.result x _ is c.add_new.ensures.added) all)

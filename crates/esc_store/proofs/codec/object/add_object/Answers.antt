@@ -7,5 +7,5 @@ use Rattle.esc_store.proofs.codec.object.add_object.Goals as goal
 
 pub returns-clause-added : goal.returns-clause-added
 returns-clause-added c = on_ok c.add_new.result _ (λ x is rows all.
-    object_more rows c.args.objects.now.entries c.add_new.new.all.entries (object_of c.args.stored.now) c.in_ok-key.key c.in_ok-object.object c.in_ok-key.ensures.kind (sym c.as_slice.ensures.value ∙ c.in_ok-key.ensures.text)
+    object_more rows _ _ (object_of c.args.stored.now) _ _ c.in_ok-key.ensures.kind (sym c.as_slice.ensures.value ∙ c.in_ok-key.ensures.text)
     (c.in_ok-object.ensures.object ∙ ap Some c.as_slice-2.ensures.value) (at_ok c.add_new.result x _ is c.add_new.ensures.absent) (at_ok c.add_new.result x _ is c.add_new.ensures.added) all)

@@ -6,7 +6,8 @@ use Rattle.esc_store.proofs.Paging.{one_entry}
 use Rattle.esc_store.proofs.codec.object.entries_of.Goals as goal
 
 pub loop-at-preserved : goal.loop-at-preserved
-loop-at-preserved c = ap (map entry_row) c.in_ok-push.ensures.items ∙ one_entry (λ it. stored_row (object_of it)) c.args.stored.now _ c.loop-at.at c.loop-at.entries.items c.in_ok-entry.entry c.loop-at-test.true c.loop-at.invariant (c.in_ok-entry.ensures.entry ∙ ap (λ it. stored_row (object_of it)) c.index-stored-at.is)
+loop-at-preserved c = ap (map entry_row) c.in_ok-push.ensures.items ∙ one_entry (λ it. stored_row (object_of it)) _ _ _ _ _ c.loop-at-test.true c.loop-at.invariant
+    (c.in_ok-entry.ensures.entry ∙ ap (λ it. stored_row (object_of it)) c.index-stored-at.is)
 
 pub returns-clause-entries : goal.returns-clause-entries
 returns-clause-entries c = c.loop-at.invariant ∙ ap (map (λ it. stored_row (object_of it))) (take_all c.loop-at.at c.args.stored.now (let past = c.loop-at-test.false in omega arith))

@@ -6,7 +6,9 @@ use Rattle.esc_store.proofs.Decoding.{one_reply, receipts_size}
 use Rattle.esc_store.proofs.codec.receipt.replies_of.Goals as goal
 
 pub loop-at-preserved : goal.loop-at-preserved
-loop-at-preserved c = λ rs e. c.in_ok-push.ensures.items ∙ one_reply c.args.manifest.now c.args.stored.now rs c.loop-at.at c.index-stored-at.result c.loop-at.replies.items c.in_ok-reply.reply e c.loop-at-test.true (c.loop-at.invariant rs e) (λ n r h. c.in_ok-reply.ensures.reply n r (ap receipt_row c.index-stored-at.is ∙ h))
+loop-at-preserved c = λ rs e. c.in_ok-push.ensures.items ∙ one_reply _ _ rs _ _ _ _ e c.loop-at-test.true (c.loop-at.invariant rs e)
+    (λ n r h. c.in_ok-reply.ensures.reply n r (ap receipt_row c.index-stored-at.is ∙ h))
 
 pub returns-clause-replies : goal.returns-clause-replies
-returns-clause-replies c = λ rs e. c.loop-at.invariant rs e ∙ ap (replies_from c.args.manifest.now 1) (take_all c.loop-at.at rs (let size = receipts_size c.args.stored.now rs e in let past = c.loop-at-test.false in omega arith))
+returns-clause-replies c = λ rs e. c.loop-at.invariant rs e ∙ ap (replies_from c.args.manifest.now 1)
+    (take_all c.loop-at.at rs (let size = receipts_size c.args.stored.now rs e in let past = c.loop-at-test.false in omega arith))

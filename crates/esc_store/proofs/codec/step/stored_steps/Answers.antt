@@ -7,4 +7,4 @@ use Rattle.esc_store.proofs.codec.step.stored_steps.Goals as goal
 pub loop-at-preserved : goal.loop-at-preserved
 loop-at-preserved c =
     ap (map step_row) c.in_ok-push.ensures.items ∙ (map-append step_row c.loop-at.stored.items _
-    ∙ steps_stored (map step_row c.loop-at.stored.items) c.args.steps.now c.loop-at.at c.in_ok-pos.pos c.in_ok-row.row _ c.loop-at.invariant c.loop-at-test.true c.in_ok-pos.ensures.number c.in_ok-row.ensures.number)
+    ∙ steps_stored _ _ _ _ _ _ c.loop-at.invariant c.loop-at-test.true c.in_ok-pos.ensures.number c.in_ok-row.ensures.number)

@@ -14,5 +14,6 @@ returns-clause-adopted g c = on_ok c.unpark.result _ (λ x is clean before k fre
     let held = c.in_ok-hold.ensures.held before k free (c.find_parked.ensures.follows.rest before k rest) in (
       c.in-Some.body.items,
       sym (rw c.in-Some.is at found),
-      subst (λ b. Rest g.S.Store c.unpark.new.self before (with_parked (with_body k c.args.row b) c.args.digest.now None)) c.as_slice.ensures.value (at_ok c.unpark.result x _ is c.unpark.ensures.dropped before _ held),
+      subst (λ b. Rest g.S.Store c.unpark.new.self before (with_parked (with_body k c.args.row b) c.args.digest.now None)) c.as_slice.ensures.value
+          (at_ok c.unpark.result x _ is c.unpark.ensures.dropped before _ held),
     ))

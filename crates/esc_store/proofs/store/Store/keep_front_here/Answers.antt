@@ -21,10 +21,10 @@ returns-clause-step g c = λ rows e.
       | then-front-kept+in_ok-clear_steps_from_here w ↦
           let within : front < length kept = w.if-front-kept.true in
           subst (λ s. IsStep {X = ℕ} {E = SFault} (state g.S.Store c.args.self.now.conn) (state g.S.Store s.conn) (SetsFront {E = SFault} rows (Ok front)) (Ok front)) (sym w.self-is)
-          (front_cut (λ found. map step_row found.items) (state g.S.Store c.args.self.now.conn) (state g.S.Store c.steps_here.new.self.conn) c.steps_here.result c.in-Ok-steps_here.stored rows front c.in-Ok.ensures.on c.steps_here.ensures.read.look c.in-Ok-steps_here.is same
-          (state g.S.Store w.clear_steps_from_here.new.self.conn) _ _ (omega arith) (place_at kept items front _ c.as_slice-kept.ensures.value within) tt w.in_ok-clear_steps_from_here.ensures.step)
+          (front_cut (λ found. map step_row found.items) _ _ _ _ rows front c.in-Ok.ensures.on c.steps_here.ensures.read.look c.in-Ok-steps_here.is same
+          _ _ _ (omega arith) (place_at kept items front _ c.as_slice-kept.ensures.value within) tt w.in_ok-clear_steps_from_here.ensures.step)
       | else-front-kept w ↦
           let past : length kept ≤ front = let over = w.if-front-kept.false in omega arith in
           subst (λ s. IsStep {X = ℕ} {E = SFault} (state g.S.Store c.args.self.now.conn) (state g.S.Store s.conn) (SetsFront {E = SFault} rows (Ok front)) (Ok front)) (sym w.self-is)
-          (front_whole (λ found. map step_row found.items) (state g.S.Store c.args.self.now.conn) (state g.S.Store c.steps_here.new.self.conn) c.steps_here.result c.in-Ok-steps_here.stored rows front c.in-Ok.ensures.on c.steps_here.ensures.read.look c.in-Ok-steps_here.is same (omega arith))
+          (front_whole (λ found. map step_row found.items) _ _ _ _ rows front c.in-Ok.ensures.on c.steps_here.ensures.read.look c.in-Ok-steps_here.is same (omega arith))
     ]

@@ -2,4 +2,4 @@ use Rattle.esc_store.proofs.Sure.{read_settled}
 use Rattle.esc_store.proofs.store.Store.last_here.Goals as goal
 
 pub returns-clause-read : goal.returns-clause-read
-returns-clause-read g c = read_settled g.S.Store c.args.self.now c.last_receipt-found.new.conn c.settle.ensures.manifest c.settle.ensures.writes c.settle.ensures.settled c.last_receipt-found.ensures.read
+returns-clause-read g c = read_settled c.settle.ensures c.last_receipt-found.ensures.read

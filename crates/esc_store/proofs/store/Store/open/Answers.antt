@@ -1,6 +1,5 @@
 use Rattle.std.proofs.Common.{sym, ap, subst, ◌∙◌}
 use Rattle.sqlite.specs.Effect.{Database}
-use Rattle.sqlite.specs.Held.{state}
 use Rattle.esc_store.specs.Tables.{IsStore}
 use Rattle.esc_store.specs.Standing.{HoldsKept, Stands, LeavesOnly}
 use Rattle.esc_store.proofs.OpeningLemmas.{opened, found}
@@ -9,12 +8,12 @@ use Rattle.esc_store.proofs.store.Store.open.Goals as goal
 pub returns-in-Ok-clause-stands : goal.returns-in-Ok-clause-stands
 unfolding HoldsKept Stands
 returns-in-Ok-clause-stands g c = λ clean k holds.
-    opened (state g.S.Store c.args.connection) (state g.S.Store c.find_manifest.new.conn) c.in-Ok.manifest k c.find_manifest.ensures.survives (c.in-Ok.ensures.version clean).0 (c.in-Ok.ensures.manifest clean k) holds clean
+    opened _ _ _ k c.find_manifest.ensures.survives (c.in-Ok.ensures.version clean).0 (c.in-Ok.ensures.manifest clean k) holds clean
 
 pub returns-in-Ok-clause-found : goal.returns-in-Ok-clause-found
 unfolding Stands
 returns-in-Ok-clause-found g c = λ clean k stored.
-    found (state g.S.Store c.args.connection) (state g.S.Store c.find_manifest.new.conn) c.in-Ok.manifest k c.find_manifest.ensures.survives (c.in-Ok.ensures.version clean) c.in-Ok.ensures.settled (c.in-Ok.ensures.manifest clean k) stored clean
+    found _ _ _ k c.find_manifest.ensures.survives (c.in-Ok.ensures.version clean) c.in-Ok.ensures.settled (c.in-Ok.ensures.manifest clean k) stored clean
 
 pub returns-in-Ok-clause-left : goal.returns-in-Ok-clause-left
 unfolding LeavesOnly

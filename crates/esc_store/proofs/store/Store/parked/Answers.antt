@@ -1,4 +1,4 @@
-use Rattle.std.proofs.Common.{◌≡◌, ◌∙◌, map, subst, sym, ap}
+use Rattle.std.proofs.Common.{◌∙◌, map, subst, sym, ap}
 use Rattle.esc_store.specs.Kept.{AreParked}
 use Rattle.esc_store.proofs.Parking.{are_parked}
 use Rattle.esc_store.proofs.Reading.{if_goes}
