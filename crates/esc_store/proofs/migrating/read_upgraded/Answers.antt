@@ -10,16 +10,13 @@ use Rattle.esc_store.proofs.migrating.read_upgraded.Goals as goal
 
 pub returns-clause-upgraded : goal.returns-clause-upgraded
 returns-clause-upgraded g c = on_ok c.kept_manifest.result _ (λ x is clean k first.
-    let mid = state g.S.Store c.upgrade_here.new.conn in
-    let new = state g.S.Store c.all_listed.new.conn in
     let said = at_said c.all_listed.result c.in_ok-stored.stored _ c.in_ok-stored.was (c.all_listed.ensures.read.said clean) in
-    subst (λ db. IsStoreDatabase db k) (sym said.1.0.now_is) (c.in_ok-upgrade_here.ensures.upgraded (was_clean mid new (λ _. ⊥) c.all_listed.ensures.read.survives clean) k first))
+    subst (λ db. IsStoreDatabase db k) (sym said.1.0.now_is) (c.in_ok-upgrade_here.ensures.upgraded (was_clean _ _ _ c.all_listed.ensures.read.survives clean) k first))
 
 pub returns-clause-manifest : goal.returns-clause-manifest
 returns-clause-manifest g c = if_goes c.kept_manifest.result _ _ c.kept_manifest.ensures.manifest (λ manifest is clean k first.
     let mid = state g.S.Store c.upgrade_here.new.conn in
-    let new = state g.S.Store c.all_listed.new.conn in
-    let store : IsStoreDatabase mid.now k = c.in_ok-upgrade_here.ensures.upgraded (was_clean mid new (λ _. ⊥) c.all_listed.ensures.read.survives clean) k first in
+    let store : IsStoreDatabase mid.now k = c.in_ok-upgrade_here.ensures.upgraded (was_clean _ _ _ c.all_listed.ensures.read.survives clean) k first in
     let said = at_said c.all_listed.result c.in_ok-stored.stored _ c.in_ok-stored.was (c.all_listed.ensures.read.said clean) in
     is k.listed (ap (map listed_row) c.as_slice.ensures.value
     ∙ (said.0 (content_in mid.now.trees) (record { schema_is = store.schema; store = store.kept.tables }) ∙ store.kept.books.listed)))

@@ -9,8 +9,7 @@ use Rattle.esc_store.proofs.opening.read_manifest.Goals as goal
 
 pub returns-clause-manifest : goal.returns-clause-manifest
 returns-clause-manifest g c = if_goes c.kept_manifest.result _ _ c.kept_manifest.ensures.manifest (λ manifest is clean k stored.
-    let mid = state g.S.Store c.test_version.new.conn in
-    let same = (c.in_ok-test_version.ensures.version (was_clean mid (state g.S.Store c.all_listed.new.conn) (λ _. ⊥) c.all_listed.ensures.read.survives clean)).0.0.now_is in
+    let same = (c.in_ok-test_version.ensures.version (was_clean _ _ _ c.all_listed.ensures.read.survives clean)).0.0.now_is in
     let content = content_in (state g.S.Store c.args.conn.now).now.trees in
     let said = at_said c.all_listed.result c.in_ok-stored.stored _ c.in_ok-stored.was (c.all_listed.ensures.read.said clean) in
     is k.listed (ap (map listed_row) c.as_slice.ensures.value

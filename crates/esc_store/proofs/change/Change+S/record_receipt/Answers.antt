@@ -1,6 +1,4 @@
 use Rattle.std.proofs.Common.{◌∙◌, ◌+◌, ap, refl, arith}
-use Rattle.sqlite.specs.Held.{state}
-use Rattle.esc_rows.specs.Content.{content_in}
 use Rattle.esc_store.proofs.Ends.{at_ok, at_said, was_clean}
 use Rattle.esc_store.proofs.RowSteps.{become_turns, books_receipt, registry_receipt, receipts_made}
 use Rattle.esc_store.proofs.Following.{stepped, goes_step, made_all, holds_all}
@@ -16,19 +14,15 @@ returns-clause-recorded g c = made_all (stepped c.add_next_here.ensures.manifest
 
 pub returns-clause-number : goal.returns-clause-number
 returns-clause-number g c = if_ok c.add_next_here.result _ (λ n is clean before k made.
-    let old = state g.S.Store c.args.self.now.store.now.conn in
-    let new = state g.S.Store c.add_next_here.new.self.conn in
     let on = (at_ok c.add_next_here.result n _ is (c.add_next_here.ensures.step.made clean)).0 in
-    let kept = receipts_made _ _ _ before k (was_clean old new (λ _. ⊥) c.add_next_here.ensures.step.survives clean) on made in
-    at_said c.add_next_here.result n _ is c.add_next_here.ensures.number clean (content_in old.now.trees) kept.0 ∙ ap (λ n. n + 1) kept.1)
+    let kept = receipts_made _ _ _ before k (was_clean _ _ _ c.add_next_here.ensures.step.survives clean) on made in
+    at_said c.add_next_here.result n _ is c.add_next_here.ensures.number clean _ kept.0 ∙ ap (λ n. n + 1) kept.1)
 
 pub returns-clause-full : goal.returns-clause-full
 returns-clause-full g c = if_err c.add_next_here.result _ _ c.add_next_here.ensures.full (λ e full is clean before k made.
-    let old = state g.S.Store c.args.self.now.store.now.conn in
-    let new = state g.S.Store c.add_next_here.new.self.conn in
     let it = full is clean in
-    let kept = receipts_made _ _ _ before k (was_clean old new (λ _. ⊥) c.add_next_here.ensures.step.survives clean) it.0 made in
-    omega (arith, it.1 (content_in old.now.trees) kept.0, kept.1))
+    let kept = receipts_made _ _ _ before k (was_clean _ _ _ c.add_next_here.ensures.step.survives clean) it.0 made in
+    omega (arith, it.1 _ kept.0, kept.1))
 
 pub returns-clause-holds : goal.returns-clause-holds
 returns-clause-holds g c = holds_all (stepped c.add_next_here.ensures.manifest c.add_next_here.ensures.writes c.add_next_here.ensures.step (become_turns _))

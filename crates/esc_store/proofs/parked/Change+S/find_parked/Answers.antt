@@ -16,5 +16,4 @@ returns-clause-found g c = if_ok c.settle.result _ (λ x is clean.
     found_parked (option_map (λ b. b.items)) is c.in-Ok.ensures.on (read_settled c.settle.ensures c.find_parked-found.ensures.read) clean _)
 
 pub returns-clause-holds : goal.returns-clause-holds
-returns-clause-holds g c = on_ok c.settle.result _ (λ x is.
-    holds_look (read_settled c.settle.ensures c.find_parked-found.ensures.read) is)
+returns-clause-holds g c = on_ok c.settle.result _ (λ x is. holds_look (read_settled c.settle.ensures c.find_parked-found.ensures.read) is)

@@ -1,5 +1,4 @@
 use Rattle.std.proofs.Common.{◌∙◌}
-use Rattle.sqlite.specs.Held.{state}
 use Rattle.sqlite.proofs.StateLemmas.{survives_then}
 use Rattle.esc_store.specs.Standing.{Stands, BeganIn, RestIn, HoldsIn}
 use Rattle.esc_store.proofs.Ends.{ok_goes, err_goes, at_ok, began, made, under_way, given_up, keeps_then, was_clean}
@@ -23,10 +22,7 @@ returns-clause-holds g c = ok_goes c.settle.result _ _ c.settle.ensures.settled.
 pub returns-clause-stands : goal.returns-clause-stands
 unfolding Stands
 returns-clause-stands g c = err_goes c.settle.result _ _ c.settle.ensures.settled.err (λ p k stands.
-    let old = state g.S.Store c.args.self.now.conn in
-    let mid = state g.S.Store c.begin_in-begun.new.conn in
-    let new = state g.S.Store c.settle.new.self.conn in
-    given_up old new _ k (λ trees. ⊥)
-    (survives_then old mid new (λ trees. ⊥) (λ trees. ⊥) (λ trees. ⊥) (λ _ db none. none) (λ _ db none. none) c.begin_in-begun.ensures.survives p.1.survives)
-    (λ clean. keeps_then old mid new (c.begin_in-begun.ensures.kept (was_clean mid new (λ trees. ⊥) p.1.survives clean)) (p.1.kept clean))
+    given_up _ _ _ k (λ trees. ⊥)
+    (survives_then _ _ _ _ _ _ (λ _ db none. none) (λ _ db none. none) c.begin_in-begun.ensures.survives p.1.survives)
+    (λ clean. keeps_then _ _ _ (c.begin_in-begun.ensures.kept (was_clean _ _ _ p.1.survives clean)) (p.1.kept clean))
     p.1.ended p.1.settled (c.settle.ensures.manifest ∙ stands.listed) (λ clean up. (stands.rests clean up).kept))
