@@ -45,20 +45,20 @@ module _ {S : Type 0} {g : Ghosts S} {X E : Type 0} {old new : Store S} {R : Con
   rest_step : ((k : Kept) (c c' : Content) → R c c' → IsBooks c k → IsBooks c' k) → (listing : Option (List MRow)) (before k : Kept) → RestIn g old listing before k → RestIn g new listing before k
   unfolding RestIn
   rest_step turn listing before k made = subst (λ m. IsMade (state g new.conn) m (unwrap_or listing m) before k) (sym move.manifest)
-    (made_kept move.step old.manifest (unwrap_or listing old.manifest) before k (turn k) made)
+      (made_kept move.step old.manifest (unwrap_or listing old.manifest) before k (turn k) made)
 
   pub made_all : {F : Kept → Kept} (listing : Option (List MRow)) → ((k : Kept) → (F k).listed ≡ k.listed) → ((k : Kept) (c c' : Content) → R c c' → IsBooks c k → IsBooks c' (F k))
       → OnOk r ((before k : Kept) → RestIn g old listing before k → RestIn g new listing before (F k))
   unfolding RestIn
   made_all {F} listing same turn = on_ok r _ (λ x is before k made. subst (λ m. IsMade (state g new.conn) m (unwrap_or listing m) before (F k)) (sym move.manifest)
-    (made_on move.step old.manifest (unwrap_or listing old.manifest) (unwrap_or listing old.manifest) before k (F k) x is (λ h. h ∙ sym (same k)) (turn k) made))
+      (made_on move.step old.manifest (unwrap_or listing old.manifest) (unwrap_or listing old.manifest) before k (F k) x is (λ h. h ∙ sym (same k)) (turn k) made))
 
   -- of a step that lists rows
   pub listed_step : {k k' : Kept} {x : X} → r ≡ Ok x → ((c c' : Content) → R c c' → IsBooks c k → IsBooks c' k') → (before : Kept)
       → RestIn g old (Some k.listed) before k → RestIn g new (Some k'.listed) before k'
   unfolding RestIn
   listed_step {k} {k'} {x} is turn before made = subst (λ m. IsMade (state g new.conn) m k'.listed before k') (sym move.manifest)
-    (made_on move.step old.manifest k.listed k'.listed before k k' x is (λ h. refl) turn made)
+      (made_on move.step old.manifest k.listed k'.listed before k k' x is (λ h. refl) turn made)
 
   pub holds_step : {s s' : Tables} {x : X} → r ≡ Ok x → ((c c' : Content) → R c c' → IsRegistry c s → IsRegistry c' s') → HoldsIn g old s → HoldsIn g new s'
   unfolding HoldsIn

@@ -40,8 +40,11 @@ module _ {X E : Type 0} {old new : State} {P : Content → X → Type 0} {r : Re
     | Err e ↦ λ is. record {
       listed = begun.listed;
       on = λ clean on. absurd (not_both new.in_transaction on (bad e is (look.failed clean)).0);
-      off = λ clean off up. let kept = look.kept clean in (subst (λ db. IsStoreDatabase db k) (sym (kept.committed up))
-          (begun_committed old m k begun (clean_before clean) (kept.was_open up)), (bad e is (look.failed clean)).1 up);
+      off = λ clean off up. let kept = look.kept clean in (
+        subst (λ db. IsStoreDatabase db k) (sym (kept.committed up))
+            (begun_committed old m k begun (clean_before clean) (kept.was_open up)),
+        (bad e is (look.failed clean)).1 up,
+      );
     }
   ] refl
 
@@ -56,8 +59,12 @@ module _ {X E : Type 0} {old new : State} {P : Content → X → Type 0} {r : Re
   pub under_way_seen : (s : Tables) (x : X) → r ≡ Ok x → HasCleanDisk new → IsUnderWay old s → IsUnderWay new s
   under_way_seen s x is clean goes =
       let it = shown x is clean in
-      record { is_open = it.is_open; in_transaction = it.mode ∙ goes.in_transaction; tables_are = subst HoldsTables (sym it.now_is) goes.tables_are;
-          registry = subst (λ (db : Database). IsRegistry (content_in db.trees) s) (sym it.now_is) goes.registry }
+      record {
+        is_open = it.is_open;
+        in_transaction = it.mode ∙ goes.in_transaction;
+        tables_are = subst HoldsTables (sym it.now_is) goes.tables_are;
+        registry = subst (λ (db : Database). IsRegistry (content_in db.trees) s) (sym it.now_is) goes.registry;
+      }
 
   pub said_seen : (s : Tables) (x : X) → r ≡ Ok x → HasCleanDisk new → IsUnderWay old s → P (content_in old.now.trees) x
   said_seen s x is clean goes = (at_said r x _ is (look.said clean)).0 (content_in old.now.trees) goes.tables_are
@@ -70,7 +77,7 @@ module _ {S : Type 0} {g : Ghosts S} {X E : Type 0} {old new : Store S} {P : Con
   rest_look : (listing : Option (List MRow)) (before k : Kept) → RestIn g old listing before k → RestIn g new listing before k
   unfolding RestIn
   rest_look listing before k made = subst (λ m. IsMade (state g new.conn) m (unwrap_or listing m) before k) (sym read.manifest)
-    (made_look read.look old.manifest (unwrap_or listing old.manifest) before k made)
+      (made_look read.look old.manifest (unwrap_or listing old.manifest) before k made)
 
   pub holds_look : {x : X} → r ≡ Ok x → (s : Tables) → HoldsIn g old s → HoldsIn g new s
   unfolding HoldsIn

@@ -47,27 +47,27 @@ module _ {S : Type 0} {g : Ghosts S} {old : State} {before new : Store S} {X D E
   pub step_is : {Made : Database → Database → Type 0} → IsPart old (state g before.conn) Made outcome → IsStep old (state g new.conn) Made result
   step_is {Made} part = elim result as (λ r. IfOk r (λ x. (outcome ≡ Ok x) × (new ≡ before)) → OnErr r (IsErr outcome × IsGivenUp (state g before.conn) (state g new.conn))
       → IsStep old (state g new.conn) Made r) [
-    | Ok x ↦ λ ok err. subst (λ (s : Store S). IsStep {X = X} {E = E} old (state g s.conn) Made (Ok x)) (sym ok.1) (record {
-      survives = part.survives;
-      kept = part.kept;
-      made = λ clean. let m = at_ok outcome x _ ok.0 (part.made clean) in (at_ok outcome x _ ok.0 part.within, m.0, m.1, m.2);
-      failed = λ clean. tt;
-    })
-    | Err e ↦ λ ok err. record { survives = after old err.1 part.survives; kept = keeps_after old err.1 part.kept; made = λ clean. tt; failed = λ clean. (err.1.ended clean, err.1.settled clean) }
-  ] settled.ok settled.err
+        | Ok x ↦ λ ok err. subst (λ (s : Store S). IsStep {X = X} {E = E} old (state g s.conn) Made (Ok x)) (sym ok.1) (record {
+          survives = part.survives;
+          kept = part.kept;
+          made = λ clean. let m = at_ok outcome x _ ok.0 (part.made clean) in (at_ok outcome x _ ok.0 part.within, m.0, m.1, m.2);
+          failed = λ clean. tt;
+        })
+        | Err e ↦ λ ok err. record { survives = after old err.1 part.survives; kept = keeps_after old err.1 part.kept; made = λ clean. tt; failed = λ clean. (err.1.ended clean, err.1.settled clean) }
+      ] settled.ok settled.err
 
   -- a read, settled
   pub look_is : {Says : Database → X → Type 0} → IsRead old (state g before.conn) Says outcome → IsLook old (state g new.conn) Says result
   look_is {Says} read = elim result as (λ r. IfOk r (λ x. (outcome ≡ Ok x) × (new ≡ before)) → OnErr r (IsErr outcome × IsGivenUp (state g before.conn) (state g new.conn))
       → IsLook old (state g new.conn) Says r) [
-    | Ok x ↦ λ ok err. subst (λ (s : Store S). IsLook {X = X} {E = E} old (state g s.conn) Says (Ok x)) (sym ok.1) (record {
-      survives = read.survives;
-      kept = read.kept;
-      said = λ clean. at_said outcome x _ ok.0 (read.said clean);
-      failed = λ clean. tt;
-    })
-    | Err e ↦ λ ok err. record { survives = after old err.1 read.survives; kept = keeps_after old err.1 read.kept; said = λ clean. tt; failed = λ clean. (err.1.ended clean, err.1.settled clean) }
-  ] settled.ok settled.err
+        | Ok x ↦ λ ok err. subst (λ (s : Store S). IsLook {X = X} {E = E} old (state g s.conn) Says (Ok x)) (sym ok.1) (record {
+          survives = read.survives;
+          kept = read.kept;
+          said = λ clean. at_said outcome x _ ok.0 (read.said clean);
+          failed = λ clean. tt;
+        })
+        | Err e ↦ λ ok err. record { survives = after old err.1 read.survives; kept = keeps_after old err.1 read.kept; said = λ clean. tt; failed = λ clean. (err.1.ended clean, err.1.settled clean) }
+      ] settled.ok settled.err
 
 -- ---- a step
 
@@ -112,8 +112,11 @@ module _ {X E : Type 0} {old new : State} {R : Content → Content → Type 0} {
     | Err e ↦ λ is. record {
       listed = begun.listed;
       on = λ clean on. absurd (not_both new.in_transaction on (at_bad e is (step.failed clean)).0);
-      off = λ clean off up. (subst (λ db. IsStoreDatabase db k) (sym ((step.kept clean).committed up))
-          (begun_committed old m k begun (clean_before clean) ((step.kept clean).was_open up)), (at_bad e is (step.failed clean)).1 up);
+      off = λ clean off up. (
+        subst (λ db. IsStoreDatabase db k) (sym ((step.kept clean).committed up))
+            (begun_committed old m k begun (clean_before clean) ((step.kept clean).was_open up)),
+        (at_bad e is (step.failed clean)).1 up,
+      );
     }
   ] refl where
     at_bad : {P : Type 0} (e : E) → r ≡ Err e → OnErr r P → P

@@ -39,8 +39,13 @@ module _ {X E : Type 0} {old new : State} {P : Content → X → Type 0} {r : Re
       let s = at_said r x _ is (look.said clean) in
       let was = stands.rests (was_clean old new (λ trees. ⊥) look.survives clean) s.1.0.was_open in
       let kept = subst (λ db. IsStoreDatabase db k) (sym was.same) was.kept in
-      record { content = content_in old.now.trees; ordered = kept.kept.tables.ordered; books = kept.kept.books; registry = kept.kept.registry;
-          says = s.0 (content_in old.now.trees) (record { schema_is = kept.schema; store = kept.kept.tables }) }
+      record {
+        content = content_in old.now.trees;
+        ordered = kept.kept.tables.ordered;
+        books = kept.kept.books;
+        registry = kept.kept.registry;
+        says = s.0 (content_in old.now.trees) (record { schema_is = kept.schema; store = kept.kept.tables });
+      }
 
 -- the same of a store
 pub read_settled : {S X D : Type 0} {g : Ghosts S} {old new : Store S} {conn : Held S} {outcome : Result X D} {result : Result X SFault} {P : Content → X → Type 0}
@@ -72,8 +77,12 @@ told_at {S} {X} {E} {g} {old} {new} {P} r x is it = told_of {E = E} (subst (IsSt
 -- the objects of a store's tables have keys of their own
 pub read_keyed : {S X E : Type 0} {g : Ghosts S} {old new : Store S} {P : Content → X → Type 0} {r : Result X E} → IsStoreRead g old new P r
     → IsStoreRead g old new (λ c x. P c x × HaveOwnKeys c.objects) r
-read_keyed {S} {X} {E} {g} {old} {new} {P} {r} it = record { manifest = it.manifest; writes = it.writes; look =
-    record { survives = it.look.survives; kept = it.look.kept; said = λ clean. said_keyed r (it.look.said clean); failed = it.look.failed } } where
+read_keyed {S} {X} {E} {g} {old} {new} {P} {r} it = record {
+  manifest = it.manifest;
+  writes = it.writes;
+  look =
+      record { survives = it.look.survives; kept = it.look.kept; said = λ clean. said_keyed r (it.look.said clean); failed = it.look.failed };
+} where
   said_keyed : (y : Result X E) → IfOk y (λ x. Tells P (state g old.conn).now x × IsUnchanged (state g old.conn) (state g new.conn))
       → IfOk y (λ x. Tells (λ c x. P c x × HaveOwnKeys c.objects) (state g old.conn).now x × IsUnchanged (state g old.conn) (state g new.conn))
   said_keyed (Ok x) said = (λ c holds. (said.0 c holds, content_apart (state g old.conn).now c holds), said.1)

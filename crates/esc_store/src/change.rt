@@ -7,8 +7,6 @@ ghost use Rattle.std.specs.Prelude.{
   ◌+◌,
   ◌-◌,
   ◌^◌,
-  ◌↔◌,
-  ℕ,
   None,
   min,
   map,

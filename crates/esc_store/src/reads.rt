@@ -1,6 +1,6 @@
 //! What a store returns of what it keeps.
 
-ghost use Rattle.std.specs.Prelude.{◌≡◌, ℕ, map, length, IfOk, IfErr, option_map};
+ghost use Rattle.std.specs.Prelude.{◌≡◌, length, IfOk, IfErr, option_map};
 ghost use Rattle.esc_apply.specs.Registry.{IsEntriesOf};
 ghost use Rattle.esc_store.specs.Faults.{IsS1OrS2};
 ghost use Rattle.esc_store.specs.Kept.{

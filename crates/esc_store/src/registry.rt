@@ -1,7 +1,5 @@
 //! A change as a registry of objects.
 
-ghost use Rattle.std.specs.Prelude.{◌≡◌};
-
 use crate::change::Change;
 use crate::codec::object::{images_of, object_in, record_bytes};
 use crate::fault::SFault;
@@ -13,7 +11,6 @@ use std::alloc::Global;
 impl<'a, S: Alter> Registry for Change<'a, S> {
     ghost use Rattle.esc_apply.specs.Registry.{saturated};
     ghost use Rattle.esc_store.specs.Faults.{IsS1OrS2};
-    ghost use Rattle.esc_store.specs.Kept.{Kept};
     ghost use Rattle.esc_store.specs.Standing.{HoldsNow, Follows, IsHonest, store_in, count_of};
     ghost use Rattle.std.proofs.Common.{inl, inr, refl, ◌∙◌, arith};
     ghost use Rattle.sqlite.proofs.StateLemmas.{survives_then};

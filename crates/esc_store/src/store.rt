@@ -8,7 +8,6 @@ ghost use Rattle.std.specs.Prelude.{
   None,
   List,
   Option,
-  IsErr,
   IsTrue,
   IfOk,
   IfErr,

@@ -25,4 +25,4 @@ pub returns-clause-left : goal.returns-clause-left
 returns-clause-left g c = λ k sees.
     let read = c.read_upgraded.ensures.survives in
     founded_left _ _ _ k read (λ clean. c.in_ok-manifest.ensures.upgraded clean k (sees (was_clean _ _ _ read clean))) c.commit_in.ensures.survives
-        c.in_ok-commit_in.ensures.committed c.commit_in.ensures.only
+    c.in_ok-commit_in.ensures.committed c.commit_in.ensures.only

@@ -7,7 +7,7 @@ use Rattle.esc_store.proofs.migrating.migrate_whole.Goals as goal
 pub returns-clause-survives : goal.returns-clause-survives
 returns-clause-survives g c = λ k sees.
     migrated_survives _ _ _ k c.test_first.ensures.survives
-        (c.commit_upgraded.ensures.survives k (tested _ _ k c.test_first.ensures.survives c.in_ok-test_first.ensures.version sees))
+    (c.commit_upgraded.ensures.survives k (tested _ _ k c.test_first.ensures.survives c.in_ok-test_first.ensures.version sees))
 
 pub returns-clause-version : goal.returns-clause-version
 returns-clause-version g c = on_ok c.commit_upgraded.result _ (λ x is clean. (c.in_ok-test_first.ensures.version (c.commit_upgraded.ensures.honest clean)).1)

@@ -38,4 +38,4 @@ pub returns-clause-listed : goal.returns-clause-listed
 returns-clause-listed g c = λ before k union e front rest.
     let size = listed_size c.args.rows.now union e in
     subst (λ rows. RestIn g.S.Store c.loop-at.self.store.now (Some rows) before (with_listed k rows))
-        (take_all c.loop-at.at union (let past = c.loop-at-test.false in omega arith)) (c.loop-at.invariant.3 before k union e front rest)
+    (take_all c.loop-at.at union (let past = c.loop-at-test.false in omega arith)) (c.loop-at.invariant.3 before k union e front rest)

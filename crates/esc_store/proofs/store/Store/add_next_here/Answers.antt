@@ -11,5 +11,5 @@ returns-in-Ok-add_receipt_here-clause-step g c =
 pub returns-in-Ok-add_receipt_here-clause-number : goal.returns-in-Ok-add_receipt_here-clause-number
 returns-in-Ok-add_receipt_here-clause-number g c = λ clean b holds.
     let told = last_told _ _ c.last_here.result c.in-Ok-last_here.last c.last_here.ensures.read.look c.in-Ok-last_here.is
-        (was_clean _ _ (λ _. ⊥) c.add_receipt_here.ensures.step.survives clean) b holds in
+    (was_clean _ _ (λ _. ⊥) c.add_receipt_here.ensures.step.survives clean) b holds in
     ap (λ n. n + 1) (c.from.ensures ∙ told)

@@ -9,8 +9,11 @@ returns-in-Err-clause-crash g c = leaves_same g.S.Store _ _
 
 pub returns-in-Ok-found_here-clause-created : goal.returns-in-Ok-found_here-clause-created
 unfolding Stands
-returns-in-Ok-found_here-clause-created g c = record { listed = c.in-Ok.ensures.own; rests = c.in-Ok-found_here.ensures.rests c.args.manifest.now
-    (ap (map listed_row) c.as_slice.ensures.value ∙ c.in-Ok.ensures.rows) }
+returns-in-Ok-found_here-clause-created g c = record {
+  listed = c.in-Ok.ensures.own;
+  rests = c.in-Ok-found_here.ensures.rests c.args.manifest.now
+      (ap (map listed_row) c.as_slice.ensures.value ∙ c.in-Ok.ensures.rows);
+}
 
 pub returns-in-Ok-found_here-clause-left : goal.returns-in-Ok-found_here-clause-left
 unfolding LeavesOnly

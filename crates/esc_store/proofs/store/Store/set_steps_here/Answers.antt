@@ -21,13 +21,13 @@ loop-at-preserved g c = (
   λ rows e.
       let size = same_length c.args.steps.now rows e in
       subst (λ (rs : List ℕ). IsStep {X = Unit {0}} {E = SFault} (state g.S.Store c.args.self.now.conn)
-          (state g.S.Store c.add_step_here.new.self.conn) (SetsSteps rs) (Ok tt)) (sym (take_more rows c.loop-at.at 0 (omega arith)))
+      (state g.S.Store c.add_step_here.new.self.conn) (SetsSteps rs) (Ok tt)) (sym (take_more rows c.loop-at.at 0 (omega arith)))
       (steps_more _ _ _ (take c.loop-at.at rows) (get_or rows c.loop-at.at 0) _ tt (Ok tt)
-          (step_nth c.args.steps.now rows c.loop-at.at _ e c.loop-at-test.true) (c.loop-at.invariant.2 rows e) c.in_ok-add_step_here.ensures.step),
+      (step_nth c.args.steps.now rows c.loop-at.at _ e c.loop-at-test.true) (c.loop-at.invariant.2 rows e) c.in_ok-add_step_here.ensures.step),
 )
 
 pub returns-clause-step : goal.returns-clause-step
 returns-clause-step g c = λ rows e.
     let size = same_length c.args.steps.now rows e in
     subst (λ (rs : List ℕ). IsStep {X = Unit {0}} {E = SFault} (state g.S.Store c.args.self.now.conn) (state g.S.Store c.loop-at.self.conn)
-        (SetsSteps rs) (Ok tt)) (take_all c.loop-at.at rows (let past = c.loop-at-test.false in omega arith)) (c.loop-at.invariant.2 rows e)
+    (SetsSteps rs) (Ok tt)) (take_all c.loop-at.at rows (let past = c.loop-at-test.false in omega arith)) (c.loop-at.invariant.2 rows e)

@@ -9,5 +9,5 @@ returns-clause-digests g c = λ honest k stands.
     let clean = was_honest g.S.Store mid c.digests_of_verdict-2.new.self c.digests_of_verdict-2.ensures.same honest in
     let firsts : List (List ℕ) = c.in_ok-digests.digests.items in
     are_unlisted k.receipts firsts c.in_ok-parked.parked.items _ (c.in_ok-digests.ensures.digests clean k stands)
-        (c.in_ok-parked.ensures.digests honest k (c.digests_of_verdict.ensures.same.stands k stands))
+    (c.in_ok-parked.ensures.digests honest k (c.digests_of_verdict.ensures.same.stands k stands))
     (c.in_ok-extend_from_slice.ensures.items ∙ ap (λ ds. firsts ++ ds) c.as_slice.ensures.value)
