@@ -2,15 +2,16 @@
 """bench.py [--restore PROGRAM] [--keep FOLDER]: how long the program takes, and how much memory.
 
 Makes a large release (seeded: every run has the same bytes) and runs the program on it: takes of a Full, of Differentials,
-of a late revision, of an Incremental and of repeats, each report and two exports of what they made, and a desk of its own on
-a socket of this machine, to which small Differentials are PUT and which is asked for reports. Prints for each task its time
-and its peak memory; where the task is mostly SQL also the ratio to the same SQL statements alone, run by the C library in
-the same run (`raw.py`); for requests how many there were in a second, and the peak memory of the desk that served them. At
-last a chain of 4,095 tiny Differentials is taken in order: all processor time, and that of an arrival where so many rows are
-held, with the ratio to one where 100 are; and bodies that no row lists yet are parked, as many as there is place for, and
-adopted by an amendment: all processor time, with the ratio to taking the same bodies where they are listed. It needs python3
-alone, and the program, which `./sample` builds: `./sample >/dev/null && bench/bench.py`. With --only chain, or --only adopted,
-that task alone is run. Times of a busy machine say little; the ratios say more."""
+of a late revision, of an Incremental and of repeats, each report and two exports of what they made, and a desk of its own
+on a socket of this machine, to which small Differentials are PUT and which is asked for reports. Prints for each task its
+time and its peak memory; where the task is mostly SQL also the ratio to the same SQL statements alone, run by the C library
+in the same run (`raw.py`); for requests how many there were in a second, and the peak memory of the desk that served them;
+for the status of the large store the processor time of the first response and of a later one. At last a chain of 4,095 tiny
+Differentials is taken in order: all processor time, and that of an arrival where so many rows are held, with the ratio to
+one where 100 are; and bodies that no row lists yet are parked, as many as there is place for, and adopted by an amendment:
+all processor time, with the ratio to taking the same bodies where they are listed. It needs python3 alone, and the program,
+which `./sample` builds: `./sample >/dev/null && bench/bench.py`. With --only chain, or --only adopted, that task alone is
+run. Times of a busy machine say little; the ratios say more."""
 import argparse, http.client, os, re, shutil, socket, subprocess, sys, tempfile, time
 
 HERE = os.path.dirname(os.path.abspath(__file__))
@@ -129,6 +130,24 @@ def along_a_chain():
         print(f'{f"an arrival of one where {held} rows are held":44} {took:9.2f} ms {took / each[100]:10.2f} x that at 100', flush=True)
 
 
+def status_of(store):
+    """Asks a desk over a store for its status, again and again: the processor time of the first response, and the mean of the others."""
+    port, asked = free_port(), 51
+    words = ['serve', '--store', store, '--port', str(port), '--count', str(asked + 1)]
+    server = subprocess.Popen([given.restore, *words], stdout=subprocess.PIPE)
+    server.stdout.readline()
+    clock = [spent(server)]
+    for _ in range(asked):
+        ask(port, 'GET', '/status')
+        clock.append(spent(server))
+    ask(port, 'GET', '/status')
+    _, status, usage = os.wait4(server.pid, 0)
+    if status != 0:
+        sys.exit(f'bench: {" ".join(words)}: status {os.waitstatus_to_exitcode(status)}, wanted 0')
+    first, others = clock[1] - clock[0], (clock[-1] - clock[1]) / (asked - 1)
+    print(f'{"GET /status of that store, processor":44} {first:9.2f} ms, each later one {others:.2f} ms', flush=True)
+
+
 def spent_by(*words, want=0):
     """Runs the program, and answers its milliseconds of processor time and its peak memory in MB."""
     process = subprocess.Popen([given.restore, *words], stdout=subprocess.DEVNULL)
@@ -196,6 +215,7 @@ def main():
         tell(f'report of {what}', *run('report', '--store', store, what))
     for kind in ('domain', 'contact'):
         tell(f'export of {kind}', *run('export', '--store', store, kind))
+    status_of(store)
     over_a_socket()
     along_a_chain()
     adoptions()
