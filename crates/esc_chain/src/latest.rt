@@ -67,6 +67,9 @@ pub fn latest_chain_at(
     ensures latest { IfOk result (λ c. IsLatestChainAt m.now h.now moment c.items) }
     ensures rows { IfOk result (λ c. AreHeldRows m.now h.now c.items) }
 {
+    if moment.is_none() {
+        return latest_chain(alloc, m, h);
+    }
     let until = rows_until(alloc, m, h, moment)?;
     latest_chain(alloc, m, &until)
 }

@@ -106,8 +106,9 @@ module _ (e : List EventValue) (k : Kept) (more n : List MRow) (known : Known) (
       works_moved law e (listed more) k l is.stood books (new_rows k.listed more) stays.0 keeps rows held (amended_bodies n k.parked from k.bodies) same plan latest is.planned mentions few_old few_new work cost
 
   -- what is known of the rows then: the receipts are those that there were
-  pub knows_then : (then : Known) → then.held.items ≡ rows → then.told.items ≡ known.told.items → IsKnown (moved_by plan l (deposits_of reading k.bodies k.steps)) then
-  knows_then then held_is told_is = record {
+  pub knows_then : (then : Known) → then.held.items ≡ rows → then.told.items ≡ known.told.items → then.chain.items ≡ plan.new.items → IsKnown (moved_by plan l (deposits_of reading k.bodies k.steps)) then
+  knows_then then held_is told_is chain_is = record {
     held = subst (AreHeld l.bodies) (sym held_is) held;
     told = subst (λ (rs : List ReceiptValue). AreHeldBy rs then.told.items) (sym stays.1) (subst (AreHeldBy k.receipts) (sym told_is) is.knows.told);
+    chain = chain_is ∙ latest.are_steps;
   }

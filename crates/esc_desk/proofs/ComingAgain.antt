@@ -202,7 +202,7 @@ module _ (e : List EventValue) (a : ArrivalValue) (k : Kept) (reply : ReplyValue
       → LeavesOnlyFor g new.conn (e ++ arrived a ∷ []) → IsTakenAgain g old new e a k Unlisted known no_work
   parked_taken g old new known knows stands left = record {
     serves = record { kept = with_parked k (sha256 a.body) (Some a.body); stands = stands; stands_for = parked_stands };
-    knows = record { held = knows.held; told = knows.told };
+    knows = record { held = knows.held; told = knows.told; chain = knows.chain };
     works = no_work_of e (arrived a) k (with_parked k (sha256 a.body) (Some a.body)) is.stood parked_stands (union-arrived e a) refl;
     idle = λ apart same. refl;
     leaves = leaves_with_only g old.conn new.conn e a left;

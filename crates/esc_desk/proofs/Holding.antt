@@ -9,11 +9,10 @@ use Rattle.sqlite.specs.Held.{Held}
 use Rattle.esc_tables.specs.DepositValue.{DepositValue}
 use Rattle.esc_tables.specs.Reading.{reading}
 use Rattle.esc_manifest.specs.declared.row.MRow.{MRow}
-use Rattle.esc_apply.specs.declared.moves.Work.{Work}
 use Rattle.esc_store.specs.declared.fault.SFault.{SFault}
 use Rattle.esc_manifest.specs.Rows.{no_row, row_at}
 use Rattle.esc_store.specs.declared.store.Store.{Store}
-use Rattle.esc_store.specs.Kept.{Kept, AreHeld, AreHeldBy, body_put, with_receipt}
+use Rattle.esc_store.specs.Kept.{Kept, AreHeld, AreHeldBy, body_put, kept_chain, with_receipt}
 use Rattle.esc_store.specs.ReplyValue.{ReceiptValue}
 use Rattle.esc_store.specs.Standing.{Stands, LeavesOnly, LeavesNoMore}
 use Rattle.esc_events.specs.declared.finding.Finding.{Finding}
@@ -43,7 +42,7 @@ use Rattle.esc_desk.specs.declared.plan.Source.TheVariants.{Arrived}
 use Rattle.esc_desk.specs.Crashes.{AddsStore, AddsStoreFor}
 use Rattle.esc_desk.specs.Sources.{IsSource}
 use Rattle.esc_desk.specs.Knowing.{IsInserted}
-use Rattle.esc_desk.specs.Takings.{IsKept, IsHeldNow}
+use Rattle.esc_desk.specs.Takings.{IsKept}
 use Rattle.esc_desk.proofs.CrashLemmas.{leaves_for, adds_none, adds_for}
 use Rattle.esc_desk.proofs.KnownRows.{told_more, told_same, says_row, says_only, says_none, put_at}
 
@@ -93,6 +92,11 @@ steps_noted receipt Needless body k = refl
 steps_noted receipt Free body k = refl
 steps_noted receipt Crowded body k = refl
 
+chain_noted : (receipt : ReceiptValue) (parking : Parking) (body : List ℕ) (k : Kept) → kept_chain (noted_by receipt parking body k) ≡ kept_chain k
+chain_noted receipt Needless body k = refl
+chain_noted receipt Free body k = refl
+chain_noted receipt Crowded body k = refl
+
 bodies_noted : (receipt : ReceiptValue) (parking : Parking) (body : List ℕ) (k : Kept) → (noted_by receipt parking body k).bodies ≡ k.bodies
 bodies_noted receipt Needless body k = refl
 bodies_noted receipt Free body k = refl
@@ -106,13 +110,14 @@ receipts_noted receipt Crowded body k = refl
 module _ {S : Type 0} (g : Ghosts S) (store : Store S) (e : List EventValue) (a : ArrivalValue) (k : Kept) (found : Finding) (known now : Known) (receipt : ReceiptValue) (is : IsNew e a k found known receipt)
     (parking : Parking) (stands : StandsFor sha256 reading (e ++ arrived a ∷ []) (noted_by receipt parking a.body k)) where
   -- what the store keeps then, where this is known of its rows
-  pub kept_noted : AreHeld k.bodies now.held.items → AreHeldBy (k.receipts ++ receipt ∷ []) now.told.items
+  pub kept_noted : AreHeld k.bodies now.held.items → AreHeldBy (k.receipts ++ receipt ∷ []) now.told.items → now.chain.items ≡ kept_chain k
       → Stands g store (noted_by receipt parking a.body k) → LeavesOnly g store (noted_by receipt parking a.body k) → IsKept g store e a now no_work
-  kept_noted held told stood left = record {
+  kept_noted held told chain stood left = record {
     serves = record { kept = noted_by receipt parking a.body k; stands = stood; stands_for = stands };
     knows = record {
       held = subst (λ (b : ℕ → Option (List ℕ)). AreHeld b now.held.items) (sym (bodies_noted receipt parking a.body k)) held;
       told = subst (λ (rs : List ReceiptValue). AreHeldBy rs now.told.items) (sym (receipts_noted receipt parking a.body k)) told;
+      chain = chain ∙ sym (chain_noted receipt parking a.body k);
     };
     works = no_work_of e (arrived a) k (noted_by receipt parking a.body k) is.stood stands (union-arrived e a) (steps_noted receipt parking a.body k);
     idle = λ apart same. refl;
@@ -135,20 +140,6 @@ told_held e a k row d known receipt is more inserted =
   where
     again : Bool
     again = is_among known.told.items (Some row)
-
--- a deposit is held, where this is known of the rows then
-pub kept_held : {S : Type 0} (g : Ghosts S) (store : Store S) (e : List EventValue) (a : ArrivalValue) (k : Kept) (row : ℕ) (receipt : ReceiptValue) (work : Work) (now : Known)
-    → IsHeldNow g store e a k row receipt work → AreHeld (body_put k.bodies row a.body) now.held.items → AreHeldBy (k.receipts ++ receipt ∷ []) now.told.items → IsKept g store e a now work
-kept_held g store e a k row receipt work now made held told = record {
-  serves = made.serves;
-  knows = record {
-    held = subst (λ (b : ℕ → Option (List ℕ)). AreHeld b now.held.items) (sym made.bodies) held;
-    told = subst (λ (rs : List ReceiptValue). AreHeldBy rs now.told.items) (sym made.receipts) told;
-  };
-  works = made.works;
-  idle = made.idle;
-  left = made.left;
-}
 
 -- ---- a deposit is held
 

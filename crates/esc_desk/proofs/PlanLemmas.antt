@@ -1,13 +1,12 @@
 -- Rows and steps of a plan.
-use Rattle.std.proofs.Common.{◌≡◌, ℕ, ◌+◌, ◌<◌, List, [], ◌∷◌, ◌++◌, length, map, take, drop, get_or, refl, sym, ap, ◌∙◌, append_assoc, length-append}
+use Rattle.std.proofs.Common.{◌≡◌, ℕ, ◌+◌, ◌<◌, List, [], ◌∷◌, ◌++◌, length, map, take, drop, get_or, sym, ap, ap₂, ◌∙◌, append_assoc, length-append, arith}
 use Rattle.std.specs.FinSet as set
 use Rattle.std.specs.FinSet.{nat_cmp-IsAntisymmetric}
 use Rattle.std.specs.Cmp.{nat_cmp_total}
 use Rattle.std.specs.Ordering.{nat_cmp}
-use Rattle.std.proofs.lemmas.List.{take_more, drop_more}
-use Rattle.esc_manifest.specs.declared.row.MRow.{MRow}
+use Rattle.std.specs.List.{drop-map}
+use Rattle.std.proofs.lemmas.List.{take_more, take_more_same, take-append-drop, drop_more, length-map, get_or-map}
 use Rattle.esc_apply.specs.declared.front.Step.{Step}
-use Rattle.esc_store.specs.Kept.{step_at}
 use Rattle.esc_tables.specs.DepositValue.{DepositValue}
 use Rattle.esc_events.specs.Plans.{rows_in}
 
@@ -16,11 +15,6 @@ pub one_more_row : (rows : List ℕ) (i : ℕ) → i < length rows → set.inser
 one_more_row rows i within =
     sym (set.from_list_push nat_cmp_total nat_cmp-IsAntisymmetric (take i rows) (get_or rows i 0))
     ∙ ap (λ (l : List ℕ). set.from_list {R = nat_cmp} l) (sym (take_more rows i 0 within))
-
--- the rows of the steps of rows
-pub rows_of_steps : (m : List MRow) (rows : List ℕ) → rows_in (map (step_at m) rows) ≡ rows
-rows_of_steps m [] = refl
-rows_of_steps m (r ∷ rows) = ap (λ (l : List ℕ). r ∷ l) (rows_of_steps m rows)
 
 -- one deposit behind others
 pub one_longer : (found more : List DepositValue) (d : DepositValue) (n : ℕ) → more ≡ found ++ d ∷ [] → length found ≡ n → length more ≡ n + 1
@@ -34,3 +28,17 @@ one_more_deposit f steps i x found more whole d within is added known =
     ∙ append_assoc found (f (get_or steps i x).row ∷ []) (map f (rows_in (drop (i + 1) steps)))
     ∙ ap (λ (l : List Step). found ++ map f (rows_in l)) (sym (drop_more steps i x within))
     ∙ known
+
+-- one more step of the same row
+pub one_more_same_row : (old new : List Step) (i : ℕ) (x y : Step) → i < length old → i < length new → (get_or old i x).row ≡ (get_or new i y).row
+    → take i (rows_in old) ≡ take i (rows_in new) → take (i + 1) (rows_in old) ≡ take (i + 1) (rows_in new)
+one_more_same_row old new i x y in_old in_new row same =
+    let row_of : Step → ℕ = λ (s : Step). s.row in
+    let olds = length-map old row_of in
+    let news = length-map new row_of in
+    take_more_same (rows_in old) (rows_in new) i 0 (omega (arith, olds)) (omega (arith, news)) same (get_or-map row_of old i x 0 in_old ∙ row ∙ sym (get_or-map row_of new i y 0 in_new))
+
+-- the rows of a chain that goes on past the steps that stay
+pub rows_continued : (old new : List Step) (front : ℕ) → take front (rows_in old) ≡ take front (rows_in new) → take front (rows_in old) ++ rows_in (drop front new) ≡ rows_in new
+rows_continued old new front same =
+    ap₂ (λ (xs ys : List ℕ). xs ++ ys) same (sym (drop-map (λ (s : Step). s.row) front new)) ∙ take-append-drop front (rows_in new)

@@ -1,5 +1,5 @@
 -- An event that was taken in.
-use Rattle.std.specs.Prelude.{◌≡◌, ◌≢◌, ℕ, List, [], ◌∷◌, ◌++◌, Some}
+use Rattle.std.specs.Prelude.{◌≡◌, ◌≢◌, List, [], ◌∷◌, ◌++◌, Some}
 use Rattle.sha2.specs.Sha256.{sha256}
 use Rattle.sqlite_trees.specs.declared.store.Store.{Ghosts}
 use Rattle.esc_tables.specs.Reading.{reading}
@@ -8,8 +8,8 @@ use Rattle.esc_apply.specs.declared.moves.Work.{Work}
 use Rattle.sqlite.specs.Held.{Held}
 use Rattle.esc_store.specs.declared.reply.Verdict.TheVariants.{A2}
 use Rattle.esc_store.specs.declared.store.Store.{Store}
-use Rattle.esc_store.specs.Kept.{Kept, body_put}
-use Rattle.esc_store.specs.ReplyValue.{ReplyValue, ReceiptValue}
+use Rattle.esc_store.specs.Kept.{Kept}
+use Rattle.esc_store.specs.ReplyValue.{ReplyValue}
 use Rattle.esc_events.specs.declared.finding.Finding.{Finding}
 use Rattle.esc_events.specs.declared.known.Known.{Known}
 use Rattle.esc_events.specs.ArrivalValue.{ArrivalValue}
@@ -31,17 +31,6 @@ module _ {S : Type 0} (g : Ghosts S) where
       (work : Work) : Type 0 where
     pub serves : Serves g store (e ++ arrived a ∷ [])
     pub knows : IsKnown serves.kept known
-    pub works : IsWorkOf e (arrived a) work
-    pub idle : IsIdle e (arrived a) work
-    pub left : LeavesOnlyFor g store.conn (e ++ arrived a ∷ [])
-
-  -- a store stands for the events with this arrival, also after a crash: it keeps what it kept, the
-  -- receipt, and the body as that of the row; and this was the work
-  pub record IsHeldNow (store : Store S) (e : List EventValue) (a : ArrivalValue) (k : Kept)
-      (row : ℕ) (receipt : ReceiptValue) (work : Work) : Type 0 where
-    pub serves : Serves g store (e ++ arrived a ∷ [])
-    pub receipts : serves.kept.receipts ≡ k.receipts ++ receipt ∷ []
-    pub bodies : serves.kept.bodies ≡ body_put k.bodies row a.body
     pub works : IsWorkOf e (arrived a) work
     pub idle : IsIdle e (arrived a) work
     pub left : LeavesOnlyFor g store.conn (e ++ arrived a ∷ [])
@@ -85,17 +74,6 @@ module _ {S : Type 0} (g : Ghosts S) where
   abbrev pub LeavesWith : Held S → Held S → List EventValue → ArrivalValue → Type 0
   LeavesWith old new e a = (doubtful : List EventValue) → CrashLeaves g old e doubtful
       → CrashLeaves g new (e ++ arrived a ∷ []) doubtful
-
-  -- a store that kept k stands for the events with an arrival that came again: it holds the body as
-  -- that of the row too; and this was the work
-  pub record IsHeldAgain (store : Store S) (e : List EventValue) (a : ArrivalValue) (k : Kept)
-      (row : ℕ) (work : Work) : Type 0 where
-    pub serves : Serves g store (e ++ arrived a ∷ [])
-    pub receipts : serves.kept.receipts ≡ k.receipts
-    pub bodies : serves.kept.bodies ≡ body_put k.bodies row a.body
-    pub works : IsWorkOf e (arrived a) work
-    pub idle : IsIdle e (arrived a) work
-    pub left : LeavesOnlyFor g store.conn (e ++ arrived a ∷ [])
 
   -- a store that kept k stands for the events with an arrival that came again, and of whose body
   -- this was found; a crash leaves the arrival taken in, if its body was missing; this is known of

@@ -53,6 +53,7 @@ use esc_store::{Reply, SFault, Store, Verdict};
 use esc_tables::Deposit;
 use sqlite::Alter;
 use std::alloc::Global;
+use std::mem;
 
 impl<S: Alter> Desk<S> {
     /// Answers a duplicate of an earlier arrival with that one's reply. If that is `A2`, the body
@@ -300,16 +301,17 @@ fn hold_again<S: Alter>(
         return Ok(NO_WORK);
     }
     insert_row(&mut known.held, row)?;
-    move_with(store, alloc, &known.held, row, deposit, body)
+    move_with(store, alloc, known, row, deposit, body)
 }
 
-// Stores the body of a row that has none yet, and moves the chain. `held` are the rows that are
-// held with it.
+// Stores the body of a row that has none yet, and moves the chain. `known` is what is known of the
+// store's rows with this one among them, and of its chain, which is updated; after an `Err` it has
+// no meaning.
 #[tactic(auto, using(crate::proofs::StoreFacts::was_honest))]
 fn move_with<S: Alter>(
     store: &mut Store<S>,
     alloc: Global,
-    held: &[usize],
+    known: &mut Known,
     row: usize,
     deposit: Deposit,
     body: &[u8],
@@ -317,8 +319,8 @@ fn move_with<S: Alter>(
     ensures held { IfOk result (λ work. IsHonest S.Store store.new → (e : List EventValue)
         (n : List ℕ) (k : Kept) (reply : ReplyValue) → Stands S.Store store.old k
         → k.bodies row ≡ None → IsAgain e (an_arrival n body.now) k (Holding row deposit) reply
-        → AreHeld (body_put k.bodies row body.now) held.now
-        → IsHeldAgain S.Store store.new e (an_arrival n body.now) k row work) }
+        → IsKnown (with_body k row body.now) known.old
+        → IsKept S.Store store.new e (an_arrival n body.now) known.new work) }
     ensures counted { IfOk result (λ work. store.new.writes
         ≡ saturated (store.old.writes + work.writes)) }
     ensures uncounted { OnErr result (store.new.writes ≡ store.old.writes) }
@@ -327,7 +329,7 @@ fn move_with<S: Alter>(
     ensures crash { IsHonest S.Store store.new → (e : List EventValue) (n : List ℕ) (k : Kept)
         (reply : ReplyValue) → Stands S.Store store.old k → k.bodies row ≡ None
         → IsAgain e (an_arrival n body.now) k (Holding row deposit) reply
-        → AreHeld (body_put k.bodies row body.now) held.now
+        → IsKnown (with_body k row body.now) known.old
         → AddsStoreFor S.Store store.old.conn store.new.conn result
         (e ++ arrived (an_arrival n body.now) ∷ []) }
     ensures honest { IsHonest S.Store store.new → IsHonest S.Store store.old }
@@ -338,10 +340,13 @@ fn move_with<S: Alter>(
     books_after_a_lost_one_again();
     chain_after_an_event();
     let moment = store.moment()?;
-    let new = latest_steps(alloc, store.manifest(), held, moment)?;
-    let plan = plan_move(store, alloc, new, Source::Arrived(row, Some(deposit)))?;
-    hold_body(store, alloc, row, body, &plan)
+    let new = latest_steps(alloc, store.manifest(), &known.held, moment)?;
+    let old = mem::replace(&mut known.chain, Vec::new(alloc));
+    let plan = plan_move(store, alloc, old, new, Source::Arrived(row, Some(deposit)))?;
+    let work = hold_body(store, alloc, row, body, &plan);
+    known.chain = plan.new;
+    work
 }
 
-ghost use Rattle.esc_store.specs.Kept.{AreHeld, body_put};
-ghost use Rattle.esc_desk.specs.Takings.{IsHeldAgain};
+ghost use Rattle.esc_store.specs.Kept.{with_body};
+ghost use Rattle.esc_desk.specs.Takings.{IsKept};

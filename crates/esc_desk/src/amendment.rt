@@ -75,7 +75,7 @@ use esc_manifest::{MFault, MRow, Manifest, read_manifest};
 use esc_store::{Change, SFault, Store};
 use sqlite::Alter;
 use std::alloc::Global;
-use std::fmt;
+use std::{fmt, mem};
 
 /// Why an amendment isn't taken in.
 #[derive(Clone, Copy, Debug, PartialEq, Eq)]
@@ -219,8 +219,11 @@ fn list_in<S: Alter>(
     append_rows(&mut known.held, &judged.adopted)?;
     let moment = store.moment()?;
     let new = latest_steps(alloc, &union, &known.held, moment)?;
-    let plan = plan_move(store, alloc, new, Source::Listed(union.rows(), from))?;
-    list_rows(store, alloc, union, &judged, &plan)
+    let old = mem::replace(&mut known.chain, Vec::new(alloc));
+    let plan = plan_move(store, alloc, old, new, Source::Listed(union.rows(), from))?;
+    let work = list_rows(store, alloc, union, &judged, &plan);
+    known.chain = plan.new;
+    work
 }
 
 // Appends rows.

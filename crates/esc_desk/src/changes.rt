@@ -217,7 +217,7 @@ pub(crate) fn move_in<S: Alter>(
     requires deposits { HasDepositsPast plan.now }
     ensures goes_on { GoesOn S.Store change.old change.new }
     ensures filled { OnOk result ((before k made : Kept) (c : List DepositValue)
-        → IsMovedFrom k c plan.now → Rest S.Store change.old before made
+        → IsMovedFrom k c plan.now → made.steps ≡ k.steps → Rest S.Store change.old before made
         → HoldsNow S.Store change.old k.registry
         → IsFilled S.Store change.new before (moved_by plan.now made c)) }
     ensures worked { IfOk result (λ work. IsHonest S.Store change.new.store.now
@@ -228,9 +228,26 @@ pub(crate) fn move_in<S: Alter>(
     ensures cause { IfErr result IsS1OrS2 }
 {
     let work = move_here(change, alloc, &plan.old, &plan.new, &plan.deposits)?;
-    change.set_chain(&plan.new)?;
+    let front = same_rows(&plan.old, &plan.new);
+    change.continue_chain(front, &plan.new[front..])?;
     Ok(work)
 }
+
+// How many steps of the same rows both chains begin with.
+fn same_rows(old: &[Step], new: &[Step]) -> usize
+    ensures in_old { result ≤ length old.now }
+    ensures in_new { result ≤ length new.now }
+    ensures same { take result (rows_in old.now) ≡ take result (rows_in new.now) }
+{
+    for at in 0..old.len() {
+        if at >= new.len() || old[at].row != new[at].row {
+            return at;
+        }
+    }
+    old.len()
+}
+
+ghost use Rattle.esc_events.specs.Plans.{rows_in};
 
 // Moves the tables from one chain to the other.
 fn move_here<S: Alter>(

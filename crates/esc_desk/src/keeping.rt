@@ -22,7 +22,7 @@ ghost use Rattle.std.specs.Prelude.{
 ghost use Rattle.sha2.specs.Sha256.{sha256};
 ghost use Rattle.esc_tables.specs.Reading.{reading};
 ghost use Rattle.esc_apply.specs.Registry.{saturated};
-ghost use Rattle.esc_store.specs.Kept.{Kept, AreHeld, body_put};
+ghost use Rattle.esc_store.specs.Kept.{Kept};
 ghost use Rattle.esc_store.specs.ReplyValue.{reply_alike};
 ghost use Rattle.esc_store.specs.Standing.{Stands, IsHonest};
 ghost use Rattle.esc_events.specs.declared.finding.Finding.{Finding};
@@ -32,6 +32,7 @@ ghost use Rattle.esc_events.specs.Events.{EventValue, union};
 ghost use Rattle.esc_events.specs.Events.EventValue.{arrived};
 ghost use Rattle.esc_events.specs.Finding.{held_row};
 ghost use Rattle.esc_events.specs.Known.{IsKnown};
+ghost use Rattle.esc_events.specs.Notes.{held_by};
 ghost use Rattle.esc_events.specs.Stands.{StandsFor};
 ghost use Rattle.esc_events.specs.Taking.{IsNew};
 ghost use Rattle.esc_events.specs.declared.known.Known.{Known};
@@ -43,7 +44,7 @@ ghost use Rattle.esc_desk.specs.Causes.{
   IsParkFault,
 };
 ghost use Rattle.esc_desk.specs.Crashes.{AddsStoreFor};
-ghost use Rattle.esc_desk.specs.Takings.{IsKept, IsTaken, IsHeldNow};
+ghost use Rattle.esc_desk.specs.Takings.{IsKept, IsTaken};
 
 use crate::changes::{hold_deposit, note_receipt};
 use crate::desk::NO_WORK;
@@ -59,6 +60,7 @@ use esc_store::{Number, Receipt, Reply, SFault, Store};
 use esc_tables::Deposit;
 use sqlite::Alter;
 use std::alloc::Global;
+use std::mem;
 
 /// Takes in an arrival for which no receipt is kept. `known` is what is known of the store's rows,
 /// and is updated; after an `Err` it has no meaning.
@@ -229,18 +231,19 @@ fn keep_held<S: Alter>(
         return Ok((number, NO_WORK));
     }
     insert_row(&mut known.held, row)?;
-    keep_deposit(store, alloc, receipt, &known.held, row, deposit, body)
+    keep_deposit(store, alloc, receipt, known, row, deposit, body)
 }
 
-// Stores the receipt and the body of a row that has none yet. `held` are the rows that are held
-// with it: the row was inserted there before anything changes in the store, so that nothing can run
-// out of memory once the change is made.
+// Stores the receipt and the body of a row that has none yet. `known` is what is known of the
+// store's rows with this one among them, and of its chain, which is updated: the row was inserted
+// there before anything changes in the store, so that nothing can run out of memory once the change
+// is made. After an `Err` it has no meaning.
 #[tactic(auto, using(crate::proofs::StoreFacts::was_honest))]
 fn keep_deposit<S: Alter>(
     store: &mut Store<S>,
     alloc: Global,
     receipt: &Receipt<'_>,
-    held: &[usize],
+    known: &mut Known,
     row: usize,
     deposit: Deposit,
     body: &[u8],
@@ -249,19 +252,19 @@ fn keep_deposit<S: Alter>(
     ensures lost { OnErr result ((k : Kept) → Stands S.Store store.old k
         → Stands S.Store store.new k) }
     ensures kept { IfOk result (λ p. IsHonest S.Store store.new
-        → (e : List EventValue) (n : List ℕ) (k : Kept) (known : Known)
+        → (e : List EventValue) (n : List ℕ) (k : Kept) (before : Known)
         → Stands S.Store store.old k → k.bodies row ≡ None
-        → IsNew e (an_arrival n body.now) k (Holding row deposit) known receipt.now
-        → AreHeld (body_put k.bodies row body.now) held.now
-        → IsHeldNow S.Store store.new e (an_arrival n body.now) k row receipt.now p.1) }
+        → IsNew e (an_arrival n body.now) k (Holding row deposit) before receipt.now
+        → IsKnown (held_by receipt.now row body.now k) known.old
+        → IsKept S.Store store.new e (an_arrival n body.now) known.new p.1) }
     ensures numbered { IfOk result (λ p. IsHonest S.Store store.new → (k : Kept)
         → Stands S.Store store.old k → p.0 ≡ length k.receipts + 1) }
     ensures room { IfOk result (λ p. p.0 ≤ 1_000_000_000) }
     ensures crash { IsHonest S.Store store.new
-        → (e : List EventValue) (n : List ℕ) (k : Kept) (known : Known)
+        → (e : List EventValue) (n : List ℕ) (k : Kept) (before : Known)
         → Stands S.Store store.old k → k.bodies row ≡ None
-        → IsNew e (an_arrival n body.now) k (Holding row deposit) known receipt.now
-        → AreHeld (body_put k.bodies row body.now) held.now
+        → IsNew e (an_arrival n body.now) k (Holding row deposit) before receipt.now
+        → IsKnown (held_by receipt.now row body.now k) known.old
         → AddsStoreFor S.Store store.old.conn store.new.conn result
         (e ++ arrived (an_arrival n body.now) ∷ []) }
     ensures counted { IfOk result (λ p. store.new.writes
@@ -274,7 +277,10 @@ fn keep_deposit<S: Alter>(
     read_deposits_mention_few();
     chain_after_an_event();
     let moment = store.moment()?;
-    let new = latest_steps(alloc, store.manifest(), held, moment)?;
-    let plan = plan_move(store, alloc, new, Source::Arrived(row, Some(deposit)))?;
-    hold_deposit(store, alloc, receipt, row, body, &plan)
+    let new = latest_steps(alloc, store.manifest(), &known.held, moment)?;
+    let old = mem::replace(&mut known.chain, Vec::new(alloc));
+    let plan = plan_move(store, alloc, old, new, Source::Arrived(row, Some(deposit)))?;
+    let kept = hold_deposit(store, alloc, receipt, row, body, &plan);
+    known.chain = plan.new;
+    kept
 }

@@ -1,4 +1,5 @@
-//! Which rows a store holds: what a desk remembers, so that an arrival needn't ask for them.
+//! Which rows a store holds, and its chain: what a desk remembers, so that an arrival needn't ask for
+//! them.
 
 ghost use Rattle.std.specs.Prelude.{ℕ, List, IfOk, IfErr, OnOk};
 ghost use Rattle.sha2.specs.Sha256.{sha256};
@@ -17,8 +18,8 @@ use esc_store::{SFault, Store};
 use sqlite::Alter;
 use std::alloc::Global;
 
-/// What is known of a store's rows by its receipts and bodies: for each receipt with `A2` or `A5`
-/// whose digest a row lists now, the body of that row is read.
+/// What is known of a store's rows by its receipts and bodies, and its chain: for each receipt with
+/// `A2` or `A5` whose digest a row lists now, the body of that row is read.
 pub(crate) fn known_of<S: Alter>(store: &mut Store<S>, alloc: Global) -> Result<Known, SFault>
     ensures same { IsAsBefore S.Store store.old store.new }
     ensures known { IsHonest S.Store store.new → (e : List EventValue) (k : Kept)
@@ -29,7 +30,8 @@ pub(crate) fn known_of<S: Alter>(store: &mut Store<S>, alloc: Global) -> Result<
     let told = store.held_by_receipts(alloc)?;
     let digests = store.unlisted_digests(alloc)?;
     let held = held_of(store, alloc, &told, &digests)?;
-    Ok(Known { held, told })
+    let chain = store.chain(alloc)?;
+    Ok(Known { held, told, chain })
 }
 
 /// The rows that have a body: those that receipts say are held (`told`), and those that list one of

@@ -51,7 +51,7 @@
 //! ([`new_store_stands_for_its_manifest`]), and one of version 1 that was migrated its manifest and
 //! its arrivals as early ones ([`migrated_store_serves`]); what it means to serve a manifest and
 //! then arrivals is said without events by [`stands_for_manifest_and_arrivals`]. A desk serves what
-//! its store serves, if what it remembers of the held rows is true (`DeskServes`).
+//! its store serves, if what it remembers of the held rows and the chain is true (`DeskServes`).
 //!
 //! Most clauses begin with a word of `specs/Calls.antt`, which says of which events they speak.
 //! `OkAfter` is "if the store is honest after the call, and the call succeeded, then for every list

@@ -37,6 +37,7 @@ use esc_events::{Plan, chain_after_an_event};
 use esc_store::{Change, SFault, Store};
 use sqlite::Alter;
 use std::alloc::Global;
+use std::mem;
 
 impl<S: Alter> Desk<S> {
     /// Rebuilds the registry as of a moment, in nanoseconds since 1970-01-01T00:00:00Z: from now on
@@ -61,10 +62,12 @@ impl<S: Alter> Desk<S> {
         latest_chain_at_rows_are_held();
         read_deposits_mention_few();
         chain_after_an_event();
-        let known = self.take_known(alloc)?;
+        let mut known = self.take_known(alloc)?;
         let new = latest_steps(alloc, self.store.manifest(), &known.held, moment)?;
-        let plan = plan_move(&mut self.store, alloc, new, Source::Kept)?;
+        let old = mem::replace(&mut known.chain, Vec::new(alloc));
+        let plan = plan_move(&mut self.store, alloc, old, new, Source::Kept)?;
         let work = set_moment(&mut self.store, alloc, moment, &plan)?;
+        known.chain = plan.new;
         self.known = Some(known);
         Ok(work)
     }

@@ -6,7 +6,7 @@ ghost use Rattle.esc_tables.specs.Reading.{reading};
 ghost use Rattle.esc_manifest.specs.declared.row.MRow.{MRow};
 ghost use Rattle.esc_chain.specs.Chain.{InRange};
 ghost use Rattle.esc_store.specs.Faults.{IsS1OrS2};
-ghost use Rattle.esc_store.specs.Kept.{Kept, step_at};
+ghost use Rattle.esc_store.specs.Kept.{Kept, step_at, kept_chain};
 ghost use Rattle.esc_store.specs.Standing.{Stands, IsHonest, IsAsBefore};
 ghost use Rattle.esc_events.specs.Amended.{amended_bodies};
 ghost use Rattle.esc_events.specs.Stands.{deposit_of, deposits_of};
@@ -104,11 +104,12 @@ fn step_of(rows: &[MRow], row: usize) -> Step
     }
 }
 
-/// Plans the move from the chain that the store keeps to these steps, whose deposits the source
-/// gives.
+/// Plans the move from the steps `old`, those of the chain that the store keeps, to the steps `new`,
+/// whose deposits the source gives. `S1` if `old` has more steps than a manifest may have rows.
 pub(crate) fn plan_move<S: Alter>(
     store: &mut Store<S>,
     alloc: Global,
+    old: Vec<Step>,
     new: Vec<Step>,
     source: Source<'_>,
 ) -> Result<Plan, SFault>
@@ -118,10 +119,9 @@ pub(crate) fn plan_move<S: Alter>(
     ensures past { IfOk result HasDepositsPast }
     ensures planned { IsHonest S.Store store.new → (k : Kept) (bodies : ℕ → Option (List ℕ))
         → Stands S.Store store.old k → IsSource source.entry k bodies
-        → IfOk result (IsPlanned k bodies) }
+        → old.items ≡ kept_chain k → IfOk result (IsPlanned k bodies) }
     ensures cause { IfErr result IsS1OrS2 }
 {
-    let old = store.chain(alloc)?;
     if old.len() > MOST_STEPS {
         return Err(SFault::S1);
     }

@@ -156,10 +156,9 @@ impl<S: Alter> Desk<S> {
     {
         let receipts = self.store.receipt_count()?;
         let known = known_of(&mut self.store, alloc)?;
-        let steps = self.store.chain(alloc)?;
         let objects = self.store.counts_by_kind(alloc)?;
         let listed = self.store.manifest().rows().len();
-        Ok(status_of(listed, receipts, &known.held, &steps, objects))
+        Ok(status_of(listed, receipts, &known.held, &known.chain, objects))
     }
 }
 

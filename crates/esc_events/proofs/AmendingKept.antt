@@ -88,11 +88,11 @@ module _ (n : List MRow) where
   one_stays k r d None = (refl, refl, refl, refl, refl)
   one_stays k r d (Some body) = (refl, refl, refl, refl, refl)
 
-  adopted_stay : (k : Kept) (rows : List ℕ) → StayBesides k (with_all_adopted n k rows)
+  pub adopted_stay : (k : Kept) (rows : List ℕ) → StayBesides k (with_all_adopted n k rows)
   adopted_stay k [] = (refl, refl, refl, refl, refl)
   adopted_stay k (r ∷ rows) = stay_then k (adopt k r) (with_all_adopted n (adopt k r) rows) (one_stays k r (digest_at r) (k.parked (digest_at r))) (adopted_stay (adopt k r) rows)
 
-  dropped_stay : (k : Kept) (rows : List ℕ) → StayBesides k (with_all_dropped n k rows)
+  pub dropped_stay : (k : Kept) (rows : List ℕ) → StayBesides k (with_all_dropped n k rows)
   dropped_stay k [] = (refl, refl, refl, refl, refl)
   dropped_stay k (r ∷ rows) = dropped_stay (with_parked k (digest_at r) None) rows
 

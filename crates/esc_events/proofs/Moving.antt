@@ -103,10 +103,16 @@ no_work_of e x k l stood stands rows steps apart = record {
   is_cost = sym (cost_of_same e (e ++ x ∷ []) k.steps rows);
 }
 
+-- the rows of the steps of rows
+pub rows_of_steps : (m : List MRow) (rows : List ℕ) → rows_in (map (step_at m) rows) ≡ rows
+rows_of_steps m [] = refl
+rows_of_steps m (r ∷ rows) = ap (λ (l : List ℕ). r ∷ l) (rows_of_steps m rows)
+
 -- the deposits of a store's chain are those of a plan's old one
 pub moved_from : (e : List EventValue) (k : Kept) (bodies : ℕ → Option (List ℕ)) (plan : Plan) → StandsFor sha256 reading e k → IsPlanned k bodies plan
     → IsMovedFrom k (deposits_of reading k.bodies k.steps) plan
 moved_from e k bodies plan stood planned = record {
+  steps = sym (ap rows_in planned.old ∙ rows_of_steps k.listed k.steps);
   count = length-map k.steps (λ r. deposit_of reading (k.bodies r)) ∙ sym (ap length planned.old ∙ length-map k.steps (step_at k.listed));
   registry = stood.registry;
 }

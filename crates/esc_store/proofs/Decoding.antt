@@ -77,8 +77,8 @@ one_reply listed ss rs i d replies reply e lt so_far is =
 pub one_step : (listed : List MRow) (ss : List ChainStep) (rows : List ℕ) (i : ℕ) (d : ChainStep) (steps : List Step) (step : Step) → map step_row ss ≡ steps_from 1 rows → i < length ss → steps ≡ map (step_at listed) (take i rows)
     → step ≡ step_at listed (get_or ss i d).row → steps ++ (step ∷ []) ≡ map (step_at listed) (take (i + 1) rows)
 one_step listed ss rows i d steps step e lt so_far is =
-    let size = same_length ss rows e in
+    let size = same_length 1 ss rows e in
     let below : i < length rows = omega arith in
-    let there : (get_or ss i d).row ≡ get_or rows i 0 = ap (λ (s : StepRow). s.row) (step_nth ss rows i d e lt) in
+    let there : (get_or ss i d).row ≡ get_or rows i 0 = ap (λ (s : StepRow). s.row) (step_nth 1 ss rows i d e lt) in
     ap (λ l. l ++ (step ∷ [])) so_far ∙ (ap (λ x. map (step_at listed) (take i rows) ++ (x ∷ [])) (is ∙ ap (step_at listed) there)
     ∙ (sym (map-append (step_at listed) (take i rows) (get_or rows i 0 ∷ [])) ∙ ap (map (step_at listed)) (sym (take_more rows i 0 below))))

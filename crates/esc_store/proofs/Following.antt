@@ -47,11 +47,15 @@ module _ {S : Type 0} {g : Ghosts S} {X E : Type 0} {old new : Store S} {R : Con
   rest_step turn listing before k made = subst (λ m. IsMade (state g new.conn) m (unwrap_or listing m) before k) (sym move.manifest)
       (made_kept move.step old.manifest (unwrap_or listing old.manifest) before k (turn k) made)
 
+  pub made_then : {k k' : Kept} {x : X} → r ≡ Ok x → (listing : Option (List MRow)) → k'.listed ≡ k.listed → ((c c' : Content) → R c c' → IsBooks c k → IsBooks c' k')
+      → (before : Kept) → RestIn g old listing before k → RestIn g new listing before k'
+  unfolding RestIn
+  made_then {k} {k'} {x} is listing same turn before made = subst (λ m. IsMade (state g new.conn) m (unwrap_or listing m) before k') (sym move.manifest)
+      (made_on move.step old.manifest (unwrap_or listing old.manifest) (unwrap_or listing old.manifest) before k k' x is (λ h. h ∙ sym same) turn made)
+
   pub made_all : {F : Kept → Kept} (listing : Option (List MRow)) → ((k : Kept) → (F k).listed ≡ k.listed) → ((k : Kept) (c c' : Content) → R c c' → IsBooks c k → IsBooks c' (F k))
       → OnOk r ((before k : Kept) → RestIn g old listing before k → RestIn g new listing before (F k))
-  unfolding RestIn
-  made_all {F} listing same turn = on_ok r _ (λ x is before k made. subst (λ m. IsMade (state g new.conn) m (unwrap_or listing m) before (F k)) (sym move.manifest)
-      (made_on move.step old.manifest (unwrap_or listing old.manifest) (unwrap_or listing old.manifest) before k (F k) x is (λ h. h ∙ sym (same k)) (turn k) made))
+  made_all {F} listing same turn = on_ok r _ (λ x is before k made. made_then is listing (same k) (turn k) before made)
 
   -- of a step that lists rows
   pub listed_step : {k k' : Kept} {x : X} → r ≡ Ok x → ((c c' : Content) → R c c' → IsBooks c k → IsBooks c' k') → (before : Kept)

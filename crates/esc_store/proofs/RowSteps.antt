@@ -3,7 +3,7 @@ use Rattle.std.proofs.Common.{◌≡◌, ℕ, zero, suc, take, get_or, ◌+◌, 
 use Rattle.std.specs.Prelude.{IsTrue, Result, Ok, Err, OnOk, pos, ◌<ℤ◌, ℤ, ◌==◌, if◌then◌else◌, option_map}
 use Rattle.std.specs.List.{AllByRecursion}
 use Rattle.std.proofs.lemmas.Int.{ints}
-use Rattle.std.proofs.lemmas.List.{length-map, length-take-le, get_or-map, take_more, take_more_same, take_all}
+use Rattle.std.proofs.lemmas.List.{append_assoc, append-nil, length-map, length-take-le, get_or-map, take_more}
 use Rattle.esc_manifest.specs.declared.row.MRow.{MRow}
 use Rattle.esc_rows.specs.declared.step.ChainStep.{ChainStep}
 use Rattle.esc_apply.specs.declared.front.Step.{Step}
@@ -19,15 +19,15 @@ use Rattle.std.specs.declared.cmp.Ordering.TheVariants.{Less, Equal, Greater}
 use Rattle.std.proofs.lemmas.Cmp.{int_ranked}
 use Rattle.std.proofs.lemmas.Bool.{lt-ltb, le-ltb}
 use Rattle.std.proofs.lemmas.Bool.Decides.{nat_tests}
-use Rattle.esc_rows.specs.StoreTable.{Receipts, Steps}
-use Rattle.esc_rows.specs.Rows.{ReceiptRow, StepRow, HeldRow, receipt_number, held_number, step_number}
+use Rattle.esc_rows.specs.StoreTable.{Receipts}
+use Rattle.esc_rows.specs.Rows.{ReceiptRow, StepRow, HeldRow, receipt_number, held_number}
 use Rattle.esc_rows.specs.Content.{Content, content_in, HoldsContent}
 use Rattle.esc_rows.specs.Changes.{Tells, AddsReceipt, AddsStep, HoldsBody, Becomes, steps_before, last_number, body_of}
 use Rattle.esc_apply.specs.Registry.{State as Tables}
 use Rattle.esc_store.specs.Kept.{Kept, with_receipt, with_body, with_steps}
 use Rattle.esc_store.specs.ReplyValue.{ReceiptValue}
 use Rattle.esc_store.specs.TypedRows.{IsBooks, IsRegistry, receipt_row, receipts_from, steps_from}
-use Rattle.esc_store.specs.Steps.{next_number, with_next_receipt, AddsNext, with_step_rows, SetsSteps, SetsFront}
+use Rattle.esc_store.specs.Steps.{next_number, with_next_receipt, AddsNext, with_steps_from, ContinuesSteps}
 use Rattle.esc_store.specs.Standing.{IsStep, IsLook, RestIn}
 use Rattle.esc_store.proofs.Ends.{at_said, was_clean, keeps_then}
 use Rattle.esc_store.proofs.Parts.{Turns, turning}
@@ -159,15 +159,13 @@ registry_held s h c c' turn it = subst (λ x. IsRegistry x s) (sym turn.is) (rec
 
 -- ---- steps
 
-pub books_steps : (k : Kept) (rows : List ℕ) (c c' : Content) → Becoming (with_step_rows rows) c c' → IsBooks c k → IsBooks c' (with_steps k rows)
-books_steps k rows c c' turn books = subst (λ x. IsBooks x (with_steps k rows)) (sym turn.is) (record { listed = books.listed; receipts = books.receipts; held = books.held; parked = books.parked; moment = books.moment; steps = refl })
-
-pub registry_steps : (s : Tables) (rows : List ℕ) (c c' : Content) → Becoming (with_step_rows rows) c c' → IsRegistry c s → IsRegistry c' s
-registry_steps s rows c c' turn it = subst (λ x. IsRegistry x s) (sym turn.is) (record { objects = it.objects; images = it.images; recorded = it.recorded; noted = it.noted })
-
 steps_push : (n : ℕ) (rows : List ℕ) (row m : ℕ) → length rows + n ≡ m → steps_from n (rows ++ (row ∷ [])) ≡ steps_from n rows ++ (record { pos = m; row = row } ∷ [])
 steps_push n [] row m is = let e : n ≡ m = omega (arith, is) in rw e refl
 steps_push n (x ∷ rows) row m is = ap (λ l. record { pos = n; row = x } ∷ l) (steps_push (suc n) rows row m (omega (arith, is)))
+
+steps_append : (n m : ℕ) (front rows : List ℕ) → length front + n ≡ m → steps_from n (front ++ rows) ≡ steps_from n front ++ steps_from m rows
+steps_append n m [] rows is = let e : n ≡ m = omega (arith, is) in rw e refl
+steps_append n m (x ∷ front) rows is = ap (λ l. record { pos = n; row = x } ∷ l) (steps_append (suc n) m front rows (omega (arith, is)))
 
 steps_below : (n m : ℕ) (rows : List ℕ) → length rows + n ≤ m → AllByRecursion (λ (x : StepRow). x.pos < m) (steps_from n rows)
 steps_below n m [] h = tt
@@ -175,80 +173,80 @@ steps_below n m (x ∷ rows) h = (omega (arith, h), steps_below (suc n) m rows (
 
 -- ---- the front that stays
 
-take_steps : (n m : ℕ) (rows : List ℕ) → take n (steps_from m rows) ≡ steps_from m (take n rows)
-take_steps zero m rows = refl
-take_steps (suc n) m [] = refl
-take_steps (suc n) m (row ∷ rows) = ap (λ l. record { pos = m; row = row } ∷ l) (take_steps n (suc m) rows)
+none_before : (at n : ℕ) (rows : List ℕ) → at ≤ n → filter (λ (s : StepRow). ltb s.pos at) (steps_from n rows) ≡ []
+none_before at n [] h = refl
+none_before at n (row ∷ rows) h = rw (le-ltb n at h) (none_before at (suc n) rows (omega (arith, h)))
 
-all_get : {X : Type 0} (P : X → Type 0) (xs : List X) (i : ℕ) (d : X) → AllByRecursion P xs → i < length xs → P (get_or xs i d)
-all_get P [] i d all lt = absurd (omega arith)
-all_get P (x ∷ xs) zero d all lt = all.0
-all_get P (x ∷ xs) (suc i) d all lt = all_get P xs i d all.1 (omega arith)
+front_before : (n front at : ℕ) (rows : List ℕ) → n + front ≡ at → filter (λ (s : StepRow). ltb s.pos at) (steps_from n rows) ≡ steps_from n (take front rows)
+front_before n zero at rows is = none_before at n rows (omega (arith, is))
+front_before n (suc front) at [] is = refl
+front_before n (suc front) at (row ∷ rows) is =
+    rw (lt-ltb n at (omega (arith, is))) (ap (λ l. record { pos = n; row = row } ∷ l) (front_before (suc n) front at rows (omega (arith, is))))
 
-none_before : (at : ℕ) (ss : List StepRow) → AllByRecursion (λ (x : StepRow). pos at <ℤ step_number x) ss → filter (λ (s : StepRow). ltb s.pos at) ss ≡ []
-none_before at [] all = refl
-none_before at (s ∷ ss) all = let above : at < s.pos = less_pos at s.pos all.0 in rw (le-ltb s.pos at (omega arith)) (none_before at ss all.1)
+every_append : {X : Type 0} (P : X → Type 0) (xs ys : List X) → AllByRecursion P xs → AllByRecursion P ys → AllByRecursion P (xs ++ ys)
+every_append P [] ys here there = there
+every_append P (x ∷ xs) ys here there = (here.0, every_append P xs ys here.1 there)
 
--- below the number of a step are the steps in front of it
-front_before : (ss : List StepRow) (n : ℕ) (d : StepRow) → IsKeyedBy step_number ss → n < length ss → filter (λ (s : StepRow). ltb s.pos (get_or ss n d).pos) ss ≡ take n ss
-front_before [] n d up lt = absurd (omega arith)
-front_before (s ∷ ss) zero d up lt = rw (le-ltb s.pos s.pos (omega arith)) (none_before s.pos ss up.0)
-front_before (s ∷ ss) (suc n) d up lt =
-    let above : s.pos < (get_or ss n d).pos = less_pos s.pos (get_or ss n d).pos (all_get (λ (x : StepRow). step_number s <ℤ step_number x) ss n d up.0 (omega arith)) in
-    rw (lt-ltb s.pos (get_or ss n d).pos above) (ap (λ l. s ∷ l) (front_before ss n d up.1 (omega arith)))
+kept_below : (at m : ℕ) (ss : List StepRow) → at ≤ m → AllByRecursion (λ (x : StepRow). x.pos < m) (filter (λ (s : StepRow). ltb s.pos at) ss)
+kept_below at m [] h = tt
+kept_below at m (s ∷ ss) h = by_test (ltb s.pos at) refl (kept_below at m ss h)
+  where
+    by_test : (b : Bool) → ltb s.pos at ≡ b → AllByRecursion (λ (x : StepRow). x.pos < m) (filter (λ (s : StepRow). ltb s.pos at) ss)
+        → AllByRecursion (λ (x : StepRow). x.pos < m) (if b then s ∷ filter (λ (s : StepRow). ltb s.pos at) ss else filter (λ (s : StepRow). ltb s.pos at) ss)
+    by_test true is others = (grind (arith, nat_tests, is, h), others)
+    by_test false is others = others
 
-module _ {Y D : Type 0} (show : Y → List StepRow) (old mid : State) (r : Result Y D) (y : Y) (rows : List ℕ) (front : ℕ) (on : old.in_transaction ≡ true) (look : IsLook old mid (Tells (λ c y. show y ≡ c.steps)) r) (is : r ≡ Ok y)
-    (same : take front (show y) ≡ take front (steps_from 1 rows)) where
-  still : HasCleanDisk mid → (c : Content) → HoldsContent old.now c → HoldsContent mid.now c
-  still clean c h = subst (λ db. HoldsContent db c) (sym (at_said r y _ is (look.said clean)).1.0.now_is) h
+pub books_steps : (k : Kept) (front at : ℕ) (rows : List ℕ) → at ≡ front + 1 → front ≤ length k.steps → (c c' : Content) → Becoming (with_steps_from at rows) c c' → IsBooks c k → IsBooks c' (with_steps k (take front k.steps ++ rows))
+books_steps k front at rows at_is within c c' turn books = subst (λ x. IsBooks x (with_steps k (take front k.steps ++ rows))) (sym turn.is) (record {
+  listed = books.listed;
+  receipts = books.receipts;
+  held = books.held;
+  parked = books.parked;
+  moment = books.moment;
+  steps =
+      ap (λ (ss : List StepRow). filter (λ (s : StepRow). ltb s.pos at) ss ++ steps_from at rows) books.steps
+      ∙ (ap (λ (ss : List StepRow). ss ++ steps_from at rows) (front_before 1 front at k.steps (omega (arith, at_is)))
+      ∙ sym (steps_append 1 at (take front k.steps) rows (let size = length-take-le front k.steps within in omega (arith, size, at_is))));
+})
 
-  -- all the steps are in front
-  pub front_whole : length (show y) ≤ front → {E : Type 0} → IsStep {E = E} old mid (SetsFront {E = E} rows (Ok front)) (Ok front)
-  front_whole whole = record {
-    survives = look.survives;
-    kept = look.kept;
-    made = λ clean. let shown = (at_said r y _ is (look.said clean)).1.0 in (on, sets clean, shown.mode ∙ on, shown.is_open);
-    failed = λ clean. tt;
-  } where
-    sets : HasCleanDisk mid → SetsSteps (take front rows) old.now mid.now
-    sets clean c h =
-        let e : c.steps ≡ steps_from 1 (take front rows) = sym ((at_said r y _ is (look.said clean)).0 c h) ∙ (sym (take_all front (show y) whole) ∙ (same ∙ take_steps front 1 rows)) in
-        subst (λ (ss : List StepRow). HoldsContent mid.now (record c { steps = ss })) e (still clean c h)
-
-  -- those past the front are taken away
-  module _ {W E : Type 0} (new : State) (at : ℕ) (d : StepRow) (within : front < length (show y)) (at_is : at ≡ (get_or (show y) front d).pos) where
-    pub front_cut : (w : W) → IsStep {X = W} {E = E} mid new (Becomes (steps_before at)) (Ok w) → IsStep {E = E} old new (SetsFront {E = E} rows (Ok front)) (Ok front)
-    front_cut w step = record {
-      survives = survives_then old mid new (λ trees. ⊥) (λ trees. ⊥) (λ trees. ⊥) (λ _ db none. none) (λ _ db none. none) look.survives step.survives;
-      kept = λ clean. keeps_then old mid new (look.kept (was_clean mid new (λ trees. ⊥) step.survives clean)) (step.kept clean);
-      made = λ clean. let m = step.made clean in (on, sets (was_clean mid new (λ trees. ⊥) step.survives clean) m.1, m.2, m.3);
-      failed = λ clean. tt;
-    } where
-      sets : HasCleanDisk mid → Becomes (steps_before at) mid.now new.now → SetsSteps (take front rows) old.now new.now
-      sets clean cut c h =
-          let shown : show y ≡ c.steps = (at_said r y _ is (look.said clean)).0 c h in
-          let up : IsKeyedBy step_number (show y) = subst (IsKeyedBy step_number) (sym shown) (h.store.ordered Steps) in
-          let e : filter (λ (s : StepRow). ltb s.pos at) c.steps ≡ steps_from 1 (take front rows) =
-          ap (filter (λ (s : StepRow). ltb s.pos at)) (sym shown)
-          ∙ (ap (λ (n : ℕ). filter (λ (s : StepRow). ltb s.pos n) (show y)) at_is ∙ (front_before (show y) front d up within ∙ (same ∙ take_steps front 1 rows))) in
-          subst (λ (ss : List StepRow). HoldsContent new.now (record c { steps = ss })) e (cut c (still clean c h))
+pub registry_steps : (s : Tables) (at : ℕ) (rows : List ℕ) (c c' : Content) → Becoming (with_steps_from at rows) c c' → IsRegistry c s → IsRegistry c' s
+registry_steps s at rows c c' turn it = subst (λ x. IsRegistry x s) (sym turn.is) (record { objects = it.objects; images = it.images; recorded = it.recorded; noted = it.noted })
 
 -- ---- one step more
 
-pub steps_more : {Y E : Type 0} (old mid new : State) (rows : List ℕ) (row : ℕ) (s : StepRow) (y : Y) (done : Result Y E) → s ≡ record { pos = length rows + 1; row = row } → IsStep {X = Y} {E = E} old mid (SetsSteps rows) (Ok y) → IsStep mid new (AddsStep s) done → IsStep old new (SetsSteps (rows ++ (row ∷ []))) done
-steps_more {Y} {E} old mid new rows row s y done s_is before step = record {
+-- no step is past the front
+pub steps_cut : {Y E : Type 0} {old new : State} (at : ℕ) {y : Y} → IsStep {X = Y} {E = E} old new (Becomes (steps_before at)) (Ok y) → IsStep {X = Y} {E = E} old new (ContinuesSteps at []) (Ok y)
+steps_cut {Y} {E} {old} {new} at step = record {
+  survives = step.survives;
+  kept = step.kept;
+  made = λ clean. let m = step.made clean in (m.0, λ c h. subst (λ (ss : List StepRow). HoldsContent new.now (record c { steps = ss })) (sym (append-nil (steps_before at c).steps)) (m.1 c h), m.2, m.3);
+  failed = step.failed;
+}
+
+pub steps_more : {Y E : Type 0} {old mid new : State} (at : ℕ) (rows : List ℕ) (row : ℕ) (s : StepRow) {y : Y} {done : Result Y E} → s ≡ record { pos = length rows + at; row = row }
+    → IsStep {X = Y} {E = E} old mid (ContinuesSteps at rows) (Ok y) → IsStep mid new (AddsStep s) done → IsStep old new (ContinuesSteps at (rows ++ (row ∷ []))) done
+steps_more {Y} {E} {old} {mid} {new} at rows row s {y} {done} s_is before step = record {
   survives = survives_then old mid new (λ trees. ⊥) (λ trees. ⊥) (λ trees. ⊥) (λ _ db none. none) (λ _ db none. none) before.survives step.survives;
   kept = λ clean. keeps_then old mid new (before.kept (was_clean mid new (λ trees. ⊥) step.survives clean)) (step.kept clean);
   made = λ clean. made_of done clean (step.made clean);
   failed = step.failed;
 } where
-  sets : Becomes (with_step_rows rows) old.now mid.now → AddsStep s mid.now new.now → Becomes (with_step_rows (rows ++ (row ∷ []))) old.now new.now
+  below : StepRow → Type 0
+  below x = x.pos < s.pos
+
+  sets : ContinuesSteps at rows old.now mid.now → AddsStep s mid.now new.now → ContinuesSteps at (rows ++ (row ∷ [])) old.now new.now
   sets first second c h =
-      let there = second (with_step_rows rows c) (first c h) (subst (λ (x : StepRow). AllByRecursion (λ (y : StepRow). y.pos < x.pos) (steps_from 1 rows)) (sym s_is) (steps_below 1 (length rows + 1) rows (omega arith))) in
-      let e : steps_from 1 rows ++ (s ∷ []) ≡ steps_from 1 (rows ++ (row ∷ [])) = ap (λ x. steps_from 1 rows ++ (x ∷ [])) s_is ∙ sym (steps_push 1 rows row (length rows + 1) refl) in
+      let front = (steps_before at c).steps in
+      let number : s.pos ≡ length rows + at = ap (λ (x : StepRow). x.pos) s_is in
+      let all : AllByRecursion below (front ++ steps_from at rows) =
+      every_append below front (steps_from at rows) (kept_below at s.pos c.steps (omega (arith, number))) (steps_below at s.pos rows (omega (arith, number))) in
+      let there = second (with_steps_from at rows c) (first c h) all in
+      let e : (front ++ steps_from at rows) ++ (s ∷ []) ≡ front ++ steps_from at (rows ++ (row ∷ [])) =
+      append_assoc front (steps_from at rows) (s ∷ []) ∙ ap (λ (l : List StepRow). front ++ l) (ap (λ x. steps_from at rows ++ (x ∷ [])) s_is ∙ sym (steps_push at rows row (length rows + at) refl)) in
       subst (λ (ss : List StepRow). HoldsContent new.now (record c { steps = ss })) e there
 
-  made_of : (d : Result Y E) → HasCleanDisk new → OnOk d ((mid.in_transaction ≡ true) × AddsStep s mid.now new.now × (new.in_transaction ≡ true) × IsTrue new.is_open) → OnOk d ((old.in_transaction ≡ true) × SetsSteps (rows ++ (row ∷ [])) old.now new.now × (new.in_transaction ≡ true) × IsTrue new.is_open)
+  made_of : (d : Result Y E) → HasCleanDisk new → OnOk d ((mid.in_transaction ≡ true) × AddsStep s mid.now new.now × (new.in_transaction ≡ true) × IsTrue new.is_open)
+      → OnOk d ((old.in_transaction ≡ true) × ContinuesSteps at (rows ++ (row ∷ [])) old.now new.now × (new.in_transaction ≡ true) × IsTrue new.is_open)
   made_of (Ok x) clean m = let b = before.made (was_clean mid new (λ trees. ⊥) step.survives clean) in (b.0, sets b.1 m.1, m.2, m.3)
   made_of (Err e) clean m = tt
 
@@ -263,42 +261,26 @@ steps_length : (n : ℕ) (rows : List ℕ) → length (steps_from n rows) ≡ le
 steps_length n [] = refl
 steps_length n (row ∷ rows) = ap suc (steps_length (suc n) rows)
 
-pub step_nth : (ss : List ChainStep) (rows : List ℕ) (i : ℕ) (d : ChainStep) → map step_row ss ≡ steps_from 1 rows → i < length ss → step_row (get_or ss i d) ≡ record { pos = length (take i rows) + 1; row = get_or rows i 0 }
-step_nth ss rows i d e lt =
-    let l : length ss ≡ length rows = sym (length-map ss step_row) ∙ (ap length e ∙ steps_length 1 rows) in
+pub step_nth : (n : ℕ) (ss : List ChainStep) (rows : List ℕ) (i : ℕ) (d : ChainStep) → map step_row ss ≡ steps_from n rows → i < length ss → step_row (get_or ss i d) ≡ record { pos = length (take i rows) + n; row = get_or rows i 0 }
+step_nth n ss rows i d e lt =
+    let l : length ss ≡ length rows = sym (length-map ss step_row) ∙ (ap length e ∙ steps_length n rows) in
     let below : i < length rows = omega arith in
     let size : length (take i rows) ≡ i = length-take-le i rows (omega arith) in
-    let number : 1 + i ≡ length (take i rows) + 1 = omega arith in
-    sym (get_or-map step_row ss i d (step_row d) lt) ∙ (ap (λ (xs : List StepRow). get_or xs i (step_row d)) e ∙ (steps_get 1 rows i (step_row d) below ∙ rw number refl))
+    let number : n + i ≡ length (take i rows) + n = omega arith in
+    sym (get_or-map step_row ss i d (step_row d) lt) ∙ (ap (λ (xs : List StepRow). get_or xs i (step_row d)) e ∙ (steps_get n rows i (step_row d) below ∙ rw number refl))
 
-pub same_length : (ss : List ChainStep) (rows : List ℕ) → map step_row ss ≡ steps_from 1 rows → length ss ≡ length rows
-same_length ss rows e = sym (length-map ss step_row) ∙ (ap length e ∙ steps_length 1 rows)
+pub same_length : (n : ℕ) (ss : List ChainStep) (rows : List ℕ) → map step_row ss ≡ steps_from n rows → length ss ≡ length rows
+same_length n ss rows e = sym (length-map ss step_row) ∙ (ap length e ∙ steps_length n rows)
 
-pub steps_pushed : (ss : List StepRow) (rows : List ℕ) (i : ℕ) (s : StepRow) → ss ≡ steps_from 1 (take i rows) → i < length rows → s ≡ record { pos = i + 1; row = get_or rows i 0 } → ss ++ (s ∷ []) ≡ steps_from 1 (take (i + 1) rows)
-steps_pushed ss rows i s e lt is =
-    let size : length (take i rows) + 1 ≡ i + 1 = let k = length-take-le i rows (omega arith) in omega arith in
-    ap (λ l. l ++ (s ∷ [])) e ∙ (ap (λ x. steps_from 1 (take i rows) ++ (x ∷ [])) is ∙ (sym (steps_push 1 (take i rows) (get_or rows i 0) (i + 1) size) ∙ ap (steps_from 1) (sym (take_more rows i 0 lt))))
+steps_pushed : (n : ℕ) (ss : List StepRow) (rows : List ℕ) (i : ℕ) (s : StepRow) → ss ≡ steps_from n (take i rows) → i < length rows → s ≡ record { pos = i + n; row = get_or rows i 0 } → ss ++ (s ∷ []) ≡ steps_from n (take (i + 1) rows)
+steps_pushed n ss rows i s e lt is =
+    let size : length (take i rows) + n ≡ i + n = let k = length-take-le i rows (omega arith) in omega arith in
+    ap (λ l. l ++ (s ∷ [])) e ∙ (ap (λ x. steps_from n (take i rows) ++ (x ∷ [])) is ∙ (sym (steps_push n (take i rows) (get_or rows i 0) (i + n) size) ∙ ap (steps_from n) (sym (take_more rows i 0 lt))))
 
-pub steps_stored : (ss : List StepRow) (steps : List Step) (i n row : ℕ) (d : Step) → ss ≡ steps_from 1 (take i (map (λ (s : Step). s.row) steps)) → i < length steps → n ≡ i + 1 → row ≡ (get_or steps i d).row
-    → ss ++ (record { pos = n; row = row } ∷ []) ≡ steps_from 1 (take (i + 1) (map (λ (s : Step). s.row) steps))
-steps_stored ss steps i n row d e lt n_is row_is =
+pub steps_stored : (first : ℕ) (ss : List StepRow) (steps : List Step) (i n row : ℕ) (d : Step) → ss ≡ steps_from first (take i (map (λ (s : Step). s.row) steps)) → i < length steps → n ≡ i + first → row ≡ (get_or steps i d).row
+    → ss ++ (record { pos = n; row = row } ∷ []) ≡ steps_from first (take (i + 1) (map (λ (s : Step). s.row) steps))
+steps_stored first ss steps i n row d e lt n_is row_is =
     let row_of : Step → ℕ = λ (s : Step). s.row in
     let size : length (map row_of steps) ≡ length steps = length-map steps row_of in
     let there : get_or (map row_of steps) i 0 ≡ row = get_or-map row_of steps i d 0 lt ∙ sym row_is in
-    steps_pushed ss (map row_of steps) i (record { pos = n; row = row }) e (omega arith) (rw (n_is, there) refl)
-
--- one more step that both chains have
-pub front_more : (kept steps : List ChainStep) (i : ℕ) (d e : ChainStep) → i < length kept → i < length steps → (get_or kept i d).pos ≡ (get_or steps i e).pos → (get_or kept i d).row ≡ (get_or steps i e).row
-    → take i (map step_row kept) ≡ take i (map step_row steps) → take (i + 1) (map step_row kept) ≡ take (i + 1) (map step_row steps)
-front_more kept steps i d e here there number row same =
-    let left : length (map step_row kept) ≡ length kept = length-map kept step_row in
-    let right : length (map step_row steps) ≡ length steps = length-map steps step_row in
-    let one : step_row (get_or kept i d) ≡ step_row (get_or steps i e) = rw (number, row) refl in
-    take_more_same (map step_row kept) (map step_row steps) i (step_row d) (omega arith) (omega arith) same (get_or-map step_row kept i d (step_row d) here ∙ (one ∙ sym (get_or-map step_row steps i e (step_row d) there)))
-
--- the place of a kept step
-pub place_at : (kept items : List ChainStep) (front : ℕ) (d : ChainStep) → kept ≡ items → front < length kept → (get_or kept front d).pos ≡ (get_or (map step_row items) front (step_row d)).pos
-place_at kept items front d is lt = subst (λ (xs : List ChainStep). (get_or kept front d).pos ≡ (get_or (map step_row xs) front (step_row d)).pos) is (sym (ap (λ (s : StepRow). s.pos) (get_or-map step_row kept front d (step_row d) lt)))
-
-pub front_same : (kept items steps : List ChainStep) (rows : List ℕ) (front : ℕ) → kept ≡ items → map step_row steps ≡ steps_from 1 rows → take front (map step_row kept) ≡ take front (map step_row steps) → take front (map step_row items) ≡ take front (steps_from 1 rows)
-front_same kept items steps rows front is e same = ap (λ (xs : List ChainStep). take front (map step_row xs)) (sym is) ∙ (same ∙ ap (take front) e)
+    steps_pushed first ss (map row_of steps) i (record { pos = n; row = row }) e (omega arith) (rw (n_is, there) refl)

@@ -1,9 +1,9 @@
 -- What the parts of a change do to the rows of a store.
-use Rattle.std.specs.Prelude.{◌≡◌, ◌≤◌, ◌+◌, ℕ, true, List, [], ◌∷◌, ◌++◌, take, Result, IfOk}
+use Rattle.std.specs.Prelude.{◌≡◌, ◌≤◌, ◌+◌, ℕ, true, List, [], ◌∷◌, ◌++◌}
 use Rattle.sqlite.specs.Effect.{Database}
 use Rattle.sqlite.specs.State.{State}
 use Rattle.esc_rows.specs.Content.{Content, HoldsContent}
-use Rattle.esc_rows.specs.Changes.{Becomes, last_number}
+use Rattle.esc_rows.specs.Changes.{Becomes, last_number, steps_before}
 use Rattle.esc_store.specs.ReplyValue.{ReceiptValue}
 use Rattle.esc_store.specs.TypedRows.{receipt_row, steps_from}
 
@@ -23,13 +23,9 @@ abbrev pub IsFull : State → Type 0
 IsFull s = (s.in_transaction ≡ true)
     × ((c : Content) → HoldsContent s.now c → 1_000_000_000 ≤ last_number c.receipts)
 
--- a content with these rows as the steps of the chain
-abbrev pub with_step_rows : List ℕ → Content → Content
-with_step_rows rows c = record c { steps = steps_from 1 rows }
+-- a content with these rows as the steps of the chain from this number on; those before it stay
+abbrev pub with_steps_from : ℕ → List ℕ → Content → Content
+with_steps_from at rows c = record c { steps = (steps_before at c).steps ++ steps_from at rows }
 
-abbrev pub SetsSteps : List ℕ → Database → Database → Type 0
-SetsSteps rows = Becomes (with_step_rows rows)
-
--- the steps are the first of these rows, as many as the result says
-abbrev pub SetsFront : {E : Type 0} → List ℕ → Result ℕ E → Database → Database → Type 0
-SetsFront rows result old new = IfOk result (λ front. SetsSteps (take front rows) old new)
+abbrev pub ContinuesSteps : ℕ → List ℕ → Database → Database → Type 0
+ContinuesSteps at rows = Becomes (with_steps_from at rows)

@@ -1,12 +1,12 @@
 //! Parts of a change that take several statements each: the next receipt, and the chain.
 
-ghost use Rattle.std.specs.Prelude.{◌≡◌, ◌≤◌, ℕ, List, map, take, length, IfOk, IfErr};
+ghost use Rattle.std.specs.Prelude.{◌≡◌, ◌≤◌, ℕ, List, map, IfOk, IfErr};
 ghost use Rattle.sqlite.specs.Held.{state};
 ghost use Rattle.esc_rows.specs.Entries.{step_row};
 ghost use Rattle.esc_rows.specs.Changes.{Tells};
 ghost use Rattle.esc_store.specs.Faults.{IsS1OrS2, IsS1OrS2OrS4};
 ghost use Rattle.esc_store.specs.TypedRows.{steps_from};
-ghost use Rattle.esc_store.specs.Steps.{AddsNext, IsFull, next_number, SetsFront, SetsSteps};
+ghost use Rattle.esc_store.specs.Steps.{AddsNext, IsFull, next_number, ContinuesSteps};
 ghost use Rattle.esc_store.specs.Standing.{IsStep, IsHonest};
 
 use crate::codec::receipt::stored_receipt;
@@ -58,60 +58,24 @@ impl<S: Alter> Store<S> {
         }
     }
 
-    // Cuts the chain down to the front that it shares with these steps. The result is the length of
-    // that front.
-    fn keep_front_here(&mut self, steps: &[ChainStep]) -> Result<usize, SFault>
+    // Makes these the steps of the chain from this number on. Those before it stay as they are, and
+    // are not written again: each INSERT makes the database read the held body that the step names.
+    pub(crate) fn continue_steps_here(
+        &mut self,
+        from: u32,
+        steps: &[ChainStep],
+    ) -> Result<(), SFault>
         ensures manifest { self.new.manifest ≡ self.old.manifest }
         ensures writes { self.new.writes ≡ self.old.writes }
-        ensures step { (rows : List ℕ) → map step_row steps.now ≡ steps_from 1 rows
+        ensures step { (rows : List ℕ) → map step_row steps.now ≡ steps_from from rows
             → IsStep (state S.Store self.old.conn) (state S.Store self.new.conn)
-            (SetsFront rows result) result }
+            (ContinuesSteps from rows) result }
         ensures cause { IfErr result IsS1OrS2 }
     {
-        match self.goes_on() {
-            Ok(()) => {}
-            Err(fault) => return Err(fault),
-        }
-        let alloc = self.alloc;
-        let stored = match self.steps_here(alloc) {
-            Ok(stored) => stored,
-            Err(fault) => return Err(fault),
-        };
-        let kept = stored.as_slice();
-        let front = common_front(kept, steps);
-        if front < kept.len() {
-            self.clear_steps_from_here(kept[front].pos)?;
-        }
-        Ok(front)
-    }
-
-    // Makes these the steps of the chain. Steps that are there already are not written again, since
-    // each INSERT makes the database read the held body that the step names.
-    pub(crate) fn set_steps_here(&mut self, steps: &[ChainStep]) -> Result<(), SFault>
-        ensures manifest { self.new.manifest ≡ self.old.manifest }
-        ensures writes { self.new.writes ≡ self.old.writes }
-        ensures step { (rows : List ℕ) → map step_row steps.now ≡ steps_from 1 rows
-            → IsStep (state S.Store self.old.conn) (state S.Store self.new.conn)
-            (SetsSteps rows) result }
-        ensures cause { IfErr result IsS1OrS2 }
-    {
-        let front = self.keep_front_here(steps)?;
-        for at in front..steps.len() {
+        self.clear_steps_from_here(from)?;
+        for at in 0..steps.len() {
             self.add_step_here(steps[at])?;
         }
         Ok(())
     }
-}
-
-// How many steps the two chains have in common from the first on.
-fn common_front(kept: &[ChainStep], steps: &[ChainStep]) -> usize
-    ensures kept { result ≤ length kept.now }
-    ensures same { take result (map step_row kept.now) ≡ take result (map step_row steps.now) }
-{
-    for at in 0..kept.len() {
-        if at >= steps.len() || kept[at].pos != steps[at].pos || kept[at].row != steps[at].row {
-            return at;
-        }
-    }
-    kept.len()
 }

@@ -7,9 +7,12 @@ ghost use Rattle.std.specs.Prelude.{
   ◌+◌,
   ◌-◌,
   ◌^◌,
+  ◌++◌,
+  ℕ,
   None,
   min,
   map,
+  take,
   length,
   OnOk,
   OnErr,
@@ -121,23 +124,42 @@ impl<'a, S: Alter> Change<'a, S> {
             → HoldsNow S.Store self.new s) }
         ensures cause { IfErr result IsS1OrS2 }
     {
-        let stored = stored_steps(self.store.alloc, steps)?;
-        self.set_rows(stored.as_slice(), steps)
+        self.continue_chain(0, steps)
     }
 
-    // Sets the table of steps to the rows of these steps.
-    fn set_rows(&mut self, stored: &[ChainStep], steps: &[Step]) -> Result<(), SFault>
-        requires { map step_row stored.now ≡ steps_from 1 (map (λ step. step.row) steps.now) }
+    /// Keeps the first steps of the chain, as many as `front`, which it has to have, and makes these
+    /// the steps past them; their rows have to be held, and no two of the chain are the same. It
+    /// takes as long as these steps and those that go, however long the chain is. `S1`, `S2`.
+    pub fn continue_chain(&mut self, front: usize, steps: &[Step]) -> Result<(), SFault>
+        ensures goes_on { GoesOn S.Store self.old self.new }
+        ensures count { count_of self.new ≡ count_of self.old }
+        ensures set { OnOk result ((before k : Kept) → front ≤ length k.steps
+            → Rest S.Store self.old before k → Rest S.Store self.new before
+            (with_steps k (take front k.steps ++ map (λ step. step.row) steps.now))) }
+        ensures holds { OnOk result ((s : State) → HoldsNow S.Store self.old s
+            → HoldsNow S.Store self.new s) }
+        ensures cause { IfErr result IsS1OrS2 }
+    {
+        let stored = stored_steps(self.store.alloc, front, steps)?;
+        let from = small(front.saturating_add(1))?;
+        self.set_rows(from, stored.as_slice(), steps)
+    }
+
+    // Makes the rows of these steps those of the table of steps from this number on.
+    fn set_rows(&mut self, from: u32, stored: &[ChainStep], steps: &[Step]) -> Result<(), SFault>
+        requires { map step_row stored.now ≡ steps_from from (map (λ step. step.row) steps.now) }
         ensures goes_on { GoesOn S.Store self.old self.new }
         ensures count { self.new.count ≡ self.old.count }
-        ensures set { OnOk result ((before k : Kept) → Rest S.Store self.old before k
-            → Rest S.Store self.new before (with_steps k (map (λ step. step.row) steps.now))) }
+        ensures set { OnOk result ((before k : Kept) (front : ℕ) → from ≡ front + 1
+            → front ≤ length k.steps → Rest S.Store self.old before k
+            → Rest S.Store self.new before
+            (with_steps k (take front k.steps ++ map (λ step. step.row) steps.now))) }
         ensures holds { OnOk result ((s : State) → HoldsNow S.Store self.old s
             → HoldsNow S.Store self.new s) }
         ensures cause { IfErr result IsS1OrS2 }
     {
         let _ = steps;
-        self.store.set_steps_here(stored)
+        self.store.continue_steps_here(from, stored)
     }
 
     /// Commits the whole change at once. At `Err` (`S1`, `S2`) nothing has changed, but a crash may

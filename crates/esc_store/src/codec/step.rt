@@ -1,6 +1,6 @@
 //! The steps of a chain as the tables keep them, and back.
 
-ghost use Rattle.std.specs.Prelude.{◌≡◌, ℕ, List, map, IfOk, IfErr};
+ghost use Rattle.std.specs.Prelude.{◌≡◌, ◌+◌, ℕ, List, map, IfOk, IfErr};
 ghost use Rattle.esc_rows.specs.Entries.{step_row};
 ghost use Rattle.esc_store.specs.Faults.{IsS1OrS2};
 ghost use Rattle.esc_store.specs.TypedRows.{steps_from};
@@ -13,15 +13,20 @@ use esc_manifest::Manifest;
 use esc_rows::step::ChainStep;
 use std::alloc::Global;
 
-// The steps of a chain as their table keeps them, numbered from 1.
-pub(crate) fn stored_steps(alloc: Global, steps: &[Step]) -> Result<Vec<ChainStep>, SFault>
+// Steps of a chain as their table keeps them, which numbers all from 1: those past the first ones,
+// which are as many as `front`.
+pub(crate) fn stored_steps(
+    alloc: Global,
+    front: usize,
+    steps: &[Step],
+) -> Result<Vec<ChainStep>, SFault>
     ensures rows { IfOk result (λ stored. map step_row stored.items
-        ≡ steps_from 1 (map (λ step. step.row) steps.now)) }
+        ≡ steps_from (front + 1) (map (λ step. step.row) steps.now)) }
     ensures cause { IfErr result IsS1OrS2 }
 {
     let mut stored = Vec::new(alloc);
     for at in 0..steps.len() {
-        let pos = small(at + 1)?;
+        let pos = small(front.saturating_add(at + 1))?;
         let row = small(steps[at].row)?;
         stored.push(ChainStep { pos, row })?;
     }

@@ -1,7 +1,7 @@
 //! The chain of a store, from one to the next.
 
 use super::assert_text;
-use esc_apply::Step;
+use esc_apply::{Step, common_front};
 use esc_manifest::{Manifest, read_manifest};
 use esc_store::{Change, SFault, Store};
 use sqlite::{Alter, Connection};
@@ -94,6 +94,18 @@ fn set_all<S: Alter>(store: &mut Store<S>, chains: &[&[Step]]) -> Result<(), SFa
     change.commit()
 }
 
+// Keeps the steps that both chains begin with, and sets those of the second past them.
+fn continue_to<S: Alter>(
+    store: &mut Store<S>,
+    first: &[Step],
+    second: &[Step],
+) -> Result<(), SFault> {
+    let front = common_front(first, second);
+    let mut change = store.begin()?;
+    change.continue_chain(front, &second[front..])?;
+    change.commit()
+}
+
 // Sets a chain in a change that isn't committed.
 fn set_in_vain<S: Alter>(store: &mut Store<S>, steps: &[Step]) -> Result<(), SFault> {
     let mut change = store.begin()?;
@@ -122,7 +134,8 @@ fn tell_chain<S: Alter>(
 }
 
 // The chain after the first was set, after the second was set in a change that isn't committed,
-// after it was set, and after both were set again in one change.
+// after it was set, after both were set again in one change, and after the first was set and went on
+// as the second.
 fn told<S: Alter>(
     alloc: Global,
     store: &mut Store<S>,
@@ -138,12 +151,15 @@ fn told<S: Alter>(
     tell_chain(alloc, &mut text, store)?;
     set_all(store, &[first, second])?;
     tell_chain(alloc, &mut text, store)?;
+    set_all(store, &[first])?;
+    continue_to(store, first, second)?;
+    tell_chain(alloc, &mut text, store)?;
     Ok(text)
 }
 
 fn expected(alloc: Global, first: &[Step], second: &[Step]) -> Result<String, Fail> {
     let mut text = String::new(alloc);
-    for steps in [first, first, second, second] {
+    for steps in [first, first, second, second, second] {
         tell_steps(&mut text, steps)?;
     }
     Ok(text)

@@ -1,8 +1,6 @@
-use Rattle.std.proofs.Common.{ℕ, true, false, List, Option, IsSome, is_some, nat_eq, sym, ap, subst, ◌∙◌, true≢false}
+use Rattle.std.proofs.Common.{ℕ, IsSome, is_some, nat_eq, sym, ap, subst, ◌∙◌, true≢false}
 use Rattle.std.specs.List.{list_any}
 use Rattle.std.proofs.lemmas.Result.{IfOk-weaker}
-use Rattle.esc_store.specs.Kept.{AreHeld, AreHeldBy, body_put}
-use Rattle.esc_store.specs.ReplyValue.{ReceiptValue}
 use Rattle.esc_events.specs.ArrivalValue.{an_arrival}
 use Rattle.esc_events.specs.declared.finding.Finding.TheVariants.{Holding}
 use Rattle.esc_events.proofs.Searches.{same_answer}
@@ -35,17 +33,13 @@ returns-clause-taken g c = IfOk-weaker c.move_with.result _ _ (λ work made. λ 
     let a = an_arrival n c.args.body.now in
     let row = c.args.row in
     let known = c.args.known.now in
-    let bodies = body_put k.bodies row a.body in
     let other = ap (list_any (λ q. nat_eq q row)) (sym c.deref.ensures.value) ∙ sym c.if-contains.ensures.value in
     let none = no_body k.bodies known.held.items knows.held row other in
     let held = held_more k.bodies row a.body known.held.items c.insert_row.new.rows.items knows.held (c.in_ok-insert_row.ensures knows.held.rising) in
-    let done = made clean e n k reply stood none is (subst (λ (rows : List ℕ). AreHeld bodies rows) (sym c.deref-2.ensures.value) held) in
+    let done = made clean e n k reply stood none is (record { held = held; told = knows.told; chain = knows.chain }) in
     record {
       serves = done.serves;
-      knows = record {
-        held = subst (λ (b : ℕ → Option (List ℕ)). AreHeld b c.insert_row.new.rows.items) (sym done.bodies) held;
-        told = subst (λ (rs : List ReceiptValue). AreHeldBy rs known.told.items) (sym done.receipts) knows.told;
-      };
+      knows = done.knows;
       works = done.works;
       idle = done.idle;
       leaves = leaves_with_only g.S.Store _ _ e a done.left;
@@ -55,11 +49,9 @@ returns-clause-taken g c = IfOk-weaker c.move_with.result _ _ (λ work made. λ 
 
 pub returns-clause-crash : goal.returns-clause-crash
 returns-clause-crash g c = λ clean e n k reply stood knows is.
-    let body = c.args.body.now in
     let row = c.args.row in
     let known = c.args.known.now in
-    let bodies = body_put k.bodies row body in
     let other = ap (list_any (λ q. nat_eq q row)) (sym c.deref.ensures.value) ∙ sym c.if-contains.ensures.value in
     let none = no_body k.bodies known.held.items knows.held row other in
-    let held = held_more k.bodies row body known.held.items c.insert_row.new.rows.items knows.held (c.in_ok-insert_row.ensures knows.held.rising) in
-    c.move_with.ensures.crash clean e n k reply stood none is (subst (λ (rows : List ℕ). AreHeld bodies rows) (sym c.deref-2.ensures.value) held)
+    let held = held_more k.bodies row c.args.body.now known.held.items c.insert_row.new.rows.items knows.held (c.in_ok-insert_row.ensures knows.held.rising) in
+    c.move_with.ensures.crash clean e n k reply stood none is (record { held = held; told = knows.told; chain = knows.chain })

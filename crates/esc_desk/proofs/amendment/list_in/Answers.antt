@@ -39,7 +39,7 @@ returns-clause-listed g c = λ clean e k more stood stands knows united.
     let told = c.in_ok-judged.judged in
     let rows = c.append_rows.new.rows.items in
     let plan = c.in_ok-plan.plan in
-    let planned_on = c.list_rows.ensures.honest clean in
+    let planned_on = c.list_rows-work.ensures.honest clean in
     let seen_on = was_honest g.S.Store _ _ c.in_ok-plan.ensures.same planned_on in
     let judged_on = was_honest g.S.Store _ _ c.in_ok-moment.ensures.same seen_on in
     let judged = c.in_ok-judged.ensures.same.stands k stood in
@@ -58,23 +58,24 @@ returns-clause-listed g c = λ clean e k more stood stands knows united.
           subst (λ (xs : List Step). AreLatestSteps n rows k.moment xs) steps
           (subst₂ (λ (xs : List ℕ) (t : Option ℤ). AreLatestSteps n xs t c.in_ok-new.new.items) c.deref-2.ensures.value (c.in_ok-moment.ensures.moment seen_on k judged) c.in_ok-new.ensures.steps);
       planned = c.in_ok-plan.ensures.planned planned_on k (amended_bodies n k.parked (length k.listed) k.bodies) seen
-          (λ r. sym (ap (λ (m : List MRow). amended_bodies m k.parked (length c.rows-from.result.now) k.bodies r) c.rows-2.ensures.rows ∙ ap (λ (m : List MRow). amended_bodies n k.parked (length m) k.bodies r) first));
+          (λ r. sym (ap (λ (m : List MRow). amended_bodies m k.parked (length c.rows-from.result.now) k.bodies r) c.rows-2.ensures.rows ∙ ap (λ (m : List MRow). amended_bodies n k.parked (length m) k.bodies r) first))
+          (ap (λ v. v.items) c.replace-old.ensures.value ∙ knows.chain);
     } in
     let before = deposits_of reading k.bodies k.steps in
     let amends = is_amendment e k more n known told rows plan is in
     let moves = is_moved_from e k more n known told rows plan is in
     let stood_then = stands_then e k more n known told rows plan is c.latest_chain_at_rows_are_held.ensures in
     let here = c.in_ok-plan.ensures.same.stands k seen in
-    if_ok_at c.list_rows.result _ (λ work done. record {
+    if_ok_at c.list_rows-work.result _ (λ work done. record {
       serves = record {
         kept = _;
-        stands = IfOk-at_ok _ done c.list_rows.ensures.listed clean k before more amends moves here;
+        stands = IfOk-at_ok _ done c.list_rows-work.ensures.listed clean k before more amends moves here;
         stands_for = stood_then;
       };
-      knows = knows_then e k more n known told rows plan is _ refl refl;
+      knows = knows_then e k more n known told rows plan is _ refl refl refl;
       works = works_then e k more n known told rows plan is c.latest_chain_at_rows_are_held.ensures c.read_deposits_mention_few.ensures c.in_ok-plan.ensures.few (subst (λ (xs : List Step). length xs ≤ 4096) steps c.in_ok-new.ensures.few) work
-          (IfOk-at_ok _ done c.list_rows.ensures.worked clean k before moves here);
-      left = leaves_for g.S.Store _ _ _ stood_then (IfOk-at_ok _ done c.list_rows.ensures.left clean k before more amends moves here);
+          (IfOk-at_ok _ done c.list_rows-work.ensures.worked clean k before moves here);
+      left = leaves_for g.S.Store _ _ _ stood_then (IfOk-at_ok _ done c.list_rows-work.ensures.left clean k before more amends moves here);
     })
 
 pub returns-clause-crash : goal.returns-clause-crash
@@ -84,7 +85,7 @@ returns-clause-crash g c = λ clean e k more stood stands knows united.
     let told = c.in_ok-judged.judged in
     let rows = c.append_rows.new.rows.items in
     let plan = c.in_ok-plan.plan in
-    let planned_on = c.list_rows.ensures.honest clean in
+    let planned_on = c.list_rows-work.ensures.honest clean in
     let seen_on = was_honest g.S.Store _ _ c.in_ok-plan.ensures.same planned_on in
     let judged_on = was_honest g.S.Store _ _ c.in_ok-moment.ensures.same seen_on in
     let judged = c.in_ok-judged.ensures.same.stands k stood in
@@ -103,8 +104,9 @@ returns-clause-crash g c = λ clean e k more stood stands knows united.
           subst (λ (xs : List Step). AreLatestSteps n rows k.moment xs) steps
           (subst₂ (λ (xs : List ℕ) (t : Option ℤ). AreLatestSteps n xs t c.in_ok-new.new.items) c.deref-2.ensures.value (c.in_ok-moment.ensures.moment seen_on k judged) c.in_ok-new.ensures.steps);
       planned = c.in_ok-plan.ensures.planned planned_on k (amended_bodies n k.parked (length k.listed) k.bodies) seen
-          (λ r. sym (ap (λ (m : List MRow). amended_bodies m k.parked (length c.rows-from.result.now) k.bodies r) c.rows-2.ensures.rows ∙ ap (λ (m : List MRow). amended_bodies n k.parked (length m) k.bodies r) first));
+          (λ r. sym (ap (λ (m : List MRow). amended_bodies m k.parked (length c.rows-from.result.now) k.bodies r) c.rows-2.ensures.rows ∙ ap (λ (m : List MRow). amended_bodies n k.parked (length m) k.bodies r) first))
+          (ap (λ v. v.items) c.replace-old.ensures.value ∙ knows.chain);
     } in
     adds_then g.S.Store _ _ _ _ _ (as_before_then g.S.Store _ _ _ (as_before_then g.S.Store _ _ _ c.in_ok-judged.ensures.same c.in_ok-moment.ensures.same) c.in_ok-plan.ensures.same).survives
     (adds_for g.S.Store _ _ _ _ _ (stands_then e k more n known told rows plan is c.latest_chain_at_rows_are_held.ensures)
-    (c.list_rows.ensures.crash clean k (deposits_of reading k.bodies k.steps) more (is_amendment e k more n known told rows plan is) (is_moved_from e k more n known told rows plan is) (c.in_ok-plan.ensures.same.stands k seen)))
+    (c.list_rows-work.ensures.crash clean k (deposits_of reading k.bodies k.steps) more (is_amendment e k more n known told rows plan is) (is_moved_from e k more n known told rows plan is) (c.in_ok-plan.ensures.same.stands k seen)))

@@ -29,7 +29,7 @@ returns-in_ok-number-in-Unreadable-clause-kept g c = λ clean e n k stood is.
     let receipt = c.args.receipt.now in
     let none = refused_row found c.in-Unreadable.is in
     let stands = stands_noted e a k found known receipt is (refused_listed found c.in-Unreadable.is) (λ q here. absurd (no_answer (sym none ∙ here))) in
-    kept_noted g.S.Store _ e a k found known known receipt is Needless stands is.known_is.held (told_still e a k found known receipt is none)
+    kept_noted g.S.Store _ e a k found known known receipt is Needless stands is.known_is.held (told_still e a k found known receipt is none) is.known_is.chain
     (c.in_ok-number-in-Unreadable.ensures.recorded clean k stood) (c.in_ok-number-in-Unreadable.ensures.left k stood)
 
 pub returns-in_ok-number-in-Unreadable-clause-crash : goal.returns-in_ok-number-in-Unreadable-clause-crash

@@ -1,14 +1,13 @@
-use Rattle.std.proofs.Common.{rules, ℕ, List, IsSome, nat_eq, sym, ap, subst, ◌∙◌}
+use Rattle.std.proofs.Common.{rules, ℕ, IsSome, nat_eq, sym, ap, subst, ◌∙◌}
 use Rattle.std.specs.List.{list_any}
 use Rattle.std.proofs.lemmas.Result.{IfOk-weaker}
-use Rattle.esc_store.specs.Kept.{AreHeld, body_put}
 use Rattle.esc_events.specs.ArrivalValue.{an_arrival}
 use Rattle.esc_events.specs.declared.finding.Finding.TheVariants.{Holding}
 use Rattle.esc_events.specs.declared.parking.Parking.TheVariants.{Needless}
 use Rattle.esc_events.proofs.Searches.{same_answer}
 use Rattle.esc_desk.proofs.CrashLemmas.{adds_at_rest, adds_as, adds_for}
 use Rattle.esc_desk.proofs.CrashSteps.{not_full_by}
-use Rattle.esc_desk.proofs.Holding.{holding_listed, stands_noted, kept_noted, told_held, kept_held}
+use Rattle.esc_desk.proofs.Holding.{holding_listed, stands_noted, kept_noted, told_held}
 use Rattle.esc_desk.proofs.KnownRows.{contained, no_body, held_more}
 use Rattle.esc_desk.proofs.keeping.keep_held.Goals as goal
 
@@ -35,7 +34,7 @@ returns-then-contains-clause-kept g c = λ clean e n k stood is.
     let some = (is.known_is.held.each row).0 (contained known.held.items row any) in
     let stands = stands_noted e a k found known receipt is (holding_listed row c.args.deposit) (λ q here. subst (λ (r : ℕ). IsSome (k.bodies r)) (same_answer here) some) in
     kept_noted g.S.Store _ e a k found known _ receipt is Needless stands is.known_is.held
-    (told_held e a k row c.args.deposit known receipt is c.insert_row.new.rows.items (c.in_ok-insert_row.ensures is.known_is.told.rising))
+    (told_held e a k row c.args.deposit known receipt is c.insert_row.new.rows.items (c.in_ok-insert_row.ensures is.known_is.told.rising)) is.known_is.chain
     (c.in_ok-number.ensures.recorded clean k stood) (c.in_ok-number.ensures.left k stood)
 
 pub returns-then-contains-clause-crash : goal.returns-then-contains-clause-crash
@@ -52,27 +51,23 @@ returns-in_err-insert_row-2-clause-crash g c = λ clean e n k stood is. adds_at_
 
 pub returns-clause-kept : goal.returns-clause-kept
 returns-clause-kept g c = IfOk-weaker c.keep_deposit.result _ _ (λ p made. λ clean e n k stood is.
-    let a = an_arrival n c.args.body.now in
     let row = c.args.row in
     let known = c.args.known.now in
-    let receipt = c.args.receipt.now in
-    let bodies = body_put k.bodies row a.body in
     let other = ap (list_any (λ q. nat_eq q row)) (sym c.deref.ensures.value) ∙ sym c.if-contains.ensures.value in
-    let none = no_body k.bodies known.held.items is.known_is.held row other in
-    let held = held_more k.bodies row a.body known.held.items c.insert_row-2.new.rows.items is.known_is.held (c.in_ok-insert_row-2.ensures is.known_is.held.rising) in
-    kept_held g.S.Store _ e a k row receipt p.1 _
-    (made clean e n k known stood none is (subst (λ (rows : List ℕ). AreHeld bodies rows) (sym c.deref-2.ensures.value) held))
-    held
-    (told_held e a k row c.args.deposit known receipt is c.insert_row.new.rows.items (c.in_ok-insert_row.ensures is.known_is.told.rising)))
+    made clean e n k known stood (no_body k.bodies known.held.items is.known_is.held row other) is (record {
+      held = held_more k.bodies row c.args.body.now known.held.items c.insert_row-2.new.rows.items is.known_is.held (c.in_ok-insert_row-2.ensures is.known_is.held.rising);
+      told = told_held e (an_arrival n c.args.body.now) k row c.args.deposit known c.args.receipt.now is c.insert_row.new.rows.items (c.in_ok-insert_row.ensures is.known_is.told.rising);
+      chain = is.known_is.chain;
+    }))
     c.keep_deposit.ensures.kept
 
 pub returns-clause-crash : goal.returns-clause-crash
 returns-clause-crash g c = λ clean e n k stood is.
-    let body = c.args.body.now in
     let row = c.args.row in
     let known = c.args.known.now in
-    let bodies = body_put k.bodies row body in
     let other = ap (list_any (λ q. nat_eq q row)) (sym c.deref.ensures.value) ∙ sym c.if-contains.ensures.value in
-    let none = no_body k.bodies known.held.items is.known_is.held row other in
-    let held = held_more k.bodies row body known.held.items c.insert_row-2.new.rows.items is.known_is.held (c.in_ok-insert_row-2.ensures is.known_is.held.rising) in
-    c.keep_deposit.ensures.crash clean e n k known stood none is (subst (λ (rows : List ℕ). AreHeld bodies rows) (sym c.deref-2.ensures.value) held)
+    c.keep_deposit.ensures.crash clean e n k known stood (no_body k.bodies known.held.items is.known_is.held row other) is (record {
+      held = held_more k.bodies row c.args.body.now known.held.items c.insert_row-2.new.rows.items is.known_is.held (c.in_ok-insert_row-2.ensures is.known_is.held.rising);
+      told = told_held e (an_arrival n c.args.body.now) k row c.args.deposit known c.args.receipt.now is c.insert_row.new.rows.items (c.in_ok-insert_row.ensures is.known_is.told.rising);
+      chain = is.known_is.chain;
+    })

@@ -29,7 +29,7 @@ returns-clause-kept g c = λ clean e n k stood is.
     let there = c.in_ok-parking.ensures.same.stands k stood in
     let at = subst (λ (d : List ℕ). IsParking k.parked d c.in_ok-parking.parking) (ap (λ (r : ReceiptValue). r.digest) c.receipt.view_is) (c.in_ok-parking.ensures.parking (c.in_ok-number.ensures.honest clean) k stood) in
     kept_noted g.S.Store _ e a k Unlisted known known receipt is parking (stands_parked e a k known receipt is parking at c.in_ok-number.ensures.place)
-    is.known_is.held (told_still e a k Unlisted known receipt is refl) (c.in_ok-number.ensures.recorded clean k there) (c.in_ok-number.ensures.left k there)
+    is.known_is.held (told_still e a k Unlisted known receipt is refl) is.known_is.chain (c.in_ok-number.ensures.recorded clean k there) (c.in_ok-number.ensures.left k there)
 
 pub returns-clause-crash : goal.returns-clause-crash
 returns-clause-crash g c = λ clean e n k stood is.

@@ -1,9 +1,10 @@
-use Rattle.std.proofs.Common.{rules, ◌≤◌, List, [], ◌∷◌, ◌++◌, length, refl, ap, sym, subst}
+use Rattle.std.proofs.Common.{rules, ◌≤◌, List, [], ◌∷◌, ◌++◌, length, map, refl, ap, sym, subst, ◌∙◌}
 use Rattle.esc_tables.specs.Reading.{reading}
 use Rattle.esc_apply.specs.declared.front.Step.{Step}
-use Rattle.esc_store.specs.Kept.{with_moment}
+use Rattle.esc_manifest.specs.declared.row.MRow.{MRow}
+use Rattle.esc_store.specs.Kept.{with_moment, step_at}
 use Rattle.esc_events.specs.Events.EventValue.{moved}
-use Rattle.esc_events.specs.Plans.{AreLatestSteps, moved_by}
+use Rattle.esc_events.specs.Plans.{AreLatestSteps, rows_in, moved_by}
 use Rattle.esc_events.specs.Stands.{deposits_of}
 use Rattle.esc_events.proofs.Moving.{moved_from}
 use Rattle.esc_desk.proofs.StoreFacts.{was_honest}
@@ -38,7 +39,7 @@ returns-in_err-work-clause-crash g c = λ e doubtful served left.
     let there = c.in_ok-known.ensures.same.stands k served.serves.stands in
     let before = c.in_ok-plan.ensures.same.stands k there in
     let is = c.in_ok-known.ensures.known (was_honest g.S.Store _ _ c.in_ok-plan.ensures.same honest) e k served.serves.stands stood served.remembers in
-    let planned = c.in_ok-plan.ensures.planned honest k k.bodies there (λ r. refl) in
+    let planned = c.in_ok-plan.ensures.planned honest k k.bodies there (λ r. refl) (ap (λ v. v.items) c.replace-old.ensures.value ∙ is.chain) in
     let new = ap (λ v. v.items) (sym c.in_ok-plan.ensures.new) in
     let latest = subst (λ (steps : List Step). AreLatestSteps c.manifest.result.now c.deref.result.now c.args.moment steps) new c.in_ok-new.ensures.steps in
     let move = moment_move e k c.args.moment stood known is plan _ _ (c.manifest.ensures.kept k there) c.deref.ensures.value latest planned in
@@ -58,14 +59,14 @@ returns-clause-set g c = λ clean e served.
     let there = c.in_ok-known.ensures.same.stands k served.serves.stands in
     let before = c.in_ok-plan.ensures.same.stands k there in
     let is = c.in_ok-known.ensures.known (was_honest g.S.Store _ _ c.in_ok-plan.ensures.same honest) e k served.serves.stands stood served.remembers in
-    let planned = c.in_ok-plan.ensures.planned honest k k.bodies there (λ r. refl) in
+    let planned = c.in_ok-plan.ensures.planned honest k k.bodies there (λ r. refl) (ap (λ v. v.items) c.replace-old.ensures.value ∙ is.chain) in
     let new = ap (λ v. v.items) (sym c.in_ok-plan.ensures.new) in
     let latest = subst (λ (steps : List Step). AreLatestSteps c.manifest.result.now c.deref.result.now c.args.moment steps) new c.in_ok-new.ensures.steps in
     let move = moment_move e k c.args.moment stood known is plan _ _ (c.manifest.ensures.kept k there) c.deref.ensures.value latest planned in
     let stands = c.chain_after_an_event.ensures.moved c.latest_chain_at_rows_are_held.ensures e (moved c.args.moment) k l [] known.held.items k.bodies plan move in
     record {
       serves = record { kept = moved_by plan l was; stands = c.in_ok-work.ensures.set clean k was (moved_from e k k.bodies plan stood planned) before; stands_for = stands };
-      remembers = record { held = is.held; told = is.told };
+      remembers = record { held = is.held; told = is.told; chain = latest.are_steps ∙ ap (λ (m : List MRow). map (step_at m) (rows_in plan.new.items)) (c.manifest.ensures.kept k there) };
     }
 
 pub returns-clause-worked : goal.returns-clause-worked
@@ -80,7 +81,7 @@ returns-clause-worked g c = λ clean e served.
     let there = c.in_ok-known.ensures.same.stands k served.serves.stands in
     let before = c.in_ok-plan.ensures.same.stands k there in
     let is = c.in_ok-known.ensures.known (was_honest g.S.Store _ _ c.in_ok-plan.ensures.same honest) e k served.serves.stands stood served.remembers in
-    let planned = c.in_ok-plan.ensures.planned honest k k.bodies there (λ r. refl) in
+    let planned = c.in_ok-plan.ensures.planned honest k k.bodies there (λ r. refl) (ap (λ v. v.items) c.replace-old.ensures.value ∙ is.chain) in
     let new = ap (λ v. v.items) (sym c.in_ok-plan.ensures.new) in
     let latest = subst (λ (steps : List Step). AreLatestSteps c.manifest.result.now c.deref.result.now c.args.moment steps) new c.in_ok-new.ensures.steps in
     let few_new = subst (λ (steps : List Step). length steps ≤ 4096) new c.in_ok-new.ensures.few in
@@ -100,7 +101,7 @@ returns-clause-crash g c = λ e doubtful served left. if_clean g.S.Store _ _ _ (
     let there = c.in_ok-known.ensures.same.stands k served.serves.stands in
     let before = c.in_ok-plan.ensures.same.stands k there in
     let is = c.in_ok-known.ensures.known (was_honest g.S.Store _ _ c.in_ok-plan.ensures.same honest) e k served.serves.stands stood served.remembers in
-    let planned = c.in_ok-plan.ensures.planned honest k k.bodies there (λ r. refl) in
+    let planned = c.in_ok-plan.ensures.planned honest k k.bodies there (λ r. refl) (ap (λ v. v.items) c.replace-old.ensures.value ∙ is.chain) in
     let new = ap (λ v. v.items) (sym c.in_ok-plan.ensures.new) in
     let latest = subst (λ (steps : List Step). AreLatestSteps c.manifest.result.now c.deref.result.now c.args.moment steps) new c.in_ok-new.ensures.steps in
     let move = moment_move e k c.args.moment stood known is plan _ _ (c.manifest.ensures.kept k there) c.deref.ensures.value latest planned in

@@ -10,4 +10,4 @@ loop-at-preserved c = λ rows e. c.in_ok-push.ensures.items ∙ one_step _ _ row
 
 pub returns-clause-steps : goal.returns-clause-steps
 returns-clause-steps c = λ rows e. c.loop-at.invariant rows e ∙ ap (map (step_at c.args.manifest.now))
-    (take_all c.loop-at.at rows (let size = same_length c.args.stored.now rows e in let past = c.loop-at-test.false in omega arith))
+    (take_all c.loop-at.at rows (let size = same_length 1 c.args.stored.now rows e in let past = c.loop-at-test.false in omega arith))

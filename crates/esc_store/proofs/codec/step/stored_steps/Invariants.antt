@@ -1,7 +1,7 @@
-use Rattle.std.proofs.Common.{◌≡◌, map, take}
+use Rattle.std.proofs.Common.{◌≡◌, ◌+◌, map, take}
 use Rattle.esc_rows.specs.Entries.{step_row}
 use Rattle.esc_store.specs.TypedRows.{steps_from}
 use Rattle.esc_store.proofs.codec.step.stored_steps.Given as goal
 
 abbrev pub invariant-loop-at : goal.invariant-loop-at
-invariant-loop-at l = map step_row l.stored.items ≡ steps_from 1 (take l.at (map (λ step. step.row) l.steps))
+invariant-loop-at l = map step_row l.stored.items ≡ steps_from (l.front + 1) (take l.at (map (λ step. step.row) l.steps))
