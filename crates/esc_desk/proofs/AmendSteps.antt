@@ -46,7 +46,7 @@ pub record IsListing (e : List EventValue) (k : Kept) (more n : List MRow) (know
   pub latest : AreLatestSteps n rows k.moment plan.new.items
   pub planned : IsPlanned k (amended_bodies n k.parked (length k.listed) k.bodies) plan
 
-module _ (e : List EventValue) (k : Kept) (more n : List MRow) (known : Known) (told : Judged) (rows : List ℕ) (plan : Plan) (is : IsListing e k more n known told rows plan) where
+module _ {e : List EventValue} {k : Kept} {more n : List MRow} {known : Known} {told : Judged} {rows : List ℕ} {plan : Plan} (is : IsListing e k more n known told rows plan) where
   abbrev from : ℕ
   from = length k.listed
 
@@ -98,15 +98,17 @@ module _ (e : List EventValue) (k : Kept) (more n : List MRow) (known : Known) (
   is_moved_from = moved_from e k (amended_bodies n k.parked from k.bodies) plan is.stood is.planned
 
   pub stands_then : LatestChainsAtAreHeldRows → StandsFor sha256 reading (e ++ listed more ∷ []) (moved_by plan l (deposits_of reading k.bodies k.steps))
-  stands_then law = stands_moved law e (listed more) k l is.stood books (new_rows k.listed more) stays.0 keeps rows held (amended_bodies n k.parked from k.bodies) same plan latest is.planned
+  stands_then law = stands_moved law e (listed more) k l is.stood books (new_rows k.listed more) stays.0 keeps
+      rows held (amended_bodies n k.parked from k.bodies) same plan latest is.planned
 
   pub works_then : LatestChainsAtAreHeldRows → MentionsFew → length plan.old.items ≤ 4096 → length plan.new.items ≤ 4096 → (work : Work)
       → IsCostOfMove plan (deposits_of reading k.bodies k.steps) work → IsWorkOf e (listed more) work
-  works_then law mentions few_old few_new work cost =
-      works_moved law e (listed more) k l is.stood books (new_rows k.listed more) stays.0 keeps rows held (amended_bodies n k.parked from k.bodies) same plan latest is.planned mentions few_old few_new work cost
+  works_then law mentions few_old few_new work cost = works_moved law e (listed more) k l is.stood books (new_rows k.listed more) stays.0 keeps
+      rows held (amended_bodies n k.parked from k.bodies) same plan latest is.planned mentions few_old few_new work cost
 
   -- what is known of the rows then: the receipts are those that there were
-  pub knows_then : (then : Known) → then.held.items ≡ rows → then.told.items ≡ known.told.items → then.chain.items ≡ plan.new.items → IsKnown (moved_by plan l (deposits_of reading k.bodies k.steps)) then
+  pub knows_then : (then : Known) → then.held.items ≡ rows → then.told.items ≡ known.told.items → then.chain.items ≡ plan.new.items
+      → IsKnown (moved_by plan l (deposits_of reading k.bodies k.steps)) then
   knows_then then held_is told_is chain_is = record {
     held = subst (AreHeld l.bodies) (sym held_is) held;
     told = subst (λ (rs : List ReceiptValue). AreHeldBy rs then.told.items) (sym stays.1) (subst (AreHeldBy k.receipts) (sym told_is) is.knows.told);

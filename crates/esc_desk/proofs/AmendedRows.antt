@@ -1,8 +1,10 @@
 -- New rows whose parked bodies are adopted: no body was held of them, each is there once, and behind the rows that had a body they are those that have one then.
-use Rattle.std.proofs.Common.{◌≡◌, ◌≢◌, ◌⊎◌, inl, inr, ℕ, zero, suc, ◌+◌, ◌-◌, ◌<◌, ◌≤◌, Bool, true, false, cond, filter, List, [], ◌∷◌, ◌++◌, length, nat_lt, Option, Some, None, is_some, IsSome, refl, sym, ap, ap₂, ◌∙◌, arith, true≢false}
+use Rattle.std.proofs.Common.{◌≡◌, ◌≢◌, ◌⊎◌, inl, inr, ℕ, zero, suc, ◌+◌, ◌-◌, ◌<◌, ◌≤◌, Bool, true, false, cond, filter, List, [], ◌∷◌, ◌++◌, length, nat_lt}
+use Rattle.std.proofs.Common.{Option, Some, None, is_some, IsSome, refl, sym, ap, ap₂, ◌∙◌, arith, true≢false}
 use Rattle.std.specs.List.{All, Contains}
 use Rattle.std.proofs.lemmas.Bool.Decides.{nat_tests}
-use Rattle.std.proofs.lemmas.List.Elements.{All-nil, All-cons, All-head, All-tail, All-append, All-weaker, All-filter, All-contains, All-contains_itself, filter_passes, Contains-append_left, Contains-append_right, Contains-append_cases}
+use Rattle.std.proofs.lemmas.List.Elements.{All-nil, All-cons, All-head, All-tail, All-append, All-weaker, All-filter, All-contains, All-contains_itself}
+use Rattle.std.proofs.lemmas.List.Elements.{filter_passes, Contains-append_left, Contains-append_right, Contains-append_cases}
 use Rattle.esc_manifest.specs.declared.row.MRow.{MRow}
 use Rattle.esc_manifest.specs.Rows.{row_at}
 use Rattle.esc_store.specs.Kept.{Kept, IsRising, AreHeld}
@@ -122,7 +124,8 @@ module _ (n : List MRow) (k : Kept) (few : (r : ℕ) (body : List ℕ) → k.bod
               ap (λ (t : Bool). is_some (cond t (k.bodies r) (cond (nat_lt r (length n)) (judged n r (k.parked (row_at n r).digest)) None))) old ∙ some
           by_place (inr new) =
               let at = All-contains (IsWithin from (length n - from)) adopted r adopted_within new in
-              let passes : is_adopted n k.parked r ≡ true = All-contains (λ q. is_adopted n k.parked q ≡ true) adopted r (filter_passes (is_adopted n k.parked) (numbers_from from (length n - from))) new in
+              let all_pass = filter_passes (is_adopted n k.parked) (numbers_from from (length n - from)) in
+              let passes : is_adopted n k.parked r ≡ true = All-contains (λ q. is_adopted n k.parked q ≡ true) adopted r all_pass new in
               let far : nat_lt r from ≡ false = grind (arith, nat_tests, at.0) in
               let inside : nat_lt r (length n) ≡ true = let lt : r < length n = omega (arith, at.0, at.1) in grind (arith, nat_tests, lt) in
               ap₂ (λ (s t : Bool). is_some (cond s (k.bodies r) (cond t (judged n r (k.parked (row_at n r).digest)) None))) far inside ∙ passes
@@ -136,5 +139,6 @@ module _ (n : List MRow) (k : Kept) (few : (r : ℕ) (body : List ℕ) → k.bod
           by_tests false new true lt has =
               let far : from ≤ r = grind (arith, nat_tests, new) in
               let inside : r < length n = grind (arith, nat_tests, lt) in
-              Contains-append_right held adopted r (in_filter (is_adopted n k.parked) (numbers_from from (length n - from)) r (in_numbers from (length n - from) r far (omega (arith, far, inside))) has)
+              let among = in_numbers from (length n - from) r far (omega (arith, far, inside)) in
+              Contains-append_right held adopted r (in_filter (is_adopted n k.parked) (numbers_from from (length n - from)) r among has)
           by_tests false new false lt has = absurd (true≢false (sym has))

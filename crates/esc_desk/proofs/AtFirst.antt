@@ -64,13 +64,17 @@ no_moment : (m : List MRow) (l : List ArrivalValue) → moment_of (manifest_then
 no_moment m l = arrivals_set_none l
 
 pub left_by_arrivals : AreLeftByArrivals
-left_by_arrivals m l k stood apart = record {
-  listed = stood.books.listed ∙ union_then m l;
-  receipts = stood.books.receipts ∙ ap (λ (cs : List Coming). receipts_after sha256 reading [] (distinct sha256 reading cs)) (comings_then m l);
-  chain =
-      subst (λ (t : Option ℤ). IsLatestChainAt m (set.from_list (rows_of sha256 reading m (came_with m l))) t k.steps) (no_moment m l)
-      (subst (λ (cs : List Coming). IsLatestChainAt m (set.from_list (rows_of sha256 reading m cs)) (moment_of (manifest_then m l)) k.steps) (counted_then m l)
-      (subst (λ (n : List MRow). IsLatestChainAt n (set.from_list (rows_of sha256 reading n (counted sha256 reading (manifest_then m l)))) (moment_of (manifest_then m l)) k.steps) (union_then m l)
-      (chain_of (manifest_then m l) k stood apart)));
-  registry = stood.registry ∙ ap (λ (ds : List DepositValue). chain_state ds) (same_deposits k.bodies (held_body sha256 reading (manifest_then m l)) (stood.books.bodies apart) k.steps);
-}
+left_by_arrivals m l k stood apart =
+    let e = manifest_then m l in
+    let rows : List MRow → List Coming → Rows = λ n cs. set.from_list (rows_of sha256 reading n cs) in
+    let deposits = same_deposits k.bodies (held_body sha256 reading e) (stood.books.bodies apart) k.steps in
+    record {
+      listed = stood.books.listed ∙ union_then m l;
+      receipts = stood.books.receipts ∙ ap (λ (cs : List Coming). receipts_after sha256 reading [] (distinct sha256 reading cs)) (comings_then m l);
+      chain =
+          subst (λ (t : Option ℤ). IsLatestChainAt m (rows m (came_with m l)) t k.steps) (no_moment m l)
+          (subst (λ (cs : List Coming). IsLatestChainAt m (rows m cs) (moment_of e) k.steps) (counted_then m l)
+          (subst (λ (n : List MRow). IsLatestChainAt n (rows n (counted sha256 reading e)) (moment_of e) k.steps) (union_then m l)
+          (chain_of e k stood apart)));
+      registry = stood.registry ∙ ap (λ (ds : List DepositValue). chain_state ds) deposits;
+    }

@@ -1,5 +1,33 @@
 -- An arrival that comes again after it was answered A2: its body is there or needn't be, or it is taken in.
-use Rattle.std.proofs.Common.{◌≡◌, ◌⊎◌, inl, inr, ℕ, ℤ, Bool, true, false, cond, ◌==◌, List, [], ◌∷◌, ◌++◌, Option, Some, None, IsSome, IfSome, is_some, Result, Ok, Err, IfOk, refl, sym, ap, subst, ◌∙◌, append-nil, true≢false}
+use Rattle.std.proofs.Common.{
+  ◌≡◌,
+  ◌⊎◌,
+  inl,
+  inr,
+  ℕ,
+  ℤ,
+  true,
+  List,
+  [],
+  ◌∷◌,
+  ◌++◌,
+  Option,
+  Some,
+  None,
+  IsSome,
+  IfSome,
+  is_some,
+  Result,
+  Ok,
+  Err,
+  IfOk,
+  refl,
+  sym,
+  ap,
+  subst,
+  ◌∙◌,
+  true≢false,
+}
 use Rattle.std.specs.Prelude.{OnOk}
 use Rattle.std.specs.List.{list_any}
 use Rattle.std.specs.Str.{bytes_eq}
@@ -39,7 +67,7 @@ use Rattle.esc_events.specs.Taking.{IsAgain}
 use Rattle.esc_events.specs.Works.{IsIdle, no_work}
 use Rattle.esc_events.proofs.Distinct.{both}
 use Rattle.esc_events.proofs.EventLemmas.{union-arrived}
-use Rattle.esc_events.proofs.HeldRows.{is_row_of, same_number, listed_row}
+use Rattle.esc_events.proofs.HeldRows.{is_row_of, listed_row}
 use Rattle.esc_events.proofs.Lost.{alike_counts, came_counts}
 use Rattle.esc_events.proofs.Members.{any_of, distinct_among}
 use Rattle.esc_events.proofs.Moving.{apart_before, stands_still, no_work_of}
@@ -51,8 +79,9 @@ use Rattle.esc_desk.specs.Again.{IsUnkept, IsMissing, IsMissingAfter}
 use Rattle.esc_desk.specs.Crashes.{LeavesOnlyFor}
 use Rattle.esc_desk.specs.Sources.{IsSource}
 use Rattle.esc_desk.specs.Takings.{LeavesWith, IsTakenAgain, IsAnsweredAgain}
-use Rattle.esc_desk.proofs.CrashLemmas.{at_rest, leaves_with_nothing, leaves_with_only, leaves_with_then}
-use Rattle.esc_desk.proofs.Holding.{IsRefused, refused_listed, refused_row, reads_of}
+use Rattle.esc_desk.proofs.CrashLemmas.{leaves_with_nothing, leaves_with_only, leaves_with_then}
+use Rattle.esc_desk.proofs.CrashSteps.{at_rest}
+use Rattle.esc_desk.proofs.Holding.{IsRefused, refused_listed, refused_row, source_of, move_to}
 use Rattle.esc_desk.proofs.KnownRows.{put_at}
 use Rattle.esc_desk.proofs.Likeness.{AddsNothing, seen, still_stands}
 use Rattle.esc_desk.proofs.RunLemmas.{reply_stays}
@@ -69,16 +98,21 @@ module _ (e : List EventValue) (a : ArrivalValue) (k : Kept) (found : Finding) (
 
   -- a row lists it
   some_row : (found ≡ Unlisted → ⊥) → (q : ℕ) × (row_of (union e) (sha256 a.body) ≡ Some q)
-  some_row listed = by_row (row_of (union e) (sha256 a.body)) (listed_row (union e) (row_of (union e) (sha256 a.body)) (reading a.body) (λ unlisted. listed (is.found_is ∙ unlisted)))
+  some_row listed =
+      let row = row_of (union e) (sha256 a.body) in
+      by_row row (listed_row (union e) row (reading a.body) (λ unlisted. listed (is.found_is ∙ unlisted)))
     where
       by_row : (o : Option ℕ) → is_some o ≡ true → (q : ℕ) × (o ≡ Some q)
       by_row None some = absurd (true≢false (sym some))
       by_row (Some q) some = (q, refl)
 
-  held_already : (row : ℕ) → IsSome (k.bodies row) → list_any (holds_by sha256 reading (union e) row) (counted sha256 reading e) ≡ true
+  abbrev IsHeldAlready : ℕ → Type 0
+  IsHeldAlready row = list_any (holds_by sha256 reading (union e) row) (counted sha256 reading e) ≡ true
+
+  held_already : (row : ℕ) → IsSome (k.bodies row) → IsHeldAlready row
   held_already row some = by_body (k.bodies row) refl some
     where
-      by_body : (o : Option (List ℕ)) → k.bodies row ≡ o → IsSome o → list_any (holds_by sha256 reading (union e) row) (counted sha256 reading e) ≡ true
+      by_body : (o : Option (List ℕ)) → k.bodies row ≡ o → IsSome o → IsHeldAlready row
       by_body None at some = absurd (true≢false (sym some))
       by_body (Some body) at some =
           let came = is.stood.books.came row body at in
@@ -98,26 +132,30 @@ module _ (e : List EventValue) (a : ArrivalValue) (k : Kept) (found : Finding) (
       by_body None at some = absurd (true≢false (sym some))
       by_body (Some body) at some =
           let came = is.stood.books.waits (sha256 a.body) body at in
+          let under = (bytes_decides (sha256 came.arrival.body) (sha256 a.body)).1 came.digest_is in
           record {
             alike = seen e a reply told_again;
-            there = inl (any_of (has_digest sha256 reading (sha256 a.body)) (counted sha256 reading e) came.arrival came.among ((bytes_decides (sha256 came.arrival.body) (sha256 a.body)).1 came.digest_is));
+            there = inl (any_of (has_digest sha256 reading (sha256 a.body)) (counted sha256 reading e) came.arrival came.among under);
           }
 
   pub nothing_refused : IsRefused found → AddsNothing e a
   nothing_refused refused = nothing_listed (refused_listed found refused) (λ q here. absurd (no_answer (sym (refused_row found refused) ∙ here)))
 
 -- it is like an earlier one that wasn't answered A2
-pub nothing_repeated : (e : List EventValue) (a : ArrivalValue) (k : Kept) → AreBooks sha256 reading e k → (y : ReplyValue) → reply_alike (union e) 1 a.number (sha256 a.body) k.receipts ≡ Some y → (y.verdict ≡ A2 → ⊥) → AddsNothing e a
+pub nothing_repeated : (e : List EventValue) (a : ArrivalValue) (k : Kept) → AreBooks sha256 reading e k
+    → (y : ReplyValue) → reply_alike (union e) 1 a.number (sha256 a.body) k.receipts ≡ Some y → (y.verdict ≡ A2 → ⊥) → AddsNothing e a
 nothing_repeated e a k books y there other =
-    let came = coming (union e) a in
-    let told : reply_to sha256 reading e a ≡ Some y = ap (reply_alike (union e) 1 a.number (sha256 a.body)) (sym books.receipts) ∙ there in
-    let x = alike_counts sha256 reading (union e) came 1 [] (distinct sha256 reading (comings e)) y told other in
-    let counts = came_counts sha256 reading e x.0 (distinct_among sha256 reading (comings e) x.0 x.1) x.3 in
-    let like = both (bytes_eq a.number x.0.number) (bytes_eq (sha256 a.body) (sha256 x.0.body)) x.2 in
+    let digest = sha256 a.body in
+    let told : reply_to sha256 reading e a ≡ Some y = ap (reply_alike (union e) 1 a.number digest) (sym books.receipts) ∙ there in
+    let x = alike_counts sha256 reading (union e) (coming (union e) a) 1 [] (distinct sha256 reading (comings e)) y told other in
+    let first = x.0 in
+    let counts = came_counts sha256 reading e first (distinct_among sha256 reading (comings e) first x.1) x.3 in
+    let like = both (bytes_eq a.number first.number) (bytes_eq digest (sha256 first.body)) x.2 in
+    let same : sha256 first.body ≡ digest = sym ((bytes_decides digest (sha256 first.body)).0 like.1) in
+    let under = (bytes_decides (sha256 first.body) digest).1 same in
     record {
       alike = seen e a y told;
-      there = inl (any_of (has_digest sha256 reading (sha256 a.body)) (counted sha256 reading e) x.0 counts
-          ((bytes_decides (sha256 x.0.body) (sha256 a.body)).1 (sym ((bytes_decides (sha256 a.body) (sha256 x.0.body)).0 like.1))));
+      there = inl (any_of (has_digest sha256 reading digest) (counted sha256 reading e) first counts under);
     }
 
 -- what is missing after the events is so in a store that stands for them
@@ -125,14 +163,16 @@ pub missing_of : (e : List EventValue) (a : ArrivalValue) (k : Kept) → AreBook
     → IsMissing k.bodies k.parked (sha256 a.body) (finding sha256 reading (union e) a.body)
 missing_of e a k books apart missing = by_found (finding sha256 reading (union e) a.body) missing
   where
-    by_found : (f : Finding) → IsMissing (held_body sha256 reading e) (parked_body sha256 reading e) (sha256 a.body) f → IsMissing k.bodies k.parked (sha256 a.body) f
+    by_found : (f : Finding) → IsMissing (held_body sha256 reading e) (parked_body sha256 reading e) (sha256 a.body) f
+        → IsMissing k.bodies k.parked (sha256 a.body) f
     by_found Unlisted is = books.parked apart (sha256 a.body) ∙ is
     by_found (Unreadable r n) is = is
     by_found (Differing r) is = is
     by_found (Holding r d) is = books.bodies apart r ∙ is
 
 -- a body of which a refusal was found isn't missing
-pub refused_there : (bodies : ℕ → Option (List ℕ)) (parked : List ℕ → Option (List ℕ)) (d : List ℕ) (found : Finding) → IsRefused found → IsMissing bodies parked d found → ⊥
+pub refused_there : (bodies : ℕ → Option (List ℕ)) (parked : List ℕ → Option (List ℕ)) (d : List ℕ) (found : Finding)
+    → IsRefused found → IsMissing bodies parked d found → ⊥
 refused_there bodies parked d found (inl (r, n, is)) missing = subst (IsMissing bodies parked d) is missing
 refused_there bodies parked d found (inr (r, is)) missing = subst (IsMissing bodies parked d) is missing
 
@@ -140,7 +180,8 @@ refused_there bodies parked d found (inr (r, is)) missing = subst (IsMissing bod
 
 pub nothing_taken : {S : Type 0} (g : Ghosts S) (old new : Store S) (e : List EventValue) (a : ArrivalValue) (k : Kept) (found : Finding) (known : Known)
     → StandsFor sha256 reading e k → AddsNothing e a → IsKnown k known → Stands g new k → LeavesWith g old.conn new.conn e a
-    → (IsMissing k.bodies k.parked (sha256 a.body) found → LeavesOnlyFor g new.conn (e ++ arrived a ∷ [])) → IsTakenAgain g old new e a k found known no_work
+    → (IsMissing k.bodies k.parked (sha256 a.body) found → LeavesOnlyFor g new.conn (e ++ arrived a ∷ []))
+    → IsTakenAgain g old new e a k found known no_work
 nothing_taken g old new e a k found known stood none knows stands leaves left =
     let stands_for = still_stands e a k none stood in
     record {
@@ -156,29 +197,14 @@ nothing_taken g old new e a k found known stood none knows stands leaves left =
 
 module _ (e : List EventValue) (a : ArrivalValue) (k : Kept) (row : ℕ) (d : DepositValue) (reply : ReplyValue) (is : IsAgain e a k (Holding row d) reply) where
   pub again_source : IsSource (Arrived row (Some d)) k (body_put k.bodies row a.body)
-  again_source = ((a.body, put_at k.bodies row a.body, reads_of (union e) a.body row d (sym is.found_is)), λ r other. ap (λ b. cond b (Some a.body) (k.bodies r)) other)
+  again_source = source_of e a k row d (sym is.found_is)
 
   module _ (none : k.bodies row ≡ None) (books : AreBooks sha256 reading (e ++ arrived a ∷ []) (with_body k row a.body)) where
-    still_held : (r : ℕ) (body : List ℕ) → k.bodies r ≡ Some body → body_put k.bodies row a.body r ≡ Some body
-    still_held r body some = by_test (r == row) refl
-      where
-        by_test : (b : Bool) → (r == row) ≡ b → cond b (Some a.body) (k.bodies r) ≡ Some body
-        by_test true same = absurd (no_answer (sym none ∙ ap k.bodies (sym (same_number r row same)) ∙ some))
-        by_test false other = some
-
-    pub again_move : (rows : List ℕ) (plan : Plan) (moment : Option ℤ) (listed : List MRow) → AreHeld (body_put k.bodies row a.body) rows → listed ≡ k.listed → moment ≡ k.moment
+    pub again_move : (rows : List ℕ) (plan : Plan) (moment : Option ℤ) (listed : List MRow)
+        → AreHeld (body_put k.bodies row a.body) rows → listed ≡ k.listed → moment ≡ k.moment
         → AreLatestSteps listed rows moment plan.new.items → IsPlanned k (body_put k.bodies row a.body) plan
         → IsMove e (arrived a) k (with_body k row a.body) [] rows (body_put k.bodies row a.body) plan
-    again_move rows plan moment listed held rows_are moment_is latest planned = record {
-      stood = is.stood;
-      books = books;
-      begins = sym (append-nil k.listed);
-      keeps = still_held;
-      held = held;
-      same = λ r. refl;
-      latest = subst (λ (t : Option ℤ). AreLatestSteps k.listed rows t plan.new.items) moment_is (subst (λ (m : List MRow). AreLatestSteps m rows moment plan.new.items) rows_are latest);
-      planned = planned;
-    }
+    again_move rows plan moment listed = move_to e a k row k.receipts none is.stood books
 
     -- it adds a row, so nothing is said of one that adds none
     pub again_idle : (work : Work) → IsIdle e (arrived a) work
@@ -194,16 +220,21 @@ module _ (e : List EventValue) (a : ArrivalValue) (k : Kept) (row : ℕ) (d : De
 
 -- ---- where it is parked
 
-module _ (e : List EventValue) (a : ArrivalValue) (k : Kept) (reply : ReplyValue) (is : IsAgain e a k Unlisted reply) (books : AreBooks sha256 reading (e ++ arrived a ∷ []) (with_parked k (sha256 a.body) (Some a.body))) where
-  pub parked_stands : StandsFor sha256 reading (e ++ arrived a ∷ []) (with_parked k (sha256 a.body) (Some a.body))
-  parked_stands = stands_still e (e ++ arrived a ∷ []) k (with_parked k (sha256 a.body) (Some a.body)) is.stood books refl refl refl refl refl
+abbrev with_body_parked : Kept → ArrivalValue → Kept
+with_body_parked k a = with_parked k (sha256 a.body) (Some a.body)
 
-  pub parked_taken : {S : Type 0} (g : Ghosts S) (old new : Store S) (known : Known) → IsKnown k known → Stands g new (with_parked k (sha256 a.body) (Some a.body))
-      → LeavesOnlyFor g new.conn (e ++ arrived a ∷ []) → IsTakenAgain g old new e a k Unlisted known no_work
+module _ (e : List EventValue) (a : ArrivalValue) (k : Kept) (reply : ReplyValue) (is : IsAgain e a k Unlisted reply)
+    (books : AreBooks sha256 reading (e ++ arrived a ∷ []) (with_body_parked k a)) where
+  pub parked_stands : StandsFor sha256 reading (e ++ arrived a ∷ []) (with_body_parked k a)
+  parked_stands = stands_still e (e ++ arrived a ∷ []) k (with_body_parked k a) is.stood books refl refl refl refl refl
+
+  pub parked_taken : {S : Type 0} (g : Ghosts S) (old new : Store S) (known : Known)
+      → IsKnown k known → Stands g new (with_body_parked k a) → LeavesOnlyFor g new.conn (e ++ arrived a ∷ [])
+      → IsTakenAgain g old new e a k Unlisted known no_work
   parked_taken g old new known knows stands left = record {
-    serves = record { kept = with_parked k (sha256 a.body) (Some a.body); stands = stands; stands_for = parked_stands };
+    serves = record { kept = with_body_parked k a; stands = stands; stands_for = parked_stands };
     knows = record { held = knows.held; told = knows.told; chain = knows.chain };
-    works = no_work_of e (arrived a) k (with_parked k (sha256 a.body) (Some a.body)) is.stood parked_stands (union-arrived e a) refl;
+    works = no_work_of e (arrived a) k (with_body_parked k a) is.stood parked_stands (union-arrived e a) refl;
     idle = λ apart same. refl;
     leaves = leaves_with_only g old.conn new.conn e a left;
     left = λ missing. left;
@@ -212,7 +243,8 @@ module _ (e : List EventValue) (a : ArrivalValue) (k : Kept) (reply : ReplyValue
 -- ---- what a desk answers
 
 -- an arrival whose kept reply is A2
-pub is_again : (e : List EventValue) (n body : List ℕ) (k : Kept) (reply : ReplyValue) (digest : List ℕ) → digest ≡ sha256 body → StandsFor sha256 reading e k → reply.verdict ≡ A2
+pub is_again : (e : List EventValue) (n body : List ℕ) (k : Kept) (reply : ReplyValue) (digest : List ℕ)
+    → digest ≡ sha256 body → StandsFor sha256 reading e k → reply.verdict ≡ A2
     → reply_alike (union e) 1 n digest k.receipts ≡ Some reply → IsAgain e (an_arrival n body) k (finding sha256 reading (union e) body) reply
 is_again e n body k reply digest same stands is there = record {
   stood = stands;
@@ -231,31 +263,35 @@ no_verdict v (inr (inr (inl is))) same = let never : ⊥ = cc in never
 no_verdict v (inr (inr (inr is))) same = let never : ⊥ = cc in never
 
 -- one whose kept reply is another changes nothing
-pub answered_nothing : {S : Type 0} (g : Ghosts S) (desk : Desk S) (e : List EventValue) (n body : List ℕ) (k : Kept) (reply : ReplyValue) (digest : List ℕ) → digest ≡ sha256 body
-    → Stands g desk.store k → StandsFor sha256 reading e k → IfSome desk.known (IsKnown k) → reply_alike (union e) 1 n digest k.receipts ≡ Some reply → (reply.verdict ≡ A2 → ⊥)
+pub answered_nothing : {S : Type 0} (g : Ghosts S) (desk : Desk S) (e : List EventValue) (n body : List ℕ) (k : Kept) (reply : ReplyValue) (digest : List ℕ)
+    → digest ≡ sha256 body → Stands g desk.store k → StandsFor sha256 reading e k → IfSome desk.known (IsKnown k)
+    → reply_alike (union e) 1 n digest k.receipts ≡ Some reply → (reply.verdict ≡ A2 → ⊥)
     → IsAnsweredAgain g desk desk e (an_arrival n body) k reply no_work
 answered_nothing g desk e n body k reply digest same stood stands known there other =
     let a = an_arrival n body in
     let at = subst (λ (d : List ℕ). reply_alike (union e) 1 n d k.receipts ≡ Some reply) same there in
     let none = nothing_repeated e a k stands.books reply at other in
     let stands_for = still_stands e a k none stands in
+    let told = ap (reply_alike (union e) 1 n (sha256 body)) (sym stands.books.receipts) ∙ at in
     record {
       answers = record {
         serves = record { serves = record { kept = k; stands = stood; stands_for = stands_for }; remembers = known };
-        told = reply_stays e (arrived a) a reply (ap (reply_alike (union e) 1 n (sha256 body)) (sym stands.books.receipts) ∙ at);
+        told = reply_stays e (arrived a) a reply told;
       };
       works = no_work_of e (arrived a) k k stands stands_for (union-arrived e a) refl;
       idle = λ apart same. refl;
       rests = λ other. refl;
-      leaves = leaves_with_nothing g desk.store.conn desk.store.conn e a none (at_rest g desk.store.conn);
+      leaves = leaves_with_nothing g desk.store.conn desk.store.conn none at_rest;
       left = λ is. absurd (other is);
     }
 
 -- what a crash leaves once it was answered
-pub left_again : {S : Type 0} (g : Ghosts S) (old new : Desk S) (first : Held S) (e : List EventValue) (a : ArrivalValue) (k : Kept) (r : ReplyValue) (result : Result (ReplyValue × Work) SFault)
+pub left_again : {S : Type 0} (g : Ghosts S) (old new : Desk S) (first : Held S) (e : List EventValue) (a : ArrivalValue) (k : Kept) (r : ReplyValue)
+    (result : Result (ReplyValue × Work) SFault)
     → StandsFor sha256 reading e k → reply_to sha256 reading e a ≡ Some r → Survives (state g first) (state g old.store.conn) (λ _. ⊥)
     → IfOk result (λ p. p.0 ≡ r) → IfOk result (λ p. IsAnsweredAgain g old new e a k p.0 p.1)
-    → OnOk result (LeavesWith g first new.store.conn e a × (IsUnkept e a → WhereApart e (IsMissingAfter e a → LeavesOnlyFor g new.store.conn (e ++ arrived a ∷ []))))
+    → OnOk result (LeavesWith g first new.store.conn e a
+    × (IsUnkept e a → WhereApart e (IsMissingAfter e a → LeavesOnlyFor g new.store.conn (e ++ arrived a ∷ []))))
 left_again g old new first e a k r (Ok p) stood told s same done = (
   leaves_with_then g first old.store.conn new.store.conn e a s done.leaves,
   λ unkept apart missing. done.left (ap (λ (x : ReplyValue). x.verdict) same ∙ unkept r told) (missing_of e a k stood.books apart missing),

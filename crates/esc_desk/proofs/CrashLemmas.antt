@@ -6,7 +6,6 @@ use Rattle.sqlite_trees.specs.declared.store.Store.{Ghosts}
 use Rattle.sqlite_trees.specs.Tree.{Trees}
 use Rattle.sqlite.specs.Held.{Held, state}
 use Rattle.sqlite.specs.State.{HasCleanDisk, Survives}
-use Rattle.sqlite.proofs.StateLemmas.{survives_weaker}
 use Rattle.esc_tables.specs.Reading.{reading}
 use Rattle.esc_store.specs.declared.fault.SFault.{SFault}
 use Rattle.esc_store.specs.declared.fault.SFault.TheVariants.{S1, S2, S3, S4, S5}
@@ -21,8 +20,8 @@ use Rattle.esc_events.specs.Events.EventValue.{arrived}
 use Rattle.esc_events.specs.Receipts.{reply_to}
 use Rattle.esc_events.specs.Stands.{StandsFor}
 use Rattle.esc_desk.specs.Again.{IsUnkept, IsMissingAfter}
-use Rattle.esc_desk.specs.Crashes.{IsStoreFor, IsStoreForOneOf, CrashLeaves, LeavesOnlyFor, LeavesTaken, LeavesMade, still_doubtful, doubtful_with, IsNotFull, AddsStore, AddsStoreFor}
-use Rattle.esc_desk.proofs.CrashSteps.{none_then, none_is_fine}
+use Rattle.esc_desk.specs.Crashes.{IsStoreFor, IsStoreForOneOf, CrashLeaves, LeavesOnlyFor, LeavesTaken, LeavesMade, still_doubtful, doubtful_with, AddsStoreFor}
+use Rattle.esc_desk.proofs.CrashSteps.{adds_none}
 use Rattle.esc_desk.specs.Takings.{LeavesWith}
 use Rattle.esc_desk.proofs.Likeness.{AddsNothing, still_stands, still_stands_with}
 
@@ -54,45 +53,17 @@ one_more trees e doubtful x S3 other stands = inl stands
 one_more trees e doubtful x S4 other stands = absurd (other.0 refl)
 one_more trees e doubtful x S5 other stands = absurd (other.1 refl)
 
--- ---- calls
+-- ---- what a crash leaves after a call
 
 module _ {S : Type 0} (g : Ghosts S) where
-  -- nothing was added
-  pub adds_none : {X : Type 0} (old new : Held S) (result : Result X SFault) (e : List EventValue) → Survives (state g old) (state g new) (λ _. ⊥) → AddsStoreFor g old new result e
-  unfolding AddsStoreFor
-  adds_none old new result e s = none_is_fine _ _ _ s
-
-  -- nothing was called
-  pub at_rest : (conn : Held S) → Survives (state g conn) (state g conn) (λ _. ⊥)
-  at_rest conn = record { clean = omega arith; shield = λ h. h; counts = omega arith; limit = refl; closes = λ _ up. inl up; crash = λ _ db may. inl may }
-
-  pub adds_at_rest : {X : Type 0} (conn : Held S) (result : Result X SFault) (e : List EventValue) → AddsStoreFor g conn conn result e
-  adds_at_rest conn result e = adds_none conn conn result e (at_rest conn)
-
-  -- first a call that added nothing, then this one
-  pub adds_then : {X : Type 0} (a b c : Held S) (result : Result X SFault) (e : List EventValue) → Survives (state g a) (state g b) (λ _. ⊥) → AddsStoreFor g b c result e → AddsStoreFor g a c result e
-  unfolding AddsStoreFor
-  adds_then a b c result e p q = none_then _ _ _ _ p q
-
-  -- the same by another answer
-  pub adds_as : {X Y : Type 0} (old new : Held S) (r : Result X SFault) (q : Result Y SFault) (e : List EventValue) → (IsNotFull r → IsNotFull q) → AddsStoreFor g old new r e → AddsStoreFor g old new q e
-  unfolding AddsStoreFor
-  adds_as old new r q e f s = survives_weaker _ _ _ _ (λ clean trees h. (f h.0, h.1)) s
-
-  -- a store that stands for these events
-  pub adds_for : {X : Type 0} (old new : Held S) (result : Result X SFault) (k : Kept) (e : List EventValue) → StandsFor sha256 reading e k → AddsStore g old new result k → AddsStoreFor g old new result e
-  unfolding AddsStore AddsStoreFor
-  adds_for old new result k e stands s = survives_weaker _ _ _ _ (λ clean trees h. (h.0, record { kept = k; store = h.1; stands_for = stands })) s
-
-  -- ---- what a crash leaves then
   module _ (old new : Held S) (e doubtful : List EventValue) (left : CrashLeaves g old e doubtful) where
     pub leaves_as : Survives (state g old) (state g new) (λ _. ⊥) → CrashLeaves g new e doubtful
     unfolding CrashLeaves
     leaves_as s clean trees may = elim (s.crash clean trees may) [ inl was ↦ left (omega (arith, s.clean, clean)) trees was | inr none ↦ absurd none ]
 
-    pub leaves_nothing : (a : ArrivalValue) → AddsNothing e a → Survives (state g old) (state g new) (λ _. ⊥) → CrashLeaves g new (e ++ arrived a ∷ []) doubtful
+    pub leaves_nothing : {a : ArrivalValue} → AddsNothing e a → Survives (state g old) (state g new) (λ _. ⊥) → CrashLeaves g new (e ++ arrived a ∷ []) doubtful
     unfolding CrashLeaves
-    leaves_nothing a none s clean trees may = still_one trees e doubtful a none (leaves_as s clean trees may)
+    leaves_nothing {a = a} none s clean trees may = still_one trees e doubtful a none (leaves_as s clean trees may)
 
     pub leaves_refused : (X : Type 0) (x : EventValue) (f : SFault) → AddsStoreFor {X = X} g old new (Err f) (e ++ x ∷ []) → CrashLeaves g new e (doubtful_with f x doubtful)
     unfolding CrashLeaves AddsStoreFor
@@ -107,8 +78,8 @@ module _ {S : Type 0} (g : Ghosts S) where
   leaves_new new e doubtful a none only = subst (λ (o : Option ReplyValue). CrashLeaves g new (e ++ arrived a ∷ []) (still_doubtful o doubtful)) (sym none) only
 
   -- an arrival that came again: it adds nothing, or a crash leaves it taken in
-  pub leaves_with_nothing : (old new : Held S) (e : List EventValue) (a : ArrivalValue) → AddsNothing e a → Survives (state g old) (state g new) (λ _. ⊥) → LeavesWith g old new e a
-  leaves_with_nothing old new e a none s doubtful left = leaves_nothing old new e doubtful left a none s
+  pub leaves_with_nothing : (old new : Held S) {e : List EventValue} {a : ArrivalValue} → AddsNothing e a → Survives (state g old) (state g new) (λ _. ⊥) → LeavesWith g old new e a
+  leaves_with_nothing old new {e = e} none s doubtful left = leaves_nothing old new e doubtful left none s
 
   pub leaves_with_only : (old new : Held S) (e : List EventValue) (a : ArrivalValue) → LeavesOnlyFor g new (e ++ arrived a ∷ []) → LeavesWith g old new e a
   unfolding CrashLeaves LeavesOnlyFor
@@ -129,49 +100,44 @@ module _ {S : Type 0} (g : Ghosts S) where
 
   -- an arrival like none before it, by what came of it
   pub leaves_taken : {X : Type 0} (old new : Held S) (e doubtful : List EventValue) (a : ArrivalValue) (result : Result X SFault) → CrashLeaves g old e doubtful
-      → (HasCleanDisk (state g new) → reply_to sha256 reading e a ≡ None) → (HasCleanDisk (state g new) → AddsStoreFor g old new result (e ++ arrived a ∷ [])) → (HasCleanDisk (state g new) → OnOk result (LeavesOnlyFor g new (e ++ arrived a ∷ [])))
+      → (HasCleanDisk (state g new) → reply_to sha256 reading e a ≡ None) → (HasCleanDisk (state g new) → AddsStoreFor g old new result (e ++ arrived a ∷ []))
+      → (HasCleanDisk (state g new) → OnOk result (LeavesOnlyFor g new (e ++ arrived a ∷ [])))
       → LeavesTaken g new e doubtful a result
   leaves_taken {X = X} old new e doubtful a (Ok x) left none adds only = record {
     answered = if_clean new (e ++ arrived a ∷ []) _ (λ clean. leaves_new new e doubtful a (none clean) (only clean));
     missing = λ unkept apart missing. if_clean new (e ++ arrived a ∷ []) [] (λ clean. leaves_only new (e ++ arrived a ∷ []) (only clean));
   }
-  leaves_taken {X = X} old new e doubtful a (Err f) left none adds only = if_clean new e (doubtful_with f (arrived a) doubtful) (λ clean. leaves_refused old new e doubtful left X (arrived a) f (adds clean))
+  leaves_taken {X = X} old new e doubtful a (Err f) left none adds only = if_clean new e _ (λ clean. leaves_refused old new e doubtful left X (arrived a) f (adds clean))
 
   -- one that came again, by what came of it
-  pub leaves_again : {X : Type 0} (old new : Held S) (e doubtful : List EventValue) (a : ArrivalValue) (r : ReplyValue) (result : Result X SFault) → CrashLeaves g old e doubtful
+  pub leaves_again : {X : Type 0} (old new : Held S) (e doubtful : List EventValue) (a : ArrivalValue) {r : ReplyValue} (result : Result X SFault) → CrashLeaves g old e doubtful
       → (HasCleanDisk (state g new) → reply_to sha256 reading e a ≡ Some r) → (HasCleanDisk (state g new) → AddsStoreFor g old new result (e ++ arrived a ∷ []))
       → (HasCleanDisk (state g new) → OnOk result (LeavesWith g old new e a × (IsUnkept e a → WhereApart e (IsMissingAfter e a → LeavesOnlyFor g new (e ++ arrived a ∷ [])))))
       → LeavesTaken g new e doubtful a result
-  leaves_again {X = X} old new e doubtful a r (Ok x) left told adds with = record {
+  leaves_again {X = X} old new e doubtful a (Ok x) left told adds with = record {
     answered = if_clean new (e ++ arrived a ∷ []) _ (λ clean.
         subst (λ (o : Option ReplyValue). CrashLeaves g new (e ++ arrived a ∷ []) (still_doubtful o doubtful)) (sym (told clean)) ((with clean).0 doubtful left));
     missing = λ unkept apart missing. if_clean new (e ++ arrived a ∷ []) [] (λ clean. leaves_only new (e ++ arrived a ∷ []) ((with clean).1 unkept apart missing));
   }
-  leaves_again {X = X} old new e doubtful a r (Err f) left told adds with = if_clean new e (doubtful_with f (arrived a) doubtful) (λ clean. leaves_refused old new e doubtful left X (arrived a) f (adds clean))
+  leaves_again {X = X} old new e doubtful a (Err f) left told adds with = if_clean new e _ (λ clean. leaves_refused old new e doubtful left X (arrived a) f (adds clean))
 
   -- one that was refused before anything was begun
-  pub leaves_early : {X : Type 0} (old new : Held S) (e doubtful : List EventValue) (a : ArrivalValue) (result : Result X SFault) (f : SFault) → result ≡ Err f → CrashLeaves g old e doubtful → Survives (state g old) (state g new) (λ _. ⊥)
-      → LeavesTaken g new e doubtful a result
-  leaves_early {X = X} old new e doubtful a result f is left s = rw is (leaves_refused old new e doubtful left X (arrived a) f (adds_none {X = X} old new (Err f) (e ++ arrived a ∷ []) s))
+  pub leaves_early : {X : Type 0} (old new : Held S) (e doubtful : List EventValue) (a : ArrivalValue) {result : Result X SFault} (f : SFault) → result ≡ Err f
+      → CrashLeaves g old e doubtful → Survives (state g old) (state g new) (λ _. ⊥) → LeavesTaken g new e doubtful a result
+  unfolding AddsStoreFor
+  leaves_early {X = X} old new e doubtful a f is left s = rw is (leaves_refused old new e doubtful left X (arrived a) f (adds_none s))
 
-  -- an event that changes a table, by what came of it
-  pub leaves_made : {X : Type 0} (old new : Held S) (e doubtful : List EventValue) (x : EventValue) (result : Result X SFault) → CrashLeaves g old e doubtful
-      → (HasCleanDisk (state g new) → AddsStoreFor g old new result (e ++ x ∷ [])) → (HasCleanDisk (state g new) → OnOk result (LeavesOnlyFor g new (e ++ x ∷ [])))
-      → LeavesMade g new e doubtful x result
-  leaves_made {X = X} old new e doubtful x (Ok y) left adds only = if_clean new (e ++ x ∷ []) [] (λ clean. leaves_only new (e ++ x ∷ []) (only clean))
-  leaves_made {X = X} old new e doubtful x (Err f) left adds only = if_clean new e (doubtful_with f x doubtful) (λ clean. leaves_refused old new e doubtful left X x f (adds clean))
-
-  -- one that was refused
-  pub leaves_unmade : {X : Type 0} (old new : Held S) (e doubtful : List EventValue) (x : EventValue) (result : Result X SFault) (f : SFault) → result ≡ Err f → CrashLeaves g old e doubtful
+  -- an event that changes a table, and was refused
+  pub leaves_unmade : {X : Type 0} (old new : Held S) (e doubtful : List EventValue) (x : EventValue) {result : Result X SFault} (f : SFault) → result ≡ Err f → CrashLeaves g old e doubtful
       → (HasCleanDisk (state g new) → AddsStoreFor g old new result (e ++ x ∷ [])) → LeavesMade g new e doubtful x result
-  leaves_unmade {X = X} old new e doubtful x result f is left adds = subst (λ (r : Result X SFault). LeavesMade g new e doubtful x r) (sym is)
+  leaves_unmade {X = X} old new e doubtful x f is left adds = subst (λ (r : Result X SFault). LeavesMade g new e doubtful x r) (sym is)
       (if_clean new e (doubtful_with f x doubtful) (λ clean. leaves_refused old new e doubtful left X x f (subst (λ (r : Result X SFault). AddsStoreFor g old new r (e ++ x ∷ [])) is (adds clean))))
 
   -- ---- a store that was left alone
-  pub leaves_for : (store : Store S) (k : Kept) (e : List EventValue) → StandsFor sha256 reading e k → LeavesOnly g store k → LeavesOnlyFor g store.conn e
+  pub leaves_for : (store : Store S) {k : Kept} {e : List EventValue} → StandsFor sha256 reading e k → LeavesOnly g store k → LeavesOnlyFor g store.conn e
   unfolding LeavesOnly LeavesOnlyFor
-  leaves_for store k e stands left clean trees may = record { kept = k; store = left clean trees may; stands_for = stands }
+  leaves_for store {k = k} stands left clean trees may = record { kept = k; store = left clean trees may; stands_for = stands }
 
-  pub leaves_at : (store : Store S) (k : Kept) (e : List EventValue) → StandsFor sha256 reading e k → LeavesOnly g store k → CrashLeaves g store.conn e []
+  pub leaves_at : (store : Store S) {k : Kept} {e : List EventValue} → StandsFor sha256 reading e k → LeavesOnly g store k → CrashLeaves g store.conn e []
   unfolding CrashLeaves LeavesOnlyFor
-  leaves_at store k e stands left = leaves_for store k e stands left
+  leaves_at store stands left = leaves_for store stands left

@@ -18,7 +18,8 @@ early_lists_none m (arrived b ∷ e) a = early_lists_none m e a
 early_lists_none m (moved t ∷ e) a = early_lists_none m e a
 early_lists_none m (arrived_early b ∷ e) a = early_lists_none m e a
 
-early_last : (m : List MRow) (e : List EventValue) (a : ArrivalValue) → comings_after m (e ++ arrived_early a ∷ []) ≡ comings_after m e ++ early_coming (union_after m e) a ∷ []
+early_last : (m : List MRow) (e : List EventValue) (a : ArrivalValue)
+    → comings_after m (e ++ arrived_early a ∷ []) ≡ comings_after m e ++ early_coming (union_after m e) a ∷ []
 early_last m [] a = refl
 early_last m (listed more ∷ e) a = early_last (extended m more) e a
 early_last m (arrived b ∷ e) a = ap (λ (l : List Coming). coming m b ∷ l) (early_last m e a)

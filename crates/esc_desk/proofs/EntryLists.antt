@@ -1,5 +1,32 @@
 -- Entries by key, each key once: what look-ups say of them.
-use Rattle.std.proofs.Common.{◌≡◌, ◌⊎◌, inl, inr, Bool, true, false, cond, List, [], ◌∷◌, ◌++◌, filter, Option, Some, None, refl, sym, ap, ap₂, subst, ◌∙◌, Ordering, Less, Equal, Greater}
+use Rattle.std.proofs.Common.{
+  ◌≡◌,
+  ◌⊎◌,
+  inl,
+  inr,
+  Bool,
+  true,
+  false,
+  cond,
+  List,
+  [],
+  ◌∷◌,
+  ◌++◌,
+  filter,
+  Option,
+  Some,
+  None,
+  refl,
+  sym,
+  ap,
+  ap₂,
+  subst,
+  ◌∙◌,
+  Ordering,
+  Less,
+  Equal,
+  Greater,
+}
 use Rattle.std.specs.List.{AllByRecursion}
 use Rattle.std.specs.List.Sorted.{IsStrictlySortedBy}
 use Rattle.std.specs.Map.{lookup, keys_of}
@@ -11,16 +38,28 @@ use Rattle.esc_tables.specs.ObjectValue.{ObjectValue}
 use Rattle.esc_apply.specs.Objects.{Entry, InOrder}
 use Rattle.esc_tables.specs.KeyLaws.{keys_total, keys_exact, key_itself, one_key as same_key}
 
-pub weaker : {X : Type 0} (P Q : X → Type 0) → ((x : X) → P x → Q x) → (xs : List X) → AllByRecursion P xs → AllByRecursion Q xs
+weaker : {X : Type 0} (P Q : X → Type 0) → ((x : X) → P x → Q x) → (xs : List X) → AllByRecursion P xs → AllByRecursion Q xs
 weaker P Q f [] all = tt
 weaker P Q f (x ∷ xs) all = (f x all.0, weaker P Q f xs all.1)
 
 -- ---- order
 
+-- the keys of the entries are above this one
+abbrev pub AreAbove : KeyName → List Entry → Type 0
+AreAbove k es = AllByRecursion (λ (f : Entry). key_cmp k f.0 ≡ Less) es
+
+-- each entry passes a test
+abbrev pub Pass : (Entry → Bool) → List Entry → Type 0
+Pass p es = AllByRecursion (λ (e : Entry). p e ≡ true) es
+
+-- what passes a test passes a weaker one
+pub pass_too : (p q : Entry → Bool) → ((e : Entry) → p e ≡ true → q e ≡ true) → (es : List Entry) → Pass p es → Pass q es
+pass_too p q f es all = weaker (λ (e : Entry). p e ≡ true) (λ (e : Entry). q e ≡ true) f es all
+
 -- each key is below those behind it
 abbrev pub Rises : List Entry → Type 0
 Rises [] = Unit {0}
-Rises (e ∷ es) = AllByRecursion (λ (f : Entry). key_cmp e.0 f.0 ≡ Less) es × Rises es
+Rises (e ∷ es) = AreAbove e.0 es × Rises es
 
 mapped : (P : KeyName → Type 0) (es : List Entry) → AllByRecursion (λ (f : Entry). P f.0) es → AllByRecursion P (keys_of es)
 mapped P [] all = tt
@@ -40,28 +79,37 @@ unfolding IsStrictlySortedBy
 rises [] up = tt
 rises (e ∷ es) up = (unmapped (λ k. key_cmp e.0 k ≡ Less) es up.0, rises es up.1)
 
-all-filter : (P : Entry → Type 0) (p : Entry → Bool) (es : List Entry) → AllByRecursion P es → AllByRecursion P (filter p es)
-all-filter P p [] all = tt
-all-filter P p (e ∷ es) all = elim (p e) as (λ b. AllByRecursion P (cond b (e ∷ filter p es) (filter p es))) [ true ↦ (all.0, all-filter P p es all.1) | false ↦ all-filter P p es all.1 ]
+above-filter : (k : KeyName) (p : Entry → Bool) (es : List Entry) → AreAbove k es → AreAbove k (filter p es)
+above-filter k p [] above = tt
+above-filter k p (e ∷ es) above =
+    elim (p e) as (λ b. AreAbove k (cond b (e ∷ filter p es) (filter p es))) [
+      | true ↦ (above.0, above-filter k p es above.1)
+      | false ↦ above-filter k p es above.1
+    ]
 
 pub rises-filter : (p : Entry → Bool) (es : List Entry) → Rises es → Rises (filter p es)
 rises-filter p [] up = tt
 rises-filter p (e ∷ es) up =
-    elim (p e) as (λ b. Rises (cond b (e ∷ filter p es) (filter p es))) [ true ↦ (all-filter (λ (f : Entry). key_cmp e.0 f.0 ≡ Less) p es up.0, rises-filter p es up.1) | false ↦ rises-filter p es up.1 ]
+    elim (p e) as (λ b. Rises (cond b (e ∷ filter p es) (filter p es))) [
+      | true ↦ (above-filter e.0 p es up.0, rises-filter p es up.1)
+      | false ↦ rises-filter p es up.1
+    ]
 
-pub all_passed : (p : Entry → Bool) (es : List Entry) → AllByRecursion (λ e. p e ≡ true) (filter p es)
+pub all_passed : (p : Entry → Bool) (es : List Entry) → Pass p (filter p es)
 all_passed p [] = tt
 all_passed p (e ∷ es) = elim (cases_Bool (p e)) [ inl is ↦ rw is (is, all_passed p es) | inr other ↦ rw other (all_passed p es) ]
 
-all-append : (P : Entry → Type 0) (xs ys : List Entry) → AllByRecursion P xs → AllByRecursion P ys → AllByRecursion P (xs ++ ys)
-all-append P [] ys p q = q
-all-append P (a ∷ xs) ys p q = (p.0, all-append P xs ys p.1 q)
+above-append : (k : KeyName) (xs ys : List Entry) → AreAbove k xs → AreAbove k ys → AreAbove k (xs ++ ys)
+above-append k [] ys above then = then
+above-append k (a ∷ xs) ys above then = (above.0, above-append k xs ys above.1 then)
 
 -- entries and then others that are behind each of them
-pub rises-append : (P Q : Entry → Type 0) → ((a b : Entry) → P a → Q b → key_cmp a.0 b.0 ≡ Less) → (xs ys : List Entry) → Rises xs → Rises ys → AllByRecursion P xs → AllByRecursion Q ys → Rises (xs ++ ys)
-rises-append P Q below [] ys up then ps qs = then
-rises-append P Q below (a ∷ xs) ys up then ps qs =
-    (all-append (λ (f : Entry). key_cmp a.0 f.0 ≡ Less) xs ys up.0 (weaker Q (λ (f : Entry). key_cmp a.0 f.0 ≡ Less) (λ b q. below a b ps.0 q) ys qs), rises-append P Q below xs ys up.1 then ps.1 qs)
+pub rises-append : (p q : Entry → Bool) → ((a b : Entry) → p a ≡ true → q b ≡ true → key_cmp a.0 b.0 ≡ Less) → (xs ys : List Entry)
+    → Rises xs → Rises ys → Pass p xs → Pass q ys → Rises (xs ++ ys)
+rises-append p q below [] ys up then ps qs = then
+rises-append p q below (a ∷ xs) ys up then ps qs =
+    let behind : AreAbove a.0 ys = weaker (λ (f : Entry). q f ≡ true) (λ (f : Entry). key_cmp a.0 f.0 ≡ Less) (λ f passes. below a f ps.0 passes) ys qs in
+    (above-append a.0 xs ys up.0 behind, rises-append p q below xs ys up.1 then ps.1 qs)
 
 -- ---- look-ups
 
@@ -69,25 +117,32 @@ pub lookup-append : (q : KeyName) (xs ys : List Entry) → lookup (key_eq q) (xs
 lookup-append q [] ys = refl
 lookup-append q (a ∷ xs) ys = elim (cases_Bool (key_eq q a.0)) [ inl is ↦ rw is refl | inr other ↦ rw other (lookup-append q xs ys) ]
 
+abbrev pub is_found : List Entry → Entry → Bool
+is_found es e = is_some (lookup (key_eq e.0) es)
+
 -- each entry is found under its key
-pub each_found : (es : List Entry) → AllByRecursion (λ (e : Entry). is_some (lookup (key_eq e.0) es) ≡ true) es
+pub each_found : (es : List Entry) → Pass (is_found es) es
 each_found [] = tt
-each_found (e ∷ es) = (rw (key_itself e.0) refl, weaker (λ (f : Entry). is_some (lookup (key_eq f.0) es) ≡ true) (λ (f : Entry). is_some (lookup (key_eq f.0) (e ∷ es)) ≡ true) (λ f h. still (key_eq f.0 e.0) _ h) es (each_found es))
+each_found (e ∷ es) =
+    let first : is_found (e ∷ es) e ≡ true = rw (key_itself e.0) refl in
+    let rest = pass_too (is_found es) (is_found (e ∷ es)) (λ f found. still (key_eq f.0 e.0) _ found) es (each_found es) in
+    (first, rest)
   where
     still : (b : Bool) (o : Option ObjectValue) → is_some o ≡ true → is_some (cond b (Some e.1) o) ≡ true
-    still true o h = refl
-    still false o h = h
+    still true o found = refl
+    still false o found = found
 
 turned : (a b : KeyName) (o : Ordering) → key_cmp a b ≡ o → key_cmp b a ≡ ordering_reverse o
 turned a b o e = keys_total.antisymm b a ∙ ap ordering_reverse e
 
 -- nothing is found of a key below all
-none_above : (q : KeyName) (es : List Entry) → AllByRecursion (λ (f : Entry). key_cmp q f.0 ≡ Less) es → lookup (key_eq q) es ≡ None
+none_above : (q : KeyName) (es : List Entry) → AreAbove q es → lookup (key_eq q) es ≡ None
 none_above q [] all = refl
 none_above q (e ∷ es) all = rw all.0 (none_above q es all.1)
 
-below_rest : (k q : KeyName) (es : List Entry) → key_cmp k q ≡ Less → AllByRecursion (λ (f : Entry). key_cmp q f.0 ≡ Less) es → AllByRecursion (λ (f : Entry). key_cmp k f.0 ≡ Less) es
-below_rest k q es low all = weaker (λ (f : Entry). key_cmp q f.0 ≡ Less) (λ (f : Entry). key_cmp k f.0 ≡ Less) (λ f h. keys_total.trans k q f.0 low h) es all
+below_rest : (k q : KeyName) (es : List Entry) → key_cmp k q ≡ Less → AreAbove q es → AreAbove k es
+below_rest k q [] low all = tt
+below_rest k q (f ∷ es) low all = (keys_total.trans k q f.0 low all.0, below_rest k q es low all.1)
 
 -- what is found at the first key
 first_found : (e : Entry) (es : List Entry) → lookup (key_eq e.0) (e ∷ es) ≡ Some e.1
@@ -99,19 +154,25 @@ SameLookups xs ys = (q : KeyName) → lookup (key_eq q) xs ≡ lookup (key_eq q)
 pub no_first : (e : Entry) (es : List Entry) (o : Option ObjectValue) → o ≡ None → lookup (key_eq e.0) (e ∷ es) ≡ o → ⊥
 no_first e es o none is = let never : Some e.1 ≡ None = sym (first_found e es) ∙ is ∙ none in absurd cc
 
-module _ (a b : Entry) (xs ys : List Entry) (all : AllByRecursion (λ (f : Entry). key_cmp a.0 f.0 ≡ Less) xs) (others : AllByRecursion (λ (f : Entry). key_cmp b.0 f.0 ≡ Less) ys) (same : SameLookups (a ∷ xs) (b ∷ ys)) where
+module _ (a b : Entry) (xs ys : List Entry) (all : AreAbove a.0 xs) (others : AreAbove b.0 ys) (same : SameLookups (a ∷ xs) (b ∷ ys)) where
   one_key : key_cmp a.0 b.0 ≡ Equal
   one_key = by_order (key_cmp a.0 b.0) refl
     where
       by_order : (o : Ordering) → key_cmp a.0 b.0 ≡ o → key_cmp a.0 b.0 ≡ Equal
-      by_order Less e = absurd (no_first a xs _ (none_above a.0 (b ∷ ys) (e, below_rest a.0 b.0 ys e others)) (same a.0))
+      by_order Less low =
+          let unfound = none_above a.0 (b ∷ ys) (low, below_rest a.0 b.0 ys low others) in
+          absurd (no_first a xs _ unfound (same a.0))
       by_order Equal e = e
-      by_order Greater e = let low = turned a.0 b.0 Greater e in absurd (no_first b ys _ (none_above b.0 (a ∷ xs) (low, below_rest b.0 a.0 xs low all)) (sym (same b.0)))
+      by_order Greater e =
+          let low = turned a.0 b.0 Greater e in
+          let unfound = none_above b.0 (a ∷ xs) (low, below_rest b.0 a.0 xs low all) in
+          absurd (no_first b ys _ unfound (sym (same b.0)))
 
   one_entry : a ≡ b
   one_entry =
       let keys : a.0 ≡ b.0 = keys_exact a.0 b.0 one_key in
-      let found : lookup (key_eq a.0) (b ∷ ys) ≡ Some b.1 = subst (λ (k : KeyName). lookup (key_eq k) (b ∷ ys) ≡ Some b.1) (sym keys) (first_found b ys) in
+      let found : lookup (key_eq a.0) (b ∷ ys) ≡ Some b.1 =
+      subst (λ (k : KeyName). lookup (key_eq k) (b ∷ ys) ≡ Some b.1) (sym keys) (first_found b ys) in
       let values : Some a.1 ≡ Some b.1 = sym (first_found a xs) ∙ same a.0 ∙ found in
       let objects : a.1 ≡ b.1 = cc in
       λ i. (keys i, objects i)
@@ -123,8 +184,8 @@ module _ (a b : Entry) (xs ys : List Entry) (all : AllByRecursion (λ (f : Entry
       by_test (inl is) =
           let here : q ≡ a.0 = same_key q a.0 is in
           let there : q ≡ b.0 = here ∙ keys_exact a.0 b.0 one_key in
-          none_above q xs (subst (λ (k : KeyName). AllByRecursion (λ (f : Entry). key_cmp k f.0 ≡ Less) xs) (sym here) all)
-          ∙ sym (none_above q ys (subst (λ (k : KeyName). AllByRecursion (λ (f : Entry). key_cmp k f.0 ≡ Less) ys) (sym there) others))
+          none_above q xs (subst (λ (k : KeyName). AreAbove k xs) (sym here) all)
+          ∙ sym (none_above q ys (subst (λ (k : KeyName). AreAbove k ys) (sym there) others))
       by_test (inr other) =
           let another : key_eq q b.0 ≡ false = subst (λ (k : KeyName). key_eq q k ≡ false) (keys_exact a.0 b.0 one_key) other in
           ap (λ t. cond t (Some a.1) (lookup (key_eq q) xs)) (sym other) ∙ same q ∙ ap (λ t. cond t (Some b.1) (lookup (key_eq q) ys)) another
@@ -134,4 +195,7 @@ pub same_entries : (xs ys : List Entry) → Rises xs → Rises ys → SameLookup
 same_entries [] [] up then same = refl
 same_entries [] (b ∷ ys) up then same = absurd (no_first b ys None refl (sym (same b.0)))
 same_entries (a ∷ xs) [] up then same = absurd (no_first a xs None refl (same a.0))
-same_entries (a ∷ xs) (b ∷ ys) up then same = ap₂ (λ (e : Entry) (es : List Entry). e ∷ es) (one_entry a b xs ys up.0 then.0 same) (same_entries xs ys up.1 then.1 (rest_same a b xs ys up.0 then.0 same))
+same_entries (a ∷ xs) (b ∷ ys) up then same =
+    let first : a ≡ b = one_entry a b xs ys up.0 then.0 same in
+    let rest : xs ≡ ys = same_entries xs ys up.1 then.1 (rest_same a b xs ys up.0 then.0 same) in
+    ap₂ (λ (e : Entry) (es : List Entry). e ∷ es) first rest

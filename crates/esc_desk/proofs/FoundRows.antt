@@ -15,6 +15,10 @@ use Rattle.esc_desk.proofs.Remembering.{first_or_later}
 
 -- ---- one digest more
 
+-- a row is told to be held, or lists one of these digests and has a body
+abbrev IsOneOf : Kept → List ℕ → List (List ℕ) → ℕ → Type 0
+IsOneOf k told digests r = Contains told r ⊎ (IsOfDigests k digests r × IsSome (k.bodies r))
+
 module _ (k : Kept) (told : List ℕ) where
   none_of : (r : ℕ) → IsOfDigests k [] r → ⊥
   none_of r of = omega (arith, of.among.1)
@@ -23,7 +27,7 @@ module _ (k : Kept) (told : List ℕ) where
   pub found_none : IsRising told → AreFound k told [] told
   found_none up = record { rising = up; each = λ r. (λ there. inl there, back r) }
     where
-      back : (r : ℕ) → Contains told r ⊎ (IsOfDigests k [] r × IsSome (k.bodies r)) → Contains told r
+      back : (r : ℕ) → IsOneOf k told [] r → Contains told r
       back r (inl there) = there
       back r (inr of) = absurd (none_of r of.0)
 
@@ -44,34 +48,41 @@ module _ (k : Kept) (told : List ℕ) where
         by_place (inr last) = inr (by_last (first_or_later digest of.digest [] last))
 
     -- what was found is found still
-    more : (r : ℕ) → Contains told r ⊎ (IsOfDigests k digests r × IsSome (k.bodies r)) → Contains told r ⊎ (IsOfDigests k (digests ++ digest ∷ []) r × IsSome (k.bodies r))
+    more : (r : ℕ) → IsOneOf k told digests r → IsOneOf k told (digests ++ digest ∷ []) r
     more r (inl there) = inl there
     more r (inr of) = inr (still r of.0, of.1)
 
     -- no row lists the digest, or none of which a body is held
     pub found_no_more : ((r : ℕ) → row_of k.listed digest ≡ Some r → IsSome (k.bodies r) → ⊥) → AreFound k told (digests ++ digest ∷ []) rows
-    found_no_more none = record { rising = found.rising; each = λ r. (λ there. more r ((found.each r).0 there), λ is. (found.each r).1 (back r is)) }
+    found_no_more none = record {
+      rising = found.rising;
+      each = λ r. (λ there. more r ((found.each r).0 there), λ is. (found.each r).1 (back r is));
+    }
       where
-        back : (r : ℕ) → Contains told r ⊎ (IsOfDigests k (digests ++ digest ∷ []) r × IsSome (k.bodies r)) → Contains told r ⊎ (IsOfDigests k digests r × IsSome (k.bodies r))
+        back : (r : ℕ) → IsOneOf k told (digests ++ digest ∷ []) r → IsOneOf k told digests r
         back r (inl there) = inl there
         back r (inr of) = by_either (either r of.0)
           where
-            by_either : IsOfDigests k digests r ⊎ (row_of k.listed digest ≡ Some r) → Contains told r ⊎ (IsOfDigests k digests r × IsSome (k.bodies r))
+            by_either : IsOfDigests k digests r ⊎ (row_of k.listed digest ≡ Some r) → IsOneOf k told digests r
             by_either (inl old) = inr (old, of.1)
             by_either (inr last) = absurd (none r last of.1)
 
     -- a row lists the digest, and a body is held of it
-    pub found_one_more : (row : ℕ) (after : List ℕ) → row_of k.listed digest ≡ Some row → IsSome (k.bodies row) → IsInserted rows row after → AreFound k told (digests ++ digest ∷ []) after
-    found_one_more row after lists some put = record { rising = put.rising; each = λ r. (λ there. there_is r ((put.each r).0 there), λ is. (put.each r).1 (back r is)) }
+    pub found_one_more : (row : ℕ) (after : List ℕ) → row_of k.listed digest ≡ Some row → IsSome (k.bodies row) → IsInserted rows row after
+        → AreFound k told (digests ++ digest ∷ []) after
+    found_one_more row after lists some put = record {
+      rising = put.rising;
+      each = λ r. (λ there. there_is r ((put.each r).0 there), λ is. (put.each r).1 (back r is));
+    }
       where
-        there_is : (r : ℕ) → (r ≡ row) ⊎ Contains rows r → Contains told r ⊎ (IsOfDigests k (digests ++ digest ∷ []) r × IsSome (k.bodies r))
+        there_is : (r : ℕ) → (r ≡ row) ⊎ Contains rows r → IsOneOf k told (digests ++ digest ∷ []) r
         there_is r (inl is) = inr (
           record { digest = digest; among = Contains-append_right digests (digest ∷ []) digest (0, omega arith, refl); lists = lists ∙ ap Some (sym is) },
           subst (λ (q : ℕ). IsSome (k.bodies q)) (sym is) some,
         )
         there_is r (inr there) = more r ((found.each r).0 there)
 
-        back : (r : ℕ) → Contains told r ⊎ (IsOfDigests k (digests ++ digest ∷ []) r × IsSome (k.bodies r)) → (r ≡ row) ⊎ Contains rows r
+        back : (r : ℕ) → IsOneOf k told (digests ++ digest ∷ []) r → (r ≡ row) ⊎ Contains rows r
         back r (inl there) = inr ((found.each r).1 (inl there))
         back r (inr of) = by_either (either r of.0)
           where
@@ -95,12 +106,15 @@ module _ (e : List EventValue) (k : Kept) (books : AreBooks sha256 reading e k) 
       })
 
   pub held_of_found : (told : List ℕ) (rows : List ℕ) → AreHeldBy k.receipts told → AreFound k told digests rows → AreHeld k.bodies rows
-  held_of_found told rows by found = record { rising = found.rising; each = λ r. (λ there. some r ((found.each r).0 there), λ body. (found.each r).1 (back r body (held_by_any r body))) }
+  held_of_found told rows by found = record {
+    rising = found.rising;
+    each = λ r. (λ there. some r ((found.each r).0 there), λ body. (found.each r).1 (back r body (held_by_any r body)));
+  }
     where
-      some : (r : ℕ) → Contains told r ⊎ (IsOfDigests k digests r × IsSome (k.bodies r)) → IsSome (k.bodies r)
+      some : (r : ℕ) → IsOneOf k told digests r → IsSome (k.bodies r)
       some r (inl there) = books.told r ((by.each r).0 there)
       some r (inr of) = of.1
 
-      back : (r : ℕ) → IsSome (k.bodies r) → Any (SaysHeld r) k.receipts ⊎ IsOfDigests k digests r → Contains told r ⊎ (IsOfDigests k digests r × IsSome (k.bodies r))
+      back : (r : ℕ) → IsSome (k.bodies r) → Any (SaysHeld r) k.receipts ⊎ IsOfDigests k digests r → IsOneOf k told digests r
       back r body (inl says) = inl ((by.each r).1 says)
       back r body (inr of) = inr (of, body)

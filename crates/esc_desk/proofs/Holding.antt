@@ -1,5 +1,35 @@
 -- What a store stands for once an arrival like none before it was noted, and the move where its deposit is held.
-use Rattle.std.proofs.Common.{◌≡◌, ◌⊎◌, inl, inr, ℕ, ℤ, Bool, true, false, cond, ◌==◌, List, [], ◌∷◌, ◌++◌, Option, Some, None, IsSome, Result, Ok, Err, refl, sym, ap, subst, ◌∙◌, append-nil, true≢false}
+use Rattle.std.proofs.Common.{
+  ◌≡◌,
+  ◌⊎◌,
+  inl,
+  inr,
+  ℕ,
+  ℤ,
+  Bool,
+  true,
+  false,
+  cond,
+  ◌==◌,
+  List,
+  [],
+  ◌∷◌,
+  ◌++◌,
+  Option,
+  Some,
+  None,
+  IsSome,
+  Result,
+  Ok,
+  Err,
+  refl,
+  sym,
+  ap,
+  subst,
+  ◌∙◌,
+  append-nil,
+  true≢false,
+}
 use Rattle.std.specs.Prelude.{is_some, IfSome, ◌<◌, length}
 use Rattle.std.specs.Str.{bytes_eq}
 use Rattle.std.proofs.lemmas.List.Quantifiers.{position-Some}
@@ -12,7 +42,7 @@ use Rattle.esc_manifest.specs.declared.row.MRow.{MRow}
 use Rattle.esc_store.specs.declared.fault.SFault.{SFault}
 use Rattle.esc_manifest.specs.Rows.{no_row, row_at}
 use Rattle.esc_store.specs.declared.store.Store.{Store}
-use Rattle.esc_store.specs.Kept.{Kept, AreHeld, AreHeldBy, body_put, kept_chain, with_receipt}
+use Rattle.esc_store.specs.Kept.{Kept, AreHeld, AreHeldBy, body_put, kept_chain, with_body, with_receipt}
 use Rattle.esc_store.specs.ReplyValue.{ReceiptValue}
 use Rattle.esc_store.specs.Standing.{Stands, LeavesOnly, LeavesNoMore}
 use Rattle.esc_events.specs.declared.finding.Finding.{Finding}
@@ -30,7 +60,7 @@ use Rattle.esc_events.specs.Notes.{noted_by, held_by}
 use Rattle.esc_events.specs.Parks.{IsParking}
 use Rattle.esc_events.specs.Receipts.{is_among, receipt_by}
 use Rattle.esc_events.specs.Plans.{AreLatestSteps, IsPlanned}
-use Rattle.esc_events.specs.Stands.{StandsFor}
+use Rattle.esc_events.specs.Stands.{AreBooks, StandsFor}
 use Rattle.esc_events.specs.Taking.{IsNew}
 use Rattle.esc_events.specs.Works.{no_work}
 use Rattle.esc_events.proofs.Arriving.{books_noted, books_parked, books_held}
@@ -43,15 +73,18 @@ use Rattle.esc_desk.specs.Crashes.{AddsStore, AddsStoreFor}
 use Rattle.esc_desk.specs.Sources.{IsSource}
 use Rattle.esc_desk.specs.Knowing.{IsInserted}
 use Rattle.esc_desk.specs.Takings.{IsKept}
-use Rattle.esc_desk.proofs.CrashLemmas.{leaves_for, adds_none, adds_for}
+use Rattle.esc_desk.proofs.CrashLemmas.{leaves_for}
+use Rattle.esc_desk.proofs.CrashSteps.{adds_for, adds_none}
 use Rattle.esc_desk.proofs.KnownRows.{told_more, told_same, says_row, says_only, says_none, put_at}
 
 -- ---- a receipt alone, or with a parked body
 
-pub stands_noted : (e : List EventValue) (a : ArrivalValue) (k : Kept) (found : Finding) (known : Known) (receipt : ReceiptValue) → IsNew e a k found known receipt
-    → (found ≡ Unlisted → ⊥) → ((q : ℕ) → held_row found ≡ Some q → IsSome (k.bodies q)) → StandsFor sha256 reading (e ++ arrived a ∷ []) (with_receipt k receipt)
+pub stands_noted : (e : List EventValue) (a : ArrivalValue) (k : Kept) (found : Finding) (known : Known) (receipt : ReceiptValue)
+    → IsNew e a k found known receipt → (found ≡ Unlisted → ⊥) → ((q : ℕ) → held_row found ≡ Some q → IsSome (k.bodies q))
+    → StandsFor sha256 reading (e ++ arrived a ∷ []) (with_receipt k receipt)
 stands_noted e a k found known receipt is listed there =
-    stands_still e (e ++ arrived a ∷ []) k (with_receipt k receipt) is.stood (books_noted e a k found known receipt is listed there) refl refl refl refl refl
+    let books = books_noted e a k found known receipt is listed there in
+    stands_still e (e ++ arrived a ∷ []) k (with_receipt k receipt) is.stood books refl refl refl refl refl
 
 -- a row lists the body, and it isn't that row's deposit
 abbrev pub IsRefused : Finding → Type 0
@@ -68,78 +101,87 @@ refused_row found (inr (r, is)) = ap held_row is
 pub holding_listed : (r : ℕ) (d : DepositValue) → Holding r d ≡ Unlisted → ⊥
 holding_listed r d same = true≢false (ap (λ (f : Finding). is_some (held_row f)) same)
 
+-- what a note adds to what is kept is its receipt, and maybe a parked body
+record IsNoted (receipt : ReceiptValue) (k later : Kept) : Type 0 where
+  listed : later.listed ≡ k.listed
+  bodies : later.bodies ≡ k.bodies
+  moment : later.moment ≡ k.moment
+  steps : later.steps ≡ k.steps
+  registry : later.registry ≡ k.registry
+  chain : kept_chain later ≡ kept_chain k
+  receipts : later.receipts ≡ k.receipts ++ receipt ∷ []
+
+noted : (receipt : ReceiptValue) (parking : Parking) (body : List ℕ) (k : Kept) → IsNoted receipt k (noted_by receipt parking body k)
+noted receipt Needless body k =
+    record { listed = refl; bodies = refl; moment = refl; steps = refl; registry = refl; chain = refl; receipts = refl }
+noted receipt Free body k =
+    record { listed = refl; bodies = refl; moment = refl; steps = refl; registry = refl; chain = refl; receipts = refl }
+noted receipt Crowded body k =
+    record { listed = refl; bodies = refl; moment = refl; steps = refl; registry = refl; chain = refl; receipts = refl }
+
 module _ (e : List EventValue) (a : ArrivalValue) (k : Kept) (known : Known) (receipt : ReceiptValue) (is : IsNew e a k Unlisted known receipt) where
   pub digest_is : receipt.digest ≡ sha256 a.body
   digest_is = ap (λ (r : ReceiptValue). r.digest) is.receipt_is
 
-  pub stands_parked : (parking : Parking) → IsParking k.parked receipt.digest parking → (parking ≡ Crowded → ⊥) → StandsFor sha256 reading (e ++ arrived a ∷ []) (noted_by receipt parking a.body k)
-  stands_parked parking at free = by_parking parking (subst (λ (d : List ℕ). IsParking k.parked d parking) digest_is at) free
-    where
-      by_parking : (parking : Parking) → IsParking k.parked (sha256 a.body) parking → (parking ≡ Crowded → ⊥) → StandsFor sha256 reading (e ++ arrived a ∷ []) (noted_by receipt parking a.body k)
-      by_parking Needless at free = stands_still e (e ++ arrived a ∷ []) k (noted_by receipt Needless a.body k) is.stood (books_parked e a k known receipt is Needless at free) refl refl refl refl refl
-      by_parking Free at free = stands_still e (e ++ arrived a ∷ []) k (noted_by receipt Free a.body k) is.stood (books_parked e a k known receipt is Free at free) refl refl refl refl refl
-      by_parking Crowded at free = absurd (free refl)
+  pub stands_parked : (parking : Parking) → IsParking k.parked receipt.digest parking → (parking ≡ Crowded → ⊥)
+      → StandsFor sha256 reading (e ++ arrived a ∷ []) (noted_by receipt parking a.body k)
+  stands_parked parking at free =
+      let later = noted_by receipt parking a.body k in
+      let same = noted receipt parking a.body k in
+      let here = subst (λ (d : List ℕ). IsParking k.parked d parking) digest_is at in
+      let books = books_parked e a k known receipt is parking here free in
+      stands_still e (e ++ arrived a ∷ []) k later is.stood books same.listed same.bodies same.moment same.steps same.registry
 
   -- what a crash may leave: where there is no place for the body, nothing was added
-  pub adds_parked : {S X : Type 0} (g : Ghosts S) (old new : Held S) (result : Result X SFault) (parking : Parking) → IsParking k.parked receipt.digest parking
-      → (parking ≡ Crowded → LeavesNoMore g old new) → AddsStore g old new result (noted_by receipt parking a.body k) → AddsStoreFor g old new result (e ++ arrived a ∷ [])
-  adds_parked g old new result Needless at none adds = adds_for g old new result _ _ (stands_parked Needless at (λ full. let never : ⊥ = cc in never)) adds
-  adds_parked g old new result Free at none adds = adds_for g old new result _ _ (stands_parked Free at (λ full. let never : ⊥ = cc in never)) adds
-  adds_parked g old new result Crowded at none adds = adds_none g old new result _ (none refl)
+  pub adds_parked : {S X : Type 0} (g : Ghosts S) (old new : Held S) (result : Result X SFault) (parking : Parking)
+      → IsParking k.parked receipt.digest parking → (parking ≡ Crowded → LeavesNoMore g old new)
+      → AddsStore g old new result (noted_by receipt parking a.body k) → AddsStoreFor g old new result (e ++ arrived a ∷ [])
+  unfolding AddsStore AddsStoreFor
+  adds_parked g old new result Needless at none adds =
+      let stands = stands_parked Needless at (λ full. let never : ⊥ = cc in never) in
+      adds_for stands adds
+  adds_parked g old new result Free at none adds =
+      let stands = stands_parked Free at (λ full. let never : ⊥ = cc in never) in
+      adds_for stands adds
+  adds_parked g old new result Crowded at none adds = adds_none (none refl)
 
-steps_noted : (receipt : ReceiptValue) (parking : Parking) (body : List ℕ) (k : Kept) → (noted_by receipt parking body k).steps ≡ k.steps
-steps_noted receipt Needless body k = refl
-steps_noted receipt Free body k = refl
-steps_noted receipt Crowded body k = refl
-
-chain_noted : (receipt : ReceiptValue) (parking : Parking) (body : List ℕ) (k : Kept) → kept_chain (noted_by receipt parking body k) ≡ kept_chain k
-chain_noted receipt Needless body k = refl
-chain_noted receipt Free body k = refl
-chain_noted receipt Crowded body k = refl
-
-bodies_noted : (receipt : ReceiptValue) (parking : Parking) (body : List ℕ) (k : Kept) → (noted_by receipt parking body k).bodies ≡ k.bodies
-bodies_noted receipt Needless body k = refl
-bodies_noted receipt Free body k = refl
-bodies_noted receipt Crowded body k = refl
-
-receipts_noted : (receipt : ReceiptValue) (parking : Parking) (body : List ℕ) (k : Kept) → (noted_by receipt parking body k).receipts ≡ k.receipts ++ receipt ∷ []
-receipts_noted receipt Needless body k = refl
-receipts_noted receipt Free body k = refl
-receipts_noted receipt Crowded body k = refl
-
-module _ {S : Type 0} (g : Ghosts S) (store : Store S) (e : List EventValue) (a : ArrivalValue) (k : Kept) (found : Finding) (known now : Known) (receipt : ReceiptValue) (is : IsNew e a k found known receipt)
+module _ {S : Type 0} (g : Ghosts S) (store : Store S) (e : List EventValue) (a : ArrivalValue) (k : Kept) (found : Finding) (known now : Known)
+    (receipt : ReceiptValue) (is : IsNew e a k found known receipt)
     (parking : Parking) (stands : StandsFor sha256 reading (e ++ arrived a ∷ []) (noted_by receipt parking a.body k)) where
   -- what the store keeps then, where this is known of its rows
   pub kept_noted : AreHeld k.bodies now.held.items → AreHeldBy (k.receipts ++ receipt ∷ []) now.told.items → now.chain.items ≡ kept_chain k
       → Stands g store (noted_by receipt parking a.body k) → LeavesOnly g store (noted_by receipt parking a.body k) → IsKept g store e a now no_work
-  kept_noted held told chain stood left = record {
-    serves = record { kept = noted_by receipt parking a.body k; stands = stood; stands_for = stands };
-    knows = record {
-      held = subst (λ (b : ℕ → Option (List ℕ)). AreHeld b now.held.items) (sym (bodies_noted receipt parking a.body k)) held;
-      told = subst (λ (rs : List ReceiptValue). AreHeldBy rs now.told.items) (sym (receipts_noted receipt parking a.body k)) told;
-      chain = chain ∙ sym (chain_noted receipt parking a.body k);
-    };
-    works = no_work_of e (arrived a) k (noted_by receipt parking a.body k) is.stood stands (union-arrived e a) (steps_noted receipt parking a.body k);
-    idle = λ apart same. refl;
-    left = leaves_for g store (noted_by receipt parking a.body k) (e ++ arrived a ∷ []) stands left;
-  }
+  kept_noted held told chain stood left =
+      let later = noted_by receipt parking a.body k in
+      let same = noted receipt parking a.body k in
+      record {
+        serves = record { kept = later; stands = stood; stands_for = stands };
+        knows = record {
+          held = subst (λ (b : ℕ → Option (List ℕ)). AreHeld b now.held.items) (sym same.bodies) held;
+          told = subst (λ (rs : List ReceiptValue). AreHeldBy rs now.told.items) (sym same.receipts) told;
+          chain = chain ∙ sym same.chain;
+        };
+        works = no_work_of e (arrived a) k later is.stood stands (union-arrived e a) same.steps;
+        idle = λ apart same. refl;
+        left = leaves_for g store stands left;
+      }
 
 -- where the receipt says of no row that it is held, what is known stays
-pub told_still : (e : List EventValue) (a : ArrivalValue) (k : Kept) (found : Finding) (known : Known) (receipt : ReceiptValue) → IsNew e a k found known receipt → held_row found ≡ None
-    → AreHeldBy (k.receipts ++ receipt ∷ []) known.told.items
+pub told_still : (e : List EventValue) (a : ArrivalValue) (k : Kept) (found : Finding) (known : Known) (receipt : ReceiptValue)
+    → IsNew e a k found known receipt → held_row found ≡ None → AreHeldBy (k.receipts ++ receipt ∷ []) known.told.items
 told_still e a k found known receipt is none =
     subst (λ (r : ReceiptValue). AreHeldBy (k.receipts ++ r ∷ []) known.told.items) (sym is.receipt_is)
-    (told_same k.receipts _ known.told.items is.known_is.told (says_none a.number (sha256 a.body) found _ none))
+    (told_same _ is.known_is.told (says_none a.number (sha256 a.body) found _ none))
 
 -- where it says so of a row, that row is one of them
-pub told_held : (e : List EventValue) (a : ArrivalValue) (k : Kept) (row : ℕ) (d : DepositValue) (known : Known) (receipt : ReceiptValue) → IsNew e a k (Holding row d) known receipt
-    → (more : List ℕ) → IsInserted known.told.items row more → AreHeldBy (k.receipts ++ receipt ∷ []) more
+pub told_held : (e : List EventValue) (a : ArrivalValue) (k : Kept) (row : ℕ) (d : DepositValue) (known : Known) (receipt : ReceiptValue)
+    → IsNew e a k (Holding row d) known receipt → (more : List ℕ) → IsInserted known.told.items row more
+    → AreHeldBy (k.receipts ++ receipt ∷ []) more
 told_held e a k row d known receipt is more inserted =
+    let again = is_among known.told.items (Some row) in
+    let digest = sha256 a.body in
     subst (λ (r : ReceiptValue). AreHeldBy (k.receipts ++ r ∷ []) more) (sym is.receipt_is)
-    (told_more k.receipts _ known.told.items more row is.known_is.told inserted (says_row a.number (sha256 a.body) row d again) (says_only a.number (sha256 a.body) row d again))
-  where
-    again : Bool
-    again = is_among known.told.items (Some row)
+    (told_more _ is.known_is.told inserted (says_row a.number digest row d again) (says_only a.number digest row d again))
 
 -- ---- a deposit is held
 
@@ -162,31 +204,50 @@ reads_of m body r d is = by_row (row_of m (sha256 body)) (reading body) is
     by_row (Some q) (Err n) is = absurd (cc)
     by_row (Some q) (Ok e) is = ap Ok (by_test q e _ is)
 
-module _ (e : List EventValue) (a : ArrivalValue) (k : Kept) (row : ℕ) (d : DepositValue) (known : Known) (receipt : ReceiptValue) (is : IsNew e a k (Holding row d) known receipt) where
+-- a body is held of a row whose deposit it is
+module _ (e : List EventValue) (a : ArrivalValue) (k : Kept) (row : ℕ) where
   -- the bodies with this one are where the deposits are read from
+  pub source_of : (d : DepositValue) → finding sha256 reading (union e) a.body ≡ Holding row d
+      → IsSource (Arrived row (Some d)) k (body_put k.bodies row a.body)
+  source_of d is =
+      ((a.body, put_at k.bodies row a.body, reads_of (union e) a.body row d is), λ r other. ap (λ b. cond b (Some a.body) (k.bodies r)) other)
+
+  still_held : k.bodies row ≡ None → (r : ℕ) (body : List ℕ) → k.bodies r ≡ Some body → body_put k.bodies row a.body r ≡ Some body
+  still_held none r body some = by_test (r == row) refl
+    where
+      by_test : (b : Bool) → (r == row) ≡ b → cond b (Some a.body) (k.bodies r) ≡ Some body
+      by_test true same = absurd (no_answer (sym none ∙ ap k.bodies (sym (same_number r row same)) ∙ some))
+      by_test false other = some
+
+  -- where nothing else of what a move is made by has changed, there is a move
+  pub move_to : {rows : List ℕ} {plan : Plan} {moment : Option ℤ} {listed : List MRow} (receipts : List ReceiptValue) → k.bodies row ≡ None
+      → StandsFor sha256 reading e k → AreBooks sha256 reading (e ++ arrived a ∷ []) (with_body (record k { receipts = receipts }) row a.body)
+      → AreHeld (body_put k.bodies row a.body) rows → listed ≡ k.listed → moment ≡ k.moment
+      → AreLatestSteps listed rows moment plan.new.items → IsPlanned k (body_put k.bodies row a.body) plan
+      → IsMove e (arrived a) k (with_body (record k { receipts = receipts }) row a.body) [] rows (body_put k.bodies row a.body) plan
+  move_to {rows} {plan} {moment} {listed} receipts none stood books held rows_are moment_is latest planned =
+      let latest_there = subst (λ (m : List MRow). AreLatestSteps m rows moment plan.new.items) rows_are latest in
+      record {
+        stood = stood;
+        books = books;
+        begins = sym (append-nil k.listed);
+        keeps = still_held none;
+        held = held;
+        same = λ r. refl;
+        latest = subst (λ (t : Option ℤ). AreLatestSteps k.listed rows t plan.new.items) moment_is latest_there;
+        planned = planned;
+      }
+
+module _ (e : List EventValue) (a : ArrivalValue) (k : Kept) (row : ℕ) (d : DepositValue) (known : Known) (receipt : ReceiptValue)
+    (is : IsNew e a k (Holding row d) known receipt) where
   pub held_source : IsSource (Arrived row (Some d)) k (body_put k.bodies row a.body)
-  held_source = ((a.body, put_at k.bodies row a.body, reads_of (union e) a.body row d (sym is.found_is)), λ r other. ap (λ b. cond b (Some a.body) (k.bodies r)) other)
+  held_source = source_of e a k row d (sym is.found_is)
 
   module _ (none : k.bodies row ≡ None) (rows : List ℕ) (plan : Plan) (moment : Option ℤ) (listed : List MRow) where
-    still_held : (r : ℕ) (body : List ℕ) → k.bodies r ≡ Some body → body_put k.bodies row a.body r ≡ Some body
-    still_held r body some = by_test (r == row) refl
-      where
-        by_test : (b : Bool) → (r == row) ≡ b → cond b (Some a.body) (k.bodies r) ≡ Some body
-        by_test true same = absurd (no_answer (sym none ∙ ap k.bodies (sym (same_number r row same)) ∙ some))
-        by_test false other = some
-
-    pub move_of : AreHeld (body_put k.bodies row a.body) rows → listed ≡ k.listed → moment ≡ k.moment → AreLatestSteps listed rows moment plan.new.items → IsPlanned k (body_put k.bodies row a.body) plan
+    pub move_of : AreHeld (body_put k.bodies row a.body) rows → listed ≡ k.listed → moment ≡ k.moment
+        → AreLatestSteps listed rows moment plan.new.items → IsPlanned k (body_put k.bodies row a.body) plan
         → IsMove e (arrived a) k (held_by receipt row a.body k) [] rows (body_put k.bodies row a.body) plan
-    move_of held rows_are moment_is latest planned = record {
-      stood = is.stood;
-      books = books_held e a k row d known receipt is none;
-      begins = sym (append-nil k.listed);
-      keeps = still_held;
-      held = held;
-      same = λ r. refl;
-      latest = subst (λ (t : Option ℤ). AreLatestSteps k.listed rows t plan.new.items) moment_is (subst (λ (m : List MRow). AreLatestSteps m rows moment plan.new.items) rows_are latest);
-      planned = planned;
-    }
+    move_of = move_to e a k row (k.receipts ++ receipt ∷ []) none is.stood (books_held e a k row d known receipt is none)
 
 -- ---- the row that a receipt names
 
@@ -198,10 +259,12 @@ row_in m digest = by_row (row_of m digest) refl
     by_row (Some r) is = (position-Some (λ (row : MRow). bytes_eq row.digest digest) m r no_row is).0
 
 -- it is one of those that are listed
-pub row_within : (m : List MRow) (body number digest : List ℕ) (again : Bool) → IfSome (receipt_by number digest false (finding sha256 reading m body) again).row (λ r. r < length m)
+pub row_within : (m : List MRow) (body number digest : List ℕ) (again : Bool)
+    → IfSome (receipt_by number digest false (finding sha256 reading m body) again).row (λ r. r < length m)
 row_within m body number digest again = by_row (row_of m (sha256 body)) (reading body) (row_in m (sha256 body))
   where
-    by_row : (row : Option ℕ) (told : Result DepositValue ℕ) → IfSome row (λ r. r < length m) → IfSome (receipt_by number digest false (found_at m row told) again).row (λ r. r < length m)
+    by_row : (row : Option ℕ) (told : Result DepositValue ℕ) → IfSome row (λ r. r < length m)
+        → IfSome (receipt_by number digest false (found_at m row told) again).row (λ r. r < length m)
     by_row None told within = tt
     by_row (Some r) (Err n) within = within
     by_row (Some r) (Ok d) within = by_test (as_listed (row_at m r).header d.header)

@@ -1,5 +1,33 @@
 -- What is known of a store's rows with one more receipt, and with one more body.
-use Rattle.std.proofs.Common.{◌≡◌, ◌⊎◌, inl, inr, ℕ, Bool, true, false, cond, ◌==◌, List, [], ◌∷◌, ◌++◌, Option, Some, None, IsSome, is_some, refl, sym, ap, subst, ◌∙◌, arith, nat_eq, true≢false}
+use Rattle.std.proofs.Common.{
+  ◌≡◌,
+  ◌⊎◌,
+  inl,
+  inr,
+  ℕ,
+  Bool,
+  true,
+  false,
+  cond,
+  ◌==◌,
+  List,
+  [],
+  ◌∷◌,
+  ◌++◌,
+  Option,
+  Some,
+  None,
+  IsSome,
+  is_some,
+  refl,
+  sym,
+  ap,
+  subst,
+  ◌∙◌,
+  arith,
+  nat_eq,
+  true≢false,
+}
 use Rattle.std.specs.List.{Any, Contains, list_any}
 use Rattle.std.specs.FinSet as set
 use Rattle.std.specs.Ordering.{nat_cmp, eq_by_cmp}
@@ -34,9 +62,12 @@ any-last P (q ∷ rs) r p = later P q (rs ++ r ∷ []) (any-last P rs r p)
 -- ---- the rows that receipts say are held
 
 -- a receipt that says of one row that it is held, and that row is one of them now
-pub told_more : (receipts : List ReceiptValue) (receipt : ReceiptValue) (told more : List ℕ) (row : ℕ) → AreHeldBy receipts told → IsInserted told row more
+pub told_more : {receipts : List ReceiptValue} {told more : List ℕ} {row : ℕ} (receipt : ReceiptValue) → AreHeldBy receipts told → IsInserted told row more
     → SaysHeld row receipt → ((r : ℕ) → SaysHeld r receipt → r ≡ row) → AreHeldBy (receipts ++ receipt ∷ []) more
-told_more receipts receipt told more row are inserted says only = record { rising = inserted.rising; each = λ r. (λ there. to r ((inserted.each r).0 there), λ any. (inserted.each r).1 (back r (split-last (SaysHeld r) receipts receipt any))) }
+told_more {receipts} {told} {more} {row} receipt are inserted says only = record {
+  rising = inserted.rising;
+  each = λ r. (λ there. to r ((inserted.each r).0 there), λ any. (inserted.each r).1 (back r (split-last (SaysHeld r) receipts receipt any)));
+}
   where
     to : (r : ℕ) → (r ≡ row) ⊎ Contains told r → Any (SaysHeld r) (receipts ++ receipt ∷ [])
     to r (inl is) = any-last (SaysHeld r) receipts receipt (subst (λ (q : ℕ). SaysHeld q receipt) (sym is) says)
@@ -47,8 +78,12 @@ told_more receipts receipt told more row are inserted says only = record { risin
     back r (inr said) = inl (only r said)
 
 -- a receipt that says so of no row
-pub told_same : (receipts : List ReceiptValue) (receipt : ReceiptValue) (told : List ℕ) → AreHeldBy receipts told → ((r : ℕ) → SaysHeld r receipt → ⊥) → AreHeldBy (receipts ++ receipt ∷ []) told
-told_same receipts receipt told are none = record { rising = are.rising; each = λ r. (λ there. any-front (SaysHeld r) receipts receipt ((are.each r).0 there), λ any. back r (split-last (SaysHeld r) receipts receipt any)) }
+pub told_same : {receipts : List ReceiptValue} {told : List ℕ} (receipt : ReceiptValue) → AreHeldBy receipts told → ((r : ℕ) → SaysHeld r receipt → ⊥)
+    → AreHeldBy (receipts ++ receipt ∷ []) told
+told_same {receipts} {told} receipt are none = record {
+  rising = are.rising;
+  each = λ r. (λ there. any-front (SaysHeld r) receipts receipt ((are.each r).0 there), λ any. back r (split-last (SaysHeld r) receipts receipt any));
+}
   where
     back : (r : ℕ) → Any (SaysHeld r) receipts ⊎ SaysHeld r receipt → Contains told r
     back r (inl any) = (are.each r).1 any
@@ -56,22 +91,30 @@ told_same receipts receipt told are none = record { rising = are.rising; each = 
 
 -- ---- what a receipt says
 
-pub says_row : (number digest : List ℕ) (row : ℕ) (d : DepositValue) (again : Bool) → SaysHeld row (receipt_by number digest false (Holding row d) again)
-says_row number digest row d again = says_from_holds row number digest false (Holding row d) again (same_self row)
+module _ (number digest : List ℕ) where
+  abbrev receipt_of : Finding → Bool → ReceiptValue
+  receipt_of found again = receipt_by number digest false found again
 
-pub says_only : (number digest : List ℕ) (row : ℕ) (d : DepositValue) (again : Bool) (r : ℕ) → SaysHeld r (receipt_by number digest false (Holding row d) again) → r ≡ row
-says_only number digest row d again r says = sym (same_answer (is_row_of r (Some row) (holds_from_says r number digest false (Holding row d) again says)))
+  pub says_row : (row : ℕ) (d : DepositValue) (again : Bool) → SaysHeld row (receipt_of (Holding row d) again)
+  says_row row d again = says_from_holds row number digest false (Holding row d) again (same_self row)
 
-pub says_none : (number digest : List ℕ) (f : Finding) (again : Bool) → held_row f ≡ None → (r : ℕ) → SaysHeld r (receipt_by number digest false f again) → ⊥
-says_none number digest f again none r says = no_answer (sym none ∙ is_row_of r (held_row f) (holds_from_says r number digest false f again says))
+  pub says_only : (row : ℕ) (d : DepositValue) (again : Bool) (r : ℕ) → SaysHeld r (receipt_of (Holding row d) again) → r ≡ row
+  says_only row d again r says = sym (same_answer (is_row_of r (Some row) (holds_from_says r number digest false (Holding row d) again says)))
+
+  pub says_none : (f : Finding) (again : Bool) → held_row f ≡ None → (r : ℕ) → SaysHeld r (receipt_of f again) → ⊥
+  says_none f again none r says = no_answer (sym none ∙ is_row_of r (held_row f) (holds_from_says r number digest false f again says))
 
 -- ---- the rows of which a body is held
 
 pub put_at : (bodies : ℕ → Option (List ℕ)) (row : ℕ) (body : List ℕ) → body_put bodies row body row ≡ Some body
 put_at bodies row body = ap (λ b. cond b (Some body) (bodies row)) (same_self row)
 
-pub held_more : (bodies : ℕ → Option (List ℕ)) (row : ℕ) (body : List ℕ) (held more : List ℕ) → AreHeld bodies held → IsInserted held row more → AreHeld (body_put bodies row body) more
-held_more bodies row body held more are inserted = record { rising = inserted.rising; each = λ r. (λ there. to r ((inserted.each r).0 there), λ some. (inserted.each r).1 (back r (r == row) refl some)) }
+pub held_more : (bodies : ℕ → Option (List ℕ)) (row : ℕ) (body : List ℕ) (held more : List ℕ)
+    → AreHeld bodies held → IsInserted held row more → AreHeld (body_put bodies row body) more
+held_more bodies row body held more are inserted = record {
+  rising = inserted.rising;
+  each = λ r. (λ there. to r ((inserted.each r).0 there), λ some. (inserted.each r).1 (back r (r == row) refl some));
+}
   where
     still : (b : Bool) (o : Option (List ℕ)) → IsSome o → IsSome (cond b (Some body) o)
     still true o some = refl
@@ -97,7 +140,10 @@ pub no_body : (bodies : ℕ → Option (List ℕ)) (rows : List ℕ) → AreHeld
 no_body bodies rows are r other = by_body (bodies r) refl
   where
     any : IsSome (bodies r) → list_any (λ q. nat_eq q r) rows ≡ true
-    any some = sym (set.contains-from_list_nat rows r) ∙ set.contains-from_list nat_cmp_total rows r ∙ list_any-from_Contains (eq_by_cmp_equiv nat_cmp_total) r rows ((are.each r).1 some)
+    any some =
+        sym (set.contains-from_list_nat rows r)
+        ∙ set.contains-from_list nat_cmp_total rows r
+        ∙ list_any-from_Contains (eq_by_cmp_equiv nat_cmp_total) r rows ((are.each r).1 some)
 
     by_body : (o : Option (List ℕ)) → bodies r ≡ o → o ≡ None
     by_body None is = refl

@@ -1,5 +1,40 @@
 -- An arrival that is like an earlier one, and whose body is there or needn't be, changes nothing, whatever one event comes behind it.
-use Rattle.std.proofs.Common.{◌≡◌, ◌⊎◌, inl, inr, ℕ, suc, ◌+◌, ◌<◌, Bool, true, false, cond, not, ◌||◌, List, [], ◌∷◌, ◌++◌, length, Option, Some, None, is_some, Result, Ok, Err, refl, sym, ap, ap₂, subst, ◌∙◌, append-nil, arith}
+use Rattle.std.proofs.Common.{
+  ◌≡◌,
+  ◌⊎◌,
+  inl,
+  inr,
+  ℕ,
+  suc,
+  ◌+◌,
+  ◌<◌,
+  Bool,
+  true,
+  false,
+  cond,
+  not,
+  ◌||◌,
+  List,
+  [],
+  ◌∷◌,
+  ◌++◌,
+  length,
+  Option,
+  Some,
+  None,
+  is_some,
+  Result,
+  Ok,
+  Err,
+  refl,
+  sym,
+  ap,
+  ap₂,
+  subst,
+  ◌∙◌,
+  append-nil,
+  arith,
+}
 use Rattle.std.specs.List.{list_any, find, Any, position_or_len}
 use Rattle.std.specs.Str.{bytes_eq}
 use Rattle.std.specs.Cmp.Lexicographic.{bytes_decides}
@@ -70,7 +105,8 @@ first_in_front : {X : Type 0} (p : X → Bool) (xs ys : List X) → position_or_
 first_in_front p [] ys within = absurd (omega (arith, within))
 first_in_front p (x ∷ xs) ys within = by_test (p x) (first_in_front p xs ys) within
   where
-    by_test : (b : Bool) → (position_or_len p xs < length xs → position_or_len p (xs ++ ys) ≡ position_or_len p xs) → cond (not b) (1 + position_or_len p xs) 0 < suc (length xs)
+    by_test : (b : Bool) → (position_or_len p xs < length xs → position_or_len p (xs ++ ys) ≡ position_or_len p xs)
+        → cond (not b) (1 + position_or_len p xs) 0 < suc (length xs)
         → cond (not b) (1 + position_or_len p (xs ++ ys)) 0 ≡ cond (not b) (1 + position_or_len p xs) 0
     by_test true rest within = refl
     by_test false rest within = ap (λ (n : ℕ). 1 + n) (rest (omega (arith, within)))
@@ -85,7 +121,8 @@ row_still m more d q then =
     (still, omega (arith, first, within))
 
 found_still : (m more : List MRow) (r : ℕ) → r < length m → (t : Result DepositValue ℕ) → found (m ++ more) r t ≡ found m r t
-found_still m more r within (Ok d) = ap (λ (row : MRow). cond (as_listed row.header d.header) (Holding r d) (Differing r)) (get_or_append_left m more no_row r within)
+found_still m more r within (Ok d) =
+    ap (λ (row : MRow). cond (as_listed row.header d.header) (Holding r d) (Differing r)) (get_or_append_left m more no_row r within)
 found_still m more r within (Err n) = refl
 
 holds_still : (m more : List MRow) (q r : ℕ) (c : Coming) → row_of m (sha256 c.body) ≡ Some q → holding (m ++ more) r c ≡ holding m r c
@@ -129,15 +166,21 @@ module _ (l : List Coming) (c : Coming) (was : list_any (like c) l ≡ true) whe
 
 -- ---- events f with this arrival stand for what the events e without it do
 
--- where m were listed before it, and l counted
-module _ (m more : List MRow) (l tail : List Coming) (c : Coming) (there : IsThere m l c) (e f : List EventValue)
-    (with : counted sha256 reading f ≡ (l ++ c ∷ []) ++ tail) (without : counted sha256 reading e ≡ l ++ tail)
-    (listed_are : union e ≡ m ++ more) (rows : union f ≡ union e) (moment : moment_of f ≡ moment_of e) (firsts : first_ones (comings f) ≡ first_ones (comings e)) where
+-- where m were listed before it and then more, and l counted before it and then a tail
+record IsOneMore (m more : List MRow) (l tail : List Coming) (c : Coming) (e f : List EventValue) : Type 0 where
+  counted_with : counted sha256 reading f ≡ (l ++ c ∷ []) ++ tail
+  counted_without : counted sha256 reading e ≡ l ++ tail
+  listed_are : union e ≡ m ++ more
+  rows : union f ≡ union e
+  moment : moment_of f ≡ moment_of e
+  firsts : first_ones (comings f) ≡ first_ones (comings e)
+
+module _ {m more : List MRow} {l tail : List Coming} {c : Coming} {e f : List EventValue} (there : IsThere m l c) (one : IsOneMore m more l tail c e f) where
   within : (x : Coming) → Among ((l ++ c ∷ []) ++ tail) x → Among (counted sha256 reading f) x
-  within x there = subst (λ (xs : List Coming). Among xs x) (sym with) there
+  within x there = subst (λ (xs : List Coming). Among xs x) (sym one.counted_with) there
 
   stays : (x : Coming) → Among (counted sha256 reading e) x → Among (counted sha256 reading f) x
-  stays x there = within x (among_through l tail c x (subst (λ (xs : List Coming). Among xs x) without there))
+  stays x there = within x (among_through l tail c x (subst (λ (xs : List Coming). Among xs x) one.counted_without there))
 
   apart_without : IsApart sha256 reading f → IsApart sha256 reading e
   apart_without apart a b first second same = apart a b (stays a first) (stays b second) same
@@ -148,13 +191,16 @@ module _ (m more : List MRow) (l tail : List Coming) (c : Coming) (there : IsThe
     where
       by_case : IsThere m l c → list_any (holding (m ++ more) r) l ≡ true
       by_case (inl any) =
-          let one = one_of (under (sha256 c.body)) l any in
-          let same = (bytes_decides (sha256 one.0.body) (sha256 c.body)).0 one.2 in
-          let body = apart one.0 c (within one.0 (among-front (l ++ c ∷ []) tail one.0 (among-front l (c ∷ []) one.0 one.1))) (within c (among-front (l ++ c ∷ []) tail c (among-last l c))) same in
-          any_of (holding (m ++ more) r) l one.0 one.1 (ap (λ (b : List ℕ). holds_row r (finding sha256 reading (m ++ more) b)) body ∙ holds)
+          let x = one_of (under (sha256 c.body)) l any in
+          let same = (bytes_decides (sha256 x.0.body) (sha256 c.body)).0 x.2 in
+          let x_counts = within x.0 (among-front (l ++ c ∷ []) tail x.0 (among-front l (c ∷ []) x.0 x.1)) in
+          let c_counts = within c (among-front (l ++ c ∷ []) tail c (among-last l c)) in
+          let body = apart x.0 c x_counts c_counts same in
+          any_of (holding (m ++ more) r) l x.0 x.1 (ap (λ (b : List ℕ). holds_row r (finding sha256 reading (m ++ more) b)) body ∙ holds)
       by_case (inr (q, at, held)) =
-          let one = one_of (holding m r) l (held r (sym (holds_still m more q r c at) ∙ holds)) in
-          any_of (holding (m ++ more) r) l one.0 one.1 (holds_still m more r r one.0 (row_found m r (row_of m (sha256 one.0.body)) (reading one.0.body) one.2) ∙ one.2)
+          let x = one_of (holding m r) l (held r (sym (holds_still m more q r c at) ∙ holds)) in
+          let lists = row_found m r (row_of m (sha256 x.0.body)) (reading x.0.body) x.2 in
+          any_of (holding (m ++ more) r) l x.0 x.1 (holds_still m more r r x.0 lists ∙ x.2)
 
   -- what it could be parked as came earlier
   parked_before : (d : List ℕ) → row_of (m ++ more) d ≡ None → under d c ≡ true → list_any (under d) l ≡ true
@@ -168,51 +214,68 @@ module _ (m more : List MRow) (l tail : List Coming) (c : Coming) (there : IsThe
       by_case (inr (q, at, held)) = absurd (no_answer (sym none ∙ ap (row_of (m ++ more)) (sym same) ∙ (row_still m more (sha256 c.body) q at).0))
 
   found_as : (p : Coming → Bool) → (p c ≡ true → list_any p l ≡ true) → find p (counted sha256 reading f) ≡ find p (counted sha256 reading e)
-  found_as p before = ap (find p) with ∙ find-both p (l ++ c ∷ []) l tail (find-push-old p l c before) ∙ ap (find p) (sym without)
+  found_as p before =
+      ap (find p) one.counted_with
+      ∙ find-both p (l ++ c ∷ []) l tail (find-push-old p l c before)
+      ∙ ap (find p) (sym one.counted_without)
 
   held_as : IsApart sha256 reading f → (r : ℕ) → held_body sha256 reading f r ≡ held_body sha256 reading e r
   held_as apart r =
-      ap (λ (n : List MRow). body_of (find (holding n r) (counted sha256 reading f))) (rows ∙ listed_are)
+      ap (λ (n : List MRow). body_of (find (holding n r) (counted sha256 reading f))) (one.rows ∙ one.listed_are)
       ∙ ap body_of (found_as (holding (m ++ more) r) (held_before apart r))
-      ∙ ap (λ (n : List MRow). body_of (find (holding n r) (counted sha256 reading e))) (sym listed_are)
+      ∙ ap (λ (n : List MRow). body_of (find (holding n r) (counted sha256 reading e))) (sym one.listed_are)
 
   parked_as : (d : List ℕ) → parked_body sha256 reading f d ≡ parked_body sha256 reading e d
   parked_as d =
-      ap (λ (n : List MRow). cond (is_some (row_of n d)) None (body_of (find (under d) (counted sha256 reading f)))) (rows ∙ listed_are)
+      ap (λ (n : List MRow). cond (is_some (row_of n d)) None (body_of (find (under d) (counted sha256 reading f)))) (one.rows ∙ one.listed_are)
       ∙ by_row (row_of (m ++ more) d) refl
-      ∙ ap (λ (n : List MRow). cond (is_some (row_of n d)) None (body_of (find (under d) (counted sha256 reading e)))) (sym listed_are)
+      ∙ ap (λ (n : List MRow). cond (is_some (row_of n d)) None (body_of (find (under d) (counted sha256 reading e)))) (sym one.listed_are)
     where
       by_row : (o : Option ℕ) → row_of (m ++ more) d ≡ o
-          → cond (is_some o) None (body_of (find (under d) (counted sha256 reading f))) ≡ cond (is_some o) None (body_of (find (under d) (counted sha256 reading e)))
+          → cond (is_some o) None (body_of (find (under d) (counted sha256 reading f)))
+          ≡ cond (is_some o) None (body_of (find (under d) (counted sha256 reading e)))
       by_row None none = ap body_of (found_as (under d) (parked_before d none))
       by_row (Some q) at = refl
 
   books_as : (k : Kept) → AreBooks sha256 reading e k → AreBooks sha256 reading f k
   books_as k books = record {
-    listed = books.listed ∙ sym rows;
-    receipts = books.receipts ∙ ap (receipts_after sha256 reading []) (sym firsts);
+    listed = books.listed ∙ sym one.rows;
+    receipts = books.receipts ∙ ap (receipts_after sha256 reading []) (sym one.firsts);
     bodies = λ apart r. books.bodies (apart_without apart) r ∙ sym (held_as apart r);
     parked = λ apart d. books.parked (apart_without apart) d ∙ sym (parked_as d);
-    moment = books.moment ∙ sym moment;
+    moment = books.moment ∙ sym one.moment;
     came = λ r body is. came_as r body (books.came r body is);
     waits = λ d body is. waits_as d body (books.waits d body is);
     told = books.told;
-    held_told = λ r some. subst (λ (n : List MRow). Any (TellsOf n r) k.receipts) (sym rows) (books.held_told r some);
+    held_told = λ r some. subst (λ (n : List MRow). Any (TellsOf n r) k.receipts) (sym one.rows) (books.held_told r some);
     parked_told = books.parked_told;
   }
     where
       came_as : (r : ℕ) (body : List ℕ) → CameFor sha256 reading e r body → CameFor sha256 reading f r body
-      came_as r body one = record { arrival = one.arrival; among = stays one.arrival one.among; holds = ap (λ (n : List MRow). holding n r one.arrival) rows ∙ one.holds; is_body = one.is_body }
+      came_as r body came = record {
+        arrival = came.arrival;
+        among = stays came.arrival came.among;
+        holds = ap (λ (n : List MRow). holding n r came.arrival) one.rows ∙ came.holds;
+        is_body = came.is_body;
+      }
 
       waits_as : (d body : List ℕ) → CameWith sha256 reading e d body → CameWith sha256 reading f d body
-      waits_as d body one = record { arrival = one.arrival; among = stays one.arrival one.among; digest_is = one.digest_is; is_body = one.is_body }
+      waits_as d body came = record {
+        arrival = came.arrival;
+        among = stays came.arrival came.among;
+        digest_is = came.digest_is;
+        is_body = came.is_body;
+      }
 
   stands_as : (k : Kept) → StandsFor sha256 reading e k → StandsFor sha256 reading f k
   stands_as k stood = stands_still e f k k stood (books_as k stood.books) refl refl refl refl refl
 
 -- an arrival with a reply is like an earlier one
-pub seen : (e : List EventValue) (a : ArrivalValue) (r : ReplyValue) → reply_to sha256 reading e a ≡ Some r → list_any (like (coming (union e) a)) (comings e) ≡ true
-seen e a r told = any_kept sha256 reading (comings e) (coming (union e) a) ∙ some_alike (union e) a.number (sha256 a.body) 1 (receipts_of sha256 reading e) r told
+pub seen : (e : List EventValue) (a : ArrivalValue) (r : ReplyValue) → reply_to sha256 reading e a ≡ Some r
+    → list_any (like (coming (union e) a)) (comings e) ≡ true
+seen e a r told =
+    any_kept sha256 reading (comings e) (coming (union e) a)
+    ∙ some_alike (union e) a.number (sha256 a.body) 1 (receipts_of sha256 reading e) r told
 
 module _ (e : List EventValue) (a : ArrivalValue) (k : Kept) (none : AddsNothing e a) where
   abbrev came : Coming
@@ -227,54 +290,77 @@ module _ (e : List EventValue) (a : ArrivalValue) (k : Kept) (none : AddsNothing
   count_then : counted sha256 reading then ≡ before ++ came ∷ []
   count_then = ap counting (comings-arrived e a) ∙ counting-append (comings e) (came ∷ [])
 
+  -- and where another comes behind it
+  count_with : (other : Coming) → counting ((comings e ++ came ∷ []) ++ other ∷ []) ≡ (before ++ came ∷ []) ++ counting (other ∷ [])
+  count_with other =
+      counting-append (comings e ++ came ∷ []) (other ∷ [])
+      ∙ ap (λ (l : List Coming). l ++ counting (other ∷ [])) (counting-append (comings e) (came ∷ []))
+
   same_rows : (m : List MRow) → m ≡ m ++ []
   same_rows m = sym (append-nil m)
 
   -- what stands for the events without it does so with it
   pub still_stands : StandsFor sha256 reading e k → StandsFor sha256 reading then k
   still_stands stood =
-      stands_as (union e) [] before [] came none.there e then (count_then ∙ sym (append-nil _)) (sym (append-nil _)) (same_rows (union e)) (union-arrived e a) (moment-arrived e a)
-      (ap first_ones (comings-arrived e a) ∙ one_more_seen (comings e) came none.alike) k stood
+      let one : IsOneMore (union e) [] before [] came e then = record {
+        counted_with = count_then ∙ sym (append-nil _);
+        counted_without = sym (append-nil _);
+        listed_are = same_rows (union e);
+        rows = union-arrived e a;
+        moment = moment-arrived e a;
+        firsts = ap first_ones (comings-arrived e a) ∙ one_more_seen (comings e) came none.alike;
+      } in
+      stands_as none.there one k stood
 
   -- also where another event comes behind it
   pub still_stands_with : (x : EventValue) → StandsFor sha256 reading (e ++ x ∷ []) k → StandsFor sha256 reading (then ++ x ∷ []) k
   still_stands_with (listed more) stood =
       let with = comings-listed then more ∙ comings-arrived e a in
       let without = comings-listed e more in
-      stands_as (union e) (new_rows (union e) more) before [] came none.there (e ++ listed more ∷ []) (then ++ listed more ∷ [])
-      (ap counting (comings-listed then more) ∙ count_then ∙ sym (append-nil _)) (ap counting without ∙ sym (append-nil _))
-      (union-listed e more)
-      (union-listed then more ∙ ap (λ (m : List MRow). extended m more) (union-arrived e a) ∙ sym (union-listed e more))
-      (moment-listed then more ∙ moment-arrived e a ∙ sym (moment-listed e more))
-      (ap first_ones with ∙ one_more_seen (comings e) came none.alike ∙ ap first_ones (sym without)) k stood
+      let one : IsOneMore (union e) (new_rows (union e) more) before [] came (e ++ listed more ∷ []) (then ++ listed more ∷ []) = record {
+        counted_with = ap counting (comings-listed then more) ∙ count_then ∙ sym (append-nil _);
+        counted_without = ap counting without ∙ sym (append-nil _);
+        listed_are = union-listed e more;
+        rows = union-listed then more ∙ ap (λ (m : List MRow). extended m more) (union-arrived e a) ∙ sym (union-listed e more);
+        moment = moment-listed then more ∙ moment-arrived e a ∙ sym (moment-listed e more);
+        firsts = ap first_ones with ∙ one_more_seen (comings e) came none.alike ∙ ap first_ones (sym without);
+      } in
+      stands_as none.there one k stood
   still_stands_with (arrived b) stood =
       let other = coming (union e) b in
       let with = comings-arrived then b ∙ ap₂ (λ (l : List Coming) (m : List MRow). l ++ coming m b ∷ []) (comings-arrived e a) (union-arrived e a) in
       let without = comings-arrived e b in
-      stands_as (union e) [] before (counting (other ∷ [])) came none.there (e ++ arrived b ∷ []) (then ++ arrived b ∷ [])
-      (ap counting with ∙ counting-append (comings e ++ came ∷ []) (other ∷ []) ∙ ap (λ (l : List Coming). l ++ counting (other ∷ [])) (counting-append (comings e) (came ∷ [])))
-      (ap counting without ∙ counting-append (comings e) (other ∷ []))
-      (union-arrived e b ∙ same_rows (union e))
-      (union-arrived then b ∙ union-arrived e a ∙ sym (union-arrived e b))
-      (moment-arrived then b ∙ moment-arrived e a ∙ sym (moment-arrived e b))
-      (ap first_ones with ∙ two_more_seen (comings e) came none.alike other ∙ ap first_ones (sym without)) k stood
+      let one : IsOneMore (union e) [] before (counting (other ∷ [])) came (e ++ arrived b ∷ []) (then ++ arrived b ∷ []) = record {
+        counted_with = ap counting with ∙ count_with other;
+        counted_without = ap counting without ∙ counting-append (comings e) (other ∷ []);
+        listed_are = union-arrived e b ∙ same_rows (union e);
+        rows = union-arrived then b ∙ union-arrived e a ∙ sym (union-arrived e b);
+        moment = moment-arrived then b ∙ moment-arrived e a ∙ sym (moment-arrived e b);
+        firsts = ap first_ones with ∙ two_more_seen (comings e) came none.alike other ∙ ap first_ones (sym without);
+      } in
+      stands_as none.there one k stood
   still_stands_with (moved t) stood =
       let with = comings-moved then t ∙ comings-arrived e a in
       let without = comings-moved e t in
-      stands_as (union e) [] before [] came none.there (e ++ moved t ∷ []) (then ++ moved t ∷ [])
-      (ap counting (comings-moved then t) ∙ count_then ∙ sym (append-nil _)) (ap counting without ∙ sym (append-nil _))
-      (union-moved e t ∙ same_rows (union e))
-      (union-moved then t ∙ union-arrived e a ∙ sym (union-moved e t))
-      (moment-moved then t ∙ sym (moment-moved e t))
-      (ap first_ones with ∙ one_more_seen (comings e) came none.alike ∙ ap first_ones (sym without)) k stood
+      let one : IsOneMore (union e) [] before [] came (e ++ moved t ∷ []) (then ++ moved t ∷ []) = record {
+        counted_with = ap counting (comings-moved then t) ∙ count_then ∙ sym (append-nil _);
+        counted_without = ap counting without ∙ sym (append-nil _);
+        listed_are = union-moved e t ∙ same_rows (union e);
+        rows = union-moved then t ∙ union-arrived e a ∙ sym (union-moved e t);
+        moment = moment-moved then t ∙ sym (moment-moved e t);
+        firsts = ap first_ones with ∙ one_more_seen (comings e) came none.alike ∙ ap first_ones (sym without);
+      } in
+      stands_as none.there one k stood
   still_stands_with (arrived_early b) stood =
       let other = early_coming (union e) b in
       let with = comings-early then b ∙ ap₂ (λ (l : List Coming) (m : List MRow). l ++ early_coming m b ∷ []) (comings-arrived e a) (union-arrived e a) in
       let without = comings-early e b in
-      stands_as (union e) [] before (counting (other ∷ [])) came none.there (e ++ arrived_early b ∷ []) (then ++ arrived_early b ∷ [])
-      (ap counting with ∙ counting-append (comings e ++ came ∷ []) (other ∷ []) ∙ ap (λ (l : List Coming). l ++ counting (other ∷ [])) (counting-append (comings e) (came ∷ [])))
-      (ap counting without ∙ counting-append (comings e) (other ∷ []))
-      (union-early e b ∙ same_rows (union e))
-      (union-early then b ∙ union-arrived e a ∙ sym (union-early e b))
-      (moment-early then b ∙ moment-arrived e a ∙ sym (moment-early e b))
-      (ap first_ones with ∙ two_more_seen (comings e) came none.alike other ∙ ap first_ones (sym without)) k stood
+      let one : IsOneMore (union e) [] before (counting (other ∷ [])) came (e ++ arrived_early b ∷ []) (then ++ arrived_early b ∷ []) = record {
+        counted_with = ap counting with ∙ count_with other;
+        counted_without = ap counting without ∙ counting-append (comings e) (other ∷ []);
+        listed_are = union-early e b ∙ same_rows (union e);
+        rows = union-early then b ∙ union-arrived e a ∙ sym (union-early e b);
+        moment = moment-early then b ∙ moment-arrived e a ∙ sym (moment-early e b);
+        firsts = ap first_ones with ∙ two_more_seen (comings e) came none.alike other ∙ ap first_ones (sym without);
+      } in
+      stands_as none.there one k stood

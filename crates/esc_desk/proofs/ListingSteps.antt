@@ -27,11 +27,12 @@ pub record IsAdopting (n : List MRow) (k : Kept) (rows : List ℕ) (made : Kept)
   pub same : with_all_adopted n made left ≡ with_all_adopted n k rows
 
 -- one more is adopted, of the body that is parked under its digest
-pub adopting_one : (n : List MRow) (k : Kept) (rows : List ℕ) (made : Kept) (r : ℕ) (left body d : List ℕ) → d ≡ (row_at n r).digest → IsAdopting n k rows made (r ∷ left) → made.parked d ≡ Some body
-    → IsAdopting n k rows (with_parked (with_body made r body) d None) left
+pub adopting_one : (n : List MRow) (k : Kept) (rows : List ℕ) (made : Kept) (r : ℕ) (left body d : List ℕ) → d ≡ (row_at n r).digest
+    → IsAdopting n k rows made (r ∷ left) → made.parked d ≡ Some body → IsAdopting n k rows (with_parked (with_body made r body) d None) left
 adopting_one n k rows made r left body d is at parked = record {
   apart = apart_still made r d body left at.apart.1 at.apart.2;
-  same = ap (λ (o : Option (List ℕ)). with_all_adopted n (with_adopted made r d o) left) (sym parked) ∙ ap (λ (x : List ℕ). with_all_adopted n (with_adopted made r x (made.parked x)) left) is ∙ at.same;
+  same = ap (λ (o : Option (List ℕ)). with_all_adopted n (with_adopted made r d o) left) (sym parked)
+      ∙ ap (λ (x : List ℕ). with_all_adopted n (with_adopted made r x (made.parked x)) left) is ∙ at.same;
 }
 
 -- ---- the rows are listed first
@@ -47,8 +48,8 @@ amended_as k n = with_all_dropped n (with_all_adopted n (with_listed k n) (adopt
 
 -- a change that lists the rows, and then adopts and drops the bodies as they were judged, makes an
 -- amendment
-pub listed_first : (k : Kept) (more n : List MRow) (told : Judged) → IsAmendmentOf k more n told
+pub listed_first : {k : Kept} {more n : List MRow} {told : Judged} → IsAmendmentOf k more n told
     → with_all_dropped n (with_all_adopted n (with_listed k n) told.adopted.items) told.dropped.items ≡ amended_kept k more
-listed_first k more n told of =
+listed_first {k = k} {n = n} of =
     ap₂ (λ (a d : List ℕ). with_all_dropped n (with_all_adopted n (with_listed k n) a) d) of.are_judged.adopted of.are_judged.dropped
     ∙ ap (amended_as k) of.is_union

@@ -1,5 +1,29 @@
 -- An amendment that lists no row more changes nothing, whatever one event comes behind it; and what a crash leaves after an amendment.
-use Rattle.std.proofs.Common.{◌≡◌, ◌≢◌, inl, inr, ℕ, ◌-◌, List, [], ◌∷◌, ◌++◌, length, Result, Ok, Err, refl, sym, ap, ap₂, subst, ◌∙◌, append-nil, length-append, arith}
+use Rattle.std.proofs.Common.{
+  ◌≡◌,
+  ◌≢◌,
+  inl,
+  inr,
+  ℕ,
+  ◌-◌,
+  List,
+  [],
+  ◌∷◌,
+  ◌++◌,
+  length,
+  Result,
+  Ok,
+  Err,
+  refl,
+  sym,
+  ap,
+  ap₂,
+  subst,
+  ◌∙◌,
+  append-nil,
+  length-append,
+  arith,
+}
 use Rattle.std.specs.List.{Any}
 use Rattle.sha2.specs.Sha256.{sha256}
 use Rattle.sqlite_trees.specs.declared.store.Store.{Ghosts}
@@ -32,53 +56,55 @@ pub record AreAlike (e f : List EventValue) : Type 0 where
   pub came : comings f ≡ comings e
   pub moment : moment_of f ≡ moment_of e
 
-books_alike : (e f : List EventValue) (k : Kept) → AreAlike e f → AreBooks sha256 reading e k → AreBooks sha256 reading f k
-books_alike e f k same books = record {
+books_alike : {e f : List EventValue} {k : Kept} → AreAlike e f → AreBooks sha256 reading e k → AreBooks sha256 reading f k
+books_alike {e} {f} {k} same books = record {
   listed = books.listed ∙ sym same.rows;
   receipts = books.receipts ∙ sym (receipts_as sha256 e f same.came);
   bodies = λ apart r. books.bodies (apart_as sha256 e f same.came apart) r ∙ sym (held_as sha256 e f same.came (union e) same.rows r);
   parked = λ apart d. books.parked (apart_as sha256 e f same.came apart) d ∙ sym (parked_as sha256 e f same.came (union e) same.rows d);
   moment = books.moment ∙ sym same.moment;
-  came = λ r body is. came_as sha256 e f same.came r r body (λ c holds. ap (λ (m : List MRow). holds_by sha256 reading m r c) same.rows ∙ holds) (books.came r body is);
+  came = λ r body is.
+      came_as sha256 e f same.came r r body (λ c holds. ap (λ (m : List MRow). holds_by sha256 reading m r c) same.rows ∙ holds) (books.came r body is);
   waits = λ d body is. waits_as sha256 e f same.came d body (books.waits d body is);
   told = books.told;
   held_told = λ r some. subst (λ (m : List MRow). Any (TellsOf m r) k.receipts) (sym same.rows) (books.held_told r some);
   parked_told = books.parked_told;
 }
 
-pub stands_alike : (e f : List EventValue) (k : Kept) → AreAlike e f → StandsFor sha256 reading e k → StandsFor sha256 reading f k
-stands_alike e f k same stood = stands_still e f k k stood (books_alike e f k same stood.books) refl refl refl refl refl
+pub stands_alike : {e f : List EventValue} {k : Kept} → AreAlike e f → StandsFor sha256 reading e k → StandsFor sha256 reading f k
+stands_alike {e} {f} {k} same stood = stands_still e f k k stood (books_alike same stood.books) refl refl refl refl refl
 
 -- with one more event behind both
-alike_with : (e f : List EventValue) → AreAlike e f → (x : EventValue) → AreAlike (e ++ x ∷ []) (f ++ x ∷ [])
-alike_with e f same (listed more) = record {
+alike_with : {e f : List EventValue} → AreAlike e f → (x : EventValue) → AreAlike (e ++ x ∷ []) (f ++ x ∷ [])
+alike_with {e} {f} same (listed more) = record {
   rows = union-listed f more ∙ ap (λ (m : List MRow). extended m more) same.rows ∙ sym (union-listed e more);
   came = comings-listed f more ∙ same.came ∙ sym (comings-listed e more);
   moment = moment-listed f more ∙ same.moment ∙ sym (moment-listed e more);
 }
-alike_with e f same (arrived a) = record {
+alike_with {e} {f} same (arrived a) = record {
   rows = union-arrived f a ∙ same.rows ∙ sym (union-arrived e a);
   came = comings-arrived f a ∙ ap₂ (λ (l : List Coming) (m : List MRow). l ++ coming m a ∷ []) same.came same.rows ∙ sym (comings-arrived e a);
   moment = moment-arrived f a ∙ same.moment ∙ sym (moment-arrived e a);
 }
-alike_with e f same (arrived_early a) = record {
+alike_with {e} {f} same (arrived_early a) = record {
   rows = union-early f a ∙ same.rows ∙ sym (union-early e a);
   came = comings-early f a ∙ ap₂ (λ (l : List Coming) (m : List MRow). l ++ early_coming m a ∷ []) same.came same.rows ∙ sym (comings-early e a);
   moment = moment-early f a ∙ same.moment ∙ sym (moment-early e a);
 }
-alike_with e f same (moved t) = record {
+alike_with {e} {f} same (moved t) = record {
   rows = union-moved f t ∙ same.rows ∙ sym (union-moved e t);
   came = comings-moved f t ∙ same.came ∙ sym (comings-moved e t);
   moment = moment-moved f t ∙ sym (moment-moved e t);
 }
 
-store_alike : (trees : Trees) (e f : List EventValue) → AreAlike e f → IsStoreFor trees e → IsStoreFor trees f
-store_alike trees e f same one = record { kept = one.kept; store = one.store; stands_for = stands_alike e f one.kept same one.stands_for }
+store_alike : {trees : Trees} {e f : List EventValue} → AreAlike e f → IsStoreFor trees e → IsStoreFor trees f
+store_alike same one = record { kept = one.kept; store = one.store; stands_for = stands_alike same one.stands_for }
 
-one_alike : (trees : Trees) (e f doubtful : List EventValue) → AreAlike e f → IsStoreForOneOf trees e doubtful → IsStoreForOneOf trees f doubtful
-one_alike trees e f [] same one = store_alike trees e f same one
-one_alike trees e f (x ∷ doubtful) same (inl one) = inl (store_alike trees (e ++ x ∷ []) (f ++ x ∷ []) (alike_with e f same x) one)
-one_alike trees e f (x ∷ doubtful) same (inr more) = inr (one_alike trees e f doubtful same more)
+one_alike : (trees : Trees) {e f : List EventValue} (doubtful : List EventValue) → AreAlike e f
+    → IsStoreForOneOf trees e doubtful → IsStoreForOneOf trees f doubtful
+one_alike trees [] same one = store_alike same one
+one_alike trees (x ∷ doubtful) same (inl one) = inl (store_alike (alike_with same x) one)
+one_alike trees (x ∷ doubtful) same (inr more) = inr (one_alike trees doubtful same more)
 
 -- ---- an amendment
 
@@ -99,7 +125,7 @@ module _ (e : List EventValue) (more : List MRow) (none : length (new_rows (unio
   }
 
   pub stands_none : (k : Kept) → StandsFor sha256 reading e k → StandsFor sha256 reading (e ++ listed more ∷ []) k
-  stands_none k stood = stands_alike e (e ++ listed more ∷ []) k alike_none stood
+  stands_none k stood = stands_alike alike_none stood
 
   pub works_none : (k : Kept) → StandsFor sha256 reading e k → IsWorkOf e (listed more) no_work
   works_none k stood = no_work_of e (listed more) k k stood (stands_none k stood) alike_none.rows refl
@@ -110,14 +136,16 @@ amendment_is text rows read = ap (λ (r : Result (List MRow) (ℕ × ℕ)). list
 
 -- ---- what a crash leaves
 
-one_with : (trees : Trees) (e doubtful : List EventValue) (x : EventValue) (f : SFault) → IsStoreForOneOf trees e doubtful → IsStoreForOneOf trees e (doubtful_with f x doubtful)
+one_with : (trees : Trees) (e doubtful : List EventValue) (x : EventValue) (f : SFault)
+    → IsStoreForOneOf trees e doubtful → IsStoreForOneOf trees e (doubtful_with f x doubtful)
 one_with trees e doubtful x S1 one = inr one
 one_with trees e doubtful x S2 one = inr one
 one_with trees e doubtful x S3 one = inr one
 one_with trees e doubtful x S4 one = one
 one_with trees e doubtful x S5 one = one
 
-one_more : (trees : Trees) (e doubtful : List EventValue) (x : EventValue) (f : SFault) → (f ≢ S4) × (f ≢ S5) → IsStoreFor trees (e ++ x ∷ []) → IsStoreForOneOf trees e (doubtful_with f x doubtful)
+one_more : (trees : Trees) (e doubtful : List EventValue) (x : EventValue) (f : SFault)
+    → (f ≢ S4) × (f ≢ S5) → IsStoreFor trees (e ++ x ∷ []) → IsStoreForOneOf trees e (doubtful_with f x doubtful)
 one_more trees e doubtful x S1 other stands = inl stands
 one_more trees e doubtful x S2 other stands = inl stands
 one_more trees e doubtful x S3 other stands = inl stands
@@ -133,7 +161,7 @@ module _ {S : Type 0} (g : Ghosts S) where
   -- no row more is listed
   pub leaves_alike : (conn : Held S) (e f doubtful : List EventValue) → AreAlike e f → CrashLeaves g conn e doubtful → CrashLeaves g conn f doubtful
   unfolding CrashLeaves
-  leaves_alike conn e f doubtful same left clean trees may = one_alike trees e f doubtful same (left clean trees may)
+  leaves_alike conn e f doubtful same left clean trees may = one_alike trees doubtful same (left clean trees may)
 
   -- rows were listed
   pub leaves_sure : (conn : Held S) (e : List EventValue) → LeavesOnlyFor g conn e → CrashLeaves g conn e []
@@ -141,13 +169,14 @@ module _ {S : Type 0} (g : Ghosts S) where
   leaves_sure conn e only = only
 
   -- it was refused before anything was begun
-  pub leaves_before : (conn : Held S) (e doubtful : List EventValue) (x : EventValue) (f : SFault) → CrashLeaves g conn e doubtful → CrashLeaves g conn e (doubtful_with f x doubtful)
+  pub leaves_before : (conn : Held S) (e doubtful : List EventValue) (x : EventValue) (f : SFault)
+      → CrashLeaves g conn e doubtful → CrashLeaves g conn e (doubtful_with f x doubtful)
   unfolding CrashLeaves
   leaves_before conn e doubtful x f left clean trees may = one_with trees e doubtful x f (left clean trees may)
 
   -- it was refused
-  pub leaves_lost : {X : Type 0} (old new : Held S) (e doubtful : List EventValue) (x : EventValue) (result : Result X SFault) (f : SFault) → result ≡ Err f
-      → CrashLeaves g old e doubtful → AddsStoreFor g old new result (e ++ x ∷ []) → CrashLeaves g new e (doubtful_with f x doubtful)
+  pub leaves_lost : {X : Type 0} (old new : Held S) (e doubtful : List EventValue) (x : EventValue) (result : Result X SFault) (f : SFault)
+      → result ≡ Err f → CrashLeaves g old e doubtful → AddsStoreFor g old new result (e ++ x ∷ []) → CrashLeaves g new e (doubtful_with f x doubtful)
   unfolding CrashLeaves AddsStoreFor
   leaves_lost old new e doubtful x result f is left s clean trees may = elim (s.crash clean trees may) [
     | inl was ↦ one_with trees e doubtful x f (left (omega (arith, s.clean, clean)) trees was)

@@ -11,7 +11,8 @@ use Rattle.esc_tables.specs.DepositValue.{DepositValue}
 use Rattle.esc_events.specs.Plans.{rows_in}
 
 -- the set of the first rows, and one more
-pub one_more_row : (rows : List ℕ) (i : ℕ) → i < length rows → set.insert {R = nat_cmp} (set.from_list (take i rows)) (get_or rows i 0) ≡ set.from_list {R = nat_cmp} (take (i + 1) rows)
+pub one_more_row : (rows : List ℕ) (i : ℕ) → i < length rows
+    → set.insert {R = nat_cmp} (set.from_list (take i rows)) (get_or rows i 0) ≡ set.from_list {R = nat_cmp} (take (i + 1) rows)
 one_more_row rows i within =
     sym (set.from_list_push nat_cmp_total nat_cmp-IsAntisymmetric (take i rows) (get_or rows i 0))
     ∙ ap (λ (l : List ℕ). set.from_list {R = nat_cmp} l) (sym (take_more rows i 0 within))
@@ -21,7 +22,8 @@ pub one_longer : (found more : List DepositValue) (d : DepositValue) (n : ℕ) �
 one_longer found more d n added count = ap length added ∙ length-append found (d ∷ []) ∙ ap (λ (k : ℕ). k + 1) count
 
 -- one more deposit, of the first step that is left
-pub one_more_deposit : (f : ℕ → DepositValue) (steps : List Step) (i : ℕ) (x : Step) (found more whole : List DepositValue) (d : DepositValue) → i < length steps → d ≡ f (get_or steps i x).row → more ≡ found ++ d ∷ []
+pub one_more_deposit : (f : ℕ → DepositValue) (steps : List Step) (i : ℕ) (x : Step) (found more whole : List DepositValue) (d : DepositValue)
+    → i < length steps → d ≡ f (get_or steps i x).row → more ≡ found ++ d ∷ []
     → found ++ map f (rows_in (drop i steps)) ≡ whole → more ++ map f (rows_in (drop (i + 1) steps)) ≡ whole
 one_more_deposit f steps i x found more whole d within is added known =
     ap (λ (l : List DepositValue). l ++ map f (rows_in (drop (i + 1) steps))) (added ∙ ap (λ (y : DepositValue). found ++ y ∷ []) is)
@@ -36,9 +38,11 @@ one_more_same_row old new i x y in_old in_new row same =
     let row_of : Step → ℕ = λ (s : Step). s.row in
     let olds = length-map old row_of in
     let news = length-map new row_of in
-    take_more_same (rows_in old) (rows_in new) i 0 (omega (arith, olds)) (omega (arith, news)) same (get_or-map row_of old i x 0 in_old ∙ row ∙ sym (get_or-map row_of new i y 0 in_new))
+    let here = get_or-map row_of old i x 0 in_old ∙ row ∙ sym (get_or-map row_of new i y 0 in_new) in
+    take_more_same (rows_in old) (rows_in new) i 0 (omega (arith, olds)) (omega (arith, news)) same here
 
 -- the rows of a chain that goes on past the steps that stay
-pub rows_continued : (old new : List Step) (front : ℕ) → take front (rows_in old) ≡ take front (rows_in new) → take front (rows_in old) ++ rows_in (drop front new) ≡ rows_in new
+pub rows_continued : (old new : List Step) (front : ℕ) → take front (rows_in old) ≡ take front (rows_in new)
+    → take front (rows_in old) ++ rows_in (drop front new) ≡ rows_in new
 rows_continued old new front same =
     ap₂ (λ (xs ys : List ℕ). xs ++ ys) same (sym (drop-map (λ (s : Step). s.row) front new)) ∙ take-append-drop front (rows_in new)

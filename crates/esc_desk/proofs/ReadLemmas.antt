@@ -1,5 +1,30 @@
 -- What a store answers that stands for a list of events, in the words of these.
-use Rattle.std.proofs.Common.{◌≡◌, ℕ, ◌-◌, true, List, length, map, Option, Some, None, option_map, slice_get, IsSome, Result, Ok, Err, refl, sym, ap, ap₂, subst, ◌∙◌, true≢false, IfOk}
+use Rattle.std.proofs.Common.{
+  ◌≡◌,
+  ℕ,
+  ◌-◌,
+  true,
+  List,
+  length,
+  map,
+  Option,
+  Some,
+  None,
+  option_map,
+  slice_get,
+  IsSome,
+  Result,
+  Ok,
+  Err,
+  refl,
+  sym,
+  ap,
+  ap₂,
+  subst,
+  ◌∙◌,
+  true≢false,
+  IfOk,
+}
 use Rattle.std.proofs.lemmas.Option.{slice_get-map}
 use Rattle.std.proofs.lemmas.List.{length-map}
 use Rattle.sha2.specs.Sha256.{sha256}
@@ -32,7 +57,8 @@ use Rattle.esc_events.specs.Parks.{AreParkedBodies}
 use Rattle.esc_desk.specs.Reads.{last, replies_of, AreHeldRows, AreParkedOf, SaysEnd, IsEndAt, IsEnd}
 
 -- a desk whose store was read, and that remembers what it did
-pub read_stays : {S : Type 0} (g : Ghosts S) (old : Desk S) (store : Store S) → IsAsBefore g old.store store → Stays g old (record { store = store; known = old.known })
+pub read_stays : {S : Type 0} (g : Ghosts S) (old : Desk S) (store : Store S) → IsAsBefore g old.store store
+    → Stays g old (record { store = store; known = old.known })
 read_stays g old store same = still_stays g old (record { store = store; known = old.known }) same refl
 
 -- what is so of an answer for two reasons
@@ -53,14 +79,15 @@ last_of_steps m rows = ap (option_map (λ (s : Step). s.row)) (last_mapped (step
     back (Some r) = refl
 
 -- a body that holds a row reads
-read_at : (m : List MRow) (r : ℕ) (row : Option ℕ) (told : Result DepositValue ℕ) → is_row r (held_row (found_at m row told)) ≡ true → (d : DepositValue) × (told ≡ Ok d)
+read_at : (m : List MRow) (r : ℕ) (row : Option ℕ) (told : Result DepositValue ℕ)
+    → is_row r (held_row (found_at m row told)) ≡ true → (d : DepositValue) × (told ≡ Ok d)
 read_at m r None told is = absurd (true≢false (sym is))
 read_at m r (Some q) (Err n) is = absurd (true≢false (sym is))
 read_at m r (Some q) (Ok d) is = (d, refl)
 
 -- what has a body is the same where the bodies are
-held_by : (f g : ℕ → Option (List ℕ)) → ((r : ℕ) → f r ≡ g r) → (rows : List ℕ) → AreHeld f rows → AreHeld g rows
-held_by f g same rows held = record {
+held_by : {f g : ℕ → Option (List ℕ)} {rows : List ℕ} → ((r : ℕ) → f r ≡ g r) → AreHeld f rows → AreHeld g rows
+held_by same held = record {
   rising = held.rising;
   each = λ r. (λ there. subst IsSome (same r) ((held.each r).0 there), λ some. (held.each r).1 (subst IsSome (sym (same r)) some));
 }
@@ -70,16 +97,22 @@ module _ (e : List EventValue) (k : Kept) (stood : StandsFor sha256 reading e k)
   same_replies = ap₂ (λ (x : List MRow) (rs : List ReceiptValue). replies_from x 1 rs) stood.books.listed stood.books.receipts
 
   pub same_held : (rows : List ℕ) → AreHeld k.bodies rows → AreHeldRows e rows
-  same_held rows held apart = held_by k.bodies (held_body sha256 reading e) (stood.books.bodies apart) rows held
+  same_held rows held apart = held_by (stood.books.bodies apart) held
 
   pub same_parked : (bodies : List ParkedBody) → AreParkedBodies k.parked bodies → AreParkedOf e bodies
   same_parked bodies parked apart = subst (λ (f : List ℕ → Option (List ℕ)). AreParkedBodies f bodies) (λ i d. stood.books.parked apart d i) parked
 
   pub same_content : IsApart sha256 reading e → k.registry.content ≡ tables_of e k.steps
-  same_content apart = ap (λ (s : State). s.content) stood.registry ∙ ap tables (same_deposits k.bodies (held_body sha256 reading e) (stood.books.bodies apart) k.steps)
+  same_content apart =
+      ap (λ (s : State). s.content) stood.registry
+      ∙ ap tables (same_deposits k.bodies (held_body sha256 reading e) (stood.books.bodies apart) k.steps)
 
   pub same_tables : (entries : List (KeyName × ObjectValue)) → IsEntriesOf k.registry.content entries → AreTables e entries
-  same_tables entries are apart = record { chain = k.steps; latest = chain_of e k stood apart; objects = subst (λ (f : Content). IsEntriesOf f entries) (same_content apart) are }
+  same_tables entries are apart = record {
+    chain = k.steps;
+    latest = chain_of e k stood apart;
+    objects = subst (λ (f : Content). IsEntriesOf f entries) (same_content apart) are;
+  }
 
   -- the steps of a store are those of its chain
   pub same_chain : (steps : List Step) → steps ≡ kept_chain k → steps ≡ map (step_at (union e)) k.steps
@@ -89,21 +122,30 @@ module _ (e : List EventValue) (k : Kept) (stood : StandsFor sha256 reading e k)
   last_row_is steps are = ap (λ (x : List Step). option_map (λ (s : Step). s.row) (last x)) (same_chain steps are) ∙ last_of_steps (union e) k.steps
 
   pub no_end : (steps : List Step) → steps ≡ kept_chain k → option_map (λ (s : Step). s.row) (last steps) ≡ None → IsEnd e None
-  no_end steps are none apart = record { chain = k.steps; latest = chain_of e k stood apart; says = subst (λ (o : Option ℕ). IsEndAt e o None) (sym none ∙ last_row_is steps are) tt }
+  no_end steps are none apart = record {
+    chain = k.steps;
+    latest = chain_of e k stood apart;
+    says = subst (λ (o : Option ℕ). IsEndAt e o None) (sym none ∙ last_row_is steps are) tt;
+  }
 
   -- the body that is kept of a row is a deposit
   kept_reads : (r : ℕ) (body : List ℕ) → k.bodies r ≡ Some body → (d : DepositValue) × (reading body ≡ Ok d)
   kept_reads r body kept =
       let came = stood.books.came r body kept in
-      subst (λ (b : List ℕ). (d : DepositValue) × (reading b ≡ Ok d)) came.is_body (read_at (union e) r (row_of (union e) (sha256 came.arrival.body)) (reading came.arrival.body) came.holds)
+      let text = came.arrival.body in
+      subst (λ (b : List ℕ). (d : DepositValue) × (reading b ≡ Ok d)) came.is_body
+      (read_at (union e) r (row_of (union e) (sha256 text)) (reading text) came.holds)
 
-  pub end_said : (steps : List Step) (row : ℕ) (body : List ℕ) (end : End) → steps ≡ kept_chain k → option_map (λ (s : Step). s.row) (last steps) ≡ Some row → k.bodies row ≡ Some body → ((d : DepositValue) → reading body ≡ Ok d → SaysEnd d end) → IsEnd e (Some end)
+  pub end_said : (steps : List Step) (row : ℕ) (body : List ℕ) (end : End) → steps ≡ kept_chain k
+      → option_map (λ (s : Step). s.row) (last steps) ≡ Some row → k.bodies row ≡ Some body
+      → ((d : DepositValue) → reading body ≡ Ok d → SaysEnd d end) → IsEnd e (Some end)
   end_said steps row body end are is kept says apart =
       let held : held_body sha256 reading e row ≡ Some body = sym (stood.books.bodies apart row) ∙ kept in
       let read = kept_reads row body kept in
       let deposit : read.0 ≡ deposit_of reading (held_body sha256 reading e row) = sym (ap (deposit_of reading) held ∙ ap or_no_deposit read.1) in
+      let said = subst (λ (x : DepositValue). SaysEnd x end) deposit (says read.0 read.1) in
       record {
         chain = k.steps;
         latest = chain_of e k stood apart;
-        says = subst (λ (o : Option ℕ). IsEndAt e o (Some end)) (sym is ∙ last_row_is steps are) (subst (λ (x : DepositValue). SaysEnd x end) deposit (says read.0 read.1));
+        says = subst (λ (o : Option ℕ). IsEndAt e o (Some end)) (sym is ∙ last_row_is steps are) said;
       }

@@ -19,12 +19,14 @@ rises (x ∷ xs) up (suc i) zero le within = omega (arith, le)
 rises (x ∷ xs) up (suc i) (suc j) le within = rises xs up.1 i j (omega (arith, le)) (omega (arith, within))
 
 -- a row between those below it and those above it
-rising_insert : (xs : List ℕ) (i y : ℕ) → IsRising xs → i ≤ length xs → ((k : ℕ) → k < i → get_or xs k 0 < y) → ((k : ℕ) → i ≤ k → k < length xs → y < get_or xs k 0) → IsRising (insert xs i y)
+rising_insert : (xs : List ℕ) (i y : ℕ) → IsRising xs → i ≤ length xs
+    → ((k : ℕ) → k < i → get_or xs k 0 < y) → ((k : ℕ) → i ≤ k → k < length xs → y < get_or xs k 0) → IsRising (insert xs i y)
 rising_insert xs zero y up le below above = (All-from_get_or (λ n. y < n) xs 0 (λ k within. above k (omega arith) within), up)
 rising_insert [] (suc i) y up le below above = absurd (omega (arith, le))
 rising_insert (x ∷ xs) (suc i) y up le below above = (
   All-permutation (λ n. x < n) (y ∷ xs) (insert xs i y) (IsPermutation-insert xs i y) (All-cons (λ n. x < n) y xs (below 0 (omega arith)) up.0),
-  rising_insert xs i y up.1 (omega (arith, le)) (λ k under. below (suc k) (omega (arith, under))) (λ k past within. above (suc k) (omega (arith, past)) (omega (arith, within))),
+  rising_insert xs i y up.1 (omega (arith, le)) (λ k under. below (suc k) (omega (arith, under)))
+      (λ k past within. above (suc k) (omega (arith, past)) (omega (arith, within))),
 )
 
 -- ---- one element more
@@ -41,18 +43,28 @@ later y x xs there = (suc there.0, omega (arith, there.1), there.2)
 
 module _ (rows : List ℕ) (row : ℕ) (up : IsRising rows) where
   -- a row that is put in its place
-  pub put_in : (seen more : List ℕ) (place : ℕ) → seen ≡ rows → IsBinarySearchResult (λ y. nat_cmp y row) seen (Err place) → more ≡ insert rows place row → IsInserted rows row more
+  pub put_in : (seen more : List ℕ) (place : ℕ)
+      → seen ≡ rows → IsBinarySearchResult (λ y. nat_cmp y row) seen (Err place) → more ≡ insert rows place row → IsInserted rows row more
   put_in seen more place same found made =
-      let at = searched rows row (Err place) (subst (λ (xs : List ℕ). IsBinarySearchResult (λ y. nat_cmp y row) xs (Err place)) same found) (rises rows up) in
+      let found_there = subst (λ (xs : List ℕ). IsBinarySearchResult (λ y. nat_cmp y row) xs (Err place)) same found in
+      let at = searched rows row (Err place) found_there (rises rows up) in
       subst (IsInserted rows row) (sym made) (record { rising = rising_insert rows place row up at.0 at.1 at.2; each = λ r. (only r, old r) })
     where
-      only : (r : ℕ) → Contains (insert rows place row) r → (r ≡ row) ⊎ Contains rows r
-      only r there = by_first (first_or_later row r rows (Contains-permutation (insert rows place row) (row ∷ rows) r (IsPermutation-sym (row ∷ rows) (insert rows place row) (IsPermutation-insert rows place row)) there))
+      after : List ℕ
+      after = insert rows place row
+
+      only : (r : ℕ) → Contains after r → (r ≡ row) ⊎ Contains rows r
+      only r there =
+          let order = IsPermutation-sym (row ∷ rows) after (IsPermutation-insert rows place row) in
+          by_first (first_or_later row r rows (Contains-permutation after (row ∷ rows) r order there))
         where
           by_first : (row ≡ r) ⊎ Contains rows r → (r ≡ row) ⊎ Contains rows r
           by_first (inl is) = inl (sym is)
           by_first (inr behind) = inr behind
 
-      old : (r : ℕ) → (r ≡ row) ⊎ Contains rows r → Contains (insert rows place row) r
-      old r (inl is) = subst (Contains (insert rows place row)) (sym is) (Contains-permutation (row ∷ rows) (insert rows place row) row (IsPermutation-insert rows place row) (0, omega arith, refl))
-      old r (inr there) = Contains-permutation (row ∷ rows) (insert rows place row) r (IsPermutation-insert rows place row) (later row r rows there)
+      within : (r : ℕ) → Contains (row ∷ rows) r → Contains after r
+      within r there = Contains-permutation (row ∷ rows) after r (IsPermutation-insert rows place row) there
+
+      old : (r : ℕ) → (r ≡ row) ⊎ Contains rows r → Contains after r
+      old r (inl is) = subst (Contains after) (sym is) (within row (0, omega arith, refl))
+      old r (inr there) = within r (later row r rows there)

@@ -1,5 +1,32 @@
 -- A run goes on by one event.
-use Rattle.std.proofs.Common.{◌≡◌, ℕ, ◌+◌, ◌^◌, ◌<◌, List, [], ◌∷◌, ◌++◌, Bool, true, false, cond, Some, Ok, Err, sym, ap, ap₂, subst, subst₂, ◌∙◌, append_assoc, append-nil, arith}
+use Rattle.std.proofs.Common.{
+  ◌≡◌,
+  ℕ,
+  ◌+◌,
+  ◌^◌,
+  ◌<◌,
+  List,
+  [],
+  ◌∷◌,
+  ◌++◌,
+  Bool,
+  true,
+  false,
+  cond,
+  Option,
+  Some,
+  Ok,
+  Err,
+  sym,
+  ap,
+  ap₂,
+  subst,
+  subst₂,
+  ◌∙◌,
+  append_assoc,
+  append-nil,
+  arith,
+}
 use Rattle.std.specs.List.{list_any}
 use Rattle.std.proofs.lemmas.List.Sums.{sum_by-append}
 use Rattle.sha2.specs.Sha256.{sha256}
@@ -34,81 +61,106 @@ use Rattle.esc_desk.proofs.EarlyEvents.{union-early, comings-early}
 
 -- ---- a reply stays as it was
 
-receipts_grow : (e f : List EventValue) (came : Coming) → comings f ≡ comings e ++ came ∷ [] → (more : List ReceiptValue) × (receipts_of sha256 reading f ≡ receipts_of sha256 reading e ++ more)
-receipts_grow e f came last = by_test (list_any (alike sha256 reading came) (comings e)) (ap (receipts_after sha256 reading []) (ap (distinct sha256 reading) last ∙ distinct-push sha256 reading (comings e) came))
-  where
-    before : List Coming
-    before = distinct sha256 reading (comings e)
+-- a reply after some events is one after others
+abbrev pub RepliesStay : List EventValue → List EventValue → Type 0
+RepliesStay e f = (a : ArrivalValue) (r : ReplyValue) → reply_to sha256 reading e a ≡ Some r → reply_to sha256 reading f a ≡ Some r
 
-    by_test : (b : Bool) → receipts_of sha256 reading f ≡ receipts_after sha256 reading [] (cond b before (before ++ came ∷ [])) → (more : List ReceiptValue) × (receipts_of sha256 reading f ≡ receipts_of sha256 reading e ++ more)
-    by_test true is = ([], is ∙ sym (append-nil _))
-    by_test false is = (receipt_for sha256 reading before came ∷ [], is ∙ receipts-push sha256 reading [] before came)
+-- where f are the events e and one more arrival
+module _ (e f : List EventValue) (came : Coming) (last : comings f ≡ comings e ++ came ∷ []) where
+  receipts_grow : (more : List ReceiptValue) × (receipts_of sha256 reading f ≡ receipts_of sha256 reading e ++ more)
+  receipts_grow =
+      let firsts = ap (distinct sha256 reading) last ∙ distinct-push sha256 reading (comings e) came in
+      by_test (list_any (alike sha256 reading came) (comings e)) (ap (receipts_after sha256 reading []) firsts)
+    where
+      before : List Coming
+      before = distinct sha256 reading (comings e)
 
-reply_grows : (e f : List EventValue) (came : Coming) → comings f ≡ comings e ++ came ∷ [] → union f ≡ union e → (a : ArrivalValue) (r : ReplyValue) → reply_to sha256 reading e a ≡ Some r → reply_to sha256 reading f a ≡ Some r
-reply_grows e f came last rows a r is =
-    let grown = receipts_grow e f came last in
-    ap₂ (λ (m : List MRow) (rs : List ReceiptValue). reply_alike m 1 a.number (sha256 a.body) rs) rows grown.1 ∙ alike-front (union e) a.number (sha256 a.body) 1 (receipts_of sha256 reading e) grown.0 r is
+      by_test : (b : Bool) → receipts_of sha256 reading f ≡ receipts_after sha256 reading [] (cond b before (before ++ came ∷ []))
+          → (more : List ReceiptValue) × (receipts_of sha256 reading f ≡ receipts_of sha256 reading e ++ more)
+      by_test true is = ([], is ∙ sym (append-nil _))
+      by_test false is = (receipt_for sha256 reading before came ∷ [], is ∙ receipts-push sha256 reading [] before came)
 
-pub reply_stays : (e : List EventValue) (x : EventValue) (a : ArrivalValue) (r : ReplyValue) → reply_to sha256 reading e a ≡ Some r → reply_to sha256 reading (e ++ x ∷ []) a ≡ Some r
+  reply_grows : union f ≡ union e → RepliesStay e f
+  reply_grows rows a r is =
+      let grown = receipts_grow in
+      ap₂ (λ (m : List MRow) (rs : List ReceiptValue). reply_alike m 1 a.number (sha256 a.body) rs) rows grown.1
+      ∙ alike-front (union e) a.number (sha256 a.body) 1 (receipts_of sha256 reading e) grown.0 r is
+
+pub reply_stays : (e : List EventValue) (x : EventValue) → RepliesStay e (e ++ x ∷ [])
 reply_stays e (listed more) a r is = replies_stay e more a ∙ is
 reply_stays e (arrived b) a r is = reply_grows e (e ++ arrived b ∷ []) (coming (union e) b) (comings-arrived e b) (union-arrived e b) a r is
-reply_stays e (arrived_early b) a r is = reply_grows e (e ++ arrived_early b ∷ []) (early_coming (union e) b) (comings-early e b) (union-early e b) a r is
+reply_stays e (arrived_early b) a r is =
+    reply_grows e (e ++ arrived_early b ∷ []) (early_coming (union e) b) (comings-early e b) (union-early e b) a r is
 reply_stays e (moved t) a r is =
-    ap₂ (λ (m : List MRow) (cs : List Coming). reply_alike m 1 a.number (sha256 a.body) (receipts_after sha256 reading [] (distinct sha256 reading cs))) (union-moved e t) (comings-moved e t) ∙ is
+    let reply : List MRow → List Coming → Option ReplyValue =
+    λ m cs. reply_alike m 1 a.number (sha256 a.body) (receipts_after sha256 reading [] (distinct sha256 reading cs)) in
+    ap₂ reply (union-moved e t) (comings-moved e t) ∙ is
 
-reply_kept : (b : Bool) (e : List EventValue) (x : EventValue) (a : ArrivalValue) (r : ReplyValue) → reply_to sha256 reading e a ≡ Some r → reply_to sha256 reading (e ++ cond b (x ∷ []) []) a ≡ Some r
+reply_kept : (b : Bool) (e : List EventValue) (x : EventValue) → RepliesStay e (e ++ cond b (x ∷ []) [])
 reply_kept true e x a r is = reply_stays e x a r is
 reply_kept false e x a r is = ap (λ (k : List EventValue). reply_to sha256 reading k a) (append-nil e) ∙ is
 
 -- ---- one more event of a run
 
-answer_kept : (e all more : List EventValue) → ((a : ArrivalValue) (r : ReplyValue) → reply_to sha256 reading all a ≡ Some r → reply_to sha256 reading more a ≡ Some r) → (x : Event) (o : EventOutcome) → IsAnswer e all x o → IsAnswer e more x o
-answer_kept e all more keep (Arrival a) (Arrived (Done r)) is = (keep a r is.0, is.1, is.2)
-answer_kept e all more keep (Arrival a) (Arrived (Lost f)) is = is
-answer_kept e all more keep (Arrival a) (Amended r) is = is
-answer_kept e all more keep (Arrival a) (Moved r) is = is
-answer_kept e all more keep (Amend text) (Arrived o) is = is
-answer_kept e all more keep (Amend text) (Amended (Ok n)) is = is
-answer_kept e all more keep (Amend text) (Amended (Err f)) is = is
-answer_kept e all more keep (Amend text) (Moved r) is = is
-answer_kept e all more keep (AsOf t) (Arrived o) is = is
-answer_kept e all more keep (AsOf t) (Amended r) is = is
-answer_kept e all more keep (AsOf t) (Moved r) is = tt
+-- outcomes stay right where replies stay
+module _ (all more : List EventValue) (keep : RepliesStay all more) where
+  answer_kept : (e : List EventValue) (x : Event) (o : EventOutcome) → IsAnswer e all x o → IsAnswer e more x o
+  answer_kept e (Arrival a) (Arrived (Done r)) is = (keep a r is.0, is.1, is.2)
+  answer_kept e (Arrival a) (Arrived (Lost f)) is = is
+  answer_kept e (Arrival a) (Amended r) is = is
+  answer_kept e (Arrival a) (Moved r) is = is
+  answer_kept e (Amend text) (Arrived o) is = is
+  answer_kept e (Amend text) (Amended (Ok n)) is = is
+  answer_kept e (Amend text) (Amended (Err f)) is = is
+  answer_kept e (Amend text) (Moved r) is = is
+  answer_kept e (AsOf t) (Arrived o) is = is
+  answer_kept e (AsOf t) (Amended r) is = is
+  answer_kept e (AsOf t) (Moved r) is = tt
 
-answers_kept : (e all more : List EventValue) → ((a : ArrivalValue) (r : ReplyValue) → reply_to sha256 reading all a ≡ Some r → reply_to sha256 reading more a ≡ Some r) → (xs : List Event) (os : List EventOutcome) → AreAnswers e all xs os → AreAnswers e more xs os
-answers_kept e all more keep [] [] are = tt
-answers_kept e all more keep [] (o ∷ os) are = are
-answers_kept e all more keep (x ∷ xs) [] are = are
-answers_kept e all more keep (x ∷ xs) (o ∷ os) are = (answer_kept e all more keep x o are.0, answers_kept (e ++ taken_by x o) all more keep xs os are.1)
+  answers_kept : (e : List EventValue) (xs : List Event) (os : List EventOutcome) → AreAnswers e all xs os → AreAnswers e more xs os
+  answers_kept e [] [] are = tt
+  answers_kept e [] (o ∷ os) are = are
+  answers_kept e (x ∷ xs) [] are = are
+  answers_kept e (x ∷ xs) (o ∷ os) are = (answer_kept e x o are.0, answers_kept (e ++ taken_by x o) xs os are.1)
 
-answers_more : (e all : List EventValue) (xs : List Event) (os : List EventOutcome) (x : Event) (o : EventOutcome) → AreAnswers e all xs os → IsAnswer (e ++ taken_in xs os) all x o → AreAnswers e all (xs ++ x ∷ []) (os ++ o ∷ [])
-answers_more e all [] [] x o are one = (subst (λ (k : List EventValue). IsAnswer k all x o) (append-nil e) one, tt)
-answers_more e all [] (q ∷ os) x o are one = absurd are
-answers_more e all (y ∷ xs) [] x o are one = absurd are
-answers_more e all (y ∷ xs) (q ∷ os) x o are one =
-    (are.0, answers_more (e ++ taken_by y q) all xs os x o are.1 (subst (λ (k : List EventValue). IsAnswer k all x o) (sym (append_assoc e (taken_by y q) (taken_in xs os))) one))
+-- where one event x with its outcome o is behind others
+module _ (x : Event) (o : EventOutcome) (all : List EventValue) where
+  answers_more : (e : List EventValue) (xs : List Event) (os : List EventOutcome)
+      → AreAnswers e all xs os → IsAnswer (e ++ taken_in xs os) all x o → AreAnswers e all (xs ++ x ∷ []) (os ++ o ∷ [])
+  answers_more e [] [] are one = (subst (λ (k : List EventValue). IsAnswer k all x o) (append-nil e) one, tt)
+  answers_more e [] (q ∷ os) are one = absurd are
+  answers_more e (y ∷ xs) [] are one = absurd are
+  answers_more e (y ∷ xs) (q ∷ os) are one =
+      let last = subst (λ (k : List EventValue). IsAnswer k all x o) (sym (append_assoc e (taken_by y q) (taken_in xs os))) one in
+      (are.0, answers_more (e ++ taken_by y q) xs os are.1 last)
 
-taken_more : (e all : List EventValue) (xs : List Event) (os : List EventOutcome) (x : Event) (o : EventOutcome) → AreAnswers e all xs os → taken_in (xs ++ x ∷ []) (os ++ o ∷ []) ≡ taken_in xs os ++ taken_by x o
-taken_more e all [] [] x o are = append-nil (taken_by x o)
-taken_more e all [] (q ∷ os) x o are = absurd are
-taken_more e all (y ∷ xs) [] x o are = absurd are
-taken_more e all (y ∷ xs) (q ∷ os) x o are =
-    ap (λ (k : List EventValue). taken_by y q ++ k) (taken_more (e ++ taken_by y q) all xs os x o are.1) ∙ sym (append_assoc (taken_by y q) (taken_in xs os) (taken_by x o))
+  taken_more : (e : List EventValue) (xs : List Event) (os : List EventOutcome)
+      → AreAnswers e all xs os → taken_in (xs ++ x ∷ []) (os ++ o ∷ []) ≡ taken_in xs os ++ taken_by x o
+  taken_more e [] [] are = append-nil (taken_by x o)
+  taken_more e [] (q ∷ os) are = absurd are
+  taken_more e (y ∷ xs) [] are = absurd are
+  taken_more e (y ∷ xs) (q ∷ os) are =
+      ap (λ (k : List EventValue). taken_by y q ++ k) (taken_more (e ++ taken_by y q) xs os are.1)
+      ∙ sym (append_assoc (taken_by y q) (taken_in xs os) (taken_by x o))
 
--- the events of a run and one more
-along : (before all : List EventValue) (xs : List Event) (os : List EventOutcome) (x : Event) (o : EventOutcome) → AreAnswers before all xs os → before ++ taken_in (xs ++ x ∷ []) (os ++ o ∷ []) ≡ (before ++ taken_in xs os) ++ taken_by x o
-along before all xs os x o are = ap (λ (k : List EventValue). before ++ k) (taken_more before all xs os x o are) ∙ sym (append_assoc before (taken_in xs os) (taken_by x o))
+  -- the events of a run and one more
+  along : (e : List EventValue) (xs : List Event) (os : List EventOutcome)
+      → AreAnswers e all xs os → e ++ taken_in (xs ++ x ∷ []) (os ++ o ∷ []) ≡ (e ++ taken_in xs os) ++ taken_by x o
+  along e xs os are = ap (λ (k : List EventValue). e ++ k) (taken_more e xs os are) ∙ sym (append_assoc e (taken_in xs os) (taken_by x o))
 
-doubtful_more : (all e doubtful : List EventValue) (xs : List Event) (os : List EventOutcome) (x : Event) (o : EventOutcome) → AreAnswers e all xs os
-    → doubtful_after e doubtful (xs ++ x ∷ []) (os ++ o ∷ []) ≡ doubtful_by (e ++ taken_in xs os) (doubtful_after e doubtful xs os) x o
-doubtful_more all e doubtful [] [] x o are = ap (λ (k : List EventValue). doubtful_by k doubtful x o) (sym (append-nil e))
-doubtful_more all e doubtful [] (q ∷ os) x o are = absurd are
-doubtful_more all e doubtful (y ∷ xs) [] x o are = absurd are
-doubtful_more all e doubtful (y ∷ xs) (q ∷ os) x o are =
-    doubtful_more all (e ++ taken_by y q) (doubtful_by e doubtful y q) xs os x o are.1
-    ∙ ap (λ (k : List EventValue). doubtful_by k (doubtful_after (e ++ taken_by y q) (doubtful_by e doubtful y q) xs os) x o) (append_assoc e (taken_by y q) (taken_in xs os))
+  doubtful_more : (e doubtful : List EventValue) (xs : List Event) (os : List EventOutcome) → AreAnswers e all xs os
+      → doubtful_after e doubtful (xs ++ x ∷ []) (os ++ o ∷ []) ≡ doubtful_by (e ++ taken_in xs os) (doubtful_after e doubtful xs os) x o
+  doubtful_more e doubtful [] [] are = ap (λ (k : List EventValue). doubtful_by k doubtful x o) (sym (append-nil e))
+  doubtful_more e doubtful [] (q ∷ os) are = absurd are
+  doubtful_more e doubtful (y ∷ xs) [] are = absurd are
+  doubtful_more e doubtful (y ∷ xs) (q ∷ os) are =
+      let first = e ++ taken_by y q in
+      let then = doubtful_by e doubtful y q in
+      doubtful_more first then xs os are.1
+      ∙ ap (λ (k : List EventValue). doubtful_by k (doubtful_after first then xs os) x o) (append_assoc e (taken_by y q) (taken_in xs os))
 
-pub outcomes_more : (xs : List Event) (os : List EventOutcome) (x : Event) (o : EventOutcome) → AreOutcomesOf xs os → IsOutcomeOf x o → AreOutcomesOf (xs ++ x ∷ []) (os ++ o ∷ [])
+pub outcomes_more : (xs : List Event) (os : List EventOutcome) (x : Event) (o : EventOutcome)
+    → AreOutcomesOf xs os → IsOutcomeOf x o → AreOutcomesOf (xs ++ x ∷ []) (os ++ o ∷ [])
 outcomes_more [] [] x o are one = (one, tt)
 outcomes_more [] (q ∷ os) x o are one = absurd are
 outcomes_more (y ∷ xs) [] x o are one = absurd are
@@ -121,7 +173,8 @@ works_more e [] ys [] vs are more = subst (λ (k : List EventValue). AreWorksOf 
 works_more e [] ys (w ∷ ws) vs are more = absurd are
 works_more e (x ∷ xs) ys [] vs are more = absurd are
 works_more e (x ∷ xs) ys (w ∷ ws) vs are more =
-    (are.0, works_more (e ++ x ∷ []) xs ys ws vs are.1 (subst (λ (k : List EventValue). AreWorksOf k ys vs) (sym (append_assoc e (x ∷ []) xs)) more))
+    let then = subst (λ (k : List EventValue). AreWorksOf k ys vs) (sym (append_assoc e (x ∷ []) xs)) more in
+    (are.0, works_more (e ++ x ∷ []) xs ys ws vs are.1 then)
 
 -- before the first event
 pub worked_none : (e : List EventValue) (was : ℕ) → was < 2 ^ 64 → HasWorked e [] was was
@@ -132,14 +185,17 @@ pub worked_lost : (e : List EventValue) (was now : ℕ) → was < 2 ^ 64 → now
 worked_lost e was now fits same = record { works = []; are_works = tt; counted = omega (arith, fits, same) }
 
 -- of one that was
-pub worked_once : (e : List EventValue) (x : EventValue) (w : Work) (was now : ℕ) → IsWorkOf e x w → now ≡ saturated (was + w.writes) → HasWorked e (x ∷ []) was now
+pub worked_once : (e : List EventValue) (x : EventValue) (w : Work) (was now : ℕ) → IsWorkOf e x w → now ≡ saturated (was + w.writes)
+    → HasWorked e (x ∷ []) was now
 worked_once e x w was now is counted = record { works = w ∷ []; are_works = (is, tt); counted = omega (arith, counted) }
 
-pub worked_more : (e all : List EventValue) (xs : List Event) (os : List EventOutcome) (x : Event) (o : EventOutcome) (was mid now : ℕ) → AreAnswers e all xs os
-    → HasWorked e (taken_in xs os) was mid → HasWorked (e ++ taken_in xs os) (taken_by x o) mid now → HasWorked e (taken_in (xs ++ x ∷ []) (os ++ o ∷ [])) was now
+pub worked_more : (e all : List EventValue) (xs : List Event) (os : List EventOutcome) (x : Event) (o : EventOutcome) (was mid now : ℕ)
+    → AreAnswers e all xs os → HasWorked e (taken_in xs os) was mid → HasWorked (e ++ taken_in xs os) (taken_by x o) mid now
+    → HasWorked e (taken_in (xs ++ x ∷ []) (os ++ o ∷ [])) was now
 worked_more e all xs os x o was mid now are so once =
-    let sum : writes_in (so.works ++ once.works) ≡ writes_in so.works + writes_in once.works = sum_by-append (λ (w : Work). w.writes) so.works once.works in
-    subst (λ (k : List EventValue). HasWorked e k was now) (sym (taken_more e all xs os x o are)) (record {
+    let sum : writes_in (so.works ++ once.works) ≡ writes_in so.works + writes_in once.works =
+    sum_by-append (λ (w : Work). w.writes) so.works once.works in
+    subst (λ (k : List EventValue). HasWorked e k was now) (sym (taken_more x o all e xs os are)) (record {
       works = so.works ++ once.works;
       are_works = works_more e (taken_in xs os) (taken_by x o) so.works once.works so.are_works once.are_works;
       counted = omega (arith, so.counted, once.counted, sum);
@@ -156,8 +212,11 @@ module _ {S : Type 0} (g : Ghosts S) where
   leaves_without desk e doubtful left = subst (λ (k : List EventValue). DeskLeaves g desk k doubtful) (sym (append-nil e)) left
 
   -- an answer to an arrival is one to the same arrival
-  pub answers_same : (desk : Desk S) (e : List EventValue) (a b : ArrivalValue) (r : ReplyValue) → a ≡ b → Answers g desk e a r → HadRoom e a → HadPlace e a → Takes g desk e (Arrival b) (Arrived (Done r))
-  answers_same desk e a b r same told room place = subst (λ (x : ArrivalValue). Takes g desk e (Arrival x) (Arrived (Done r))) same (record { serves = told.serves; answer = (told.told, room, place) })
+  pub answers_same : (desk : Desk S) (e : List EventValue) (a b : ArrivalValue) (r : ReplyValue) → a ≡ b
+      → Answers g desk e a r → HadRoom e a → HadPlace e a → Takes g desk e (Arrival b) (Arrived (Done r))
+  answers_same desk e a b r same told room place =
+      let takes : Takes g desk e (Arrival a) (Arrived (Done r)) = record { serves = told.serves; answer = (told.told, room, place) } in
+      subst (λ (x : ArrivalValue). Takes g desk e (Arrival x) (Arrived (Done r))) same takes
 
   -- before the first event
   pub ran_none : (desk : Desk S) (before : List EventValue) → DeskServes g desk before → Ran g desk before [] []
@@ -167,16 +226,20 @@ module _ {S : Type 0} (g : Ghosts S) where
       → Ran g old before xs os → ((e : List EventValue) → DeskServes g old e → Takes g new e x o) → Ran g new before (xs ++ x ∷ []) (os ++ o ∷ [])
   ran_more old new before xs os x o ran step =
       let e = before ++ taken_in xs os in
+      let more = e ++ taken_by x o in
       let now = step e ran.serves in
-      let all : before ++ taken_in (xs ++ x ∷ []) (os ++ o ∷ []) ≡ e ++ taken_by x o = along before e xs os x o ran.answers in
+      let all : before ++ taken_in (xs ++ x ∷ []) (os ++ o ∷ []) ≡ more = along x o e before xs os ran.answers in
+      let kept = answers_kept e more (reply_kept (is_taken o) e (event_of x)) before xs os ran.answers in
       record {
         serves = subst (λ (k : List EventValue). DeskServes g new k) (sym all) now.serves;
         answers = subst (λ (k : List EventValue). AreAnswers before k (xs ++ x ∷ []) (os ++ o ∷ [])) (sym all)
-            (answers_more before (e ++ taken_by x o) xs os x o (answers_kept before e (e ++ taken_by x o) (reply_kept (is_taken o) e (event_of x)) xs os ran.answers) now.answer);
+            (answers_more x o more before xs os kept now.answer);
       }
 
   pub left_more : (new : Desk S) (before doubtful all : List EventValue) (xs : List Event) (os : List EventOutcome) (x : Event) (o : EventOutcome)
       → AreAnswers before all xs os → DeskLeavesEvent g new (before ++ taken_in xs os) (doubtful_after before doubtful xs os) x o
       → DeskLeaves g new (before ++ taken_in (xs ++ x ∷ []) (os ++ o ∷ [])) (doubtful_after before doubtful (xs ++ x ∷ []) (os ++ o ∷ []))
   left_more new before doubtful all xs os x o are after =
-      subst₂ (λ (k d : List EventValue). DeskLeaves g new k d) (sym (along before all xs os x o are)) (sym (doubtful_more all before doubtful xs os x o are)) after
+      let events = along x o all before xs os are in
+      let doubts = doubtful_more x o all before doubtful xs os are in
+      subst₂ (λ (k d : List EventValue). DeskLeaves g new k d) (sym events) (sym doubts) after

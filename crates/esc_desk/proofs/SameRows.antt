@@ -1,5 +1,5 @@
 -- Two lists of events by which the same rows are listed and held leave the same tables, in whatever order the rows were listed.
-use Rattle.std.proofs.Common.{◌≡◌, ℕ, ℤ, IsTrue, List, [], ◌∷◌, ◌++◌, reverse, Option, Some, None, is_some, refl, sym, ap, ap₂, subst, ◌∙◌, true≢false}
+use Rattle.std.proofs.Common.{◌≡◌, ℕ, ℤ, Bool, true, List, [], ◌∷◌, ◌++◌, reverse, Option, Some, is_some, refl, sym, ap, ap₂, subst, ◌∙◌}
 use Rattle.std.specs.List.{find}
 use Rattle.std.proofs.lemmas.List.{reverse-append, reverse-reverse}
 use Rattle.sha2.specs.Sha256.{sha256}
@@ -11,12 +11,13 @@ use Rattle.esc_chain.specs.Chain.{Rows, IsHeld, LeadsBack, IsLatestBackAt, IsLat
 use Rattle.esc_chain.specs.Laws.{rows_along, ChainsAreOfRows}
 use Rattle.esc_apply.specs.Images.{chain_state}
 use Rattle.esc_events.specs.Events.{EventValue, Coming, union, moment_of}
-use Rattle.esc_events.specs.Stands.{body_of, counted, holds_by, deposit_of, deposits_of, held_rows, held_body}
+use Rattle.esc_events.specs.Stands.{counted, holds_by, deposit_of, deposits_of, held_rows, held_body}
 use Rattle.esc_events.proofs.AmendingLemmas.{digest_is}
 use Rattle.esc_events.proofs.Members.{first_of}
 use Rattle.esc_events.proofs.Moving.{chain_of}
 use Rattle.esc_events.proofs.MovingLemmas.{Each, contains_held, same_deposits}
 use Rattle.esc_desk.specs.Laws.{HoldTheSameRows, SameRowsSameTables}
+use Rattle.esc_desk.proofs.SameHeld.{same_found}
 use Rattle.esc_desk.proofs.WalkSteps.{held_in_range}
 
 -- ---- the rows of a chain are held
@@ -35,33 +36,46 @@ each_append P (r ∷ c) d first rest = (first.0, each_append P c d first.1 rest)
 
 each_reverse : (P : ℕ → Type 0) (c : List ℕ) → Each P c → Each P (reverse c)
 each_reverse P [] each = tt
-each_reverse P (r ∷ c) each = subst (Each P) (sym (reverse-append (r ∷ []) c)) (each_append P (reverse c) (r ∷ []) (each_reverse P c each.1) (each.0, tt))
+each_reverse P (r ∷ c) each =
+    let both : Each P (reverse c ++ r ∷ []) = each_append P (reverse c) (r ∷ []) (each_reverse P c each.1) (each.0, tt) in
+    subst (Each P) (sym (reverse-append (r ∷ []) c)) both
 
 chain_held : (m : List MRow) (h : Rows) (t : Option ℤ) (c : List ℕ) → IsLatestChainAt m h t c → Each (IsHeld h) c
 chain_held m h t c latest = subst (Each (IsHeld h)) (reverse-reverse c) (each_reverse (IsHeld h) (reverse c) (back_held m h t (reverse c) latest))
 
-module _ (e f : List EventValue) (same : HoldTheSameRows e f) where
-  abbrev first_e : ℕ → Option Coming
-  first_e r = find (holds_by sha256 reading (union e) r) (counted sha256 reading e)
+module _ {e f : List EventValue} (same : HoldTheSameRows e f) where
+  abbrev held_e : ℕ → Type 0
+  held_e r = IsHeld (held_rows sha256 reading e) r
 
-  abbrev first_f : ℕ → Option Coming
-  first_f s = find (holds_by sha256 reading (union f) s) (counted sha256 reading f)
+  abbrev held_f : ℕ → Type 0
+  held_f s = IsHeld (held_rows sha256 reading f) s
 
   -- the same body is held of a row, wherever each list has the row
-  body_same : (r s : ℕ) → IsHeld (held_rows sha256 reading e) r → IsHeld (held_rows sha256 reading f) s → row_at (union e) r ≡ row_at (union f) s → held_body sha256 reading e r ≡ held_body sha256 reading f s
-  body_same r s held other row = by_finds (first_e r) refl (first_f s) refl (sym (contains_held sha256 reading e r) ∙ held) (sym (contains_held sha256 reading f s) ∙ other)
+  body_same : (r s : ℕ) → held_e r → held_f s → row_at (union e) r ≡ row_at (union f) s → held_body sha256 reading e r ≡ held_body sha256 reading f s
+  body_same r s held other row = same_found (find in_e (counted sha256 reading e)) (find in_f (counted sha256 reading f)) (some ∙ sym others) bodies
     where
-      by_finds : (o : Option Coming) → first_e r ≡ o → (p : Option Coming) → first_f s ≡ p → IsTrue (is_some (body_of (first_e r))) → IsTrue (is_some (body_of (first_f s))) → body_of (first_e r) ≡ body_of (first_f s)
-      by_finds None none p there some others = absurd (true≢false (sym some ∙ ap (λ (o : Option Coming). is_some (body_of o)) none))
-      by_finds (Some c) here None none some others = absurd (true≢false (sym others ∙ ap (λ (o : Option Coming). is_some (body_of o)) none))
-      by_finds (Some c) here (Some d) there some others =
-          let a = first_of (holds_by sha256 reading (union e) r) (counted sha256 reading e) c here in
-          let b = first_of (holds_by sha256 reading (union f) s) (counted sha256 reading f) d there in
-          let digests = digest_is sha256 reading (union e) r c a.1 ∙ ap (λ (x : MRow). x.digest) row ∙ sym (digest_is sha256 reading (union f) s d b.1) in
-          ap body_of here ∙ ap Some (same.apart c d a.0 b.0 digests) ∙ sym (ap body_of there)
+      in_e : Coming → Bool
+      in_e = holds_by sha256 reading (union e) r
+
+      in_f : Coming → Bool
+      in_f = holds_by sha256 reading (union f) s
+
+      some : is_some (held_body sha256 reading e r) ≡ true
+      some = sym (contains_held sha256 reading e r) ∙ held
+
+      others : is_some (held_body sha256 reading f s) ≡ true
+      others = sym (contains_held sha256 reading f s) ∙ other
+
+      bodies : (c d : Coming) → find in_e (counted sha256 reading e) ≡ Some c → find in_f (counted sha256 reading f) ≡ Some d → c.body ≡ d.body
+      bodies c d here there =
+          let a = first_of in_e (counted sha256 reading e) c here in
+          let b = first_of in_f (counted sha256 reading f) d there in
+          let digest = ap (λ (x : MRow). x.digest) row in
+          same.apart c d a.0 b.0 (digest_is sha256 reading (union e) r c a.1 ∙ digest ∙ sym (digest_is sha256 reading (union f) s d b.1))
 
   -- chains of the same rows have the same deposits
-  deposits_same : (c d : List ℕ) → Each (IsHeld (held_rows sha256 reading e)) c → Each (IsHeld (held_rows sha256 reading f)) d → rows_along (union e) c ≡ rows_along (union f) d
+  deposits_same : (c d : List ℕ) → Each (IsHeld (held_rows sha256 reading e)) c → Each (IsHeld (held_rows sha256 reading f)) d
+      → rows_along (union e) c ≡ rows_along (union f) d
       → deposits_of reading (held_body sha256 reading e) c ≡ deposits_of reading (held_body sha256 reading f) d
   deposits_same [] [] held others rows = refl
   deposits_same [] (s ∷ d) held others rows = absurd (cc)
@@ -69,7 +83,8 @@ module _ (e f : List EventValue) (same : HoldTheSameRows e f) where
   deposits_same (r ∷ c) (s ∷ d) held others rows =
       let row : row_at (union e) r ≡ row_at (union f) s = cc in
       let rest : rows_along (union e) c ≡ rows_along (union f) d = cc in
-      ap₂ (λ (x : DepositValue) (xs : List DepositValue). x ∷ xs) (ap (deposit_of reading) (body_same r s held.0 others.0 row)) (deposits_same c d held.1 others.1 rest)
+      let first = ap (deposit_of reading) (body_same r s held.0 others.0 row) in
+      ap₂ (λ (x : DepositValue) (xs : List DepositValue). x ∷ xs) first (deposits_same c d held.1 others.1 rest)
 
 pub same_tables : ChainsAreOfRows → SameRowsSameTables
 same_tables law e f k l accepted same apart others stood other =
@@ -77,13 +92,17 @@ same_tables law e f k l accepted same apart others stood other =
     let g = held_rows sha256 reading f in
     let t = moment_of e in
     let at_e = chain_of e k stood apart in
-    let at_f : IsLatestChainAt (union f) g t l.steps = subst (λ (u : Option ℤ). IsLatestChainAt (union f) g u l.steps) (sym same.moment) (chain_of f l other others) in
+    let at_f : IsLatestChainAt (union f) g t l.steps =
+    subst (λ (u : Option ℤ). IsLatestChainAt (union f) g u l.steps) (sym same.moment) (chain_of f l other others) in
     let rows = law (union e) (union f) h g t k.steps l.steps accepted (held_in_range e) same.listed same.held at_e at_f in
     let deposits : deposits_of reading k.bodies k.steps ≡ deposits_of reading l.bodies l.steps =
     same_deposits k.bodies (held_body sha256 reading e) (stood.books.bodies apart) k.steps
-    ∙ deposits_same e f same k.steps l.steps (chain_held (union e) h t k.steps at_e) (chain_held (union f) g t l.steps at_f) rows
+    ∙ deposits_same same k.steps l.steps (chain_held (union e) h t k.steps at_e) (chain_held (union f) g t l.steps at_f) rows
     ∙ sym (same_deposits l.bodies (held_body sha256 reading f) (other.books.bodies others) l.steps) in
     record {
-      chain = ap (λ (m : List MRow). rows_along m k.steps) stood.books.listed ∙ rows ∙ sym (ap (λ (m : List MRow). rows_along m l.steps) other.books.listed);
+      chain =
+          ap (λ (m : List MRow). rows_along m k.steps) stood.books.listed
+          ∙ rows
+          ∙ sym (ap (λ (m : List MRow). rows_along m l.steps) other.books.listed);
       registry = stood.registry ∙ ap (λ (ds : List DepositValue). chain_state ds) deposits ∙ sym other.registry;
     }

@@ -12,12 +12,12 @@ use Rattle.esc_events.specs.Known.{IsKnown}
 use Rattle.esc_desk.specs.Serving.{DeskServes}
 
 -- an honest store was honest before
-pub was_honest : {S : Type 0} (g : Ghosts S) (old new : Store S) → IsAsBefore g old new → IsHonest g new → IsHonest g old
-was_honest g old new same clean = omega (arith, same.survives.clean, clean)
+pub was_honest : {S : Type 0} {g : Ghosts S} {old new : Store S} → IsAsBefore g old new → IsHonest g new → IsHonest g old
+was_honest same clean = omega (arith, same.survives.clean, clean)
 
 -- as before, and then as before again
-pub as_before_then : {S : Type 0} (g : Ghosts S) (a b c : Store S) → IsAsBefore g a b → IsAsBefore g b c → IsAsBefore g a c
-as_before_then g a b c p q = record {
+pub as_before_then : {S : Type 0} {g : Ghosts S} {a b c : Store S} → IsAsBefore g a b → IsAsBefore g b c → IsAsBefore g a c
+as_before_then p q = record {
   manifest = q.manifest ∙ p.manifest;
   writes = q.writes ∙ p.writes;
   survives = survives_then _ _ _ _ _ _ (λ _ db none. none) (λ _ db none. none) p.survives q.survives;
@@ -38,8 +38,8 @@ pub still_stays : {S : Type 0} (g : Ghosts S) (old new : Desk S) → IsAsBefore 
 still_stays g old new same known = record { same = same; serves = still_serves g old new same known }
 
 -- a change goes on, and then goes on again
-pub goes_then : {S : Type 0} (g : Ghosts S) (a b c : ChangeOf S) → GoesOn g a b → GoesOn g b c → GoesOn g a c
-goes_then g a b c p q = record {
+pub goes_then : {S : Type 0} {g : Ghosts S} {a b c : ChangeOf S} → GoesOn g a b → GoesOn g b c → GoesOn g a c
+goes_then p q = record {
   same_reference = q.same_reference ∙ p.same_reference;
   manifest = q.manifest ∙ p.manifest;
   listed = q.listed ∙ p.listed;
@@ -49,5 +49,5 @@ goes_then g a b c p q = record {
 }
 
 -- a disk that is clean was clean before
-pub clean_before : (old new : State) → Survives old new (λ _. ⊥) → HasCleanDisk new → HasCleanDisk old
-clean_before old new survives clean = omega (arith, survives.clean, clean)
+pub clean_before : {old new : State} → Survives old new (λ _. ⊥) → HasCleanDisk new → HasCleanDisk old
+clean_before survives clean = omega (arith, survives.clean, clean)

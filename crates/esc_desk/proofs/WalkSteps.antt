@@ -40,7 +40,8 @@ use Rattle.esc_desk.proofs.Walks.{page_turned, from_the_first}
 
 pub held_in_range : (e : List EventValue) → InRange (union e) (held_rows sha256 reading e)
 held_in_range e r held =
-    let x = one_of (holds_by sha256 reading (union e) r) (counted sha256 reading e) (sym (contains_held sha256 reading (union e) (counted sha256 reading e) r) ∙ held) in
+    let holds = sym (contains_held sha256 reading (union e) (counted sha256 reading e) r) ∙ held in
+    let x = one_of (holds_by sha256 reading (union e) r) (counted sha256 reading e) holds in
     held_within sha256 reading (union e) r x.0 x.2
 
 -- ---- the page at hand
@@ -56,26 +57,36 @@ no_entries : (es : List Entry) → ((q : KeyName) → lookup (key_eq q) es ≡ N
 no_entries [] none = refl
 no_entries (e ∷ es) none = absurd (no_first e es None refl (none e.0))
 
-module _ {S : Type 0} (g : Ghosts S) where
-  -- a walk over the same desk, of which the store was read
-  pub follows : (old new : Walk S Pages) → new.desk.ghost_name ≡ old.desk.ghost_name → IsAsBefore g old.desk.now.store new.desk.now.store → new.desk.now.known ≡ old.desk.now.known → Follows g old new
-  follows old new reference same known = record { same_reference = reference; same = same; known = known; serves = still_serves g old.desk.now new.desk.now same known }
+-- pages that stand at the same place
+abbrev pub AtOnePlace : Pages → Pages → Type 0
+AtOnePlace pages later = (later.kind ≡ pages.kind) × (later.from.items ≡ pages.from.items) × (later.alone ≡ pages.alone)
 
-  -- pages that stand at the same place
-  pub again : (store : Store S) (pages later : Pages) (es : List Entry) → AreToCome g store pages es → into_iter_items later.page ≡ into_iter_items pages.page → later.kind ≡ pages.kind → later.from.items ≡ pages.from.items → later.alone ≡ pages.alone → AreToCome g store later es
-  again store pages later es come items kind from alone = record {
+-- a walk over the same desk, of which the store was read
+pub follows : {S : Type 0} {g : Ghosts S} (old new : Walk S Pages) → new.desk.ghost_name ≡ old.desk.ghost_name
+    → IsAsBefore g old.desk.now.store new.desk.now.store → new.desk.now.known ≡ old.desk.now.known → Follows g old new
+follows {g = g} old new reference same known = record {
+  same_reference = reference;
+  same = same;
+  known = known;
+  serves = still_serves g old.desk.now new.desk.now same known;
+}
+
+module _ {S : Type 0} {g : Ghosts S} {store : Store S} {pages : Pages} {es : List Entry} (come : AreToCome g store pages es) where
+  -- the same page at hand
+  pub again : (later : Pages) → into_iter_items later.page ≡ into_iter_items pages.page → AtOnePlace pages later → AreToCome g store later es
+  again later items place = record {
     order = come.order;
     kept = come.kept;
     stands = come.stands;
     behind = come.behind;
-    are_behind = rw (kind, from, alone) come.are_behind;
+    are_behind = rw (place.0, place.1, place.2) come.are_behind;
     are_all = come.are_all ∙ ap (λ (xs : List Entry). xs ++ come.behind) (sym items);
   }
 
   -- an object was given
-  pub given : (store : Store S) (pages later : Pages) (es : List Entry) (e : Entry) → AreToCome g store pages es → into_iter_items pages.page ≡ e ∷ into_iter_items later.page → later.kind ≡ pages.kind → later.from.items ≡ pages.from.items → later.alone ≡ pages.alone
+  pub given : (later : Pages) (e : Entry) → into_iter_items pages.page ≡ e ∷ into_iter_items later.page → AtOnePlace pages later
       → (rest : List Entry) × (es ≡ e ∷ rest) × AreToCome g store later rest
-  given store pages later es e come items kind from alone =
+  given later e items place =
       let rest = into_iter_items later.page ++ come.behind in
       let all : es ≡ e ∷ rest = come.are_all ∙ ap (λ (xs : List Entry). xs ++ come.behind) items in (
         rest,
@@ -85,50 +96,66 @@ module _ {S : Type 0} (g : Ghosts S) where
           kept = come.kept;
           stands = come.stands;
           behind = come.behind;
-          are_behind = rw (kind, from, alone) come.are_behind;
+          are_behind = rw (place.0, place.1, place.2) come.are_behind;
           are_all = refl;
         },
       )
 
   -- none was left to give
-  pub ended : (store : Store S) (pages later : Pages) (es : List Entry) → AreToCome g store pages es → into_iter_items pages.page ≡ [] → pages.kind ≡ None → into_iter_items later.page ≡ [] → later.kind ≡ pages.kind → later.from.items ≡ pages.from.items → later.alone ≡ pages.alone
+  pub ended : (later : Pages) → into_iter_items pages.page ≡ [] → pages.kind ≡ None → into_iter_items later.page ≡ [] → AtOnePlace pages later
       → (es ≡ []) × AreToCome g store later []
-  ended store pages later es come items none empty kind from alone =
+  ended later items none empty place =
+      let content = come.kept.registry.content in
       let nothing : come.behind ≡ [] = no_entries come.behind (λ q. (rw none at come.are_behind).each q) in
-      let all : es ≡ [] = come.are_all ∙ ap (λ (xs : List Entry). xs ++ come.behind) items ∙ nothing in (
+      let all : es ≡ [] = come.are_all ∙ ap (λ (xs : List Entry). xs ++ come.behind) items ∙ nothing in
+      let behind = subst (λ (xs : List Entry). AreBehind content pages.kind pages.from.items pages.alone xs) nothing come.are_behind in (
         all,
         record {
           order = subst InOrder all come.order;
           kept = come.kept;
           stands = come.stands;
           behind = [];
-          are_behind = rw (kind, from, alone) (subst (λ (xs : List Entry). AreBehind come.kept.registry.content pages.kind pages.from.items pages.alone xs) nothing come.are_behind);
+          are_behind = rw (place.0, place.1, place.2) behind;
           are_all = ap (λ (xs : List Entry). xs ++ []) (sym empty);
         },
       )
 
+module _ {S : Type 0} (g : Ghosts S) where
   -- the page at hand was used up, and the one behind it was read
-  pub turned : (old new : Store S) (pages later : Pages) (es : List Entry) (kind : Kind) (page : List Entry) → IsAsBefore g old new → AreToCome g old pages es → into_iter_items pages.page ≡ [] → pages.kind ≡ Some kind
-      → ((k : Kept) → Stands g old k → IsPage k.registry.content kind pages.from.items page) → IsPlaceBehind kind pages.alone page later.kind later.from.items → into_iter_items later.page ≡ page → later.alone ≡ pages.alone → AreToCome g new later es
+  pub turned : (old new : Store S) (pages later : Pages) (es : List Entry) (kind : Kind) (page : List Entry)
+      → IsAsBefore g old new → AreToCome g old pages es → into_iter_items pages.page ≡ [] → pages.kind ≡ Some kind
+      → ((k : Kept) → Stands g old k → IsPage k.registry.content kind pages.from.items page)
+      → IsPlaceBehind kind pages.alone page later.kind later.from.items → into_iter_items later.page ≡ page → later.alone ≡ pages.alone
+      → AreToCome g new later es
   turned old new pages later es kind page same come items is told placed at_hand alone =
-      let here : AreBehind come.kept.registry.content (Some kind) pages.from.items pages.alone come.behind = rw is at come.are_behind in
-      let x = page_turned come.kept.registry.content kind pages.from.items pages.alone page come.behind later.kind later.from.items (told come.kept come.stands) placed here in
+      let content = come.kept.registry.content in
+      let here : AreBehind content (Some kind) pages.from.items pages.alone come.behind = rw is at come.are_behind in
+      let x = page_turned later.kind later.from.items (told come.kept come.stands) placed here in
       record {
         order = come.order;
         kept = come.kept;
         stands = same.stands come.kept come.stands;
         behind = x.0;
         are_behind = rw alone x.2;
-        are_all = come.are_all ∙ ap (λ (xs : List Entry). xs ++ come.behind) items ∙ x.1 ∙ ap (λ (xs : List Entry). xs ++ x.0) (sym at_hand);
+        are_all =
+            come.are_all
+            ∙ ap (λ (xs : List Entry). xs ++ come.behind) items
+            ∙ x.1
+            ∙ ap (λ (xs : List Entry). xs ++ x.0) (sym at_hand);
       }
 
   -- before the first page
-  pub begins : (store : Store S) (pages : Pages) (kind : Option Kind) (e : List EventValue) (es : List Entry) → OneLatestChainAt → IsAccepted (union e) → IsApart sha256 reading e → Serves g store e → AreEntries e es → InOrder es
-      → into_iter_items pages.page ≡ [] → pages.kind ≡ Some (first_kind kind) → pages.from.items ≡ [] → pages.alone ≡ is_some kind → AreToCome g store pages (of_kinds kind es)
+  pub begins : (store : Store S) (pages : Pages) (kind : Option Kind) (e : List EventValue) (es : List Entry)
+      → OneLatestChainAt → IsAccepted (union e) → IsApart sha256 reading e → Serves g store e → AreEntries e es → InOrder es
+      → into_iter_items pages.page ≡ [] → pages.kind ≡ Some (first_kind kind) → pages.from.items ≡ [] → pages.alone ≡ is_some kind
+      → AreToCome g store pages (of_kinds kind es)
   begins store pages kind e es law accepted apart serves entries order items is from alone =
       let k = serves.kept in
       let rows = held_rows sha256 reading e in
-      let one : entries.chain ≡ k.steps = law (union e) rows rows (moment_of e) entries.chain k.steps accepted (held_in_range e) (λ r. (λ held. held, λ held. held)) entries.latest (chain_of e k serves.stands_for apart) in
+      let latest = chain_of e k serves.stands_for apart in
+      let one : entries.chain ≡ k.steps =
+      law (union e) rows rows (moment_of e) entries.chain k.steps accepted (held_in_range e)
+      (λ r. (λ held. held, λ held. held)) entries.latest latest in
       let same : tables_of e entries.chain ≡ k.registry.content = ap (tables_of e) one ∙ sym (same_content e k serves.stands_for apart) in
       let are = from_the_first k.registry.content kind es order (λ q. entries.objects.each q ∙ ap (λ (f : Content). f q) same) in
       record {
@@ -145,4 +172,6 @@ module _ {S : Type 0} (g : Ghosts S) where
 pub last_found : (page : List Entry) (e : Entry) → slice_get page (length page - 1) ≡ Some e → last_text page ≡ Some e.0.text
 last_found [] e is = absurd cc
 last_found (f ∷ []) e is = let same : f ≡ e = cc in ap (λ (x : Entry). Some x.0.text) same
-last_found (f ∷ h ∷ page) e is = last_found (h ∷ page) e (ap (λ (n : ℕ). slice_get (f ∷ h ∷ page) n) (let less : suc (length (h ∷ page) - 1) ≡ length (f ∷ h ∷ page) - 1 = omega arith in less) ∙ is)
+last_found (f ∷ h ∷ page) e is =
+    let place : suc (length (h ∷ page) - 1) ≡ length (f ∷ h ∷ page) - 1 = omega arith in
+    last_found (h ∷ page) e (ap (λ (n : ℕ). slice_get (f ∷ h ∷ page) n) place ∙ is)

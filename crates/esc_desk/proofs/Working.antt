@@ -34,9 +34,9 @@ both_ok (Ok x) P Q p q = (p, q)
 both_ok (Err e) P Q p q = tt
 
 -- it adds a row, so nothing is said of one that adds none
-pub idle_held : (e : List EventValue) (a : ArrivalValue) (k : Kept) (row : ℕ) (d : DepositValue) (known : Known) (receipt : ReceiptValue) → IsNew e a k (Holding row d) known receipt → k.bodies row ≡ None
-    → (work : Work) → IsIdle e (arrived a) work
-idle_held e a k row d known receipt is none work apart same =
+pub idle_held : {e : List EventValue} {a : ArrivalValue} {k : Kept} {row : ℕ} {d : DepositValue} {known : Known} {receipt : ReceiptValue} → IsNew e a k (Holding row d) known receipt
+    → k.bodies row ≡ None → (work : Work) → IsIdle e (arrived a) work
+idle_held {e = e} {a = a} {k = k} {row = row} {d = d} {known = known} {receipt = receipt} is none work apart same =
     let now = (books_held e a k row d known receipt is none).bodies apart row in
     let before = is.stood.books.bodies (apart_before e (arrived a) apart) row in
     absurd (true≢false (
@@ -48,10 +48,10 @@ idle_held e a k row d known receipt is none work apart same =
 
 -- ---- another moment is set
 
-pub moment_move : (e : List EventValue) (k : Kept) (t : Option ℤ) → StandsFor sha256 reading e k → (known : Known) → IsKnown k known → (plan : Plan) (listed : List MRow) (rows : List ℕ)
+pub moment_move : {e : List EventValue} {k : Kept} {t : Option ℤ} {known : Known} {plan : Plan} {listed : List MRow} {rows : List ℕ} → StandsFor sha256 reading e k → IsKnown k known
     → listed ≡ k.listed → rows ≡ known.held.items → AreLatestSteps listed rows t plan.new.items → IsPlanned k k.bodies plan
     → IsMove e (moved t) k (with_moment k t) [] known.held.items k.bodies plan
-moment_move e k t stood known is plan listed rows listed_are rows_are latest planned = record {
+moment_move {e = e} {k = k} {t = t} {plan = plan} {rows = rows} stood is listed_are rows_are latest planned = record {
   stood = stood;
   books = books_of_moment e k t stood.books;
   begins = sym (append-nil k.listed);

@@ -4,8 +4,10 @@ use Rattle.std.proofs.lemmas.Result.{IfOk-weaker}
 use Rattle.esc_events.specs.ArrivalValue.{an_arrival}
 use Rattle.esc_events.specs.declared.finding.Finding.TheVariants.{Holding}
 use Rattle.esc_events.proofs.Searches.{same_answer}
+use Rattle.esc_desk.specs.Crashes.{AddsStoreFor}
 use Rattle.esc_desk.proofs.ComingAgain.{nothing_listed, nothing_taken}
-use Rattle.esc_desk.proofs.CrashLemmas.{adds_at_rest, leaves_with_nothing, leaves_with_only, at_rest}
+use Rattle.esc_desk.proofs.CrashLemmas.{leaves_with_nothing, leaves_with_only}
+use Rattle.esc_desk.proofs.CrashSteps.{adds_at_rest, at_rest}
 use Rattle.esc_desk.proofs.Holding.{holding_listed}
 use Rattle.esc_desk.proofs.KnownRows.{contained, no_body, held_more}
 use Rattle.esc_desk.proofs.again.hold_again.Goals as goal
@@ -19,14 +21,16 @@ returns-then-contains-clause-taken g c = λ clean e n k reply stood knows is.
     let any = ap (list_any (λ q. nat_eq q row)) (sym c.deref.ensures.value) ∙ sym c.if-contains.ensures.value in
     let some = (knows.held.each row).0 (contained known.held.items row any) in
     let none = nothing_listed e a k found reply is (holding_listed row c.args.deposit) (λ q here. subst (λ (r : ℕ). IsSome (k.bodies r)) (same_answer here) some) in
-    nothing_taken g.S.Store c.args.store.now c.args.store.now e a k found known is.stood none knows stood (leaves_with_nothing g.S.Store c.args.store.now.conn c.args.store.now.conn e a none (at_rest g.S.Store c.args.store.now.conn))
+    nothing_taken g.S.Store c.args.store.now c.args.store.now e a k found known is.stood none knows stood (leaves_with_nothing g.S.Store _ _ none at_rest)
     (λ missing. absurd (true≢false (sym some ∙ ap is_some missing)))
 
 pub returns-then-contains-clause-crash : goal.returns-then-contains-clause-crash
-returns-then-contains-clause-crash g c = λ clean e n k reply stood knows is. adds_at_rest g.S.Store _ _ _
+unfolding AddsStoreFor
+returns-then-contains-clause-crash g c = λ clean e n k reply stood knows is. adds_at_rest
 
 pub returns-in_err-insert_row-clause-crash : goal.returns-in_err-insert_row-clause-crash
-returns-in_err-insert_row-clause-crash g c = λ clean e n k reply stood knows is. adds_at_rest g.S.Store _ _ _
+unfolding AddsStoreFor
+returns-in_err-insert_row-clause-crash g c = λ clean e n k reply stood knows is. adds_at_rest
 
 pub returns-clause-taken : goal.returns-clause-taken
 returns-clause-taken g c = IfOk-weaker c.move_with.result _ _ (λ work made. λ clean e n k reply stood knows is.

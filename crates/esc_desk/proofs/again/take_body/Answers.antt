@@ -9,11 +9,13 @@ use Rattle.esc_events.specs.Events.{union}
 use Rattle.esc_events.specs.Finding.{finding}
 use Rattle.esc_events.specs.Taking.{IsAgain}
 use Rattle.esc_desk.specs.Takings.{IsTakenAgain}
-use Rattle.esc_desk.proofs.CrashLemmas.{adds_at_rest}
+use Rattle.esc_desk.specs.Crashes.{AddsStoreFor}
+use Rattle.esc_desk.proofs.CrashSteps.{adds_at_rest}
 use Rattle.esc_desk.proofs.again.take_body.Goals as goal
 
 pub returns-in_err-found-clause-crash : goal.returns-in_err-found-clause-crash
-returns-in_err-found-clause-crash g c = λ clean e n k reply stood knows is. adds_at_rest g.S.Store _ _ _
+unfolding AddsStoreFor
+returns-in_err-found-clause-crash g c = λ clean e n k reply stood knows is. adds_at_rest
 
 pub returns-clause-taken : goal.returns-clause-taken
 returns-clause-taken g c = λ clean e n k reply stood knows is.

@@ -16,7 +16,7 @@ loop-row-preserved g c =
     let left = drop (i + 1) c.args.adopted.now in
     let same : c.in-Some.listed.now.digest ≡ (row_at c.args.rows.now r).digest = ap (λ (m : MRow). m.digest) (c.in-Some.ensures.lookup.3.1 no_row) in
     record {
-      goes_on = goes_then g.S.Store _ _ _ now.goes_on c.adopt.ensures.goes_on;
+      goes_on = goes_then now.goes_on c.adopt.ensures.goes_on;
       count = c.adopt.ensures.count ∙ now.count;
       adopted = λ clean before k apart rest.
           let was : IsHonest g.S.Store c.loop-row.change.store.now = omega (arith, c.adopt.ensures.goes_on.survives.clean, clean) in

@@ -15,7 +15,7 @@ loop-row-preserved g c =
     let left = drop (i + 1) c.args.dropped.now in
     let same : c.in-Some.listed.now.digest ≡ (row_at c.args.rows.now r).digest = ap (λ (m : MRow). m.digest) (c.in-Some.ensures.lookup.3.1 no_row) in
     record {
-      goes_on = goes_then g.S.Store _ _ _ now.goes_on c.unpark.ensures.goes_on;
+      goes_on = goes_then now.goes_on c.unpark.ensures.goes_on;
       count = c.unpark.ensures.count ∙ now.count;
       dropped = λ before k rest.
           let so_far = now.dropped before k rest in (

@@ -29,5 +29,5 @@ returns-clause-filled g c = on_ok_weaker c.move_in.result (λ filled. λ clean k
     let same : made ≡ amended_kept k more =
     ap₂ (λ (m : List MRow) (rows : List ℕ). with_all_dropped c.deref-3.result.now (with_all_adopted m (with_listed k n) rows) c.deref-4.result.now) first_rows c.deref-2.ensures.value
     ∙ ap₂ (λ (m : List MRow) (rows : List ℕ). with_all_dropped m (with_all_adopted n (with_listed k n) told.adopted.items) rows) then_rows c.deref-4.ensures.value
-    ∙ listed_first k more n told of in
+    ∙ listed_first of in
     subst (λ (x : Kept). IsFilled g.S.Store c.move_in.new.change k (moved_by c.args.plan.now x held)) same (filled k k made held from still parts before)) c.move_in.ensures.filled

@@ -8,11 +8,12 @@ use Rattle.esc_desk.specs.Filled.{IsFilled}
 use Rattle.esc_desk.proofs.changes.fill_note.Goals as goal
 
 pub returns-in-Needless-clause-filled : goal.returns-in-Needless-clause-filled
-returns-in-Needless-clause-filled g c = λ k rest stood. subst (λ (p : Parking). IsFilled g.S.Store c.record_receipt.new.self k (noted_by c.args.receipt.now p c.args.body.now k)) (sym c.in-Needless.is) (record {
-  tables = k.registry;
-  rest = c.in_ok-number.ensures.recorded k k rest;
-  holds = λ clean. c.in_ok-number.ensures.holds k.registry stood;
-})
+returns-in-Needless-clause-filled g c = λ k rest stood.
+    subst (λ (p : Parking). IsFilled g.S.Store c.record_receipt.new.self k (noted_by c.args.receipt.now p c.args.body.now k)) (sym c.in-Needless.is) (record {
+      tables = k.registry;
+      rest = c.in_ok-number.ensures.recorded k k rest;
+      holds = λ clean. c.in_ok-number.ensures.holds k.registry stood;
+    })
 
 pub returns-in_ok-park-in-Free-clause-filled : goal.returns-in_ok-park-in-Free-clause-filled
 returns-in_ok-park-in-Free-clause-filled g c = λ k rest stood.

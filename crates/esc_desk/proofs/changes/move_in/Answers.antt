@@ -21,7 +21,8 @@ returns-clause-filled g c = λ before k made held from still rest stood.
     let size = ap length kept ∙ length-map c.args.plan.now.old.items (λ (s : Step). s.row) in
     let within : front ≤ length made.steps = omega (arith, size, c.same_rows-front.ensures.in_old, ap length c.deref-4.ensures.value) in
     let same : take front (rows_in c.args.plan.now.old.items) ≡ take front (rows_in c.args.plan.now.new.items) =
-    ap (λ (steps : List Step). take front (rows_in steps)) (sym c.deref-4.ensures.value) ∙ c.same_rows-front.ensures.same ∙ ap (λ (steps : List Step). take front (rows_in steps)) c.deref-5.ensures.value in
+    ap (λ (steps : List Step). take front (rows_in steps)) (sym c.deref-4.ensures.value) ∙ c.same_rows-front.ensures.same
+    ∙ ap (λ (steps : List Step). take front (rows_in steps)) c.deref-5.ensures.value in
     let past = take_rest c.deref-6.result.now front ∙ ap (drop front) c.deref-6.ensures.value in
     let steps = ap₂ (λ (rows : List ℕ) (steps : List Step). take front rows ++ rows_in steps) kept past ∙ rows_continued c.args.plan.now.old.items c.args.plan.now.new.items front same in
     let all : take (common_front c.deref.result.now c.deref-2.result.now) held ++ c.deref-3.result.now ≡ deposits_by c.args.plan.now held =

@@ -1,27 +1,42 @@
-use Rattle.std.proofs.Common.{rules, ℕ, IsSome, nat_eq, sym, ap, subst, ◌∙◌}
+use Rattle.std.proofs.Common.{rules, ◌≡◌, ℕ, List, [], ◌∷◌, ◌++◌, true, IsSome, nat_eq, sym, ap, subst, ◌∙◌}
 use Rattle.std.specs.List.{list_any}
 use Rattle.std.proofs.lemmas.Result.{IfOk-weaker}
-use Rattle.esc_events.specs.ArrivalValue.{an_arrival}
+use Rattle.sha2.specs.Sha256.{sha256}
+use Rattle.esc_tables.specs.DepositValue.{DepositValue}
+use Rattle.esc_tables.specs.Reading.{reading}
+use Rattle.esc_store.specs.Kept.{Kept, with_receipt}
+use Rattle.esc_store.specs.ReplyValue.{ReceiptValue}
+use Rattle.esc_events.specs.ArrivalValue.{ArrivalValue, an_arrival}
+use Rattle.esc_events.specs.Events.{EventValue}
+use Rattle.esc_events.specs.Events.EventValue.{arrived}
+use Rattle.esc_events.specs.Stands.{StandsFor}
+use Rattle.esc_events.specs.Taking.{IsNew}
+use Rattle.esc_events.specs.declared.known.Known.{Known}
 use Rattle.esc_events.specs.declared.finding.Finding.TheVariants.{Holding}
 use Rattle.esc_events.specs.declared.parking.Parking.TheVariants.{Needless}
 use Rattle.esc_events.proofs.Searches.{same_answer}
-use Rattle.esc_desk.proofs.CrashLemmas.{adds_at_rest, adds_as, adds_for}
-use Rattle.esc_desk.proofs.CrashSteps.{not_full_by}
+use Rattle.esc_desk.specs.Crashes.{AddsStore, AddsStoreFor}
+use Rattle.esc_desk.proofs.CrashSteps.{adds_as, adds_at_rest, adds_for, not_full_by}
 use Rattle.esc_desk.proofs.Holding.{holding_listed, stands_noted, kept_noted, told_held}
 use Rattle.esc_desk.proofs.KnownRows.{contained, no_body, held_more}
 use Rattle.esc_desk.proofs.keeping.keep_held.Goals as goal
 
+-- the row has a body already, so only the receipt is kept
+noted : {e : List EventValue} {a : ArrivalValue} {k : Kept} {row : ℕ} {d : DepositValue} {known : Known} {receipt : ReceiptValue} → IsNew e a k (Holding row d) known receipt
+    → list_any (λ q. nat_eq q row) known.held.items ≡ true → StandsFor sha256 reading (e ++ arrived a ∷ []) (with_receipt k receipt)
+noted {e = e} {a = a} {k = k} {row = row} {d = d} {known = known} {receipt = receipt} is any =
+    let some = (is.known_is.held.each row).0 (contained known.held.items row any) in
+    stands_noted e a k (Holding row d) known receipt is (holding_listed row d) (λ q here. subst (λ (r : ℕ). IsSome (k.bodies r)) (same_answer here) some)
+
 pub returns-in_err-insert_row-clause-crash : goal.returns-in_err-insert_row-clause-crash
-returns-in_err-insert_row-clause-crash g c = λ clean e n k stood is. adds_at_rest g.S.Store _ _ _
+unfolding AddsStoreFor
+returns-in_err-insert_row-clause-crash g c = λ clean e n k stood is. adds_at_rest
 
 pub returns-in_err-number-clause-crash : goal.returns-in_err-number-clause-crash
+unfolding AddsStore AddsStoreFor
 returns-in_err-number-clause-crash g c = λ clean e n k stood is.
-    let row = c.args.row in
-    let held = c.args.known.now.held.items in
-    let any = ap (list_any (λ q. nat_eq q row)) (sym c.deref.ensures.value) ∙ sym c.if-contains.ensures.value in
-    let some = (is.known_is.held.each row).0 (contained held row any) in
-    let stands = stands_noted e (an_arrival n c.args.body.now) k (Holding row c.args.deposit) c.args.known.now c.args.receipt.now is (holding_listed row c.args.deposit) (λ q here. subst (λ (r : ℕ). IsSome (k.bodies r)) (same_answer here) some) in
-    adds_as g.S.Store _ _ _ _ _ (λ h. not_full_by _ c.in_err-number.field-0.0 (search rules) h) (adds_for g.S.Store _ _ _ _ _ stands (c.in_err-number.ensures.crash k stood))
+    let stands = noted is (ap (list_any (λ q. nat_eq q c.args.row)) (sym c.deref.ensures.value) ∙ sym c.if-contains.ensures.value) in
+    adds_as (λ h. not_full_by c.in_err-number.field-0.0 (search rules) h) (adds_for stands (c.in_err-number.ensures.crash k stood))
 
 pub returns-then-contains-clause-kept : goal.returns-then-contains-clause-kept
 returns-then-contains-clause-kept g c = λ clean e n k stood is.
@@ -29,25 +44,20 @@ returns-then-contains-clause-kept g c = λ clean e n k stood is.
     let row = c.args.row in
     let known = c.args.known.now in
     let receipt = c.args.receipt.now in
-    let found = Holding row c.args.deposit in
     let any = ap (list_any (λ q. nat_eq q row)) (sym c.deref.ensures.value) ∙ sym c.if-contains.ensures.value in
-    let some = (is.known_is.held.each row).0 (contained known.held.items row any) in
-    let stands = stands_noted e a k found known receipt is (holding_listed row c.args.deposit) (λ q here. subst (λ (r : ℕ). IsSome (k.bodies r)) (same_answer here) some) in
-    kept_noted g.S.Store _ e a k found known _ receipt is Needless stands is.known_is.held
+    kept_noted g.S.Store _ e a k (Holding row c.args.deposit) known _ receipt is Needless (noted is any) is.known_is.held
     (told_held e a k row c.args.deposit known receipt is c.insert_row.new.rows.items (c.in_ok-insert_row.ensures is.known_is.told.rising)) is.known_is.chain
     (c.in_ok-number.ensures.recorded clean k stood) (c.in_ok-number.ensures.left k stood)
 
 pub returns-then-contains-clause-crash : goal.returns-then-contains-clause-crash
+unfolding AddsStore AddsStoreFor
 returns-then-contains-clause-crash g c = λ clean e n k stood is.
-    let row = c.args.row in
-    let held = c.args.known.now.held.items in
-    let any = ap (list_any (λ q. nat_eq q row)) (sym c.deref.ensures.value) ∙ sym c.if-contains.ensures.value in
-    let some = (is.known_is.held.each row).0 (contained held row any) in
-    let stands = stands_noted e (an_arrival n c.args.body.now) k (Holding row c.args.deposit) c.args.known.now c.args.receipt.now is (holding_listed row c.args.deposit) (λ q here. subst (λ (r : ℕ). IsSome (k.bodies r)) (same_answer here) some) in
-    adds_as g.S.Store _ _ _ _ _ (λ h. tt) (adds_for g.S.Store _ _ _ _ _ stands (c.in_ok-number.ensures.crash k stood))
+    let stands = noted is (ap (list_any (λ q. nat_eq q c.args.row)) (sym c.deref.ensures.value) ∙ sym c.if-contains.ensures.value) in
+    adds_as (λ h. tt) (adds_for stands (c.in_ok-number.ensures.crash k stood))
 
 pub returns-in_err-insert_row-2-clause-crash : goal.returns-in_err-insert_row-2-clause-crash
-returns-in_err-insert_row-2-clause-crash g c = λ clean e n k stood is. adds_at_rest g.S.Store _ _ _
+unfolding AddsStoreFor
+returns-in_err-insert_row-2-clause-crash g c = λ clean e n k stood is. adds_at_rest
 
 pub returns-clause-kept : goal.returns-clause-kept
 returns-clause-kept g c = IfOk-weaker c.keep_deposit.result _ _ (λ p made. λ clean e n k stood is.

@@ -9,9 +9,9 @@ loop-digest-preserved g c =
     let now = c.loop-digest.invariant in
     let i = c.loop-digest.digest-index in
     record {
-      same = as_before_then g.S.Store c.args.store.now c.loop-digest.store c.insert_held.new.store now.same c.insert_held.ensures.same;
+      same = as_before_then now.same c.insert_held.ensures.same;
       found = λ clean k stood up.
           subst (λ (ds : List (List ℕ)). AreFound k c.args.told.now ds c.insert_held.new.rows.items) (sym (take_more c.args.digests.now i _ c.loop-digest-test.true))
           (c.in_ok-insert_held.ensures.found clean k (now.same.stands k stood) c.args.told.now (take i c.args.digests.now)
-          (now.found (was_honest g.S.Store c.loop-digest.store c.insert_held.new.store c.insert_held.ensures.same clean) k stood up));
+          (now.found (was_honest c.insert_held.ensures.same clean) k stood up));
     }

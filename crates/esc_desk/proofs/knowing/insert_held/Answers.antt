@@ -16,7 +16,9 @@ pub returns-else-is_some-clause-found : goal.returns-else-is_some-clause-found
 returns-else-is_some-clause-found g c = λ clean k stood told digests found.
     let lists : row_of k.listed c.args.digest.now ≡ Some c.in-Some.row = ap (λ (m : List MRow). row_of m c.args.digest.now) (sym (c.manifest.ensures.kept k stood)) ∙ sym c.in-Some.ensures in
     let none : k.bodies c.in-Some.row ≡ None = search rules in
-    found_no_more k told digests c.args.digest.now c.args.rows.now.items found (λ r again some. let same : c.in-Some.row ≡ r = same_answer (sym lists ∙ again) in true≢false (sym some ∙ ap (λ q. is_some (k.bodies q)) (sym same) ∙ ap is_some none))
+    found_no_more k told digests c.args.digest.now c.args.rows.now.items found (λ r again some.
+    let same : c.in-Some.row ≡ r = same_answer (sym lists ∙ again) in
+    true≢false (sym some ∙ ap (λ q. is_some (k.bodies q)) (sym same) ∙ ap is_some none))
 
 -- a body is held of the row
 pub returns-in_ok-insert_row-clause-found : goal.returns-in_ok-insert_row-clause-found

@@ -7,9 +7,9 @@ use Rattle.esc_desk.proofs.knowing.known_of.Goals as goal
 
 pub returns-clause-known : goal.returns-clause-known
 returns-clause-known g c = λ clean e k stood for.
-    let by_bodies = was_honest g.S.Store c.held_of.new.store c.chain.new.self c.chain.ensures.same clean in
-    let by_digests = was_honest g.S.Store c.unlisted_digests.new.self c.held_of.new.store c.held_of.ensures.same by_bodies in
-    let by_receipts = was_honest g.S.Store c.held_by_receipts.new.self c.unlisted_digests.new.self c.unlisted_digests.ensures.same by_digests in
+    let by_bodies = was_honest c.chain.ensures.same clean in
+    let by_digests = was_honest c.held_of.ensures.same by_bodies in
+    let by_receipts = was_honest c.unlisted_digests.ensures.same by_digests in
     let then = c.held_by_receipts.ensures.same.stands k stood in
     let told : AreHeldBy k.receipts c.in_ok-told.told.items = c.in_ok-told.ensures.rows by_receipts k stood in
     let digests = c.in_ok-digests.ensures.digests by_digests k then in

@@ -9,12 +9,13 @@ pub loop-step-preserved : goal.loop-step-preserved
 loop-step-preserved g c =
     let now = c.loop-step.invariant in
     record {
-      same = as_before_then g.S.Store c.args.store.now c.loop-step.store c.next_deposit.new.store now.same c.next_deposit.ensures.same;
+      same = as_before_then now.same c.next_deposit.ensures.same;
       count = one_longer c.loop-step.deposits.items c.push.new.self.items c.in_ok-next.next c.loop-step.step-index c.in_ok-push.ensures.items now.count;
       source = λ k bodies given. c.in_ok-next.ensures.source k bodies (now.source k bodies given);
       read = λ clean k bodies stood given.
-          one_more_deposit (λ (r : ℕ). deposit_of reading (bodies r)) c.args.steps.now c.loop-step.step-index _ c.loop-step.deposits.items c.push.new.self.items _ c.in_ok-next.next c.loop-step-test.true
+          one_more_deposit (λ (r : ℕ). deposit_of reading (bodies r)) c.args.steps.now c.loop-step.step-index _ c.loop-step.deposits.items c.push.new.self.items _
+          c.in_ok-next.next c.loop-step-test.true
           (c.in_ok-next.ensures.read clean k bodies (now.same.stands k stood) (now.source k bodies given))
           c.in_ok-push.ensures.items
-          (now.read (was_honest g.S.Store c.loop-step.store c.next_deposit.new.store c.next_deposit.ensures.same clean) k bodies stood given);
+          (now.read (was_honest c.next_deposit.ensures.same clean) k bodies stood given);
     }

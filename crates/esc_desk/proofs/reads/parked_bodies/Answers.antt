@@ -11,9 +11,16 @@ loop-digest-preserved g c =
     let now = c.loop-digest.invariant in
     let found = c.loop-digest.bodies.items in
     let digest_of : ParkedBody → List ℕ = λ p. p.digest in
+    let added = ap (λ (d : List ℕ). d ∷ []) c.in_ok-parked_body.ensures.digest in
+    let clean_before = was_honest c.parked_body.ensures.same in
     record {
-      same = as_before_then g.S.Store c.args.store.now c.loop-digest.store c.parked_body.new.store now.same c.parked_body.ensures.same;
-      digests = ap (map digest_of) c.in_ok-push.ensures.items ∙ map-append digest_of found _ ∙ ap₂ (λ (xs ys : List (List ℕ)). xs ++ ys) now.digests (ap (λ (d : List ℕ). d ∷ []) c.in_ok-parked_body.ensures.digest) ∙ sym (take_more c.args.digests.now c.loop-digest.digest-index _ c.loop-digest-test.true);
+      same = as_before_then now.same c.parked_body.ensures.same;
+      digests =
+          ap (map digest_of) c.in_ok-push.ensures.items
+          ∙ map-append digest_of found _
+          ∙ ap₂ (λ (xs ys : List (List ℕ)). xs ++ ys) now.digests added
+          ∙ sym (take_more c.args.digests.now c.loop-digest.digest-index _ c.loop-digest-test.true);
       each = λ clean k stood.
-          rw c.in_ok-push.ensures.items (All-push (IsParkedBody k.parked) found _ (now.each (was_honest g.S.Store c.loop-digest.store c.parked_body.new.store c.parked_body.ensures.same clean) k stood) (c.in_ok-parked_body.ensures.parked clean k (now.same.stands k stood)));
+          let parked = c.in_ok-parked_body.ensures.parked clean k (now.same.stands k stood) in
+          rw c.in_ok-push.ensures.items (All-push (IsParkedBody k.parked) found _ (now.each (clean_before clean) k stood) parked);
     }

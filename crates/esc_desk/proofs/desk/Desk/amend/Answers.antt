@@ -24,7 +24,8 @@ returns-in-Err-Refused-clause-cause g c = λ clean e served.
     let serves = served.serves in
     let is = c.in-Err-Refused.field-0-is in
     let first : c.args.self.now.store.manifest ≡ union e = rows_of_store g.S.Store _ _ serves.stands ∙ serves.stands_for.books.listed in
-    rw is (subst (λ (m : List MRow). IsRefusedUnion m c.args.text.now c.in-Err-Refused.code c.in-Err-Refused.row) first (c.union_with.ensures.refused c.in-Err-Refused.code c.in-Err-Refused.row (c.in-Err-Refused.is ∙ ap (λ (f : MFault). Err f) is)))
+    let refused = c.union_with.ensures.refused c.in-Err-Refused.code c.in-Err-Refused.row (c.in-Err-Refused.is ∙ ap (λ (f : MFault). Err f) is) in
+    rw is (subst (λ (m : List MRow). IsRefusedUnion m c.args.text.now c.in-Err-Refused.code c.in-Err-Refused.row) first refused)
 
 pub returns-then-added-eq0-clause-amended : goal.returns-then-added-eq0-clause-amended
 returns-then-added-eq0-clause-amended g c = λ clean e served.

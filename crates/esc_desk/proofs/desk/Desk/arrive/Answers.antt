@@ -1,4 +1,4 @@
-use Rattle.std.proofs.Common.{rules, refl, ◌≡◌, ◌<◌, ◌≤◌, Some, None, List, ℕ, length, sym, ap, ap₂, subst, ◌∙◌}
+use Rattle.std.proofs.Common.{rules, refl, ◌≡◌, ◌<◌, ◌≤◌, Some, None, List, length, sym, ap, ap₂, subst, ◌∙◌}
 use Rattle.std.proofs.lemmas.Result.{IfOk-weaker}
 use Rattle.sha2.specs.Sha256.{sha256}
 use Rattle.esc_tables.specs.Reading.{reading}
@@ -6,114 +6,109 @@ use Rattle.esc_manifest.specs.declared.row.MRow.{MRow}
 use Rattle.esc_store.specs.ReplyValue.{ReceiptValue, ReplyValue, reply_alike}
 use Rattle.esc_store.specs.Standing.{IsHonest}
 use Rattle.esc_events.specs.ArrivalValue.{an_arrival}
-use Rattle.esc_events.specs.Events.{union}
+use Rattle.esc_events.specs.Events.{EventValue, union}
 use Rattle.esc_events.specs.Receipts.{reply_to}
 use Rattle.esc_events.proofs.Searches.{same_answer, no_answer}
 use Rattle.esc_desk.specs.Causes.{IsCrowded}
+use Rattle.esc_desk.specs.Crashes.{AddsStoreFor}
+use Rattle.esc_desk.specs.Serving.{DeskServes}
 use Rattle.esc_desk.proofs.ComingAgain.{left_again}
-use Rattle.esc_desk.proofs.CrashLemmas.{adds_then, leaves_early, leaves_taken, leaves_again}
-use Rattle.esc_desk.proofs.CrashSteps.{if_then_on, if_ok_each, on_ok_each, on_ok_where}
+use Rattle.esc_desk.proofs.CrashLemmas.{leaves_early, leaves_taken, leaves_again}
+use Rattle.esc_desk.proofs.CrashSteps.{adds_then, if_ok_each, if_then_on, on_ok_each, on_ok_where}
 use Rattle.esc_desk.proofs.CauseLemmas.{on_err_so, if_err_is, if_err_each, if_err_both, one_of_four, again_four, cause_by, cause_of, again_cause, crowded_of, no_place_of}
 use Rattle.esc_desk.proofs.StoreFacts.{still_serves}
 use Rattle.esc_desk.proofs.ReadLemmas.{if_ok_two}
+use Rattle.esc_desk.proofs.desk.Desk.arrive.Given as given
 use Rattle.esc_desk.proofs.desk.Desk.arrive.Goals as goal
+
+-- ---- one came that is like it
+
+-- the reply that is kept
+kept_reply : (g : given.Over) (c : goal.After-answer_again g) → IsHonest g.S.Store c.answer_again.new.self.store → (e : List EventValue) (served : DeskServes g.S.Store c.args.self.now e)
+    → reply_alike (union e) 1 c.args.number.now c.digest-digest.result served.serves.kept.receipts ≡ Some c.in-Some.reply
+kept_reply g c clean e served =
+    let serves = served.serves in
+    let found = c.in_ok-reply.ensures.found (c.answer_again.ensures.honest clean) serves.kept serves.stands in
+    sym (found ∙ ap (λ (m : List MRow). reply_alike m 1 c.args.number.now c.digest-digest.result serves.kept.receipts) serves.stands_for.books.listed) ∙ c.in-Some.is
+
+-- it is the one that was told
+told : (g : given.Over) (c : goal.After-answer_again g) → IsHonest g.S.Store c.answer_again.new.self.store → (e : List EventValue) → DeskServes g.S.Store c.args.self.now e
+    → reply_to sha256 reading e (an_arrival c.args.number.now c.args.body.now) ≡ Some c.in-Some.reply
+told g c clean e served =
+    ap₂ (reply_alike (union e) 1 c.args.number.now) (sym c.digest-digest.ensures) (sym served.serves.stands_for.books.receipts) ∙ kept_reply g c clean e served
+
+-- ---- none came that is like it
+
+no_reply : (g : given.Over) (c : goal.After-take_new g) → IsHonest g.S.Store c.take_new.new.self.store → (e : List EventValue) (served : DeskServes g.S.Store c.args.self.now e)
+    → reply_alike (union e) 1 c.args.number.now c.digest-digest.result served.serves.kept.receipts ≡ None
+no_reply g c clean e served =
+    let serves = served.serves in
+    let found = c.in_ok-reply.ensures.found (c.take_new.ensures.honest clean) serves.kept serves.stands in
+    sym (found ∙ ap (λ (m : List MRow). reply_alike m 1 c.args.number.now c.digest-digest.result serves.kept.receipts) serves.stands_for.books.listed) ∙ c.in-None.is
+
+untold : (g : given.Over) (c : goal.After-take_new g) → IsHonest g.S.Store c.take_new.new.self.store → (e : List EventValue) → DeskServes g.S.Store c.args.self.now e
+    → reply_to sha256 reading e (an_arrival c.args.number.now c.args.body.now) ≡ None
+untold g c clean e served =
+    ap₂ (reply_alike (union e) 1 c.args.number.now) (sym c.digest-digest.ensures) (sym served.serves.stands_for.books.receipts) ∙ no_reply g c clean e served
+
+-- ---- the answers
 
 pub returns-in-Some-clause-answered : goal.returns-in-Some-clause-answered
 returns-in-Some-clause-answered g c = λ clean e served.
     let serves = served.serves in
-    let books = serves.stands_for.books in
-    let number = c.args.number.now in
-    let digest = c.digest-digest.result in
-    let honest = c.answer_again.ensures.honest clean in
-    let there : reply_alike (union e) 1 number digest serves.kept.receipts ≡ Some c.in-Some.reply =
-    sym (c.in_ok-reply.ensures.found honest serves.kept serves.stands ∙ ap (λ (x : List MRow). reply_alike x 1 number digest serves.kept.receipts) books.listed) ∙ c.in-Some.is in
-    let done = c.answer_again.ensures.answered clean e number serves.kept (c.in_ok-reply.ensures.same.stands serves.kept serves.stands) serves.stands_for served.remembers there in
+    let there = c.in_ok-reply.ensures.same.stands serves.kept serves.stands in
+    let done = c.answer_again.ensures.answered clean e c.args.number.now serves.kept there serves.stands_for served.remembers (kept_reply g c clean e served) in
     IfOk-weaker c.answer_again.result _ _ (λ p again. again.answers) done
 
 pub returns-in-None-clause-answered : goal.returns-in-None-clause-answered
 returns-in-None-clause-answered g c = λ clean e served.
     let serves = served.serves in
-    let honest = c.take_new.ensures.honest clean in
-    let none : reply_alike (union e) 1 c.args.number.now c.digest-digest.result serves.kept.receipts ≡ None =
-    sym (c.in_ok-reply.ensures.found honest serves.kept serves.stands ∙ ap (λ (x : List MRow). reply_alike x 1 c.args.number.now c.digest-digest.result serves.kept.receipts) serves.stands_for.books.listed) ∙ c.in-None.is in
-    IfOk-weaker c.take_new.result _ _ (λ p taken. taken.answers) (c.take_new.ensures.answered clean e serves.kept (c.in_ok-reply.ensures.same.stands serves.kept serves.stands) serves.stands_for served.remembers none)
+    let there = c.in_ok-reply.ensures.same.stands serves.kept serves.stands in
+    IfOk-weaker c.take_new.result _ _ (λ p taken. taken.answers) (c.take_new.ensures.answered clean e serves.kept there serves.stands_for served.remembers (no_reply g c clean e served))
 
 pub returns-in-Some-clause-worked : goal.returns-in-Some-clause-worked
 returns-in-Some-clause-worked g c = λ clean e served.
     let serves = served.serves in
-    let books = serves.stands_for.books in
-    let number = c.args.number.now in
-    let digest = c.digest-digest.result in
-    let honest = c.answer_again.ensures.honest clean in
-    let there : reply_alike (union e) 1 number digest serves.kept.receipts ≡ Some c.in-Some.reply =
-    sym (c.in_ok-reply.ensures.found honest serves.kept serves.stands ∙ ap (λ (x : List MRow). reply_alike x 1 number digest serves.kept.receipts) books.listed) ∙ c.in-Some.is in
-    let done = c.answer_again.ensures.answered clean e number serves.kept (c.in_ok-reply.ensures.same.stands serves.kept serves.stands) serves.stands_for served.remembers there in
+    let there = c.in_ok-reply.ensures.same.stands serves.kept serves.stands in
+    let done = c.answer_again.ensures.answered clean e c.args.number.now serves.kept there serves.stands_for served.remembers (kept_reply g c clean e served) in
     IfOk-weaker c.answer_again.result _ _ (λ p again. again.works) done
 
 pub returns-in-Some-clause-idle : goal.returns-in-Some-clause-idle
 returns-in-Some-clause-idle g c = λ clean e served.
     let serves = served.serves in
-    let books = serves.stands_for.books in
-    let number = c.args.number.now in
-    let digest = c.digest-digest.result in
-    let honest = c.answer_again.ensures.honest clean in
-    let there : reply_alike (union e) 1 number digest serves.kept.receipts ≡ Some c.in-Some.reply =
-    sym (c.in_ok-reply.ensures.found honest serves.kept serves.stands ∙ ap (λ (x : List MRow). reply_alike x 1 number digest serves.kept.receipts) books.listed) ∙ c.in-Some.is in
-    let done = c.answer_again.ensures.answered clean e number serves.kept (c.in_ok-reply.ensures.same.stands serves.kept serves.stands) serves.stands_for served.remembers there in
+    let there = c.in_ok-reply.ensures.same.stands serves.kept serves.stands in
+    let done = c.answer_again.ensures.answered clean e c.args.number.now serves.kept there serves.stands_for served.remembers (kept_reply g c clean e served) in
     IfOk-weaker c.answer_again.result _ _ (λ p again. again.idle) done
 
 pub returns-in-None-clause-worked : goal.returns-in-None-clause-worked
 returns-in-None-clause-worked g c = λ clean e served.
     let serves = served.serves in
-    let honest = c.take_new.ensures.honest clean in
-    let none : reply_alike (union e) 1 c.args.number.now c.digest-digest.result serves.kept.receipts ≡ None =
-    sym (c.in_ok-reply.ensures.found honest serves.kept serves.stands ∙ ap (λ (x : List MRow). reply_alike x 1 c.args.number.now c.digest-digest.result serves.kept.receipts) serves.stands_for.books.listed) ∙ c.in-None.is in
-    IfOk-weaker c.take_new.result _ _ (λ p taken. taken.works) (c.take_new.ensures.answered clean e serves.kept (c.in_ok-reply.ensures.same.stands serves.kept serves.stands) serves.stands_for served.remembers none)
+    let there = c.in_ok-reply.ensures.same.stands serves.kept serves.stands in
+    IfOk-weaker c.take_new.result _ _ (λ p taken. taken.works) (c.take_new.ensures.answered clean e serves.kept there serves.stands_for served.remembers (no_reply g c clean e served))
 
 pub returns-in-None-clause-idle : goal.returns-in-None-clause-idle
 returns-in-None-clause-idle g c = λ clean e served.
     let serves = served.serves in
-    let honest = c.take_new.ensures.honest clean in
-    let none : reply_alike (union e) 1 c.args.number.now c.digest-digest.result serves.kept.receipts ≡ None =
-    sym (c.in_ok-reply.ensures.found honest serves.kept serves.stands ∙ ap (λ (x : List MRow). reply_alike x 1 c.args.number.now c.digest-digest.result serves.kept.receipts) serves.stands_for.books.listed) ∙ c.in-None.is in
-    IfOk-weaker c.take_new.result _ _ (λ p taken. taken.idle) (c.take_new.ensures.answered clean e serves.kept (c.in_ok-reply.ensures.same.stands serves.kept serves.stands) serves.stands_for served.remembers none)
+    let there = c.in_ok-reply.ensures.same.stands serves.kept serves.stands in
+    IfOk-weaker c.take_new.result _ _ (λ p taken. taken.idle) (c.take_new.ensures.answered clean e serves.kept there serves.stands_for served.remembers (no_reply g c clean e served))
 
 pub returns-in-Some-clause-repeated : goal.returns-in-Some-clause-repeated
 returns-in-Some-clause-repeated g c = λ clean e served.
     let serves = served.serves in
-    let books = serves.stands_for.books in
-    let number = c.args.number.now in
-    let digest = c.digest-digest.result in
-    let honest = c.answer_again.ensures.honest clean in
-    let there : reply_alike (union e) 1 number digest serves.kept.receipts ≡ Some c.in-Some.reply =
-    sym (c.in_ok-reply.ensures.found honest serves.kept serves.stands ∙ ap (λ (x : List MRow). reply_alike x 1 number digest serves.kept.receipts) books.listed) ∙ c.in-Some.is in
-    let done = c.answer_again.ensures.answered clean e number serves.kept (c.in_ok-reply.ensures.same.stands serves.kept serves.stands) serves.stands_for served.remembers there in
-    let at = ap₂ (λ (d : List ℕ) (rs : List ReceiptValue). reply_alike (union e) 1 number d rs) (sym c.digest-digest.ensures) (sym books.receipts) ∙ there in
+    let there = c.in_ok-reply.ensures.same.stands serves.kept serves.stands in
+    let done = c.answer_again.ensures.answered clean e c.args.number.now serves.kept there serves.stands_for served.remembers (kept_reply g c clean e served) in
+    let at = told g c clean e served in
     if_ok_two c.answer_again.result _ _ _ (λ p same again r told.
     let one = same_answer (sym at ∙ told) in
     (same ∙ one, λ other. again.rests (λ is. other (ap (λ (x : ReplyValue). x.verdict) (sym (same ∙ one)) ∙ is)))) c.answer_again.ensures.same done
 
 pub returns-in-None-clause-repeated : goal.returns-in-None-clause-repeated
 returns-in-None-clause-repeated g c = λ clean e served.
-    let serves = served.serves in
-    let books = serves.stands_for.books in
-    let number = c.args.number.now in
-    let honest = c.take_new.ensures.honest clean in
-    let none : reply_alike (union e) 1 number (sha256 c.args.body.now) serves.kept.receipts ≡ None =
-    sym (c.in_ok-reply.ensures.found honest serves.kept serves.stands ∙ ap₂ (λ (x : List MRow) (d : List ℕ). reply_alike x 1 number d serves.kept.receipts) books.listed c.digest-digest.ensures) ∙ c.in-None.is in
-    if_ok_each c.take_new.result _ (λ p r told. absurd (no_answer (sym none ∙ ap (reply_alike (union e) 1 number (sha256 c.args.body.now)) books.receipts ∙ told)))
+    if_ok_each c.take_new.result _ (λ p r told. absurd (no_answer (sym (untold g c clean e served) ∙ told)))
 
 pub returns-in-Some-clause-room : goal.returns-in-Some-clause-room
 returns-in-Some-clause-room g c = λ clean e served.
-    let serves = served.serves in
-    let books = serves.stands_for.books in
-    let number = c.args.number.now in
-    let digest = c.digest-digest.result in
-    let honest = c.answer_again.ensures.honest clean in
-    let there : reply_alike (union e) 1 number digest serves.kept.receipts ≡ Some c.in-Some.reply =
-    sym (c.in_ok-reply.ensures.found honest serves.kept serves.stands ∙ ap (λ (x : List MRow). reply_alike x 1 number digest serves.kept.receipts) books.listed) ∙ c.in-Some.is in
-    let done = c.answer_again.ensures.answered clean e number serves.kept (c.in_ok-reply.ensures.same.stands serves.kept serves.stands) serves.stands_for served.remembers there in
-    let at = ap₂ (λ (d : List ℕ) (rs : List ReceiptValue). reply_alike (union e) 1 number d rs) (sym c.digest-digest.ensures) (sym books.receipts) ∙ there in
+    let at = told g c clean e served in
     if_ok_each c.answer_again.result _ (λ p none. absurd (no_answer (sym none ∙ at)))
 
 pub returns-in-None-clause-room : goal.returns-in-None-clause-room
@@ -126,14 +121,8 @@ pub returns-in-Some-clause-place : goal.returns-in-Some-clause-place
 returns-in-Some-clause-place g c = λ clean e served.
     let serves = served.serves in
     let books = serves.stands_for.books in
-    let number = c.args.number.now in
-    let digest = c.digest-digest.result in
-    let honest = c.answer_again.ensures.honest clean in
-    let there : reply_alike (union e) 1 number digest serves.kept.receipts ≡ Some c.in-Some.reply =
-    sym (c.in_ok-reply.ensures.found honest serves.kept serves.stands ∙ ap (λ (x : List MRow). reply_alike x 1 number digest serves.kept.receipts) books.listed) ∙ c.in-Some.is in
-    let done = c.answer_again.ensures.answered clean e number serves.kept (c.in_ok-reply.ensures.same.stands serves.kept serves.stands) serves.stands_for served.remembers there in
-    let a = an_arrival number c.args.body.now in
-    let at = ap₂ (λ (d : List ℕ) (rs : List ReceiptValue). reply_alike (union e) 1 number d rs) (sym c.digest-digest.ensures) (sym books.receipts) ∙ there in
+    let a = an_arrival c.args.number.now c.args.body.now in
+    let at = told g c clean e served in
     let place = c.answer_again.ensures.place clean serves.kept (c.in_ok-reply.ensures.same.stands serves.kept serves.stands) in
     on_ok_where c.answer_again.result _ _ _ _ _ (λ free p apart full. free (subst (IsCrowded serves.kept) (sym c.digest-digest.ensures) (crowded_of e a serves.kept books apart full)))
     (λ apart full. full.to_be_parked.unkept c.in-Some.reply at) place
@@ -143,26 +132,24 @@ returns-in-None-clause-place g c = λ clean e served.
     let serves = served.serves in
     let a = an_arrival c.args.number.now c.args.body.now in
     let place = c.take_new.ensures.place clean serves.kept (c.in_ok-reply.ensures.same.stands serves.kept serves.stands) in
-    on_ok_each c.take_new.result _ _ (λ free p apart full. free (subst (IsCrowded serves.kept) (sym c.digest-digest.ensures) (crowded_of e a serves.kept serves.stands_for.books apart full))) place
+    on_ok_each c.take_new.result _ _
+    (λ free p apart full. free (subst (IsCrowded serves.kept) (sym c.digest-digest.ensures) (crowded_of e a serves.kept serves.stands_for.books apart full))) place
 
 pub returns-in_err-reply-clause-crash : goal.returns-in_err-reply-clause-crash
 returns-in_err-reply-clause-crash g c = λ e doubtful served left.
-    leaves_early g.S.Store _ _ e doubtful _ _ c.in_err-reply.field-0.0 (search rules) left c.in_err-reply.ensures.same.survives
+    leaves_early g.S.Store _ _ e doubtful _ c.in_err-reply.field-0.0 (search rules) left c.in_err-reply.ensures.same.survives
 
 pub returns-in-Some-clause-crash : goal.returns-in-Some-clause-crash
+unfolding AddsStoreFor
 returns-in-Some-clause-crash g c = λ e doubtful served left.
     let serves = served.serves in
     let stood = serves.stands_for in
     let a = an_arrival c.args.number.now c.args.body.now in
     let kept = c.in_ok-reply.ensures.same.stands serves.kept serves.stands in
-    let there : IsHonest g.S.Store c.answer_again.new.self.store → reply_alike (union e) 1 a.number c.digest-digest.result serves.kept.receipts ≡ Some c.in-Some.reply = λ clean.
-    sym (c.in_ok-reply.ensures.found (c.answer_again.ensures.honest clean) serves.kept serves.stands ∙ ap (λ (x : List MRow). reply_alike x 1 a.number c.digest-digest.result serves.kept.receipts) stood.books.listed) ∙ c.in-Some.is in
-    let told : IsHonest g.S.Store c.answer_again.new.self.store → reply_to sha256 reading e a ≡ Some c.in-Some.reply = λ clean.
-    ap₂ (λ (d : List ℕ) (rs : List ReceiptValue). reply_alike (union e) 1 a.number d rs) (sym c.digest-digest.ensures) (sym stood.books.receipts) ∙ there clean in
-    leaves_again g.S.Store _ _ e doubtful a c.in-Some.reply c.answer_again.result left told
-    (λ clean. adds_then g.S.Store _ c.receipt_of.new.self.conn _ _ _ c.in_ok-reply.ensures.same.survives (c.answer_again.ensures.crash clean e a.number serves.kept kept stood served.remembers (there clean)))
-    (λ clean. left_again g.S.Store _ c.answer_again.new.self _ e a serves.kept c.in-Some.reply c.answer_again.result stood (told clean) c.in_ok-reply.ensures.same.survives
-    c.answer_again.ensures.same (c.answer_again.ensures.answered clean e a.number serves.kept kept stood served.remembers (there clean)))
+    leaves_again g.S.Store _ _ e doubtful a c.answer_again.result left (λ clean. told g c clean e served)
+    (λ clean. adds_then c.in_ok-reply.ensures.same.survives (c.answer_again.ensures.crash clean e a.number serves.kept kept stood served.remembers (kept_reply g c clean e served)))
+    (λ clean. left_again g.S.Store _ c.answer_again.new.self _ e a serves.kept c.in-Some.reply c.answer_again.result stood (told g c clean e served) c.in_ok-reply.ensures.same.survives
+    c.answer_again.ensures.same (c.answer_again.ensures.answered clean e a.number serves.kept kept stood served.remembers (kept_reply g c clean e served)))
 
 pub returns-in-Some-clause-cause : goal.returns-in-Some-clause-cause
 returns-in-Some-clause-cause g c = if_err_each c.answer_again.result _ _ (λ f cause. again_four f _ cause) c.answer_again.ensures.cause
@@ -171,30 +158,23 @@ pub returns-in-Some-clause-full : goal.returns-in-Some-clause-full
 returns-in-Some-clause-full g c = λ clean e served.
     let serves = served.serves in
     let books = serves.stands_for.books in
-    let number = c.args.number.now in
-    let digest = c.digest-digest.result in
-    let honest = c.answer_again.ensures.honest clean in
-    let there : reply_alike (union e) 1 number digest serves.kept.receipts ≡ Some c.in-Some.reply =
-    sym (c.in_ok-reply.ensures.found honest serves.kept serves.stands ∙ ap (λ (x : List MRow). reply_alike x 1 number digest serves.kept.receipts) books.listed) ∙ c.in-Some.is in
-    let a = an_arrival number c.args.body.now in
-    let at = ap₂ (λ (d : List ℕ) (rs : List ReceiptValue). reply_alike (union e) 1 number d rs) (sym c.digest-digest.ensures) (sym books.receipts) ∙ there in
+    let a = an_arrival c.args.number.now c.args.body.now in
+    let at = told g c clean e served in
     let kept = c.in_ok-reply.ensures.same.stands serves.kept serves.stands in
     if_err_both c.answer_again.result _ _ _ (λ f again cause. again_cause e a f _
     (λ crowded. no_place_of e a serves.kept books (λ r told. ap (λ (x : ReplyValue). x.verdict) (same_answer (sym told ∙ at)) ∙ again)
     (subst (IsCrowded serves.kept) c.digest-digest.ensures (crowded clean serves.kept kept))) cause) c.answer_again.ensures.again c.answer_again.ensures.cause
 
 pub returns-in-None-clause-crash : goal.returns-in-None-clause-crash
+unfolding AddsStoreFor
 returns-in-None-clause-crash g c = λ e doubtful served left.
     let serves = served.serves in
     let stood = serves.stands_for in
     let a = an_arrival c.args.number.now c.args.body.now in
     let there = c.in_ok-reply.ensures.same.stands serves.kept serves.stands in
-    let none : IsHonest g.S.Store c.take_new.new.self.store → reply_alike (union e) 1 a.number c.digest-digest.result serves.kept.receipts ≡ None = λ clean.
-    sym (c.in_ok-reply.ensures.found (c.take_new.ensures.honest clean) serves.kept serves.stands ∙ ap (λ (x : List MRow). reply_alike x 1 a.number c.digest-digest.result serves.kept.receipts) stood.books.listed) ∙ c.in-None.is in
-    leaves_taken g.S.Store _ _ e doubtful a c.take_new.result left
-    (λ clean. ap₂ (λ (d : List ℕ) (rs : List ReceiptValue). reply_alike (union e) 1 a.number d rs) (sym c.digest-digest.ensures) (sym stood.books.receipts) ∙ none clean)
-    (λ clean. adds_then g.S.Store _ c.receipt_of.new.self.conn _ _ _ c.in_ok-reply.ensures.same.survives (c.take_new.ensures.crash clean e serves.kept there stood served.remembers (none clean)))
-    (λ clean. if_then_on c.take_new.result _ _ (λ p taken. taken.left) (c.take_new.ensures.answered clean e serves.kept there stood served.remembers (none clean)))
+    leaves_taken g.S.Store _ _ e doubtful a c.take_new.result left (λ clean. untold g c clean e served)
+    (λ clean. adds_then c.in_ok-reply.ensures.same.survives (c.take_new.ensures.crash clean e serves.kept there stood served.remembers (no_reply g c clean e served)))
+    (λ clean. if_then_on c.take_new.result _ _ (λ p taken. taken.left) (c.take_new.ensures.answered clean e serves.kept there stood served.remembers (no_reply g c clean e served)))
 
 pub returns-in_err-reply-clause-full : goal.returns-in_err-reply-clause-full
 returns-in_err-reply-clause-full g c = λ clean e served.
@@ -210,9 +190,7 @@ returns-in-None-clause-full g c = λ clean e served.
     let books = serves.stands_for.books in
     let a = an_arrival c.args.number.now c.args.body.now in
     let there = c.in_ok-reply.ensures.same.stands serves.kept serves.stands in
-    let none : reply_alike (union e) 1 a.number c.digest-digest.result serves.kept.receipts ≡ None =
-    sym (c.in_ok-reply.ensures.found (c.take_new.ensures.honest clean) serves.kept serves.stands ∙ ap (λ (x : List MRow). reply_alike x 1 a.number c.digest-digest.result serves.kept.receipts) books.listed) ∙ c.in-None.is in
-    let never = ap₂ (λ (d : List ℕ) (rs : List ReceiptValue). reply_alike (union e) 1 a.number d rs) (sym c.digest-digest.ensures) (sym books.receipts) ∙ none in
+    let never = untold g c clean e served in
     if_err_each c.take_new.result _ _ (λ f cause. cause_of e a f _ _
     (λ crowded. no_place_of e a serves.kept books (λ r told. absurd (no_answer (sym never ∙ told))) (subst (IsCrowded serves.kept) c.digest-digest.ensures (crowded clean serves.kept there)))
     (λ full. (never, subst (λ (rs : List ReceiptValue). 1_000_000_000 ≤ length rs) books.receipts (full clean serves.kept there))) cause) c.take_new.ensures.cause

@@ -4,12 +4,14 @@ use Rattle.esc_desk.proofs.StoreFacts.{was_honest}
 use Rattle.esc_desk.proofs.desk.Desk.end.Goals as goal
 
 pub returns-in-None-clause-end : goal.returns-in-None-clause-end
-returns-in-None-clause-end g c = λ clean e serves. no_end e serves.kept serves.stands_for c.deref.result.now (c.deref.ensures.value ∙ c.in_ok-steps.ensures.steps clean serves.kept serves.stands) (sym c.last_row.ensures ∙ c.in-None.is)
+returns-in-None-clause-end g c = λ clean e serves.
+    no_end e serves.kept serves.stands_for c.deref.result.now (c.deref.ensures.value ∙ c.in_ok-steps.ensures.steps clean serves.kept serves.stands) (sym c.last_row.ensures ∙ c.in-None.is)
 
 pub returns-clause-end : goal.returns-clause-end
 returns-clause-end g c = λ clean e serves.
     let k = serves.kept in
-    let honest = was_honest g.S.Store c.chain.new.self c.stored_end.new.store c.in_ok-end-in-Some.ensures.same clean in
+    let honest = was_honest c.in_ok-end-in-Some.ensures.same clean in
     let there = c.in_ok-steps.ensures.same.stands k serves.stands in
     let says = c.in_ok-end-in-Some.ensures.says clean k there in
-    end_said e k serves.stands_for c.deref.result.now c.in-Some.row says.0 c.in_ok-end-in-Some.end (c.deref.ensures.value ∙ c.in_ok-steps.ensures.steps honest k serves.stands) (sym c.last_row.ensures ∙ c.in-Some.is) says.1 says.2
+    let steps = c.deref.ensures.value ∙ c.in_ok-steps.ensures.steps honest k serves.stands in
+    end_said e k serves.stands_for c.deref.result.now c.in-Some.row says.0 c.in_ok-end-in-Some.end steps (sym c.last_row.ensures ∙ c.in-Some.is) says.1 says.2

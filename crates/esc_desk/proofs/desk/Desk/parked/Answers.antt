@@ -7,8 +7,9 @@ use Rattle.esc_desk.proofs.desk.Desk.parked.Goals as goal
 pub returns-clause-bodies : goal.returns-clause-bodies
 returns-clause-bodies g c = λ clean e serves.
     let k = serves.kept in
-    let before = was_honest g.S.Store c.parked.new.self c.parked_bodies.new.store c.parked_bodies.ensures.same clean in
+    let before = was_honest c.parked_bodies.ensures.same clean in
     let there = c.in_ok-digests.ensures.same.stands k serves.stands in
     let digests = c.in_ok-digests.ensures.digests before k serves.stands in
-    if_ok_two c.parked_bodies.result _ _ _ (λ bodies are each. same_parked e k serves.stands_for bodies.items (record { digests = subst (AreParked k.parked) (sym (are ∙ c.deref.ensures.value)) digests; each = each }))
+    if_ok_two c.parked_bodies.result _ _ _
+    (λ bodies are each. same_parked e k serves.stands_for bodies.items (record { digests = subst (AreParked k.parked) (sym (are ∙ c.deref.ensures.value)) digests; each = each }))
     c.parked_bodies.ensures.digests (c.parked_bodies.ensures.each clean k there)

@@ -32,20 +32,24 @@ loop-arrival-preserved g c =
     let o = as_outcome c.take-outcome.result in
     let os = as_outcomes c.loop-arrival.outcomes.items in
     let xs = as_events (take i all) in
-    let more : as_events (take (i + 1) all) ≡ xs ++ x ∷ [] = ap as_events (take_more all i a c.loop-arrival-test.true ∙ ap (λ (b : ArrivalValue). take i all ++ b ∷ []) (sym c.arrival-item.is)) ∙ map-append as_event (take i all) (a ∷ []) in
-    let pushed : as_outcomes c.push_reserved.new.self.items ≡ os ++ o ∷ [] = ap as_outcomes c.push_reserved.ensures.items ∙ map-append as_outcome c.loop-arrival.outcomes.items (c.take-outcome.result ∷ []) in
+    let taken : take (i + 1) all ≡ take i all ++ a ∷ [] = take_more all i a c.loop-arrival-test.true ∙ ap (λ (b : ArrivalValue). take i all ++ b ∷ []) (sym c.arrival-item.is) in
+    let more : as_events (take (i + 1) all) ≡ xs ++ x ∷ [] = ap as_events taken ∙ map-append as_event (take i all) (a ∷ []) in
+    let pushed : as_outcomes c.push_reserved.new.self.items ≡ os ++ o ∷ [] =
+    ap as_outcomes c.push_reserved.ensures.items ∙ map-append as_outcome c.loop-arrival.outcomes.items (c.take-outcome.result ∷ []) in
     record {
       counted = grind (arith, common_steps);
       room = omega arith;
       honest = λ clean. c.loop-arrival.invariant.honest (c.take-outcome.ensures.honest clean);
       ran = λ clean before served.
           let past = c.take-outcome.ensures.honest clean in
-          rw (more, pushed) (ran_more g.S.Store c.loop-arrival.self c.take-outcome.new.self before xs os x o (c.loop-arrival.invariant.ran past before served) (c.take-outcome.ensures.taken clean));
+          let ran = c.loop-arrival.invariant.ran past before served in
+          rw (more, pushed) (ran_more g.S.Store c.loop-arrival.self c.take-outcome.new.self before xs os x o ran (c.take-outcome.ensures.taken clean));
       cause = rw (more, pushed) (outcomes_more xs os x o c.loop-arrival.invariant.cause c.take-outcome.ensures.cause);
       worked = λ clean before served.
           let past = c.take-outcome.ensures.honest clean in
           let ran = c.loop-arrival.invariant.ran past before served in
-          rw (more, pushed) (worked_more before (before ++ taken_in xs os) xs os x o _ _ _ ran.answers (c.loop-arrival.invariant.worked past before served) (c.take-outcome.ensures.worked clean _ ran.serves));
+          let worked = c.loop-arrival.invariant.worked past before served in
+          rw (more, pushed) (worked_more before (before ++ taken_in xs os) xs os x o _ _ _ ran.answers worked (c.take-outcome.ensures.worked clean _ ran.serves));
       crash = λ before doubtful served start. rw (more, pushed) (if_clean g.S.Store c.take-outcome.new.self.store.conn _ _ (λ clean.
           let past = c.loop-arrival.invariant.ran (c.take-outcome.ensures.honest clean) before served in
           let left = c.loop-arrival.invariant.crash before doubtful served start in
@@ -53,13 +57,20 @@ loop-arrival-preserved g c =
     }
 
 pub returns-clause-ran : goal.returns-clause-ran
-returns-clause-ran g c = λ clean before served. subst (λ (xs : List ArrivalValue). Ran g.S.Store c.loop-arrival.self before (as_events xs) (as_outcomes c.loop-arrival.outcomes.items)) (take_all _ _ (omega arith)) (c.loop-arrival.invariant.ran clean before served)
+returns-clause-ran g c = λ clean before served.
+    subst (λ (xs : List ArrivalValue). Ran g.S.Store c.loop-arrival.self before (as_events xs) (as_outcomes c.loop-arrival.outcomes.items))
+    (take_all _ _ (omega arith)) (c.loop-arrival.invariant.ran clean before served)
 
 pub returns-clause-cause : goal.returns-clause-cause
-returns-clause-cause g c = subst (λ (xs : List ArrivalValue). AreOutcomesOf (as_events xs) (as_outcomes c.loop-arrival.outcomes.items)) (take_all _ _ (omega arith)) c.loop-arrival.invariant.cause
+returns-clause-cause g c =
+    subst (λ (xs : List ArrivalValue). AreOutcomesOf (as_events xs) (as_outcomes c.loop-arrival.outcomes.items)) (take_all _ _ (omega arith)) c.loop-arrival.invariant.cause
 
 pub returns-clause-worked : goal.returns-clause-worked
-returns-clause-worked g c = λ clean before served. subst (λ (xs : List ArrivalValue). HasWorked before (taken_in (as_events xs) (as_outcomes c.loop-arrival.outcomes.items)) (writes_of c.args.self.now) (writes_of c.loop-arrival.self)) (take_all _ _ (omega arith)) (c.loop-arrival.invariant.worked clean before served)
+returns-clause-worked g c = λ clean before served.
+    subst (λ (xs : List ArrivalValue). HasWorked before (taken_in (as_events xs) (as_outcomes c.loop-arrival.outcomes.items)) (writes_of c.args.self.now) (writes_of c.loop-arrival.self))
+    (take_all _ _ (omega arith)) (c.loop-arrival.invariant.worked clean before served)
 
 pub returns-clause-crash : goal.returns-clause-crash
-returns-clause-crash g c = λ before doubtful served start. subst (λ (xs : List ArrivalValue). DeskLeavesRun g.S.Store c.loop-arrival.self before doubtful (as_events xs) (as_outcomes c.loop-arrival.outcomes.items)) (take_all _ _ (omega arith)) (c.loop-arrival.invariant.crash before doubtful served start)
+returns-clause-crash g c = λ before doubtful served start.
+    subst (λ (xs : List ArrivalValue). DeskLeavesRun g.S.Store c.loop-arrival.self before doubtful (as_events xs) (as_outcomes c.loop-arrival.outcomes.items))
+    (take_all _ _ (omega arith)) (c.loop-arrival.invariant.crash before doubtful served start)

@@ -14,9 +14,11 @@ invariant-loop-arrival g l = record {
   counted : length l.outcomes.items ≡ l.arrival-index;
   room : length l.arrivals ≤ vec_capacity l.outcomes;
   honest : IsHonest g.S.Store l.self.store → IsHonest g.S.Store l.fn.self.store;
-  ran : IsHonest g.S.Store l.self.store → (before : List EventValue) → DeskServes g.S.Store l.fn.self before → Ran g.S.Store l.self before (as_events (take l.arrival-index l.arrivals)) (as_outcomes l.outcomes.items);
+  ran : IsHonest g.S.Store l.self.store → (before : List EventValue) → DeskServes g.S.Store l.fn.self before
+      → Ran g.S.Store l.self before (as_events (take l.arrival-index l.arrivals)) (as_outcomes l.outcomes.items);
   cause : AreOutcomesOf (as_events (take l.arrival-index l.arrivals)) (as_outcomes l.outcomes.items);
-  worked : IsHonest g.S.Store l.self.store → (before : List EventValue) → DeskServes g.S.Store l.fn.self before → HasWorked before (taken_in (as_events (take l.arrival-index l.arrivals)) (as_outcomes l.outcomes.items)) (writes_of l.fn.self) (writes_of l.self);
+  worked : IsHonest g.S.Store l.self.store → (before : List EventValue) → DeskServes g.S.Store l.fn.self before
+      → HasWorked before (taken_in (as_events (take l.arrival-index l.arrivals)) (as_outcomes l.outcomes.items)) (writes_of l.fn.self) (writes_of l.self);
   crash : (before doubtful : List EventValue) → DeskServes g.S.Store l.fn.self before → DeskLeaves g.S.Store l.fn.self before doubtful
       → DeskLeavesRun g.S.Store l.self before doubtful (as_events (take l.arrival-index l.arrivals)) (as_outcomes l.outcomes.items);
 }

@@ -29,6 +29,7 @@ loop-event-preserved g c =
     let i = c.loop-event.event-index in
     let x : Event = c.event-item.result in
     let o = c.take_event-outcome.result in
+    let xs = take i all in
     let os = c.loop-event.outcomes.items in
     let more : take (i + 1) all ≡ take i all ++ x ∷ [] = take_more all i x c.loop-event-test.true ∙ ap (λ (y : Event). take i all ++ y ∷ []) (sym c.event-item.is) in
     record {
@@ -37,26 +38,35 @@ loop-event-preserved g c =
       honest = λ clean. c.loop-event.invariant.honest (c.take_event-outcome.ensures.honest clean);
       ran = λ clean before served.
           let past = c.take_event-outcome.ensures.honest clean in
-          rw (more, c.push_reserved.ensures.items) (ran_more g.S.Store c.loop-event.self c.take_event-outcome.new.self before (take i all) os x o (c.loop-event.invariant.ran past before served) (c.take_event-outcome.ensures.taken clean));
-      cause = rw (more, c.push_reserved.ensures.items) (outcomes_more (take i all) os x o c.loop-event.invariant.cause c.take_event-outcome.ensures.cause);
+          let ran = c.loop-event.invariant.ran past before served in
+          rw (more, c.push_reserved.ensures.items) (ran_more g.S.Store c.loop-event.self c.take_event-outcome.new.self before xs os x o ran (c.take_event-outcome.ensures.taken clean));
+      cause = rw (more, c.push_reserved.ensures.items) (outcomes_more xs os x o c.loop-event.invariant.cause c.take_event-outcome.ensures.cause);
       worked = λ clean before served.
           let past = c.take_event-outcome.ensures.honest clean in
           let ran = c.loop-event.invariant.ran past before served in
-          rw (more, c.push_reserved.ensures.items) (worked_more before (before ++ taken_in (take i all) os) (take i all) os x o _ _ _ ran.answers (c.loop-event.invariant.worked past before served) (c.take_event-outcome.ensures.worked clean _ ran.serves));
+          let worked = c.loop-event.invariant.worked past before served in
+          rw (more, c.push_reserved.ensures.items) (worked_more before (before ++ taken_in xs os) xs os x o _ _ _ ran.answers worked (c.take_event-outcome.ensures.worked clean _ ran.serves));
       crash = λ before doubtful served start. rw (more, c.push_reserved.ensures.items) (if_clean g.S.Store c.take_event-outcome.new.self.store.conn _ _ (λ clean.
           let past = c.loop-event.invariant.ran (c.take_event-outcome.ensures.honest clean) before served in
           let left = c.loop-event.invariant.crash before doubtful served start in
-          left_more g.S.Store c.take_event-outcome.new.self before doubtful _ (take i all) os x o past.answers (c.take_event-outcome.ensures.crash _ _ past.serves left)));
+          left_more g.S.Store c.take_event-outcome.new.self before doubtful _ xs os x o past.answers (c.take_event-outcome.ensures.crash _ _ past.serves left)));
     }
 
 pub returns-clause-ran : goal.returns-clause-ran
-returns-clause-ran g c = λ clean before served. subst (λ (xs : List Event). Ran g.S.Store c.loop-event.self before xs c.loop-event.outcomes.items) (take_all _ _ (omega arith)) (c.loop-event.invariant.ran clean before served)
+returns-clause-ran g c = λ clean before served.
+    subst (λ (xs : List Event). Ran g.S.Store c.loop-event.self before xs c.loop-event.outcomes.items)
+    (take_all _ _ (omega arith)) (c.loop-event.invariant.ran clean before served)
 
 pub returns-clause-cause : goal.returns-clause-cause
-returns-clause-cause g c = subst (λ (xs : List Event). AreOutcomesOf xs c.loop-event.outcomes.items) (take_all _ _ (omega arith)) c.loop-event.invariant.cause
+returns-clause-cause g c =
+    subst (λ (xs : List Event). AreOutcomesOf xs c.loop-event.outcomes.items) (take_all _ _ (omega arith)) c.loop-event.invariant.cause
 
 pub returns-clause-worked : goal.returns-clause-worked
-returns-clause-worked g c = λ clean before served. subst (λ (xs : List Event). HasWorked before (taken_in xs c.loop-event.outcomes.items) (writes_of c.args.self.now) (writes_of c.loop-event.self)) (take_all _ _ (omega arith)) (c.loop-event.invariant.worked clean before served)
+returns-clause-worked g c = λ clean before served.
+    subst (λ (xs : List Event). HasWorked before (taken_in xs c.loop-event.outcomes.items) (writes_of c.args.self.now) (writes_of c.loop-event.self))
+    (take_all _ _ (omega arith)) (c.loop-event.invariant.worked clean before served)
 
 pub returns-clause-crash : goal.returns-clause-crash
-returns-clause-crash g c = λ before doubtful served start. subst (λ (xs : List Event). DeskLeavesRun g.S.Store c.loop-event.self before doubtful xs c.loop-event.outcomes.items) (take_all _ _ (omega arith)) (c.loop-event.invariant.crash before doubtful served start)
+returns-clause-crash g c = λ before doubtful served start.
+    subst (λ (xs : List Event). DeskLeavesRun g.S.Store c.loop-event.self before doubtful xs c.loop-event.outcomes.items)
+    (take_all _ _ (omega arith)) (c.loop-event.invariant.crash before doubtful served start)

@@ -14,9 +14,11 @@ invariant-loop-event g l = record {
   counted : length l.outcomes.items ≡ l.event-index;
   room : length l.events ≤ vec_capacity l.outcomes;
   honest : IsHonest g.S.Store l.self.store → IsHonest g.S.Store l.fn.self.store;
-  ran : IsHonest g.S.Store l.self.store → (before : List EventValue) → DeskServes g.S.Store l.fn.self before → Ran g.S.Store l.self before (take l.event-index l.events) l.outcomes.items;
+  ran : IsHonest g.S.Store l.self.store → (before : List EventValue) → DeskServes g.S.Store l.fn.self before
+      → Ran g.S.Store l.self before (take l.event-index l.events) l.outcomes.items;
   cause : AreOutcomesOf (take l.event-index l.events) l.outcomes.items;
-  worked : IsHonest g.S.Store l.self.store → (before : List EventValue) → DeskServes g.S.Store l.fn.self before → HasWorked before (taken_in (take l.event-index l.events) l.outcomes.items) (writes_of l.fn.self) (writes_of l.self);
+  worked : IsHonest g.S.Store l.self.store → (before : List EventValue) → DeskServes g.S.Store l.fn.self before
+      → HasWorked before (taken_in (take l.event-index l.events) l.outcomes.items) (writes_of l.fn.self) (writes_of l.self);
   crash : (before doubtful : List EventValue) → DeskServes g.S.Store l.fn.self before → DeskLeaves g.S.Store l.fn.self before doubtful
       → DeskLeavesRun g.S.Store l.self before doubtful (take l.event-index l.events) l.outcomes.items;
 }

@@ -16,13 +16,14 @@ pub returns-clause-status : goal.returns-clause-status
 returns-clause-status g c = λ clean e serves.
     let k = serves.kept in
     let stood = serves.stands_for in
-    let at_known = was_honest g.S.Store c.known_of.new.store c.counts_by_kind.new.self c.in_ok-objects.ensures.same clean in
-    let at_count = was_honest g.S.Store c.receipt_count.new.self c.known_of.new.store c.in_ok-known.ensures.same at_known in
+    let at_known = was_honest c.in_ok-objects.ensures.same clean in
+    let at_count = was_honest c.in_ok-known.ensures.same at_known in
     let stands_1 = c.in_ok-receipts.ensures.same.stands k serves.stands in
     let stands_2 = c.in_ok-known.ensures.same.stands k stands_1 in
     let stands_3 = c.in_ok-objects.ensures.same.stands k stands_2 in
     let told = c.status_of.ensures in
     let known = c.in_ok-known.ensures.known at_known e k stands_1 stood in
+    let counts = subst (λ x. AreCounts k.registry.content x.entries) (sym told.objects) (c.in_ok-objects.ensures.counts clean k stands_2) in
     let steps = same_chain e k stood c.deref-2.result.now (c.deref-2.ensures.value ∙ known.chain) in
     record {
       listed_count = told.listed ∙ ap (λ (x : List MRow). length x) (c.rows-listed.ensures.rows ∙ c.manifest.ensures.kept k stands_3 ∙ stood.books.listed);
@@ -35,6 +36,6 @@ returns-clause-status g c = λ clean e serves.
         held_count = told.held ∙ ap length c.deref.ensures.value;
         step_count = told.chain ∙ ap length steps ∙ length-map k.steps (step_at (union e));
         end_is = told.end ∙ ap (λ (x : List Step). option_map (λ (s : Step). (s.place, s.resend)) (last x)) steps;
-        objects_are = subst (λ (f : Content). AreCounts f c.status_of.result.objects.entries) (same_content e k stood apart) (subst (λ x. AreCounts k.registry.content x.entries) (sym told.objects) (c.in_ok-objects.ensures.counts clean k stands_2));
+        objects_are = subst (λ (f : Content). AreCounts f c.status_of.result.objects.entries) (same_content e k stood apart) counts;
       };
     }

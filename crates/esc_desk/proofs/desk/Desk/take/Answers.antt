@@ -9,11 +9,13 @@ use Rattle.esc_desk.proofs.RunLemmas.{answers_same, serves_without, leaves_witho
 use Rattle.esc_desk.proofs.desk.Desk.take.Goals as goal
 
 pub returns-in-Ok-clause-taken : goal.returns-in-Ok-clause-taken
-returns-in-Ok-clause-taken g c = λ clean e served. answers_same g.S.Store _ e _ _ _ c.arrival.view_is (c.in-Ok.ensures.answered clean e served) (c.in-Ok.ensures.room clean e served) (c.in-Ok.ensures.place clean e served)
+returns-in-Ok-clause-taken g c = λ clean e served.
+    answers_same g.S.Store _ e _ _ _ c.arrival.view_is (c.in-Ok.ensures.answered clean e served) (c.in-Ok.ensures.room clean e served) (c.in-Ok.ensures.place clean e served)
 
 pub returns-in-Ok-clause-crash : goal.returns-in-Ok-clause-crash
 returns-in-Ok-clause-crash g c = λ e doubtful served left.
-    subst (λ (x : ArrivalValue). DeskLeavesEvent g.S.Store c.arrive.new.self e doubtful (as_event x) (as_outcome (Done c.in-Ok.reply))) c.arrival.view_is (c.in-Ok.ensures.crash e doubtful served left).answered
+    subst (λ (x : ArrivalValue). DeskLeavesEvent g.S.Store c.arrive.new.self e doubtful (as_event x) (as_outcome (Done c.in-Ok.reply))) c.arrival.view_is
+    (c.in-Ok.ensures.crash e doubtful served left).answered
 
 pub returns-in-Ok-clause-worked : goal.returns-in-Ok-clause-worked
 returns-in-Ok-clause-worked g c = λ clean e served.

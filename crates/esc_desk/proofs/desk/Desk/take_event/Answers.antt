@@ -13,7 +13,8 @@ returns-in-Ok-clause-taken g c = λ clean e served. rw c.in-Amend.is (
     record { serves = made.serves; answer = made.adds })
 
 pub returns-in-Ok-clause-worked : goal.returns-in-Ok-clause-worked
-returns-in-Ok-clause-worked g c = λ clean e served. rw c.in-Amend.is (worked_once e (amendment_of c.in-Amend.text.now) c.in-Ok._work _ _ (c.in-Ok.ensures.amended clean e served).works c.in-Ok.ensures.counted)
+returns-in-Ok-clause-worked g c = λ clean e served.
+    rw c.in-Amend.is (worked_once e (amendment_of c.in-Amend.text.now) c.in-Ok._work _ _ (c.in-Ok.ensures.amended clean e served).works c.in-Ok.ensures.counted)
 
 pub returns-in-Err-clause-taken : goal.returns-in-Err-clause-taken
 returns-in-Err-clause-taken g c = λ clean e served. rw c.in-Amend.is (record {
@@ -25,7 +26,8 @@ pub returns-in-Ok-as_of-clause-taken : goal.returns-in-Ok-as_of-clause-taken
 returns-in-Ok-as_of-clause-taken g c = λ clean e served. rw c.in-AsOf.is (record { serves = c.in-Ok-as_of.ensures.set clean e served; answer = tt })
 
 pub returns-in-Ok-as_of-clause-worked : goal.returns-in-Ok-as_of-clause-worked
-returns-in-Ok-as_of-clause-worked g c = λ clean e served. rw c.in-AsOf.is (worked_once e (moved c.in-AsOf.moment) c.in-Ok-as_of._work _ _ (c.in-Ok-as_of.ensures.worked clean e served) c.in-Ok-as_of.ensures.counted)
+returns-in-Ok-as_of-clause-worked g c = λ clean e served.
+    rw c.in-AsOf.is (worked_once e (moved c.in-AsOf.moment) c.in-Ok-as_of._work _ _ (c.in-Ok-as_of.ensures.worked clean e served) c.in-Ok-as_of.ensures.counted)
 
 pub returns-in-Err-as_of-clause-taken : goal.returns-in-Err-as_of-clause-taken
 returns-in-Err-as_of-clause-taken g c = λ clean e served. rw c.in-AsOf.is (record { serves = serves_without g.S.Store _ e (c.in-Err-as_of.ensures.lost e served); answer = tt })

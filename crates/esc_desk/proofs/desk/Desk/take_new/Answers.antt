@@ -1,6 +1,6 @@
 use Rattle.std.proofs.Common.{rules}
-use Rattle.esc_desk.proofs.CrashLemmas.{adds_none, adds_then, adds_as}
-use Rattle.esc_desk.proofs.CrashSteps.{not_full_by}
+use Rattle.esc_desk.specs.Crashes.{AddsStoreFor}
+use Rattle.esc_desk.proofs.CrashSteps.{adds_as, adds_none, adds_then, not_full_by}
 use Rattle.esc_desk.proofs.CauseLemmas.{if_err_is, faults_then}
 use Rattle.esc_desk.proofs.desk.Desk.take_new.Goals as goal
 
@@ -22,17 +22,22 @@ pub returns-clause-place : goal.returns-clause-place
 returns-clause-place g c = λ clean k stood. c.in_ok-taken.ensures.place clean k (c.in_ok-known.ensures.same.stands k stood)
 
 pub returns-in_err-known-clause-crash : goal.returns-in_err-known-clause-crash
-returns-in_err-known-clause-crash g c = λ clean e k stood stands known none. adds_none g.S.Store _ _ _ _ c.in_err-known.ensures.same.survives
+unfolding AddsStoreFor
+returns-in_err-known-clause-crash g c = λ clean e k stood stands known none. adds_none c.in_err-known.ensures.same.survives
 
 pub returns-in_err-taken-clause-crash : goal.returns-in_err-taken-clause-crash
+unfolding AddsStoreFor
 returns-in_err-taken-clause-crash g c = λ clean e k stood stands known none.
     let now = c.in_ok-known.ensures.known (c.in_err-taken.ensures.honest clean) e k stood stands known in
-    adds_then g.S.Store _ c.take_known.new.self.store.conn _ _ _ c.in_ok-known.ensures.same.survives (adds_as g.S.Store _ _ _ c.from_residual-in_err-taken.result _ (λ h. not_full_by c.from_residual-in_err-taken.result c.in_err-taken.field-0.0 (search rules) h) (c.in_err-taken.ensures.crash clean e k (c.in_ok-known.ensures.same.stands k stood) stands now none))
+    let there = c.in_ok-known.ensures.same.stands k stood in
+    adds_then c.in_ok-known.ensures.same.survives (adds_as (λ h. not_full_by c.in_err-taken.field-0.0 (search rules) h) (c.in_err-taken.ensures.crash clean e k there stands now none))
 
 pub returns-clause-crash : goal.returns-clause-crash
+unfolding AddsStoreFor
 returns-clause-crash g c = λ clean e k stood stands known none.
     let now = c.in_ok-known.ensures.known (c.in_ok-taken.ensures.honest clean) e k stood stands known in
-    adds_then g.S.Store _ c.take_known.new.self.store.conn _ _ _ c.in_ok-known.ensures.same.survives (adds_as g.S.Store _ _ _ _ _ (λ h. tt) (c.in_ok-taken.ensures.crash clean e k (c.in_ok-known.ensures.same.stands k stood) stands now none))
+    let there = c.in_ok-known.ensures.same.stands k stood in
+    adds_then c.in_ok-known.ensures.same.survives (adds_as (λ h. tt) (c.in_ok-taken.ensures.crash clean e k there stands now none))
 
 pub returns-in_err-taken-clause-cause : goal.returns-in_err-taken-clause-cause
 returns-in_err-taken-clause-cause g c =
