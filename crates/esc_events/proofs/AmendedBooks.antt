@@ -1,5 +1,6 @@
 -- The books after an amendment, and after a moment was set.
-use Rattle.std.proofs.Common.{◌≡◌, inl, inr, ℕ, ℤ, ◌<◌, ◌≤◌, List, [], ◌∷◌, ◌++◌, length, Bool, true, false, cond, nat_lt, Option, Some, None, IsSome, is_some, refl, sym, ap, subst, ◌∙◌, arith, true≢false, length-append}
+use Rattle.std.proofs.Common.{◌≡◌, inl, inr, ℕ, ℤ, ◌<◌, ◌≤◌, nat_lt, List, [], ◌∷◌, ◌++◌, length, Bool, true, false, cond}
+use Rattle.std.proofs.Common.{Option, Some, None, IsSome, is_some, refl, sym, ap, subst, ◌∙◌, arith, true≢false, length-append}
 use Rattle.std.specs.List.{Any}
 use Rattle.std.proofs.lemmas.Bool.Decides.{nat_tests}
 use Rattle.sha2.specs.Sha256.{sha256}
@@ -17,10 +18,13 @@ use Rattle.esc_events.specs.Finding.{found, row_of}
 use Rattle.esc_events.specs.Receipts.{holds_row, distinct, receipts_after, receipts_of, reply_to}
 use Rattle.esc_events.specs.Stands.{AreBooks, IsApart, TellsOf, CameFor, holds_by, counted, held_body, parked_body}
 use Rattle.esc_events.specs.Amended.{judged, amended_bodies, still_parked, with_listed, amended_kept}
-use Rattle.esc_events.proofs.AmendingLemmas.{union_more, comings_more, moment_more, no_some, row_is, row_has, row_found, same_at, listed_still, holds_same, judged_at, judged_some, union_moved, comings_moved, moment_moved, reply_same, rows_short, distinct_in, receipts_below}
+use Rattle.esc_events.proofs.AmendingLemmas.{union_more, comings_more, moment_more, row_is, row_has, row_held, same_at, listed_still, holds_same, judged_at, judged_some}
+use Rattle.esc_events.proofs.AmendingLemmas.{union_moved, comings_moved, moment_moved, reply_same, rows_short, receipts_below}
 use Rattle.esc_events.proofs.AmendingEvents.{came_under, holds_as, receipts_as, apart_as, held_as, parked_as, came_as, waits_as, held_is, parked_is}
 use Rattle.esc_events.proofs.AmendingKept.{StayBesides, rest_stays, parked_was, parked_are, bodies_are}
 use Rattle.esc_events.proofs.HeldReceipts.{any-weaker}
+use Rattle.esc_events.proofs.Members.{distinct_among}
+use Rattle.esc_events.proofs.Searches.{no_answer}
 use Rattle.esc_events.proofs.Telling.{any_of_row}
 
 -- by the definitions: the bodies that are held after an amendment are those that were held, and for
@@ -85,7 +89,7 @@ books_amended e k more books ok okn = record {
     in_union : (r : ℕ) (body : List ℕ) → k.bodies r ≡ Some body → r < length (union e)
     in_union r body is =
         let c = books.came r body is in
-        (row_has (union e) r (sha256 c.arrival.body) (row_found (union e) r (row_of (union e) (sha256 c.arrival.body)) (reading c.arrival.body) c.holds)).0
+        (row_held sha256 reading (union e) r c.arrival c.holds).0
 
     few : (r : ℕ) (body : List ℕ) → k.bodies r ≡ Some body → r < length k.listed
     few r body is = subst (λ (m : List MRow). r < length m) (sym books.listed) (in_union r body is)
@@ -102,9 +106,9 @@ books_amended e k more books ok okn = record {
 
     was_listed : (d : List ℕ) (q : ℕ) → row_of (extended k.listed more) d ≡ Some q → q < length k.listed → row_of (union e) d ≡ Some q
     was_listed d q row lt =
-        let at = row_has n q d row in
+        let at = row_has n d row in
         ap (λ (m : List MRow). row_of m d) (sym books.listed)
-        ∙ row_is k.listed okm q d lt (ap (λ (x : MRow). x.digest) (sym (same_at sha256 reading k.listed (new_rows k.listed more) okm okk q lt)) ∙ at.1)
+        ∙ row_is okm lt (ap (λ (x : MRow). x.digest) (sym (same_at sha256 reading (new_rows k.listed more) okm okk q lt)) ∙ at.1)
 
     parked_still : IsApart sha256 reading e → (d : List ℕ) → (amended_kept k more).parked d ≡ parked_body sha256 reading (e ++ listed more ∷ []) d
     parked_still apart d =
@@ -121,15 +125,19 @@ books_amended e k more books ok okn = record {
         → CameFor sha256 reading (e ++ listed more ∷ []) r body
     came_for r body true old t lt is =
         came_as sha256 e f came r r body
-        (λ c holds. ap (λ (m : List MRow). holds_by sha256 reading m r c) rows ∙ holds_same sha256 reading (union e) (new_rows (union e) more) ok okn r (in_union r body is) c ∙ holds)
+        (λ c holds. ap (λ (m : List MRow). holds_by sha256 reading m r c) rows ∙ holds_same sha256 reading (new_rows (union e) more) ok okn r (in_union r body is) c ∙ holds)
         (books.came r body is)
     came_for r body false new true lt is =
         let x = judged_some n r (k.parked (row_at n r).digest) body is in
         let inside : r < length n = grind (arith, nat_tests, lt) in
         holds_as sha256 e f came (row_at n r).digest r body
-        (λ c digests bodies. ap (λ (m : List MRow). holds_by sha256 reading m r c) (rows ∙ sym rows_k) ∙ judged_at sha256 n okk r inside c digests ∙ ap (λ (b : List ℕ). holds_row r (found n r (reading b))) bodies ∙ x.1)
+        (λ c digests bodies.
+        ap (λ (m : List MRow). holds_by sha256 reading m r c) (rows ∙ sym rows_k)
+        ∙ judged_at sha256 okk inside c digests
+        ∙ ap (λ (b : List ℕ). holds_row r (found n r (reading b))) bodies
+        ∙ x.1)
         (books.waits (row_at n r).digest body x.0)
-    came_for r body false new false lt is = absurd (no_some is)
+    came_for r body false new false lt is = absurd (no_answer is)
 
     told_of : (r : ℕ) → IsSome (k.bodies r) → (o : Option (List ℕ)) → k.bodies r ≡ o → IsSome ((amended_kept k more).bodies r)
     told_of r some None is = absurd (true≢false (sym some ∙ ap (λ (o : Option (List ℕ)). is_some o) is))
@@ -143,7 +151,9 @@ books_amended e k more books ok okn = record {
     -- a receipt tells of a row as it did before, or of a row that is new
     still_tells : (r : ℕ) (receipt : ReceiptValue) → TellsOf (union e) r receipt → TellsOf (union f) r receipt
     still_tells r receipt (inl says) = inl says
-    still_tells r receipt (inr tells) = inr (tells.0, ap (λ (m : List MRow). row_of m receipt.digest) rows ∙ listed_still sha256 reading (union e) (new_rows (union e) more) ok okn r receipt.digest tells.1)
+    still_tells r receipt (inr tells) =
+        let lists = listed_still sha256 reading (new_rows (union e) more) ok okn r receipt.digest tells.1 in
+        inr (tells.0, ap (λ (m : List MRow). row_of m receipt.digest) rows ∙ lists)
 
     by_source : (r : ℕ) (body : List ℕ) (s : Bool) → nat_lt r (length k.listed) ≡ s → (t : Bool) → nat_lt r (length (extended k.listed more)) ≡ t
         → cond s (k.bodies r) (cond t (judged (extended k.listed more) r (k.parked (row_at (extended k.listed more) r).digest)) None) ≡ Some body
@@ -152,18 +162,24 @@ books_amended e k more books ok okn = record {
     by_source r body false new true lt is =
         let inside : r < length n = grind (arith, nat_tests, lt) in
         any_of_row (union f) (row_at n r).digest r
-        (ap (λ (m : List MRow). row_of m (row_at n r).digest) (rows ∙ sym rows_k) ∙ row_is n okk r (row_at n r).digest inside refl)
+        (ap (λ (m : List MRow). row_of m (row_at n r).digest) (rows ∙ sym rows_k) ∙ row_is okk inside refl)
         k.receipts
         (books.parked_told (row_at n r).digest (ap is_some (judged_some n r (k.parked (row_at n r).digest) body is).0))
-    by_source r body false new false lt is = absurd (no_some is)
+    by_source r body false new false lt is = absurd (no_answer is)
 
-    by_body : (r : ℕ) (o : Option (List ℕ)) → (amended_kept k more).bodies r ≡ o → IsSome ((amended_kept k more).bodies r) → Any (TellsOf (union f) r) (amended_kept k more).receipts
+    by_body : (r : ℕ) (o : Option (List ℕ)) → (amended_kept k more).bodies r ≡ o → IsSome ((amended_kept k more).bodies r)
+        → Any (TellsOf (union f) r) (amended_kept k more).receipts
     by_body r None is some = absurd (true≢false (sym some ∙ ap is_some is))
-    by_body r (Some body) is some = subst (Any (TellsOf (union f) r)) (sym rest.1) (by_source r body (nat_lt r (length k.listed)) refl (nat_lt r (length n)) refl (sym (kept_bodies k more okk few r) ∙ is))
+    by_body r (Some body) is some =
+        subst (Any (TellsOf (union f) r)) (sym rest.1)
+        (by_source r body (nat_lt r (length k.listed)) refl (nat_lt r (length n)) refl (sym (kept_bodies k more okk few r) ∙ is))
 
-    by_parked : (d : List ℕ) (o : Option (List ℕ)) → (amended_kept k more).parked d ≡ o → IsSome ((amended_kept k more).parked d) → Any (TellsUnlisted d) (amended_kept k more).receipts
+    by_parked : (d : List ℕ) (o : Option (List ℕ)) → (amended_kept k more).parked d ≡ o → IsSome ((amended_kept k more).parked d)
+        → Any (TellsUnlisted d) (amended_kept k more).receipts
     by_parked d None is some = absurd (true≢false (sym some ∙ ap is_some is))
-    by_parked d (Some body) is some = subst (Any (TellsUnlisted d)) (sym rest.1) (books.parked_told d (ap is_some (parked_was n okk k (length k.listed) (no_shorter k.listed more) d body is)))
+    by_parked d (Some body) is some =
+        subst (Any (TellsUnlisted d)) (sym rest.1)
+        (books.parked_told d (ap is_some (parked_was n okk k (length k.listed) (no_shorter k.listed more) d body is)))
 
 -- the books after a moment was set
 pub books_of_moment : (e : List EventValue) (k : Kept) (moment : Option ℤ) → AreBooks sha256 reading e k → AreBooks sha256 reading (e ++ moved moment ∷ []) (with_moment k moment)
@@ -189,4 +205,4 @@ replies_stay e more a =
     ap (λ (cs : List Coming). reply_alike (union (e ++ listed more ∷ [])) 1 a.number (sha256 a.body) (receipts_after sha256 reading [] (distinct sha256 reading cs))) (comings_more [] e more)
     ∙ ap (λ (m : List MRow). reply_alike m 1 a.number (sha256 a.body) (receipts_of sha256 reading e)) (union_more [] e more)
     ∙ reply_same (union e) (new_rows (union e) more) 1 a.number (sha256 a.body) (receipts_of sha256 reading e)
-    (receipts_below sha256 reading (length (union e)) [] (distinct sha256 reading (comings e)) (λ c among. rows_short [] e c (distinct_in sha256 reading (comings e) c among)))
+    (receipts_below sha256 reading (length (union e)) [] (distinct sha256 reading (comings e)) (λ c among. rows_short [] e c (distinct_among sha256 reading (comings e) c among)))

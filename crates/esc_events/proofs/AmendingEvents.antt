@@ -24,6 +24,10 @@ module _ (digest : List ℕ → List ℕ) where
   abbrev pub came_under : List Coming → List ℕ → Option (List ℕ)
   came_under l d = body_of (find (has_digest digest reading d) l)
 
+  -- what is parked under a digest, that is, what came with it while no row lists it
+  abbrev pub parked_from : List MRow → List Coming → List ℕ → Option (List ℕ)
+  parked_from m l d = cond (is_some (row_of m d)) None (came_under l d)
+
   -- ---- the same arrivals
 
   module _ (e f : List EventValue) (same : comings f ≡ comings e) where
@@ -43,7 +47,7 @@ module _ (digest : List ℕ → List ℕ) where
     held_as m rows r = ap (λ (x : List MRow). held_from x (counted digest reading f) r) rows ∙ ap (λ (cs : List Coming). held_from m cs r) counted_as
 
     pub parked_as : (m : List MRow) → union f ≡ m → (d : List ℕ) → parked_body digest reading f d ≡ cond (is_some (row_of m d)) None (came_under (counted digest reading e) d)
-    parked_as m rows d = ap (λ (x : List MRow). cond (is_some (row_of x d)) None (came_under (counted digest reading f) d)) rows ∙ ap (λ (cs : List Coming). cond (is_some (row_of m d)) None (came_under cs d)) counted_as
+    parked_as m rows d = ap (λ (x : List MRow). parked_from x (counted digest reading f) d) rows ∙ ap (λ (cs : List Coming). parked_from m cs d) counted_as
 
     -- a body that came for a row came for a row that it holds now
     pub came_as : (q r : ℕ) (body : List ℕ) → ((c : Coming) → holds_by digest reading (union e) q c ≡ true → holds_by digest reading (union f) r c ≡ true)
@@ -80,12 +84,13 @@ module _ (digest : List ℕ → List ℕ) where
     held_is apart r = by_old (nat_lt r (length m)) refl (nat_lt r (length n)) refl
       where
         old : r < length m → held_body digest reading e r ≡ held_body digest reading f r
-        old lt = ap body_of (sym (find_same (holds_by digest reading n r) (holds_by digest reading m r) (counted digest reading e) (holds_same digest reading m x ok okn r lt))) ∙ sym (after r)
+        old lt =
+            ap body_of (sym (find_same (holds_by digest reading n r) (holds_by digest reading m r) (counted digest reading e) (holds_same digest reading x ok okn r lt))) ∙ sym (after r)
 
         inside : length m ≤ r → r < length n → judged n r (parked_body digest reading e (row_at n r).digest) ≡ held_body digest reading f r
         inside new lt =
-            ap (λ (o : Option ℕ). judged n r (cond (is_some o) None (came_under (counted digest reading e) (row_at n r).digest))) (unlisted_before digest reading m x ok okn r new lt)
-            ∙ judged_first digest n okn r lt (counted digest reading e) apart ∙ sym (after r)
+            ap (λ (o : Option ℕ). judged n r (cond (is_some o) None (came_under (counted digest reading e) (row_at n r).digest))) (unlisted_before digest reading x ok okn r new lt)
+            ∙ judged_first digest okn lt (counted digest reading e) apart ∙ sym (after r)
 
         beyond : length n ≤ r → None ≡ held_body digest reading f r
         beyond far = sym (after r ∙ ap body_of (find_never (holds_by digest reading n r) (counted digest reading e) (λ c among is. beyond_held digest reading n r far c is)))
@@ -100,9 +105,9 @@ module _ (digest : List ℕ → List ℕ) where
     parked_is d = by_row (row_of m d) refl (row_of n d) refl ∙ sym (parked_as e f (comings_more [] e more) n (union_more [] e more) d)
       where
         by_row : (o : Option ℕ) → row_of m d ≡ o → (p : Option ℕ) → row_of n d ≡ p
-            → cond (is_some (row_of n d)) None (cond (is_some (row_of m d)) None (came_under (counted digest reading e) d)) ≡ cond (is_some (row_of n d)) None (came_under (counted digest reading e) d)
+            → cond (is_some (row_of n d)) None (parked_from m (counted digest reading e) d) ≡ parked_from n (counted digest reading e) d
         by_row None old p new = ap (λ (q : Option ℕ). cond (is_some (row_of n d)) None (cond (is_some q) None (came_under (counted digest reading e) d))) old
         by_row (Some q) old p new =
-            let there : row_of n d ≡ Some q = listed_still digest reading m x ok okn q d old in
-            ap (λ (s : Option ℕ). cond (is_some s) None (cond (is_some (row_of m d)) None (came_under (counted digest reading e) d))) there
+            let there : row_of n d ≡ Some q = listed_still digest reading x ok okn q d old in
+            ap (λ (s : Option ℕ). cond (is_some s) None (parked_from m (counted digest reading e) d)) there
             ∙ sym (ap (λ (s : Option ℕ). cond (is_some s) None (came_under (counted digest reading e) d)) there)

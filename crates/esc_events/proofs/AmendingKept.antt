@@ -1,5 +1,6 @@
 -- What a store keeps after parked bodies became those of their rows or were let go.
-use Rattle.std.proofs.Common.{◌≡◌, inl, inr, ℕ, zero, suc, ◌+◌, ◌-◌, ◌<◌, ◌≤◌, Bool, true, false, cond, ◌==◌, ◌&&◌, not, filter, List, [], ◌∷◌, length, nat_lt, Option, Some, None, is_some, refl, sym, ap, ap₂, subst, ◌∙◌, arith, true≢false}
+use Rattle.std.proofs.Common.{◌≡◌, inl, inr, ℕ, zero, suc, ◌+◌, ◌-◌, ◌<◌, ◌≤◌, Bool, true, false, cond, ◌==◌, ◌&&◌, not, nat_lt}
+use Rattle.std.proofs.Common.{List, [], ◌∷◌, length, filter, Option, Some, None, is_some, refl, sym, ap, ap₂, subst, ◌∙◌, arith, true≢false}
 use Rattle.std.specs.Str.{bytes_eq}
 use Rattle.std.specs.Cmp.Lexicographic.{bytes_decides}
 use Rattle.std.proofs.lemmas.Bool.Decides.{nat_tests}
@@ -9,8 +10,10 @@ use Rattle.esc_manifest.specs.Accepted.{IsAccepted}
 use Rattle.esc_store.specs.Kept.{Kept, parked_put, with_parked}
 use Rattle.esc_events.specs.Finding.{row_of}
 use Rattle.esc_events.specs.Stands.{Among}
-use Rattle.esc_events.specs.Amended.{judged, numbers_from, is_adopted, is_dropped, adopted_rows, dropped_rows, amended_bodies, still_parked, with_listed, with_adopted, with_all_adopted, with_all_dropped}
-use Rattle.esc_events.proofs.AmendingLemmas.{equal_number, no_test, no_some, row_is, row_has, judged_some}
+use Rattle.esc_events.specs.Amended.{judged, numbers_from, is_adopted, is_dropped, adopted_rows, dropped_rows}
+use Rattle.esc_events.specs.Amended.{amended_bodies, still_parked, with_listed, with_adopted, with_all_adopted, with_all_dropped}
+use Rattle.esc_events.proofs.AmendingLemmas.{equal_number, no_test, row_is, row_has, judged_some}
+use Rattle.esc_events.proofs.Searches.{no_answer}
 
 none_both : (t : Bool) (o : Option (List ℕ)) → o ≡ None → cond t None o ≡ None
 none_both true o none = refl
@@ -128,7 +131,9 @@ module _ (n : List MRow) where
   -- under a digest that none of the rows has, it stays
   gone_others : (parked : List ℕ → Option (List ℕ)) (rows : List ℕ) (d : List ℕ) → ((r : ℕ) → Among rows r → bytes_eq (digest_at r) d ≡ false) → gone parked rows d ≡ parked d
   gone_others parked [] d others = refl
-  gone_others parked (r ∷ rows) d others = gone_others (parked_put parked (digest_at r) None) rows d (λ s there. others s (inr there)) ∙ ap (λ (t : Bool). cond t None (parked d)) (others r (inl refl))
+  gone_others parked (r ∷ rows) d others =
+      gone_others (parked_put parked (digest_at r) None) rows d (λ s there. others s (inr there))
+      ∙ ap (λ (t : Bool). cond t None (parked d)) (others r (inl refl))
 
   gone_none : (parked : List ℕ → Option (List ℕ)) (rows : List ℕ) (d : List ℕ) → parked d ≡ None → gone parked rows d ≡ None
   gone_none parked [] d none = none
@@ -136,7 +141,9 @@ module _ (n : List MRow) where
 
   gone_here : (parked : List ℕ → Option (List ℕ)) (rows : List ℕ) (q : ℕ) → Among rows q → gone parked rows (digest_at q) ≡ None
   gone_here parked [] q there = absurd there
-  gone_here parked (r ∷ rows) q (inl is) = gone_none (parked_put parked (digest_at r) None) rows (digest_at q) (ap (λ (t : Bool). cond t None (parked (digest_at q))) ((bytes_decides (digest_at r) (digest_at q)).1 (ap digest_at (sym is))))
+  gone_here parked (r ∷ rows) q (inl is) =
+      let same : bytes_eq (digest_at r) (digest_at q) ≡ true = (bytes_decides (digest_at r) (digest_at q)).1 (ap digest_at (sym is)) in
+      gone_none (parked_put parked (digest_at r) None) rows (digest_at q) (ap (λ (t : Bool). cond t None (parked (digest_at q))) same)
   gone_here parked (r ∷ rows) q (inr there) = gone_here (parked_put parked (digest_at r) None) rows q there
 
   gone_some : (parked : List ℕ → Option (List ℕ)) (rows : List ℕ) (d body : List ℕ) → gone parked rows d ≡ Some body → parked d ≡ Some body
@@ -144,7 +151,7 @@ module _ (n : List MRow) where
   gone_some parked (r ∷ rows) d body is = by_test (bytes_eq (digest_at r) d) (gone_some (parked_put parked (digest_at r) None) rows d body is)
     where
       by_test : (t : Bool) → cond t None (parked d) ≡ Some body → parked d ≡ Some body
-      by_test true e = absurd (no_some e)
+      by_test true e = absurd (no_answer e)
       by_test false e = e
 
   -- ---- bodies
@@ -155,7 +162,9 @@ module _ (n : List MRow) where
 
   adopted_others : (k : Kept) (rows : List ℕ) (q : ℕ) → ((r : ℕ) → Among rows r → (q == r) ≡ false) → (with_all_adopted n k rows).bodies q ≡ k.bodies q
   adopted_others k [] q others = refl
-  adopted_others k (r ∷ rows) q others = adopted_others (adopt k r) rows q (λ s there. others s (inr there)) ∙ one_body k r (digest_at r) (k.parked (digest_at r)) q (others r (inl refl))
+  adopted_others k (r ∷ rows) q others =
+      adopted_others (adopt k r) rows q (λ s there. others s (inr there))
+      ∙ one_body k r (digest_at r) (k.parked (digest_at r)) q (others r (inl refl))
 
   adopted_here : (okn : IsAccepted n) (k : Kept) (first : ℕ) (rows : List ℕ) → RisesFrom first rows → ((r : ℕ) → Among rows r → r < length n)
       → (q : ℕ) (body : List ℕ) → Among rows q → k.parked (digest_at q) ≡ Some body → (with_all_adopted n k rows).bodies q ≡ Some body
@@ -172,7 +181,8 @@ module _ (n : List MRow) where
       later s there = let at : suc r ≤ s = not_below (suc r) rows s rises.1 there in grind (arith, nat_tests, is, at)
   adopted_here okn k first (r ∷ rows) rises few q body (inr there) parked =
       adopted_here okn (adopt k r) (suc r) rows rises.1 (λ s t. few s (inr t)) q body there
-      (one_gone k r (digest_at r) (k.parked (digest_at r)) refl (digest_at q) ∙ ap (λ (t : Bool). cond t None (k.parked (digest_at q))) (no_test (bytes_eq (digest_at r) (digest_at q)) other) ∙ parked)
+      (one_gone k r (digest_at r) (k.parked (digest_at r)) refl (digest_at q)
+      ∙ ap (λ (t : Bool). cond t None (k.parked (digest_at q))) (no_test (bytes_eq (digest_at r) (digest_at q)) other) ∙ parked)
     where
       other : bytes_eq (digest_at r) (digest_at q) ≡ true → ⊥
       other same =
@@ -189,11 +199,18 @@ module _ (n : List MRow) (okn : IsAccepted n) (k : Kept) (from : ℕ) (le : from
   abbrev pub dropped : List ℕ
   dropped = dropped_rows n k.parked from
 
+  -- what is kept with the rows, then with the bodies, and then without the dropped ones
+  abbrev rows_listed : Kept
+  rows_listed = with_listed k n
+
+  abbrev bodies_held : Kept
+  bodies_held = with_all_adopted n rows_listed adopted
+
   abbrev pub last : Kept
   last = with_all_dropped n (with_all_adopted n (with_listed k n) adopted) dropped
 
   pub rest_stays : StayBesides (with_listed k n) last
-  rest_stays = stay_then (with_listed k n) (with_all_adopted n (with_listed k n) adopted) last (adopted_stay n (with_listed k n) adopted) (dropped_stay n (with_all_adopted n (with_listed k n) adopted) dropped)
+  rest_stays = stay_then rows_listed bodies_held last (adopted_stay n rows_listed adopted) (dropped_stay n bodies_held dropped)
 
   of_rows : (p : ℕ → Bool) (q : ℕ) → Among (filter p (numbers_from from (length n - from))) q → (from ≤ q) × (q < length n) × (p q ≡ true)
   of_rows p q there = let x = of_numbers p from (length n - from) q there in (x.0, omega (arith, x.1, le), x.2)
@@ -205,8 +222,8 @@ module _ (n : List MRow) (okn : IsAccepted n) (k : Kept) (from : ℕ) (le : from
 
   parked_of : (d : List ℕ) → last.parked d ≡ gone n (gone n k.parked adopted) dropped d
   parked_of d =
-      let one : (with_all_adopted n (with_listed k n) adopted).parked ≡ gone n k.parked adopted = λ i x. adopted_gone n (with_listed k n) adopted x i in
-      dropped_gone n (with_all_adopted n (with_listed k n) adopted) dropped d ∙ ap (λ (g : List ℕ → Option (List ℕ)). gone n g dropped d) one
+      let one : bodies_held.parked ≡ gone n k.parked adopted = λ i x. adopted_gone n rows_listed adopted x i in
+      dropped_gone n bodies_held dropped d ∙ ap (λ (g : List ℕ → Option (List ℕ)). gone n g dropped d) one
 
   pub parked_was : (d body : List ℕ) → last.parked d ≡ Some body → k.parked d ≡ Some body
   parked_was d body is = gone_some n k.parked adopted d body (gone_some n (gone n k.parked adopted) dropped d body (sym (parked_of d) ∙ is))
@@ -218,14 +235,14 @@ module _ (n : List MRow) (okn : IsAccepted n) (k : Kept) (from : ℕ) (le : from
       none is = gone_none n (gone n k.parked adopted) dropped d (gone_none n k.parked adopted d is)
 
       other : row_of n d ≡ None → (s : ℕ) → s < length n → bytes_eq (digest_at n s) d ≡ false
-      other unlisted s lt = no_test (bytes_eq (digest_at n s) d) (λ same. no_some (sym unlisted ∙ row_is n okn s d lt ((bytes_decides (digest_at n s) d).0 same)))
+      other unlisted s lt = no_test (bytes_eq (digest_at n s) d) (λ same. no_answer (sym unlisted ∙ row_is okn lt ((bytes_decides (digest_at n s) d).0 same)))
 
       new : (q : ℕ) → row_of n d ≡ Some q → from ≤ q → (o : Option (List ℕ)) → k.parked d ≡ o → gone n (gone n k.parked adopted) dropped d ≡ None
       new q row far None is = none is
       new q row far (Some body) is = by_test (is_adopted n k.parked q) refl
         where
           at : (q < length n) × (digest_at n q ≡ d)
-          at = row_has n q d row
+          at = row_has n d row
 
           there : is_some (k.parked (digest_at n q)) ≡ true
           there = ap (λ (x : List ℕ). is_some (k.parked x)) at.1 ∙ ap (λ (o : Option (List ℕ)). is_some o) is
@@ -252,26 +269,26 @@ module _ (n : List MRow) (okn : IsAccepted n) (k : Kept) (from : ℕ) (le : from
   -- ---- bodies
 
   pub bodies_are : ((r : ℕ) (body : List ℕ) → k.bodies r ≡ Some body → r < from) → (r : ℕ) → last.bodies r ≡ amended_bodies n k.parked from k.bodies r
-  bodies_are few r = dropped_bodies n (with_all_adopted n (with_listed k n) adopted) dropped r ∙ by_tests (nat_lt r from) refl (nat_lt r (length n)) refl
+  bodies_are few r = dropped_bodies n bodies_held dropped r ∙ by_tests (nat_lt r from) refl (nat_lt r (length n)) refl
     where
-      stays : ((s : ℕ) → Among adopted s → r ≡ s → ⊥) → (with_all_adopted n (with_listed k n) adopted).bodies r ≡ k.bodies r
-      stays never = adopted_others n (with_listed k n) adopted r (λ s there. no_test (r == s) (λ same. never s there (equal_number r s same)))
+      stays : ((s : ℕ) → Among adopted s → r ≡ s → ⊥) → bodies_held.bodies r ≡ k.bodies r
+      stays never = adopted_others n rows_listed adopted r (λ s there. no_test (r == s) (λ same. never s there (equal_number r s same)))
 
       none : from ≤ r → (o : Option (List ℕ)) → k.bodies r ≡ o → o ≡ None
       none far None is = refl
       none far (Some body) is = absurd (let at = few r body is in omega (arith, at, far))
 
-      new : from ≤ r → r < length n → (o : Option (List ℕ)) → judged n r (k.parked (digest_at n r)) ≡ o → (with_all_adopted n (with_listed k n) adopted).bodies r ≡ o
+      new : from ≤ r → r < length n → (o : Option (List ℕ)) → judged n r (k.parked (digest_at n r)) ≡ o → bodies_held.bodies r ≡ o
       new far lt None miss = stays never ∙ none far (k.bodies r) refl
         where
           never : (s : ℕ) → Among adopted s → r ≡ s → ⊥
           never s there same = true≢false (sym (of_rows (is_adopted n k.parked) s there).2 ∙ ap (is_adopted n k.parked) (sym same) ∙ ap (λ (o : Option (List ℕ)). is_some o) miss)
       new far lt (Some body) is =
-          adopted_here n okn (with_listed k n) from adopted (rises_numbers (is_adopted n k.parked) from (length n - from)) (λ s there. (of_rows (is_adopted n k.parked) s there).1) r body
+          adopted_here n okn rows_listed from adopted (rises_numbers (is_adopted n k.parked) from (length n - from)) (λ s there. (of_rows (is_adopted n k.parked) s there).1) r body
           (in_rows (is_adopted n k.parked) r far lt (ap (λ (o : Option (List ℕ)). is_some o) is)) (judged_some n r (k.parked (digest_at n r)) body is).0
 
       by_tests : (s : Bool) → nat_lt r from ≡ s → (t : Bool) → nat_lt r (length n) ≡ t
-          → (with_all_adopted n (with_listed k n) adopted).bodies r ≡ cond s (k.bodies r) (cond t (judged n r (k.parked (digest_at n r))) None)
+          → bodies_held.bodies r ≡ cond s (k.bodies r) (cond t (judged n r (k.parked (digest_at n r))) None)
       by_tests true is t lt =
           let old : r < from = grind (arith, nat_tests, is) in
           stays (λ s there same. let x = (of_rows (is_adopted n k.parked) s there).0 in omega (arith, x, old, same))

@@ -1,6 +1,7 @@
 -- One more event in what is listed and what came; the row of a digest; and what bodies are judged
 -- by, where rows are added.
-use Rattle.std.proofs.Common.{◌≡◌, inl, inr, ℕ, ℤ, suc, ◌<◌, ◌≤◌, Bool, true, false, cond, ◌==◌, not, filter, List, [], ◌∷◌, ◌++◌, length, get_or, position, Option, Some, None, option_map, IfSome, Result, Ok, Err, refl, sym, ap, ap₂, subst, ◌∙◌, arith, true≢false, length-append}
+use Rattle.std.proofs.Common.{◌≡◌, inl, inr, ℕ, ℤ, suc, ◌<◌, ◌≤◌, Bool, true, false, cond, ◌==◌, Option, Some, None, option_map, IfSome, Result, Ok, Err}
+use Rattle.std.proofs.Common.{List, [], ◌∷◌, ◌++◌, length, get_or, position, refl, sym, ap, ap₂, subst, ◌∙◌, arith, true≢false, length-append}
 use Rattle.std.specs.List.{position_or_len, find}
 use Rattle.std.specs.Str.{bytes_eq}
 use Rattle.std.specs.Cmp.Lexicographic.{bytes_decides}
@@ -16,13 +17,15 @@ use Rattle.esc_manifest.specs.Rows.{row_at, no_row, id_at, resend_at}
 use Rattle.esc_manifest.specs.Accepted.{IsAccepted}
 use Rattle.esc_manifest.specs.Extension.{new_rows, extended}
 use Rattle.esc_store.specs.ReplyValue.{ReplyValue, ReceiptValue, reply_kept, is_alike, reply_alike}
+use Rattle.esc_events.specs.declared.finding.Finding.{Finding}
 use Rattle.esc_events.specs.declared.finding.Finding.TheVariants.{Differing, Holding}
 use Rattle.esc_events.specs.Events.{EventValue, Coming, coming, early_coming, union_after, comings_after, moment_after}
 use Rattle.esc_events.specs.Events.EventValue.{listed, arrived, moved, arrived_early}
 use Rattle.esc_events.specs.Finding.{finding, found_at, found, as_listed, row_of, held_row}
-use Rattle.esc_events.specs.Receipts.{is_row, holds_row, receipt_by, holds_any, alike, distinct, receipt_for, receipts_after}
+use Rattle.esc_events.specs.Receipts.{is_row, holds_row, receipt_by, holds_any, receipt_for, receipts_after}
 use Rattle.esc_events.specs.Stands.{Among, body_of, holds_by, has_digest}
 use Rattle.esc_events.specs.Amended.{judged}
+use Rattle.esc_events.proofs.Searches.{same_answer, no_answer}
 
 -- ---- one more manifest in a list of events
 
@@ -72,7 +75,7 @@ moment_moved t (arrived_early a ∷ e) u = moment_moved t e u
 
 -- ---- tests
 
-same_bool : (a b : Bool) → (a ≡ true → b ≡ true) → (b ≡ true → a ≡ true) → a ≡ b
+pub same_bool : (a b : Bool) → (a ≡ true → b ≡ true) → (b ≡ true → a ≡ true) → a ≡ b
 same_bool true true f g = refl
 same_bool true false f g = absurd (true≢false (sym (f refl)))
 same_bool false true f g = absurd (true≢false (sym (g refl)))
@@ -85,16 +88,6 @@ pub no_test : (b : Bool) → (b ≡ true → ⊥) → b ≡ false
 no_test true never = absurd (never refl)
 no_test false never = refl
 
-pub no_some : {X : Type 0} {y : X} → None ≡ Some y → ⊥
-no_some e = cc
-
-pub same_some : {X : Type 0} {x y : X} → Some x ≡ Some y → x ≡ y
-same_some {X = X} {x = x} e = ap item e
-  where
-    item : Option X → X
-    item None = x
-    item (Some z) = z
-
 -- ---- rows by digest
 
 -- without a first place no place passes
@@ -103,8 +96,8 @@ none_passes p xs k d none lt passes =
     let behind : length xs ≤ position_or_len p xs = grind (arith, common_steps, none) in
     true≢false (sym passes ∙ fails_before_first p xs k d (omega (arith, behind, lt)))
 
-pub row_is : (m : List MRow) → IsAccepted m → (r : ℕ) (d : List ℕ) → r < length m → (row_at m r).digest ≡ d → row_of m d ≡ Some r
-row_is m ok r d lt is = by_row (row_of m d) refl
+pub row_is : {m : List MRow} → IsAccepted m → {r : ℕ} {d : List ℕ} → r < length m → (row_at m r).digest ≡ d → row_of m d ≡ Some r
+row_is {m = m} ok {r = r} {d = d} lt is = by_row (row_of m d) refl
   where
     by_row : (o : Option ℕ) → row_of m d ≡ o → o ≡ Some r
     by_row None none = absurd (none_passes (λ (row : MRow). bytes_eq row.digest d) m r no_row none lt ((bytes_decides (row_at m r).digest d).1 is))
@@ -112,8 +105,8 @@ row_is m ok r d lt is = by_row (row_of m d) refl
         let at = position-Some (λ (row : MRow). bytes_eq row.digest d) m q no_row found in
         ap Some (ok.one_digest q r at.0 lt ((bytes_decides (row_at m q).digest d).0 at.1 ∙ sym is))
 
-pub row_has : (m : List MRow) (r : ℕ) (d : List ℕ) → row_of m d ≡ Some r → (r < length m) × ((row_at m r).digest ≡ d)
-row_has m r d found = let at = position-Some (λ (row : MRow). bytes_eq row.digest d) m r no_row found in (at.0, (bytes_decides (row_at m r).digest d).0 at.1)
+pub row_has : (m : List MRow) {r : ℕ} (d : List ℕ) → row_of m d ≡ Some r → (r < length m) × ((row_at m r).digest ≡ d)
+row_has m {r = r} d found = let at = position-Some (λ (row : MRow). bytes_eq row.digest d) m r no_row found in (at.0, (bytes_decides (row_at m r).digest d).0 at.1)
 
 -- a body that holds row r has the digest of that row
 pub row_found : (m : List MRow) (r : ℕ) (row : Option ℕ) (told : Result DepositValue ℕ) → is_row r (held_row (found_at m row told)) ≡ true → row ≡ Some r
@@ -141,17 +134,17 @@ find_never p (c ∷ l) never = by_test (p c) refl (find_never p l (λ b among. n
 
 -- what is judged to be the deposit of a row was there, and is it
 pub judged_some : (n : List MRow) (r : ℕ) (o : Option (List ℕ)) (body : List ℕ) → judged n r o ≡ Some body → (o ≡ Some body) × (holds_row r (found n r (reading body)) ≡ true)
-judged_some n r None body e = absurd (no_some e)
+judged_some n r None body e = absurd (no_answer e)
 judged_some n r (Some b) body e = by_test (holds_row r (found n r (reading b))) refl e
   where
     by_test : (t : Bool) → holds_row r (found n r (reading b)) ≡ t → cond t (Some b) None ≡ Some body → (Some b ≡ Some body) × (holds_row r (found n r (reading body)) ≡ true)
-    by_test true passes e = (e, ap (λ (x : List ℕ). holds_row r (found n r (reading x))) (sym (same_some e)) ∙ passes)
-    by_test false fails e = absurd (no_some e)
+    by_test true passes e = (e, ap (λ (x : List ℕ). holds_row r (found n r (reading x))) (sym (same_answer e)) ∙ passes)
+    by_test false fails e = absurd (no_answer e)
 
 -- ---- what bodies hold, where rows are added
 
 module _ (digest : List ℕ → List ℕ) (reads : List ℕ → Result DepositValue ℕ) where
-  module _ (m x : List MRow) (ok : IsAccepted m) (okn : IsAccepted (m ++ x)) where
+  module _ {m : List MRow} (x : List MRow) (ok : IsAccepted m) (okn : IsAccepted (m ++ x)) where
     pub same_at : (r : ℕ) → r < length m → row_at (m ++ x) r ≡ row_at m r
     same_at r lt = get_or_append_left m x no_row r lt
 
@@ -165,8 +158,8 @@ module _ (digest : List ℕ → List ℕ) (reads : List ℕ → Result DepositVa
     -- a digest that was listed is listed at the same row
     pub listed_still : (r : ℕ) (d : List ℕ) → row_of m d ≡ Some r → row_of (m ++ x) d ≡ Some r
     listed_still r d old =
-        let at = row_has m r d old in
-        row_is (m ++ x) okn r d (inside_more r at.0) (ap (λ (row : MRow). row.digest) (same_at r at.0) ∙ at.1)
+        let at = row_has m d old in
+        row_is okn (inside_more r at.0) (ap (λ (row : MRow). row.digest) (same_at r at.0) ∙ at.1)
 
     -- a digest of a new row was not listed
     pub unlisted_before : (r : ℕ) → length m ≤ r → r < length (m ++ x) → row_of m (row_at (m ++ x) r).digest ≡ None
@@ -175,7 +168,7 @@ module _ (digest : List ℕ → List ℕ) (reads : List ℕ → Result DepositVa
         by_row : (o : Option ℕ) → row_of m (row_at (m ++ x) r).digest ≡ o → o ≡ None
         by_row None is = refl
         by_row (Some q) is =
-            let at = row_has m q (row_at (m ++ x) r).digest is in
+            let at = row_has m (row_at (m ++ x) r).digest is in
             let same : (row_at (m ++ x) q).digest ≡ (row_at (m ++ x) r).digest = ap (λ (row : MRow). row.digest) (same_at q at.0) ∙ at.1 in
             let one : q ≡ r = okn.one_digest q r (inside_more q at.0) lt same in
             absurd (omega (arith, at.0, new, one))
@@ -191,7 +184,7 @@ module _ (digest : List ℕ → List ℕ) (reads : List ℕ → Result DepositVa
             ∙ ap (λ (o : Option ℕ). holds_row r (found_at m o (reads c.body))) (sym old)
 
         digest_new : row_of (m ++ x) (digest c.body) ≡ Some r → row_of m (digest c.body) ≡ Some r
-        digest_new new = row_is m ok r (digest c.body) lt (ap (λ (row : MRow). row.digest) (sym (same_at r lt)) ∙ (row_has (m ++ x) r (digest c.body) new).1)
+        digest_new new = row_is ok lt (ap (λ (row : MRow). row.digest) (sym (same_at r lt)) ∙ (row_has (m ++ x) (digest c.body) new).1)
 
         there : holds_by digest reads m r c ≡ true → holds_by digest reads (m ++ x) r c ≡ true
         there is = let old = row_found m r (row_of m (digest c.body)) (reads c.body) is in both old (listed_still r (digest c.body) old) ∙ is
@@ -199,22 +192,25 @@ module _ (digest : List ℕ → List ℕ) (reads : List ℕ → Result DepositVa
         back : holds_by digest reads (m ++ x) r c ≡ true → holds_by digest reads m r c ≡ true
         back is = let new = row_found (m ++ x) r (row_of (m ++ x) (digest c.body)) (reads c.body) is in sym (both (digest_new new) new) ∙ is
 
-  -- a body that holds a row has its digest
+  -- a row that a body holds is the manifest's, and has the digest of the body
+  pub row_held : (n : List MRow) (r : ℕ) (c : Coming) → holds_by digest reads n r c ≡ true → (r < length n) × ((row_at n r).digest ≡ digest c.body)
+  row_held n r c is = row_has n (digest c.body) (row_found n r (row_of n (digest c.body)) (reads c.body) is)
+
   pub digest_is : (n : List MRow) (r : ℕ) (c : Coming) → holds_by digest reads n r c ≡ true → digest c.body ≡ (row_at n r).digest
-  digest_is n r c is = sym (row_has n r (digest c.body) (row_found n r (row_of n (digest c.body)) (reads c.body) is)).1
+  digest_is n r c is = sym (row_held n r c is).1
 
   -- no row beyond the list is held
   pub beyond_held : (n : List MRow) (r : ℕ) → length n ≤ r → (c : Coming) → holds_by digest reads n r c ≡ true → ⊥
-  beyond_held n r far c is = let at = row_has n r (digest c.body) (row_found n r (row_of n (digest c.body)) (reads c.body) is) in omega (arith, at.0, far)
+  beyond_held n r far c is = let at = row_held n r c is in omega (arith, at.0, far)
 
 -- ---- a body with the digest of a row is judged at that row
 
-module _ (digest : List ℕ → List ℕ) (n : List MRow) (okn : IsAccepted n) (r : ℕ) (lt : r < length n) where
+module _ (digest : List ℕ → List ℕ) {n : List MRow} (okn : IsAccepted n) {r : ℕ} (lt : r < length n) where
   abbrev pub d : List ℕ
   d = (row_at n r).digest
 
   pub judged_at : (c : Coming) → digest c.body ≡ d → holds_by digest reading n r c ≡ holds_row r (found n r (reading c.body))
-  judged_at c is = ap (λ (o : Option ℕ). holds_row r (found_at n o (reading c.body))) (row_is n okn r (digest c.body) lt (sym is))
+  judged_at c is = ap (λ (o : Option ℕ). holds_row r (found_at n o (reading c.body))) (row_is okn lt (sym is))
 
   -- of bodies that all are one where they have one digest, the first with its digest is judged for
   -- all
@@ -235,26 +231,36 @@ module _ (digest : List ℕ → List ℕ) (n : List MRow) (okn : IsAccepted n) (
           → judged n r (body_of (find (has_digest digest reading d) l)) ≡ body_of (find (holds_by digest reading n r) l)
           → judged n r (body_of (cond t (Some c) (find (has_digest digest reading d) l))) ≡ body_of (cond h (Some c) (find (holds_by digest reading n r) l))
       by_digest true is true held rest = ap (λ (b : Bool). cond b (Some c.body) None) (sym (judged_at c (here is)) ∙ held)
-      by_digest true is false miss rest = ap (λ (b : Bool). cond b (Some c.body) None) (sym (judged_at c (here is)) ∙ miss) ∙ sym (ap body_of (find_never (holds_by digest reading n r) l (never (here is) miss)))
+      by_digest true is false miss rest =
+          ap (λ (b : Bool). cond b (Some c.body) None) (sym (judged_at c (here is)) ∙ miss)
+          ∙ sym (ap body_of (find_never (holds_by digest reading n r) l (never (here is) miss)))
       by_digest false other true held rest = absurd (true≢false (sym ((bytes_decides (digest c.body) d).1 (digest_is digest reading n r c held)) ∙ other))
       by_digest false other false miss rest = rest
 
 -- ---- replies
 
--- the row of each receipt is one of the first n
+-- the row of a receipt, and of each of a list, is one of the first n
+abbrev pub IsBelow : ℕ → Option ℕ → Type 0
+IsBelow n row = IfSome row (λ q. q < n)
+
 abbrev pub AreBelow : ℕ → List ReceiptValue → Type 0
 AreBelow n [] = Unit {0}
-AreBelow n (r ∷ rs) = IfSome r.row (λ q. q < n) × AreBelow n rs
+AreBelow n (r ∷ rs) = IsBelow n r.row × AreBelow n rs
 
-same_kept : (m x : List MRow) (row : Option ℕ) → IfSome row (λ q. q < length m) → (option_map (id_at (m ++ x)) row ≡ option_map (id_at m) row) × (option_map (resend_at (m ++ x)) row ≡ option_map (resend_at m) row)
+same_kept : (m x : List MRow) (row : Option ℕ) → IsBelow (length m) row
+    → (option_map (id_at (m ++ x)) row ≡ option_map (id_at m) row) × (option_map (resend_at (m ++ x)) row ≡ option_map (resend_at m) row)
 same_kept m x None below = (refl, refl)
-same_kept m x (Some q) below = (ap (λ (row : MRow). Some row.header.id) (get_or_append_left m x no_row q below), ap (λ (row : MRow). Some row.header.resend) (get_or_append_left m x no_row q below))
+same_kept m x (Some q) below =
+    let same : row_at (m ++ x) q ≡ row_at m q = get_or_append_left m x no_row q below in
+    (ap (λ (row : MRow). Some row.header.id) same, ap (λ (row : MRow). Some row.header.resend) same)
 
-pub reply_same : (m x : List MRow) (n : ℕ) (number digest : List ℕ) (rs : List ReceiptValue) → AreBelow (length m) rs → reply_alike (m ++ x) n number digest rs ≡ reply_alike m n number digest rs
+pub reply_same : (m x : List MRow) (n : ℕ) (number digest : List ℕ) (rs : List ReceiptValue)
+    → AreBelow (length m) rs → reply_alike (m ++ x) n number digest rs ≡ reply_alike m n number digest rs
 reply_same m x n number digest [] below = refl
 reply_same m x n number digest (r ∷ rs) below =
     let same = same_kept m x r.row below.0 in
-    let one : reply_kept (m ++ x) n r ≡ reply_kept m n r = λ i. record { receipt = n; number = r.number; verdict = r.verdict; id = same.0 i; resend = same.1 i; again = r.again; orphans = r.orphans } in
+    let one : reply_kept (m ++ x) n r ≡ reply_kept m n r =
+    λ i. record { receipt = n; number = r.number; verdict = r.verdict; id = same.0 i; resend = same.1 i; again = r.again; orphans = r.orphans } in
     ap₂ (λ (a : ReplyValue) (b : Option ReplyValue). cond (is_alike number digest r) (Some a) b) one (reply_same m x (suc n) number digest rs below.1)
 
 -- the rows that were listed when an arrival came
@@ -274,39 +280,30 @@ rows_short m (moved t ∷ e) c among = rows_short m e c among
 rows_short m (arrived_early a ∷ e) c (inl is) = subst (λ (x : List MRow). length x ≤ length (union_after m e)) (sym (ap (λ (b : Coming). b.rows) is)) (longer m e)
 rows_short m (arrived_early a ∷ e) c (inr there) = rows_short m e c there
 
-passed_among : (p : Coming → Bool) (l : List Coming) (a : Coming) → Among (filter p l) a → Among l a
-passed_among p [] a among = among
-passed_among p (b ∷ l) a among = by_test (p b) among (passed_among p l a)
-  where
-    by_test : (t : Bool) → Among (cond t (b ∷ filter p l) (filter p l)) a → (Among (filter p l) a → Among l a) → Among (b ∷ l) a
-    by_test true (inl is) rest = inl is
-    by_test true (inr there) rest = inr (rest there)
-    by_test false there rest = inr (rest there)
-
 module _ (digest : List ℕ → List ℕ) (reads : List ℕ → Result DepositValue ℕ) where
-  pub distinct_in : (l : List Coming) (a : Coming) → Among (distinct digest reads l) a → Among l a
-  distinct_in [] a among = among
-  distinct_in (b ∷ l) a (inl is) = inl is
-  distinct_in (b ∷ l) a (inr there) = inr (distinct_in l a (passed_among (λ x. not (alike digest reads b x)) (distinct digest reads l) a there))
+  -- the row in the receipt of an arrival where this was found of its body
+  abbrev told_row : List Coming → Coming → Finding → Option ℕ
+  told_row before c f = (receipt_by c.number (digest c.body) c.early f (holds_any digest reads before (held_row f))).row
 
-  -- the row in the receipt of an arrival whose digest was at this row
-  abbrev pub told_row : List Coming → Coming → Option ℕ → Option ℕ
-  told_row before c o = (receipt_by c.number (digest c.body) c.early (found_at c.rows o (reads c.body)) (holds_any digest reads before (held_row (found_at c.rows o (reads c.body))))).row
-
-  row_below : (c : Coming) (n : ℕ) → length c.rows ≤ n → (before : List Coming) → IfSome (receipt_for digest reads before c).row (λ q. q < n)
+  row_below : (c : Coming) (n : ℕ) → length c.rows ≤ n → (before : List Coming) → IsBelow n (receipt_for digest reads before c).row
   row_below c n le before = by_row (row_of c.rows (digest c.body)) refl
     where
-      row_told : (q : ℕ) → q < n → (t : Result DepositValue ℕ) → IfSome (receipt_by c.number (digest c.body) c.early (found c.rows q t) (holds_any digest reads before (held_row (found c.rows q t)))).row (λ p. p < n)
+      row_told : (q : ℕ) → q < n → (t : Result DepositValue ℕ) → IsBelow n (told_row before c (found c.rows q t))
       row_told q lt (Err k) = lt
       row_told q lt (Ok d) = by_test (as_listed (row_at c.rows q).header d.header)
         where
-          by_test : (b : Bool) → IfSome (receipt_by c.number (digest c.body) c.early (cond b (Holding q d) (Differing q)) (holds_any digest reads before (held_row (cond b (Holding q d) (Differing q))))).row (λ p. p < n)
+          by_test : (b : Bool) → IsBelow n (told_row before c (cond b (Holding q d) (Differing q)))
           by_test true = lt
           by_test false = lt
 
-      by_row : (o : Option ℕ) → row_of c.rows (digest c.body) ≡ o → IfSome (told_row before c (row_of c.rows (digest c.body))) (λ q. q < n)
-      by_row None is = subst (λ (o : Option ℕ). IfSome (told_row before c o) (λ q. q < n)) (sym is) tt
-      by_row (Some q) is = subst (λ (o : Option ℕ). IfSome (told_row before c o) (λ q. q < n)) (sym is) (row_told q (let at = row_has c.rows q (digest c.body) is in omega (arith, at.0, le)) (reads c.body))
+      told_at : Option ℕ → Option ℕ
+      told_at o = told_row before c (found_at c.rows o (reads c.body))
+
+      by_row : (o : Option ℕ) → row_of c.rows (digest c.body) ≡ o → IsBelow n (told_at (row_of c.rows (digest c.body)))
+      by_row None is = subst (λ (o : Option ℕ). IsBelow n (told_at o)) (sym is) tt
+      by_row (Some q) is =
+          let at = row_has c.rows (digest c.body) is in
+          subst (λ (o : Option ℕ). IsBelow n (told_at o)) (sym is) (row_told q (omega (arith, at.0, le)) (reads c.body))
 
   pub receipts_below : (n : ℕ) (before l : List Coming) → ((c : Coming) → Among l c → length c.rows ≤ n) → AreBelow n (receipts_after digest reads before l)
   receipts_below n before [] short = tt

@@ -27,26 +27,18 @@ use Rattle.esc_events.specs.Parks.{IsParking, with_parking}
 use Rattle.esc_events.specs.Receipts.{holds_row, holds, holds_any, is_among, distinct, receipt_by, receipt_for, receipts_after}
 use Rattle.esc_events.specs.Stands.{TellsOf, holds_by, held_body, parked_body, IsApart, AreBooks}
 use Rattle.esc_events.specs.Taking.{IsNew, IsAgain}
-use Rattle.esc_events.proofs.AmendingLemmas.{row_found}
+use Rattle.esc_events.proofs.AmendingLemmas.{same_bool, row_found}
 use Rattle.esc_events.proofs.HeldReceipts.{holds_from_says, any_holds, any_says}
-use Rattle.esc_events.proofs.HeldRows.{same_test, same_self, same_number, is_row_of, listed_row, unlisted_row}
-use Rattle.esc_events.proofs.OneArrival.{old_body, new_body, old_parked, new_parked, repeated, books_again, books_with}
+use Rattle.esc_events.proofs.HeldRows.{same_self, same_number, exact, is_row_of, listed_row, unlisted_row}
+use Rattle.esc_events.proofs.OneArrival.{OldOrHolds, OldOrHas, old_body, new_body, old_parked, new_parked, repeated, books_again, books_with}
 use Rattle.esc_events.proofs.Searches.{same_answer}
 use Rattle.esc_events.proofs.Telling.{any_of_row, told_again}
 
 -- ---- the receipt
 
-same_bool : (a b : Bool) → (a ≡ true → b ≡ true) → (b ≡ true → a ≡ true) → a ≡ b
-same_bool true true f g = refl
-same_bool true false f g = absurd (true≢false (sym (f refl)))
-same_bool false true f g = absurd (true≢false (sym (g refl)))
-same_bool false false f g = refl
-
-exact : (x y : ℕ) → eq_by_cmp nat_cmp x y ≡ true → x ≡ y
-exact x y e = sym (same_number y x (sym (same_test y x) ∙ e))
-
 -- the rows that receipts say are held are those that the arrivals before held
-told_before : (before : List Coming) (rows : List ℕ) → AreHeldBy (receipts_after sha256 reading [] before) rows → (row : Option ℕ) → is_among rows row ≡ holds_any sha256 reading before row
+told_before : (before : List Coming) (rows : List ℕ) → AreHeldBy (receipts_after sha256 reading [] before) rows
+    → (row : Option ℕ) → is_among rows row ≡ holds_any sha256 reading before row
 told_before before rows told None = refl
 told_before before rows told (Some r) = sym (set.contains-from_list_nat rows r) ∙ set.contains-from_list nat_cmp_total rows r ∙ same_bool _ _ there back
   where
@@ -62,23 +54,29 @@ new_receipt e a k found known receipt is =
     is.receipt_is
     ∙ ap (λ (f : Finding). receipt_by a.number (sha256 a.body) false f (is_among known.told.items (held_row f))) is.found_is
     ∙ ap (receipt_by a.number (sha256 a.body) false (finding sha256 reading (union e) a.body))
-    (told_before (distinct sha256 reading (comings e)) known.told.items (subst (λ (rs : List ReceiptValue). AreHeldBy rs known.told.items) is.stood.books.receipts is.known_is.told) (held_row (finding sha256 reading (union e) a.body)))
+    (told_before (distinct sha256 reading (comings e)) known.told.items told (held_row (finding sha256 reading (union e) a.body)))
+  where
+    told : AreHeldBy (receipts_after sha256 reading [] (distinct sha256 reading (comings e))) known.told.items
+    told = subst (λ (rs : List ReceiptValue). AreHeldBy rs known.told.items) is.stood.books.receipts is.known_is.told
 
 -- what the receipt says is held was found to be held
-says_found : (e : List EventValue) (a : ArrivalValue) (k : Kept) (found : Finding) (known : Known) (receipt : ReceiptValue) → IsNew e a k found known receipt
+says_found : {e : List EventValue} {a : ArrivalValue} {k : Kept} {found : Finding} {known : Known} {receipt : ReceiptValue} → IsNew e a k found known receipt
     → (r : ℕ) → SaysHeld r receipt → held_row found ≡ Some r
-says_found e a k found known receipt is r says =
+says_found {a = a} {found = found} {known = known} is r says =
     is_row_of r (held_row found) (holds_from_says r a.number (sha256 a.body) false found (is_among known.told.items (held_row found)) (subst (SaysHeld r) is.receipt_is says))
 
 -- the row that the body holds was found
-held_found : (e : List EventValue) (a : ArrivalValue) (found : Finding) → found ≡ finding sha256 reading (union e) a.body → (r : ℕ) → holds_by sha256 reading (union e) r (coming (union e) a) ≡ true → held_row found ≡ Some r
+held_found : (e : List EventValue) (a : ArrivalValue) (found : Finding) → found ≡ finding sha256 reading (union e) a.body
+    → (r : ℕ) → holds_by sha256 reading (union e) r (coming (union e) a) ≡ true → held_row found ≡ Some r
 held_found e a found is r holds = ap held_row is ∙ is_row_of r (held_row (finding sha256 reading (union e) a.body)) holds
 
 -- a body that a row lists is parked under no digest
 none_parked : (e : List EventValue) (a : ArrivalValue) (found : Finding) → found ≡ finding sha256 reading (union e) a.body → (found ≡ Unlisted → ⊥)
     → (d : List ℕ) → sha256 a.body ≡ d → is_some (row_of (union e) d) ≡ false → ⊥
 none_parked e a found is listed d same none =
-    true≢false (sym (listed_row (union e) (row_of (union e) (sha256 a.body)) (reading a.body) (λ unlisted. listed (is ∙ unlisted))) ∙ ap (λ (x : List ℕ). is_some (row_of (union e) x)) same ∙ none)
+    let lists : is_some (row_of (union e) (sha256 a.body)) ≡ true =
+    listed_row (union e) (row_of (union e) (sha256 a.body)) (reading a.body) (λ unlisted. listed (is ∙ unlisted)) in
+    true≢false (sym lists ∙ ap (λ (x : List ℕ). is_some (row_of (union e) x)) same ∙ none)
 
 no_row : (o : Option ℕ) → is_some o ≡ false → o ≡ None
 no_row None is = refl
@@ -98,9 +96,45 @@ books_noted e a k found known receipt is listed there =
   where
     by_receipt : (r : ℕ) → IsSome (k.bodies r) ⊎ SaysHeld r receipt → IsSome (k.bodies r)
     by_receipt r (inl some) = some
-    by_receipt r (inr says) = there r (says_found e a k found known receipt is r says)
+    by_receipt r (inr says) = there r (says_found is r says)
 
--- no row lists the body: it is parked, unless it is already
+-- ---- a body that no row lists
+
+-- it holds no row
+held_none : {X : Type 0} (r : ℕ) → held_row Unlisted ≡ Some r → X
+held_none r held = absurd (true≢false (sym (ap is_some held)))
+
+-- it is parked under its digest
+module _ (e : List EventValue) (a : ArrivalValue) (k : Kept) (books : AreBooks sha256 reading e k)
+    (found_is : Unlisted ≡ finding sha256 reading (union e) a.body) (key : List ℕ) (key_is : key ≡ sha256 a.body) where
+  bodies_stay : IsApart sha256 reading (e ++ arrived a ∷ []) → (r : ℕ) → k.bodies r ≡ held_body sha256 reading (e ++ arrived a ∷ []) r
+  bodies_stay apart r = old_body sha256 reading e k a books apart r (λ holds. held_none r (held_found e a Unlisted found_is r holds))
+
+  put_parked : k.parked (sha256 a.body) ≡ None → IsApart sha256 reading (e ++ arrived a ∷ [])
+      → (d : List ℕ) → parked_put k.parked key (Some a.body) d ≡ parked_body sha256 reading (e ++ arrived a ∷ []) d
+  put_parked nothing apart d = by_test (bytes_eq key d) refl
+    where
+      unlisted : row_of (union e) (sha256 a.body) ≡ None
+      unlisted = unlisted_row (union e) (row_of (union e) (sha256 a.body)) (reading a.body) (sym found_is)
+
+      by_test : (b : Bool) → bytes_eq key d ≡ b → cond b (Some a.body) (k.parked d) ≡ parked_body sha256 reading (e ++ arrived a ∷ []) d
+      by_test true same =
+          let digest : sha256 a.body ≡ d = sym key_is ∙ (bytes_decides key d).0 same in
+          new_parked sha256 reading e k a books apart d digest
+          (subst (λ (x : List ℕ). row_of (union e) x ≡ None) digest unlisted)
+          (subst (λ (x : List ℕ). k.parked x ≡ None) digest nothing)
+      by_test false other =
+          let unlike : (sha256 a.body ≡ d → ⊥) = λ same. true≢false (sym ((bytes_decides key d).1 (key_is ∙ same)) ∙ other) in
+          old_parked sha256 reading e k a books apart d (λ same none. absurd (unlike same))
+
+  put_waits : (d body : List ℕ) → parked_put k.parked key (Some a.body) d ≡ Some body → OldOrHas sha256 reading k a d body
+  put_waits d body put = by_test (bytes_eq key d) refl put
+    where
+      by_test : (b : Bool) → bytes_eq key d ≡ b → cond b (Some a.body) (k.parked d) ≡ Some body → OldOrHas sha256 reading k a d body
+      by_test true same put = inr (sym key_is ∙ (bytes_decides key d).0 same, same_answer put)
+      by_test false other put = inl put
+
+-- it is parked, unless it is already
 pub books_parked : (e : List EventValue) (a : ArrivalValue) (k : Kept) (known : Known) (receipt : ReceiptValue) → IsNew e a k Unlisted known receipt
     → (parking : Parking) → IsParking k.parked (sha256 a.body) parking → (parking ≡ Crowded → ⊥) → AreBooks sha256 reading (e ++ arrived a ∷ []) (noted_by receipt parking a.body k)
 books_parked e a k known receipt is parking at free = by_parking parking at free
@@ -108,37 +142,9 @@ books_parked e a k known receipt is parking at free = by_parking parking at free
     digest_is : receipt.digest ≡ sha256 a.body
     digest_is = ap (λ (r : ReceiptValue). r.digest) is.receipt_is
 
-    held_none : {X : Type 0} → (r : ℕ) → held_row Unlisted ≡ Some r → X
-    held_none r held = absurd (true≢false (sym (ap is_some held)))
-
-    bodies_are : IsApart sha256 reading (e ++ arrived a ∷ []) → (r : ℕ) → k.bodies r ≡ held_body sha256 reading (e ++ arrived a ∷ []) r
-    bodies_are apart r = old_body sha256 reading e k a is.stood.books apart r (λ holds. held_none r (held_found e a Unlisted is.found_is r holds))
-
     by_receipt : (r : ℕ) → IsSome (k.bodies r) ⊎ SaysHeld r receipt → IsSome (k.bodies r)
     by_receipt r (inl some) = some
-    by_receipt r (inr says) = held_none r (says_found e a k Unlisted known receipt is r says)
-
-    unlisted : row_of (union e) (sha256 a.body) ≡ None
-    unlisted = unlisted_row (union e) (row_of (union e) (sha256 a.body)) (reading a.body) (sym is.found_is)
-
-    -- with its body
-    parked_are : k.parked (sha256 a.body) ≡ None → IsApart sha256 reading (e ++ arrived a ∷ []) → (d : List ℕ) → parked_put k.parked receipt.digest (Some a.body) d ≡ parked_body sha256 reading (e ++ arrived a ∷ []) d
-    parked_are nothing apart d = by_test (bytes_eq receipt.digest d) refl
-      where
-        by_test : (b : Bool) → bytes_eq receipt.digest d ≡ b → cond b (Some a.body) (k.parked d) ≡ parked_body sha256 reading (e ++ arrived a ∷ []) d
-        by_test true same =
-            let digest : sha256 a.body ≡ d = sym digest_is ∙ (bytes_decides receipt.digest d).0 same in
-            new_parked sha256 reading e k a is.stood.books apart d digest
-            (subst (λ (x : List ℕ). row_of (union e) x ≡ None) digest unlisted)
-            (subst (λ (x : List ℕ). k.parked x ≡ None) digest nothing)
-        by_test false other = old_parked sha256 reading e k a is.stood.books apart d (λ same none. absurd (true≢false (sym ((bytes_decides receipt.digest d).1 (digest_is ∙ same)) ∙ other)))
-
-    waits : (d body : List ℕ) → parked_put k.parked receipt.digest (Some a.body) d ≡ Some body → (k.parked d ≡ Some body) ⊎ ((sha256 a.body ≡ d) × (a.body ≡ body))
-    waits d body put = by_test (bytes_eq receipt.digest d) refl put
-      where
-        by_test : (b : Bool) → bytes_eq receipt.digest d ≡ b → cond b (Some a.body) (k.parked d) ≡ Some body → (k.parked d ≡ Some body) ⊎ ((sha256 a.body ≡ d) × (a.body ≡ body))
-        by_test true same put = inr (sym digest_is ∙ (bytes_decides receipt.digest d).0 same, same_answer put)
-        by_test false other put = inl put
+    by_receipt r (inr says) = held_none r (says_found is r says)
 
     tells : (d : List ℕ) → IsSome (parked_put k.parked receipt.digest (Some a.body) d) → IsSome (k.parked d) ⊎ TellsUnlisted d receipt
     tells d some = by_test (bytes_eq receipt.digest d) refl some
@@ -147,10 +153,11 @@ books_parked e a k known receipt is parking at free = by_parking parking at free
         by_test true same some = inr (ap (λ (r : ReceiptValue). is_unlisted r.verdict) is.receipt_is, (bytes_decides receipt.digest d).0 same)
         by_test false other some = inl some
 
-    by_parking : (parking : Parking) → IsParking k.parked (sha256 a.body) parking → (parking ≡ Crowded → ⊥) → AreBooks sha256 reading (e ++ arrived a ∷ []) (noted_by receipt parking a.body k)
+    by_parking : (parking : Parking) → IsParking k.parked (sha256 a.body) parking → (parking ≡ Crowded → ⊥)
+        → AreBooks sha256 reading (e ++ arrived a ∷ []) (noted_by receipt parking a.body k)
     by_parking Needless some free =
         books_with sha256 reading e k a is.stood.books is.none receipt (new_receipt e a k Unlisted known receipt is) k.bodies k.parked
-        bodies_are
+        (bodies_stay e a k is.stood.books is.found_is receipt.digest digest_is)
         (λ apart d. old_parked sha256 reading e k a is.stood.books apart d (λ same none. subst (λ (x : List ℕ). IsSome (k.parked x)) same some))
         (λ r body at. inl at)
         (λ d body at. inl at)
@@ -158,10 +165,10 @@ books_parked e a k known receipt is parking at free = by_parking parking at free
         (λ d some. inl some)
     by_parking Free at free =
         books_with sha256 reading e k a is.stood.books is.none receipt (new_receipt e a k Unlisted known receipt is) k.bodies (parked_put k.parked receipt.digest (Some a.body))
-        bodies_are
-        (parked_are at.0)
+        (bodies_stay e a k is.stood.books is.found_is receipt.digest digest_is)
+        (put_parked e a k is.stood.books is.found_is receipt.digest digest_is at.0)
         (λ r body at. inl at)
-        waits
+        (put_waits e a k is.stood.books is.found_is receipt.digest digest_is)
         by_receipt
         tells
     by_parking Crowded at free = absurd (free refl)
@@ -182,28 +189,29 @@ module _ (e : List EventValue) (a : ArrivalValue) (row : ℕ) (d : DepositValue)
   put_holds : (r : ℕ) → row ≡ r → holds_by sha256 reading (union e) r (coming (union e) a) ≡ true
   put_holds r same = ap (holds_row r) (sym found_is) ∙ ap (λ (q : ℕ). q == r) same ∙ same_self r
 
-  put_bodies : (k : Kept) → AreBooks sha256 reading e k → k.bodies row ≡ None → IsApart sha256 reading (e ++ arrived a ∷ []) → (r : ℕ) → body_put k.bodies row a.body r ≡ held_body sha256 reading (e ++ arrived a ∷ []) r
+  put_bodies : (k : Kept) → AreBooks sha256 reading e k → k.bodies row ≡ None → IsApart sha256 reading (e ++ arrived a ∷ [])
+      → (r : ℕ) → body_put k.bodies row a.body r ≡ held_body sha256 reading (e ++ arrived a ∷ []) r
   put_bodies k books none apart r = by_test (r == row) refl
     where
       by_test : (b : Bool) → (r == row) ≡ b → cond b (Some a.body) (k.bodies r) ≡ held_body sha256 reading (e ++ arrived a ∷ []) r
       by_test true same =
           let at : r ≡ row = same_number r row same in
           new_body sha256 reading e k a books apart r (ap k.bodies at ∙ none) (put_holds r (sym at))
-      by_test false other = old_body sha256 reading e k a books apart r (λ holds. absurd (true≢false (sym (again (same_answer (held_found e a (Holding row d) found_is r holds))) ∙ other)))
+      by_test false other = old_body sha256 reading e k a books apart r (λ holds. absurd (true≢false (sym (again holds) ∙ other)))
         where
-          again : row ≡ r → (r == row) ≡ true
-          again same = ap (λ (q : ℕ). r == q) same ∙ same_self r
+          again : holds_by sha256 reading (union e) r (coming (union e) a) ≡ true → (r == row) ≡ true
+          again holds = ap (λ (q : ℕ). r == q) (same_answer (held_found e a (Holding row d) found_is r holds)) ∙ same_self r
 
-  put_comes : (k : Kept) (r : ℕ) (body : List ℕ) → body_put k.bodies row a.body r ≡ Some body → (k.bodies r ≡ Some body) ⊎ ((holds_by sha256 reading (union e) r (coming (union e) a) ≡ true) × (a.body ≡ body))
+  put_comes : (k : Kept) (r : ℕ) (body : List ℕ) → body_put k.bodies row a.body r ≡ Some body → OldOrHolds sha256 reading e k a r body
   put_comes k r body put = by_test (r == row) refl put
     where
-      by_test : (b : Bool) → (r == row) ≡ b → cond b (Some a.body) (k.bodies r) ≡ Some body → (k.bodies r ≡ Some body) ⊎ ((holds_by sha256 reading (union e) r (coming (union e) a) ≡ true) × (a.body ≡ body))
+      by_test : (b : Bool) → (r == row) ≡ b → cond b (Some a.body) (k.bodies r) ≡ Some body → OldOrHolds sha256 reading e k a r body
       by_test true same put = inr (put_holds r (sym (same_number r row same)), same_answer put)
       by_test false other put = inl put
 
 -- the body is the deposit of a row that has no body yet
-pub books_held : (e : List EventValue) (a : ArrivalValue) (k : Kept) (row : ℕ) (d : DepositValue) (known : Known) (receipt : ReceiptValue) → IsNew e a k (Holding row d) known receipt
-    → k.bodies row ≡ None → AreBooks sha256 reading (e ++ arrived a ∷ []) (held_by receipt row a.body k)
+pub books_held : (e : List EventValue) (a : ArrivalValue) (k : Kept) (row : ℕ) (d : DepositValue) (known : Known) (receipt : ReceiptValue)
+    → IsNew e a k (Holding row d) known receipt → k.bodies row ≡ None → AreBooks sha256 reading (e ++ arrived a ∷ []) (held_by receipt row a.body k)
 books_held e a k row d known receipt is none =
     books_with sha256 reading e k a is.stood.books is.none receipt (new_receipt e a k (Holding row d) known receipt is) (body_put k.bodies row a.body) k.parked
     (put_bodies e a row d is.found_is k is.stood.books none)
@@ -216,7 +224,7 @@ books_held e a k row d known receipt is none =
     told : (r : ℕ) → IsSome (k.bodies r) ⊎ SaysHeld r receipt → IsSome (body_put k.bodies row a.body r)
     told r (inl some) = still_some row a.body k.bodies r some
     told r (inr says) =
-        let same : row ≡ r = same_answer (says_found e a k (Holding row d) known receipt is r says) in
+        let same : row ≡ r = same_answer (says_found is r says) in
         ap (λ b. is_some (cond b (Some a.body) (k.bodies r))) (ap (λ (q : ℕ). r == q) same ∙ same_self r)
 
 -- a duplicate of an earlier arrival changes nothing, unless that one's verdict is A2
@@ -240,55 +248,38 @@ books_known_again e a k found reply is there waits =
     is.stood.books.parked_told
   where
     unlisted : (d : List ℕ) → sha256 a.body ≡ d → is_some (row_of (union e) d) ≡ false → found ≡ Unlisted
-    unlisted d same none = is.found_is ∙ ap (λ (o : Option ℕ). found_at (union e) o (reading a.body)) (no_row (row_of (union e) (sha256 a.body)) (ap (λ (x : List ℕ). is_some (row_of (union e) x)) same ∙ none))
+    unlisted d same none =
+        is.found_is
+        ∙ ap (λ (o : Option ℕ). found_at (union e) o (reading a.body))
+        (no_row (row_of (union e) (sha256 a.body)) (ap (λ (x : List ℕ). is_some (row_of (union e) x)) same ∙ none))
 
     still : (d : List ℕ) → sha256 a.body ≡ d → is_some (row_of (union e) d) ≡ false → IsSome (k.parked d)
     still d same none = subst (λ (x : List ℕ). IsSome (k.parked x)) same (waits (unlisted d same none))
 
 -- no row lists the body: it is parked, unless it is already
 pub books_parked_again : (e : List EventValue) (a : ArrivalValue) (k : Kept) (reply : ReplyValue) → IsAgain e a k Unlisted reply
-    → (parking : Parking) → IsParking k.parked (sha256 a.body) parking → (parking ≡ Crowded → ⊥) → AreBooks sha256 reading (e ++ arrived a ∷ []) (with_parking k (sha256 a.body) parking a.body)
+    → (parking : Parking) → IsParking k.parked (sha256 a.body) parking → (parking ≡ Crowded → ⊥)
+    → AreBooks sha256 reading (e ++ arrived a ∷ []) (with_parking k (sha256 a.body) parking a.body)
 books_parked_again e a k reply is parking at free = by_parking parking at free
   where
-    held_none : {X : Type 0} → (r : ℕ) → held_row Unlisted ≡ Some r → X
-    held_none r held = absurd (true≢false (sym (ap is_some held)))
-
-    unlisted : row_of (union e) (sha256 a.body) ≡ None
-    unlisted = unlisted_row (union e) (row_of (union e) (sha256 a.body)) (reading a.body) (sym is.found_is)
-
-    parked_are : k.parked (sha256 a.body) ≡ None → IsApart sha256 reading (e ++ arrived a ∷ []) → (d : List ℕ) → parked_put k.parked (sha256 a.body) (Some a.body) d ≡ parked_body sha256 reading (e ++ arrived a ∷ []) d
-    parked_are nothing apart d = by_test (bytes_eq (sha256 a.body) d) refl
-      where
-        by_test : (b : Bool) → bytes_eq (sha256 a.body) d ≡ b → cond b (Some a.body) (k.parked d) ≡ parked_body sha256 reading (e ++ arrived a ∷ []) d
-        by_test true same =
-            let digest : sha256 a.body ≡ d = (bytes_decides (sha256 a.body) d).0 same in
-            new_parked sha256 reading e k a is.stood.books apart d digest
-            (subst (λ (x : List ℕ). row_of (union e) x ≡ None) digest unlisted)
-            (subst (λ (x : List ℕ). k.parked x ≡ None) digest nothing)
-        by_test false other = old_parked sha256 reading e k a is.stood.books apart d (λ same none. absurd (true≢false (sym ((bytes_decides (sha256 a.body) d).1 same) ∙ other)))
-
-    waits : (d body : List ℕ) → parked_put k.parked (sha256 a.body) (Some a.body) d ≡ Some body → (k.parked d ≡ Some body) ⊎ ((sha256 a.body ≡ d) × (a.body ≡ body))
-    waits d body put = by_test (bytes_eq (sha256 a.body) d) refl put
-      where
-        by_test : (b : Bool) → bytes_eq (sha256 a.body) d ≡ b → cond b (Some a.body) (k.parked d) ≡ Some body → (k.parked d ≡ Some body) ⊎ ((sha256 a.body ≡ d) × (a.body ≡ body))
-        by_test true same put = inr ((bytes_decides (sha256 a.body) d).0 same, same_answer put)
-        by_test false other put = inl put
-
     tells : (d : List ℕ) → IsSome (parked_put k.parked (sha256 a.body) (Some a.body) d) → Any (TellsUnlisted d) k.receipts
     tells d some = by_test (bytes_eq (sha256 a.body) d) refl some
       where
         by_test : (b : Bool) → bytes_eq (sha256 a.body) d ≡ b → IsSome (cond b (Some a.body) (k.parked d)) → Any (TellsUnlisted d) k.receipts
-        by_test true same some = subst (λ (x : List ℕ). Any (TellsUnlisted x) k.receipts) ((bytes_decides (sha256 a.body) d).0 same) (told_again (union e) a.number (sha256 a.body) 1 k.receipts reply is.kept is.verdict)
+        by_test true same some =
+            subst (λ (x : List ℕ). Any (TellsUnlisted x) k.receipts) ((bytes_decides (sha256 a.body) d).0 same)
+            (told_again (union e) a.number (sha256 a.body) 1 k.receipts reply is.kept is.verdict)
         by_test false other some = is.stood.books.parked_told d some
 
-    by_parking : (parking : Parking) → IsParking k.parked (sha256 a.body) parking → (parking ≡ Crowded → ⊥) → AreBooks sha256 reading (e ++ arrived a ∷ []) (with_parking k (sha256 a.body) parking a.body)
+    by_parking : (parking : Parking) → IsParking k.parked (sha256 a.body) parking → (parking ≡ Crowded → ⊥)
+        → AreBooks sha256 reading (e ++ arrived a ∷ []) (with_parking k (sha256 a.body) parking a.body)
     by_parking Needless some free = books_known_again e a k Unlisted reply is (λ q held. held_none q held) (λ same. some)
     by_parking Free at free =
         books_again sha256 reading e k a is.stood.books reply is.kept k.bodies (parked_put k.parked (sha256 a.body) (Some a.body))
-        (λ apart r. old_body sha256 reading e k a is.stood.books apart r (λ holds. held_none r (held_found e a Unlisted is.found_is r holds)))
-        (parked_are at.0)
+        (bodies_stay e a k is.stood.books is.found_is (sha256 a.body) refl)
+        (put_parked e a k is.stood.books is.found_is (sha256 a.body) refl at.0)
         (λ r body at. inl at)
-        waits
+        (put_waits e a k is.stood.books is.found_is (sha256 a.body) refl)
         (λ r some. some)
         is.stood.books.held_told
         tells

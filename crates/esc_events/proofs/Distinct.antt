@@ -23,23 +23,29 @@ module _ (digest : List ℕ → List ℕ) (reads : List ℕ → Result DepositVa
   alike_laws = record {
     refl = λ a. ap₂ (λ x y. x && y) (nat_list_eq_equiv.refl a.number) (nat_list_eq_equiv.refl (digest a.body));
     symm = λ a b. ap₂ (λ x y. x && y) (nat_list_eq_equiv.symm a.number b.number) (nat_list_eq_equiv.symm (digest a.body) (digest b.body));
-    congr = λ a b d e. let p = both _ _ e in ap₂ (λ x y. x && y) (nat_list_eq_equiv.congr a.number b.number d.number p.0) (nat_list_eq_equiv.congr (digest a.body) (digest b.body) (digest d.body) p.1);
+    congr = λ a b d e.
+        let p = both _ _ e in
+        ap₂ (λ x y. x && y)
+        (nat_list_eq_equiv.congr a.number b.number d.number p.0)
+        (nat_list_eq_equiv.congr (digest a.body) (digest b.body) (digest d.body) p.1);
   }
 
+  -- those of a list that aren't like b
+  abbrev unlike : Coming → List Coming → List Coming
+  unlike b l = filter (λ x. not (alike digest reads b x)) l
+
   -- what is not like b is like one of a list exactly if it is like one of those that aren't like b
-  any_unlike : (a b : Coming) → alike digest reads a b ≡ false → (l : List Coming) → list_any (alike digest reads a) l ≡ list_any (alike digest reads a) (filter (λ x. not (alike digest reads b x)) l)
+  any_unlike : (a b : Coming) → alike digest reads a b ≡ false → (l : List Coming)
+      → list_any (alike digest reads a) l ≡ list_any (alike digest reads a) (unlike b l)
   any_unlike a b other [] = refl
   any_unlike a b other (x ∷ l) = by_test (alike digest reads b x) refl (any_unlike a b other l)
     where
-      others : List Coming
-      others = filter (λ y. not (alike digest reads b y)) l
+      apart : alike digest reads b x ≡ true → alike digest reads a x ≡ false
+      apart like = alike_laws.symm a x ∙ sym (alike_laws.congr b x a like) ∙ alike_laws.symm b a ∙ other
 
-      unlike : alike digest reads b x ≡ true → alike digest reads a x ≡ false
-      unlike like = alike_laws.symm a x ∙ sym (alike_laws.congr b x a like) ∙ alike_laws.symm b a ∙ other
-
-      by_test : (t : Bool) → alike digest reads b x ≡ t → list_any (alike digest reads a) l ≡ list_any (alike digest reads a) others
-          → (alike digest reads a x || list_any (alike digest reads a) l) ≡ list_any (alike digest reads a) (cond (not t) (x ∷ others) others)
-      by_test true like rest = ap (λ s. s || list_any (alike digest reads a) l) (unlike like) ∙ rest
+      by_test : (t : Bool) → alike digest reads b x ≡ t → list_any (alike digest reads a) l ≡ list_any (alike digest reads a) (unlike b l)
+          → (alike digest reads a x || list_any (alike digest reads a) l) ≡ list_any (alike digest reads a) (cond (not t) (x ∷ unlike b l) (unlike b l))
+      by_test true like rest = ap (λ s. s || list_any (alike digest reads a) l) (apart like) ∙ rest
       by_test false is rest = ap (λ s. alike digest reads a x || s) rest
 
   -- an arrival is like one of a list exactly if it is like one of the distinct ones
@@ -48,34 +54,37 @@ module _ (digest : List ℕ → List ℕ) (reads : List ℕ → Result DepositVa
   any_alike (b ∷ l) a = ap (λ s. alike digest reads a b || s) (any_alike l a) ∙ by_test (alike digest reads a b) refl
     where
       by_test : (t : Bool) → alike digest reads a b ≡ t
-          → (t || list_any (alike digest reads a) (distinct digest reads l)) ≡ (t || list_any (alike digest reads a) (filter (λ x. not (alike digest reads b x)) (distinct digest reads l)))
+          → (t || list_any (alike digest reads a) (distinct digest reads l)) ≡ (t || list_any (alike digest reads a) (unlike b (distinct digest reads l)))
       by_test true like = refl
       by_test false other = any_unlike a b other (distinct digest reads l)
 
   -- one more arrival is one more distinct one, or none
-  pub distinct-push : (l : List Coming) (a : Coming) → distinct digest reads (l ++ a ∷ []) ≡ cond (list_any (alike digest reads a) l) (distinct digest reads l) (distinct digest reads l ++ a ∷ [])
+  pub distinct-push : (l : List Coming) (a : Coming)
+      → distinct digest reads (l ++ a ∷ []) ≡ cond (list_any (alike digest reads a) l) (distinct digest reads l) (distinct digest reads l ++ a ∷ [])
   distinct-push [] a = refl
-  distinct-push (b ∷ l) a = ap (λ (x : List Coming). b ∷ unlike x) (distinct-push l a) ∙ by_tests (alike digest reads a b) refl (list_any (alike digest reads a) l)
+  distinct-push (b ∷ l) a = ap (λ (x : List Coming). b ∷ unlike b x) (distinct-push l a) ∙ by_tests (alike digest reads a b) refl (list_any (alike digest reads a) l)
     where
-      unlike : List Coming → List Coming
-      unlike x = filter (λ y. not (alike digest reads b y)) x
-
       before : List Coming
       before = distinct digest reads l
 
-      pushed : (t : Bool) → alike digest reads a b ≡ t → unlike (before ++ a ∷ []) ≡ unlike before ++ cond (not t) (a ∷ []) []
-      pushed t is = filter-append (λ y. not (alike digest reads b y)) before (a ∷ []) ∙ ap (λ s. unlike before ++ cond (not s) (a ∷ []) []) (alike_laws.symm b a ∙ is)
+      pushed : (t : Bool) → alike digest reads a b ≡ t → unlike b (before ++ a ∷ []) ≡ unlike b before ++ cond (not t) (a ∷ []) []
+      pushed t is = filter-append (λ y. not (alike digest reads b y)) before (a ∷ []) ∙ ap (λ s. unlike b before ++ cond (not s) (a ∷ []) []) (alike_laws.symm b a ∙ is)
 
-      by_tests : (t : Bool) → alike digest reads a b ≡ t → (u : Bool) → (b ∷ unlike (cond u before (before ++ a ∷ []))) ≡ cond (t || u) (b ∷ unlike before) (b ∷ unlike before ++ a ∷ [])
+      by_tests : (t : Bool) → alike digest reads a b ≡ t → (u : Bool)
+          → (b ∷ unlike b (cond u before (before ++ a ∷ []))) ≡ cond (t || u) (b ∷ unlike b before) (b ∷ unlike b before ++ a ∷ [])
       by_tests true is true = refl
-      by_tests true is false = ap (λ (x : List Coming). b ∷ x) (pushed true is ∙ append-nil (unlike before))
+      by_tests true is false = ap (λ (x : List Coming). b ∷ x) (pushed true is ∙ append-nil (unlike b before))
       by_tests false is true = refl
       by_tests false is false = ap (λ (x : List Coming). b ∷ x) (pushed false is)
 
   -- ---- receipts
-  pub receipts-push : (before ds : List Coming) (a : Coming) → receipts_after digest reads before (ds ++ a ∷ []) ≡ receipts_after digest reads before ds ++ receipt_for digest reads (before ++ ds) a ∷ []
+  pub receipts-push : (before ds : List Coming) (a : Coming)
+      → receipts_after digest reads before (ds ++ a ∷ []) ≡ receipts_after digest reads before ds ++ receipt_for digest reads (before ++ ds) a ∷ []
   receipts-push before [] a = ap (λ (x : List Coming). receipt_for digest reads x a ∷ []) (sym (append-nil before))
-  receipts-push before (b ∷ ds) a = ap (λ (x : List ReceiptValue). receipt_for digest reads before b ∷ x) (receipts-push (before ++ b ∷ []) ds a ∙ ap (λ (x : List Coming). receipts_after digest reads (before ++ b ∷ []) ds ++ receipt_for digest reads x a ∷ []) (append_assoc before (b ∷ []) ds))
+  receipts-push before (b ∷ ds) a =
+      ap (λ (x : List ReceiptValue). receipt_for digest reads before b ∷ x)
+      (receipts-push (before ++ b ∷ []) ds a
+      ∙ ap (λ (x : List Coming). receipts_after digest reads (before ++ b ∷ []) ds ++ receipt_for digest reads x a ∷ []) (append_assoc before (b ∷ []) ds))
 
   pub length-receipts : (before ds : List Coming) → length (receipts_after digest reads before ds) ≡ length ds
   length-receipts before [] = refl
@@ -96,7 +105,9 @@ module _ (digest : List ℕ → List ℕ) (reads : List ℕ → Result DepositVa
   -- a receipt is of an arrival exactly if that is like the receipt's one
   pub kept_one : (before : List Coming) (b a : Coming) → is_alike a.number (digest a.body) (receipt_for digest reads before b) ≡ alike digest reads a b
   kept_one before b a =
-      ap₂ (λ (n k : List ℕ). bytes_eq n a.number && bytes_eq k (digest a.body)) (number_kept b.number (digest b.body) b.early (found_then digest reads b) _) (digest_kept b.number (digest b.body) b.early (found_then digest reads b) _)
+      ap₂ (λ (n k : List ℕ). bytes_eq n a.number && bytes_eq k (digest a.body))
+      (number_kept b.number (digest b.body) b.early (found_then digest reads b) _)
+      (digest_kept b.number (digest b.body) b.early (found_then digest reads b) _)
       ∙ alike_laws.symm b a
 
   pub kept_any : (before ds : List Coming) (a : Coming) → list_any (is_alike a.number (digest a.body)) (receipts_after digest reads before ds) ≡ list_any (alike digest reads a) ds

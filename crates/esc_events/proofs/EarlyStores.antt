@@ -16,13 +16,13 @@ use Rattle.esc_events.specs.Finding.{found_at, row_of}
 use Rattle.esc_events.specs.FirstVersion.{StoodFor, events_before, first_arrivals}
 use Rattle.esc_events.specs.Receipts.{holds_row, holds, alike, distinct, receipts_after}
 use Rattle.esc_events.specs.Stands.{Among, IsApart, CameFor, StandsFor, TellsOf, body_of, holds_by, has_digest, is_lost, counted, held_body, parked_body}
-use Rattle.esc_events.proofs.AmendingLemmas.{row_has, row_found, find_never, no_some}
+use Rattle.esc_events.proofs.AmendingLemmas.{row_has, row_found, find_never}
 use Rattle.esc_events.proofs.Distinct.{alike_laws, any_alike, both}
 use Rattle.esc_events.proofs.EventLemmas.{none_is_listed}
 use Rattle.esc_events.proofs.HeldReceipts.{any_holds, any_says, any-weaker}
 use Rattle.esc_events.proofs.Lost.{counted_came, counted_kept, came_counts}
 use Rattle.esc_events.proofs.Members.{any_of, one_of, first_of, distinct_among, some_any, any_some}
-use Rattle.esc_events.proofs.Searches.{same_answer}
+use Rattle.esc_events.proofs.Searches.{same_answer, no_answer}
 
 -- ---- the events
 
@@ -60,6 +60,13 @@ module _ (m : List MRow) (l : List ArrivalValue) where
   moment_is : moment_of before ≡ None
   moment_is = moment_of_early None l
 
+  -- the arrivals that count; and whether one holds a row
+  abbrev counts : List Coming
+  counts = counted sha256 reading before
+
+  abbrev holding : ℕ → Coming → Bool
+  holding r = holds_by sha256 reading (union before) r
+
   -- ---- an early arrival counts exactly if a row listed its body
 
   early_of : (c : Coming) → Among (comings before) c → (c.rows ≡ m) × (c.early ≡ true)
@@ -71,7 +78,7 @@ module _ (m : List MRow) (l : List ArrivalValue) where
       ap₂ (λ (b : Bool) (x : List MRow). b && is_none (row_of x (sha256 c.body))) is.1 is.0
       ∙ ap (λ (o : Option ℕ). is_none o) lists
 
-  listed_by : (c : Coming) → Among (counted sha256 reading before) c → row_of m (sha256 c.body) ≡ None → ⊥
+  listed_by : (c : Coming) → Among counts c → row_of m (sha256 c.body) ≡ None → ⊥
   listed_by c there none =
       let is = early_of c (counted_came sha256 reading before c there) in
       let lost : is_lost sha256 reading c ≡ true = ap₂ (λ (b : Bool) (x : List MRow). b && is_none (row_of x (sha256 c.body))) is.1 is.0 ∙ ap (λ (o : Option ℕ). is_none o) none in
@@ -82,70 +89,72 @@ module _ (m : List MRow) (l : List ArrivalValue) where
 
   -- by the rows that were listed when it came, and by those that are listed in the end, an arrival
   -- holds the same row
-  holds_is : (r : ℕ) (c : Coming) → Among (comings before) c → holds sha256 reading r c ≡ holds_by sha256 reading (union before) r c
+  holds_is : (r : ℕ) (c : Coming) → Among (comings before) c → holds sha256 reading r c ≡ holding r c
   holds_is r c there = ap (λ (x : List MRow). holds_row r (found_at x (row_of x (sha256 c.body)) (reading c.body))) ((early_of c there).0 ∙ sym union_is)
 
-  lists_held : (r : ℕ) (c : Coming) → holds_by sha256 reading (union before) r c ≡ true → row_of m (sha256 c.body) ≡ Some r
+  lists_held : (r : ℕ) (c : Coming) → holding r c ≡ true → row_of m (sha256 c.body) ≡ Some r
   lists_held r c is = ap (λ (x : List MRow). row_of x (sha256 c.body)) (sym union_is) ∙ row_found (union before) r (row_of (union before) (sha256 c.body)) (reading c.body) is
 
-  holder_counts : (r : ℕ) (c : Coming) → Among first c → holds sha256 reading r c ≡ true → Among (counted sha256 reading before) c × (holds_by sha256 reading (union before) r c ≡ true)
+  holder_counts : (r : ℕ) (c : Coming) → Among first c → holds sha256 reading r c ≡ true → Among counts c × (holding r c ≡ true)
   holder_counts r c there is =
       let came = first_came c there in
-      let by : holds_by sha256 reading (union before) r c ≡ true = sym (holds_is r c came) ∙ is in
+      let by : holding r c ≡ true = sym (holds_is r c came) ∙ is in
       (came_counts sha256 reading before c came (kept_by c r came (lists_held r c by)), by)
 
   -- ---- bodies, where no two different ones have the same digest
 
   module _ (apart : IsApart sha256 reading before) (r : ℕ) where
     -- two that hold the row have one body
-    one_body : (b c : Coming) → Among (counted sha256 reading before) b → Among (counted sha256 reading before) c
-        → holds_by sha256 reading (union before) r b ≡ true → holds_by sha256 reading (union before) r c ≡ true → b.body ≡ c.body
+    one_body : (b c : Coming) → Among counts b → Among counts c
+        → holding r b ≡ true → holding r c ≡ true → b.body ≡ c.body
     one_body b c in_b in_c is_b is_c =
-        apart b c in_b in_c (sym (row_has m r (sha256 b.body) (lists_held r b is_b)).1 ∙ (row_has m r (sha256 c.body) (lists_held r c is_c)).1)
+        apart b c in_b in_c (sym (row_has m (sha256 b.body) (lists_held r b is_b)).1 ∙ (row_has m (sha256 c.body) (lists_held r c is_c)).1)
 
     -- where an arrival that counts holds the row, a distinct one does
-    first_holds : (c : Coming) → Among (counted sha256 reading before) c → holds_by sha256 reading (union before) r c ≡ true → list_any (holds sha256 reading r) first ≡ true
+    first_holds : (c : Coming) → Among counts c → holding r c ≡ true → list_any (holds sha256 reading r) first ≡ true
     first_holds c there is =
         let came : Among (map (early_coming m) l) c = subst (λ (cs : List Coming). Among cs c) comings_are (counted_came sha256 reading before c there) in
-        let any : list_any (alike sha256 reading c) (map (early_coming m) l) ≡ true = any_of (alike sha256 reading c) (map (early_coming m) l) c came ((alike_laws sha256 reading).refl c) in
+        let any : list_any (alike sha256 reading c) (map (early_coming m) l) ≡ true =
+        any_of (alike sha256 reading c) (map (early_coming m) l) c came ((alike_laws sha256 reading).refl c) in
         let x = one_of (alike sha256 reading c) first (sym (any_alike sha256 reading (map (early_coming m) l) c) ∙ any) in
-        let same : sha256 c.body ≡ sha256 x.0.body = (bytes_decides (sha256 c.body) (sha256 x.0.body)).0 (both (bytes_eq c.number x.0.number) (bytes_eq (sha256 c.body) (sha256 x.0.body)) x.2).1 in
+        let like = both (bytes_eq c.number x.0.number) (bytes_eq (sha256 c.body) (sha256 x.0.body)) x.2 in
+        let same : sha256 c.body ≡ sha256 x.0.body = (bytes_decides (sha256 c.body) (sha256 x.0.body)).0 like.1 in
         let lists : row_of m (sha256 x.0.body) ≡ Some r = ap (λ (d : List ℕ). row_of m d) (sym same) ∙ lists_held r c is in
-        let counts = came_counts sha256 reading before x.0 (first_came x.0 x.1) (kept_by x.0 r (first_came x.0 x.1) lists) in
-        let body : c.body ≡ x.0.body = apart c x.0 there counts same in
+        let it_counts = came_counts sha256 reading before x.0 (first_came x.0 x.1) (kept_by x.0 r (first_came x.0 x.1) lists) in
+        let body : c.body ≡ x.0.body = apart c x.0 there it_counts same in
         any_of (holds sha256 reading r) first x.0 x.1
         (holds_is r x.0 (first_came x.0 x.1) ∙ ap (λ (b : List ℕ). holds_row r (found_at (union before) (row_of (union before) (sha256 b)) (reading b))) (sym body) ∙ is)
 
     held_is : body_of (find (holds sha256 reading r) first) ≡ held_body sha256 reading before r
-    held_is = by_both (find (holds sha256 reading r) first) refl (find (holds_by sha256 reading (union before) r) (counted sha256 reading before)) refl
+    held_is = by_both (find (holds sha256 reading r) first) refl (find (holding r) counts) refl
       where
-        by_both : (o : Option Coming) → find (holds sha256 reading r) first ≡ o → (p : Option Coming) → find (holds_by sha256 reading (union before) r) (counted sha256 reading before) ≡ p
-            → body_of (find (holds sha256 reading r) first) ≡ body_of (find (holds_by sha256 reading (union before) r) (counted sha256 reading before))
+        by_both : (o : Option Coming) → find (holds sha256 reading r) first ≡ o → (p : Option Coming) → find (holding r) counts ≡ p
+            → body_of (find (holds sha256 reading r) first) ≡ body_of (find (holding r) counts)
         by_both None none None miss = ap body_of (none ∙ sym miss)
         by_both (Some c) is (Some b) at =
             let x = first_of (holds sha256 reading r) first c is in
-            let y = first_of (holds_by sha256 reading (union before) r) (counted sha256 reading before) b at in
+            let y = first_of (holding r) counts b at in
             let z = holder_counts r c x.0 x.1 in
             ap body_of is ∙ ap (λ (body : List ℕ). Some body) (one_body c b z.0 y.0 z.1 y.1) ∙ sym (ap body_of at)
         by_both (Some c) is None miss =
             let x = first_of (holds sha256 reading r) first c is in
             let z = holder_counts r c x.0 x.1 in
-            let some = any_some (holds_by sha256 reading (union before) r) (counted sha256 reading before) (any_of (holds_by sha256 reading (union before) r) (counted sha256 reading before) c z.0 z.1) in
+            let some = any_some (holding r) counts (any_of (holding r) counts c z.0 z.1) in
             absurd (true≢false (sym some ∙ ap (λ (o : Option Coming). is_some (body_of o)) miss))
         by_both None none (Some b) at =
-            let y = first_of (holds_by sha256 reading (union before) r) (counted sha256 reading before) b at in
+            let y = first_of (holding r) counts b at in
             let some = any_some (holds sha256 reading r) first (first_holds b y.0 y.1) in
             absurd (true≢false (sym some ∙ ap (λ (o : Option Coming). is_some (body_of o)) none))
 
   -- no body that counts is one that no row lists
   none_parked : (d : List ℕ) → None ≡ parked_body sha256 reading before d
-  none_parked d = by_row (row_of m d) refl ∙ ap (λ (x : List MRow). cond (is_some (row_of x d)) None (body_of (find (has_digest sha256 reading d) (counted sha256 reading before)))) (sym union_is)
+  none_parked d = by_row (row_of m d) refl ∙ ap (λ (x : List MRow). cond (is_some (row_of x d)) None (body_of (find (has_digest sha256 reading d) counts))) (sym union_is)
     where
-      by_row : (o : Option ℕ) → row_of m d ≡ o → None ≡ cond (is_some (row_of m d)) None (body_of (find (has_digest sha256 reading d) (counted sha256 reading before)))
-      by_row (Some q) is = sym (ap (λ (o : Option ℕ). cond (is_some o) None (body_of (find (has_digest sha256 reading d) (counted sha256 reading before)))) is)
+      by_row : (o : Option ℕ) → row_of m d ≡ o → None ≡ cond (is_some (row_of m d)) None (body_of (find (has_digest sha256 reading d) counts))
+      by_row (Some q) is = sym (ap (λ (o : Option ℕ). cond (is_some o) None (body_of (find (has_digest sha256 reading d) counts))) is)
       by_row None is =
-          sym (ap (λ (o : Option ℕ). cond (is_some o) None (body_of (find (has_digest sha256 reading d) (counted sha256 reading before)))) is
-          ∙ ap body_of (find_never (has_digest sha256 reading d) (counted sha256 reading before)
+          sym (ap (λ (o : Option ℕ). cond (is_some o) None (body_of (find (has_digest sha256 reading d) counts))) is
+          ∙ ap body_of (find_never (has_digest sha256 reading d) counts
           (λ c there has. listed_by c there (ap (λ (x : List ℕ). row_of m x) ((bytes_decides (sha256 c.body) d).0 has) ∙ is))))
 
 -- ---- what is kept
@@ -159,8 +168,10 @@ stands_early m l k stood = record {
     parked = λ apart d. stood.parked d ∙ none_parked m l d;
     moment = stood.moment ∙ sym (moment_is m l);
     came = λ r body at. came_for r body (find (holds sha256 reading r) (first m l)) refl (sym (stood.bodies r) ∙ at);
-    waits = λ d body at. absurd (no_some (sym (stood.parked d) ∙ at));
-    told = λ r any. ap is_some (stood.bodies r) ∙ any_some (holds sha256 reading r) (first m l) (any_holds sha256 reading r [] (first m l) (subst (Any (SaysHeld r)) stood.receipts any));
+    waits = λ d body at. absurd (no_answer (sym (stood.parked d) ∙ at));
+    told = λ r any.
+        ap is_some (stood.bodies r)
+        ∙ any_some (holds sha256 reading r) (first m l) (any_holds sha256 reading r [] (first m l) (subst (Any (SaysHeld r)) stood.receipts any));
     held_told = λ r some. any-weaker (SaysHeld r) (TellsOf (union (events_before m l)) r) (λ receipt says. inl says) k.receipts
         (subst (Any (SaysHeld r)) (sym stood.receipts) (any_says sha256 reading r [] (first m l) (some_any (holds sha256 reading r) (first m l) (sym (ap is_some (stood.bodies r)) ∙ some))));
     parked_told = λ d some. absurd (true≢false (sym some ∙ ap is_some (stood.parked d)));
@@ -174,7 +185,7 @@ stands_early m l k stood = record {
   where
     came_for : (r : ℕ) (body : List ℕ) (o : Option Coming) → find (holds sha256 reading r) (first m l) ≡ o → body_of (find (holds sha256 reading r) (first m l)) ≡ Some body
         → CameFor sha256 reading (events_before m l) r body
-    came_for r body None none at = absurd (no_some (sym (ap body_of none) ∙ at))
+    came_for r body None none at = absurd (no_answer (sym (ap body_of none) ∙ at))
     came_for r body (Some c) is at =
         let x = first_of (holds sha256 reading r) (first m l) c is in
         let z = holder_counts m l r c x.0 x.1 in

@@ -12,11 +12,7 @@ use Rattle.esc_manifest.specs.Accepted.{IsAccepted}
 use Rattle.esc_apply.specs.declared.front.Step.{Step}
 use Rattle.esc_apply.specs.Front.{same_step, common_front}
 use Rattle.esc_store.specs.Kept.{step_at}
-
-both_true : (a b : Bool) → (a && b) ≡ true → (a ≡ true) × (b ≡ true)
-both_true true true e = (refl, refl)
-both_true true false e = absurd (true≢false (sym e))
-both_true false b e = absurd (true≢false (sym e))
+use Rattle.esc_events.proofs.Distinct.{both}
 
 same_kind : (a b : DepositType) → (rank a == rank b) ≡ true → a ≡ b
 same_kind Diff Diff e = refl
@@ -34,9 +30,15 @@ abbrev pub AreOf : List MRow → List ℕ → Type 0
 AreOf m [] = Unit {0}
 AreOf m (r ∷ rows) = (r < length m) × AreOf m rows
 
-more_front : (n p : ℕ) → n ≡ suc p → (q r : ℕ) (old new : List ℕ) (x : Step × Step) (z : List (Step × Step)) → q ≡ r
-    → take (length (take p z)) old ≡ take (length (take p z)) new → take (length (take n (x ∷ z))) (q ∷ old) ≡ take (length (take n (x ∷ z))) (r ∷ new)
-more_front n p e q r old new x z same rest = subst (λ (k : ℕ). take (length (take k (x ∷ z))) (q ∷ old) ≡ take (length (take k (x ∷ z))) (r ∷ new)) (sym e) (ap₂ (λ (y : ℕ) (ys : List ℕ). y ∷ ys) same rest)
+-- the lists begin with the same rows, as many as the first k of these pairs are
+abbrev BeginAlike : ℕ → List (Step × Step) → List ℕ → List ℕ → Type 0
+BeginAlike k pairs old new = take (length (take k pairs)) old ≡ take (length (take k pairs)) new
+
+more_front : (k : ℕ) (x : Step × Step) (pairs : List (Step × Step)) (q r : ℕ) (old new : List ℕ) → q ≡ r
+    → BeginAlike k pairs old new → BeginAlike (1 + k) (x ∷ pairs) (q ∷ old) (r ∷ new)
+more_front k x pairs q r old new same rest =
+    let next : suc k ≡ 1 + k = omega arith in
+    subst (λ (n : ℕ). BeginAlike n (x ∷ pairs) (q ∷ old) (r ∷ new)) next (ap₂ (λ (y : ℕ) (ys : List ℕ). y ∷ ys) same rest)
 
 module _ (m : List MRow) (accepted : IsAccepted m) where
   -- equal steps are of one row
@@ -45,21 +47,30 @@ module _ (m : List MRow) (accepted : IsAccepted m) where
       let watermarks = int_eq (place_at m q).watermark (place_at m r).watermark in
       let kinds = rank (place_at m q).kind == rank (place_at m r).kind in
       let resends = resend_at m q == resend_at m r in
-      let ends = both_true (watermarks && kinds) resends same in
-      let marks = both_true watermarks kinds ends.0 in
+      let ends = both (watermarks && kinds) resends same in
+      let marks = both watermarks kinds ends.0 in
       let watermark : (place_at m q).watermark ≡ (place_at m r).watermark = (Decides-int_eq (place_at m q).watermark (place_at m r).watermark).0 marks.0 in
       let kind : (place_at m q).kind ≡ (place_at m r).kind = same_kind (place_at m q).kind (place_at m r).kind marks.1 in
       let resend : resend_at m q ≡ resend_at m r = grind (arith, nat_tests, ends.1) in
       accepted.one_revision q r q_in r_in (λ i. record { watermark = watermark i; kind = kind i }) resend
 
   -- below the common front the rows are the same
-  pub same_front : (old new : List ℕ) → AreOf m old → AreOf m new → take (common_front (map (step_at m) old) (map (step_at m) new)) old ≡ take (common_front (map (step_at m) old) (map (step_at m) new)) new
+  pub same_front : (old new : List ℕ) → AreOf m old → AreOf m new
+      → take (common_front (map (step_at m) old) (map (step_at m) new)) old ≡ take (common_front (map (step_at m) old) (map (step_at m) new)) new
   same_front [] new old_in new_in = refl
   same_front (q ∷ old) [] old_in new_in = refl
-  same_front (q ∷ old) (r ∷ new) old_in new_in = by_test (same_step (step_at m q, step_at m r)) refl (same_front old new old_in.1 new_in.1)
+  same_front (q ∷ old) (r ∷ new) old_in new_in = by_test (same_step here) refl (same_front old new old_in.1 new_in.1)
     where
-      by_test : (b : Bool) → same_step (step_at m q, step_at m r) ≡ b
-          → take (common_front (map (step_at m) old) (map (step_at m) new)) old ≡ take (common_front (map (step_at m) old) (map (step_at m) new)) new
-          → take (length (take (cond b (1 + prefix_len same_step (zip (map (step_at m) old) (map (step_at m) new))) 0) ((step_at m q, step_at m r) ∷ zip (map (step_at m) old) (map (step_at m) new)))) (q ∷ old) ≡ take (length (take (cond b (1 + prefix_len same_step (zip (map (step_at m) old) (map (step_at m) new))) 0) ((step_at m q, step_at m r) ∷ zip (map (step_at m) old) (map (step_at m) new)))) (r ∷ new)
-      by_test true is rest = more_front (1 + prefix_len same_step (zip (map (step_at m) old) (map (step_at m) new))) (prefix_len same_step (zip (map (step_at m) old) (map (step_at m) new))) (omega arith) q r old new (step_at m q, step_at m r) (zip (map (step_at m) old) (map (step_at m) new)) (one_row q r old_in.0 new_in.0 is) rest
+      here : Step × Step
+      here = (step_at m q, step_at m r)
+
+      pairs : List (Step × Step)
+      pairs = zip (map (step_at m) old) (map (step_at m) new)
+
+      count : ℕ
+      count = prefix_len same_step pairs
+
+      by_test : (b : Bool) → same_step here ≡ b → BeginAlike count pairs old new
+          → BeginAlike (cond b (1 + count) 0) (here ∷ pairs) (q ∷ old) (r ∷ new)
+      by_test true is rest = more_front count here pairs q r old new (one_row q r old_in.0 new_in.0 is) rest
       by_test false other rest = refl

@@ -14,14 +14,16 @@ use Rattle.esc_events.proofs.Searches.{same_answer}
 -- ---- one receipt
 
 -- it says that a row is held exactly if what was found holds the row
-pub holds_from_says : (row : ℕ) (number digest : List ℕ) (early : Bool) (f : Finding) (again : Bool) → SaysHeld row (receipt_by number digest early f again) → holds_row row f ≡ true
+pub holds_from_says : (row : ℕ) (number digest : List ℕ) (early : Bool) (f : Finding) (again : Bool)
+    → SaysHeld row (receipt_by number digest early f again) → holds_row row f ≡ true
 holds_from_says row number digest true Unlisted again says = let verdict = says.0 in absurd (cc)
 holds_from_says row number digest false Unlisted again says = let verdict = says.0 in absurd (cc)
 holds_from_says row number digest early (Unreadable r n) again says = let verdict = says.0 in absurd (cc)
 holds_from_says row number digest early (Differing r) again says = let verdict = says.0 in absurd (cc)
 holds_from_says row number digest early (Holding r d) again says = ap (λ (q : ℕ). holds_row q (Holding r d)) (sym (same_answer says.1)) ∙ same_self r
 
-pub says_from_holds : (row : ℕ) (number digest : List ℕ) (early : Bool) (f : Finding) (again : Bool) → holds_row row f ≡ true → SaysHeld row (receipt_by number digest early f again)
+pub says_from_holds : (row : ℕ) (number digest : List ℕ) (early : Bool) (f : Finding) (again : Bool)
+    → holds_row row f ≡ true → SaysHeld row (receipt_by number digest early f again)
 says_from_holds row number digest early Unlisted again is = absurd (true≢false (sym is))
 says_from_holds row number digest early (Unreadable r n) again is = absurd (true≢false (sym is))
 says_from_holds row number digest early (Differing r) again is = absurd (true≢false (sym is))
@@ -74,11 +76,17 @@ or_true true = refl
 or_true false = refl
 
 module _ (digest : List ℕ → List ℕ) (reads : List ℕ → Result DepositValue ℕ) (row : ℕ) where
+  -- a receipt of these arrivals, after those before, says that the row is held
+  abbrev OneSays : List Coming → List Coming → Type 0
+  OneSays before ds = Any (SaysHeld row) (receipts_after digest reads before ds)
+
   pub any_holds : (before ds : List Coming) → Any (SaysHeld row) (receipts_after digest reads before ds) → list_any (holds digest reads row) ds ≡ true
   any_holds before [] any = absurd (omega (arith, any.2))
-  any_holds before (a ∷ ds) any = by_case (split (SaysHeld row) (receipt_for digest reads before a) (receipts_after digest reads (before ++ a ∷ []) ds) any) (any_holds (before ++ a ∷ []) ds)
+  any_holds before (a ∷ ds) any =
+      by_case (split (SaysHeld row) (receipt_for digest reads before a) (receipts_after digest reads (before ++ a ∷ []) ds) any) (any_holds (before ++ a ∷ []) ds)
     where
-      by_case : SaysHeld row (receipt_for digest reads before a) ⊎ Any (SaysHeld row) (receipts_after digest reads (before ++ a ∷ []) ds) → (Any (SaysHeld row) (receipts_after digest reads (before ++ a ∷ []) ds) → list_any (holds digest reads row) ds ≡ true)
+      by_case : SaysHeld row (receipt_for digest reads before a) ⊎ OneSays (before ++ a ∷ []) ds
+          → (OneSays (before ++ a ∷ []) ds → list_any (holds digest reads row) ds ≡ true)
           → (holds digest reads row a || list_any (holds digest reads row) ds) ≡ true
       by_case (inl says) more = ap (λ b. b || list_any (holds digest reads row) ds) (holds_from_says row a.number (digest a.body) a.early (found_then digest reads a) _ says)
       by_case (inr behind) more = ap (λ b. holds digest reads row a || b) (more behind) ∙ or_true (holds digest reads row a)
@@ -87,7 +95,8 @@ module _ (digest : List ℕ → List ℕ) (reads : List ℕ → Result DepositVa
   any_says before [] any = absurd (true≢false (sym any))
   any_says before (a ∷ ds) any = by_test (holds digest reads row a) refl any (any_says (before ++ a ∷ []) ds)
     where
-      by_test : (b : Bool) → holds digest reads row a ≡ b → (b || list_any (holds digest reads row) ds) ≡ true → (list_any (holds digest reads row) ds ≡ true → Any (SaysHeld row) (receipts_after digest reads (before ++ a ∷ []) ds))
-          → Any (SaysHeld row) (receipt_for digest reads before a ∷ receipts_after digest reads (before ++ a ∷ []) ds)
+      by_test : (b : Bool) → holds digest reads row a ≡ b → (b || list_any (holds digest reads row) ds) ≡ true
+          → (list_any (holds digest reads row) ds ≡ true → OneSays (before ++ a ∷ []) ds)
+          → OneSays before (a ∷ ds)
       by_test true is any more = (0, receipt_for digest reads before a, omega arith, refl, says_from_holds row a.number (digest a.body) a.early (found_then digest reads a) _ is)
       by_test false is any more = later (SaysHeld row) (receipt_for digest reads before a) (receipts_after digest reads (before ++ a ∷ []) ds) (more any)

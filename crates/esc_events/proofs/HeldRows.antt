@@ -22,6 +22,10 @@ same_self q = grind (arith, nat_tests)
 pub same_number : (r q : ℕ) → (r == q) ≡ true → r ≡ q
 same_number r q is = grind (arith, nat_tests, is)
 
+-- numbers that compare as equal are equal
+pub exact : (x y : ℕ) → eq_by_cmp nat_cmp x y ≡ true → x ≡ y
+exact x y e = sym (same_number y x (sym (same_test y x) ∙ e))
+
 pub is_row_of : (r : ℕ) (row : Option ℕ) → is_row r row ≡ true → row ≡ Some r
 is_row_of r None is = absurd (true≢false (sym is))
 is_row_of r (Some q) is = ap Some (same_number q r is)
@@ -45,7 +49,8 @@ module _ (digest : List ℕ → List ℕ) (reads : List ℕ → Result DepositVa
   any_row [] r = refl
   any_row (a ∷ l) r = one (held_row (finding digest reads m a.body)) ∙ ap (λ b. is_row r (held_row (finding digest reads m a.body)) || b) (any_row l r)
     where
-      one : (row : Option ℕ) → list_any (λ q. eq_by_cmp nat_cmp r q) (with_some row (rows_of digest reads m l)) ≡ (is_row r row || list_any (λ q. eq_by_cmp nat_cmp r q) (rows_of digest reads m l))
+      one : (row : Option ℕ)
+          → list_any (λ q. eq_by_cmp nat_cmp r q) (with_some row (rows_of digest reads m l)) ≡ (is_row r row || list_any (λ q. eq_by_cmp nat_cmp r q) (rows_of digest reads m l))
       one None = refl
       one (Some q) = ap (λ b. b || list_any (λ q. eq_by_cmp nat_cmp r q) (rows_of digest reads m l)) (same_test q r)
 

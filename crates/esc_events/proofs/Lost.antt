@@ -5,6 +5,7 @@ use Rattle.esc_tables.specs.DepositValue.{DepositValue}
 use Rattle.esc_manifest.specs.declared.row.MRow.{MRow}
 use Rattle.esc_store.specs.declared.reply.Verdict.TheVariants.{A2}
 use Rattle.esc_store.specs.ReplyValue.{ReplyValue, reply_kept, is_alike, reply_alike}
+use Rattle.esc_events.specs.declared.finding.Finding.{Finding}
 use Rattle.esc_events.specs.ArrivalValue.{ArrivalValue}
 use Rattle.esc_events.specs.Events.{EventValue, Coming, union, coming, comings}
 use Rattle.esc_events.specs.Events.EventValue.{arrived}
@@ -56,22 +57,35 @@ module _ (digest : List ℕ → List ℕ) (reads : List ℕ → Result DepositVa
   lost_verdict : (before : List Coming) (c : Coming) → is_lost digest reads c ≡ true → (receipt_for digest reads before c).verdict ≡ A2
   lost_verdict before c lost =
       let of = both c.early (is_none (row_of c.rows (digest c.body))) lost in
-      ap (λ (o : Option ℕ). (receipt_by c.number (digest c.body) c.early (found_at c.rows o (reads c.body)) (holds_any digest reads before (held_row (found_at c.rows o (reads c.body))))).verdict) (no_row_is (row_of c.rows (digest c.body)) of.1)
+      ap (λ (o : Option ℕ). (receipt_by c.number (digest c.body) c.early (found o) (holds_any digest reads before (held_row (found o)))).verdict)
+      (no_row_is (row_of c.rows (digest c.body)) of.1)
       ∙ ap unlisted_verdict of.0
+    where
+      found : Option ℕ → Finding
+      found o = found_at c.rows o (reads c.body)
+
+  -- an arrival of the list is a duplicate of this one, and its body was kept
+  abbrev KeptAlike : Coming → List Coming → Type 0
+  KeptAlike a ds = (c : Coming) × Among ds c × (alike digest reads a c ≡ true) × (is_lost digest reads c ≡ false)
 
   -- the arrival of a kept reply counts, if the verdict isn't A2
-  pub alike_counts : (m : List MRow) (a : Coming) (n : ℕ) (before ds : List Coming) (y : ReplyValue) → reply_alike m n a.number (digest a.body) (receipts_after digest reads before ds) ≡ Some y → (y.verdict ≡ A2 → ⊥)
+  pub alike_counts : (m : List MRow) (a : Coming) (n : ℕ) (before ds : List Coming) (y : ReplyValue)
+      → reply_alike m n a.number (digest a.body) (receipts_after digest reads before ds) ≡ Some y → (y.verdict ≡ A2 → ⊥)
       → (c : Coming) × Among ds c × (alike digest reads a c ≡ true) × (is_lost digest reads c ≡ false)
   alike_counts m a n before [] y e other = absurd (no_answer e)
-  alike_counts m a n before (c ∷ ds) y e other = by_test (is_alike a.number (digest a.body) (receipt_for digest reads before c)) refl e (λ behind. alike_counts m a (suc n) (before ++ c ∷ []) ds y behind other)
+  alike_counts m a n before (c ∷ ds) y e other =
+      by_test (is_alike a.number (digest a.body) (receipt_for digest reads before c)) refl e
+      (λ behind. alike_counts m a (suc n) (before ++ c ∷ []) ds y behind other)
     where
+      reply_behind : Option ReplyValue
+      reply_behind = reply_alike m (suc n) a.number (digest a.body) (receipts_after digest reads (before ++ c ∷ []) ds)
+
       kept : reply_kept m n (receipt_for digest reads before c) ≡ y → (b : Bool) → is_lost digest reads c ≡ b → is_lost digest reads c ≡ false
       kept same true lost = absurd (other (ap (λ (z : ReplyValue). z.verdict) (sym same) ∙ lost_verdict before c lost))
       kept same false is = is
 
       by_test : (b : Bool) → is_alike a.number (digest a.body) (receipt_for digest reads before c) ≡ b
-          → cond b (Some (reply_kept m n (receipt_for digest reads before c))) (reply_alike m (suc n) a.number (digest a.body) (receipts_after digest reads (before ++ c ∷ []) ds)) ≡ Some y
-          → (reply_alike m (suc n) a.number (digest a.body) (receipts_after digest reads (before ++ c ∷ []) ds) ≡ Some y → (x : Coming) × Among ds x × (alike digest reads a x ≡ true) × (is_lost digest reads x ≡ false))
-          → (x : Coming) × Among (c ∷ ds) x × (alike digest reads a x ≡ true) × (is_lost digest reads x ≡ false)
+          → cond b (Some (reply_kept m n (receipt_for digest reads before c))) reply_behind ≡ Some y
+          → (reply_behind ≡ Some y → KeptAlike a ds) → KeptAlike a (c ∷ ds)
       by_test true like e rest = (c, inl refl, sym (kept_one digest reads before c a) ∙ like, kept (same_answer e) (is_lost digest reads c) refl)
       by_test false unlike e rest = let x = rest e in (x.0, inr x.1, x.2, x.3)

@@ -1,5 +1,6 @@
 -- A store stands for one more event: nothing moves, or the chain moves by a plan.
-use Rattle.std.proofs.Common.{◌≡◌, ℕ, ℤ, ◌<◌, ◌≤◌, ◌*◌, ◌^◌, Bool, true, false, List, [], ◌∷◌, ◌++◌, length, map, take, drop, Option, Some, None, is_some, IsTrue, Result, Ok, Err, refl, sym, ap, ap₂, subst, ◌∙◌, arith, true≢false, length-append}
+use Rattle.std.proofs.Common.{◌≡◌, ℕ, ℤ, ◌<◌, ◌≤◌, ◌*◌, ◌^◌, true, Option, Some, None, is_some, Result, Ok, Err}
+use Rattle.std.proofs.Common.{List, [], ◌∷◌, ◌++◌, length, map, take, drop, refl, sym, ap, ap₂, subst, ◌∙◌, arith, true≢false, length-append}
 use Rattle.std.specs.Prelude.{sum_by, slice_index}
 use Rattle.std.specs.List.{take-map, drop-map}
 use Rattle.std.specs.FinSet as set
@@ -31,7 +32,7 @@ use Rattle.esc_events.specs.Stands.{HaveBodies, AreBooks, StandsFor, IsApart, de
 use Rattle.esc_events.specs.Works.{chain_cost, IsWorkOf, MentionsFew}
 use Rattle.esc_events.proofs.FrontLemmas.{same_front}
 use Rattle.esc_events.proofs.Lost.{counted_before}
-use Rattle.esc_events.proofs.MovingLemmas.{Each, each_of, are_of, same_maps, same_deposits, first_step, accepted_first, contains_held, have_bodies, held_within, front_of_same, no_move}
+use Rattle.esc_events.proofs.MovingLemmas.{Each, each_of, are_of, same_maps, same_deposits, first_step, accepted_first, contains_held, have_bodies, true_of, held_within, front_of_same, no_move}
 
 module _ (few : MentionsFew) where
   few_of : (body : List ℕ) (told : Result DepositValue ℕ) → reading body ≡ told → mention_count (or_no_deposit told) ≤ 100_000
@@ -46,12 +47,10 @@ module _ (few : MentionsFew) where
   few_sum bodies [] = omega arith
   few_sum bodies (r ∷ rows) = omega (arith, sum_by-cons mention_count (deposit_of reading (bodies r)) (deposits_of reading bodies rows), few_in (bodies r), few_sum bodies rows)
 
-  few_writes : (f g : ℕ → Option (List ℕ)) (old new : List ℕ) → length old ≤ 4096 → length new ≤ 4096 → sum_by mention_count (deposits_of reading f old ++ deposits_of reading g new) < 2 ^ 64
-  few_writes f g old new few_old few_new = omega (arith, sum_by-append mention_count (deposits_of reading f old) (deposits_of reading g new), few_sum f old, few_sum g new, few_old, few_new)
-
-true_of : (b : Bool) → IsTrue b → b ≡ true
-true_of true is = refl
-true_of false is = is
+  few_writes : (f g : ℕ → Option (List ℕ)) (old new : List ℕ) → length old ≤ 4096 → length new ≤ 4096
+      → sum_by mention_count (deposits_of reading f old ++ deposits_of reading g new) < 2 ^ 64
+  few_writes f g old new few_old few_new =
+      omega (arith, sum_by-append mention_count (deposits_of reading f old) (deposits_of reading g new), few_sum f old, few_sum g new, few_old, few_new)
 
 -- no two different bodies of the longer list have the same digest, and so of the shorter one
 pub apart_before : (e : List EventValue) (x : EventValue) → IsApart sha256 reading (e ++ x ∷ []) → IsApart sha256 reading e
@@ -85,12 +84,13 @@ stands_still e f k l stood books rows bodies moment steps registry = record {
 cost_of_same : (e f : List EventValue) (rows : List ℕ) → union f ≡ union e → chain_cost e f rows rows ≡ no_work
 cost_of_same e f rows same =
     let steps = map (step_at (union e)) rows in
-    let with_it = held_body sha256 reading f in
+    let deposits : List DepositValue = deposits_of reading (held_body sha256 reading e) rows in
+    let past_front : ℕ → List DepositValue = λ n. deposits_of reading (held_body sha256 reading f) (drop n rows) in
     let front : common_front steps steps ≡ length rows = front_of_same steps ∙ length-map rows (step_at (union e)) in
     let past : drop (common_front steps steps) rows ≡ [] = drop_all (common_front steps steps) rows (omega (arith, front)) in
-    ap (λ (m : List MRow). cost (deposits_of reading (held_body sha256 reading e) rows) steps (map (step_at m) rows) (deposits_of reading with_it (drop (common_front steps (map (step_at m) rows)) rows))) same
-    ∙ ap (λ (rest : List ℕ). cost (deposits_of reading (held_body sha256 reading e) rows) steps steps (deposits_of reading with_it rest)) past
-    ∙ no_move steps (deposits_of reading (held_body sha256 reading e) rows) (length-map rows (λ r. deposit_of reading (held_body sha256 reading e r)) ∙ sym (length-map rows (step_at (union e))))
+    ap (λ (m : List MRow). cost deposits steps (map (step_at m) rows) (past_front (common_front steps (map (step_at m) rows)))) same
+    ∙ ap (λ (rest : List ℕ). cost deposits steps steps (deposits_of reading (held_body sha256 reading f) rest)) past
+    ∙ no_move steps deposits (length-map rows (λ r. deposit_of reading (held_body sha256 reading e r)) ∙ sym (length-map rows (step_at (union e))))
 
 -- a chain that stays is no work
 pub no_work_of : (e : List EventValue) (x : EventValue) (k l : Kept) → StandsFor sha256 reading e k → StandsFor sha256 reading (e ++ x ∷ []) l
@@ -120,7 +120,8 @@ moved_from e k bodies plan stood planned = record {
 -- the chain moves by a plan: k stands for the events e, l has the books of e and one more event,
 -- but k's chain; the rows that l lists begin with those of k, and the bodies that k holds are held
 -- by l
-module _ (law : LatestChainsAtAreHeldRows) (e : List EventValue) (x : EventValue) (k l : Kept) (stood : StandsFor sha256 reading e k) (books : AreBooks sha256 reading (e ++ x ∷ []) l)
+module _ (law : LatestChainsAtAreHeldRows) (e : List EventValue) (x : EventValue) (k l : Kept)
+    (stood : StandsFor sha256 reading e k) (books : AreBooks sha256 reading (e ++ x ∷ []) l)
     (more : List MRow) (begins : l.listed ≡ k.listed ++ more) (keeps : (r : ℕ) (body : List ℕ) → k.bodies r ≡ Some body → l.bodies r ≡ Some body)
     (rows : List ℕ) (held : AreHeld l.bodies rows) (bodies : ℕ → Option (List ℕ)) (same : (r : ℕ) → bodies r ≡ l.bodies r)
     (plan : Plan) (latest : AreLatestSteps l.listed rows l.moment plan.new.items) (planned : IsPlanned k bodies plan) where
@@ -168,14 +169,21 @@ module _ (law : LatestChainsAtAreHeldRows) (e : List EventValue) (x : EventValue
       one r there = let some = some_of r there in ap (deposit_of reading) (some.1 ∙ sym (keeps r some.0 some.1))
 
   new_deposits : plan.deposits.items ≡ deposits_of reading l.bodies (drop front after)
-  new_deposits = planned.deposits ∙ same_deposits bodies l.bodies same (rows_in (drop front plan.new.items)) ∙ ap (deposits_of reading l.bodies) (sym (drop-map (λ (s : Step). s.row) front plan.new.items))
+  new_deposits =
+      planned.deposits
+      ∙ same_deposits bodies l.bodies same (rows_in (drop front plan.new.items))
+      ∙ ap (deposits_of reading l.bodies) (sym (drop-map (λ (s : Step). s.row) front plan.new.items))
 
   -- the deposits of the old chain up to the common front, and the plan's, are those of the new
   -- chain
   deposits_are : take front (deposits_of reading k.bodies k.steps) ++ plan.deposits.items ≡ deposits_of reading l.bodies after
   deposits_are =
       let fronts : front ≡ common_front (map (step_at l.listed) k.steps) (map (step_at l.listed) after) = ap₂ common_front (planned.old ∙ same_steps) latest.are_steps in
-      let rows_same : take front k.steps ≡ take front after = subst (λ (n : ℕ). take n k.steps ≡ take n after) (sym fronts) (same_front l.listed latest.accepted k.steps after (are_of l.listed k.steps (each_of (λ r. r < length l.listed) k.steps old_in_range)) (are_of l.listed after (each_of (λ r. r < length l.listed) after new_rows.in_range))) in
+      let old_within = each_of (λ r. r < length l.listed) k.steps old_in_range in
+      let new_within = each_of (λ r. r < length l.listed) after new_rows.in_range in
+      let rows_same : take front k.steps ≡ take front after =
+      subst (λ (n : ℕ). take n k.steps ≡ take n after) (sym fronts)
+      (same_front l.listed latest.accepted k.steps after (are_of l.listed k.steps old_within) (are_of l.listed after new_within)) in
       let g : ℕ → DepositValue = λ r. deposit_of reading (l.bodies r) in
       let first : take front (deposits_of reading k.bodies k.steps) ≡ map g (take front after) =
       ap (λ (ds : List DepositValue). take front ds) (same_maps (λ r. deposit_of reading (k.bodies r)) g k.steps kept) ∙ take-map g front k.steps ∙ ap (map g) rows_same in
@@ -201,13 +209,16 @@ module _ (law : LatestChainsAtAreHeldRows) (e : List EventValue) (x : EventValue
     registry = ap chain_state deposits_are;
   }
 
-  few_moved : MentionsFew → length plan.old.items ≤ 4096 → length plan.new.items ≤ 4096 → sum_by mention_count (deposits_of reading k.bodies k.steps ++ plan.deposits.items) < 2 ^ 64
+  few_moved : MentionsFew → length plan.old.items ≤ 4096 → length plan.new.items ≤ 4096
+      → sum_by mention_count (deposits_of reading k.bodies k.steps ++ plan.deposits.items) < 2 ^ 64
   few_moved few few_old few_new =
       let olds : length k.steps ≤ 4096 = omega (arith, few_old, ap length planned.old, length-map k.steps (step_at k.listed)) in
       let news : length (drop front after) ≤ 4096 = omega (arith, few_new, length-drop front after, length-map plan.new.items (λ (s : Step). s.row)) in
-      subst (λ (ds : List DepositValue). sum_by mention_count (deposits_of reading k.bodies k.steps ++ ds) < 2 ^ 64) (sym new_deposits) (few_writes few k.bodies l.bodies k.steps (drop front after) olds news)
+      subst (λ (ds : List DepositValue). sum_by mention_count (deposits_of reading k.bodies k.steps ++ ds) < 2 ^ 64) (sym new_deposits)
+      (few_writes few k.bodies l.bodies k.steps (drop front after) olds news)
 
-  move_cost : IsApart sha256 reading (e ++ x ∷ []) → cost (deposits_of reading k.bodies k.steps) plan.old.items plan.new.items plan.deposits.items ≡ chain_cost e (e ++ x ∷ []) k.steps after
+  move_cost : IsApart sha256 reading (e ++ x ∷ [])
+      → cost (deposits_of reading k.bodies k.steps) plan.old.items plan.new.items plan.deposits.items ≡ chain_cost e (e ++ x ∷ []) k.steps after
   move_cost apart =
       let was = held_body sha256 reading e in
       let now = held_body sha256 reading (e ++ x ∷ []) in
@@ -218,7 +229,8 @@ module _ (law : LatestChainsAtAreHeldRows) (e : List EventValue) (x : EventValue
       ap₂ (λ (c ds : List DepositValue). cost c plan.old.items plan.new.items ds) before past
       ∙ ap₂ (λ (a b : List Step). cost (deposits_of reading was k.steps) a b (deposits_of reading now (drop (common_front a b) after))) old_are new_are
 
-  pub works_moved : MentionsFew → length plan.old.items ≤ 4096 → length plan.new.items ≤ 4096 → (work : Work) → IsCostOfMove plan (deposits_of reading k.bodies k.steps) work → IsWorkOf e x work
+  pub works_moved : MentionsFew → length plan.old.items ≤ 4096 → length plan.new.items ≤ 4096
+      → (work : Work) → IsCostOfMove plan (deposits_of reading k.bodies k.steps) work → IsWorkOf e x work
   works_moved few few_old few_new work cost apart = record {
     before = k.steps;
     after = after;

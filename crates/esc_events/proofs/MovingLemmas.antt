@@ -1,15 +1,15 @@
 -- The rows that are held, the first rows of a longer manifest, and a chain that stays.
-use Rattle.std.proofs.Common.{◌≡◌, inl, inr, ℕ, suc, ◌+◌, ◌-◌, ◌<◌, ◌≤◌, Bool, true, false, cond, ◌&&◌, ◌||◌, ◌==◌, List, [], ◌∷◌, ◌++◌, length, map, drop, Option, Some, None, is_some, IsSome, IfSome, IsTrue, Result, Ok, Err, refl, sym, ap, ap₂, subst, subst₂, ◌∙◌, arith, true≢false, length-append}
+use Rattle.std.proofs.Common.{◌≡◌, inl, inr, ℕ, suc, ◌+◌, ◌-◌, ◌<◌, ◌≤◌, Bool, true, false, cond, ◌&&◌, ◌||◌, ◌==◌}
+use Rattle.std.proofs.Common.{List, [], ◌∷◌, ◌++◌, length, map, drop, Option, Some, is_some, IsSome, IfSome, IsTrue, Result}
+use Rattle.std.proofs.Common.{refl, sym, ap, ap₂, subst, subst₂, ◌∙◌, arith, length-append}
 use Rattle.std.specs.Prelude.{◌<ℤ◌, sum_by, nat_lt, slice_index}
 use Rattle.std.specs.List.{list_any, find, prefix_len, zip}
 use Rattle.std.specs.FinSet as set
 use Rattle.std.specs.Ordering.{nat_cmp, eq_by_cmp}
 use Rattle.std.specs.Cmp.{nat_cmp_total, eq_by_cmp_equiv}
-use Rattle.std.specs.Str.{bytes_eq}
 use Rattle.std.proofs.lemmas.Bool.Decides.{nat_tests, Decides-int_eq}
 use Rattle.std.proofs.lemmas.List.{drop_all, get_or_append_left}
 use Rattle.std.proofs.lemmas.List.Folds.{length-prefix_len}
-use Rattle.std.proofs.lemmas.List.Quantifiers.{position-Some}
 use Rattle.std.proofs.lemmas.Map.Views.{list_any-from_Contains, Contains-from_any}
 use Rattle.esc_envelope.specs.Id.{is_id}
 use Rattle.esc_envelope.specs.Place.{rank}
@@ -25,14 +25,14 @@ use Rattle.esc_apply.specs.Tables.{mention_count}
 use Rattle.esc_apply.specs.Front.{same_step, common_front}
 use Rattle.esc_apply.specs.Moves.{is_cleared, undone_of, work_of, cost}
 use Rattle.esc_store.specs.Kept.{AreHeld, step_at}
-use Rattle.esc_events.specs.declared.finding.Finding.TheVariants.{Differing, Holding}
 use Rattle.esc_events.specs.Events.{EventValue, Coming, union, comings_after}
 use Rattle.esc_events.specs.Events.EventValue.{listed, arrived, moved, arrived_early}
-use Rattle.esc_events.specs.Finding.{finding, found_at, row_of, held_row}
-use Rattle.esc_events.specs.Receipts.{is_row}
 use Rattle.esc_events.specs.Works.{no_work}
-use Rattle.esc_events.specs.Stands.{Among, HaveBodies, with_some, rows_of, holds_by, body_of, counted, held_rows, held_body, deposit_of, deposits_of}
+use Rattle.esc_events.specs.Stands.{Among, HaveBodies, holds_by, body_of, counted, held_rows, held_body, deposit_of, deposits_of}
+use Rattle.esc_events.proofs.AmendingLemmas.{same_bool, row_held}
 use Rattle.esc_events.proofs.FrontLemmas.{AreOf}
+use Rattle.esc_events.proofs.HeldRows as rows
+use Rattle.esc_events.proofs.HeldRows.{same_self, exact}
 
 -- ---- each row of a list
 abbrev pub Each : (ℕ → Type 0) → List ℕ → Type 0
@@ -90,7 +90,8 @@ module _ (m more : List MRow) where
     one_place = λ q r q_in r_in id. ap (λ (row : MRow). row.header.place) (sym (first_row q q_in))
         ∙ all.one_place q r (still_there q q_in) (still_there r r_in) (ap (λ (row : MRow). row.header.id) (first_row q q_in) ∙ id ∙ ap (λ (row : MRow). row.header.id) (sym (first_row r r_in)))
         ∙ ap (λ (row : MRow). row.header.place) (first_row r r_in);
-    has_prev = λ r r_in kind. subst (λ (row : MRow). IsSome row.header.prev) (first_row r r_in) (all.has_prev r (still_there r r_in) (ap (λ (row : MRow). row.header.place.kind) (first_row r r_in) ∙ kind));
+    has_prev = λ r r_in kind. subst (λ (row : MRow). IsSome row.header.prev) (first_row r r_in)
+        (all.has_prev r (still_there r r_in) (ap (λ (row : MRow). row.header.place.kind) (first_row r r_in) ∙ kind));
     prev_earlier = λ q r q_in r_in kind prev. subst₂ (λ (a b : MRow). a.header.place.watermark <ℤ b.header.place.watermark) (first_row q q_in) (first_row r r_in)
         (all.prev_earlier q r (still_there q q_in) (still_there r r_in) (ap (λ (row : MRow). row.header.place.kind) (first_row r r_in) ∙ kind)
         (ap (λ (row : MRow). row.header.prev) (first_row r r_in) ∙ prev ∙ ap (λ (row : MRow). Some row.header.id) (sym (first_row q q_in))));
@@ -99,24 +100,6 @@ module _ (m more : List MRow) where
   }
 
 -- ---- the rows that are held
-
-same_test : (q r : ℕ) → eq_by_cmp nat_cmp r q ≡ (q == r)
-same_test q r = grind (arith, nat_tests)
-
-same_self : (q : ℕ) → (q == q) ≡ true
-same_self q = grind (arith, nat_tests)
-
-same_number : (r q : ℕ) → (r == q) ≡ true → r ≡ q
-same_number r q is = grind (arith, nat_tests, is)
-
-exact : (x y : ℕ) → eq_by_cmp nat_cmp x y ≡ true → x ≡ y
-exact x y e = sym (same_number y x (sym (same_test y x) ∙ e))
-
-same_bool : (a b : Bool) → (a ≡ true → b ≡ true) → (b ≡ true → a ≡ true) → a ≡ b
-same_bool true true f g = refl
-same_bool true false f g = absurd (true≢false (sym (f refl)))
-same_bool false true f g = absurd (true≢false (sym (g refl)))
-same_bool false false f g = refl
 
 -- there is a first one that passes exactly if one passes
 any_found : (p : Coming → Bool) (l : List Coming) → list_any p l ≡ is_some (body_of (find p l))
@@ -128,45 +111,27 @@ any_found p (c ∷ l) = by_test (p c) (any_found p l)
     by_test false rest = rest
 
 module _ (digest : List ℕ → List ℕ) (reads : List ℕ → Result DepositValue ℕ) where
-  any_row : (m : List MRow) (l : List Coming) (r : ℕ) → list_any (λ q. eq_by_cmp nat_cmp r q) (rows_of digest reads m l) ≡ list_any (holds_by digest reads m r) l
-  any_row m [] r = refl
-  any_row m (c ∷ l) r = one (held_row (finding digest reads m c.body)) ∙ ap (λ b. is_row r (held_row (finding digest reads m c.body)) || b) (any_row m l r)
-    where
-      one : (row : Option ℕ) → list_any (λ q. eq_by_cmp nat_cmp r q) (with_some row (rows_of digest reads m l)) ≡ (is_row r row || list_any (λ q. eq_by_cmp nat_cmp r q) (rows_of digest reads m l))
-      one None = refl
-      one (Some q) = ap (λ b. b || list_any (λ q. eq_by_cmp nat_cmp r q) (rows_of digest reads m l)) (same_test q r)
-
   -- a row is held exactly if there is a body of it
   pub contains_held : (e : List EventValue) (r : ℕ) → set.contains (held_rows digest reads e) r ≡ is_some (held_body digest reads e r)
-  contains_held e r = set.contains-from_list nat_cmp_total (rows_of digest reads (union e) (counted digest reads e)) r ∙ any_row (union e) (counted digest reads e) r ∙ any_found (holds_by digest reads (union e) r) (counted digest reads e)
+  contains_held e r = rows.contains_held digest reads (union e) (counted digest reads e) r ∙ any_found (holds_by digest reads (union e) r) (counted digest reads e)
+
+pub true_of : (b : Bool) → IsTrue b → b ≡ true
+true_of true is = refl
+true_of false is = is
 
 -- rising rows that are held have bodies
 pub have_bodies : (bodies : ℕ → Option (List ℕ)) (rows : List ℕ) → AreHeld bodies rows → HaveBodies bodies (set.from_list rows)
 have_bodies bodies rows held r = set.contains-from_list nat_cmp_total rows r ∙ same_bool _ _ there back
   where
-    true_of : (b : Bool) → IsTrue b → b ≡ true
-    true_of true is = refl
-    true_of false is = is
-
     there : list_any (eq_by_cmp nat_cmp r) rows ≡ true → is_some (bodies r) ≡ true
     there any = true_of _ ((held.each r).0 (Contains-from_any exact r rows any))
 
     back : is_some (bodies r) ≡ true → list_any (eq_by_cmp nat_cmp r) rows ≡ true
     back some = list_any-from_Contains (eq_by_cmp_equiv nat_cmp_total) r rows ((held.each r).1 (subst IsTrue (sym some) refl))
 
--- a body that holds row r has the digest of that row
-row_found : (m : List MRow) (r : ℕ) (row : Option ℕ) (told : Result DepositValue ℕ) → is_row r (held_row (found_at m row told)) ≡ true → row ≡ Some r
-row_found m r None told is = absurd (true≢false (sym is))
-row_found m r (Some q) (Err n) is = absurd (true≢false (sym is))
-row_found m r (Some q) (Ok d) is = by_test _ is
-  where
-    by_test : (t : Bool) → is_row r (held_row (cond t (Holding q d) (Differing q))) ≡ true → Some q ≡ Some r
-    by_test true same = ap Some (same_number q r same)
-    by_test false none = absurd (true≢false (sym none))
-
--- and that row is the manifest's
+-- a row that a body holds is the manifest's
 pub held_within : (digest : List ℕ → List ℕ) (reads : List ℕ → Result DepositValue ℕ) (m : List MRow) (r : ℕ) (c : Coming) → holds_by digest reads m r c ≡ true → r < length m
-held_within digest reads m r c is = (position-Some (λ (row : MRow). bytes_eq row.digest (digest c.body)) m r no_row (row_found m r (row_of m (digest c.body)) (reads c.body) is)).0
+held_within digest reads m r c is = (row_held digest reads m r c is).0
 
 -- ---- a chain that stays is no work
 
@@ -207,4 +172,6 @@ nothing_done n c same =
     λ i. record { cleared = cleared i; undone = undone i; applied = applied i; writes = writes i }
 
 pub no_move : (steps : List Step) (c : List DepositValue) → length c ≡ length steps → cost c steps steps [] ≡ no_work
-no_move steps c same = ap (λ (f : ℕ). work_of (length steps) f (length steps - f) (sum_by mention_count (undone_of c f) + 0)) (front_of_same steps) ∙ nothing_done (length steps) c same
+no_move steps c same =
+    ap (λ (f : ℕ). work_of (length steps) f (length steps - f) (sum_by mention_count (undone_of c f) + 0)) (front_of_same steps)
+    ∙ nothing_done (length steps) c same

@@ -1,5 +1,6 @@
 -- One more arrival: the receipts, the reply, and the books of a store.
-use Rattle.std.proofs.Common.{◌≡◌, ◌⊎◌, inl, inr, ℕ, ◌+◌, Bool, true, false, cond, ◌||◌, List, [], ◌∷◌, ◌++◌, length, Option, Some, None, IsSome, is_some, Result, refl, sym, ap, ap₂, subst, ◌∙◌, true≢false}
+use Rattle.std.proofs.Common.{◌≡◌, ◌⊎◌, inl, inr, ℕ, ◌+◌, Bool, true, false, cond, ◌||◌, List, [], ◌∷◌, ◌++◌, length}
+use Rattle.std.proofs.Common.{Option, Some, None, IsSome, is_some, Result, refl, sym, ap, ap₂, subst, ◌∙◌, true≢false}
 use Rattle.std.specs.List.{list_any, find, Any}
 use Rattle.std.specs.Str.{bytes_eq}
 use Rattle.std.specs.Cmp.Lexicographic.{bytes_decides}
@@ -23,7 +24,8 @@ use Rattle.esc_events.proofs.Members.{any_of, among-front, among-last, distinct_
 
 module _ (digest : List ℕ → List ℕ) (reads : List ℕ → Result DepositValue ℕ) where
   -- whether an arrival of the list is a duplicate of this one, by the receipts
-  pub any_kept : (l : List Coming) (c : Coming) → list_any (alike digest reads c) l ≡ list_any (is_alike c.number (digest c.body)) (receipts_after digest reads [] (distinct digest reads l))
+  pub any_kept : (l : List Coming) (c : Coming)
+      → list_any (alike digest reads c) l ≡ list_any (is_alike c.number (digest c.body)) (receipts_after digest reads [] (distinct digest reads l))
   any_kept l c = any_alike digest reads l c ∙ sym (kept_any digest reads [] (distinct digest reads l) c)
 
   -- what came for a row or with a digest by some events did so by others, where the same rows are
@@ -40,6 +42,14 @@ module _ (digest : List ℕ → List ℕ) (reads : List ℕ → Result DepositVa
     pub with_by : (d body : List ℕ) → CameWith digest reads e d body → CameWith digest reads f d body
     with_by d body c = record { arrival = c.arrival; among = stay c.arrival c.among; digest_is = c.digest_is; is_body = c.is_body }
 
+  -- a body of a row was there before, or is that of this arrival, which holds the row; and the same
+  -- of a body that is parked under a digest
+  abbrev pub OldOrHolds : List EventValue → Kept → ArrivalValue → ℕ → List ℕ → Type 0
+  OldOrHolds e k a r body = (k.bodies r ≡ Some body) ⊎ ((holds_by digest reads (union e) r (coming (union e) a) ≡ true) × (a.body ≡ body))
+
+  abbrev pub OldOrHas : Kept → ArrivalValue → List ℕ → List ℕ → Type 0
+  OldOrHas k a d body = (k.parked d ≡ Some body) ⊎ ((digest a.body ≡ d) × (a.body ≡ body))
+
   module _ (e : List EventValue) (k : Kept) (a : ArrivalValue) (books : AreBooks digest reads e k) where
     abbrev came : Coming
     came = coming (union e) a
@@ -54,11 +64,22 @@ module _ (digest : List ℕ → List ℕ) (reads : List ℕ → Result DepositVa
     abbrev after : List Coming
     after = distinct digest reads (comings then)
 
+    -- the arrivals before that count; and whether one holds a row, or has a digest
+    abbrev counts : List Coming
+    counts = counted digest reads e
+
+    abbrev holding : ℕ → Coming → Bool
+    holding r = holds_by digest reads (union e) r
+
+    abbrev under : List ℕ → Coming → Bool
+    under d = has_digest digest reads d
+
     pushed : after ≡ cond (list_any (is_alike a.number (digest a.body)) k.receipts) before (before ++ came ∷ [])
     pushed =
         ap (distinct digest reads) (comings-arrived e a)
         ∙ distinct-push digest reads (comings e) came
-        ∙ ap (λ b. cond b before (before ++ came ∷ [])) (any_kept (comings e) came ∙ ap (list_any (is_alike a.number (digest a.body))) (sym books.receipts))
+        ∙ ap (λ b. cond b before (before ++ came ∷ []))
+        (any_kept (comings e) came ∙ ap (list_any (is_alike a.number (digest a.body))) (sym books.receipts))
 
     -- the reply by receipts
     reply_by : (rs : List ReceiptValue) → receipts_of digest reads then ≡ rs → reply_to digest reads then a ≡ reply_alike (union e) 1 a.number (digest a.body) rs
@@ -66,62 +87,64 @@ module _ (digest : List ℕ → List ℕ) (reads : List ℕ → Result DepositVa
 
     -- ---- bodies, where no two different ones have the same digest
 
-    earlier : (c : Coming) → Among (counted digest reads e) c → Among (counted digest reads then) c
-    earlier c there = subst (λ (l : List Coming). Among l c) (sym (counted-arrived digest reads e a)) (among-front (counted digest reads e) (came ∷ []) c there)
+    earlier : (c : Coming) → Among counts c → Among (counted digest reads then) c
+    earlier c there = subst (λ (l : List Coming). Among l c) (sym (counted-arrived digest reads e a)) (among-front counts (came ∷ []) c there)
 
     last : Among (counted digest reads then) came
-    last = subst (λ (l : List Coming). Among l came) (sym (counted-arrived digest reads e a)) (among-last (counted digest reads e) came)
+    last = subst (λ (l : List Coming). Among l came) (sym (counted-arrived digest reads e a)) (among-last counts came)
 
     pub apart-arrived : IsApart digest reads then → IsApart digest reads e
     apart-arrived apart b c first second same = apart b c (earlier b first) (earlier c second) same
 
     module _ (apart : IsApart digest reads then) where
-      held_then : (r : ℕ) → held_body digest reads then r ≡ body_of (find (holds_by digest reads (union e) r) (counted digest reads e ++ came ∷ []))
+      held_then : (r : ℕ) → held_body digest reads then r ≡ body_of (find (holding r) (counts ++ came ∷ []))
       held_then r = ap₂ (λ (m : List MRow) (l : List Coming). body_of (find (holds_by digest reads m r) l)) (union-arrived e a) (counted-arrived digest reads e a)
 
-      parked_then : (d : List ℕ) → parked_body digest reads then d ≡ cond (is_some (row_of (union e) d)) None (body_of (find (has_digest digest reads d) (counted digest reads e ++ came ∷ [])))
-      parked_then d = ap₂ (λ (m : List MRow) (l : List Coming). cond (is_some (row_of m d)) None (body_of (find (has_digest digest reads d) l))) (union-arrived e a) (counted-arrived digest reads e a)
+      parked_then : (d : List ℕ) → parked_body digest reads then d ≡ cond (is_some (row_of (union e) d)) None (body_of (find (under d) (counts ++ came ∷ [])))
+      parked_then d = ap₂ (λ (m : List MRow) (l : List Coming). cond (is_some (row_of m d)) None (body_of (find (under d) l))) (union-arrived e a) (counted-arrived digest reads e a)
 
-      held_now : (r : ℕ) → k.bodies r ≡ body_of (find (holds_by digest reads (union e) r) (counted digest reads e))
+      held_now : (r : ℕ) → k.bodies r ≡ body_of (find (holding r) counts)
       held_now r = books.bodies (apart-arrived apart) r
 
-      parked_now : (d : List ℕ) → is_some (row_of (union e) d) ≡ false → k.parked d ≡ body_of (find (has_digest digest reads d) (counted digest reads e))
-      parked_now d unlisted = books.parked (apart-arrived apart) d ∙ ap (λ b. cond b None (body_of (find (has_digest digest reads d) (counted digest reads e)))) unlisted
+      parked_now : (d : List ℕ) → is_some (row_of (union e) d) ≡ false → k.parked d ≡ body_of (find (under d) counts)
+      parked_now d unlisted = books.parked (apart-arrived apart) d ∙ ap (λ b. cond b None (body_of (find (under d) counts))) unlisted
 
       -- a row keeps its body, unless this arrival is the first that holds it
-      pub old_body : (r : ℕ) → (holds_by digest reads (union e) r came ≡ true → IsSome (k.bodies r)) → k.bodies r ≡ held_body digest reads then r
+      pub old_body : (r : ℕ) → (holding r came ≡ true → IsSome (k.bodies r)) → k.bodies r ≡ held_body digest reads then r
       old_body r old =
           held_now r
-          ∙ ap body_of (sym (find-push-old (holds_by digest reads (union e) r) (counted digest reads e) came (λ h. some_any (holds_by digest reads (union e) r) (counted digest reads e) (sym (ap is_some (held_now r)) ∙ old h))))
+          ∙ ap body_of (sym (find-push-old (holding r) counts came (λ h. some_any (holding r) counts (sym (ap is_some (held_now r)) ∙ old h))))
           ∙ sym (held_then r)
 
-      pub new_body : (r : ℕ) → k.bodies r ≡ None → holds_by digest reads (union e) r came ≡ true → Some a.body ≡ held_body digest reads then r
+      pub new_body : (r : ℕ) → k.bodies r ≡ None → holding r came ≡ true → Some a.body ≡ held_body digest reads then r
       new_body r none holds =
-          ap body_of (sym (find-push-new (holds_by digest reads (union e) r) (counted digest reads e) came (no_first (holds_by digest reads (union e) r) (counted digest reads e) (sym (held_now r) ∙ none)) holds))
+          ap body_of (sym (find-push-new (holding r) counts came (no_first (holding r) counts (sym (held_now r) ∙ none)) holds))
           ∙ sym (held_then r)
 
       -- so is the body that is parked under a digest
       pub old_parked : (d : List ℕ) → (digest a.body ≡ d → is_some (row_of (union e) d) ≡ false → IsSome (k.parked d)) → k.parked d ≡ parked_body digest reads then d
       old_parked d old = books.parked (apart-arrived apart) d ∙ by_row (is_some (row_of (union e) d)) refl ∙ sym (parked_then d)
         where
-          by_row : (b : Bool) → is_some (row_of (union e) d) ≡ b → cond b None (body_of (find (has_digest digest reads d) (counted digest reads e))) ≡ cond b None (body_of (find (has_digest digest reads d) (counted digest reads e ++ came ∷ [])))
+          by_row : (b : Bool) → is_some (row_of (union e) d) ≡ b
+              → cond b None (body_of (find (under d) counts)) ≡ cond b None (body_of (find (under d) (counts ++ came ∷ [])))
           by_row true is = refl
           by_row false is =
-              ap body_of (sym (find-push-old (has_digest digest reads d) (counted digest reads e) came
-              (λ h. some_any (has_digest digest reads d) (counted digest reads e) (sym (ap is_some (parked_now d is)) ∙ old ((bytes_decides (digest a.body) d).0 h) is))))
+              ap body_of (sym (find-push-old (under d) counts came
+              (λ h. some_any (under d) counts (sym (ap is_some (parked_now d is)) ∙ old ((bytes_decides (digest a.body) d).0 h) is))))
 
       pub new_parked : (d : List ℕ) → digest a.body ≡ d → row_of (union e) d ≡ None → k.parked d ≡ None → Some a.body ≡ parked_body digest reads then d
       new_parked d same unlisted none =
-          ap body_of (sym (find-push-new (has_digest digest reads d) (counted digest reads e) came (no_first (has_digest digest reads d) (counted digest reads e) (sym (parked_now d (ap is_some unlisted)) ∙ none)) ((bytes_decides (digest a.body) d).1 same)))
-          ∙ sym (parked_then d ∙ ap (λ (o : Option ℕ). cond (is_some o) None (body_of (find (has_digest digest reads d) (counted digest reads e ++ came ∷ [])))) unlisted)
+          let no_old = no_first (under d) counts (sym (parked_now d (ap is_some unlisted)) ∙ none) in
+          ap body_of (sym (find-push-new (under d) counts came no_old ((bytes_decides (digest a.body) d).1 same)))
+          ∙ sym (parked_then d ∙ ap (λ (o : Option ℕ). cond (is_some o) None (body_of (find (under d) (counts ++ came ∷ [])))) unlisted)
 
     -- ---- what came for a row or with a digest: it was there before, or is this arrival's
 
-    came_for : (r : ℕ) (body : List ℕ) → (k.bodies r ≡ Some body) ⊎ ((holds_by digest reads (union e) r came ≡ true) × (a.body ≡ body)) → CameFor digest reads then r body
+    came_for : (r : ℕ) (body : List ℕ) → OldOrHolds e k a r body → CameFor digest reads then r body
     came_for r body (inl old) = came_by e then (union-arrived e a) earlier r body (books.came r body old)
     came_for r body (inr new) = record { arrival = came; among = last; holds = ap (λ (m : List MRow). holds_by digest reads m r came) (union-arrived e a) ∙ new.0; is_body = new.1 }
 
-    came_with : (d body : List ℕ) → (k.parked d ≡ Some body) ⊎ ((digest a.body ≡ d) × (a.body ≡ body)) → CameWith digest reads then d body
+    came_with : (d body : List ℕ) → OldOrHas k a d body → CameWith digest reads then d body
     came_with d body (inl old) = with_by e then (union-arrived e a) earlier d body (books.waits d body old)
     came_with d body (inr new) = record { arrival = came; among = last; digest_is = new.0; is_body = new.1 }
 
@@ -138,8 +161,8 @@ module _ (digest : List ℕ → List ℕ) (reads : List ℕ → Result DepositVa
       pub books_again : (bodies : ℕ → Option (List ℕ)) (parked : List ℕ → Option (List ℕ))
           → (IsApart digest reads then → (r : ℕ) → bodies r ≡ held_body digest reads then r)
           → (IsApart digest reads then → (d : List ℕ) → parked d ≡ parked_body digest reads then d)
-          → ((r : ℕ) (body : List ℕ) → bodies r ≡ Some body → (k.bodies r ≡ Some body) ⊎ ((holds_by digest reads (union e) r came ≡ true) × (a.body ≡ body)))
-          → ((d body : List ℕ) → parked d ≡ Some body → (k.parked d ≡ Some body) ⊎ ((digest a.body ≡ d) × (a.body ≡ body)))
+          → ((r : ℕ) (body : List ℕ) → bodies r ≡ Some body → OldOrHolds e k a r body)
+          → ((d body : List ℕ) → parked d ≡ Some body → OldOrHas k a d body)
           → ((r : ℕ) → IsSome (k.bodies r) → IsSome (bodies r))
           → ((r : ℕ) → IsSome (bodies r) → Any (TellsOf (union e) r) k.receipts)
           → ((d : List ℕ) → IsSome (parked d) → Any (TellsUnlisted d) k.receipts)
@@ -158,12 +181,12 @@ module _ (digest : List ℕ → List ℕ) (reads : List ℕ → Result DepositVa
       }
 
       -- an earlier arrival with the same body, unless the reply's verdict is A2
-      same_before : (y.verdict ≡ A2 → ⊥) → IsApart digest reads then → (c : Coming) × Among (counted digest reads e) c × (c.body ≡ a.body)
+      same_before : (y.verdict ≡ A2 → ⊥) → IsApart digest reads then → (c : Coming) × Among counts c × (c.body ≡ a.body)
       same_before other apart =
           let x = alike_counts digest reads (union e) came 1 [] before y (ap (reply_alike (union e) 1 a.number (digest a.body)) (sym books.receipts) ∙ there) other in
-          let counts = came_counts digest reads e x.0 (distinct_among digest reads (comings e) x.0 x.1) x.3 in
+          let it_counts = came_counts digest reads e x.0 (distinct_among digest reads (comings e) x.0 x.1) x.3 in
           let like = both (bytes_eq a.number x.0.number) (bytes_eq (digest a.body) (digest x.0.body)) x.2 in
-          (x.0, counts, apart x.0 came (earlier x.0 counts) last (sym ((bytes_decides (digest a.body) (digest x.0.body)).0 like.1)))
+          (x.0, it_counts, apart x.0 came (earlier x.0 it_counts) last (sym ((bytes_decides (digest a.body) (digest x.0.body)).0 like.1)))
 
       -- then it changes nothing
       pub repeated : (y.verdict ≡ A2 → ⊥) → AreBooks digest reads then k
@@ -177,17 +200,18 @@ module _ (digest : List ℕ → List ℕ) (reads : List ℕ → Result DepositVa
           books.held_told
           books.parked_told
         where
-          held_there : IsApart digest reads then → (r : ℕ) → holds_by digest reads (union e) r came ≡ true → IsSome (k.bodies r)
+          held_there : IsApart digest reads then → (r : ℕ) → holding r came ≡ true → IsSome (k.bodies r)
           held_there apart r holds =
               let x = same_before other apart in
               ap is_some (held_now apart r)
-              ∙ any_some (holds_by digest reads (union e) r) (counted digest reads e) (any_of (holds_by digest reads (union e) r) (counted digest reads e) x.0 x.1 (ap (λ (b : List ℕ). holds_row r (finding digest reads (union e) b)) x.2 ∙ holds))
+              ∙ any_some (holding r) counts
+              (any_of (holding r) counts x.0 x.1 (ap (λ (b : List ℕ). holds_row r (finding digest reads (union e) b)) x.2 ∙ holds))
 
           parked_there : IsApart digest reads then → (d : List ℕ) → digest a.body ≡ d → is_some (row_of (union e) d) ≡ false → IsSome (k.parked d)
           parked_there apart d same unlisted =
               let x = same_before other apart in
               ap is_some (parked_now apart d unlisted)
-              ∙ any_some (has_digest digest reads d) (counted digest reads e) (any_of (has_digest digest reads d) (counted digest reads e) x.0 x.1 ((bytes_decides (digest x.0.body) d).1 (ap digest x.2 ∙ same)))
+              ∙ any_some (under d) counts (any_of (under d) counts x.0 x.1 ((bytes_decides (digest x.0.body) d).1 (ap digest x.2 ∙ same)))
 
       pub repeated_reply : reply_to digest reads then a ≡ Some y
       repeated_reply = reply_by k.receipts (ap (receipts_after digest reads []) no_more ∙ sym books.receipts) ∙ there
@@ -217,11 +241,12 @@ module _ (digest : List ℕ → List ℕ) (reads : List ℕ → Result DepositVa
 
       -- the books with its receipt, where bodies and parked bodies are so then: each was there
       -- before, or is this arrival's; and where this body is parked, the receipt tells of it
-      pub books_with : (receipt : ReceiptValue) → receipt ≡ receipt_for digest reads before came → (bodies : ℕ → Option (List ℕ)) (parked : List ℕ → Option (List ℕ))
+      pub books_with : (receipt : ReceiptValue) → receipt ≡ receipt_for digest reads before came
+          → (bodies : ℕ → Option (List ℕ)) (parked : List ℕ → Option (List ℕ))
           → (IsApart digest reads then → (r : ℕ) → bodies r ≡ held_body digest reads then r)
           → (IsApart digest reads then → (d : List ℕ) → parked d ≡ parked_body digest reads then d)
-          → ((r : ℕ) (body : List ℕ) → bodies r ≡ Some body → (k.bodies r ≡ Some body) ⊎ ((holds_by digest reads (union e) r came ≡ true) × (a.body ≡ body)))
-          → ((d body : List ℕ) → parked d ≡ Some body → (k.parked d ≡ Some body) ⊎ ((digest a.body ≡ d) × (a.body ≡ body)))
+          → ((r : ℕ) (body : List ℕ) → bodies r ≡ Some body → OldOrHolds e k a r body)
+          → ((d body : List ℕ) → parked d ≡ Some body → OldOrHas k a d body)
           → ((r : ℕ) → IsSome (k.bodies r) ⊎ SaysHeld r receipt → IsSome (bodies r))
           → ((d : List ℕ) → IsSome (parked d) → IsSome (k.parked d) ⊎ TellsUnlisted d receipt)
           → AreBooks digest reads then (record (with_receipt k receipt) { bodies = bodies; parked = parked })
@@ -242,11 +267,13 @@ module _ (digest : List ℕ → List ℕ) (reads : List ℕ → Result DepositVa
           by_receipt r (inl old) = tell r (inl (books.told r old))
           by_receipt r (inr new) = tell r (inr new)
 
-          by_source : (r : ℕ) (body : List ℕ) → (k.bodies r ≡ Some body) ⊎ ((holds_by digest reads (union e) r came ≡ true) × (a.body ≡ body)) → Any (TellsOf (union e) r) (k.receipts ++ receipt ∷ [])
+          by_source : (r : ℕ) (body : List ℕ) → OldOrHolds e k a r body → Any (TellsOf (union e) r) (k.receipts ++ receipt ∷ [])
           by_source r body (inl old) = any-front (TellsOf (union e) r) k.receipts receipt (books.held_told r (ap is_some old))
           by_source r body (inr new) =
-              any-last (TellsOf (union e) r) k.receipts receipt
-              (inl (subst (SaysHeld r) (sym is) (says_from_holds r a.number (digest a.body) false (found_then digest reads came) (holds_any digest reads before (held_row (found_then digest reads came))) new.0)))
+              let found = found_then digest reads came in
+              let again = holds_any digest reads before (held_row found) in
+              let says : SaysHeld r receipt = subst (SaysHeld r) (sym is) (says_from_holds r a.number (digest a.body) false found again new.0) in
+              any-last (TellsOf (union e) r) k.receipts receipt (inl says)
 
           by_body : (r : ℕ) (o : Option (List ℕ)) → bodies r ≡ o → IsSome (bodies r) → Any (TellsOf (union e) r) (k.receipts ++ receipt ∷ [])
           by_body r None at some = absurd (true≢false (sym some ∙ ap is_some at))

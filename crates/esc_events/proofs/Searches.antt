@@ -73,38 +73,53 @@ pub find-push-new : {X : Type 0} (p : X → Bool) (xs : List X) (x : X) → find
 find-push-new p xs x none is = find-back p xs (x ∷ []) none ∙ ap (λ b. cond b (Some x) None) is
 
 module _ (m : List MRow) (number digest : List ℕ) where
+  -- a receipt has the number and the digest; and the reply by the first of these that has, where they
+  -- are numbered from n
+  abbrev is_it : ReceiptValue → Bool
+  is_it = is_alike number digest
+
+  abbrev reply_of : ℕ → List ReceiptValue → Option ReplyValue
+  reply_of n rs = reply_alike m n number digest rs
+
   pub none_alike : (n : ℕ) (rs : List ReceiptValue) → reply_alike m n number digest rs ≡ None → list_any (is_alike number digest) rs ≡ false
   none_alike n [] e = refl
-  none_alike n (r ∷ rs) e = by_test (is_alike number digest r) (none_alike (suc n) rs) e
+  none_alike n (r ∷ rs) e = by_test (is_it r) (none_alike (suc n) rs) e
     where
-      by_test : (b : Bool) → (reply_alike m (suc n) number digest rs ≡ None → list_any (is_alike number digest) rs ≡ false) → cond b (Some (reply_kept m n r)) (reply_alike m (suc n) number digest rs) ≡ None → (b || list_any (is_alike number digest) rs) ≡ false
+      by_test : (b : Bool) → (reply_of (suc n) rs ≡ None → list_any is_it rs ≡ false)
+          → cond b (Some (reply_kept m n r)) (reply_of (suc n) rs) ≡ None → (b || list_any is_it rs) ≡ false
       by_test true known e = absurd (cc)
       by_test false known e = known e
 
   pub some_alike : (n : ℕ) (rs : List ReceiptValue) (y : ReplyValue) → reply_alike m n number digest rs ≡ Some y → list_any (is_alike number digest) rs ≡ true
   some_alike n [] y e = absurd (cc)
-  some_alike n (r ∷ rs) y e = by_test (is_alike number digest r) (some_alike (suc n) rs y) e
+  some_alike n (r ∷ rs) y e = by_test (is_it r) (some_alike (suc n) rs y) e
     where
-      by_test : (b : Bool) → (reply_alike m (suc n) number digest rs ≡ Some y → list_any (is_alike number digest) rs ≡ true) → cond b (Some (reply_kept m n r)) (reply_alike m (suc n) number digest rs) ≡ Some y → (b || list_any (is_alike number digest) rs) ≡ true
+      by_test : (b : Bool) → (reply_of (suc n) rs ≡ Some y → list_any is_it rs ≡ true)
+          → cond b (Some (reply_kept m n r)) (reply_of (suc n) rs) ≡ Some y → (b || list_any is_it rs) ≡ true
       by_test true known e = refl
       by_test false known e = known e
 
   pub alike-front : (n : ℕ) (rs more : List ReceiptValue) (y : ReplyValue) → reply_alike m n number digest rs ≡ Some y → reply_alike m n number digest (rs ++ more) ≡ Some y
   alike-front n [] more y e = absurd (cc)
-  alike-front n (r ∷ rs) more y e = by_test (is_alike number digest r) (alike-front (suc n) rs more y) e
+  alike-front n (r ∷ rs) more y e = by_test (is_it r) (alike-front (suc n) rs more y) e
     where
-      by_test : (b : Bool) → (reply_alike m (suc n) number digest rs ≡ Some y → reply_alike m (suc n) number digest (rs ++ more) ≡ Some y) → cond b (Some (reply_kept m n r)) (reply_alike m (suc n) number digest rs) ≡ Some y → cond b (Some (reply_kept m n r)) (reply_alike m (suc n) number digest (rs ++ more)) ≡ Some y
+      by_test : (b : Bool) → (reply_of (suc n) rs ≡ Some y → reply_of (suc n) (rs ++ more) ≡ Some y)
+          → cond b (Some (reply_kept m n r)) (reply_of (suc n) rs) ≡ Some y
+          → cond b (Some (reply_kept m n r)) (reply_of (suc n) (rs ++ more)) ≡ Some y
       by_test true known e = e
       by_test false known e = known e
 
   -- a last receipt with the number and the digest is found, if no receipt before it has them
-  pub alike-last : (n : ℕ) (rs : List ReceiptValue) (r : ReceiptValue) → reply_alike m n number digest rs ≡ None → is_alike number digest r ≡ true → reply_alike m n number digest (rs ++ r ∷ []) ≡ Some (reply_kept m (n + length rs) r)
+  pub alike-last : (n : ℕ) (rs : List ReceiptValue) (r : ReceiptValue) → reply_alike m n number digest rs ≡ None → is_alike number digest r ≡ true
+      → reply_alike m n number digest (rs ++ r ∷ []) ≡ Some (reply_kept m (n + length rs) r)
   alike-last n [] r e is = ap (λ b. cond b (Some (reply_kept m n r)) None) is ∙ ap (λ (k : ℕ). Some (reply_kept m k r)) (omega arith)
-  alike-last n (x ∷ rs) r e is = by_test (is_alike number digest x) (λ none. alike-last (suc n) rs r none is) e
+  alike-last n (x ∷ rs) r e is = by_test (is_it x) (λ none. alike-last (suc n) rs r none is) e
     where
       count : suc n + length rs ≡ n + suc (length rs)
       count = omega arith
 
-      by_test : (b : Bool) → (reply_alike m (suc n) number digest rs ≡ None → reply_alike m (suc n) number digest (rs ++ r ∷ []) ≡ Some (reply_kept m (suc n + length rs) r)) → cond b (Some (reply_kept m n x)) (reply_alike m (suc n) number digest rs) ≡ None → cond b (Some (reply_kept m n x)) (reply_alike m (suc n) number digest (rs ++ r ∷ [])) ≡ Some (reply_kept m (n + suc (length rs)) r)
+      by_test : (b : Bool) → (reply_of (suc n) rs ≡ None → reply_of (suc n) (rs ++ r ∷ []) ≡ Some (reply_kept m (suc n + length rs) r))
+          → cond b (Some (reply_kept m n x)) (reply_of (suc n) rs) ≡ None
+          → cond b (Some (reply_kept m n x)) (reply_of (suc n) (rs ++ r ∷ [])) ≡ Some (reply_kept m (n + suc (length rs)) r)
       by_test true known e = absurd (cc)
       by_test false known e = known e ∙ ap (λ (k : ℕ). Some (reply_kept m k r)) count

@@ -21,7 +21,8 @@ pub any_of_row : (m : List MRow) (digest : List ℕ) (row : ℕ) → row_of m di
 any_of_row m digest row lists rs any = any-weaker (TellsUnlisted digest) (TellsOf m row) (tells_of_row m digest row lists) rs any
 
 -- the receipt of a reply with the verdict A2 is one
-pub told_again : (m : List MRow) (number digest : List ℕ) (n : ℕ) (rs : List ReceiptValue) (y : ReplyValue) → reply_alike m n number digest rs ≡ Some y → y.verdict ≡ A2 → Any (TellsUnlisted digest) rs
+pub told_again : (m : List MRow) (number digest : List ℕ) (n : ℕ) (rs : List ReceiptValue) (y : ReplyValue)
+    → reply_alike m n number digest rs ≡ Some y → y.verdict ≡ A2 → Any (TellsUnlisted digest) rs
 told_again m number digest n [] y e verdict = absurd (no_answer e)
 told_again m number digest n (r ∷ rs) y e verdict = by_test (is_alike number digest r) refl e (λ behind. told_again m number digest (suc n) rs y behind verdict)
   where

@@ -1,6 +1,6 @@
 -- A manifest that was written is read as its rows.
-use Rattle.std.proofs.Common.{◌≡◌, ℕ, zero, suc, ◌+◌, ◌<◌, ◌≤◌, Bool, false, List, [], ◌∷◌, ◌++◌, length, map, get_or, filter_map, Some, None, Ok, refl, ap, ◌∙◌, subst, arith}
-use Rattle.std.specs.Prelude.{position, nat_lt, All}
+use Rattle.std.proofs.Common.{◌≡◌, ℕ, zero, suc, ◌+◌, ◌<◌, ◌≤◌, false, [], ◌∷◌, ◌++◌, get_or, filter_map, None, refl, ap, ◌∙◌, subst, arith}
+use Rattle.std.specs.Prelude.{Bool, List, length, map, Some, Ok, position, nat_lt, All}
 use Rattle.std.proofs.lemmas.Bool.Decides.{nat_tests}
 use Rattle.std.proofs.lemmas.List.{get_or-map, get_or_default, length-map}
 use Rattle.csv.specs.Reading.{strip_bom}
@@ -26,14 +26,22 @@ lines_read : (m : List MRow) → map read_back (map row_line m) ≡ map row_line
 lines_read [] = refl
 lines_read (r ∷ m) = ap (λ (lines : List Line). row_line r ∷ lines) (lines_read m)
 
-pub records_read : ((lines : List Line) → IsUnmarked (text_of lines) → records_of (text_of lines) ≡ map read_back lines) → (m : List MRow) → records_of (manifest_text m) ≡ heading ∷ map row_line m
-records_read law m = law (heading ∷ map row_line m) (unmarked (rows_text m)) ∙ ap (λ (lines : List Line). heading ∷ lines) (lines_read m)
+-- lines that were written are read back, where their text has no mark
+abbrev pub AreReadBack : Type 0
+AreReadBack = (lines : List Line) → IsUnmarked (text_of lines) → records_of (text_of lines) ≡ map read_back lines
+
+records_read : AreReadBack → (m : List MRow) → records_of (manifest_text m) ≡ heading ∷ map row_line m
+records_read law m =
+    law (heading ∷ map row_line m) (unmarked (rows_text m)) ∙ ap (λ (lines : List Line). heading ∷ lines) (lines_read m)
 
 -- no line passes a test that no row's line passes
-none_first : (test : Line → Bool) (m : List MRow) → ((k : ℕ) → k < length m → test (row_line (row_at m k)) ≡ false) → position test (map row_line m) ≡ None
+none_first : (test : Line → Bool) (m : List MRow) → ((k : ℕ) → k < length m → test (row_line (row_at m k)) ≡ false)
+    → position test (map row_line m) ≡ None
 none_first test m fails =
     no_first test (map row_line m) (row_line no_row)
-    (λ k lt. let inside : k < length m = omega (arith, length-map m row_line) in ap test (get_or-map row_line m k no_row (row_line no_row) inside) ∙ fails k inside)
+    (λ k lt.
+    let inside : k < length m = omega (arith, length-map m row_line) in
+    ap test (get_or-map row_line m k no_row (row_line no_row) inside) ∙ fails k inside)
 
 module _ (m : List MRow) (a : IsAccepted m) (l : All IsLegible m) where
   reads : (k : ℕ) → k < length m → Reads (row_at m k)
@@ -42,14 +50,15 @@ module _ (m : List MRow) (a : IsAccepted m) (l : All IsLegible m) where
   few : nat_lt (most_rows + 1) (length (heading ∷ map row_line m)) ≡ false
   few = let small : length m ≤ 4096 = a.few in let same = length-map m row_line in grind (arith, nat_tests)
 
+  six_at : (k : ℕ) → k < length (heading ∷ map row_line m)
+      → has_other_length (get_or (heading ∷ map row_line m) k (row_line no_row)) ≡ false
+  six_at zero lt = refl
+  six_at (suc k) lt =
+      let inside : k < length m = omega (arith, length-map m row_line) in
+      ap has_other_length (get_or-map row_line m k no_row (row_line no_row) inside)
+
   six : position has_other_length (heading ∷ map row_line m) ≡ None
-  six =
-      no_first has_other_length (heading ∷ map row_line m) (row_line no_row)
-      (λ k lt. six_at k lt)
-    where
-      six_at : (k : ℕ) → k < length (heading ∷ map row_line m) → has_other_length (get_or (heading ∷ map row_line m) k (row_line no_row)) ≡ false
-      six_at zero lt = refl
-      six_at (suc k) lt = let inside : k < length m = omega (arith, length-map m row_line) in ap has_other_length (get_or-map row_line m k no_row (row_line no_row) inside)
+  six = no_first has_other_length (heading ∷ map row_line m) (row_line no_row) six_at
 
   no_record_fault : records_fault (heading ∷ map row_line m) ≡ None
   unfolding records_fault
@@ -74,9 +83,11 @@ rows_read (r ∷ m) h =
     rw (first, rest) refl
 
 each_row : (m : List MRow) → IsAccepted m → All IsLegible m → All (λ r. row_of (row_line r) ≡ Some r) m
-each_row m a l k d lt = subst (λ (r : MRow). row_of (row_line r) ≡ Some r) (get_or_default m k no_row d lt) (reads m a l k lt).row
+each_row m a l k d lt =
+    subst (λ (r : MRow). row_of (row_line r) ≡ Some r) (get_or_default m k no_row d lt) (reads m a l k lt).row
 
-pub manifest_read : ((lines : List Line) → IsUnmarked (text_of lines) → records_of (text_of lines) ≡ map read_back lines) → (m : List MRow) → IsAccepted m → All IsLegible m → rows_fault m ≡ None → length (manifest_text m) ≤ most_bytes → manifest_of (manifest_text m) ≡ Ok m
+pub manifest_read : AreReadBack → (m : List MRow) → IsAccepted m → All IsLegible m → rows_fault m ≡ None
+    → length (manifest_text m) ≤ most_bytes → manifest_of (manifest_text m) ≡ Ok m
 unfolding manifest_of text_fault
 manifest_read law m a l free fits =
     let short : nat_lt most_bytes (length (manifest_text m)) ≡ false = grind (arith, nat_tests) in

@@ -34,7 +34,11 @@ type_read Full = refl
 id_there : (id : List ℕ) → IsTrue (is_id id) → (length id == 0) ≡ false
 id_there id good = grind (arith, nat_tests)
 
-prev_read : (prev : Option (List ℕ)) → IfSome prev (λ id. IsTrue (is_id id)) → prev_of (unwrap_or prev []) ≡ Some prev
+-- the earlier deposit that a row names, if any, has an id
+abbrev HasIdOrNone : Option (List ℕ) → Type 0
+HasIdOrNone prev = IfSome prev (λ id. IsTrue (is_id id))
+
+prev_read : (prev : Option (List ℕ)) → HasIdOrNone prev → prev_of (unwrap_or prev []) ≡ Some prev
 prev_read None good = refl
 prev_read (Some id) good = rw (id_there id good, id_read id good) refl
 
@@ -42,8 +46,10 @@ some_digits : (n : ℕ) → 0 < n → n ≤ 999999 → resend_of (decimal n) ≡
 some_digits n some few =
     let there = decimal_nonempty n (omega arith) in
     let empty : (length (decimal n) == 0) ≡ false = grind (arith, nat_tests) in
-    let short : nat_le (length (decimal n)) 6 ≡ true = let six = length-decimal-le 6 n (omega arith) (omega arith) (omega arith) in grind (arith, nat_tests) in
-    rw (empty, short, digits_decimal own_digits n (omega arith), digits_value-decimal own_digits n (omega arith)) refl
+    let six = length-decimal-le 6 n (omega arith) (omega arith) (omega arith) in
+    let short : nat_le (length (decimal n)) 6 ≡ true = grind (arith, nat_tests) in
+    let digits = digits_decimal own_digits n (omega arith) in
+    rw (empty, short, digits, digits_value-decimal own_digits n (omega arith)) refl
 
 resend_read : (n : ℕ) → n ≤ 999999 → resend_of (resend_field n) ≡ Some n
 resend_read n few =
@@ -61,7 +67,8 @@ pub record Reads (r : MRow) : Type 0 where
   pub digest : lacks_digest (row_line r) ≡ false
   pub row : row_of (row_line r) ≡ Some r
 
-pub row_reads : (r : MRow) → IsTrue (is_id r.header.id) → IfSome r.header.prev (λ id. IsTrue (is_id id)) → r.header.resend ≤ 999999 → IsLegible r → Reads r
+pub row_reads : (r : MRow) → IsTrue (is_id r.header.id) → HasIdOrNone r.header.prev → r.header.resend ≤ 999999 → IsLegible r
+    → Reads r
 unfolding row_of
 row_reads r good prev_good few legible =
     let id = id_read r.header.id good in
@@ -78,10 +85,12 @@ row_reads r good prev_good few legible =
     }
 
 -- a Differential has its prevId
-pub not_alone : (r : MRow) → IfSome r.header.prev (λ id. IsTrue (is_id id)) → (r.header.place.kind ≡ Diff → IsSome r.header.prev) → is_diff_alone (row_line r) ≡ false
+pub not_alone : (r : MRow) → HasIdOrNone r.header.prev → (r.header.place.kind ≡ Diff → IsSome r.header.prev)
+    → is_diff_alone (row_line r) ≡ false
 not_alone r = alone r.header.place.kind r.header.prev
   where
-    alone : (kind : DepositType) (prev : Option (List ℕ)) → IfSome prev (λ id. IsTrue (is_id id)) → (kind ≡ Diff → IsSome prev) → (bytes_eq (type_name kind) (codes "DIFF") && (length (unwrap_or prev []) == 0)) ≡ false
+    alone : (kind : DepositType) (prev : Option (List ℕ)) → HasIdOrNone prev → (kind ≡ Diff → IsSome prev)
+        → (bytes_eq (type_name kind) (codes "DIFF") && (length (unwrap_or prev []) == 0)) ≡ false
     alone Incr prev good there = refl
     alone Full prev good there = refl
     alone Diff None good there = absurd (cc (there refl))

@@ -1,6 +1,6 @@
 -- The sections of tables, and what is read of them.
-use Rattle.std.proofs.Common.{◌≡◌, ◌≢◌, ◌∙◌, ℕ, zero, suc, ◌+◌, ◌<◌, ◌≤◌, Bool, true, false, List, [], ◌∷◌, ◌++◌, length, map, take, drop, get_or, Result, Ok, Err, Option, Some, Bor, refl, sym, ap, subst, arith, inl, inr}
-use Rattle.std.specs.Prelude.{All, AllPairs, nat_lt, ◌&&◌, ◌==◌}
+use Rattle.std.proofs.Common.{◌≡◌, ◌≢◌, ◌∙◌, ℕ, zero, suc, ◌+◌, ◌<◌, ◌≤◌, false, ◌++◌, get_or, Result, Err, Option, Bor, refl, sym, ap, subst, arith, inl, inr}
+use Rattle.std.specs.Prelude.{Bool, true, List, [], ◌∷◌, length, map, take, drop, Ok, Some, All, AllPairs, nat_lt, ◌&&◌, ◌==◌}
 use Rattle.std.specs.List.{zip, list_all, flat_map, find}
 use Rattle.std.specs.Str.{bytes_eq}
 use Rattle.std.proofs.lemmas.Bool.Decides.{nat_tests}
@@ -9,7 +9,7 @@ use Rattle.std.proofs.lemmas.List.{take_more, append_assoc, append-nil, length-t
 use Rattle.std.proofs.lemmas.Bool.{cases_Bool}
 use Rattle.std.proofs.lemmas.Slice.Eq.{bytes_eq-Decides}
 use Rattle.std.specs.Option.{option_map_or}
-use Rattle.std.proofs.lemmas.List.Elements.{All-push, All-append}
+use Rattle.std.proofs.lemmas.List.Elements.{All-push}
 use Rattle.std.proofs.lemmas.List.Folds.{list_all-append}
 use Rattle.csv.specs.Reading.{strip_bom, is_bom}
 use Rattle.csv.specs.Writing.{read_back}
@@ -22,11 +22,12 @@ use Rattle.esc_envelope.specs.Envelope.{envelope_of}
 use Rattle.esc_tables.specs.DepositValue.{DepositValue}
 use Rattle.esc_tables.specs.TableRow.{bytes_named, table_rows, in_table, rows_in, are_filed}
 use Rattle.esc_tables.specs.Reading.{◌>>=◌, check, check_rows, tables_of, deposit_of, deposit_in, sections_deposit, reading}
-use Rattle.esc_pack.specs.GivenRows.{GivenTable, given_rows, file_rows, has_width, IsHeaded, IsReadBack}
-use Rattle.esc_pack.specs.Bundling.{section_of, sections_of, AreHeaded}
+use Rattle.esc_pack.specs.GivenRows.{GivenTable, given_rows, file_rows, has_width, IsReadBack}
+use Rattle.esc_pack.specs.Bundling.{section_of, sections_of}
 
 -- a text that doesn't begin with the three bytes
-pub unmarked : (text : List ℕ) → (3 ≤ length text → is_bom (get_or text 0 0) (get_or text 1 0) (get_or text 2 0) ≡ false) → IsUnmarked text
+pub unmarked : (text : List ℕ) → (3 ≤ length text → is_bom (get_or text 0 0) (get_or text 1 0) (get_or text 2 0) ≡ false)
+    → IsUnmarked text
 unfolding strip_bom
 unmarked [] other = refl
 unmarked (a ∷ []) other = refl
@@ -44,131 +45,190 @@ fields_back n ([] ∷ rows) all =
     let first = (both (has_width n []) (list_all (has_width n) rows) all).0 in
     let parts = both (0 == n) (nat_lt 0 n) first in
     let bad : 0 < 0 = grind (arith, nat_tests) in absurd (omega arith)
-fields_back n ((x ∷ row) ∷ rows) all = ap (λ (rs : List Line). (x ∷ row) ∷ rs) (fields_back n rows (both (has_width n (x ∷ row)) (list_all (has_width n) rows) all).1)
+fields_back n ((x ∷ row) ∷ rows) all =
+    let others = (both (has_width n (x ∷ row)) (list_all (has_width n) rows) all).1 in
+    ap (λ (rs : List Line). (x ∷ row) ∷ rs) (fields_back n rows others)
+
+-- the element at a place comes next after those before it
+pub taken : {A : Type 0} (xs : List A) {i : ℕ} {x : A} (d : A) → i < length xs → x ≡ get_or xs i d
+    → take (i + 1) xs ≡ take i xs ++ x ∷ []
+taken {A} xs {i} d lt is = take_more xs i d lt ∙ ap (λ (y : A). take i xs ++ y ∷ []) (sym is)
+
+-- what holds of some elements and of the next
+pub All_next : {A : Type 0} (P : A → Type 0) (xs : List A) {more : List A} {x : A} → more ≡ xs ++ x ∷ []
+    → All P xs → P x → All P more
+All_next {A} P xs {more} {x} next all one =
+    subst (λ (ys : List A). All P ys) (sym next) (All-push P xs x all one)
+
+-- the file at a place of a table, and whether it has a heading
+pub record IsFile (given : GivenTable) (i : ℕ) (heading : Bool) (text : List ℕ) : Type 0 where
+  pub inside : i < length given.files
+  pub is : text ≡ get_or given.files i []
+  pub same_heading : heading ≡ given.has_heading
+
+-- a table's file, as the code reads it
+pub file_at : {given : GivenTable} {heading : Bool} {items slice : List (Bor (List ℕ))} {i : ℕ} (d : Bor (List ℕ))
+    → record { has_heading = heading; files = map (λ f. f.now) items } ≡ given → slice ≡ items → i < length slice
+    → IsFile given i heading (get_or slice i d).now
+file_at {given} {heading} {items} {slice} {i} d view same lt =
+    let among : i < length items = subst (λ (fs : List (Bor (List ℕ))). i < length fs) same lt in
+    let mapped : i < length (map (λ (f : Bor (List ℕ)). f.now) items) = omega (arith, among, length-map items (λ f. f.now)) in
+    record {
+      inside = subst (λ (g : GivenTable). i < length g.files) view mapped;
+      is =
+          ap (λ (fs : List (Bor (List ℕ))). (get_or fs i d).now) same
+          ∙ sym (get_or-map (λ (f : Bor (List ℕ)). f.now) items i d [] among)
+          ∙ ap (λ (g : GivenTable). get_or g.files i []) view;
+      same_heading = ap (λ (g : GivenTable). g.has_heading) view;
+    }
+
+-- the rows of a table's first files
+abbrev rows_before : GivenTable → ℕ → List Line
+rows_before given i = flat_map (file_rows given.has_heading) (take i given.files)
 
 -- the rows of one more file
-pub one_file : (old lines new : List ℕ) (rows : List ℕ → List Line) (files : List (List ℕ)) (i : ℕ) → i < length files → lines ≡ old ++ text_of (flat_map rows (take i files)) → new ≡ lines ++ text_of (rows (get_or files i [])) → new ≡ old ++ text_of (flat_map rows (take (i + 1) files))
-one_file old lines new rows files i lt before wrote =
-    wrote ∙ ap (λ (l : List ℕ). l ++ text_of (rows (get_or files i []))) before ∙ append_assoc old (text_of (flat_map rows (take i files))) (text_of (rows (get_or files i [])))
-    ∙ ap (λ (l : List ℕ). old ++ l) (sym (ap (λ (fs : List (List ℕ)). text_of (flat_map rows fs)) (take_more files i [] lt) ∙ ap text_of (flat_map-append rows (take i files) (get_or files i [] ∷ [])) ∙ ap (λ (last : List Line). text_of (flat_map rows (take i files) ++ last)) (append-nil (rows (get_or files i []))) ∙ flat_map-append _ (flat_map rows (take i files)) (rows (get_or files i []))))
+more_rows : {given : GivenTable} {i : ℕ} {heading : Bool} {text : List ℕ} → IsFile given i heading text
+    → rows_before given (i + 1) ≡ rows_before given i ++ file_rows heading text
+more_rows {given} {i} {heading} {text} file =
+    let rows = file_rows given.has_heading in
+    ap (flat_map rows) (taken given.files [] file.inside file.is) ∙ flat_map-append rows (take i given.files) (text ∷ [])
+    ∙ ap (λ (last : List Line). rows_before given i ++ last) (append-nil (rows text))
+    ∙ ap (λ (h : Bool). rows_before given i ++ file_rows h text) (sym file.same_heading)
 
-pub one_file_whole : (test : Line → Bool) (rows : List ℕ → List Line) (files : List (List ℕ)) (i : ℕ) → i < length files → list_all test (flat_map rows (take i files)) ≡ true → list_all test (rows (get_or files i [])) ≡ true → list_all test (flat_map rows (take (i + 1) files)) ≡ true
-one_file_whole test rows files i lt before one =
-    ap (λ (fs : List (List ℕ)). list_all test (flat_map rows fs)) (take_more files i [] lt) ∙ ap (list_all test) (flat_map-append rows (take i files) (get_or files i [] ∷ []) ∙ ap (λ (last : List Line). flat_map rows (take i files) ++ last) (append-nil (rows (get_or files i []))))
-    ∙ list_all-append test (flat_map rows (take i files)) (rows (get_or files i [])) ∙ rw (before, one) refl
+pub one_file : (old : List ℕ) {lines new : List ℕ} {given : GivenTable} {i : ℕ} {heading : Bool} {text : List ℕ}
+    → IsFile given i heading text → lines ≡ old ++ text_of (rows_before given i)
+    → new ≡ lines ++ text_of (file_rows heading text) → new ≡ old ++ text_of (rows_before given (i + 1))
+one_file old {lines} {new} {given} {i} {heading} {text} file before wrote =
+    let done = rows_before given i in
+    let last = file_rows heading text in
+    let all : text_of (rows_before given (i + 1)) ≡ text_of done ++ text_of last =
+    ap text_of (more_rows file) ∙ flat_map-append _ done last in
+    wrote ∙ ap (λ (l : List ℕ). l ++ text_of last) before ∙ append_assoc old (text_of done) (text_of last)
+    ∙ ap (λ (l : List ℕ). old ++ l) (sym all)
+
+pub one_file_whole : (test : Line → Bool) {given : GivenTable} {i : ℕ} {heading : Bool} {text : List ℕ}
+    → IsFile given i heading text → list_all test (rows_before given i) ≡ true
+    → list_all test (file_rows heading text) ≡ true → list_all test (rows_before given (i + 1)) ≡ true
+one_file_whole test {given} {i} {heading} {text} file before one =
+    ap (list_all test) (more_rows file) ∙ list_all-append test (rows_before given i) (file_rows heading text)
+    ∙ rw (before, one) refl
 
 -- one more table beside its files
-zip_push : {A B : Type 0} (xs : List A) (ys : List B) (x : A) (y : B) → length xs ≡ length ys → zip (xs ++ x ∷ []) (ys ++ y ∷ []) ≡ zip xs ys ++ (x, y) ∷ []
+zip_push : {A B : Type 0} (xs : List A) (ys : List B) (x : A) (y : B) → length xs ≡ length ys
+    → zip (xs ++ x ∷ []) (ys ++ y ∷ []) ≡ zip xs ys ++ (x, y) ∷ []
 zip_push [] [] x y e = refl
 zip_push [] (b ∷ ys) x y e = absurd (omega arith)
 zip_push (a ∷ xs) [] x y e = absurd (omega arith)
-zip_push {A} {B} (a ∷ xs) (b ∷ ys) x y e = ap (λ (ps : List (A × B)). (a, b) ∷ ps) (zip_push xs ys x y (omega arith))
+zip_push {A} {B} (a ∷ xs) (b ∷ ys) x y e =
+    ap (λ (ps : List (A × B)). (a, b) ∷ ps) (zip_push xs ys x y (omega arith))
 
-zip_append : {A B : Type 0} (xs more : List A) (ys : List B) → length xs ≤ length ys → zip (xs ++ more) ys ≡ zip xs (take (length xs) ys) ++ zip more (drop (length xs) ys)
+zip_append : {A B : Type 0} (xs more : List A) (ys : List B) → length xs ≤ length ys
+    → zip (xs ++ more) ys ≡ zip xs (take (length xs) ys) ++ zip more (drop (length xs) ys)
 zip_append [] more ys e = refl
 zip_append (a ∷ xs) more [] e = absurd (omega arith)
-zip_append {A} {B} (a ∷ xs) more (b ∷ ys) e = ap (λ (ps : List (A × B)). (a, b) ∷ ps) (zip_append xs more ys (omega arith))
+zip_append {A} {B} (a ∷ xs) more (b ∷ ys) e =
+    ap (λ (ps : List (A × B)). (a, b) ∷ ps) (zip_append xs more ys (omega arith))
 
 map_append : {A B : Type 0} (f : A → B) (xs ys : List A) → map f (xs ++ ys) ≡ map f xs ++ map f ys
 map_append f [] ys = refl
 map_append {A} {B} f (x ∷ xs) ys = ap (λ (l : List B). f x ∷ l) (map_append f xs ys)
 
 -- one more table, and its files
-pub one_pair : (tables : List TableValue) (given : List GivenTable) (i : ℕ) (t : TableValue) (g : GivenTable) → i < length tables → length given ≡ length tables
-    → t ≡ get_or tables i t → g ≡ get_or given i g → zip (take (i + 1) tables) (take (i + 1) given) ≡ zip (take i tables) (take i given) ++ (t, g) ∷ []
-one_pair tables given i t g lt same is_t is_g =
-    let a : take (i + 1) tables ≡ take i tables ++ t ∷ [] = take_more tables i t lt ∙ ap (λ (x : TableValue). take i tables ++ x ∷ []) (sym is_t) in
-    let b : take (i + 1) given ≡ take i given ++ g ∷ [] = take_more given i g (omega arith) ∙ ap (λ (x : GivenTable). take i given ++ x ∷ []) (sym is_g) in
+pub one_pair : (tables : List TableValue) (given : List GivenTable) {i : ℕ} {t : TableValue} {g : GivenTable}
+    → i < length tables → length given ≡ length tables → t ≡ get_or tables i t → g ≡ get_or given i g
+    → zip (take (i + 1) tables) (take (i + 1) given) ≡ zip (take i tables) (take i given) ++ (t, g) ∷ []
+one_pair tables given {i} {t} {g} lt same is_t is_g =
+    let more_tables : take (i + 1) tables ≡ take i tables ++ t ∷ [] = taken tables t lt is_t in
+    let more_given : take (i + 1) given ≡ take i given ++ g ∷ [] = taken given g (omega (arith, lt, same)) is_g in
     let many : length (take i tables) ≡ length (take i given) = omega (arith, length-take i tables, length-take i given) in
-    rw (a, b) (zip_push (take i tables) (take i given) t g many)
+    rw (more_tables, more_given) (zip_push (take i tables) (take i given) t g many)
 
--- the section of one more table
-pub one_section : (tables : List TableValue) (given : List GivenTable) (i : ℕ) (t : TableValue) (g : GivenTable) → i < length tables → length given ≡ length tables
-    → t ≡ get_or tables i t → g ≡ get_or given i g → sections_of (take (i + 1) tables) (take (i + 1) given) ≡ sections_of (take i tables) (take i given) ++ section_of (t, g) ∷ []
-one_section tables given i t g lt same is_t is_g =
-    ap (map section_of) (one_pair tables given i t g lt same is_t is_g) ∙ map_append section_of (zip (take i tables) (take i given)) ((t, g) ∷ [])
-
--- one more table, whose files have their headings
-pub one_headed : (tables : List TableValue) (given : List GivenTable) (i : ℕ) (t : TableValue) (g : GivenTable) → i < length tables → length given ≡ length tables
-    → t ≡ get_or tables i t → g ≡ get_or given i g → All AreHeaded (zip (take i tables) (take i given)) → AreHeaded (t, g) → All AreHeaded (zip (take (i + 1) tables) (take (i + 1) given))
-one_headed tables given i t g lt same is_t is_g all one =
-    subst (λ (ps : List (TableValue × GivenTable)). All AreHeaded ps) (sym (one_pair tables given i t g lt same is_t is_g)) (All-push AreHeaded (zip (take i tables) (take i given)) (t, g) all one)
-
--- tables whose files have their headings, and those after them
-pub headed_split : (first more : List TableValue) (given : List GivenTable) → length first ≤ length given → All AreHeaded (zip first (take (length first) given)) → All AreHeaded (zip more (drop (length first) given)) → All AreHeaded (zip (first ++ more) given)
-headed_split first more given fits front back =
-    subst (λ (ps : List (TableValue × GivenTable)). All AreHeaded ps) (sym (zip_append first more given fits)) (All-append AreHeaded (zip first (take (length first) given)) (zip more (drop (length first) given)) front back)
+-- the tables of an envelope beside their files: those of the contents, then those of the deletes
+pub in_parts : {e seen : EnvelopeValue} {first more : List TableValue} (given : List GivenTable)
+    → seen ≡ e → first ≡ seen.contents → more ≡ seen.deletes → length first ≤ length given
+    → zip (tables_of e) given ≡ zip first (take (length first) given) ++ zip more (drop (length first) given)
+in_parts {e} {seen} {first} {more} given view contents deletes fits =
+    let tables : first ++ more ≡ tables_of e = rw (contents, deletes) (ap tables_of view) in
+    ap (λ (ts : List TableValue). zip ts given) (sym tables) ∙ zip_append first more given fits
 
 -- the sections of tables, a part of them after the other
-pub sections_split : (first more : List TableValue) (given : List GivenTable) → length first ≤ length given → sections_of first (take (length first) given) ++ sections_of more (drop (length first) given) ≡ sections_of (first ++ more) given
-sections_split first more given fits = sym (ap (map section_of) (zip_append first more given fits) ∙ map_append section_of (zip first (take (length first) given)) (zip more (drop (length first) given)))
-
--- the text of a file among those of a table
-pub same_text : (given : GivenTable) (heading : Bool) (items slice : List (Bor (List ℕ))) (i : ℕ) (d : Bor (List ℕ)) → record { has_heading = heading; files = map (λ f. f.now) items } ≡ given → slice ≡ items → i < length slice
-    → (get_or slice i d).now ≡ get_or given.files i []
-same_text given heading items slice i d view same inside =
-    ap (λ (fs : List (Bor (List ℕ))). (get_or fs i d).now) same
-    ∙ sym (get_or-map (λ (f : Bor (List ℕ)). f.now) items i d [] (subst (λ (fs : List (Bor (List ℕ))). i < length fs) same inside))
-    ∙ ap (λ (g : GivenTable). get_or g.files i []) view
-
--- the rows of a file among those of a table
-pub same_file : (given : GivenTable) (heading : Bool) (items slice : List (Bor (List ℕ))) (i : ℕ) (d : Bor (List ℕ)) → record { has_heading = heading; files = map (λ f. f.now) items } ≡ given → slice ≡ items → i < length slice
-    → file_rows heading (get_or slice i d).now ≡ file_rows given.has_heading (get_or given.files i [])
-same_file given heading items slice i d view same inside =
-    ap (file_rows heading) (same_text given heading items slice i d view same inside) ∙ ap (λ (g : GivenTable). file_rows g.has_heading (get_or given.files i [])) view
-
--- the heading of one more file
-pub one_file_headed : (heading : Line) (files : List (List ℕ)) (i : ℕ) (text : List ℕ) → i < length files → text ≡ get_or files i [] → All (IsHeaded heading) (take i files) → IsHeaded heading text → All (IsHeaded heading) (take (i + 1) files)
-one_file_headed heading files i text lt is all one =
-    subst (λ (fs : List (List ℕ)). All (IsHeaded heading) fs) (sym (take_more files i [] lt)) (All-push (IsHeaded heading) (take i files) (get_or files i []) all (subst (IsHeaded heading) is one))
+pub sections_split : {all : List (TableValue × GivenTable)} (front back : List (TableValue × GivenTable))
+    → all ≡ front ++ back → map section_of all ≡ map section_of front ++ map section_of back
+sections_split front back parts = ap (map section_of) parts ∙ map_append section_of front back
 
 -- the first element that passes a test
-find_first : {A : Type 0} (test : A → Bool) (xs : List A) (k : ℕ) (d : A) → k < length xs → test (get_or xs k d) ≡ true → ((j : ℕ) → j < k → test (get_or xs j d) ≡ false) → find test xs ≡ Some (get_or xs k d)
+find_first : {A : Type 0} (test : A → Bool) (xs : List A) (k : ℕ) (d : A) → k < length xs
+    → test (get_or xs k d) ≡ true → ((j : ℕ) → j < k → test (get_or xs j d) ≡ false)
+    → find test xs ≡ Some (get_or xs k d)
 find_first test [] k d lt hit others = absurd (omega (arith, lt))
 find_first test (x ∷ xs) zero d lt hit others = rw hit refl
-find_first test (x ∷ xs) (suc k) d lt hit others = rw (others 0 (omega arith)) (find_first test xs k d (omega arith) hit (λ j l. others (suc j) (omega arith)))
+find_first test (x ∷ xs) (suc k) d lt hit others =
+    let later = find_first test xs k d (omega arith) hit (λ j l. others (suc j) (omega arith)) in
+    rw (others 0 (omega arith)) later
 
 differ : (xs ys : List ℕ) → xs ≢ ys → bytes_eq xs ys ≡ false
 differ xs ys other = elim (cases_Bool (bytes_eq xs ys)) [ inl e ↦ absurd (other ((bytes_eq-Decides xs ys).0 e)) | inr e ↦ e ]
 
 -- the section of a table is found by its name
-named_bytes : (ps : List (TableValue × GivenTable)) → AllPairs (λ s t. s.name ≢ t.name) (map section_of ps) → All (λ p. bytes_named (map section_of ps) p.0.file ≡ text_of (given_rows p.1)) ps
+named_bytes : (ps : List (TableValue × GivenTable)) → AllPairs (λ s t. s.name ≢ t.name) (map section_of ps)
+    → All (λ p. bytes_named (map section_of ps) p.0.file ≡ text_of (given_rows p.1)) ps
 named_bytes ps distinct k d lt =
-    let p = get_or ps k d in
-    let at : (j : ℕ) → j < length ps → get_or (map section_of ps) j (section_of d) ≡ section_of (get_or ps j d) = λ j l. get_or-map section_of ps j d (section_of d) l in
-    let many : length (map section_of ps) ≡ length ps = length-map ps section_of in
-    let found : find (λ (s : Named). bytes_eq s.name p.0.file) (map section_of ps) ≡ Some (get_or (map section_of ps) k (section_of d)) =
-    find_first (λ (s : Named). bytes_eq s.name p.0.file) (map section_of ps) k (section_of d) (omega (arith, many, lt))
-    (ap (λ (s : Named). bytes_eq s.name p.0.file) (at k lt) ∙ (bytes_eq-Decides p.0.file p.0.file).1 refl)
-    (λ j l. differ _ _ (subst (λ (s : Named). (get_or (map section_of ps) j (section_of d)).name ≢ s.name) (at k lt) (distinct j k (section_of d) l (omega (arith, many, lt))))) in
+    let name : List ℕ = (get_or ps k d).0.file in
+    let sections : List Named = map section_of ps in
+    let none : Named = section_of d in
+    let has_name : Named → Bool = λ s. bytes_eq s.name name in
+    let at : (j : ℕ) → j < length ps → get_or sections j none ≡ section_of (get_or ps j d) =
+    λ j l. get_or-map section_of ps j d none l in
+    let inside : k < length sections = omega (arith, length-map ps section_of, lt) in
+    let hit : has_name (get_or sections k none) ≡ true = ap has_name (at k lt) ∙ (bytes_eq-Decides name name).1 refl in
+    let others : (j : ℕ) → j < k → has_name (get_or sections j none) ≡ false =
+    λ j l. differ _ name (subst (λ (s : Named). (get_or sections j none).name ≢ s.name) (at k lt) (distinct j k none l inside)) in
+    let found = find_first has_name sections k none inside hit others in
     ap (λ (o : Option Named). option_map_or (λ s. s.bytes) o []) found ∙ ap (λ (s : Named). s.bytes) (at k lt)
 
-tables_read : (files : List Named) (ts : List TableValue) (gs : List GivenTable) → length gs ≡ length ts → All (λ p. bytes_named files p.0.file ≡ text_of (given_rows p.1)) (zip ts gs) → All IsReadBack gs
+tables_read : (files : List Named) (ts : List TableValue) (gs : List GivenTable) → length gs ≡ length ts
+    → All (λ p. bytes_named files p.0.file ≡ text_of (given_rows p.1)) (zip ts gs) → All IsReadBack gs
     → map (table_rows files) ts ≡ map (λ p. map (in_table p.0) (given_rows p.1)) (zip ts gs)
 tables_read files [] gs same found back = refl
 tables_read files (t ∷ ts) [] same found back = absurd (omega (arith, same))
 tables_read files (t ∷ ts) (g ∷ gs) same found back =
-    let first : table_rows files t ≡ map (in_table t) (given_rows g) = ap (λ (text : List ℕ). map (in_table t) (records_of text)) (found 0 (t, g) (omega arith)) ∙ ap (map (in_table t)) (back 0 g (omega arith)) in
-    let others = tables_read files ts gs (omega (arith, same)) (λ k d lt. found (suc k) d (omega (arith, lt))) (λ k d lt. back (suc k) d (omega (arith, lt))) in
+    let its_records = ap (λ (text : List ℕ). map (in_table t) (records_of text)) (found 0 (t, g) (omega arith)) in
+    let first : table_rows files t ≡ map (in_table t) (given_rows g) =
+    its_records ∙ ap (map (in_table t)) (back 0 g (omega arith)) in
+    let others =
+    tables_read files ts gs (omega (arith, same))
+    (λ k d lt. found (suc k) d (omega (arith, lt)))
+    (λ k d lt. back (suc k) d (omega (arith, lt))) in
     rw (first, others) refl
 
 -- what is read of the tables' sections is the rows of their files
-pub rows_read : (first : Named) (ts : List TableValue) (gs : List GivenTable) → length gs ≡ length ts → AllPairs (λ s t. s.name ≢ t.name) (first ∷ sections_of ts gs) → All IsReadBack gs
+pub rows_read : (first : Named) (ts : List TableValue) (gs : List GivenTable) → length gs ≡ length ts
+    → AllPairs (λ s t. s.name ≢ t.name) (first ∷ sections_of ts gs) → All IsReadBack gs
     → map (table_rows (sections_of ts gs)) ts ≡ map (λ p. map (in_table p.0) (given_rows p.1)) (zip ts gs)
-rows_read first ts gs same distinct back = tables_read (sections_of ts gs) ts gs same (named_bytes (zip ts gs) (λ i j d lt le. distinct (suc i) (suc j) d (omega (arith, lt)) (omega (arith, le)))) back
+rows_read first ts gs same distinct back =
+    let apart : AllPairs (λ s t. s.name ≢ t.name) (sections_of ts gs) =
+    λ i j d lt le. distinct (suc i) (suc j) d (omega (arith, lt)) (omega (arith, le)) in
+    tables_read (sections_of ts gs) ts gs same (named_bytes (zip ts gs) apart) back
 
-passed : {A D : Type 0} (a b : Result A ℕ) (x y : D) → (a >>= λ _. b >>= λ _. Ok x) ≡ Ok y → (a >>= λ _. b >>= λ _. Ok x) ≡ Ok x
+-- what two tests let through, if anything
+passed : {A D : Type 0} (a b : Result A ℕ) (x y : D) → (a >>= λ _. b >>= λ _. Ok x) ≡ Ok y
+    → (a >>= λ _. b >>= λ _. Ok x) ≡ Ok x
 passed (Ok u) (Ok v) x y e = refl
 passed (Ok u) (Err n) x y e = absurd cc
 passed (Err m) b x y e = absurd cc
 
-only_deposit : (files : List Named) (e : EnvelopeValue) (d : DepositValue) → deposit_in files e ≡ Ok d → deposit_in files e ≡ Ok (deposit_of files e)
+only_deposit : (files : List Named) (e : EnvelopeValue) (d : DepositValue) → deposit_in files e ≡ Ok d
+    → deposit_in files e ≡ Ok (deposit_of files e)
 unfolding deposit_in
-only_deposit files e d read = passed (check (are_filed files (tables_of e)) 8) (check_rows (rows_in files (tables_of e))) (deposit_of files e) d read
+only_deposit files e d read =
+    let filed = check (are_filed files (tables_of e)) 8 in
+    passed filed (check_rows (rows_in files (tables_of e))) (deposit_of files e) d read
 
 -- a body that reads is the deposit of its files and its envelope
-pub read_as : (body : List ℕ) (first : Named) (files : List Named) (e : EnvelopeValue) (d : DepositValue) → frame body ≡ Ok (first ∷ files) → envelope_of first.bytes ≡ Ok e → reading body ≡ Ok d → reading body ≡ Ok (deposit_of files e)
+pub read_as : (body : List ℕ) {first : Named} {files : List Named} {e : EnvelopeValue} {d : DepositValue}
+    → frame body ≡ Ok (first ∷ files) → envelope_of first.bytes ≡ Ok e → reading body ≡ Ok d
+    → reading body ≡ Ok (deposit_of files e)
 unfolding reading sections_deposit
-read_as body first files e d framed told read =
+read_as body {first} {files} {e} {d} framed told read =
     let same : reading body ≡ deposit_in files e = rw (framed, told) refl in
     same ∙ only_deposit files e d (sym same ∙ read)

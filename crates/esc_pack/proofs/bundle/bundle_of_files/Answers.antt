@@ -11,17 +11,25 @@ pub returns : goal.returns
 returns c =
     let e = c.in_ok-envelope.envelope in
     let d : DepositValue = c.in_ok-read_deposit.field-0 in
-    let first = description_section c.args.description.now in
+    let description = description_section c.args.description.now in
     let sections = sections_of (tables_of e) c.args.given.now in
-    let framed : IsBundle c.in_ok-body.body.items (first ∷ sections) = subst (λ (ss : List Named). IsBundle c.in_ok-body.body.items ss) (ap (map named) c.deref.ensures.value ∙ c.in_ok-sections.ensures.sections) c.in_ok-body.ensures.written in
+    let made : map named c.deref.result.now ≡ description ∷ sections =
+    ap (map named) c.deref.ensures.value ∙ c.in_ok-sections.ensures.sections in
+    let bundle : IsBundle c.in_ok-body.body.items (description ∷ sections) =
+    subst (λ (ss : List Named). IsBundle c.in_ok-body.body.items ss) made c.in_ok-body.ensures.written in
+    let framed = (c.frame_is_exact.ensures.bundle c.in_ok-body.body.items (description ∷ sections)).1 bundle in
+    let read : reading c.in_ok-body.body.items ≡ Ok d =
+    subst (λ (b : List ℕ). reading b ≡ Ok d) c.deref-2.ensures.value c.in_ok-read_deposit.ensures.read in
+    let matched = c.in_ok-sections.ensures.matched in
+    let apart = bundle.sections.distinct in
     record {
       bundled = record {
         envelope = e;
         told = c.in_ok-envelope.ensures.envelope;
-        matched = c.in_ok-sections.ensures.matched;
+        matched = matched;
         headings = c.in_ok-sections.ensures.headed;
-        bundle = framed;
-        rows = rows_read first (tables_of e) c.args.given.now c.in_ok-sections.ensures.matched framed.sections.distinct c.in_ok-sections.ensures.read;
-        read = read_as c.in_ok-body.body.items first sections e d ((c.frame_is_exact.ensures.bundle c.in_ok-body.body.items (first ∷ sections)).1 framed) c.in_ok-envelope.ensures.envelope (subst (λ (b : List ℕ). reading b ≡ Ok d) c.deref-2.ensures.value c.in_ok-read_deposit.ensures.read);
+        bundle = bundle;
+        rows = rows_read description (tables_of e) c.args.given.now matched apart c.in_ok-sections.ensures.read;
+        read = read_as c.in_ok-body.body.items framed c.in_ok-envelope.ensures.envelope read;
       };
     }

@@ -6,4 +6,5 @@ use Rattle.esc_pack.specs.Describing.{is_file_of}
 use Rattle.esc_pack.proofs.describe.table_named.Goals as goal
 
 pub returns-in-Some : goal.returns-in-Some
-returns-in-Some c = c.in-Some.ensures ∙ ap (λ (ks : List KnownTable). find (λ k. is_file_of (file_stem k) c.args.name.now) ks) c.all_known-known.ensures
+returns-in-Some c =
+    c.in-Some.ensures ∙ ap (λ (ks : List KnownTable). find (λ k. is_file_of (file_stem k) c.args.name.now) ks) c.all_known-known.ensures

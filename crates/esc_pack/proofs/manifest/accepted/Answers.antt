@@ -5,14 +5,11 @@ use Rattle.esc_manifest.specs.RowFaults.{rows_fault}
 use Rattle.esc_pack.proofs.manifest.accepted.Goals as goal
 
 -- a manifest is answered for rows without a fault alone, and it has them
-answered : (o : Option (ℕ × ℕ)) (r : Result (List MRow) MFault) (rows m : List MRow) → r ≡ Ok m → (o ≡ None → r ≡ Ok rows) → ((code row : ℕ) → o ≡ Some (code, row) → r ≡ Err (MFault.Refused code row)) → (m ≡ rows) × (o ≡ None)
-answered None r rows m is free fault = let right = free refl in (cc, refl)
-answered (Some (code, row)) r rows m is free fault = let wrong = fault code row refl in absurd cc
-
--- a fault is answered for rows that have it
-refused : (o : Option (ℕ × ℕ)) (r : Result (List MRow) MFault) (rows : List MRow) (code row : ℕ) → r ≡ Err (MFault.Refused code row) → (o ≡ None → r ≡ Ok rows) → ((c q : ℕ) → o ≡ Some (c, q) → r ≡ Err (MFault.Refused c q)) → o ≡ Some (code, row)
-refused None r rows code row is free fault = let right = free refl in absurd cc
-refused (Some (c, q)) r rows code row is free fault = let right = fault c q refl in cc
+answered : (o : Option (ℕ × ℕ)) {r : Result (List MRow) MFault} {rows m : List MRow} → r ≡ Ok m → (o ≡ None → r ≡ Ok rows)
+    → ((code row : ℕ) → o ≡ Some (code, row) → r ≡ Err (MFault.Refused code row)) → (m ≡ rows) × (o ≡ None)
+answered None is free fault = let right = free refl in (cc, refl)
+answered (Some (code, row)) is free fault = let wrong = fault code row refl in absurd cc
 
 pub returns-in-Ok-clause-accepted : goal.returns-in-Ok-clause-accepted
-returns-in-Ok-clause-accepted c = answered (rows_fault c.args.rows.items) _ c.args.rows.items c.in-Ok.manifest c.in-Ok.is c.from_rows.ensures.accepted c.from_rows.ensures.refused
+returns-in-Ok-clause-accepted c =
+    answered (rows_fault c.args.rows.items) c.in-Ok.is c.from_rows.ensures.accepted c.from_rows.ensures.refused

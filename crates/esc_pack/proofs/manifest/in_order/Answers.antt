@@ -9,8 +9,12 @@ use Rattle.esc_pack.specs.Release.{row_cmp, comes_before}
 use Rattle.esc_pack.proofs.manifest.in_order.Goals as goal
 
 rows_total : IsTotalOrder row_cmp
-rows_total = then_total (on_total (λ r. r.header.place.watermark) int_cmp_total) (then_total (on_total (λ r. rank r.header.place.kind) nat_cmp_total) (on_total (λ r. r.header.resend) nat_cmp_total))
+rows_total =
+    then_total
+    (on_total (λ r. r.header.place.watermark) int_cmp_total)
+    (then_total (on_total (λ r. rank r.header.place.kind) nat_cmp_total) (on_total (λ r. r.header.resend) nat_cmp_total))
 
 pub returns-clause-rising : goal.returns-clause-rising
 returns-clause-rising c =
-    c.in_ok-sort_by.ensures.sorted comes_before (ranks_by rows_total (λ r. r)) (always_returns_same _ (λ a r. is_lt r ≡ comes_before a.0.now a.1.0.now) _ (λ a r f' k. search rules))
+    c.in_ok-sort_by.ensures.sorted comes_before (ranks_by rows_total (λ r. r))
+    (always_returns_same _ (λ a r. is_lt r ≡ comes_before a.0.now a.1.0.now) _ (λ a r f' k. search rules))

@@ -6,13 +6,19 @@ use Rattle.esc_pack.proofs.sources.all_texts.Goals as goal
 
 pub returns-in_default : goal.returns-in_default
 returns-in_default c =
-    fails as_str view c.args.values.now c.loop-value.value-index c.value-item.result (map string_bytes c.loop-value.texts.items) c.loop-value-test.true
+    let at = c.loop-value.value-index in
+    let texts = map string_bytes c.loop-value.texts.items in
+    fails as_str view c.args.values.now at c.value-item.result texts c.loop-value-test.true
     (ap (λ v. as_str (view v)) (sym c.value-item.is) ∙ sym c.in_default.ensures) c.loop-value.invariant
 
 pub loop-value-preserved : goal.loop-value-preserved
 loop-value-preserved c =
-    next as_str view c.args.values.now c.loop-value.value-index c.value-item.result c.in-Some.text.now (map string_bytes c.loop-value.texts.items) _ c.loop-value-test.true
+    let at = c.loop-value.value-index in
+    let texts = map string_bytes c.loop-value.texts.items in
+    next as_str view c.args.values.now at c.value-item.result c.in-Some.text.now texts _ c.loop-value-test.true
     (ap (λ v. as_str (view v)) (sym c.value-item.is) ∙ sym c.in-Some.ensures) c.in_ok-push_copy.ensures c.loop-value.invariant
 
 pub returns : goal.returns
-returns c = ended as_str view c.args.values.now c.loop-value.value-index (map string_bytes c.loop-value.texts.items) c.loop-value-test.false c.loop-value.invariant
+returns c =
+    let texts = map string_bytes c.loop-value.texts.items in
+    ended as_str view c.args.values.now c.loop-value.value-index texts c.loop-value-test.false c.loop-value.invariant
