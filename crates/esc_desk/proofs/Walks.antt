@@ -1,39 +1,6 @@
 -- What is still to come of a walk, from page to page.
-use Rattle.std.proofs.Common.{
-  ◌≡◌,
-  ℕ,
-  zero,
-  suc,
-  ◌≤◌,
-  ◌==◌,
-  ◌&&◌,
-  Bool,
-  true,
-  false,
-  not,
-  cond,
-  List,
-  [],
-  ◌∷◌,
-  ◌++◌,
-  filter,
-  Option,
-  Some,
-  None,
-  refl,
-  sym,
-  ap,
-  ap₂,
-  subst,
-  ◌∙◌,
-  arith,
-  true≢false,
-  Ordering,
-  Less,
-  Equal,
-  Greater,
-  is_eq,
-}
+use Rattle.std.proofs.Common.{◌≡◌, ℕ, zero, suc, ◌≤◌, ◌==◌, ◌&&◌, Bool, true, false, not, cond, List, [], ◌∷◌, ◌++◌, filter, Option, Some, None}
+use Rattle.std.proofs.Common.{refl, sym, ap, ap₂, subst, ◌∙◌, arith, true≢false, Ordering, Less, Equal, Greater, is_eq}
 use Rattle.std.specs.Map.{lookup}
 use Rattle.std.specs.Option.{option_or, is_some}
 use Rattle.std.specs.Prelude.{MatchOption}
