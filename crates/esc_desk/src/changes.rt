@@ -233,7 +233,8 @@ pub(crate) fn move_in<S: Alter>(
     Ok(work)
 }
 
-// How many steps of the same rows both chains begin with.
+// How many steps of the same rows both chains begin with. The table of steps keeps rows, and
+// `common_front` compares places and resends, which tell rows of an accepted manifest alone.
 fn same_rows(old: &[Step], new: &[Step]) -> usize
     ensures in_old { result ≤ length old.now }
     ensures in_new { result ≤ length new.now }

@@ -61,8 +61,8 @@ use sha2::{Digest, Sha256};
 use sqlite::Alter;
 use std::alloc::Global;
 
-/// A desk over a store. It remembers which rows have a body, which have a receipt with `A1`, and the
-/// chain, so that an event needn't ask the store for them.
+/// A desk over a store. It remembers which rows have a body, which have a receipt with `A1`, and
+/// the chain, so that an event needn't ask the store for them.
 #[derive(Drop)]
 pub struct Desk<S: Alter> {
     pub(crate) store: Store<S>,

@@ -1,11 +1,11 @@
-//! Which rows a store holds, and its chain: what a desk remembers, so that an arrival needn't ask for
-//! them.
+//! Which rows a store holds, and its chain: what a desk remembers, so that an arrival needn't ask
+//! for them.
 
 ghost use Rattle.std.specs.Prelude.{ℕ, List, IfOk, IfErr, OnOk};
 ghost use Rattle.sha2.specs.Sha256.{sha256};
 ghost use Rattle.esc_tables.specs.Reading.{reading};
 ghost use Rattle.esc_store.specs.Faults.{IsS1OrS2};
-ghost use Rattle.esc_store.specs.Kept.{Kept, IsRising};
+ghost use Rattle.esc_store.specs.Kept.{Kept, AreHeld, AreHeldBy, IsRising};
 ghost use Rattle.esc_store.specs.Standing.{Stands, IsHonest, IsAsBefore};
 ghost use Rattle.esc_events.specs.Events.{EventValue};
 ghost use Rattle.esc_events.specs.Known.{IsKnown};
@@ -18,8 +18,7 @@ use esc_store::{SFault, Store};
 use sqlite::Alter;
 use std::alloc::Global;
 
-/// What is known of a store's rows by its receipts and bodies, and its chain: for each receipt with
-/// `A2` or `A5` whose digest a row lists now, the body of that row is read.
+/// What is known of a store: its rows as [`known_rows`] reads them, and its chain.
 pub(crate) fn known_of<S: Alter>(store: &mut Store<S>, alloc: Global) -> Result<Known, SFault>
     ensures same { IsAsBefore S.Store store.old store.new }
     ensures known { IsHonest S.Store store.new → (e : List EventValue) (k : Kept)
@@ -27,11 +26,28 @@ pub(crate) fn known_of<S: Alter>(store: &mut Store<S>, alloc: Global) -> Result<
         → IfOk result (IsKnown k) }
     ensures cause { IfErr result IsS1OrS2 }
 {
+    let (held, told) = known_rows(store, alloc)?;
+    let chain = store.chain(alloc)?;
+    Ok(Known { held, told, chain })
+}
+
+/// The rows that have a body, and those that a receipt says are held: for each receipt with `A2` or
+/// `A5` whose digest a row lists now, the body of that row is read.
+pub(crate) fn known_rows<S: Alter>(
+    store: &mut Store<S>,
+    alloc: Global,
+) -> Result<(Vec<usize>, Vec<usize>), SFault>
+    ensures same { IsAsBefore S.Store store.old store.new }
+    ensures known { IsHonest S.Store store.new → (e : List EventValue) (k : Kept)
+        → Stands S.Store store.old k → StandsFor sha256 reading e k
+        → IfOk result (λ rows. AreHeld k.bodies rows.0.items
+        × AreHeldBy k.receipts rows.1.items) }
+    ensures cause { IfErr result IsS1OrS2 }
+{
     let told = store.held_by_receipts(alloc)?;
     let digests = store.unlisted_digests(alloc)?;
     let held = held_of(store, alloc, &told, &digests)?;
-    let chain = store.chain(alloc)?;
-    Ok(Known { held, told, chain })
+    Ok((held, told))
 }
 
 /// The rows that have a body: those that receipts say are held (`told`), and those that list one of

@@ -35,7 +35,7 @@ ghost use Rattle.esc_desk.specs.Reads.{
 };
 
 use crate::desk::Desk;
-use crate::knowing::known_of;
+use crate::knowing::{known_of, known_rows};
 use crate::status::{End, Status};
 use esc_apply::Step;
 use esc_bundle::Fault;
@@ -86,8 +86,8 @@ impl<S: Alter> Desk<S> {
             (λ e rows. AreHeldRows e rows.items) }
         ensures cause { IfErr result IsS1OrS2 }
     {
-        let known = known_of(&mut self.store, alloc)?;
-        Ok(known.held)
+        let (held, _told) = known_rows(&mut self.store, alloc)?;
+        Ok(held)
     }
 
     /// The bodies that no row lists, each as its digest and length, in the order of digests. They

@@ -77,8 +77,8 @@ moved_by plan k c =
 abbrev pub HasDepositsPast : Plan → Type 0
 HasDepositsPast plan = length plan.deposits.items ≡ length plan.new.items - front_of plan
 
--- the chain that is kept is a plan's old one, whose deposits are c, and the tables and before-images
--- are those of that chain
+-- the chain that is kept is a plan's old one, whose deposits are c, and the tables and
+-- before-images are those of that chain
 pub record IsMovedFrom (k : Kept) (c : List DepositValue) (plan : Plan) : Type 0 where
   pub steps : k.steps ≡ rows_in plan.old.items
   pub count : length c ≡ length plan.old.items

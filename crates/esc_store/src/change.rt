@@ -127,9 +127,9 @@ impl<'a, S: Alter> Change<'a, S> {
         self.continue_chain(0, steps)
     }
 
-    /// Keeps the first steps of the chain, as many as `front`, which it has to have, and makes these
-    /// the steps past them; their rows have to be held, and no two of the chain are the same. It
-    /// takes as long as these steps and those that go, however long the chain is. `S1`, `S2`.
+    /// Keeps the first steps of the chain, as many as `front`, which it has to have, and makes
+    /// these the steps past them; their rows have to be held, and no two of the chain are the same.
+    /// It takes as long as these steps and those that go, however long the chain is. `S1`, `S2`.
     pub fn continue_chain(&mut self, front: usize, steps: &[Step]) -> Result<(), SFault>
         ensures goes_on { GoesOn S.Store self.old self.new }
         ensures count { count_of self.new ≡ count_of self.old }

@@ -134,8 +134,8 @@ fn tell_chain<S: Alter>(
 }
 
 // The chain after the first was set, after the second was set in a change that isn't committed,
-// after it was set, after both were set again in one change, and after the first was set and went on
-// as the second.
+// after it was set, after both were set again in one change, and after the first was set and went
+// on as the second.
 fn told<S: Alter>(
     alloc: Global,
     store: &mut Store<S>,

@@ -5,5 +5,5 @@ pub returns-clause-rows : goal.returns-clause-rows
 returns-clause-rows g c = λ honest e serves.
     let k = serves.kept in
     let stood = serves.stands_for in
-    let known = c.in_ok-known.ensures.known honest e k serves.stands stood in
-    same_held e k stood c.in_ok-known.known.held.items known.held
+    let known = c.in_ok-held.ensures.known honest e k serves.stands stood in
+    same_held e k stood _ known.0
