@@ -1,0 +1,97 @@
+"""Runs of the program that are measured: what bench.py and compare.py share."""
+import http.client, os, socket, subprocess, sys, time
+from dataclasses import dataclass
+
+
+@dataclass
+class Use:
+    """What a run used: milliseconds, milliseconds of processor time, and the peak memory in MB."""
+    took: float
+    processor: float
+    memory: float
+
+
+class Program:
+    """A built program and the folder in which it works."""
+
+    def __init__(self, path, work):
+        self.path, self.work = path, work
+
+    def run(self, *words, want=0):
+        """Runs it to its end, with what it prints in a file."""
+        with open(os.path.join(self.work, 'out'), 'wb') as out:
+            begun = time.perf_counter()
+            return self.ended(subprocess.Popen([self.path, *words], stdout=out), words, begun, want)
+
+    def ended(self, child, words, begun, want=0):
+        """Waits for a run, whose status has to be the wanted one, and answers what it used."""
+        _, status, usage = os.wait4(child.pid, 0)
+        child.returncode = os.waitstatus_to_exitcode(status)
+        if child.returncode != want:
+            sys.exit(f'{self.path} {" ".join(words)}: status {child.returncode}, wanted {want}')
+        return Use((time.perf_counter() - begun) * 1000, (usage.ru_utime + usage.ru_stime) * 1000, usage.ru_maxrss / 1024)
+
+    def fresh(self, name, manifest):
+        """A new store of a manifest."""
+        store = os.path.join(self.work, name)
+        for path in (store, store + '-wal'):
+            if os.path.exists(path):
+                os.remove(path)
+        self.run('init', '--store', store, '--manifest', manifest)
+        return store
+
+    def arrivals(self, store, folder):
+        """Takes a folder: the processor time once the store is open, and after each arrival; and what the run used."""
+        words = ['take', '--store', store, folder]
+        begun = time.perf_counter()
+        child = subprocess.Popen([self.path, *words], stdout=subprocess.PIPE)
+        return [spent(child) for _ in child.stdout], self.ended(child, words, begun)
+
+    def serve(self, store, count):
+        """Begins to serve a store for so many connections: the run, its port, and what ends it once they are over."""
+        port, begun = free_port(), time.perf_counter()
+        words = ['serve', '--store', store, '--port', str(port), '--count', str(count)]
+        child = subprocess.Popen([self.path, *words], stdout=subprocess.PIPE, text=True)
+        if child.stdout.readline() != f'listening 127.0.0.1:{port}\n':
+            sys.exit(f'{self.path}: the desk does not listen')
+        return child, port, lambda: self.ended(child, words, begun)
+
+    def status_of(self, store):
+        """Asks a desk over a store for its status, again and again: the processor time of the first response, the mean of the others,
+        and what the run used."""
+        asked = 51
+        child, port, ended = self.serve(store, asked + 1)
+        clock = [spent(child)]
+        for _ in range(asked):
+            ask(port, 'GET', '/status')
+            clock.append(spent(child))
+        ask(port, 'GET', '/status')
+        return clock[1] - clock[0], (clock[-1] - clock[1]) / (asked - 1), ended()
+
+
+def free_port():
+    with socket.socket() as listener:
+        listener.bind(('127.0.0.1', 0))
+        return listener.getsockname()[1]
+
+
+def ask(port, method, path, body=None):
+    """Sends one request by a connection of its own, and reads the whole response."""
+    connection = http.client.HTTPConnection('127.0.0.1', port)
+    connection.request(method, path, body)
+    response = connection.getresponse()
+    response.read()
+    connection.close()
+    if response.status != 200:
+        sys.exit(f'{method} {path}: status {response.status}, wanted 200')
+
+
+def spent(process):
+    """The processor time of a running process, in milliseconds, by the clock that Linux has for each (clock_getcpuclockid)."""
+    return time.clock_gettime((~process.pid << 3) | 2) * 1000
+
+
+def arrivals_where(clock):
+    """Of a clock of arrivals along a chain whose first row is held before: the mean of an arrival where so many rows are held."""
+    windows = {10: 10, 100: 50, 1000: 50, 4000: 50}
+    return {held: (clock[held - 1 + count] - clock[held - 1]) / count for held, count in windows.items()}
