@@ -4,7 +4,7 @@ use Rattle.sqlite.specs.Values.{bound}
 use Rattle.esc_rows.specs.Entries.{new_entry}
 use Rattle.esc_rows.proofs.PartLemmas.{makes}
 use Rattle.esc_rows.proofs.Compiled.{insert_objects_is}
-use Rattle.esc_rows.proofs.ObjectLemmas.{puts_objects}
+use Rattle.esc_rows.proofs.ObjectLemmas.{inserts_objects}
 use Rattle.esc_rows.proofs.object.insert_objects.Goals as goal
 
 pub returns : goal.returns
@@ -12,6 +12,6 @@ returns g c =
     let rows = c.args.rows.now in
     record {
       part = makes g.S.Store insert_objects_is c.write_within.ensures
-          (puts_objects _ _ (map new_entry rows) (length-map rows new_entry ∙ c.requires))
+          (inserts_objects _ _ (map new_entry rows) (length-map rows new_entry ∙ c.requires))
           (ap bound c.as_slice.ensures.value ∙ c.in_ok-params.ensures.params);
     }

@@ -12,6 +12,6 @@ returns g c =
     let rows = c.args.rows.now in
     record {
       part = makes g.S.Store insert_images_is c.write_within.ensures
-          (puts_no_images _ _ c.args.at (map new_entry rows) (length-map rows new_entry ∙ c.requires))
+          (puts_no_images c.args.at _ _ (map new_entry rows) (length-map rows new_entry ∙ c.requires))
           (ap bound c.as_slice.ensures.value ∙ c.in_ok-params.ensures.params);
     }
