@@ -1,5 +1,5 @@
 -- The beginning and the ends of a change.
-use Rattle.std.proofs.Common.{◌≡◌, inl, inr, true, false, List, sym, ap, subst, ◌∙◌, arith}
+use Rattle.std.proofs.Common.{◌≡◌, inl, inr, true, false, List, Option, sym, ap, subst, ◌∙◌, arith}
 use Rattle.std.specs.Prelude.{IsTrue, Result, Ok, Err, IfOk, OnOk, OnErr, IsErr}
 use Rattle.std.proofs.lemmas.Bool.{cases_Bool}
 use Rattle.sqlite_trees.specs.Tree.{Trees}
@@ -9,10 +9,11 @@ use Rattle.sqlite.proofs.StateLemmas.{survives_weaker}
 use Rattle.esc_manifest.specs.declared.row.MRow.{MRow}
 use Rattle.esc_apply.specs.Registry.{State as Tables}
 use Rattle.esc_rows.specs.Content.{content_in}
+use Rattle.esc_store.specs.declared.counts.KindCounts.{KindCounts}
 use Rattle.esc_store.specs.Kept.{Kept, with_registry}
 use Rattle.esc_store.specs.TypedRows.{IsBooks, IsRegistry}
 use Rattle.esc_store.specs.Tables.{IsStore, IsStoreDatabase, HoldsTables}
-use Rattle.esc_store.specs.Standing.{IsAtRest, RestsAt, IsStanding, IsBegun, IsMade, IsUnderWay}
+use Rattle.esc_store.specs.Standing.{IsAtRest, RestsAt, AreCountsOf, IsStanding, IsBegun, IsMade, IsUnderWay}
 
 -- ---- results
 
@@ -55,7 +56,8 @@ both db k s tables books registry = record {
 
 -- ---- the beginning
 
-module _ (old new : State) (m : List MRow) (k : Kept) (survives : Survives old new (λ _. ⊥)) (shown : HasCleanDisk new → Shows old new old.now old.committed true) (stands : IsStanding old m k) where
+module _ (old new : State) (m : List MRow) (counts : Option KindCounts) (k : Kept) (survives : Survives old new (λ _. ⊥))
+    (shown : HasCleanDisk new → Shows old new old.now old.committed true) (stands : IsStanding old m counts k) where
   rested : HasCleanDisk new → IsAtRest old k
   rested clean = stands.rests (was_clean old new (λ _. ⊥) survives clean) (shown clean).was_open
 
@@ -83,16 +85,23 @@ module _ (old new : State) (m : List MRow) (k : Kept) (survives : Survives old n
 
 -- ---- the ends
 
+-- counts that are remembered stay true
+pub still_counted : (old new : State) (a b : Option KindCounts) (k : Kept) (C : Trees → Type 0) → Survives old new C → b ≡ a → (HasCleanDisk old → AreCountsOf a k) → HasCleanDisk new → AreCountsOf b k
+still_counted old new a b k C survives same was clean = subst (λ c. AreCountsOf c k) (sym same) (was (was_clean old new C survives clean))
+
 -- nothing was committed and no transaction is on: the store stands for what it stood for
-pub given_up : (old new : State) (m : List MRow) (k : Kept) (C : Trees → Type 0) → Survives old new C → (HasCleanDisk new → KeepsCommit old new) → (HasCleanDisk new → new.in_transaction ≡ false)
-    → (HasCleanDisk new → IsTrue new.is_open → new.now ≡ new.committed) → m ≡ k.listed → (HasCleanDisk old → IsTrue old.is_open → IsStoreDatabase old.committed k) → IsStanding new m k
-given_up old new m k C survives kept ended settled listed held = record {
+pub given_up : (old new : State) (m : List MRow) (a b : Option KindCounts) (k : Kept) (C : Trees → Type 0) → Survives old new C
+    → (HasCleanDisk new → KeepsCommit old new) → (HasCleanDisk new → new.in_transaction ≡ false)
+    → (HasCleanDisk new → IsTrue new.is_open → new.now ≡ new.committed) → m ≡ k.listed → (HasCleanDisk old → IsTrue old.is_open → IsStoreDatabase old.committed k)
+    → b ≡ a → (HasCleanDisk old → AreCountsOf a k) → IsStanding new m b k
+given_up old new m a b k C survives kept ended settled listed held same counts = record {
   listed = listed;
   rests = λ clean up. record {
     kept = subst (λ db. IsStoreDatabase db k) (sym ((kept clean).committed up)) (held (was_clean old new C survives clean) ((kept clean).was_open up));
     same = settled clean up;
     autocommit = ended clean;
   };
+  counted = still_counted old new a b k C survives same counts;
 }
 
 pub keeps_then : (a b c : State) → KeepsCommit a b → KeepsCommit b c → KeepsCommit a c

@@ -53,7 +53,8 @@ as_it_was old new settled kept ended same = record {
 }
 
 -- what was read is what the store was
-pub opened : (old new : State) (m : List MRow) (k : Kept) → Survives old new (λ trees. ⊥) → IsUnchanged old new → (IsStoreDatabase old.now k → m ≡ k.listed) → RestsAt old k → HasCleanDisk new → IsStanding new m k
+pub opened : (old new : State) (m : List MRow) (k : Kept) → Survives old new (λ trees. ⊥) → IsUnchanged old new → (IsStoreDatabase old.now k → m ≡ k.listed)
+    → RestsAt old k → HasCleanDisk new → IsStanding new m None k
 opened old new m k survives unchanged told rests clean =
     let was = rests (was_clean old new (λ trees. ⊥) survives clean) unchanged.0.was_open in
     record {
@@ -63,11 +64,12 @@ opened old new m k survives unchanged told rests clean =
         same = unchanged.0.now_is ∙ (was.same ∙ sym unchanged.0.committed_is);
         autocommit = unchanged.0.mode ∙ was.autocommit;
       };
+      counted = λ still. tt;
     }
 
 -- the store that the last commit is
 pub found : (old new : State) (m : List MRow) (k : Kept) → Survives old new (λ trees. ⊥) → IsUnchanged old new × IsOfVersion old.now → IsSettled old
-    → (IsStoreDatabase old.now k → m ≡ k.listed) → IsStore old.committed.trees k → HasCleanDisk new → IsStanding new m k
+    → (IsStoreDatabase old.now k → m ≡ k.listed) → IsStore old.committed.trees k → HasCleanDisk new → IsStanding new m None k
 unfolding IsStore
 found old new m k survives version settled told stored = opened old new m k survives version.0 told
     (λ clean up. record {

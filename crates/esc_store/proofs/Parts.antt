@@ -30,6 +30,7 @@ abbrev pub Settled : {S X D : Type 0} → Ghosts S → Store S → Store S → R
 Settled g before new outcome result = record {
   manifest : new.manifest ≡ before.manifest;
   writes : new.writes ≡ before.writes;
+  counted : new.counted ≡ before.counted;
   settled : Settles g before new outcome result;
   cause : IfErr result IsS1OrS2;
 }

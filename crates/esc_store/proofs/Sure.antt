@@ -1,5 +1,5 @@
 -- Reads of a store's tables.
-use Rattle.std.proofs.Common.{◌≡◌, List, refl, sym, subst, ◌∙◌}
+use Rattle.std.proofs.Common.{◌≡◌, List, Option, Some, refl, sym, subst, ◌∙◌}
 use Rattle.std.specs.Prelude.{IsTrue, Result, Ok, Err, IfOk, OnErr}
 use Rattle.sqlite_trees.specs.declared.store.Store.{Ghosts}
 use Rattle.sqlite.specs.Held.{Held, state}
@@ -9,18 +9,23 @@ use Rattle.esc_rows.specs.Content.{Content, content_in}
 use Rattle.esc_rows.specs.Changes.{Tells}
 use Rattle.esc_rows.specs.Part.{IsRead}
 use Rattle.esc_rows.proofs.ObjectLemmas.{content_apart}
-use Rattle.esc_store.specs.Decoded.{HaveOwnKeys}
+use Rattle.esc_store.specs.Decoded.{HaveOwnKeys, counted}
+use Rattle.esc_store.specs.declared.counts.KindCounts.{KindCounts}
 use Rattle.esc_store.specs.declared.fault.SFault.{SFault}
 use Rattle.esc_store.specs.declared.store.Store.{Store}
-use Rattle.esc_store.specs.Kept.{Kept}
+use Rattle.esc_store.specs.Kept.{Kept, AreCounts}
 use Rattle.esc_store.specs.Tables.{IsStoreDatabase}
-use Rattle.esc_store.specs.Standing.{IsAtRest, IsStanding, IsStoreRead, IsLook, IsAsBefore, IsTold, Stands, IsHonest}
-use Rattle.esc_store.proofs.Ends.{at_said, was_clean}
+use Rattle.esc_store.specs.Standing.{IsAtRest, AreCountsOf, IsStanding, IsStoreRead, IsLook, IsAsBefore, IsTold, Stands, IsHonest}
+use Rattle.esc_store.proofs.Ends.{at_said, was_clean, still_counted}
 use Rattle.esc_store.proofs.Parts.{Settled, look_is}
+use Rattle.esc_store.proofs.Standings.{survives_same}
 
 module _ {X E : Type 0} {old new : State} {P : Content → X → Type 0} {r : Result X E} (look : IsLook old new (Tells P) r) where
-  pub stands_sure : (m : List MRow) (k : Kept) → IsStanding old m k → IsStanding new m k
-  stands_sure m k stands = record { listed = stands.listed; rests = λ clean up. rested clean up } where
+  pub stands_sure : (m : List MRow) (a b : Option KindCounts) (k : Kept) → b ≡ a → IsStanding old m a k → IsStanding new m b k
+  stands_sure m a b k same stands = record { listed = stands.listed; rests = λ clean up. rested clean up; counted = counts } where
+    counts : HasCleanDisk new → AreCountsOf b k
+    counts = still_counted old new a b k (λ trees. ⊥) look.survives same stands.counted
+
     rested : HasCleanDisk new → IsTrue new.is_open → IsAtRest new k
     rested clean up =
         let kept = look.kept clean in
@@ -34,8 +39,8 @@ module _ {X E : Type 0} {old new : State} {P : Content → X → Type 0} {r : Re
           bad : {Q : Type 0} (e : E) → r ≡ Err e → OnErr r Q → Q
           bad e is h = rw is at h
 
-  pub told : (m : List MRow) (k : Kept) (x : X) → r ≡ Ok x → HasCleanDisk new → IsStanding old m k → IsTold k (λ c. P c x)
-  told m k x is clean stands =
+  pub told : (m : List MRow) (counts : Option KindCounts) (k : Kept) (x : X) → r ≡ Ok x → HasCleanDisk new → IsStanding old m counts k → IsTold k (λ c. P c x)
+  told m counts k x is clean stands =
       let s = at_said r x _ is (look.said clean) in
       let was = stands.rests (was_clean old new (λ trees. ⊥) look.survives clean) s.1.0.was_open in
       let kept = subst (λ db. IsStoreDatabase db k) (sym was.same) was.kept in
@@ -50,7 +55,7 @@ module _ {X E : Type 0} {old new : State} {P : Content → X → Type 0} {r : Re
 -- the same of a store
 pub read_settled : {S X D : Type 0} {g : Ghosts S} {old new : Store S} {conn : Held S} {outcome : Result X D} {result : Result X SFault} {P : Content → X → Type 0}
     → Settled g (record old { conn = conn }) new outcome result → IsRead (state g old.conn) (state g conn) (Tells P) outcome → IsStoreRead g old new P result
-read_settled settle read = record { manifest = settle.manifest; writes = settle.writes; look = look_is settle.settled read }
+read_settled settle read = record { manifest = settle.manifest; writes = settle.writes; counted = settle.counted; look = look_is settle.settled read }
 
 module _ {S X E : Type 0} {g : Ghosts S} {old new : Store S} {P : Content → X → Type 0} where
   pub as_before : {r : Result X E} → IsStoreRead g old new P r → IsAsBefore g old new
@@ -59,12 +64,27 @@ module _ {S X E : Type 0} {g : Ghosts S} {old new : Store S} {P : Content → X 
     manifest = it.manifest;
     writes = it.writes;
     survives = it.look.survives;
-    stands = λ k stands. subst (λ m. IsStanding (state g new.conn) m k) (sym it.manifest) (stands_sure it.look old.manifest k stands);
+    stands = λ k stands. subst (λ m. IsStanding (state g new.conn) m new.counted k) (sym it.manifest) (stands_sure it.look old.manifest old.counted new.counted k it.counted stands);
   }
 
   pub told_of : {x : X} → IsStoreRead {E = E} g old new P (Ok x) → IsHonest g new → (k : Kept) → Stands g old k → IsTold k (λ c. P c x)
   unfolding Stands
-  told_of {x} it honest k stands = told it.look old.manifest k x refl honest stands
+  told_of {x} it honest k stands = told it.look old.manifest old.counted k x refl honest stands
+
+  -- counts that are remembered after a read, and are those of what the store keeps
+  pub remembered : {r : Result X E} {counts : KindCounts} → IsStoreRead g old new P r
+      → (IsHonest g new → (k : Kept) → Stands g old k → AreCounts k.registry.content (counted counts)) → IsAsBefore g old (record new { counted = Some counts })
+  unfolding Stands
+  remembered it are = let same = as_before it in record {
+    manifest = it.manifest;
+    writes = it.writes;
+    survives = it.look.survives;
+    stands = λ k stands. let now = same.stands k stands in record { listed = now.listed; rests = now.rests; counted = λ clean. are clean k stands };
+  }
+
+-- nothing was read
+pub unread : {S : Type 0} {g : Ghosts S} {s : Store S} → IsAsBefore g s s
+unread = record { manifest = refl; writes = refl; survives = survives_same _ _; stands = λ k h. h }
 
 -- a read gave back what was written only where that was so before
 pub was_honest : {S : Type 0} (g : Ghosts S) (old new : Store S) → IsAsBefore g old new → IsHonest g new → IsHonest g old
@@ -80,6 +100,7 @@ pub read_keyed : {S X E : Type 0} {g : Ghosts S} {old new : Store S} {P : Conten
 read_keyed {S} {X} {E} {g} {old} {new} {P} {r} it = record {
   manifest = it.manifest;
   writes = it.writes;
+  counted = it.counted;
   look =
       record { survives = it.look.survives; kept = it.look.kept; said = λ clean. said_keyed r (it.look.said clean); failed = it.look.failed };
 } where

@@ -36,6 +36,7 @@ use Rattle.esc_apply.specs.Registry.{State}
 use Rattle.esc_rows.specs.Rows.{ObjectRow}
 use Rattle.esc_rows.specs.Content.{is_object_at}
 use Rattle.esc_rows.specs.Changes.{ObjectEntry, ImageEntry, entry_at, image_entry_at}
+use Rattle.esc_store.specs.declared.counts.KindCounts.{KindCounts}
 use Rattle.esc_store.specs.Kept.{IsRising}
 use Rattle.esc_store.specs.ReplyValue.{ReceiptValue}
 use Rattle.esc_store.specs.TypedRows.{image_kept, verdict_number}
@@ -91,3 +92,20 @@ tallies_of kinds numbers = map (λ kind. (kind, times kind numbers)) kinds
 -- the kinds in their order, each with how often its number occurs among these
 abbrev pub tallies : List ℕ → List (Kind × ℕ)
 tallies = tallies_of all_kinds
+
+-- which of six counts is that of a kind
+abbrev pub count_for : KindCounts → Kind → ℕ
+count_for counts Registrar = counts.registrar
+count_for counts Contact = counts.contact
+count_for counts Host = counts.host
+count_for counts Domain = counts.domain
+count_for counts Idn = counts.idn
+count_for counts Nndn = counts.nndn
+
+-- kinds, each with its count
+abbrev pub counted_of : List Kind → KindCounts → List (Kind × ℕ)
+counted_of kinds counts = map (λ kind. (kind, count_for counts kind)) kinds
+
+-- the kinds in their order, each with its count
+abbrev pub counted : KindCounts → List (Kind × ℕ)
+counted = counted_of all_kinds

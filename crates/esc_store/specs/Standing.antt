@@ -10,6 +10,7 @@ use Rattle.std.specs.Prelude.{
   Result,
   Ok,
   IfOk,
+  IfSome,
   OnOk,
   OnErr,
   IsErr,
@@ -27,7 +28,9 @@ use Rattle.esc_rows.specs.Content.{Content, IsInOrder, content_in}
 use Rattle.esc_rows.specs.Changes.{Tells}
 use Rattle.esc_store.specs.declared.store.Store.{Store}
 use Rattle.esc_store.specs.declared.change.Change.{Change}
-use Rattle.esc_store.specs.Kept.{Kept}
+use Rattle.esc_store.specs.declared.counts.KindCounts.{KindCounts}
+use Rattle.esc_store.specs.Kept.{Kept, AreCounts}
+use Rattle.esc_store.specs.Decoded.{counted}
 use Rattle.esc_store.specs.TypedRows.{IsBooks, IsRegistry}
 use Rattle.esc_store.specs.Tables.{IsStore, IsStoreDatabase, HoldsTables}
 
@@ -58,14 +61,21 @@ RestsAt s k = HasCleanDisk s → IsTrue s.is_open → IsAtRest s k
 unfoldable pub HoldsKept : {S : Type 0} → Ghosts S → Held S → Kept → Type 0
 HoldsKept g conn k = RestsAt (state g conn) k
 
-pub record IsStanding (s : State) (manifest : List MRow) (k : Kept) : Type 0 where
+-- counts of objects, if there are any, are those of k
+abbrev pub AreCountsOf : Option KindCounts → Kept → Type 0
+AreCountsOf counts k = IfSome counts (λ c. AreCounts k.registry.content (counted c))
+
+pub record IsStanding (s : State) (manifest : List MRow) (counts : Option KindCounts) (k : Kept)
+    : Type 0 where
   pub listed : manifest ≡ k.listed
   pub rests : RestsAt s k
+  pub counted : HasCleanDisk s → AreCountsOf counts k
 
 -- a store stands for this: its manifest is that of k, and, if the disk gave back what was written
--- to it and the connection is open, its database holds exactly k
+-- to it, the counts of objects that it remembers, if any, are those of k, and its database holds
+-- exactly k if the connection is open
 unfoldable pub Stands : {S : Type 0} → Ghosts S → Store S → Kept → Type 0
-Stands g store k = IsStanding (state g store.conn) store.manifest k
+Stands g store k = IsStanding (state g store.conn) store.manifest store.counted k
 
 -- a store gave back what was written to it so far
 abbrev pub IsHonest : {S : Type 0} → Ghosts S → Store S → Type 0
@@ -226,11 +236,12 @@ pub record IsLook {X E : Type 0} (old new : State) (Says : Database → X → Ty
   pub failed : HasCleanDisk new
       → OnErr result ((new.in_transaction ≡ false) × (IsTrue new.is_open → new.now ≡ new.committed))
 
--- the same of a store, whose manifest and count of writes are as they were
+-- the same of a store, whose manifest, count of writes and remembered counts are as they were
 pub record IsStoreRead {S X E : Type 0} (g : Ghosts S) (old new : Store S) (Says : Content → X
     → Type 0) (result : Result X E) : Type 0 where
   pub manifest : new.manifest ≡ old.manifest
   pub writes : new.writes ≡ old.writes
+  pub counted : new.counted ≡ old.counted
   pub look : IsLook (state g old.conn) (state g new.conn) (Tells Says) result
 
 -- the outcome of a statement is settled: where it failed, a transaction that is on is rolled back

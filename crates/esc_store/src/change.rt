@@ -213,6 +213,7 @@ impl<S: Alter, L: Drop> Drop for Change<'_, S, L> {
             count: _,
             listing: _,
         } = self;
+        store.counted = None;
         store.give_up();
     }
 }

@@ -2,13 +2,52 @@
 
 ghost use Rattle.std.specs.Prelude.{◌≡◌, IfOk, IfErr};
 ghost use Rattle.esc_store.specs.Faults.{IsS1OrS2};
-ghost use Rattle.esc_store.specs.Decoded.{times, tallies};
+ghost use Rattle.esc_store.specs.Decoded.{times, tallies, count_for, counted};
 
 use crate::codec::object::kind_number;
 use crate::fault::SFault;
 use esc_envelope::Kind;
 use std::alloc::Global;
 use std::collections::BTreeMap;
+
+// How many objects there are of each kind, as a store remembers it.
+#[derive(Clone, Copy)]
+pub(crate) struct KindCounts {
+    registrar: u64,
+    contact: u64,
+    host: u64,
+    domain: u64,
+    idn: u64,
+    nndn: u64,
+}
+
+impl KindCounts {
+    // How many there are of a kind.
+    fn of(self, kind: Kind) -> u64
+        ensures { result ≡ count_for self kind }
+    {
+        match kind {
+            Kind::Registrar => self.registrar,
+            Kind::Contact => self.contact,
+            Kind::Host => self.host,
+            Kind::Domain => self.domain,
+            Kind::Idn => self.idn,
+            Kind::Nndn => self.nndn,
+        }
+    }
+
+    // The kinds in their order, each with how many there are of it.
+    pub(crate) fn by_kind(self, alloc: Global) -> Result<BTreeMap<Kind, u64>, SFault>
+        ensures counts { IfOk result (λ counts. counts.entries ≡ counted self) }
+        ensures cause { IfErr result IsS1OrS2 }
+    {
+        let mut counts = BTreeMap::new(alloc);
+        for kind in Kind::ALL {
+            counts.insert(kind, self.of(kind))?;
+        }
+        Ok(counts)
+    }
+}
 
 // How often the number of a kind occurs among these.
 fn count_of(kinds: &[u32], kind: Kind) -> u64
@@ -18,14 +57,16 @@ fn count_of(kinds: &[u32], kind: Kind) -> u64
     kinds.iter().filter(|it| **it == number).count() as u64
 }
 
-// The kinds in their order, each with how often its number occurs among these.
-pub(crate) fn counts_of(alloc: Global, kinds: &[u32]) -> Result<BTreeMap<Kind, u64>, SFault>
-    ensures counts { IfOk result (λ counts. counts.entries ≡ tallies kinds.now) }
-    ensures cause { IfErr result IsS1OrS2 }
+// How often the number of each kind occurs among these.
+pub(crate) fn counts_of(kinds: &[u32]) -> KindCounts
+    ensures { counted result ≡ tallies kinds.now }
 {
-    let mut counts = BTreeMap::new(alloc);
-    for kind in Kind::ALL {
-        counts.insert(kind, count_of(kinds, kind))?;
+    KindCounts {
+        registrar: count_of(kinds, Kind::Registrar),
+        contact: count_of(kinds, Kind::Contact),
+        host: count_of(kinds, Kind::Host),
+        domain: count_of(kinds, Kind::Domain),
+        idn: count_of(kinds, Kind::Idn),
+        nndn: count_of(kinds, Kind::Nndn),
     }
-    Ok(counts)
 }

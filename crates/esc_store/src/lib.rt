@@ -18,7 +18,7 @@
 //! |---|---|
 //! | `store`, `founding`, `opening` | a store, how it is made, and how one is found |
 //! | `migrating` | a store of version 1, which becomes one of this version |
-//! | `reads` | what a store returns of what it keeps |
+//! | `reads`, `counts` | what a store returns of what it keeps, and the counts that it remembers |
 //! | `change`, `books`, `registry`, `records` | a change: its receipt, body, chain and objects |
 //! | `parked`, `moment` | parked bodies and the moment: reads, and parts of a change |
 //! | `listing` | a change: the rows that an amended manifest adds |
@@ -46,7 +46,8 @@
 //!   of k and nothing else. It speaks of stores whose disk gave back what was written (`IsHonest`)
 //!   while their connection is open.
 //! - A read leaves the store as it was (`IsAsBefore`), whatever it returns, and what it returns is
-//!   a function of each k that the store stood for.
+//!   a function of each k that the store stood for. A store remembers how many objects of each kind
+//!   it has, once that was read, until a change ends: that these are k's is part of `Stands`.
 //! - A change that was begun on a store of k has `Began`: nothing is committed. `Rest` says what it
 //!   has made of rows, receipts, bodies, parked bodies, moment and chain, and `HoldsNow` what of
 //!   tables and before-images. `commit` turns `Rest` and `HoldsNow` into `Stands`; at `Err`, and

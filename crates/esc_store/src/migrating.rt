@@ -1,6 +1,6 @@
 //! A store of version 1, which becomes one of this version.
 
-ghost use Rattle.std.specs.Prelude.{◌≡◌, IsTrue, IfOk, IfErr, OnOk, OnErr, MatchResult};
+ghost use Rattle.std.specs.Prelude.{◌≡◌, IsTrue, None, IfOk, IfErr, OnOk, OnErr, MatchResult};
 ghost use Rattle.sqlite_trees.specs.Tree.{Trees};
 ghost use Rattle.sqlite.specs.Held.{state};
 ghost use Rattle.sqlite.specs.State.{HasCleanDisk, Survives, KeepsCommit, IsUnchanged};
@@ -103,7 +103,7 @@ fn commit_upgraded<S: Alter>(alloc: Global, conn: &mut Connection<S>) -> Result<
         → OnErr result (KeepsCommit (state S.Store conn.old) (state S.Store conn.new)) }
     ensures stands { IfOk result (λ manifest. (k : Kept) → (HasCleanDisk (state S.Store conn.old)
         → IsFirstDatabase (state S.Store conn.old).now k) → HasCleanDisk (state S.Store conn.new)
-        → IsStanding (state S.Store conn.new) manifest k) }
+        → IsStanding (state S.Store conn.new) manifest None k) }
     ensures left { OnOk result ((k : Kept) → (HasCleanDisk (state S.Store conn.old)
         → IsFirstDatabase (state S.Store conn.old).now k) → HasCleanDisk (state S.Store conn.new)
         → (trees : Trees) → (state S.Store conn.new).may_leave trees → IsStore trees k) }
@@ -124,7 +124,8 @@ fn migrate_whole<S: Alter>(alloc: Global, conn: &mut Connection<S>) -> Result<Ma
     ensures version { OnOk result (HasCleanDisk (state S.Store conn.new)
         → IsOfFirstVersion (state S.Store conn.old).now) }
     ensures stands { IfOk result (λ manifest. (k : Kept) → SeesFirst (state S.Store conn.old) k
-        → HasCleanDisk (state S.Store conn.new) → IsStanding (state S.Store conn.new) manifest k) }
+        → HasCleanDisk (state S.Store conn.new)
+        → IsStanding (state S.Store conn.new) manifest None k) }
     ensures left { OnOk result ((k : Kept) → SeesFirst (state S.Store conn.old) k
         → HasCleanDisk (state S.Store conn.new)
         → (trees : Trees) → (state S.Store conn.new).may_leave trees → IsStore trees k) }
@@ -147,7 +148,8 @@ fn migrate_here<S: Alter>(alloc: Global, conn: &mut Connection<S>) -> Result<Man
         → IsOfFirstVersion (state S.Store conn.old).now) }
     ensures settled { OnOk result (IsSettled (state S.Store conn.old)) }
     ensures stands { IfOk result (λ manifest. (k : Kept) → SeesFirst (state S.Store conn.old) k
-        → HasCleanDisk (state S.Store conn.new) → IsStanding (state S.Store conn.new) manifest k) }
+        → HasCleanDisk (state S.Store conn.new)
+        → IsStanding (state S.Store conn.new) manifest None k) }
     ensures left { OnOk result ((k : Kept)
         → IsFirstStore (state S.Store conn.old).committed.trees k
         → HasCleanDisk (state S.Store conn.new)
@@ -213,6 +215,7 @@ impl<S: Alter> Store<S> {
                 conn: connection,
                 manifest,
                 writes: 0,
+                counted: None,
                 alloc,
             }),
             Err(fault) => Err((fault, connection)),

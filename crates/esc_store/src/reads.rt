@@ -12,7 +12,7 @@ ghost use Rattle.esc_store.specs.Kept.{
   AreUnlisted,
   AreCounts,
 };
-ghost use Rattle.esc_store.specs.Decoded.{AreOfVerdict};
+ghost use Rattle.esc_store.specs.Decoded.{AreOfVerdict, counted};
 ghost use Rattle.esc_store.specs.TypedRows.{verdict_number};
 ghost use Rattle.esc_store.specs.Pages.{IsPage};
 ghost use Rattle.esc_store.specs.Standing.{Stands, IsHonest, IsAsBefore};
@@ -21,7 +21,7 @@ use crate::codec::object::{entries_of, kind_number, objects_of};
 use crate::codec::receipt::{distinct_indices_of, replies_of, reply_found, verdict_number};
 use crate::codec::small;
 use crate::codec::step::steps_of;
-use crate::counts::counts_of;
+use crate::counts::{KindCounts, counts_of};
 use crate::fault::SFault;
 use crate::numbers::Number;
 use crate::parked::digests_of;
@@ -176,15 +176,32 @@ impl<S: Alter> Store<S> {
         entries_of(alloc, stored.as_slice())
     }
 
-    /// How many objects the tables have of each of the six kinds. `S1`, `S2`.
+    // Reads the kind of each object, and remembers how many there are of each.
     #[tactic(auto, using(crate::proofs::Sure::as_before))]
+    fn count_here(&mut self, alloc: Global) -> Result<KindCounts, SFault>
+        ensures same { IsAsBefore S.Store self.old self.new }
+        ensures counts { IsHonest S.Store self.new → (k : Kept) → Stands S.Store self.old k
+            → IfOk result (λ counts. AreCounts k.registry.content (counted counts)) }
+        ensures cause { IfErr result IsS1OrS2 }
+    {
+        let kinds = self.kinds_here(alloc)?;
+        let counts = counts_of(kinds.as_slice());
+        self.counted = Some(counts);
+        Ok(counts)
+    }
+
+    /// How many objects the tables have of each of the six kinds. The store remembers it until a
+    /// change ends, so only the first of these calls after a change reads the objects. `S1`, `S2`.
+    #[tactic(auto, using(crate::proofs::Sure::unread))]
     pub fn counts_by_kind(&mut self, alloc: Global) -> Result<BTreeMap<Kind, u64>, SFault>
         ensures same { IsAsBefore S.Store self.old self.new }
         ensures counts { IsHonest S.Store self.new → (k : Kept) → Stands S.Store self.old k
             → IfOk result (λ counts. AreCounts k.registry.content counts.entries) }
         ensures cause { IfErr result IsS1OrS2 }
     {
-        let kinds = self.kinds_here(alloc)?;
-        counts_of(alloc, kinds.as_slice())
+        match self.counted {
+            Some(counts) => counts.by_kind(alloc),
+            None => self.count_here(alloc)?.by_kind(alloc),
+        }
     }
 }

@@ -52,6 +52,7 @@ ghost use Rattle.sqlite.specs.State.{HasCleanDisk};
 
 use crate::change::Change;
 use crate::codec::manifest::both_forms;
+use crate::counts::KindCounts;
 use crate::fault::SFault;
 use crate::founding::{found_here, give_up_in};
 use crate::opening::find_manifest;
@@ -68,6 +69,9 @@ pub struct Store<S: Alter> {
     pub(crate) conn: Connection<S>,
     pub(crate) manifest: Manifest,
     pub(crate) writes: u64,
+    // How many objects there are of each kind, once that was read: reading it takes as long as
+    // there are objects. A change forgets it at its end, committed or not.
+    pub(crate) counted: Option<KindCounts>,
     pub(crate) alloc: Global,
 }
 
@@ -113,6 +117,7 @@ impl<S: Alter> Store<S> {
                 conn: connection,
                 manifest: own,
                 writes: 0,
+                counted: None,
                 alloc,
             }),
             Err(fault) => Err((fault, connection)),
@@ -155,6 +160,7 @@ impl<S: Alter> Store<S> {
                 conn: connection,
                 manifest,
                 writes: 0,
+                counted: None,
                 alloc,
             }),
             Err(fault) => Err((fault, connection)),
@@ -239,10 +245,12 @@ impl<S: Alter> Store<S> {
         self.settle(begun)
     }
 
-    // Commits the transaction of a change.
+    // Commits the transaction of a change. The counts of objects are those of before it, and are
+    // forgotten.
     pub(crate) fn commit_here(&mut self) -> Result<(), SFault>
         ensures manifest { self.new.manifest ≡ self.old.manifest }
         ensures writes { self.new.writes ≡ self.old.writes }
+        ensures counted { self.new.counted ≡ None }
         ensures honest { IsHonest S.Store self.new → IsHonest S.Store self.old }
         ensures committed { OnOk result ((listing : Option (List MRow)) (before k : Kept)
             (s : State) → RestIn S.Store self.old listing before (with_registry k s)
@@ -257,6 +265,7 @@ impl<S: Alter> Store<S> {
             → HoldsIn S.Store self.old k.registry → LeavesOnly S.Store self.new k) }
         ensures cause { IfErr result IsS1OrS2 }
     {
+        self.counted = None;
         let committed = commit_in(&mut self.conn);
         self.settle(committed)
     }
@@ -274,6 +283,7 @@ impl<S: Alter> Store<S> {
     pub(crate) fn give_up(&mut self)
         ensures manifest { self.new.manifest ≡ self.old.manifest }
         ensures writes { self.new.writes ≡ self.old.writes }
+        ensures counted { self.new.counted ≡ self.old.counted }
         ensures given_up { IsGivenUp (state S.Store self.old.conn) (state S.Store self.new.conn) }
     {
         give_up_in(&mut self.conn);
@@ -283,6 +293,7 @@ impl<S: Alter> Store<S> {
     pub(crate) fn settle<T>(&mut self, outcome: Result<T, Error>) -> Result<T, SFault>
         ensures manifest { self.new.manifest ≡ self.old.manifest }
         ensures writes { self.new.writes ≡ self.old.writes }
+        ensures counted { self.new.counted ≡ self.old.counted }
         ensures settled { Settles S.Store self.old self.new outcome result }
         ensures cause { IfErr result IsS1OrS2 }
     {

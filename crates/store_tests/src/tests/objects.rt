@@ -301,3 +301,58 @@ fn what_is_removed_is_gone(rt: HostRuntime) -> Result<(), Fail> {
     assert_text(&rt, "removed", text.as_str(), REMOVED);
     Ok(())
 }
+
+// How many objects there are of each kind, asked for twice: the second answer is remembered.
+fn tell_twice<S: Alter>(
+    alloc: Global,
+    text: &mut String,
+    store: &mut Store<S>,
+) -> Result<(), Fail> {
+    for _ in 0..2 {
+        let counts = store.counts_by_kind(alloc)?;
+        tell_counts(text, &counts)?;
+    }
+    Ok(())
+}
+
+// Removes an object in a change that isn't committed.
+fn remove_in_vain<S: Alter>(store: &mut Store<S>, key: &Key) -> Result<(), SFault> {
+    let mut change = store.begin()?;
+    change.remove(key)
+}
+
+// What is counted of two objects at first, once a change was dropped that removed the first of
+// them, once it is removed, and once both are.
+const COUNTED: &str =
+    "0 1 0 1 0 0 \n0 1 0 1 0 0 \n0 1 0 1 0 0 \n0 1 0 1 0 0 \n0 0 0 1 0 0 \n0 0 0 1 0 0 \n0 0 0 0 0 0 \n0 0 0 0 0 0 \n";
+
+fn counted<S: Alter + Drop>(
+    alloc: Global,
+    store: &mut Store<S>,
+    first: &Key,
+) -> Result<String, Fail> {
+    let mut text = String::new(alloc);
+    tell_twice(alloc, &mut text, store)?;
+    remove_in_vain(store, first)?;
+    tell_twice(alloc, &mut text, store)?;
+    removed(alloc, store, first)?;
+    tell_twice(alloc, &mut text, store)?;
+    cleared(alloc, store)?;
+    tell_twice(alloc, &mut text, store)?;
+    Ok(text)
+}
+
+#[test]
+fn counts_follow_each_change(rt: HostRuntime) -> Result<(), Fail> {
+    let alloc = rt.alloc();
+    let first = key(alloc, Kind::Contact, "C1")?;
+    let mut store = new_store(alloc, Connection::open_in_memory(alloc)?)?;
+    put_all(
+        alloc,
+        &mut store,
+        &[(Kind::Contact, "C1"), (Kind::Domain, "a.example")],
+    )?;
+    let text = counted(alloc, &mut store, &first)?;
+    assert_text(&rt, "counted", text.as_str(), COUNTED);
+    Ok(())
+}

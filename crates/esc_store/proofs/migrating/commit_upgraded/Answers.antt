@@ -19,6 +19,7 @@ returns-clause-stands g c = λ k sees clean.
     record {
       listed = c.in_ok-manifest.ensures.manifest clean_mid k (sees (was_clean _ _ _ read clean_mid));
       rests = founded_rests _ _ _ k read (λ clean. c.in_ok-manifest.ensures.upgraded clean k (sees (was_clean _ _ _ read clean))) c.commit_in.ensures.survives c.in_ok-commit_in.ensures.committed;
+      counted = λ clean. tt;
     }
 
 pub returns-clause-left : goal.returns-clause-left

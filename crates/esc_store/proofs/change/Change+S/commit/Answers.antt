@@ -8,6 +8,7 @@ unfolding Stands HoldsKept RestIn
 returns-clause-committed g c = λ before k s rest holds. rw c.take_over.ensures (record {
   listed = ap (unwrap_or c.args.self.listing) c.commit_here.ensures.manifest ∙ rest.listed;
   rests = c.in_ok-commit_here.ensures.committed c.args.self.listing before k s rest holds;
+  counted = rw c.commit_here.ensures.counted (λ clean. tt);
 })
 
 pub returns-clause-left : goal.returns-clause-left

@@ -7,22 +7,23 @@ use Rattle.esc_store.proofs.store.Store.begin_here.Goals as goal
 pub returns-clause-began : goal.returns-clause-began
 unfolding Stands BeganIn
 returns-clause-began g c = ok_goes c.settle.result _ _ c.settle.ensures.settled.ok (λ x p k stands. rw p.1
-    (began _ _ _ k c.begin_in-begun.ensures.survives (λ clean. (at_ok c.begin_in-begun.result x _ p.0 (c.begin_in-begun.ensures.begun clean)).0) stands))
+    (began _ _ _ _ k c.begin_in-begun.ensures.survives (λ clean. (at_ok c.begin_in-begun.result x _ p.0 (c.begin_in-begun.ensures.begun clean)).0) stands))
 
 pub returns-clause-rest : goal.returns-clause-rest
 unfolding Stands RestIn
 returns-clause-rest g c = ok_goes c.settle.result _ _ c.settle.ensures.settled.ok (λ x p k stands. rw p.1
-    (made _ _ _ k c.begin_in-begun.ensures.survives (λ clean. (at_ok c.begin_in-begun.result x _ p.0 (c.begin_in-begun.ensures.begun clean)).0) stands))
+    (made _ _ _ _ k c.begin_in-begun.ensures.survives (λ clean. (at_ok c.begin_in-begun.result x _ p.0 (c.begin_in-begun.ensures.begun clean)).0) stands))
 
 pub returns-clause-holds : goal.returns-clause-holds
 unfolding Stands HoldsIn
 returns-clause-holds g c = ok_goes c.settle.result _ _ c.settle.ensures.settled.ok (λ x p k stands. rw p.1
-    (under_way _ _ _ k c.begin_in-begun.ensures.survives (λ clean. (at_ok c.begin_in-begun.result x _ p.0 (c.begin_in-begun.ensures.begun clean)).0) stands))
+    (under_way _ _ _ _ k c.begin_in-begun.ensures.survives (λ clean. (at_ok c.begin_in-begun.result x _ p.0 (c.begin_in-begun.ensures.begun clean)).0) stands))
 
 pub returns-clause-stands : goal.returns-clause-stands
 unfolding Stands
 returns-clause-stands g c = err_goes c.settle.result _ _ c.settle.ensures.settled.err (λ p k stands.
-    given_up _ _ _ k (λ trees. ⊥)
+    given_up _ _ _ _ _ k (λ trees. ⊥)
     (survives_then _ _ _ _ _ _ (λ _ db none. none) (λ _ db none. none) c.begin_in-begun.ensures.survives p.1.survives)
     (λ clean. keeps_then _ _ _ (c.begin_in-begun.ensures.kept (was_clean _ _ _ p.1.survives clean)) (p.1.kept clean))
-    p.1.ended p.1.settled (c.settle.ensures.manifest ∙ stands.listed) (λ clean up. (stands.rests clean up).kept))
+    p.1.ended p.1.settled (c.settle.ensures.manifest ∙ stands.listed) (λ clean up. (stands.rests clean up).kept)
+    c.settle.ensures.counted stands.counted)

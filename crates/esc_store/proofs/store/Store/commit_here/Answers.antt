@@ -26,7 +26,7 @@ returns-clause-crash g c = λ listing before k s rest holds.
 pub returns-clause-kept : goal.returns-clause-kept
 unfolding Stands BeganIn
 returns-clause-kept g c = err_goes c.settle.result _ _ c.settle.ensures.settled.err (λ p before begun.
-    given_up _ _ _ before _
+    given_up _ _ _ _ _ before _
     (survives_then _ _ _ _ _ _ (λ _ db is. is) (λ _ db none. absurd none) c.commit_in-committed.ensures.survives p.1.survives)
     (λ clean. keeps_then _ _ _ (at_err c.commit_in-committed.result _ p.0 (c.commit_in-committed.ensures.kept (was_clean _ _ _ p.1.survives clean))) (p.1.kept clean))
-    p.1.ended p.1.settled (c.settle.ensures.manifest ∙ begun.listed) (begun_committed _ _ before begun))
+    p.1.ended p.1.settled (c.settle.ensures.manifest ∙ begun.listed) (begun_committed _ _ before begun) c.settle.ensures.counted (λ clean. tt))

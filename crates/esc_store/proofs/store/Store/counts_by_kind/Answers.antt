@@ -1,11 +1,14 @@
-use Rattle.std.proofs.Common.{◌∙◌, ap}
-use Rattle.esc_store.specs.Decoded.{tallies}
-use Rattle.esc_store.proofs.Counting.{are_counts}
+use Rattle.std.proofs.Common.{sym, subst}
+use Rattle.esc_store.specs.Kept.{AreCounts}
+use Rattle.esc_store.specs.Standing.{Stands}
 use Rattle.esc_store.proofs.Reading.{if_goes}
-use Rattle.esc_store.proofs.Sure.{told_of, read_keyed}
 use Rattle.esc_store.proofs.store.Store.counts_by_kind.Goals as goal
 
-pub returns-clause-counts : goal.returns-clause-counts
-returns-clause-counts g c = λ honest k stands. if_goes c.counts_of.result _ _ c.counts_of.ensures.counts (λ counts is.
-    let told = told_of (read_keyed c.in_ok-kinds.ensures.read) honest k stands in
-    are_counts told.content k.registry _ counts.entries told.registry told.says.0 told.says.1 (is ∙ ap tallies c.as_slice.ensures.value))
+pub returns-in-Some-clause-counts : goal.returns-in-Some-clause-counts
+unfolding Stands
+returns-in-Some-clause-counts g c = λ honest k stands. if_goes c.by_kind.result _ _ c.by_kind.ensures.counts (λ counts is.
+    subst (AreCounts k.registry.content) (sym is) (rw c.in-Some.is at (stands.counted honest)))
+
+pub returns-in_ok-count_here-in-None-clause-counts : goal.returns-in_ok-count_here-in-None-clause-counts
+returns-in_ok-count_here-in-None-clause-counts g c = λ honest k stands. if_goes c.by_kind-in-None.result _ _ c.by_kind-in-None.ensures.counts (λ counts is.
+    subst (AreCounts k.registry.content) (sym is) (c.in_ok-count_here-in-None.ensures.counts honest k stands))

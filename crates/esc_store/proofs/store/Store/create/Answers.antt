@@ -13,6 +13,7 @@ returns-in-Ok-found_here-clause-created g c = record {
   listed = c.in-Ok.ensures.own;
   rests = c.in-Ok-found_here.ensures.rests c.args.manifest.now
       (ap (map listed_row) c.as_slice.ensures.value ∙ c.in-Ok.ensures.rows);
+  counted = λ clean. tt;
 }
 
 pub returns-in-Ok-found_here-clause-left : goal.returns-in-Ok-found_here-clause-left
