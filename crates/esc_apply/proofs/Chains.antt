@@ -1,5 +1,6 @@
 -- A registry that holds a chain of deposits, one step further and one step back.
 use Rattle.std.proofs.Common.{◌≡◌, ℕ, zero, suc, ◌+◌, ◌<◌, ◌≤◌, Bool, true, false, cond, eqb, List, [], ◌∷◌, ◌++◌, length, reverse, slice_get, take, drop, sum_by, Option, Some, None, is_some, refl, sym, ap, ap₂, subst, ◌∙◌, arith, append_assoc, length-append, length-take}
+use Rattle.std.specs.Prelude.{Result, Ok, Err, OnOk}
 use Rattle.std.specs.List.{find}
 use Rattle.std.specs.Option.{option_and_then, unwrap_or}
 use Rattle.std.proofs.lemmas.List.{reverse-append}
@@ -106,6 +107,17 @@ size_last c d n (es, are, len) = sym len ∙ count_mentions d es are.once (λ q.
 -- the next step of a chain, where that is step j
 pub applied_next : (Held : State → Type 0) (c : List DepositValue) (j : ℕ) (d : DepositValue) → length c + 1 ≡ j → Held (stepped (chain_state c) j d) → Held (chain_state (c ++ d ∷ []))
 applied_next Held c j d at held = subst Held (ap (λ (n : ℕ). stepped (chain_state c) n d) (omega (arith, at)) ∙ stepped-chain c d) held
+
+-- the first step of a chain, where the step's number is 1
+pub first_applied : {X E : Type 0} (Honest : Type 0) (Before Held : State → Type 0) (j : ℕ) (d : DepositValue) → j ≡ 1 → (r : Result X E)
+    → OnOk r (Honest → Before (chain_state []) → Held (chain_state (d ∷ [])))
+    → OnOk r (Honest → (k : List DepositValue) → length k + 1 ≡ j → Before (chain_state k) → Held (chain_state (k ++ d ∷ [])))
+first_applied Honest Before Held j d one (Err e) made = tt
+first_applied Honest Before Held j d one (Ok x) made = λ honest k at held. from k honest at held
+  where
+    from : (k : List DepositValue) → Honest → length k + 1 ≡ j → Before (chain_state k) → Held (chain_state (k ++ d ∷ []))
+    from [] honest at held = made honest held
+    from (x ∷ k) honest at held = absurd (omega (arith, at, one))
 
 -- the next step of a chain k with the first i of the deposits
 pub next_step : (k ds : List DepositValue) (steps i pos : ℕ) → length k ≡ steps → i ≤ length ds → pos ≡ steps + i → length (k ++ take i ds) + 1 ≡ pos + 1
