@@ -34,7 +34,7 @@ pub sets_moment : (old new : State) (watermark : ℤ) (count : ℕ) → Executes
 sets_moment old new watermark count ran c h =
     let m = moment_row watermark in
     let params = Int watermark ∷ [] in
-    let fresh = (inserts Moment params insert_moment_text moment_terms 3 (stored_row Moment m) insert_moment_is refl old new count c h ran m).edited.applies.fresh in
+    let fresh = (inserts Moment params insert_moment_text moment_terms 3 (stored_row Moment m ∷ []) insert_moment_is refl old new count c h ran).edited.applies.fresh in
     let free = was_free moment_number moment_columns (pos 1) c.moment (rw (h.store.rows.tables Moment, cast_null, cast_int (pos 1)) at fresh) in
     let none = none_free c.moment free in
     let now = adds Moment params insert_moment_text moment_terms 3 (stored_row Moment m) insert_moment_is refl old new count c h ran m

@@ -1,6 +1,7 @@
 -- What the statements on parked bodies do.
-use Rattle.std.proofs.Common.{◌≡◌, inl, inr, ℕ, pos, ◌≤◌, ◌+◌, ◌&&◌, ◌||◌, Bool, true, false, not, cond, List, [], ◌∷◌, map, filter, length, Option, Some, None, option_map, Ok, refl, sym, ap, subst, ◌∙◌, int_eq, is_eq, Less, Equal}
-use Rattle.std.specs.Prelude.{fold, find, bytes_eq, is_some}
+use Rattle.std.proofs.Common.{◌≡◌, inl, inr, ℕ, pos, ◌≤◌, ◌&&◌, ◌||◌, Bool, true, false, not, cond, List, [], ◌∷◌}
+use Rattle.std.proofs.Common.{◌++◌, map, filter, length, Option, None, option_map, Ok, refl, sym, ap, subst, ◌∙◌, int_eq, is_eq, Less, Equal}
+use Rattle.std.specs.Prelude.{bytes_eq, is_some}
 use Rattle.std.specs.Ordering.{nat_cmp, ordering_then}
 use Rattle.std.specs.Cmp.{IsTotalOrder, IsEquivalence}
 use Rattle.std.specs.Cmp.Lexicographic.{slice_cmp}
@@ -12,7 +13,7 @@ use Rattle.std.proofs.lemmas.Slice.Eq.{bytes_eq-Decides}
 use Rattle.std.proofs.lemmas.List.Sorted.{list_any-IsPermutation}
 use Rattle.std.proofs.lemmas.Map.Views.{Contains-from_any, list_any-from_Contains}
 use Rattle.sqlite_value.specs.declared.keys.Key.{Key}
-use Rattle.sqlite_value.specs.declared.value.Value.TheVariants.{Null, Blob}
+use Rattle.sqlite_value.specs.declared.value.Value.TheVariants.{Blob}
 use Rattle.sqlite_value.specs.Keys.{first_key}
 use Rattle.sqlite_value.specs.Order.{Row, value_cmp}
 use Rattle.sqlite_value.proofs.OrderLemmas.{value_cmp-Blob}
@@ -23,27 +24,26 @@ use Rattle.sqlite.specs.Term.{Term, col}
 use Rattle.sqlite.specs.Query.{Output, output_cmp}
 use Rattle.sqlite.specs.State.{State, Executes, Shown}
 use Rattle.sqlite.specs.Effect.{Database}
-use Rattle.sqlite_keyed.specs.Keyed.{insert_by, has_key}
 use Rattle.sqlite_keyed.specs.Lists.{sort_by, delete_where}
 use Rattle.sqlite_keyed.specs.Rules.{AreApart}
 use Rattle.sqlite_keyed.proofs.ListLemmas.{all_weaker, ascending_weaker, ascending-map}
 use Rattle.sqlite_keyed.proofs.SortLemmas.{IsPermutation-sort_by}
 use Rattle.esc_rows.specs.Schema.{rising, parked_tree}
 use Rattle.esc_rows.specs.Texts.{insert_parked_text, find_parked_text, parked_digests_text, delete_parked_text}
-use Rattle.esc_rows.specs.Rows.{ParkedRow, parked_number, parked_columns}
+use Rattle.esc_rows.specs.Rows.{ParkedRow, parked_number}
 use Rattle.esc_rows.specs.StoreTable.{Parked, tree_of, stored_row}
 use Rattle.esc_rows.specs.Content.{Content, HoldsContent, parked_at, is_parked_at}
 use Rattle.esc_rows.specs.Parked.{PutsParked, RemovesParked, by_digest, ListsParked, shown_parked, ShowsParked, shown_digest, digest_of, ShowsDigests}
 use Rattle.esc_rows.proofs.Compiled.{parked_tests, parked_terms, insert_parked_is, find_parked_is, parked_digests_is, delete_parked_is}
 use Rattle.esc_rows.proofs.Frame.{passes_unique}
 use Rattle.esc_rows.proofs.Scan.{scan, no_limit, is_match, put_in_order, same_blob, and_true}
-use Rattle.esc_rows.proofs.Typed.{put_typed, next_typed}
+use Rattle.esc_rows.proofs.ManyRows.{next_id, made, gains, of_one, found_after}
 use Rattle.esc_rows.proofs.Values.{cast_null}
-use Rattle.esc_rows.proofs.Finds.{apart, at_most_one_apart, find-filter, find_same, find_never, find-insert, find-insert_other, none_before}
+use Rattle.esc_rows.proofs.Finds.{apart, at_most_one_apart, find-filter, find_same, find_never}
 use Rattle.esc_rows.proofs.Sorts.{sort_same, then_equal}
 use Rattle.esc_rows.proofs.Firsts.{rises-sorted}
-use Rattle.esc_rows.proofs.NumberLemmas.{every, next_is, free_id}
-use Rattle.esc_rows.proofs.Statements.{asks, finds, cuts, adds}
+use Rattle.esc_rows.proofs.NumberLemmas.{every}
+use Rattle.esc_rows.proofs.Statements.{asks, finds, cuts}
 use Rattle.esc_rows.proofs.ObjectLemmas.{differ_int, two_true}
 
 -- the two are under one digest
@@ -95,33 +95,19 @@ body_of = option_map (λ (p : ParkedRow). p.body)
 
 -- ---- insert
 
-abbrev next_id : List ParkedRow → ℕ
-next_id = fold (λ (_ : ℕ) (p : ParkedRow). p.id + 1) 1
-
 abbrev pub parked_params : List ℕ → List ℕ → Row
 parked_params digest body = Blob digest ∷ Blob body ∷ []
 
-abbrev given : List ℕ → List ℕ → Row
-given digest body = Null ∷ Blob digest ∷ Blob body ∷ []
-
 pub puts_parked : (old new : State) (digest body : List ℕ) (count : ℕ) → Executes insert_parked_text (parked_params digest body) old new (Ok count) → PutsParked digest body old.now new.now
 puts_parked old new digest body count ran c h =
-    let p : ParkedRow = record { id = next_id c.parked; digest = digest; body = body } in
-    let ps = insert_by parked_number c.parked p in
-    let now = adds Parked (parked_params digest body) insert_parked_text parked_terms 3 (given digest body) insert_parked_is refl old new count c h ran p
-    (rw (h.store.rows.tables Parked, cast_null, next_typed parked_number parked_columns (pos 1) c.parked, next_is (λ (x : ParkedRow). x.id) 1 c.parked) (put_typed parked_number parked_columns p c.parked)) in
-    let free = free_id (λ (x : ParkedRow). x.id) c.parked (h.store.ordered Parked) in
-    let one = one_parked digest ps (parked_apart new.now (record c { parked = ps }) now) in
-    let none = none_before parked_number (is_parked_at digest) p c.parked free (itself digest) one in
-    (ps, now, ap body_of none, put_at c.parked p free none)
-  where
-    put_at : (ps : List ParkedRow) (p : ParkedRow) → has_key parked_number ps (parked_number p) ≡ false → find (is_parked_at digest) ps ≡ None → (d : List ℕ)
-        → parked_at d (insert_by parked_number ps (record p { digest = digest; body = body })) ≡ cond (bytes_eq digest d) (Some body) (parked_at d ps)
-    put_at ps p free none d = elim (cases_Bool (bytes_eq digest d)) [
-      | inl same ↦ rw same (ap body_of (find-insert parked_number (is_parked_at d) (record p { digest = digest; body = body }) ps
-          (find_same (is_parked_at d) (is_parked_at digest) (λ x. test_same digest d x same) ps ∙ none) same))
-      | inr other ↦ rw other (ap body_of (find-insert_other parked_number (is_parked_at d) (record p { digest = digest; body = body }) ps free other))
-    ]
+    let added : ℕ → Unit {0} → ParkedRow = λ id _. record { id = id; digest = digest; body = body } in
+    let params = parked_params digest body in
+    let ps = c.parked ++ made added (next_id (λ (p : ParkedRow). p.id) c.parked) (tt ∷ []) in
+    let now = gains Parked added (λ p. p.id) (λ p. refl) (λ n e. refl) (λ _. params) (λ n e. refl) (λ e. rw cast_null refl)
+    params insert_parked_text parked_terms 3 (tt ∷ []) insert_parked_is refl old new count c h ran in
+    let apart = parked_apart new.now (record c { parked = ps }) now in
+    let found = λ (d : List ℕ). found_after added (is_parked_at d) (λ _. bytes_eq digest d) (λ p. p.body) (λ _. body) (λ n e. refl) (λ n e. refl) _ (tt ∷ []) c.parked (one_parked d ps apart) in
+    (ps, now, (found digest).0 (rw (itself digest) refl), λ d. (found d).1 ∙ of_one (bytes_eq digest d) tt (λ _. body) (parked_at d c.parked))
 
 -- ---- delete
 
