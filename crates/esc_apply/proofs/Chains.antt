@@ -1,6 +1,5 @@
 -- A registry that holds a chain of deposits, one step further and one step back.
 use Rattle.std.proofs.Common.{◌≡◌, ℕ, zero, suc, ◌+◌, ◌<◌, ◌≤◌, Bool, true, false, cond, eqb, List, [], ◌∷◌, ◌++◌, length, reverse, slice_get, take, drop, sum_by, Option, Some, None, is_some, refl, sym, ap, ap₂, subst, ◌∙◌, arith, append_assoc, length-append, length-take}
-use Rattle.std.specs.Prelude.{Result, Ok, Err, OnOk}
 use Rattle.std.specs.List.{find}
 use Rattle.std.specs.Option.{option_and_then, unwrap_or}
 use Rattle.std.proofs.lemmas.List.{reverse-append}
@@ -109,15 +108,10 @@ pub applied_next : (Held : State → Type 0) (c : List DepositValue) (j : ℕ) (
 applied_next Held c j d at held = subst Held (ap (λ (n : ℕ). stepped (chain_state c) n d) (omega (arith, at)) ∙ stepped-chain c d) held
 
 -- the first step of a chain, where the step's number is 1
-pub first_applied : {X E : Type 0} (Honest : Type 0) (Before Held : State → Type 0) (j : ℕ) (d : DepositValue) → j ≡ 1 → (r : Result X E)
-    → OnOk r (Honest → Before (chain_state []) → Held (chain_state (d ∷ [])))
-    → OnOk r (Honest → (k : List DepositValue) → length k + 1 ≡ j → Before (chain_state k) → Held (chain_state (k ++ d ∷ [])))
-first_applied Honest Before Held j d one (Err e) made = tt
-first_applied Honest Before Held j d one (Ok x) made = λ honest k at held. from k honest at held
-  where
-    from : (k : List DepositValue) → Honest → length k + 1 ≡ j → Before (chain_state k) → Held (chain_state (k ++ d ∷ []))
-    from [] honest at held = made honest held
-    from (x ∷ k) honest at held = absurd (omega (arith, at, one))
+pub first_applied : (Before Held : State → Type 0) (k : List DepositValue) (j : ℕ) (d : DepositValue) → length k + 1 ≡ j → j ≡ 1 → Before (chain_state k) → (Before (chain_state []) → Held (chain_state (d ∷ [])))
+    → Held (chain_state (k ++ d ∷ []))
+first_applied Before Held [] j d at one held made = made held
+first_applied Before Held (x ∷ k) j d at one held made = absurd (omega (arith, at, one))
 
 -- the next step of a chain k with the first i of the deposits
 pub next_step : (k ds : List DepositValue) (steps i pos : ℕ) → length k ≡ steps → i ≤ length ds → pos ≡ steps + i → length (k ++ take i ds) + 1 ≡ pos + 1

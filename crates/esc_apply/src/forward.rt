@@ -125,7 +125,7 @@ fn apply_first<R: Registry>(alloc: Global, r: &mut R, d: &Deposit) -> Result<u64
     let deletes = plain_deletes(alloc, deletes_of(d), &d.contents)?;
     r.fill(alloc, 1, &d.contents)?;
     remove_deletes(r, alloc, 1, &deletes)?;
-    Ok((d.contents.len() + deletes.len()) as u64)
+    Ok((deletes.len() + d.contents.len()) as u64)
 }
 
 fn deletes_of(d: &Deposit) -> &[Key]

@@ -13,7 +13,7 @@ use Rattle.esc_apply.proofs.forward.apply_first.Goals as goal
 made : (g : given.Over) (c : goal.After-drop-deletes-2 g) → AreChangesOf c.args.d.now (map with_object c.d.inside.contents.entries ++ map without c.in_ok-deletes.deletes.keys)
 made g c = changes_made c.args.d.now c.d.inside.contents.entries c.deletes_of.result.now c.in_ok-deletes.deletes.keys
     (ap (λ (d : DepositValue). d.contents) c.d.view_is) c.deletes_of.ensures
-    (IsDistinct-from_sorted key_cmp _ c.len.ensures.ordered)
+    (IsDistinct-from_sorted key_cmp _ c.len-2.ensures.ordered)
     (IsDistinct-from_sorted key_cmp _ c.in_ok-deletes.ensures.ordered)
     c.in_ok-deletes.ensures.each
 
