@@ -107,6 +107,12 @@ size_last c d n (es, are, len) = sym len ∙ count_mentions d es are.once (λ q.
 pub applied_next : (Held : State → Type 0) (c : List DepositValue) (j : ℕ) (d : DepositValue) → length c + 1 ≡ j → Held (stepped (chain_state c) j d) → Held (chain_state (c ++ d ∷ []))
 applied_next Held c j d at held = subst Held (ap (λ (n : ℕ). stepped (chain_state c) n d) (omega (arith, at)) ∙ stepped-chain c d) held
 
+-- the first step of a chain, where the step's number is 1
+pub first_applied : (Before Held : State → Type 0) (k : List DepositValue) (j : ℕ) (d : DepositValue) → length k + 1 ≡ j → j ≡ 1 → Before (chain_state k) → (Before (chain_state []) → Held (chain_state (d ∷ [])))
+    → Held (chain_state (k ++ d ∷ []))
+first_applied Before Held [] j d at one held made = made held
+first_applied Before Held (x ∷ k) j d at one held made = absurd (omega (arith, at, one))
+
 -- the next step of a chain k with the first i of the deposits
 pub next_step : (k ds : List DepositValue) (steps i pos : ℕ) → length k ≡ steps → i ≤ length ds → pos ≡ steps + i → length (k ++ take i ds) + 1 ≡ pos + 1
 next_step k ds steps i pos len within at = omega (arith, length-append k (take i ds), length-take i ds)

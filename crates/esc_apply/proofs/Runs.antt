@@ -1,5 +1,5 @@
 -- What changes of a registry come to, one after another.
-use Rattle.std.proofs.Common.{◌≡◌, ℕ, Bool, true, false, cond, eqb, List, [], ◌∷◌, ◌++◌, length, Option, Some, None, is_some, refl, sym, ap, subst, ◌∙◌, arith}
+use Rattle.std.proofs.Common.{◌≡◌, ℕ, Bool, true, false, cond, ◌&&◌, eqb, List, [], ◌∷◌, ◌++◌, length, Option, Some, None, is_some, refl, sym, ap, subst, ◌∙◌, arith}
 use Rattle.std.specs.List.{IsDistinct, AllByRecursion}
 use Rattle.std.specs.Map.{lookup, keys_of}
 use Rattle.std.specs.Option.{unwrap_or}
@@ -9,8 +9,8 @@ use Rattle.esc_tables.specs.KeyName.{KeyName, key_eq}
 use Rattle.esc_tables.specs.ObjectValue.{ObjectValue}
 use Rattle.esc_tables.specs.DepositValue.{DepositValue}
 use Rattle.esc_apply.specs.Tables.{mentions, says, mention_count}
-use Rattle.esc_apply.specs.Registry.{State, Content, nothing, with_key, written, taken, changed, stepped, restored, IsEntriesOf}
-use Rattle.esc_apply.specs.Changes.{Change, changed_by, AreNew, written_by}
+use Rattle.esc_apply.specs.Registry.{State, Content, nothing, with_key, written, noted, taken, changed, stepped, restored, IsEntriesOf}
+use Rattle.esc_apply.specs.Changes.{Change, changed_by, AreNew, AreFirst, written_by}
 use Rattle.esc_tables.specs.KeyLaws.{key_itself}
 use Rattle.esc_apply.proofs.Keys.{Keys, one, two, keys, not_among}
 
@@ -47,7 +47,7 @@ same_content : (s t : State) (j : ℕ) (es : List Change) → s.content ≡ t.co
 same_content s t j [] same = same
 same_content s t j (e ∷ es) same = same_content (changed s j e.0 e.1) (written t e.0 e.1) j es (ap (λ (f : Content). with_key f e.0 e.1) same)
 
-content-changed_by : (s : State) (j : ℕ) (es : List Change) → IsDistinct key_eq (keys_of es) → (q : KeyName) → (changed_by s j es).content q ≡ unwrap_or (lookup (key_eq q) es) (s.content q)
+pub content-changed_by : (s : State) (j : ℕ) (es : List Change) → IsDistinct key_eq (keys_of es) → (q : KeyName) → (changed_by s j es).content q ≡ unwrap_or (lookup (key_eq q) es) (s.content q)
 content-changed_by s j es once q = (λ i. same_content s s j es refl i q) ∙ content-written_by s es once q
 
 -- ---- what changes note
@@ -72,19 +72,53 @@ undo-changed_by_other : (s : State) (j i : ℕ) (es : List Change) → eqb j i �
 undo-changed_by_other s j i [] differs q = refl
 undo-changed_by_other s j i (e ∷ es) differs q = undo-changed_by_other (changed s j e.0 e.1) j i es differs q ∙ rw differs refl
 
+-- what holds of each key of a list holds of one that is found there
+at_found : (P : KeyName → Type 0) (es : List Change) (q : KeyName) → AllByRecursion P (keys_of es) → is_some (lookup (key_eq q) es) ≡ true → P q
+at_found P [] q all found = absurd cc
+at_found P (e ∷ es) q all found = by_keys (at_found P es q all.1) (keys q e.0)
+  where
+    by_keys : (is_some (lookup (key_eq q) es) ≡ true → P q) → Keys q e.0 → P q
+    by_keys rest (one is) = subst P (sym is) all.0
+    by_keys rest (two here there) = rest (rw here at found)
+
+-- changes of keys without objects note that there was none
+pub undo-first : (s : State) (j : ℕ) (es : List Change) → AreFirst s j es → (i : ℕ) (q : KeyName)
+    → (changed_by s j es).undo i q ≡ cond (eqb j i && is_some (lookup (key_eq q) es)) (Some None) (s.undo i q)
+undo-first s j es are i q = by_tests (eqb j i) (is_some (lookup (key_eq q) es)) refl refl
+  where
+    by_tests : (a b : Bool) → eqb j i ≡ a → is_some (lookup (key_eq q) es) ≡ b → (changed_by s j es).undo i q ≡ cond {A = Noted} (a && b) (Some None) (s.undo i q)
+    by_tests false b e found = undo-changed_by_other s j i es e q
+    by_tests true true e found =
+        let is : j ≡ i = grind (arith, nat_tests) in
+        let none : s.content q ≡ None = at_found (λ k. s.content k ≡ None) es q are.free found in
+        subst (λ (n : ℕ). (changed_by s j es).undo n q ≡ Some None) is (undo-changed_by s j es are.new.once q ∙ rw found (ap (λ (o : Option ObjectValue). Some o) none))
+    by_tests true false e found =
+        let is : j ≡ i = grind (arith, nat_tests) in
+        subst (λ (n : ℕ). (changed_by s j es).undo n q ≡ s.undo n q) is (undo-changed_by s j es are.new.once q ∙ rw found refl)
+
 -- ---- changes that can be made
 fresh_all : (s : State) (j : ℕ) (ks : List KeyName) → s.undo j ≡ nothing → AllByRecursion (λ k. s.undo j k ≡ None) ks
 fresh_all s j [] none = tt
 fresh_all s j (k ∷ ks) none = ((λ i. none i k), fresh_all s j ks none)
 
-fresh_rest : (s : State) (j : ℕ) (e : Change) (ks : List KeyName) → AllByRecursion (λ y. key_eq e.0 y ≡ false) ks → AllByRecursion (λ y. s.undo j y ≡ None) ks → AllByRecursion (λ y. (changed s j e.0 e.1).undo j y ≡ None) ks
-fresh_rest s j e [] differ fresh = tt
-fresh_rest s j e (y ∷ ks) differ fresh = (rw (itself j, differ.0) fresh.0, fresh_rest s j e ks differ.1 fresh.1)
+-- what holds of each other key holds of each key of a list without this one
+all_others : (P Q : KeyName → Type 0) (k : KeyName) → ((y : KeyName) → key_eq k y ≡ false → P y → Q y) → (ks : List KeyName)
+    → AllByRecursion (λ y. key_eq k y ≡ false) ks → AllByRecursion P ks → AllByRecursion Q ks
+all_others P Q k other [] differ all = tt
+all_others P Q k other (y ∷ ks) differ all = (other y differ.0 all.0, all_others P Q k other ks differ.1 all.1)
 
 pub new_rest : (s : State) (j : ℕ) (e : Change) (es : List Change) → AreNew s j (e ∷ es) → AreNew (changed s j e.0 e.1) j es
 new_rest s j e es are = record {
   once = IsDistinct-tail key_eq e.0 (keys_of es) are.once;
-  fresh = fresh_rest s j e (keys_of es) (IsDistinct-head key_eq e.0 (keys_of es) are.once) are.fresh.1;
+  fresh = all_others (λ y. s.undo j y ≡ None) (λ y. (changed s j e.0 e.1).undo j y ≡ None) e.0
+      (λ y differs fresh. rw (itself j, differs) fresh) (keys_of es) (IsDistinct-head key_eq e.0 (keys_of es) are.once) are.fresh.1;
+}
+
+first_rest : (s : State) (j : ℕ) (e : Change) (es : List Change) → AreFirst s j (e ∷ es) → AreFirst (changed s j e.0 e.1) j es
+first_rest s j e es are = record {
+  new = new_rest s j e es are.new;
+  free = all_others (λ y. s.content y ≡ None) (λ y. (changed s j e.0 e.1).content y ≡ None) e.0
+      (λ y differs free. rw differs free) (keys_of es) (IsDistinct-head key_eq e.0 (keys_of es) are.new.once) are.free.1;
 }
 
 all_first : (P : KeyName → Type 0) (es fs : List Change) → AllByRecursion P (keys_of (es ++ fs)) → AllByRecursion P (keys_of es)
@@ -105,6 +139,21 @@ new_first s j es fs are = record { once = once_first es fs are.once; fresh = all
 pub new_then : (s : State) (j : ℕ) (es fs : List Change) → AreNew s j (es ++ fs) → AreNew (changed_by s j es) j fs
 new_then s j [] fs are = are
 new_then s j (e ∷ es) fs are = new_then (changed s j e.0 e.1) j es fs (new_rest s j e (es ++ fs) are)
+
+pub first_first : (s : State) (j : ℕ) (es fs : List Change) → AreFirst s j (es ++ fs) → AreFirst s j es
+first_first s j es fs are = record { new = new_first s j es fs are.new; free = all_first (λ k. s.content k ≡ None) es fs are.free }
+
+pub first_then : (s : State) (j : ℕ) (es fs : List Change) → AreFirst s j (es ++ fs) → AreFirst (changed_by s j es) j fs
+first_then s j [] fs are = are
+first_then s j (e ∷ es) fs are = first_then (changed s j e.0 e.1) j es fs (first_rest s j e (es ++ fs) are)
+
+-- of a registry without objects
+pub first_all : (s : State) (j : ℕ) (es : List Change) → ((q : KeyName) → s.content q ≡ None) → AreNew s j es → AreFirst s j es
+first_all s j es none new = record { new = new; free = all (keys_of es) }
+  where
+    all : (ks : List KeyName) → AllByRecursion (λ k. s.content k ≡ None) ks
+    all [] = tt
+    all (k ∷ ks) = (none k, all ks)
 
 -- ---- the changes that a deposit says
 pub record AreChangesOf (d : DepositValue) (es : List Change) : Type 0 where
@@ -140,6 +189,14 @@ changed_by-all s j d es are none = λ i. record { content = λ q. content q i; u
         by_step true e = let is : j ≡ k = grind (arith, nat_tests) in subst (λ (n : ℕ). (changed_by s j es).undo n q ≡ cond {A = Noted} (mentions q d) (Some (s.content q)) None) is (here q)
         by_step false e = undo-changed_by_other s j k es e q
 
+-- the first of them made, and then the others
+pub step_made : (Mid Held : State → Type 0) (s : State) (j : ℕ) (d : DepositValue) (es fs : List Change) → AreChangesOf d (es ++ fs) → s.undo j ≡ nothing
+    → (AreNew s j es → Mid (changed_by s j es)) → ((t : State) → Mid t → AreNew t j fs → Held (changed_by t j fs)) → Held (stepped s j d)
+step_made Mid Held s j d es fs are none put removed =
+    let all = new_all s j d (es ++ fs) are none in
+    subst Held (sym (changed_by-append s j es fs) ∙ changed_by-all s j d (es ++ fs) are none)
+    (removed (changed_by s j es) (put (new_first s j es fs all)) (new_then s j es fs all))
+
 -- ---- a run of changes on a registry, of which these states are held
 -- some state is held from which the changes that are left lead to the end
 pub record Leads (Held : State → Type 0) (end : State) (j : ℕ) (left : List Change) : Type 0 where
@@ -152,6 +209,35 @@ pub leads_more : (Before After : State → Type 0) (end : State) (j : ℕ) (e : 
 leads_more Before After end j e es left is going made =
     let first : Leads Before end j (e ∷ es) = subst (λ (l : List Change). Leads Before end j l) is going in
     record { now = changed first.now j e.0 e.1; held = made first.now first.held first.new.fresh.0; new = new_rest first.now j e es first.new; leads = first.leads }
+
+-- the same where no key that is left has an object
+pub record Fills (Held : State → Type 0) (end : State) (j : ℕ) (left : List Change) : Type 0 where
+  pub now : State
+  pub held : Held now
+  pub first : AreFirst now j left
+  pub leads : changed_by now j left ≡ end
+
+-- the first of them made
+pub fills_more : (Before After : State → Type 0) (end : State) (j : ℕ) (es fs left : List Change) → left ≡ es ++ fs
+    → Fills Before end j left → ((t : State) → Before t → AreFirst t j es → After (changed_by t j es)) → Fills After end j fs
+fills_more Before After end j es fs left is going made =
+    let all : Fills Before end j (es ++ fs) = subst (λ (l : List Change). Fills Before end j l) is going in
+    record {
+      now = changed_by all.now j es;
+      held = made all.now all.held (first_first all.now j es fs all.first);
+      first = first_then all.now j es fs all.first;
+      leads = sym (changed_by-append all.now j es fs) ∙ all.leads;
+    }
+
+-- all of them made
+pub fills_last : (Held : State → Type 0) (end : State) (j : ℕ) (left : List Change) → left ≡ [] → Fills Held end j left → Held end
+fills_last Held end j left is going =
+    let last : Fills Held end j [] = subst (λ (l : List Change). Fills Held end j l) is going in
+    subst Held last.leads last.held
+
+-- one of them, noted as a key without an object and written
+pub filled_one : (Held : State → Type 0) (t : State) (j : ℕ) (e : Change) → AreFirst t j (e ∷ []) → Held (written (noted t j e.0 None) e.0 e.1) → Held (changed_by t j (e ∷ []))
+filled_one Held t j e are held = subst (λ (o : Option ObjectValue). Held (written (noted t j e.0 o) e.0 e.1)) (sym are.free.0) held
 
 -- ---- the way back
 undo-written_by : (s : State) (es : List Change) → (written_by s es).undo ≡ s.undo

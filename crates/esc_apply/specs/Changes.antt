@@ -28,6 +28,11 @@ pub record AreNew (s : State) (j : ℕ) (es : List Change) : Type 0 where
   pub once : IsDistinct key_eq (keys_of es)
   pub fresh : AllByRecursion (λ k. s.undo j k ≡ None) (keys_of es)
 
+-- each key comes once, has no object, and nothing is noted of it for step j
+pub record AreFirst (s : State) (j : ℕ) (es : List Change) : Type 0 where
+  pub new : AreNew s j es
+  pub free : AllByRecursion (λ k. s.content k ≡ None) (keys_of es)
+
 -- the state after each change in turn, without notes
 abbrev pub written_by : State → List Change → State
 written_by s [] = s

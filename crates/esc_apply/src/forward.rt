@@ -89,9 +89,43 @@ pub(crate) fn apply_all<R: Registry>(
     let mut writes: u64 = 0;
     for d in deposits {
         pos += 1;
-        writes = writes.saturating_add(apply_step(alloc, r, pos, d)?);
+        writes = writes.saturating_add(apply_next(alloc, r, pos, d)?);
     }
     Ok(writes)
+}
+
+// Applies a deposit as step `pos` of a chain.
+fn apply_next<R: Registry>(alloc: Global, r: &mut R, pos: u32, d: &Deposit) -> Result<u64, R::Error>
+    ensures follows { R.follows r.old r.new }
+    ensures cause { IfErr result R.fails }
+    ensures number { IfOk result (λ n. n ≡ mention_count d.now) }
+    ensures counted { OnOk result (R.count r.new
+        ≡ saturated (R.count r.old + mention_count d.now)) }
+    ensures applied { OnOk result (R.is_honest r.new → (c : List DepositValue)
+        → length c + 1 ≡ pos → R.holds r.old (chain_state c)
+        → R.holds r.new (chain_state (c ++ d.now ∷ []))) }
+{
+    if pos == 1 {
+        apply_first(alloc, r, d)
+    } else {
+        apply_step(alloc, r, pos, d)
+    }
+}
+
+// Applies a deposit as the first step of a chain. No key has an object then, so none is looked up.
+fn apply_first<R: Registry>(alloc: Global, r: &mut R, d: &Deposit) -> Result<u64, R::Error>
+    ensures follows { R.follows r.old r.new }
+    ensures cause { IfErr result R.fails }
+    ensures number { IfOk result (λ n. n ≡ mention_count d.now) }
+    ensures counted { OnOk result (R.count r.new
+        ≡ saturated (R.count r.old + mention_count d.now)) }
+    ensures applied { OnOk result (R.is_honest r.new → R.holds r.old (chain_state [])
+        → R.holds r.new (chain_state (d.now ∷ []))) }
+{
+    let deletes = plain_deletes(alloc, deletes_of(d), &d.contents)?;
+    r.fill(alloc, 1, &d.contents)?;
+    remove_deletes(r, alloc, 1, &deletes)?;
+    Ok((deletes.len() + d.contents.len()) as u64)
 }
 
 fn deletes_of(d: &Deposit) -> &[Key]

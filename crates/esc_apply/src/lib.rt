@@ -21,7 +21,9 @@
 //!   mentions and makes one write for each.
 //! - [`undo_step`]: the last deposit taken back, by one write for each of its before-images.
 //! - [`move_chain`]: the steps past the common front are taken back, the last first, and the new
-//!   ones applied. Where nothing is common, all is cleared at once, which is no write.
+//!   ones applied. Where nothing is common, all is cleared at once, which is no write. The contents
+//!   of a first step are put by one call, `Registry::fill`, that looks nothing up: no key has an
+//!   object then.
 //! - [`MemRegistry`]: a registry in memory.
 //! - [`Objects`]: objects one at a time, for a report that need not keep all of them.
 //! - [`MapObjects`]: those of a map in memory.

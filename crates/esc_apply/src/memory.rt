@@ -147,6 +147,19 @@ impl Registry for MemRegistry {
         note(alloc, &mut self.notes, step, k.copy(alloc)?, before)
     }
 
+    fn fill(
+        &mut self,
+        alloc: Global,
+        step: u32,
+        objects: &BTreeMap<Key, Object>,
+    ) -> Result<(), NoMemory> {
+        for (key, object) in objects.iter() {
+            self.put_undo(alloc, step, key, None)?;
+            self.put(alloc, key, object)?;
+        }
+        Ok(())
+    }
+
     fn take_undo(
         &mut self,
         alloc: Global,

@@ -1,6 +1,20 @@
 //! Registries of objects.
 
-ghost use Rattle.std.specs.Prelude.{◌≡◌, ℕ, ◌+◌, ◌<◌, ◌^◌, Option, Some, None, IfOk, IfErr, OnOk};
+ghost use Rattle.std.specs.Prelude.{
+  ◌≡◌,
+  ℕ,
+  ◌+◌,
+  ◌<◌,
+  ◌^◌,
+  length,
+  map,
+  Option,
+  Some,
+  None,
+  IfOk,
+  IfErr,
+  OnOk,
+};
 ghost use Rattle.std.specs.Option.{option_copied};
 ghost use Rattle.esc_apply.specs.Registry.{
   State,
@@ -11,11 +25,13 @@ ghost use Rattle.esc_apply.specs.Registry.{
   saturated,
   IsEntriesOf,
 };
+ghost use Rattle.esc_apply.specs.Changes.{with_object, changed_by, AreFirst};
 ghost use Rattle.esc_bundle.specs.declared.fault.NoMemory.{NoMemory};
 
 use esc_bundle::NoMemory;
 use esc_tables::{Key, Object};
 use std::alloc::Global;
+use std::collections::BTreeMap;
 
 /// Objects by their keys, and their before-images: by step and key the object that the key had
 /// before the step. After an `Err` nothing is said of the content.
@@ -25,8 +41,8 @@ pub trait Registry {
     /// What the registry contains. A relation, since it may hold of no content or of several.
     ghost holds: { Self → State → Type 0 };
 
-    /// The number of writes so far. It grows by one with each `put` and `remove`, and stays at
-    /// 2^64 - 1 once there.
+    /// The number of writes so far. It grows by one with each `put` and `remove` and each object of
+    /// a `fill`, and stays at 2^64 - 1 once there.
     ghost count: { Self → ℕ };
 
     /// Which errors its calls return.
@@ -86,6 +102,22 @@ pub trait Registry {
         ensures noted { OnOk result (is_honest self.new → (s : State) → holds self.old s
             → s.undo step k.now ≡ None
             → holds self.new (noted s step k.now (option_copied before.entry))) };
+
+    /// Puts objects at keys that have none, and notes for the step that they had none; nothing may
+    /// be noted for this step and any of them yet. As many writes as objects.
+    fn fill(
+        &mut self,
+        alloc: Global,
+        step: u32,
+        objects: &BTreeMap<Key, Object>,
+    ) -> Result<(), Self::Error>
+        ensures follows { follows self.old self.new }
+        ensures cause { IfErr result fails }
+        ensures counted { OnOk result
+            (count self.new ≡ saturated (count self.old + length objects.now.entries)) }
+        ensures filled { OnOk result (is_honest self.new → (s : State) → holds self.old s
+            → AreFirst s step (map with_object objects.now.entries)
+            → holds self.new (changed_by s step (map with_object objects.now.entries))) };
 
     /// Removes what was noted for a step, and returns it: each key once. This is no write.
     fn take_undo(

@@ -107,7 +107,7 @@ same_images (Some x) (Some y) e has = ap Some (same_records x y (inner _ _ e) (r
   recorded (Some v) f = f v refl
 
 -- the before-image at a key's own number and bytes
-image_here : (f : Befores) (q : KeyName) → image_kept f (kind_rank q.kind) q.text ≡ option_map (λ o. option_and_then record_of o) (f q)
+pub image_here : (f : Befores) (q : KeyName) → image_kept f (kind_rank q.kind) q.text ≡ option_map (λ o. option_and_then record_of o) (f q)
 image_here f q = ap (λ o. option_map (λ x. option_and_then record_of x) (option_and_then (λ (kind : Kind). f (record { kind = kind; text = q.text })) o)) (kind_back q.kind)
 
 pub notes_are : (s : State) (step : ℕ) (c : Content) (rows : List ImageEntry) → IsRegistry c s → ListsImages step c rows → AreNotes step s rows

@@ -19,3 +19,4 @@ pub mod ReceiptRows
 pub mod Parking
 pub mod Unlisted
 pub mod Lists
+pub mod Filled

@@ -67,7 +67,7 @@ and_true : (a b : Bool) → (a && b) ≡ true → (a ≡ true) × (b ≡ true)
 and_true true b h = (refl, h)
 and_true false b h = absurd cc
 
-no_kind : (k : KeyName) (n : ℕ) (text : List ℕ) → kind_at n ≡ None → is_same_key (kind_rank k.kind) k.text n text ≡ false
+pub no_kind : (k : KeyName) (n : ℕ) (text : List ℕ) → kind_at n ≡ None → is_same_key (kind_rank k.kind) k.text n text ≡ false
 no_kind k n text none = elim (cases_Bool (kind_rank k.kind == n)) [
   | inl is ↦ let some : None ≡ Some k.kind = sym none ∙ (ap kind_at (sym (eqb-true (kind_rank k.kind) n is)) ∙ kind_back k.kind) in absurd cc
   | inr other ↦ rw other refl
@@ -136,8 +136,12 @@ put_turns kind key bytes old new made = turned kind key (Some bytes) old new mad
 pub remove_turns : (kind : ℕ) (key : List ℕ) (old new : Database) → RemovesObject kind key old new → Turns (SetsObject kind key None) old new
 remove_turns kind key old new made = turned kind key None old new made
 
+pub books_only : {k : Kept} {c c' : Content} → c' ≡ record c { objects = c'.objects } → IsBooks c k → IsBooks c' k
+books_only {k} only books =
+    subst (λ x. IsBooks x k) (sym only) (record { listed = books.listed; receipts = books.receipts; held = books.held; parked = books.parked; moment = books.moment; steps = books.steps })
+
 pub books_objects : {kind : ℕ} {key : List ℕ} {w : Option (List ℕ)} (k : Kept) (c c' : Content) → SetsObject kind key w c c' → IsBooks c k → IsBooks c' k
-books_objects k c c' set books = subst (λ x. IsBooks x k) (sym set.only) (record { listed = books.listed; receipts = books.receipts; held = books.held; parked = books.parked; moment = books.moment; steps = books.steps })
+books_objects k c c' set = books_only set.only
 
 pub set_registry : {s : State} (k : KeyName) (o : Option ObjectValue) {w : Option (List ℕ)} {c c' : Content} → option_and_then record_of o ≡ w → IfSome o (λ x. IsSome (record_of x)) → SetsObject (kind_rank k.kind) k.text w c c' → IsRegistry c s → IsRegistry c' (written s k o)
 set_registry {s} k o {w} {c} {c'} bytes has set it = record {

@@ -8,6 +8,7 @@ use Rattle.std.specs.Prelude.{
   List,
   [],
   ◌∷◌,
+  map,
   Option,
   None,
   Some,
@@ -48,3 +49,7 @@ entry_row e = (kind_rank e.0.kind, e.0.text, record_of e.1)
 -- the same of a row
 abbrev pub stored_row : ObjectEntry → ℕ × List ℕ × Option (List ℕ)
 stored_row r = (r.kind, r.key, Some r.bytes)
+
+-- the rows are those of these entries, in their order
+pub record AreRowsOf (es : List Entry) (rows : List ObjectEntry) : Type 0 where
+  pub same : map entry_row es ≡ map stored_row rows

@@ -64,6 +64,7 @@ mod change;
 mod codec;
 mod counts;
 mod fault;
+mod filling;
 mod form;
 mod founding;
 mod listing;

@@ -7,6 +7,7 @@ use esc_apply::Registry;
 use esc_tables::{Key, Object};
 use sqlite::Alter;
 use std::alloc::Global;
+use std::collections::BTreeMap;
 
 impl<'a, S: Alter> Registry for Change<'a, S> {
     ghost use Rattle.esc_apply.specs.Registry.{saturated};
@@ -66,6 +67,17 @@ impl<'a, S: Alter> Registry for Change<'a, S> {
             }
             None => self.note_record(step, k, None),
         }
+    }
+
+    fn fill(
+        &mut self,
+        alloc: Global,
+        step: u32,
+        objects: &BTreeMap<Key, Object>,
+    ) -> Result<(), SFault> {
+        self.fill_records(alloc, step, objects)?;
+        self.count = self.count.saturating_add(objects.len() as u64);
+        Ok(())
     }
 
     fn take_undo(

@@ -304,7 +304,8 @@ fn moved_within(
 
 /// The old chain, the new chain, how many calls the move makes, and what is said of it if all are
 /// let through. Back: for each step `take_undo` and one write for each of its keys, or one `clear`
-/// for the whole chain; forward: three calls for each mention.
+/// for the whole chain; forward: one `fill` for the contents of a first step, and else three calls
+/// for each mention.
 static STOPPED: [(&str, &str, u32, &str); 3] = [
     // Two steps of one key back, three mentions forward.
     (
@@ -315,11 +316,11 @@ static STOPPED: [(&str, &str, u32, &str); 3] = [
     ),
     // The clear alone: no later call fails in its place if its fault is not answered.
     ("F1 D2 D3", "", 1, "cleared, 0 back, 0 on, 0 writes, 5:\n"),
-    // The clear, and three mentions forward.
+    // The clear, and a first step of three objects.
     (
         "F1 D2",
         "F2",
-        10,
+        2,
         "cleared, 0 back, 1 on, 3 writes, 7: z=R1\n",
     ),
 ];

@@ -69,7 +69,7 @@ fn kind_of(number: u32) -> Result<Kind, SFault>
 }
 
 // The key with this kind's number and these bytes as its text. `S1` if there is none; `S2`.
-fn key_of(alloc: Global, kind: u32, text: &[u8]) -> Result<Key, SFault>
+pub(crate) fn key_of(alloc: Global, kind: u32, text: &[u8]) -> Result<Key, SFault>
     ensures kind { IfOk result (λ key. kind ≡ kind_rank key.kind) }
     ensures text { IfOk result (λ key. text.now ≡ key.text) }
     ensures cause { IfErr result IsS1OrS2 }

@@ -4,6 +4,7 @@ use esc_apply::{MemRegistry, Registry};
 use esc_bundle::NoMemory;
 use esc_tables::{Key, Object};
 use std::alloc::Global;
+use std::collections::BTreeMap;
 
 /// Why a call failed.
 #[derive(Clone, Copy, Debug, PartialEq, Eq)]
@@ -83,6 +84,16 @@ impl Registry for Stopping {
     ) -> Result<(), Stopped> {
         pass(&mut self.left)?;
         Ok(self.inner.put_undo(alloc, step, k, before)?)
+    }
+
+    fn fill(
+        &mut self,
+        alloc: Global,
+        step: u32,
+        objects: &BTreeMap<Key, Object>,
+    ) -> Result<(), Stopped> {
+        pass(&mut self.left)?;
+        Ok(self.inner.fill(alloc, step, objects)?)
     }
 
     fn take_undo(

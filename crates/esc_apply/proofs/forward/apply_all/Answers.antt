@@ -9,7 +9,7 @@ pub loop-d-preserved : goal.loop-d-preserved
 loop-d-preserved g c =
     let registry = g.R.Registry in
     let before = c.loop-d.invariant in
-    let made = c.in_ok-apply_step.ensures in
+    let made = c.in_ok-apply_next.ensures in
     let ds = c.args.deposits.now in
     let i = c.loop-d.d-index in
     let d : DepositValue = c.d-item.result in
@@ -22,5 +22,5 @@ loop-d-preserved g c =
       chain = λ honest k len held.
           let now = before.chain (g.met.R.Registry.was_honest _ _ made.follows honest) k len held in
           let at = next_step k ds c.args.steps i c.loop-d.pos len (omega arith) before.at in
-          one_more (registry.holds c.apply_step.new.r) k ds i d (made.applied honest (k ++ take i ds) at now) more;
+          one_more (registry.holds c.apply_next.new.r) k ds i d (made.applied honest (k ++ take i ds) at now) more;
     }

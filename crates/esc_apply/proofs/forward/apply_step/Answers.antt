@@ -1,14 +1,14 @@
-use Rattle.std.proofs.Common.{◌≡◌, ◌++◌, map, ap, sym, subst, ◌∙◌, arith}
+use Rattle.std.proofs.Common.{◌≡◌, ◌++◌, map, ap, arith}
 use Rattle.std.proofs.lemmas.Result.{err_from_is_err_and}
 use Rattle.std.proofs.lemmas.Map.Keys.{IsDistinct-from_sorted}
 use Rattle.esc_tables.specs.KeyName.{key_cmp}
 use Rattle.esc_tables.specs.DepositValue.{DepositValue}
-use Rattle.esc_apply.specs.Changes.{with_object, without, changed_by}
+use Rattle.esc_apply.specs.Changes.{with_object, without}
 use Rattle.esc_apply.specs.Registry.{State, nothing, stepped}
 use Rattle.esc_apply.specs.Images.{chain_state}
 use Rattle.esc_apply.proofs.Chains.{fresh-chain, applied_next}
 use Rattle.esc_apply.proofs.Mentions.{changes_made, changes_counted}
-use Rattle.esc_apply.proofs.Runs.{AreChangesOf, new_all, new_first, new_then, changed_by-append, changed_by-all}
+use Rattle.esc_apply.proofs.Runs.{AreChangesOf, step_made}
 use Rattle.esc_apply.proofs.forward.apply_step.Given as given
 use Rattle.esc_apply.proofs.forward.apply_step.Goals as goal
 
@@ -37,14 +37,10 @@ Stepped g c = g.R.Registry.is_honest c.remove_deletes.new.r → (s : State) → 
 
 all_stepped : (g : given.Over) (c : goal.After-drop-deletes-2 g) → Stepped g c
 all_stepped g c = λ honest s held none.
-    let d = c.args.d.now in
-    let contents = map with_object c.d.inside.contents.entries in
-    let deletes = map without c.in_ok-deletes.deletes.keys in
-    let are = made g c in
-    let all = new_all s c.args.pos d (contents ++ deletes) are none in
-    let put = c.in_ok-put_contents.ensures.put (g.met.R.Registry.was_honest _ _ c.in_ok-remove_deletes.ensures.follows honest) s held (new_first s c.args.pos contents deletes all) in
-    let removed = c.in_ok-remove_deletes.ensures.removed honest (changed_by s c.args.pos contents) put (new_then s c.args.pos contents deletes all) in
-    subst (g.R.Registry.holds c.remove_deletes.new.r) (sym (changed_by-append s c.args.pos contents deletes) ∙ changed_by-all s c.args.pos d (contents ++ deletes) are none) removed
+    step_made (g.R.Registry.holds c.put_contents.new.r) (g.R.Registry.holds c.remove_deletes.new.r) s c.args.pos c.args.d.now
+    (map with_object c.d.inside.contents.entries) (map without c.in_ok-deletes.deletes.keys) (made g c) none
+    (c.in_ok-put_contents.ensures.put (g.met.R.Registry.was_honest _ _ c.in_ok-remove_deletes.ensures.follows honest) s held)
+    (c.in_ok-remove_deletes.ensures.removed honest)
 
 pub returns-clause-stepped : goal.returns-clause-stepped
 returns-clause-stepped g c = all_stepped g c

@@ -1,0 +1,245 @@
+-- Rows of objects that are put many at a time, at keys that have none.
+use Rattle.std.proofs.Common.{◌≡◌, ℕ, Bool, true, false, cond, ◌&&◌, List, [], ◌∷◌, ◌++◌, map, Option, None, Some, is_some, refl, sym, ap, ap₂, subst, ◌∙◌, append_assoc}
+use Rattle.std.specs.Prelude.{◌==◌, if◌then◌else◌, option_map, IsSome, IfSome}
+use Rattle.std.specs.Option.{option_and_then, option_or, unwrap_or}
+use Rattle.std.specs.Map.{lookup}
+use Rattle.std.proofs.lemmas.List.{append-nil, map-append, map_push}
+use Rattle.sqlite_trees.specs.declared.store.Store.{Ghosts}
+use Rattle.sqlite.specs.Effect.{Database}
+use Rattle.esc_envelope.specs.declared.kind.Kind.{Kind}
+use Rattle.esc_envelope.specs.Kinds.{kind_rank}
+use Rattle.esc_tables.specs.KeyName.{KeyName, key_eq}
+use Rattle.esc_tables.specs.KeyLaws.{keys_alike}
+use Rattle.esc_tables.specs.ObjectValue.{ObjectValue}
+use Rattle.esc_record.specs.Record.{record_of}
+use Rattle.esc_apply.specs.Objects.{Entry}
+use Rattle.esc_apply.specs.Registry.{State}
+use Rattle.esc_apply.specs.Changes.{with_object, changed_by, AreFirst}
+use Rattle.esc_apply.proofs.Runs.{content-changed_by, undo-first, Fills, fills_more, fills_last}
+use Rattle.esc_rows.specs.Content.{Content, content_in, object_at, image_at}
+use Rattle.esc_rows.specs.declared.object.NewObject.{NewObject}
+use Rattle.esc_rows.specs.Entries.{new_entry}
+use Rattle.esc_rows.specs.Changes.{ObjectEntry, is_entry_at, entry_at, has_entry, GainsObjects, PutsObjects, GainsImages, PutsNoImages}
+use Rattle.esc_store.specs.Pages.{entry_row, stored_row, AreRowsOf}
+use Rattle.esc_store.specs.TypedRows.{kind_at, record_at, image_kept, IsRegistry}
+use Rattle.esc_store.specs.Standing.{ChangeOf, Follows}
+use Rattle.esc_store.proofs.Gathering.{tests_alike, record_here, image_here}
+use Rattle.esc_store.proofs.Parking.{goes_then}
+use Rattle.esc_store.proofs.Parts.{Turns, turning}
+use Rattle.esc_store.proofs.Registries.{no_kind, number_of_kind, rank_one, in_branch, has_record}
+
+-- ---- rows of entries
+abbrev pub RowOf : Type 0
+RowOf = ℕ × List ℕ × Option (List ℕ)
+
+pub rows_none : (es : List Entry) → AreRowsOf es [] → es ≡ []
+rows_none [] are = refl
+rows_none (e ∷ es) are = let no = are.same in absurd cc
+
+other_rows : (e : Entry) (es : List Entry) (r : ObjectEntry) (rows : List ObjectEntry) → AreRowsOf (e ∷ es) (r ∷ rows) → (entry_row e ≡ stored_row r) × AreRowsOf es rows
+other_rows e es r rows are = let all : entry_row e ∷ map entry_row es ≡ stored_row r ∷ map stored_row rows = are.same in (cc, record { same = cc })
+
+-- the entry of the first row, and those of the others
+pub record First (es : List Entry) (r : ObjectEntry) (rows : List ObjectEntry) : Type 0 where
+  pub one : Entry
+  pub others : List Entry
+  pub all : es ≡ one ∷ others
+  pub same : entry_row one ≡ stored_row r
+  pub are : AreRowsOf others rows
+
+pub first_row : (es : List Entry) (r : ObjectEntry) (rows : List ObjectEntry) → AreRowsOf es (r ∷ rows) → First es r rows
+first_row [] r rows are = let no = are.same in absurd cc
+first_row (e ∷ es) r rows are = let it = other_rows e es r rows are in record { one = e; others = es; all = refl; same = it.0; are = it.1 }
+
+rows_more : (es : List Entry) (e : Entry) (rows : List ObjectEntry) (r : ObjectEntry) → AreRowsOf es rows → entry_row e ≡ stored_row r → AreRowsOf (es ++ e ∷ []) (rows ++ r ∷ [])
+rows_more es e rows r are same = record { same = map_push entry_row es e ∙ ap₂ (λ (l : List RowOf) (x : RowOf). l ++ x ∷ []) are.same same ∙ sym (map_push stored_row rows r) }
+
+-- a key of the table is a row's exactly if it is its entry's
+row_test : (e : Entry) (r : ObjectEntry) → entry_row e ≡ stored_row r → (q : KeyName) → is_entry_at (kind_rank q.kind) q.text r ≡ key_eq q e.0
+row_test e r same q = sym (tests_alike e.0 q r.kind r.key (sym (ap (λ t. t.0) same)) (sym (ap (λ t. t.1) same))) ∙ keys_alike.symm e.0 q
+
+-- what is to be put at a key, if anything is: an object, and its record
+data Alike (a : Option (Option ObjectValue)) (b : Option (List ℕ)) : Type 0 where
+  neither : a ≡ None → b ≡ None → Alike a b
+  both : (o : ObjectValue) (bytes : List ℕ) → a ≡ Some (Some o) → b ≡ Some bytes → record_of o ≡ Some bytes → Alike a b
+
+rows_found : (es : List Entry) (rows : List ObjectEntry) → AreRowsOf es rows → (q : KeyName) → Alike (lookup (key_eq q) (map with_object es)) (entry_at (kind_rank q.kind) q.text rows)
+rows_found [] [] are q = neither refl refl
+rows_found [] (r ∷ rows) are q = let no = are.same in absurd cc
+rows_found (e ∷ es) [] are q = let no = are.same in absurd cc
+rows_found (e ∷ es) (r ∷ rows) are q = by_test (key_eq q e.0) (row_test e r (other_rows e es r rows are).0 q) (rows_found es rows (other_rows e es r rows are).1 q)
+  where
+    by_test : (b : Bool) → is_entry_at (kind_rank q.kind) q.text r ≡ b → Alike (lookup (key_eq q) (map with_object es)) (entry_at (kind_rank q.kind) q.text rows)
+        → Alike (cond b (Some (Some e.1)) (lookup (key_eq q) (map with_object es))) (entry_at (kind_rank q.kind) q.text (r ∷ rows))
+    by_test true at rest = rw at (both e.1 r.bytes refl refl (ap (λ (t : RowOf). t.2) (other_rows e es r rows are).0))
+    by_test false at rest = rw at rest
+
+-- no row is of a kind that there isn't
+no_row : (es : List Entry) (rows : List ObjectEntry) → AreRowsOf es rows → (n : ℕ) (text : List ℕ) → kind_at n ≡ None → entry_at n text rows ≡ None
+no_row [] [] are n text none = refl
+no_row [] (r ∷ rows) are n text none = let no = are.same in absurd cc
+no_row (e ∷ es) [] are n text none = let no = are.same in absurd cc
+no_row (e ∷ es) (r ∷ rows) are n text none =
+    let (same, others) = other_rows e es r rows are in
+    let kinds : kind_rank e.0.kind ≡ r.kind = ap (λ (t : RowOf). t.0) same in
+    let texts : e.0.text ≡ r.key = ap (λ (t : RowOf). t.1) same in
+    let off : is_entry_at n text r ≡ false = rw (← kinds, ← texts) (no_kind e.0 n text none) in
+    rw off (no_row es rows others n text none)
+
+-- ---- what the two statements turn a store's content into
+pub record GainsAll (rows : List ObjectEntry) (c c' : Content) : Type 0 where
+  pub only : c' ≡ record c { objects = c'.objects }
+  pub gains : GainsObjects rows c.objects c'.objects
+
+pub objects_turn : (rows : List ObjectEntry) (old new : Database) → PutsObjects rows old new → Turns (GainsAll rows) old new
+objects_turn rows old new made = turning (λ tables. let m = made (content_in old.trees) tables in (record (content_in old.trees) { objects = m.0 }, m.1, record { only = refl; gains = m.2 }))
+
+pub record NotesAll (step : ℕ) (rows : List ObjectEntry) (c c' : Content) : Type 0 where
+  pub only : c' ≡ record c { undo = c'.undo }
+  pub gains : GainsImages step rows c.undo c'.undo
+
+pub images_turn : (step : ℕ) (rows : List ObjectEntry) (old new : Database) → PutsNoImages step rows old new → Turns (NotesAll step rows) old new
+images_turn step rows old new made = turning (λ tables. let m = made (content_in old.trees) tables in (record (content_in old.trees) { undo = m.0 }, m.1, record { only = refl; gains = m.2 }))
+
+-- ---- and into tables and before-images
+-- at each key of the tables, if so at those of a kind and at those of none
+by_kind : {Y : Type 0} (f g : ℕ → List ℕ → Y) → ((n : ℕ) (text : List ℕ) → kind_at n ≡ None → f n text ≡ g n text) → ((q : KeyName) → f (kind_rank q.kind) q.text ≡ g (kind_rank q.kind) q.text)
+    → (n : ℕ) (text : List ℕ) → f n text ≡ g n text
+by_kind f g none some n text = at (kind_at n) refl
+  where
+    at : (o : Option Kind) → kind_at n ≡ o → f n text ≡ g n text
+    at None is = none n text is
+    at (Some kind) is = subst (λ (m : ℕ). f m text ≡ g m text) (sym (number_of_kind n kind is)) (some (record { kind = kind; text = text }))
+
+abbrev kept_of : Option (Option ObjectValue) → Option (Option (List ℕ))
+kept_of = option_map (λ (o : Option ObjectValue). option_and_then record_of o)
+
+module _ {es : List Entry} {rows : List ObjectEntry} (are : AreRowsOf es rows) {s : State} {step : ℕ} (new : AreFirst s step (map with_object es)) where
+  abbrev after : State
+  after = changed_by s step (map with_object es)
+
+  abbrev here : KeyName → Option (Option ObjectValue)
+  here q = lookup (key_eq q) (map with_object es)
+
+  abbrev put_at : ℕ → List ℕ → Option (List ℕ)
+  put_at n text = option_or (entry_at n text rows) (record_at s.content n text)
+
+  abbrev noted_at : ℕ → ℕ → List ℕ → Option (Option (List ℕ))
+  noted_at p n text = if (step == p) && has_entry n text rows then Some None else image_kept (s.undo p) n text
+
+  put_then : (n : ℕ) (text : List ℕ) → put_at n text ≡ record_at after.content n text
+  put_then = by_kind put_at (λ n text. record_at after.content n text) (λ n text is. rw (no_row es rows are n text is, is) refl) (λ q.
+      rw (record_here s.content q, record_here after.content q) (found (here q) (entry_at (kind_rank q.kind) q.text rows) (s.content q) (rows_found es rows are q)
+      ∙ ap (option_and_then record_of) (sym (content-changed_by s step (map with_object es) new.new.once q))))
+    where
+      found : (a : Option (Option ObjectValue)) (b : Option (List ℕ)) (x : Option ObjectValue) → Alike a b → option_or b (option_and_then record_of x) ≡ option_and_then record_of (unwrap_or a x)
+      found a b x (neither p q) = rw (p, q) refl
+      found a b x (both o bytes p q is) = rw (p, q) (sym is)
+
+  noted_then : (p n : ℕ) (text : List ℕ) → noted_at p n text ≡ image_kept (after.undo p) n text
+  noted_then p = by_kind (noted_at p) (λ n text. image_kept (after.undo p) n text) (λ n text is. rw (no_row es rows are n text is, is) (off (step == p))) (λ q.
+      rw (image_here (s.undo p) q, image_here (after.undo p) q, ← found (here q) (entry_at (kind_rank q.kind) q.text rows) (rows_found es rows are q))
+      (sym (in_branch kept_of ((step == p) && is_some (here q)) (Some None) (s.undo p q)) ∙ ap kept_of (sym (undo-first s step (map with_object es) new p q))))
+    where
+      off : (b : Bool) → cond {A = Option (Option (List ℕ))} (b && false) (Some None) None ≡ None
+      off true = refl
+      off false = refl
+
+      found : (a : Option (Option ObjectValue)) (b : Option (List ℕ)) → Alike a b → is_some a ≡ is_some b
+      found a b (neither p q) = rw (p, q) refl
+      found a b (both o bytes p q is) = rw (p, q) refl
+
+  pub note_all : {c c' : Content} → NotesAll step rows c c' → IsRegistry c s → IsRegistry c' (record { content = s.content; undo = (changed_by s step (map with_object es)).undo })
+  note_all {c} {c'} set it = record {
+    objects = λ n text. ap (λ (x : Content). object_at n text x.objects) set.only ∙ it.objects n text;
+    images = λ p n text. set.gains.same p n text ∙ ap (λ x. if (step == p) && has_entry n text rows then Some None else x) (it.images p n text) ∙ noted_then p n text;
+    recorded = it.recorded;
+    noted = λ p q x is. noted ((step == p) && is_some (here q)) p q x (sym (undo-first s step (map with_object es) new p q) ∙ is);
+  } where
+    noted : (b : Bool) (p : ℕ) (q : KeyName) (x : ObjectValue) → cond {A = Option (Option ObjectValue)} b (Some None) (s.undo p q) ≡ Some (Some x) → IsSome (record_of x)
+    noted true p q x is = absurd cc
+    noted false p q x is = it.noted p q x is
+
+  pub put_all : {c c' : Content} → GainsAll rows c c' → IsRegistry c (record { content = s.content; undo = (changed_by s step (map with_object es)).undo })
+      → IsRegistry c' (changed_by s step (map with_object es))
+  put_all {c} {c'} set it = record {
+    objects = λ n text. set.gains.same n text ∙ ap (option_or (entry_at n text rows)) (it.objects n text) ∙ put_then n text;
+    images = λ p n text. ap (λ (x : Content). image_at p n text x.undo) set.only ∙ it.images p n text;
+    recorded = λ q. subst (λ (o : Option ObjectValue). IfSome o (λ x. IsSome (record_of x))) (sym (content-changed_by s step (map with_object es) new.new.once q))
+        (recorded (here q) (entry_at (kind_rank q.kind) q.text rows) (s.content q) (rows_found es rows are q) (it.recorded q));
+    noted = it.noted;
+  } where
+    recorded : (a : Option (Option ObjectValue)) (b : Option (List ℕ)) (x : Option ObjectValue) → Alike a b → IfSome x (λ y. IsSome (record_of y)) → IfSome (unwrap_or a x) (λ y. IsSome (record_of y))
+    recorded a b x (neither p q) has = rw p has
+    recorded a b x (both o bytes p q is) has = rw p (has_record o bytes is)
+
+-- ---- one part after another
+pub follows_then : {S : Type 0} {g : Ghosts S} {a b c : ChangeOf S} → Follows g a b → Follows g b c → Follows g a c
+follows_then p q = record { goes_on = goes_then p.goes_on q.goes_on; rest = λ before k h. q.rest before k (p.rest before k h) }
+
+-- the key that is made of a row is its entry's
+pub row_key : (e : Entry) (r : ObjectEntry) (k : KeyName) → entry_row e ≡ stored_row r → r.kind ≡ kind_rank k.kind → r.key ≡ k.text → k ≡ e.0
+row_key e r k same kind text =
+    let kinds : k.kind ≡ e.0.kind = rank_one k.kind e.0.kind (sym kind ∙ sym (ap (λ (t : RowOf). t.0) same)) in
+    let texts : k.text ≡ e.0.text = sym text ∙ sym (ap (λ (t : RowOf). t.1) same) in
+    λ i. record { kind = kinds i; text = texts i }
+
+-- the entries of these rows are still to be put, and then those after them, and that leads to the end
+pub record Filling (Held : State → Type 0) (end : State) (step : ℕ) (rows : List ObjectEntry) (after : List Entry) : Type 0 where
+  pub pending : List Entry
+  pub are : AreRowsOf pending rows
+  pub fills : Fills Held end step (map with_object (pending ++ after))
+
+pub filling_first : (Held : State → Type 0) (s : State) (step : ℕ) (es left : List Entry) (rows : List NewObject) → rows ≡ [] → left ≡ es → AreFirst s step (map with_object es) → Held s
+    → Filling Held (changed_by s step (map with_object es)) step (map new_entry rows) left
+filling_first Held s step es left rows none is first held =
+    rw (none, is) (record { pending = []; are = record { same = refl }; fills = record { now = s; held = held; first = first; leads = refl } })
+
+-- of a list of entries by their rows
+pub filling_rows : (Held : State → Type 0) (s : State) (step : ℕ) (es : List Entry) (rows : List ObjectEntry) → AreRowsOf es rows → AreFirst s step (map with_object es) → Held s
+    → Filling Held (changed_by s step (map with_object es)) step rows []
+filling_rows Held s step es rows are first held = record {
+  pending = es;
+  are = are;
+  fills = subst (λ (l : List Entry). Fills Held (changed_by s step (map with_object es)) step (map with_object l)) (sym (append-nil es)) (record { now = s; held = held; first = first; leads = refl });
+}
+
+-- the next entry becomes a row
+pub filling_more : (Held : State → Type 0) (end : State) (step : ℕ) (rows now : List NewObject) (r : NewObject) (e : Entry) (left after : List Entry) → now ≡ rows ++ r ∷ [] → left ≡ e ∷ after
+    → entry_row e ≡ stored_row (new_entry r) → Filling Held end step (map new_entry rows) left → Filling Held end step (map new_entry now) after
+filling_more Held end step rows now r e left after more is same going = record {
+  pending = going.pending ++ e ∷ [];
+  are = subst (AreRowsOf (going.pending ++ e ∷ [])) (sym (ap (map new_entry) more ∙ map_push new_entry rows r)) (rows_more going.pending e (map new_entry rows) (new_entry r) going.are same);
+  fills = subst (λ (l : List Entry). Fills Held end step (map with_object l)) (ap (λ (l : List Entry). going.pending ++ l) is ∙ sym (append_assoc going.pending (e ∷ []) after)) going.fills;
+}
+
+-- the first row is put
+pub filling_row : (Before After : State → Type 0) (end : State) (step : ℕ) (r : ObjectEntry) (left rows : List ObjectEntry) (after : List Entry) → left ≡ r ∷ rows → Filling Before end step left after
+    → ((t : State) (e : Entry) → entry_row e ≡ stored_row r → AreFirst t step (with_object e ∷ []) → Before t → After (changed_by t step (with_object e ∷ []))) → Filling After end step rows after
+filling_row Before After end step r left rows after is going put =
+    let it = first_row going.pending r rows (subst (λ (l : List ObjectEntry). AreRowsOf going.pending l) is going.are) in
+    record {
+      pending = it.others;
+      are = it.are;
+      fills = fills_more Before After end step (with_object it.one ∷ []) (map with_object (it.others ++ after)) (map with_object (going.pending ++ after))
+          (ap (λ (l : List Entry). map with_object (l ++ after)) it.all) going.fills
+          (λ t held first. put t it.one it.same first held);
+    }
+
+-- all rows are put
+pub filling_all : (Before After : State → Type 0) (end : State) (step : ℕ) (rows all left : List NewObject) (after : List Entry) → all ≡ rows → left ≡ []
+    → Filling Before end step (map new_entry rows) after
+    → ((t : State) (es : List Entry) → AreRowsOf es (map new_entry all) → AreFirst t step (map with_object es) → Before t → After (changed_by t step (map with_object es)))
+    → Filling After end step (map new_entry left) after
+filling_all Before After end step rows all left after same none going put = record {
+  pending = [];
+  are = record { same = rw none refl };
+  fills = fills_more Before After end step (map with_object going.pending) (map with_object after) (map with_object (going.pending ++ after)) (map-append with_object going.pending after) going.fills
+      (λ t held first. put t going.pending (rw same going.are) first held);
+}
+
+-- none is left
+pub filling_last : (Held : State → Type 0) (end : State) (step : ℕ) (rows : List ObjectEntry) (after : List Entry) → rows ≡ [] → after ≡ [] → Filling Held end step rows after → Held end
+filling_last Held end step rows after no_rows no_more going =
+    let none : going.pending ≡ [] = rows_none going.pending (subst (λ (l : List ObjectEntry). AreRowsOf going.pending l) no_rows going.are) in
+    fills_last Held end step (map with_object (going.pending ++ after)) (rw (none, no_more) refl) going.fills
