@@ -148,6 +148,59 @@ fn objects_and_before_images_are_read_back(rt: HostRuntime) -> Result<(), Fail> 
     Ok(())
 }
 
+// This many objects.
+fn many(alloc: Global, count: u32) -> Result<BTreeMap<Key, Object>, Fail> {
+    let mut objects = BTreeMap::new(alloc);
+    for n in 0..count {
+        let name = format!(in alloc; "d{n}.example")?;
+        objects.insert(key(alloc, Kind::Domain, name.as_str())?, object(alloc)?)?;
+    }
+    Ok(objects)
+}
+
+// Puts objects by one call: how many before-images it noted, and how many of these say that there
+// was an object.
+fn noted_of<S: Alter>(
+    alloc: Global,
+    store: &mut Store<S>,
+    objects: &BTreeMap<Key, Object>,
+) -> Result<(usize, usize), Fail> {
+    let mut change = store.begin()?;
+    change.fill(alloc, 1, objects)?;
+    let noted = images(alloc, &mut change, 1)?;
+    change.commit()?;
+    let there = noted.iter().filter(|image| image.1.is_some()).count();
+    Ok((noted.len(), there))
+}
+
+/// How many objects are put by one call, and what is said of them. A statement takes 32.
+static FILLED: [(u32, &str); 5] = [
+    (0, "0 images, 0 of an object\n0 writes, 0 objects\n"),
+    (31, "31 images, 0 of an object\n31 writes, 31 objects\n"),
+    (32, "32 images, 0 of an object\n32 writes, 32 objects\n"),
+    (33, "33 images, 0 of an object\n33 writes, 33 objects\n"),
+    (70, "70 images, 0 of an object\n70 writes, 70 objects\n"),
+];
+
+fn filled<S: Alter + Drop>(alloc: Global, mut store: Store<S>, count: u32) -> Result<String, Fail> {
+    let mut text = String::new(alloc);
+    let (noted, there) = noted_of(alloc, &mut store, &many(alloc, count)?)?;
+    writeln!(text, "{noted} images, {there} of an object")?;
+    tell_size(alloc, &mut text, &mut store)?;
+    Ok(text)
+}
+
+#[test]
+fn many_objects_are_put_by_one_call(rt: HostRuntime) -> Result<(), Fail> {
+    let alloc = rt.alloc();
+    for (count, wanted) in &FILLED {
+        let store = new_store(alloc, Connection::open_in_memory(alloc)?)?;
+        let text = filled(alloc, store, *count)?;
+        assert_text(&rt, "filled", text.as_str(), wanted);
+    }
+    Ok(())
+}
+
 fn reply<S: Alter>(
     alloc: Global,
     store: &mut Store<S>,
