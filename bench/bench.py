@@ -4,8 +4,8 @@
 Makes a large release (seeded: every run has the same bytes) and runs the program on it: takes of a Full, of Differentials,
 of a late revision, of an Incremental and of repeats, each report and two exports of what they made, and a desk of its own
 on a socket of this machine, to which small Differentials are PUT and which is asked for reports. Prints for each task its
-time and its peak memory; where the task is mostly SQL also the ratio to the same SQL statements alone, run by the C library
-in the same run (`raw.py`); for requests how many there were in a second, and the peak memory of the desk that served them;
+time and its peak memory; where the task is mostly SQL also the ratio to the C library, which writes the same rows in the same
+run, one a statement (`raw.py`); for requests how many there were in a second, and the peak memory of the desk that served them;
 for the status of the large store the processor time of the first response and of a later one. At last a chain of 4,095 tiny
 Differentials is taken in order: all processor time, and that of an arrival where so many rows are held, with the ratio to
 one where 100 are; and bodies that no row lists yet are parked, as many as there is place for, and adopted by an amendment:

@@ -1,10 +1,11 @@
 #!/usr/bin/env python3
 """statements.py [--restore PROGRAM] [--release FOLDER] [--deposit full] [--times N] [--statements PROGRAM] [--keep FOLDER]
 
-What taking a large Full costs beside the SQL statements that it runs, by the program's own engine, in the same run.
+What taking a large Full costs beside SQL statements that write the same objects row by row, by the program's own engine, in the same
+run. (The program writes 32 rows a statement where a Full comes first, so that it may take less than they do.)
 
-Takes the one deposit of a folder of a release (`release.py`; made first where none is given) with the program, and runs the
-statements of that intake alone, over the same objects, in another store of the same manifest (`statements/main.txt`). Prints
+Takes the one deposit of a folder of a release (`release.py`; made first where none is given) with the program, and runs those
+statements alone, over the same objects, in another store of the same manifest (`statements/main.txt`). Prints
 the least of N of each: processor time, and how many times the statements' the program's is; then what each statement takes,
 and the change without those that find nothing. Both end with the closing of the store, which copies its log into the file. The
 least is steadier than the mean on a busy machine; ratios hold within one run.
