@@ -110,7 +110,6 @@ def main():
                   f' {before[1]:6.0f} {after[1]:6.0f} MB {after[1] / before[1]:6.2f}', flush=True)
         each = both[1].arrivals_along_a_chain
         print(f'{"an arrival where 100 rows are held, and where 4,000":52} {each[100]:9.2f} {each[4000]:9.2f} ms {each[4000] / each[100]:6.2f}')
-    
     finally:
         shutil.rmtree(work)
 
