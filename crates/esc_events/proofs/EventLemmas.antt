@@ -1,8 +1,8 @@
 -- One more event, in what is listed, in the arrivals as they came, and in the moment that is set.
-use Rattle.std.proofs.Common.{◌≡◌, ℕ, ℤ, ◌≤◌, not, List, [], ◌∷◌, ◌++◌, length, map, Option, None, refl, ap, ◌∙◌, arith, length-append}
+use Rattle.std.proofs.Common.{◌≡◌, ℤ, ◌≤◌, not, List, [], ◌∷◌, ◌++◌, map, Option, None, refl, ap, ◌∙◌}
 use Rattle.std.specs.Prelude.{filter}
 use Rattle.esc_manifest.specs.declared.row.MRow.{MRow}
-use Rattle.esc_manifest.specs.Extension.{is_listed, new_rows, extended}
+use Rattle.esc_manifest.specs.Extension.{is_listed, extended}
 use Rattle.esc_events.specs.ArrivalValue.{ArrivalValue}
 use Rattle.esc_events.specs.Events.{EventValue, Coming, union_after, union, coming, early_coming, comings_after, comings, arrival_of, arrivals, moment_after, moment_of, manifest_then}
 use Rattle.esc_events.specs.Events.EventValue.{listed, arrived, moved, arrived_early}
@@ -102,30 +102,6 @@ comings-moved e t = moved_brings_none [] e t
 
 pub moment-moved : (e : List EventValue) (t : Option ℤ) → moment_of (e ++ moved t ∷ []) ≡ t
 moment-moved e t = moved_last None e t
-
--- ---- each arrival saw rows that are listed in the end
-
--- each of the list has no more rows than this
-abbrev pub HaveUpTo : ℕ → List Coming → Type 0
-HaveUpTo n [] = Unit {0}
-HaveUpTo n (c ∷ l) = (length c.rows ≤ n) × HaveUpTo n l
-
-no_fewer : (m : List MRow) (e : List EventValue) → length m ≤ length (union_after m e)
-no_fewer m [] = omega arith
-no_fewer m (listed more ∷ e) = omega (arith, length-append m (new_rows m more), no_fewer (extended m more) e)
-no_fewer m (arrived a ∷ e) = no_fewer m e
-no_fewer m (moved t ∷ e) = no_fewer m e
-no_fewer m (arrived_early a ∷ e) = no_fewer m e
-
-saw_no_more : (m : List MRow) (e : List EventValue) → HaveUpTo (length (union_after m e)) (comings_after m e)
-saw_no_more m [] = tt
-saw_no_more m (listed more ∷ e) = saw_no_more (extended m more) e
-saw_no_more m (arrived a ∷ e) = (no_fewer m e, saw_no_more m e)
-saw_no_more m (moved t ∷ e) = saw_no_more m e
-saw_no_more m (arrived_early a ∷ e) = (no_fewer m e, saw_no_more m e)
-
-pub came_with_listed : (e : List EventValue) → HaveUpTo (length (union e)) (comings e)
-came_with_listed e = saw_no_more [] e
 
 -- ---- a manifest, and then arrivals
 

@@ -22,15 +22,6 @@ find_some p (x ∷ xs) y e = by_test (p x) (find_some p xs y) e
     by_test true known e = refl
     by_test false known e = known e
 
--- what is found passes
-pub find_passes : {X : Type 0} (p : X → Bool) (xs : List X) (y : X) → find p xs ≡ Some y → p y ≡ true
-find_passes p [] y e = absurd (no_answer e)
-find_passes p (x ∷ xs) y e = by_test (p x) refl (find_passes p xs y) e
-  where
-    by_test : (b : Bool) → p x ≡ b → (find p xs ≡ Some y → p y ≡ true) → cond b (Some x) (find p xs) ≡ Some y → p y ≡ true
-    by_test true is known e = ap p (sym (same_answer e)) ∙ is
-    by_test false other known e = known e
-
 pub find_none : {X : Type 0} (p : X → Bool) (xs : List X) → find p xs ≡ None → list_any p xs ≡ false
 find_none p [] e = refl
 find_none p (x ∷ xs) e = by_test (p x) (find_none p xs) e

@@ -46,11 +46,6 @@ abbrev pub is_among : List ℕ → Option ℕ → Bool
 is_among rows None = false
 is_among rows (Some r) = list_any (λ q. nat_eq q r) rows
 
--- there is no row, or it is one of these
-abbrev pub is_old : List ℕ → Option ℕ → Bool
-is_old rows None = true
-is_old rows (Some r) = list_any (λ q. nat_eq q r) rows
-
 -- what was found is the deposit of row r
 abbrev pub holds_row : ℕ → Finding → Bool
 holds_row r f = is_row r (held_row f)

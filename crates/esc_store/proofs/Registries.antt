@@ -156,10 +156,6 @@ set_registry {s} k o {w} {c} {c'} bytes has set it = record {
 
 -- ---- before-images
 
-pub record SetsImages (step : ℕ) (g : ℕ → List ℕ → Option (Option (List ℕ))) (c c' : Content) : Type 0 where
-  pub only : c' ≡ record c { undo = c'.undo }
-  pub map_is : (p n : ℕ) (text : List ℕ) → image_at p n text c'.undo ≡ (if step == p then g n text else image_at p n text c.undo)
-
 pub books_images : {k : Kept} {c c' : Content} → c' ≡ record c { undo = c'.undo } → IsBooks c k → IsBooks c' k
 books_images {k} only books = subst (λ x. IsBooks x k) (sym only) (record { listed = books.listed; receipts = books.receipts; held = books.held; parked = books.parked; moment = books.moment; steps = books.steps })
 
