@@ -15,7 +15,7 @@ use Rattle.esc_events.specs.Events.{Coming, union, moment_after, moment_of, mani
 use Rattle.esc_events.specs.Events.EventValue.{listed, arrived}
 use Rattle.esc_events.specs.Finding.{row_of}
 use Rattle.esc_events.specs.Receipts.{distinct, receipts_after}
-use Rattle.esc_events.specs.Stands.{rows_of, counted, held_body, StandsFor}
+use Rattle.esc_events.specs.Stands.{rows_of, kept_arrivals, held_body, StandsFor}
 use Rattle.esc_events.proofs.EventLemmas.{union_then, comings_then}
 use Rattle.esc_events.proofs.Moving.{chain_of}
 use Rattle.esc_events.proofs.MovingLemmas.{same_deposits}
@@ -74,7 +74,7 @@ left_by_arrivals m l k stood apart =
       chain =
           subst (λ (t : Option ℤ). IsLatestChainAt m (rows m (came_with m l)) t k.steps) (no_moment m l)
           (subst (λ (cs : List Coming). IsLatestChainAt m (rows m cs) (moment_of e) k.steps) (counted_then m l)
-          (subst (λ (n : List MRow). IsLatestChainAt n (rows n (counted sha256 reading e)) (moment_of e) k.steps) (union_then m l)
+          (subst (λ (n : List MRow). IsLatestChainAt n (rows n (kept_arrivals sha256 reading e)) (moment_of e) k.steps) (union_then m l)
           (chain_of e k stood apart)));
       registry = stood.registry ∙ ap (λ (ds : List DepositValue). chain_state ds) deposits;
     }

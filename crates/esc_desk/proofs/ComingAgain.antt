@@ -62,7 +62,7 @@ use Rattle.esc_events.specs.Known.{IsKnown}
 use Rattle.esc_events.specs.Laws.{IsMove}
 use Rattle.esc_events.specs.Plans.{AreLatestSteps, IsPlanned}
 use Rattle.esc_events.specs.Receipts.{distinct, reply_to}
-use Rattle.esc_events.specs.Stands.{StandsFor, AreBooks, IsApart, counted, holds_by, has_digest, held_body, parked_body}
+use Rattle.esc_events.specs.Stands.{StandsFor, AreBooks, IsApart, kept_arrivals, holds_by, has_digest, held_body, parked_body}
 use Rattle.esc_events.specs.Taking.{IsAgain}
 use Rattle.esc_events.specs.Works.{IsIdle, no_work}
 use Rattle.esc_events.proofs.Distinct.{both}
@@ -107,7 +107,7 @@ module _ (e : List EventValue) (a : ArrivalValue) (k : Kept) (found : Finding) (
       by_row (Some q) some = (q, refl)
 
   abbrev IsHeldAlready : ℕ → Type 0
-  IsHeldAlready row = list_any (holds_by sha256 reading (union e) row) (counted sha256 reading e) ≡ true
+  IsHeldAlready row = list_any (holds_by sha256 reading (union e) row) (kept_arrivals sha256 reading e) ≡ true
 
   held_already : (row : ℕ) → IsSome (k.bodies row) → IsHeldAlready row
   held_already row some = by_body (k.bodies row) refl some
@@ -116,7 +116,7 @@ module _ (e : List EventValue) (a : ArrivalValue) (k : Kept) (found : Finding) (
       by_body None at some = absurd (true≢false (sym some))
       by_body (Some body) at some =
           let came = is.stood.books.came row body at in
-          any_of (holds_by sha256 reading (union e) row) (counted sha256 reading e) came.arrival came.among came.holds
+          any_of (holds_by sha256 reading (union e) row) (kept_arrivals sha256 reading e) came.arrival came.among came.holds
 
   -- a row lists it, and a body is held of the row whose deposit it is, if any
   pub nothing_listed : (found ≡ Unlisted → ⊥) → ((q : ℕ) → held_row found ≡ Some q → IsSome (k.bodies q)) → AddsNothing e a
@@ -135,7 +135,7 @@ module _ (e : List EventValue) (a : ArrivalValue) (k : Kept) (found : Finding) (
           let under = (bytes_decides (sha256 came.arrival.body) (sha256 a.body)).1 came.digest_is in
           record {
             alike = seen e a reply told_again;
-            there = inl (any_of (has_digest sha256 reading (sha256 a.body)) (counted sha256 reading e) came.arrival came.among under);
+            there = inl (any_of (has_digest sha256 reading (sha256 a.body)) (kept_arrivals sha256 reading e) came.arrival came.among under);
           }
 
   pub nothing_refused : IsRefused found → AddsNothing e a
@@ -155,7 +155,7 @@ nothing_repeated e a k books y there other =
     let under = (bytes_decides (sha256 first.body) digest).1 same in
     record {
       alike = seen e a y told;
-      there = inl (any_of (has_digest sha256 reading digest) (counted sha256 reading e) first counts under);
+      there = inl (any_of (has_digest sha256 reading digest) (kept_arrivals sha256 reading e) first counts under);
     }
 
 -- what is missing after the events is so in a store that stands for them

@@ -8,7 +8,7 @@ use Rattle.esc_manifest.specs.Extension.{extended}
 use Rattle.esc_events.specs.ArrivalValue.{ArrivalValue}
 use Rattle.esc_events.specs.Events.{EventValue, Coming, union_after, union, coming, early_coming, comings_after, comings, moment_after, moment_of, manifest_then}
 use Rattle.esc_events.specs.Events.EventValue.{listed, arrived, moved, arrived_early}
-use Rattle.esc_events.specs.Stands.{is_lost, counted}
+use Rattle.esc_events.specs.Stands.{is_lost, kept_arrivals}
 use Rattle.esc_events.proofs.EventLemmas.{comings_then}
 
 early_lists_none : (m : List MRow) (e : List EventValue) (a : ArrivalValue) → union_after m (e ++ arrived_early a ∷ []) ≡ union_after m e
@@ -55,5 +55,5 @@ all_count : (m : List MRow) (l : List ArrivalValue) → counting (map (coming m)
 all_count m [] = refl
 all_count m (a ∷ l) = ap (λ (cs : List Coming). coming m a ∷ cs) (all_count m l)
 
-pub counted_then : (m : List MRow) (l : List ArrivalValue) → counted sha256 reading (manifest_then m l) ≡ map (coming m) l
+pub counted_then : (m : List MRow) (l : List ArrivalValue) → kept_arrivals sha256 reading (manifest_then m l) ≡ map (coming m) l
 counted_then m l = ap counting (comings_then m l) ∙ all_count m l

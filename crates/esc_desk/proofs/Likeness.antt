@@ -56,7 +56,7 @@ use Rattle.esc_events.specs.Events.{EventValue, Coming, union, coming, early_com
 use Rattle.esc_events.specs.Events.EventValue.{listed, arrived, moved, arrived_early}
 use Rattle.esc_events.specs.Finding.{finding, found, found_at, as_listed, row_of}
 use Rattle.esc_events.specs.Receipts.{alike, distinct, holds_row, receipts_of, receipts_after, reply_to}
-use Rattle.esc_events.specs.Stands.{Among, IsApart, AreBooks, StandsFor, CameFor, CameWith, TellsOf, body_of, holds_by, has_digest, counted, held_body, parked_body}
+use Rattle.esc_events.specs.Stands.{Among, IsApart, AreBooks, StandsFor, CameFor, CameWith, TellsOf, body_of, holds_by, has_digest, kept_arrivals, held_body, parked_body}
 use Rattle.esc_events.proofs.AmendingLemmas.{row_found}
 use Rattle.esc_events.proofs.EventLemmas.{union-arrived, comings-arrived, moment-arrived, union-listed, comings-listed, moment-listed, union-moved, comings-moved, moment-moved}
 use Rattle.esc_events.proofs.Distinct.{alike_laws, distinct-push}
@@ -142,7 +142,7 @@ IsThere m l c = (list_any (under (sha256 c.body)) l ≡ true)
 -- and it is like an earlier one
 pub record AddsNothing (e : List EventValue) (a : ArrivalValue) : Type 0 where
   pub alike : list_any (like (coming (union e) a)) (comings e) ≡ true
-  pub there : IsThere (union e) (counted sha256 reading e) (coming (union e) a)
+  pub there : IsThere (union e) (kept_arrivals sha256 reading e) (coming (union e) a)
 
 -- ---- one of the arrivals is like an earlier one
 
@@ -168,18 +168,18 @@ module _ (l : List Coming) (c : Coming) (was : list_any (like c) l ≡ true) whe
 
 -- where m were listed before it and then more, and l counted before it and then a tail
 record IsOneMore (m more : List MRow) (l tail : List Coming) (c : Coming) (e f : List EventValue) : Type 0 where
-  counted_with : counted sha256 reading f ≡ (l ++ c ∷ []) ++ tail
-  counted_without : counted sha256 reading e ≡ l ++ tail
+  counted_with : kept_arrivals sha256 reading f ≡ (l ++ c ∷ []) ++ tail
+  counted_without : kept_arrivals sha256 reading e ≡ l ++ tail
   listed_are : union e ≡ m ++ more
   rows : union f ≡ union e
   moment : moment_of f ≡ moment_of e
   firsts : first_ones (comings f) ≡ first_ones (comings e)
 
 module _ {m more : List MRow} {l tail : List Coming} {c : Coming} {e f : List EventValue} (there : IsThere m l c) (one : IsOneMore m more l tail c e f) where
-  within : (x : Coming) → Among ((l ++ c ∷ []) ++ tail) x → Among (counted sha256 reading f) x
+  within : (x : Coming) → Among ((l ++ c ∷ []) ++ tail) x → Among (kept_arrivals sha256 reading f) x
   within x there = subst (λ (xs : List Coming). Among xs x) (sym one.counted_with) there
 
-  stays : (x : Coming) → Among (counted sha256 reading e) x → Among (counted sha256 reading f) x
+  stays : (x : Coming) → Among (kept_arrivals sha256 reading e) x → Among (kept_arrivals sha256 reading f) x
   stays x there = within x (among_through l tail c x (subst (λ (xs : List Coming). Among xs x) one.counted_without there))
 
   apart_without : IsApart sha256 reading f → IsApart sha256 reading e
@@ -213,7 +213,7 @@ module _ {m more : List MRow} {l tail : List Coming} {c : Coming} {e f : List Ev
       by_case (inl any) = subst (λ (x : List ℕ). list_any (under x) l ≡ true) same any
       by_case (inr (q, at, held)) = absurd (no_answer (sym none ∙ ap (row_of (m ++ more)) (sym same) ∙ (row_still m more (sha256 c.body) q at).0))
 
-  found_as : (p : Coming → Bool) → (p c ≡ true → list_any p l ≡ true) → find p (counted sha256 reading f) ≡ find p (counted sha256 reading e)
+  found_as : (p : Coming → Bool) → (p c ≡ true → list_any p l ≡ true) → find p (kept_arrivals sha256 reading f) ≡ find p (kept_arrivals sha256 reading e)
   found_as p before =
       ap (find p) one.counted_with
       ∙ find-both p (l ++ c ∷ []) l tail (find-push-old p l c before)
@@ -221,19 +221,19 @@ module _ {m more : List MRow} {l tail : List Coming} {c : Coming} {e f : List Ev
 
   held_as : IsApart sha256 reading f → (r : ℕ) → held_body sha256 reading f r ≡ held_body sha256 reading e r
   held_as apart r =
-      ap (λ (n : List MRow). body_of (find (holding n r) (counted sha256 reading f))) (one.rows ∙ one.listed_are)
+      ap (λ (n : List MRow). body_of (find (holding n r) (kept_arrivals sha256 reading f))) (one.rows ∙ one.listed_are)
       ∙ ap body_of (found_as (holding (m ++ more) r) (held_before apart r))
-      ∙ ap (λ (n : List MRow). body_of (find (holding n r) (counted sha256 reading e))) (sym one.listed_are)
+      ∙ ap (λ (n : List MRow). body_of (find (holding n r) (kept_arrivals sha256 reading e))) (sym one.listed_are)
 
   parked_as : (d : List ℕ) → parked_body sha256 reading f d ≡ parked_body sha256 reading e d
   parked_as d =
-      ap (λ (n : List MRow). cond (is_some (row_of n d)) None (body_of (find (under d) (counted sha256 reading f)))) (one.rows ∙ one.listed_are)
+      ap (λ (n : List MRow). cond (is_some (row_of n d)) None (body_of (find (under d) (kept_arrivals sha256 reading f)))) (one.rows ∙ one.listed_are)
       ∙ by_row (row_of (m ++ more) d) refl
-      ∙ ap (λ (n : List MRow). cond (is_some (row_of n d)) None (body_of (find (under d) (counted sha256 reading e)))) (sym one.listed_are)
+      ∙ ap (λ (n : List MRow). cond (is_some (row_of n d)) None (body_of (find (under d) (kept_arrivals sha256 reading e)))) (sym one.listed_are)
     where
       by_row : (o : Option ℕ) → row_of (m ++ more) d ≡ o
-          → cond (is_some o) None (body_of (find (under d) (counted sha256 reading f)))
-          ≡ cond (is_some o) None (body_of (find (under d) (counted sha256 reading e)))
+          → cond (is_some o) None (body_of (find (under d) (kept_arrivals sha256 reading f)))
+          ≡ cond (is_some o) None (body_of (find (under d) (kept_arrivals sha256 reading e)))
       by_row None none = ap body_of (found_as (under d) (parked_before d none))
       by_row (Some q) at = refl
 
@@ -285,9 +285,9 @@ module _ (e : List EventValue) (a : ArrivalValue) (k : Kept) (none : AddsNothing
   then = e ++ arrived a ∷ []
 
   abbrev before : List Coming
-  before = counted sha256 reading e
+  before = kept_arrivals sha256 reading e
 
-  count_then : counted sha256 reading then ≡ before ++ came ∷ []
+  count_then : kept_arrivals sha256 reading then ≡ before ++ came ∷ []
   count_then = ap counting (comings-arrived e a) ∙ counting-append (comings e) (came ∷ [])
 
   -- and where another comes behind it

@@ -11,7 +11,7 @@ use Rattle.esc_chain.specs.Chain.{Rows, IsLatestChainAt}
 use Rattle.esc_chain.specs.Laws.{OneLatestChainAt}
 use Rattle.esc_apply.specs.Images.{chain_state}
 use Rattle.esc_events.specs.Events.{EventValue, Coming, union, moment_of}
-use Rattle.esc_events.specs.Stands.{body_of, counted, holds_by, deposits_of, held_rows, held_body}
+use Rattle.esc_events.specs.Stands.{body_of, kept_arrivals, holds_by, deposits_of, held_rows, held_body}
 use Rattle.esc_events.proofs.AmendingLemmas.{digest_is}
 use Rattle.esc_events.proofs.Members.{first_of}
 use Rattle.esc_events.proofs.Moving.{chain_of}
@@ -38,7 +38,7 @@ module _ {e f : List EventValue} (same : HoldTheSame e f) where
 
   -- the same body is held of each row
   body_same : (r : ℕ) → held_body sha256 reading e r ≡ held_body sha256 reading f r
-  body_same r = same_found (find in_e (counted sha256 reading e)) (find in_f (counted sha256 reading f)) (some_same r) bodies
+  body_same r = same_found (find in_e (kept_arrivals sha256 reading e)) (find in_f (kept_arrivals sha256 reading f)) (some_same r) bodies
     where
       in_e : Coming → Bool
       in_e = holds_by sha256 reading (union e) r
@@ -46,10 +46,10 @@ module _ {e f : List EventValue} (same : HoldTheSame e f) where
       in_f : Coming → Bool
       in_f = holds_by sha256 reading (union f) r
 
-      bodies : (c d : Coming) → find in_e (counted sha256 reading e) ≡ Some c → find in_f (counted sha256 reading f) ≡ Some d → c.body ≡ d.body
+      bodies : (c d : Coming) → find in_e (kept_arrivals sha256 reading e) ≡ Some c → find in_f (kept_arrivals sha256 reading f) ≡ Some d → c.body ≡ d.body
       bodies c d here there =
-          let a = first_of in_e (counted sha256 reading e) c here in
-          let b = first_of in_f (counted sha256 reading f) d there in
+          let a = first_of in_e (kept_arrivals sha256 reading e) c here in
+          let b = first_of in_f (kept_arrivals sha256 reading f) d there in
           let row = ap (λ (m : List MRow). (row_at m r).digest) same.listed in
           same.apart c d a.0 b.0 (digest_is sha256 reading (union e) r c a.1 ∙ row ∙ sym (digest_is sha256 reading (union f) r d b.1))
 

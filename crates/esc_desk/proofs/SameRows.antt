@@ -11,7 +11,7 @@ use Rattle.esc_chain.specs.Chain.{Rows, IsHeld, LeadsBack, IsLatestBackAt, IsLat
 use Rattle.esc_chain.specs.Laws.{rows_along, ChainsAreOfRows}
 use Rattle.esc_apply.specs.Images.{chain_state}
 use Rattle.esc_events.specs.Events.{EventValue, Coming, union, moment_of}
-use Rattle.esc_events.specs.Stands.{counted, holds_by, deposit_of, deposits_of, held_rows, held_body}
+use Rattle.esc_events.specs.Stands.{kept_arrivals, holds_by, deposit_of, deposits_of, held_rows, held_body}
 use Rattle.esc_events.proofs.AmendingLemmas.{digest_is}
 use Rattle.esc_events.proofs.Members.{first_of}
 use Rattle.esc_events.proofs.Moving.{chain_of}
@@ -52,7 +52,7 @@ module _ {e f : List EventValue} (same : HoldTheSameRows e f) where
 
   -- the same body is held of a row, wherever each list has the row
   body_same : (r s : ℕ) → held_e r → held_f s → row_at (union e) r ≡ row_at (union f) s → held_body sha256 reading e r ≡ held_body sha256 reading f s
-  body_same r s held other row = same_found (find in_e (counted sha256 reading e)) (find in_f (counted sha256 reading f)) (some ∙ sym others) bodies
+  body_same r s held other row = same_found (find in_e (kept_arrivals sha256 reading e)) (find in_f (kept_arrivals sha256 reading f)) (some ∙ sym others) bodies
     where
       in_e : Coming → Bool
       in_e = holds_by sha256 reading (union e) r
@@ -66,10 +66,10 @@ module _ {e f : List EventValue} (same : HoldTheSameRows e f) where
       others : is_some (held_body sha256 reading f s) ≡ true
       others = sym (contains_held sha256 reading f s) ∙ other
 
-      bodies : (c d : Coming) → find in_e (counted sha256 reading e) ≡ Some c → find in_f (counted sha256 reading f) ≡ Some d → c.body ≡ d.body
+      bodies : (c d : Coming) → find in_e (kept_arrivals sha256 reading e) ≡ Some c → find in_f (kept_arrivals sha256 reading f) ≡ Some d → c.body ≡ d.body
       bodies c d here there =
-          let a = first_of in_e (counted sha256 reading e) c here in
-          let b = first_of in_f (counted sha256 reading f) d there in
+          let a = first_of in_e (kept_arrivals sha256 reading e) c here in
+          let b = first_of in_f (kept_arrivals sha256 reading f) d there in
           let digest = ap (λ (x : MRow). x.digest) row in
           same.apart c d a.0 b.0 (digest_is sha256 reading (union e) r c a.1 ∙ digest ∙ sym (digest_is sha256 reading (union f) s d b.1))
 

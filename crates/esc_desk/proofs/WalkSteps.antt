@@ -23,7 +23,7 @@ use Rattle.esc_desk.specs.declared.walk.Pages.{Pages}
 use Rattle.esc_desk.specs.declared.walk.Walk.{Walk}
 use Rattle.esc_events.specs.Events.{EventValue, union, moment_of}
 use Rattle.esc_events.specs.Reads.{AreEntries, tables_of}
-use Rattle.esc_events.specs.Stands.{counted, IsApart, holds_by, held_rows}
+use Rattle.esc_events.specs.Stands.{kept_arrivals, IsApart, holds_by, held_rows}
 use Rattle.esc_events.proofs.HeldRows.{contains_held}
 use Rattle.esc_events.proofs.Members.{one_of}
 use Rattle.esc_events.proofs.Moving.{chain_of}
@@ -40,8 +40,8 @@ use Rattle.esc_desk.proofs.Walks.{page_turned, from_the_first}
 
 pub held_in_range : (e : List EventValue) → InRange (union e) (held_rows sha256 reading e)
 held_in_range e r held =
-    let holds = sym (contains_held sha256 reading (union e) (counted sha256 reading e) r) ∙ held in
-    let x = one_of (holds_by sha256 reading (union e) r) (counted sha256 reading e) holds in
+    let holds = sym (contains_held sha256 reading (union e) (kept_arrivals sha256 reading e) r) ∙ held in
+    let x = one_of (holds_by sha256 reading (union e) r) (kept_arrivals sha256 reading e) holds in
     held_within sha256 reading (union e) r x.0 x.2
 
 -- ---- the page at hand

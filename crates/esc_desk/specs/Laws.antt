@@ -22,7 +22,7 @@ use Rattle.esc_events.specs.Events.{
 use Rattle.esc_events.specs.Receipts.{distinct, receipts_after}
 use Rattle.esc_events.specs.Stands.{
   Among,
-  counted,
+  kept_arrivals,
   deposits_of,
   rows_of,
   held_rows,
@@ -65,8 +65,8 @@ AreLeftByArrivals = (m : List MRow) (l : List ArrivalValue) (k : Kept)
 
 -- no two different bodies, one of either list, have the same digest
 abbrev pub AreApart : List EventValue → List EventValue → Type 0
-AreApart e f = (a b : Coming) → Among (counted sha256 reading e) a
-    → Among (counted sha256 reading f) b → sha256 a.body ≡ sha256 b.body → a.body ≡ b.body
+AreApart e f = (a b : Coming) → Among (kept_arrivals sha256 reading e) a
+    → Among (kept_arrivals sha256 reading f) b → sha256 a.body ≡ sha256 b.body → a.body ≡ b.body
 
 -- the same rows are listed, in the same order, the same are held, the same moment is set, and no
 -- two different bodies, one of either list, have the same digest

@@ -16,7 +16,7 @@ use Rattle.esc_events.specs.Events.{EventValue, Coming, union, comings}
 use Rattle.esc_events.specs.Events.EventValue.{listed, moved}
 use Rattle.esc_events.specs.Finding.{found, row_of}
 use Rattle.esc_events.specs.Receipts.{holds_row, distinct, receipts_after, receipts_of, reply_to}
-use Rattle.esc_events.specs.Stands.{AreBooks, IsApart, TellsOf, CameFor, holds_by, counted, held_body, parked_body}
+use Rattle.esc_events.specs.Stands.{AreBooks, IsApart, TellsOf, CameFor, holds_by, kept_arrivals, held_body, parked_body}
 use Rattle.esc_events.specs.Amended.{judged, amended_bodies, still_parked, with_listed, amended_kept}
 use Rattle.esc_events.proofs.AmendingLemmas.{union_more, comings_more, moment_more, row_is, row_has, row_held, same_at, listed_still, holds_same, judged_at, judged_some}
 use Rattle.esc_events.proofs.AmendingLemmas.{union_moved, comings_moved, moment_moved, reply_same, rows_short, receipts_below}
@@ -118,7 +118,7 @@ books_amended e k more books ok okn = record {
         ∙ amended_are_parked e more ok okn d
       where
         none : (q : ℕ) → row_of (extended k.listed more) d ≡ Some q → q < length k.listed → k.parked d ≡ None
-        none q row lt = books.parked apart d ∙ ap (λ (o : Option ℕ). cond (is_some o) None (came_under sha256 (counted sha256 reading e) d)) (was_listed d q row lt)
+        none q row lt = books.parked apart d ∙ ap (λ (o : Option ℕ). cond (is_some o) None (came_under sha256 (kept_arrivals sha256 reading e) d)) (was_listed d q row lt)
 
     came_for : (r : ℕ) (body : List ℕ) (s : Bool) → nat_lt r (length k.listed) ≡ s → (t : Bool) → nat_lt r (length (extended k.listed more)) ≡ t
         → cond s (k.bodies r) (cond t (judged (extended k.listed more) r (k.parked (row_at (extended k.listed more) r).digest)) None) ≡ Some body

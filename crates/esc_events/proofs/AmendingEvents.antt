@@ -12,7 +12,7 @@ use Rattle.esc_events.specs.Events.{EventValue, Coming, union, comings}
 use Rattle.esc_events.specs.Events.EventValue.{listed}
 use Rattle.esc_events.specs.Finding.{row_of}
 use Rattle.esc_events.specs.Receipts.{distinct, receipts_after, receipts_of}
-use Rattle.esc_events.specs.Stands.{Among, IsApart, CameFor, CameWith, body_of, holds_by, has_digest, is_lost, counted, held_body, parked_body}
+use Rattle.esc_events.specs.Stands.{Among, IsApart, CameFor, CameWith, body_of, holds_by, has_digest, is_lost, kept_arrivals, held_body, parked_body}
 use Rattle.esc_events.specs.Amended.{judged, amended_bodies, still_parked}
 use Rattle.esc_events.proofs.AmendingLemmas.{union_more, comings_more, find_same, find_never, holds_same, beyond_held, listed_still, unlisted_before, judged_first}
 
@@ -34,20 +34,20 @@ module _ (digest : List ℕ → List ℕ) where
     pub receipts_as : receipts_of digest reading f ≡ receipts_of digest reading e
     receipts_as = ap (λ (cs : List Coming). receipts_after digest reading [] (distinct digest reading cs)) same
 
-    pub counted_as : counted digest reading f ≡ counted digest reading e
+    pub counted_as : kept_arrivals digest reading f ≡ kept_arrivals digest reading e
     counted_as = ap (filter (λ (c : Coming). not (is_lost digest reading c))) same
 
-    among_as : (c : Coming) → Among (counted digest reading e) c → Among (counted digest reading f) c
+    among_as : (c : Coming) → Among (kept_arrivals digest reading e) c → Among (kept_arrivals digest reading f) c
     among_as c among = subst (λ (cs : List Coming). Among cs c) (sym counted_as) among
 
     pub apart_as : IsApart digest reading f → IsApart digest reading e
     apart_as apart a b first second is = apart a b (among_as a first) (among_as b second) is
 
-    pub held_as : (m : List MRow) → union f ≡ m → (r : ℕ) → held_body digest reading f r ≡ held_from m (counted digest reading e) r
-    held_as m rows r = ap (λ (x : List MRow). held_from x (counted digest reading f) r) rows ∙ ap (λ (cs : List Coming). held_from m cs r) counted_as
+    pub held_as : (m : List MRow) → union f ≡ m → (r : ℕ) → held_body digest reading f r ≡ held_from m (kept_arrivals digest reading e) r
+    held_as m rows r = ap (λ (x : List MRow). held_from x (kept_arrivals digest reading f) r) rows ∙ ap (λ (cs : List Coming). held_from m cs r) counted_as
 
-    pub parked_as : (m : List MRow) → union f ≡ m → (d : List ℕ) → parked_body digest reading f d ≡ cond (is_some (row_of m d)) None (came_under (counted digest reading e) d)
-    parked_as m rows d = ap (λ (x : List MRow). parked_from x (counted digest reading f) d) rows ∙ ap (λ (cs : List Coming). parked_from m cs d) counted_as
+    pub parked_as : (m : List MRow) → union f ≡ m → (d : List ℕ) → parked_body digest reading f d ≡ cond (is_some (row_of m d)) None (came_under (kept_arrivals digest reading e) d)
+    parked_as m rows d = ap (λ (x : List MRow). parked_from x (kept_arrivals digest reading f) d) rows ∙ ap (λ (cs : List Coming). parked_from m cs d) counted_as
 
     -- a body that came for a row came for a row that it holds now
     pub came_as : (q r : ℕ) (body : List ℕ) → ((c : Coming) → holds_by digest reading (union e) q c ≡ true → holds_by digest reading (union f) r c ≡ true)
@@ -77,7 +77,7 @@ module _ (digest : List ℕ → List ℕ) where
     abbrev pub f : List EventValue
     f = e ++ listed more ∷ []
 
-    after : (r : ℕ) → held_body digest reading f r ≡ held_from n (counted digest reading e) r
+    after : (r : ℕ) → held_body digest reading f r ≡ held_from n (kept_arrivals digest reading e) r
     after r = held_as e f (comings_more [] e more) n (union_more [] e more) r
 
     pub held_is : IsApart digest reading e → (r : ℕ) → amended_bodies n (parked_body digest reading e) (length m) (held_body digest reading e) r ≡ held_body digest reading f r
@@ -85,15 +85,15 @@ module _ (digest : List ℕ → List ℕ) where
       where
         old : r < length m → held_body digest reading e r ≡ held_body digest reading f r
         old lt =
-            ap body_of (sym (find_same (holds_by digest reading n r) (holds_by digest reading m r) (counted digest reading e) (holds_same digest reading x ok okn r lt))) ∙ sym (after r)
+            ap body_of (sym (find_same (holds_by digest reading n r) (holds_by digest reading m r) (kept_arrivals digest reading e) (holds_same digest reading x ok okn r lt))) ∙ sym (after r)
 
         inside : length m ≤ r → r < length n → judged n r (parked_body digest reading e (row_at n r).digest) ≡ held_body digest reading f r
         inside new lt =
-            ap (λ (o : Option ℕ). judged n r (cond (is_some o) None (came_under (counted digest reading e) (row_at n r).digest))) (unlisted_before digest reading x ok okn r new lt)
-            ∙ judged_first digest okn lt (counted digest reading e) apart ∙ sym (after r)
+            ap (λ (o : Option ℕ). judged n r (cond (is_some o) None (came_under (kept_arrivals digest reading e) (row_at n r).digest))) (unlisted_before digest reading x ok okn r new lt)
+            ∙ judged_first digest okn lt (kept_arrivals digest reading e) apart ∙ sym (after r)
 
         beyond : length n ≤ r → None ≡ held_body digest reading f r
-        beyond far = sym (after r ∙ ap body_of (find_never (holds_by digest reading n r) (counted digest reading e) (λ c among is. beyond_held digest reading n r far c is)))
+        beyond far = sym (after r ∙ ap body_of (find_never (holds_by digest reading n r) (kept_arrivals digest reading e) (λ c among is. beyond_held digest reading n r far c is)))
 
         by_old : (s : Bool) → nat_lt r (length m) ≡ s → (t : Bool) → nat_lt r (length n) ≡ t
             → cond s (held_body digest reading e r) (cond t (judged n r (parked_body digest reading e (row_at n r).digest)) None) ≡ held_body digest reading f r
@@ -105,9 +105,9 @@ module _ (digest : List ℕ → List ℕ) where
     parked_is d = by_row (row_of m d) refl (row_of n d) refl ∙ sym (parked_as e f (comings_more [] e more) n (union_more [] e more) d)
       where
         by_row : (o : Option ℕ) → row_of m d ≡ o → (p : Option ℕ) → row_of n d ≡ p
-            → cond (is_some (row_of n d)) None (parked_from m (counted digest reading e) d) ≡ parked_from n (counted digest reading e) d
-        by_row None old p new = ap (λ (q : Option ℕ). cond (is_some (row_of n d)) None (cond (is_some q) None (came_under (counted digest reading e) d))) old
+            → cond (is_some (row_of n d)) None (parked_from m (kept_arrivals digest reading e) d) ≡ parked_from n (kept_arrivals digest reading e) d
+        by_row None old p new = ap (λ (q : Option ℕ). cond (is_some (row_of n d)) None (cond (is_some q) None (came_under (kept_arrivals digest reading e) d))) old
         by_row (Some q) old p new =
             let there : row_of n d ≡ Some q = listed_still digest reading x ok okn q d old in
-            ap (λ (s : Option ℕ). cond (is_some s) None (parked_from m (counted digest reading e) d)) there
-            ∙ sym (ap (λ (s : Option ℕ). cond (is_some s) None (came_under (counted digest reading e) d)) there)
+            ap (λ (s : Option ℕ). cond (is_some s) None (parked_from m (kept_arrivals digest reading e) d)) there
+            ∙ sym (ap (λ (s : Option ℕ). cond (is_some s) None (came_under (kept_arrivals digest reading e) d)) there)

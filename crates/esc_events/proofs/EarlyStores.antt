@@ -15,7 +15,7 @@ use Rattle.esc_events.specs.Events.EventValue.{arrived_early}
 use Rattle.esc_events.specs.Finding.{found_at, row_of}
 use Rattle.esc_events.specs.FirstVersion.{StoodFor, events_before, first_arrivals}
 use Rattle.esc_events.specs.Receipts.{holds_row, holds, alike, distinct, receipts_after}
-use Rattle.esc_events.specs.Stands.{Among, IsApart, CameFor, StandsFor, TellsOf, body_of, holds_by, has_digest, is_lost, counted, held_body, parked_body}
+use Rattle.esc_events.specs.Stands.{Among, IsApart, CameFor, StandsFor, TellsOf, body_of, holds_by, has_digest, is_lost, kept_arrivals, held_body, parked_body}
 use Rattle.esc_events.proofs.AmendingLemmas.{row_has, row_found, find_never}
 use Rattle.esc_events.proofs.Distinct.{alike_laws, any_alike, both}
 use Rattle.esc_events.proofs.EventLemmas.{none_is_listed}
@@ -62,7 +62,7 @@ module _ (m : List MRow) (l : List ArrivalValue) where
 
   -- the arrivals that count; and whether one holds a row
   abbrev counts : List Coming
-  counts = counted sha256 reading before
+  counts = kept_arrivals sha256 reading before
 
   abbrev holding : ℕ → Coming → Bool
   holding r = holds_by sha256 reading (union before) r

@@ -11,7 +11,7 @@ use Rattle.esc_events.specs.Events.{EventValue, Coming, union, coming, comings}
 use Rattle.esc_events.specs.Events.EventValue.{arrived}
 use Rattle.esc_events.specs.Finding.{found_at, row_of, held_row}
 use Rattle.esc_events.specs.Receipts.{receipt_by, holds_any, alike, receipt_for, receipts_after, unlisted_verdict}
-use Rattle.esc_events.specs.Stands.{Among, is_lost, counted}
+use Rattle.esc_events.specs.Stands.{Among, is_lost, kept_arrivals}
 use Rattle.esc_events.proofs.Distinct.{kept_one, both}
 use Rattle.esc_events.proofs.EventLemmas.{comings-arrived}
 use Rattle.esc_events.proofs.Members.{passed_among, passed_test, among_passed}
@@ -36,21 +36,21 @@ module _ (digest : List ℕ → List ℕ) (reads : List ℕ → Result DepositVa
   is_kept c = not (is_lost digest reads c)
 
   -- an arrival counts exactly if it came and its body was kept
-  pub counted_came : (e : List EventValue) (c : Coming) → Among (counted digest reads e) c → Among (comings e) c
+  pub counted_came : (e : List EventValue) (c : Coming) → Among (kept_arrivals digest reads e) c → Among (comings e) c
   counted_came e c there = passed_among is_kept (comings e) c there
 
-  pub counted_kept : (e : List EventValue) (c : Coming) → Among (counted digest reads e) c → is_lost digest reads c ≡ false
+  pub counted_kept : (e : List EventValue) (c : Coming) → Among (kept_arrivals digest reads e) c → is_lost digest reads c ≡ false
   counted_kept e c there = not_false (is_lost digest reads c) (passed_test is_kept (comings e) c there)
 
-  pub came_counts : (e : List EventValue) (c : Coming) → Among (comings e) c → is_lost digest reads c ≡ false → Among (counted digest reads e) c
+  pub came_counts : (e : List EventValue) (c : Coming) → Among (comings e) c → is_lost digest reads c ≡ false → Among (kept_arrivals digest reads e) c
   came_counts e c there kept = among_passed is_kept (comings e) c there (not_true (is_lost digest reads c) kept)
 
   -- one more arrival counts
-  pub counted-arrived : (e : List EventValue) (a : ArrivalValue) → counted digest reads (e ++ arrived a ∷ []) ≡ counted digest reads e ++ coming (union e) a ∷ []
-  counted-arrived e a = ap (filter is_kept) (comings-arrived e a) ∙ filter-append is_kept (comings e) (coming (union e) a ∷ [])
+  pub kept_arrivals-arrived : (e : List EventValue) (a : ArrivalValue) → kept_arrivals digest reads (e ++ arrived a ∷ []) ≡ kept_arrivals digest reads e ++ coming (union e) a ∷ []
+  kept_arrivals-arrived e a = ap (filter is_kept) (comings-arrived e a) ∙ filter-append is_kept (comings e) (coming (union e) a ∷ [])
 
   -- what counts still counts with one more event
-  pub counted_before : (e : List EventValue) (x : EventValue) (c : Coming) → Among (counted digest reads e) c → Among (counted digest reads (e ++ x ∷ [])) c
+  pub counted_before : (e : List EventValue) (x : EventValue) (c : Coming) → Among (kept_arrivals digest reads e) c → Among (kept_arrivals digest reads (e ++ x ∷ [])) c
   counted_before e x c there = came_counts (e ++ x ∷ []) c (among_before [] e x c (counted_came e c there)) (counted_kept e c there)
 
   -- an early arrival whose body no row listed had the verdict A2

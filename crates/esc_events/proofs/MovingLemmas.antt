@@ -28,7 +28,7 @@ use Rattle.esc_store.specs.Kept.{AreHeld, step_at}
 use Rattle.esc_events.specs.Events.{EventValue, Coming, union, comings_after}
 use Rattle.esc_events.specs.Events.EventValue.{listed, arrived, moved, arrived_early}
 use Rattle.esc_events.specs.Works.{no_work}
-use Rattle.esc_events.specs.Stands.{Among, HaveBodies, holds_by, body_of, counted, held_rows, held_body, deposit_of, deposits_of}
+use Rattle.esc_events.specs.Stands.{Among, HaveBodies, holds_by, body_of, kept_arrivals, held_rows, held_body, deposit_of, deposits_of}
 use Rattle.esc_events.proofs.AmendingLemmas.{same_bool, row_held}
 use Rattle.esc_events.proofs.FrontLemmas.{AreOf}
 use Rattle.esc_events.proofs.HeldRows as rows
@@ -113,7 +113,7 @@ any_found p (c ∷ l) = by_test (p c) (any_found p l)
 module _ (digest : List ℕ → List ℕ) (reads : List ℕ → Result DepositValue ℕ) where
   -- a row is held exactly if there is a body of it
   pub contains_held : (e : List EventValue) (r : ℕ) → set.contains (held_rows digest reads e) r ≡ is_some (held_body digest reads e r)
-  contains_held e r = rows.contains_held digest reads (union e) (counted digest reads e) r ∙ any_found (holds_by digest reads (union e) r) (counted digest reads e)
+  contains_held e r = rows.contains_held digest reads (union e) (kept_arrivals digest reads e) r ∙ any_found (holds_by digest reads (union e) r) (kept_arrivals digest reads e)
 
 pub true_of : (b : Bool) → IsTrue b → b ≡ true
 true_of true is = refl

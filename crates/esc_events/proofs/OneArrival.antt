@@ -14,12 +14,12 @@ use Rattle.esc_events.specs.Events.{EventValue, Coming, union, coming, comings}
 use Rattle.esc_events.specs.Events.EventValue.{arrived}
 use Rattle.esc_events.specs.Finding.{finding, row_of, held_row}
 use Rattle.esc_events.specs.Receipts.{holds_row, holds_any, found_then, alike, distinct, receipt_for, receipts_after, receipts_of, reply_to}
-use Rattle.esc_events.specs.Stands.{Among, TellsOf, body_of, holds_by, has_digest, counted, held_body, parked_body, IsApart, CameFor, CameWith, AreBooks}
+use Rattle.esc_events.specs.Stands.{Among, TellsOf, body_of, holds_by, has_digest, kept_arrivals, held_body, parked_body, IsApart, CameFor, CameWith, AreBooks}
 use Rattle.esc_events.proofs.EventLemmas.{union-arrived, comings-arrived, moment-arrived}
 use Rattle.esc_events.proofs.Searches.{none_alike, some_alike, alike-last, find-push-old, find-push-new}
 use Rattle.esc_events.proofs.Distinct.{alike_laws, any_alike, distinct-push, receipts-push, kept_any, both}
 use Rattle.esc_events.proofs.HeldReceipts.{split-last, any-front, any-last, says_from_holds}
-use Rattle.esc_events.proofs.Lost.{counted-arrived, came_counts, alike_counts}
+use Rattle.esc_events.proofs.Lost.{kept_arrivals-arrived, came_counts, alike_counts}
 use Rattle.esc_events.proofs.Members.{any_of, among-front, among-last, distinct_among, some_any, any_some, no_first}
 
 module _ (digest : List ℕ → List ℕ) (reads : List ℕ → Result DepositValue ℕ) where
@@ -30,7 +30,7 @@ module _ (digest : List ℕ → List ℕ) (reads : List ℕ → Result DepositVa
 
   -- what came for a row or with a digest by some events did so by others, where the same rows are
   -- listed and no arrival that counts is gone
-  module _ (e f : List EventValue) (rows : union f ≡ union e) (stay : (c : Coming) → Among (counted digest reads e) c → Among (counted digest reads f) c) where
+  module _ (e f : List EventValue) (rows : union f ≡ union e) (stay : (c : Coming) → Among (kept_arrivals digest reads e) c → Among (kept_arrivals digest reads f) c) where
     pub came_by : (r : ℕ) (body : List ℕ) → CameFor digest reads e r body → CameFor digest reads f r body
     came_by r body c = record {
       arrival = c.arrival;
@@ -66,7 +66,7 @@ module _ (digest : List ℕ → List ℕ) (reads : List ℕ → Result DepositVa
 
     -- the arrivals before that count; and whether one holds a row, or has a digest
     abbrev counts : List Coming
-    counts = counted digest reads e
+    counts = kept_arrivals digest reads e
 
     abbrev holding : ℕ → Coming → Bool
     holding r = holds_by digest reads (union e) r
@@ -87,21 +87,21 @@ module _ (digest : List ℕ → List ℕ) (reads : List ℕ → Result DepositVa
 
     -- ---- bodies, where no two different ones have the same digest
 
-    earlier : (c : Coming) → Among counts c → Among (counted digest reads then) c
-    earlier c there = subst (λ (l : List Coming). Among l c) (sym (counted-arrived digest reads e a)) (among-front counts (came ∷ []) c there)
+    earlier : (c : Coming) → Among counts c → Among (kept_arrivals digest reads then) c
+    earlier c there = subst (λ (l : List Coming). Among l c) (sym (kept_arrivals-arrived digest reads e a)) (among-front counts (came ∷ []) c there)
 
-    last : Among (counted digest reads then) came
-    last = subst (λ (l : List Coming). Among l came) (sym (counted-arrived digest reads e a)) (among-last counts came)
+    last : Among (kept_arrivals digest reads then) came
+    last = subst (λ (l : List Coming). Among l came) (sym (kept_arrivals-arrived digest reads e a)) (among-last counts came)
 
     pub apart-arrived : IsApart digest reads then → IsApart digest reads e
     apart-arrived apart b c first second same = apart b c (earlier b first) (earlier c second) same
 
     module _ (apart : IsApart digest reads then) where
       held_then : (r : ℕ) → held_body digest reads then r ≡ body_of (find (holding r) (counts ++ came ∷ []))
-      held_then r = ap₂ (λ (m : List MRow) (l : List Coming). body_of (find (holds_by digest reads m r) l)) (union-arrived e a) (counted-arrived digest reads e a)
+      held_then r = ap₂ (λ (m : List MRow) (l : List Coming). body_of (find (holds_by digest reads m r) l)) (union-arrived e a) (kept_arrivals-arrived digest reads e a)
 
       parked_then : (d : List ℕ) → parked_body digest reads then d ≡ cond (is_some (row_of (union e) d)) None (body_of (find (under d) (counts ++ came ∷ [])))
-      parked_then d = ap₂ (λ (m : List MRow) (l : List Coming). cond (is_some (row_of m d)) None (body_of (find (under d) l))) (union-arrived e a) (counted-arrived digest reads e a)
+      parked_then d = ap₂ (λ (m : List MRow) (l : List Coming). cond (is_some (row_of m d)) None (body_of (find (under d) l))) (union-arrived e a) (kept_arrivals-arrived digest reads e a)
 
       held_now : (r : ℕ) → k.bodies r ≡ body_of (find (holding r) counts)
       held_now r = books.bodies (apart-arrived apart) r

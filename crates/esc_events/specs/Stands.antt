@@ -105,39 +105,39 @@ module _ (digest : List ℕ → List ℕ) (reads : List ℕ → Result DepositVa
 
   module _ (e : List EventValue) where
     -- the arrivals whose bodies count: all whose body was kept when they came
-    abbrev pub counted : List Coming
-    counted = filter (λ c. not (is_lost c)) (comings e)
+    abbrev pub kept_arrivals : List Coming
+    kept_arrivals = filter (λ c. not (is_lost c)) (comings e)
 
     -- the rows that are held after a list of events: each body that counts is judged by all rows
     -- that are listed in the end
     abbrev pub held_rows : Rows
-    held_rows = set.from_list (rows_of (union e) counted)
+    held_rows = set.from_list (rows_of (union e) kept_arrivals)
 
     -- the body that is held for a row after a list of events
     abbrev pub held_body : ℕ → Option (List ℕ)
-    held_body r = body_of (find (holds_by (union e) r) counted)
+    held_body r = body_of (find (holds_by (union e) r) kept_arrivals)
 
     -- the body with this digest that counts, if no row lists it
     abbrev pub parked_body : List ℕ → Option (List ℕ)
     parked_body d =
-        if is_some (row_of (union e) d) then None else body_of (find (has_digest d) counted)
+        if is_some (row_of (union e) d) then None else body_of (find (has_digest d) kept_arrivals)
 
     -- no two different bodies that count have the same digest
     abbrev pub IsApart : Type 0
-    IsApart = (a b : Coming) → Among counted a → Among counted b → digest a.body ≡ digest b.body
-        → a.body ≡ b.body
+    IsApart = (a b : Coming) → Among kept_arrivals a → Among kept_arrivals b
+        → digest a.body ≡ digest b.body → a.body ≡ b.body
 
     -- this body came in an arrival that counts, and is the deposit of row r
     pub record CameFor (r : ℕ) (body : List ℕ) : Type 0 where
       pub arrival : Coming
-      pub among : Among counted arrival
+      pub among : Among kept_arrivals arrival
       pub holds : holds_by (union e) r arrival ≡ true
       pub is_body : arrival.body ≡ body
 
     -- this body came in an arrival that counts, and has this digest
     pub record CameWith (d body : List ℕ) : Type 0 where
       pub arrival : Coming
-      pub among : Among counted arrival
+      pub among : Among kept_arrivals arrival
       pub digest_is : digest arrival.body ≡ d
       pub is_body : arrival.body ≡ body
 

@@ -10,7 +10,7 @@
 //! it took in before the migration. Version 1 kept no body that no row listed, and gave it `A2` in
 //! place of `A5`. Such a body is lost: no amendment holds it, and it isn't parked, until it comes
 //! again. A duplicate of an arrival with `A2` gets that one's reply, but its body counts as that of
-//! a new arrival does (`counted`, specs/Stands.antt).
+//! a new arrival does (`kept_arrivals`, specs/Stands.antt).
 //!
 //! After a list of events
 //!

@@ -1,5 +1,6 @@
 pub mod Decoded
 pub mod Faults
+pub mod Filling
 pub mod FirstVersion
 pub mod Kept
 pub mod Opening

@@ -1,12 +1,13 @@
 //! Objects that are put many at a time, at keys that have none.
 
-ghost use Rattle.std.specs.Prelude.{◌≡◌, [], ◌∷◌, length, map, IfOk, IfErr, OnOk, ℕ, List};
+ghost use Rattle.std.specs.Prelude.{◌≡◌, [], ◌∷◌, length, map, IfOk, IfErr, OnOk};
 ghost use Rattle.esc_apply.specs.Objects.{Entry};
 ghost use Rattle.esc_apply.specs.Registry.{State};
-ghost use Rattle.esc_apply.specs.Changes.{with_object, changed_by, AreFirst};
+ghost use Rattle.esc_apply.specs.Changes.{with_object, AreFirst};
 ghost use Rattle.esc_rows.specs.Entries.{new_entry};
 ghost use Rattle.esc_store.specs.Faults.{IsS1OrS2};
-ghost use Rattle.esc_store.specs.Pages.{entry_row, stored_row, AreRowsOf};
+ghost use Rattle.esc_store.specs.Filling.{after_filling, FillsRows, NotesRows, PutsRows};
+ghost use Rattle.esc_store.specs.Pages.{entry_row, stored_row};
 ghost use Rattle.esc_store.specs.Standing.{HoldsNow, Follows};
 
 use crate::change::Change;
@@ -45,8 +46,7 @@ impl<'a, S: Alter> Change<'a, S> {
         ensures follows { Follows S.Store self.old self.new }
         ensures filled { OnOk result ((s : State)
             → AreFirst s step (map with_object objects.now.entries) → HoldsNow S.Store self.old s
-            → HoldsNow S.Store self.new
-            (changed_by s step (map with_object objects.now.entries))) }
+            → HoldsNow S.Store self.new (after_filling s step objects.now.entries)) }
         ensures cause { IfErr result IsS1OrS2 }
     {
         let mut rows = Vec::new(alloc);
@@ -66,10 +66,8 @@ impl<'a, S: Alter> Change<'a, S> {
     fn fill_rows(&mut self, alloc: Global, step: u32, rows: &[NewObject<'_>]) -> Result<(), SFault>
         ensures count { self.new.count ≡ self.old.count }
         ensures follows { Follows S.Store self.old self.new }
-        ensures filled { OnOk result ((s : State) (es : List Entry)
-            → AreRowsOf es (map new_entry rows.now)
-            → AreFirst s step (map with_object es) → HoldsNow S.Store self.old s
-            → HoldsNow S.Store self.new (changed_by s step (map with_object es))) }
+        ensures filled { OnOk result (FillsRows S.Store step (map new_entry rows.now)
+            self.old self.new) }
         ensures cause { IfErr result IsS1OrS2 }
     {
         if rows.len() == ROWS_AT_ONCE {
@@ -89,10 +87,8 @@ impl<'a, S: Alter> Change<'a, S> {
         requires { length rows.now ≡ ROWS_AT_ONCE }
         ensures count { self.new.count ≡ self.old.count }
         ensures follows { Follows S.Store self.old self.new }
-        ensures filled { OnOk result ((s : State) (es : List Entry)
-            → AreRowsOf es (map new_entry rows.now)
-            → AreFirst s step (map with_object es) → HoldsNow S.Store self.old s
-            → HoldsNow S.Store self.new (changed_by s step (map with_object es))) }
+        ensures filled { OnOk result (FillsRows S.Store step (map new_entry rows.now)
+            self.old self.new) }
         ensures cause { IfErr result IsS1OrS2 }
     {
         self.note_rows(alloc, step, rows)?;
@@ -104,13 +100,8 @@ impl<'a, S: Alter> Change<'a, S> {
         requires { length rows.now ≡ ROWS_AT_ONCE }
         ensures count { self.new.count ≡ self.old.count }
         ensures follows { Follows S.Store self.old self.new }
-        ensures noted { OnOk result ((s : State) (es : List Entry)
-            → AreRowsOf es (map new_entry rows.now)
-            → AreFirst s step (map with_object es) → HoldsNow S.Store self.old s
-            → HoldsNow S.Store self.new (record {
-              content = s.content;
-              undo = (changed_by s step (map with_object es)).undo;
-            })) }
+        ensures noted { OnOk result (NotesRows S.Store step (map new_entry rows.now)
+            self.old self.new) }
         ensures cause { IfErr result IsS1OrS2 }
     {
         let done = insert_images(alloc, &mut self.store.conn, step, rows);
@@ -122,12 +113,7 @@ impl<'a, S: Alter> Change<'a, S> {
         requires { length rows.now ≡ ROWS_AT_ONCE }
         ensures count { self.new.count ≡ self.old.count }
         ensures follows { Follows S.Store self.old self.new }
-        ensures put { OnOk result ((s : State) (step : ℕ) (es : List Entry)
-            → AreRowsOf es (map new_entry rows.now)
-            → AreFirst s step (map with_object es) → HoldsNow S.Store self.old (record {
-              content = s.content;
-              undo = (changed_by s step (map with_object es)).undo;
-            }) → HoldsNow S.Store self.new (changed_by s step (map with_object es))) }
+        ensures put { OnOk result (PutsRows S.Store (map new_entry rows.now) self.old self.new) }
         ensures cause { IfErr result IsS1OrS2 }
     {
         let done = insert_objects(alloc, &mut self.store.conn, rows);
@@ -138,10 +124,8 @@ impl<'a, S: Alter> Change<'a, S> {
     fn fill_each(&mut self, alloc: Global, step: u32, rows: &[NewObject<'_>]) -> Result<(), SFault>
         ensures count { self.new.count ≡ self.old.count }
         ensures follows { Follows S.Store self.old self.new }
-        ensures filled { OnOk result ((s : State) (es : List Entry)
-            → AreRowsOf es (map new_entry rows.now)
-            → AreFirst s step (map with_object es) → HoldsNow S.Store self.old s
-            → HoldsNow S.Store self.new (changed_by s step (map with_object es))) }
+        ensures filled { OnOk result (FillsRows S.Store step (map new_entry rows.now)
+            self.old self.new) }
         ensures cause { IfErr result IsS1OrS2 }
     {
         for at in 0..rows.len() {
@@ -157,7 +141,7 @@ impl<'a, S: Alter> Change<'a, S> {
         ensures filled { OnOk result ((s : State) (e : Entry)
             → entry_row e ≡ stored_row (new_entry row.now)
             → AreFirst s step (with_object e ∷ []) → HoldsNow S.Store self.old s
-            → HoldsNow S.Store self.new (changed_by s step (with_object e ∷ []))) }
+            → HoldsNow S.Store self.new (after_filling s step (e ∷ []))) }
         ensures cause { IfErr result IsS1OrS2 }
     {
         let key = key_of(alloc, row.kind, row.key)?;
