@@ -7,6 +7,7 @@ desk that is open leaves out the opening: its time runs from the heading that `t
 asked for again and again it is the mean of the responses after the first. At last stand the times of an arrival where 100 and 4,000
 rows are held, of the second build. It needs python3 alone."""
 import argparse, os, shutil, subprocess, sys, tempfile
+from dataclasses import dataclass, field
 
 from running import Program, arrivals_where
 
@@ -28,8 +29,16 @@ class Release:
         return store, program.run('take', '--store', store, self.path(folder))
 
 
+@dataclass
+class Measure:
+    """What a task took: milliseconds of processor time, the peak memory in MB, and, along a chain, an arrival by the rows held then."""
+    processor: float
+    memory: float
+    arrivals: dict = field(default_factory=dict)
+
+
 def taken(use):
-    return use.processor, use.memory
+    return Measure(use.processor, use.memory)
 
 
 def full_of_objects(release, program):
@@ -43,7 +52,7 @@ def full_with_children(release, program):
 def differentials(release, program):
     store, _ = release.filled(program)
     clock, use = program.arrivals(store, release.path('diffs'))
-    return clock[-1] - clock[0], use.memory
+    return Measure(clock[-1] - clock[0], use.memory)
 
 
 def repeats(release, program):
@@ -66,14 +75,25 @@ def status_of_many_rows(release, program):
 def status_again(release, program):
     store, _ = release.filled(program)
     _, later, use = program.status_of(store)
-    return later, use.memory
+    return Measure(later, use.memory)
 
 
 def along_a_chain(release, program):
     store, _ = release.filled(program, 'chain/full', 'chain/manifest.csv')
     clock, use = program.arrivals(store, release.path('chain', 'diffs'))
-    program.arrivals_along_a_chain = arrivals_where(clock)
-    return use.processor, use.memory
+    return Measure(use.processor, use.memory, arrivals_where(clock))
+
+
+def least(measures):
+    """The least time and the least peak memory of several runs of a task."""
+    return Measure(min(it.processor for it in measures), min(it.memory for it in measures), measures[0].arrivals)
+
+
+def tell(task, before, after):
+    print(f'{task:52} {before.processor:9.1f} {after.processor:9.1f} ms {after.processor / before.processor:6.3f}'
+          f' {before.memory:6.0f} {after.memory:6.0f} MB {after.memory / before.memory:6.2f}', flush=True)
+    if each := after.arrivals:
+        print(f'{"an arrival where 100 rows are held, and where 4,000":52} {each[100]:9.2f} {each[4000]:9.2f} ms {each[4000] / each[100]:6.2f}')
 
 
 TASKS = {
@@ -105,11 +125,7 @@ def main():
             # The slow task of the chain says enough in one run.
             times = 1 if measured is along_a_chain else given.times
             seen = [[measured(release, program) for program in both] for _ in range(times)]
-            before, after = ([min(column) for column in zip(*(pair[at] for pair in seen))] for at in (0, 1))
-            print(f'{task:52} {before[0]:9.1f} {after[0]:9.1f} ms {after[0] / before[0]:6.3f}'
-                  f' {before[1]:6.0f} {after[1]:6.0f} MB {after[1] / before[1]:6.2f}', flush=True)
-        each = both[1].arrivals_along_a_chain
-        print(f'{"an arrival where 100 rows are held, and where 4,000":52} {each[100]:9.2f} {each[4000]:9.2f} ms {each[4000] / each[100]:6.2f}')
+            tell(task, *(least([pair[at] for pair in seen]) for at in (0, 1)))
     finally:
         shutil.rmtree(work)
 
