@@ -1,21 +1,10 @@
 -- Rows and steps of a plan.
 use Rattle.std.proofs.Common.{◌≡◌, ℕ, ◌+◌, ◌<◌, List, [], ◌∷◌, ◌++◌, length, map, take, drop, get_or, sym, ap, ap₂, ◌∙◌, append_assoc, length-append, arith}
-use Rattle.std.specs.FinSet as set
-use Rattle.std.specs.FinSet.{nat_cmp-IsAntisymmetric}
-use Rattle.std.specs.Cmp.{nat_cmp_total}
-use Rattle.std.specs.Ordering.{nat_cmp}
 use Rattle.std.specs.List.{drop-map}
-use Rattle.std.proofs.lemmas.List.{take_more, take_more_same, take-append-drop, drop_more, length-map, get_or-map}
+use Rattle.std.proofs.lemmas.List.{take_more_same, take-append-drop, drop_more, length-map, get_or-map}
 use Rattle.esc_apply.specs.declared.front.Step.{Step}
 use Rattle.esc_tables.specs.DepositValue.{DepositValue}
 use Rattle.esc_events.specs.Plans.{rows_in}
-
--- the set of the first rows, and one more
-pub one_more_row : (rows : List ℕ) (i : ℕ) → i < length rows
-    → set.insert {R = nat_cmp} (set.from_list (take i rows)) (get_or rows i 0) ≡ set.from_list {R = nat_cmp} (take (i + 1) rows)
-one_more_row rows i within =
-    sym (set.from_list_push nat_cmp_total nat_cmp-IsAntisymmetric (take i rows) (get_or rows i 0))
-    ∙ ap (λ (l : List ℕ). set.from_list {R = nat_cmp} l) (sym (take_more rows i 0 within))
 
 -- one deposit behind others
 pub one_longer : (found more : List DepositValue) (d : DepositValue) (n : ℕ) → more ≡ found ++ d ∷ [] → length found ≡ n → length more ≡ n + 1

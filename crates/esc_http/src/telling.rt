@@ -64,14 +64,10 @@ fn held_of(alloc: Global, manifest: &Manifest, rows: &[usize]) -> Result<Held, S
     ensures in_range { IfOk result (InRange manifest.now) }
     ensures cause { IfErr result IsS1OrS2 }
 {
-    let mut held = Held::new(alloc);
-    for row in rows {
-        if *row >= manifest.rows().len() {
-            return Err(SFault::S1);
-        }
-        held.insert(manifest, *row)?;
+    match Held::from_rows(alloc, manifest, rows)? {
+        Some(held) => Ok(held),
+        None => Err(SFault::S1),
     }
-    Ok(held)
 }
 
 fn report_status<S: Alter>(alloc: Global, desk: &mut Desk<S>) -> Result<Vec<u8>, SFault>

@@ -2,13 +2,17 @@
 
 mod chains;
 mod database;
+mod deeds;
+mod first;
 mod listing;
 mod migrating;
 mod no_stores;
 mod objects;
 mod parking;
 mod receipts;
+mod removals;
 mod store;
+mod stores;
 
 use std::process::Abort;
 

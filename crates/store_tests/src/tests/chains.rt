@@ -1,6 +1,7 @@
 //! The chain of a store, from one to the next.
 
 use super::assert_text;
+use super::stores::made;
 use esc_apply::{Step, common_front};
 use esc_manifest::{Manifest, read_manifest};
 use esc_store::{Change, SFault, Store};
@@ -43,17 +44,6 @@ const CHAINS: [(&[usize], &[usize]); 19] = [
     (&[0, 1], &[6, 7]),
     (&[0, 6, 7], &[6, 7]),
 ];
-
-fn new_store<S: Alter + Drop>(
-    alloc: Global,
-    conn: Connection<S>,
-    manifest: &Manifest,
-) -> Result<Store<S>, Fail> {
-    match Store::create(alloc, conn, manifest) {
-        Ok(store) => Ok(store),
-        Err((fault, _)) => Err(Fail::new(fault)),
-    }
-}
 
 // Holds a body of each row.
 fn hold_all<S: Alter>(store: &mut Store<S>, rows: usize) -> Result<(), SFault> {
@@ -169,7 +159,7 @@ fn expected(alloc: Global, first: &[Step], second: &[Step]) -> Result<String, Fa
 fn a_chain_is_the_one_that_was_set_last(rt: HostRuntime) -> Result<(), Fail> {
     let alloc = rt.alloc();
     let manifest = read_manifest(alloc, LISTED)?;
-    let mut store = new_store(alloc, Connection::open_in_memory(alloc)?, &manifest)?;
+    let mut store = made(alloc, Connection::open_in_memory(alloc)?, &manifest)?;
     hold_all(&mut store, manifest.rows().len())?;
     for (first, second) in CHAINS {
         let first = steps_of(alloc, &manifest, first)?;

@@ -1,6 +1,7 @@
 //! Rows that a change lists: what a store's manifest is then.
 
 use super::assert_text;
+use super::stores::{new_store, opened_again};
 use Deed::{Abandon, List, Open};
 use esc_manifest::read_manifest;
 use esc_store::Store;
@@ -46,21 +47,6 @@ const DEEDS: [(Deed, &str); 8] = [
     (List(THIRD), "F1 0 1; F3 0 3; I2 2 2; F4 0 4;"),
     (Open, "F1 0 1; F3 0 3; I2 2 2; F4 0 4;"),
 ];
-
-fn new_store<S: Alter + Drop>(alloc: Global, conn: Connection<S>) -> Result<Store<S>, Fail> {
-    let manifest = read_manifest(alloc, FIRST)?;
-    match Store::create(alloc, conn, &manifest) {
-        Ok(store) => Ok(store),
-        Err((fault, _)) => Err(Fail::new(fault)),
-    }
-}
-
-fn opened_again<S: Alter + Drop>(alloc: Global, store: Store<S>) -> Result<Store<S>, Fail> {
-    match Store::open(alloc, store.into_connection()) {
-        Ok(store) => Ok(store),
-        Err((fault, _)) => Err(Fail::new(fault)),
-    }
-}
 
 // Lists the rows of a manifest that aren't listed yet, in a change that is committed or not.
 #[tactic(auto, using(crate::proofs::Unions::begins))]
@@ -108,7 +94,7 @@ fn told<S: Alter>(alloc: Global, store: &Store<S>) -> Result<String, Fail> {
 #[test]
 fn listed_rows_are_kept(rt: HostRuntime) -> Result<(), Fail> {
     let alloc = rt.alloc();
-    let mut store = new_store(alloc, Connection::open_in_memory(alloc)?)?;
+    let mut store = new_store(alloc, Connection::open_in_memory(alloc)?, FIRST)?;
     for (deed, expected) in DEEDS {
         store = done(alloc, store, deed)?;
         let told = told(alloc, &store)?;

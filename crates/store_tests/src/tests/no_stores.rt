@@ -1,12 +1,10 @@
 //! Databases that are no store, or not yet: what is done to them, and the fault of it.
 
-use super::store::{LISTED, listed};
-use Deed::{Make, Open, Run};
-use esc_manifest::Manifest;
-use esc_store::{SFault, Store};
-use sqlite::{Alter, Connection, Error};
-use std::alloc::Global;
-use std::process::Abort;
+use super::deeds::Deed::{Make, Open, Run};
+use super::deeds::{Database, assert_databases};
+use super::store::LISTED;
+use esc_manifest::read_manifest;
+use esc_store::SFault;
 use std::test::Fail;
 
 // A longer manifest, with each type of deposit and a deposit at two resends.
@@ -20,16 +18,8 @@ D6,DIFF,2024-03-11T00:00:00Z,F5,0,0000000000000000000000000000000000000000000000
 D2,DIFF,2024-03-04T00:00:00Z,F1,1,0000000000000000000000000000000000000000000000000000000000000007
 ";
 
-/// What is done to a database.
-#[derive(Clone, Copy)]
-enum Deed {
-    Open,
-    Make,
-    Run(&'static str),
-}
-
 // Deeds in a new database, each with its fault.
-const DATABASES: [(&str, &[(Deed, Option<SFault>)]); 4] = [
+const DATABASES: [Database; 4] = [
     (
         "another version",
         &[
@@ -78,68 +68,14 @@ const DATABASES: [(&str, &[(Deed, Option<SFault>)]); 4] = [
     ),
 ];
 
-fn fault_of<S: Alter + Drop>(
-    answer: Result<Store<S>, (SFault, Connection<S>)>,
-) -> (Option<SFault>, Connection<S>) {
-    match answer {
-        Ok(store) => (None, store.into_connection()),
-        Err((fault, conn)) => (Some(fault), conn),
-    }
-}
-
-fn execute<S: Alter>(conn: &mut Connection<S>, sql: &str) -> Result<(), Error> {
-    conn.execute(sql, &[])?;
-    Ok(())
-}
-
-fn after<S: Alter + Drop>(
-    alloc: Global,
-    mut conn: Connection<S>,
-    manifest: &Manifest,
-    deed: Deed,
-) -> Result<(Option<SFault>, Connection<S>), Fail> {
-    match deed {
-        Open => Ok(fault_of(Store::open(alloc, conn))),
-        Make => Ok(fault_of(Store::create(alloc, conn, manifest))),
-        Run(sql) => {
-            execute(&mut conn, sql)?;
-            Ok((None, conn))
-        }
-    }
-}
-
-fn assert_deeds<S: Alter + Drop>(
-    rt: &impl Abort,
-    alloc: Global,
-    mut conn: Connection<S>,
-    manifest: &Manifest,
-    deeds: (&str, &[(Deed, Option<SFault>)]),
-) -> Result<(), Fail> {
-    let (name, deeds) = deeds;
-    for (deed, expected) in deeds {
-        let (fault, next) = after(alloc, conn, manifest, *deed)?;
-        assert_eq!(rt; fault, *expected, "{name}");
-        conn = next;
-    }
-    Ok(())
-}
-
-fn assert_databases(rt: &impl Abort, alloc: Global, listed: &Manifest) -> Result<(), Fail> {
-    for deeds in DATABASES {
-        let conn = Connection::open_in_memory(alloc)?;
-        assert_deeds(rt, alloc, conn, listed, deeds)?;
-    }
-    Ok(())
-}
-
 #[test]
 fn other_databases_are_no_store(rt: HostRuntime) -> Result<(), Fail> {
-    let manifest = listed(rt.alloc(), LISTED)?;
-    assert_databases(&rt, rt.alloc(), &manifest)
+    let manifest = read_manifest(rt.alloc(), LISTED)?;
+    assert_databases(&rt, rt.alloc(), &manifest, &DATABASES)
 }
 
 #[test]
 fn other_databases_are_no_store_of_a_longer_manifest(rt: HostRuntime) -> Result<(), Fail> {
-    let manifest = listed(rt.alloc(), LONGER)?;
-    assert_databases(&rt, rt.alloc(), &manifest)
+    let manifest = read_manifest(rt.alloc(), LONGER)?;
+    assert_databases(&rt, rt.alloc(), &manifest, &DATABASES)
 }

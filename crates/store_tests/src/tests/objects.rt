@@ -1,8 +1,8 @@
-//! Objects, before-images, receipts and bodies: what is read back of them, and what is gone once it
-//! is removed.
+//! Objects, before-images, receipts and bodies: what is read back of them.
 
 use super::assert_text;
-use super::store::{key, new_store, object, take_first};
+use super::store::{LISTED, key, object, take_first};
+use super::stores::new_store;
 use esc_apply::Registry;
 use esc_envelope::Kind;
 use esc_store::{Change, Reply, SFault, Store, number};
@@ -42,7 +42,7 @@ fn keys_of(alloc: Global, named: &[(Kind, &str)]) -> Result<Vec<Key>, Fail> {
     Ok(keys)
 }
 
-fn put_all<S: Alter>(
+pub(super) fn put_all<S: Alter>(
     alloc: Global,
     store: &mut Store<S>,
     named: &[(Kind, &str)],
@@ -52,7 +52,7 @@ fn put_all<S: Alter>(
     Ok(fill(alloc, store, keys.as_slice(), &object)?)
 }
 
-fn images<S: Alter>(
+pub(super) fn images<S: Alter>(
     alloc: Global,
     change: &mut Change<'_, S>,
     step: u32,
@@ -99,7 +99,7 @@ fn tell_keys(text: &mut String, tables: &BTreeMap<Key, Object>) -> Result<(), Fa
     Ok(())
 }
 
-fn tell_counts(text: &mut String, counts: &BTreeMap<Kind, u64>) -> Result<(), Fail> {
+pub(super) fn tell_counts(text: &mut String, counts: &BTreeMap<Kind, u64>) -> Result<(), Fail> {
     for (_, count) in counts {
         write!(text, "{count} ")?;
     }
@@ -142,7 +142,7 @@ fn read_back<S: Alter + Drop>(alloc: Global, mut store: Store<S>) -> Result<Stri
 #[test]
 fn objects_and_before_images_are_read_back(rt: HostRuntime) -> Result<(), Fail> {
     let alloc = rt.alloc();
-    let store = new_store(alloc, Connection::open_in_memory(alloc)?)?;
+    let store = new_store(alloc, Connection::open_in_memory(alloc)?, LISTED)?;
     let text = read_back(alloc, store)?;
     assert_text(&rt, "read back", text.as_str(), READ_BACK);
     Ok(())
@@ -173,6 +173,18 @@ fn noted_of<S: Alter>(
     Ok((noted.len(), there))
 }
 
+// How many writes a store has counted, and how many objects it has.
+pub(super) fn tell_size<S: Alter>(
+    alloc: Global,
+    text: &mut String,
+    store: &mut Store<S>,
+) -> Result<(), Fail> {
+    let writes = store.writes();
+    let count = store.tables(alloc)?.len();
+    writeln!(text, "{writes} writes, {count} objects")?;
+    Ok(())
+}
+
 /// How many objects are put by one call, and what is said of them. A statement takes 32.
 static FILLED: [(u32, &str); 5] = [
     (0, "0 images, 0 of an object\n0 writes, 0 objects\n"),
@@ -194,7 +206,7 @@ fn filled<S: Alter + Drop>(alloc: Global, mut store: Store<S>, count: u32) -> Re
 fn many_objects_are_put_by_one_call(rt: HostRuntime) -> Result<(), Fail> {
     let alloc = rt.alloc();
     for (count, wanted) in &FILLED {
-        let store = new_store(alloc, Connection::open_in_memory(alloc)?)?;
+        let store = new_store(alloc, Connection::open_in_memory(alloc)?, LISTED)?;
         let text = filled(alloc, store, *count)?;
         assert_text(&rt, "filled", text.as_str(), wanted);
     }
@@ -227,7 +239,7 @@ fn tell_receipt<S: Alter>(
     Ok(())
 }
 
-fn body<S: Alter>(
+pub(super) fn body<S: Alter>(
     alloc: Global,
     store: &mut Store<S>,
     row: usize,
@@ -274,138 +286,8 @@ fn found<S: Alter + Drop>(alloc: Global, mut store: Store<S>) -> Result<String, 
 #[test]
 fn receipts_and_bodies_are_found(rt: HostRuntime) -> Result<(), Fail> {
     let alloc = rt.alloc();
-    let store = new_store(alloc, Connection::open_in_memory(alloc)?)?;
+    let store = new_store(alloc, Connection::open_in_memory(alloc)?, LISTED)?;
     let found = found(alloc, store)?;
     assert_text(&rt, "found", found.as_str(), FOUND);
-    Ok(())
-}
-
-fn is_there<S: Alter>(
-    alloc: Global,
-    change: &mut Change<'_, S>,
-    key: &Key,
-) -> Result<bool, SFault> {
-    Ok(change.get(alloc, key)?.is_some())
-}
-
-// Removes an object: whether it was there, and whether it is there afterwards.
-fn removed<S: Alter>(
-    alloc: Global,
-    store: &mut Store<S>,
-    key: &Key,
-) -> Result<(bool, bool), SFault> {
-    let mut change = store.begin()?;
-    let was_there = is_there(alloc, &mut change, key)?;
-    change.remove(key)?;
-    let stays = is_there(alloc, &mut change, key)?;
-    change.commit()?;
-    Ok((was_there, stays))
-}
-
-// Removes all objects and before-images, which counts no write: how many before-images are left.
-fn cleared<S: Alter>(alloc: Global, store: &mut Store<S>) -> Result<usize, Fail> {
-    let mut change = store.begin()?;
-    change.clear()?;
-    let images = images(alloc, &mut change, 1)?;
-    change.commit()?;
-    Ok(images.len())
-}
-
-// How many writes a store has counted, and how many objects it has.
-fn tell_size<S: Alter>(alloc: Global, text: &mut String, store: &mut Store<S>) -> Result<(), Fail> {
-    let writes = store.writes();
-    let count = store.tables(alloc)?.len();
-    writeln!(text, "{writes} writes, {count} objects")?;
-    Ok(())
-}
-
-const REMOVED: &str = "it was there: true, it stays: false
-3 writes, 1 objects
-0 images
-3 writes, 0 objects
-";
-
-// Two objects, of which one is removed and then all.
-fn removals<S: Alter + Drop>(
-    alloc: Global,
-    store: &mut Store<S>,
-    first: &Key,
-) -> Result<String, Fail> {
-    let mut text = String::new(alloc);
-    let (was_there, stays) = removed(alloc, store, first)?;
-    writeln!(text, "it was there: {was_there}, it stays: {stays}")?;
-    tell_size(alloc, &mut text, store)?;
-    writeln!(text, "{} images", cleared(alloc, store)?)?;
-    tell_size(alloc, &mut text, store)?;
-    Ok(text)
-}
-
-#[test]
-fn what_is_removed_is_gone(rt: HostRuntime) -> Result<(), Fail> {
-    let alloc = rt.alloc();
-    let first = key(alloc, Kind::Contact, "C1")?;
-    let mut store = new_store(alloc, Connection::open_in_memory(alloc)?)?;
-    put_all(
-        alloc,
-        &mut store,
-        &[(Kind::Contact, "C1"), (Kind::Domain, "a.example")],
-    )?;
-    let text = removals(alloc, &mut store, &first)?;
-    assert_text(&rt, "removed", text.as_str(), REMOVED);
-    Ok(())
-}
-
-// How many objects there are of each kind, asked for twice: the second answer is remembered.
-fn tell_twice<S: Alter>(
-    alloc: Global,
-    text: &mut String,
-    store: &mut Store<S>,
-) -> Result<(), Fail> {
-    for _ in 0..2 {
-        let counts = store.counts_by_kind(alloc)?;
-        tell_counts(text, &counts)?;
-    }
-    Ok(())
-}
-
-// Removes an object in a change that isn't committed.
-fn remove_in_vain<S: Alter>(store: &mut Store<S>, key: &Key) -> Result<(), SFault> {
-    let mut change = store.begin()?;
-    change.remove(key)
-}
-
-// What is counted of two objects at first, once a change was dropped that removed the first of
-// them, once it is removed, and once both are.
-const COUNTED: &str =
-    "0 1 0 1 0 0 \n0 1 0 1 0 0 \n0 1 0 1 0 0 \n0 1 0 1 0 0 \n0 0 0 1 0 0 \n0 0 0 1 0 0 \n0 0 0 0 0 0 \n0 0 0 0 0 0 \n";
-
-fn counted<S: Alter + Drop>(
-    alloc: Global,
-    store: &mut Store<S>,
-    first: &Key,
-) -> Result<String, Fail> {
-    let mut text = String::new(alloc);
-    tell_twice(alloc, &mut text, store)?;
-    remove_in_vain(store, first)?;
-    tell_twice(alloc, &mut text, store)?;
-    removed(alloc, store, first)?;
-    tell_twice(alloc, &mut text, store)?;
-    cleared(alloc, store)?;
-    tell_twice(alloc, &mut text, store)?;
-    Ok(text)
-}
-
-#[test]
-fn counts_follow_each_change(rt: HostRuntime) -> Result<(), Fail> {
-    let alloc = rt.alloc();
-    let first = key(alloc, Kind::Contact, "C1")?;
-    let mut store = new_store(alloc, Connection::open_in_memory(alloc)?)?;
-    put_all(
-        alloc,
-        &mut store,
-        &[(Kind::Contact, "C1"), (Kind::Domain, "a.example")],
-    )?;
-    let text = counted(alloc, &mut store, &first)?;
-    assert_text(&rt, "counted", text.as_str(), COUNTED);
     Ok(())
 }

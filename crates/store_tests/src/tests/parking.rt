@@ -1,8 +1,8 @@
 //! Bodies that no row lists, and the moment: what a store has of them after changes.
 
 use super::assert_text;
+use super::stores::{new_store, opened_again};
 use Deed::{Abandon, Open, Park, Set, Unpark};
-use esc_manifest::{Manifest, read_manifest};
 use esc_store::{Change, SFault, Store};
 use sqlite::{Alter, Connection};
 use std::alloc::Global;
@@ -74,13 +74,6 @@ fn change<S: Alter>(store: &mut Store<S>, deed: Deed) -> Result<(), SFault> {
     Ok(())
 }
 
-fn opened_again<S: Alter + Drop>(alloc: Global, store: Store<S>) -> Result<Store<S>, Fail> {
-    match Store::open(alloc, store.into_connection()) {
-        Ok(store) => Ok(store),
-        Err((fault, _)) => Err(Fail::new(fault)),
-    }
-}
-
 fn body<S: Alter>(store: &mut Store<S>, digest: &[u8; 32]) -> Result<Vec<u8>, Fail> {
     match store.parked_body(digest)? {
         Some(body) => Ok(body),
@@ -118,22 +111,10 @@ fn told<S: Alter>(alloc: Global, store: &mut Store<S>, deed: Deed) -> Result<Str
     Ok(text)
 }
 
-fn new_store<S: Alter + Drop>(
-    alloc: Global,
-    conn: Connection<S>,
-    manifest: &Manifest,
-) -> Result<Store<S>, Fail> {
-    match Store::create(alloc, conn, manifest) {
-        Ok(store) => Ok(store),
-        Err((fault, _)) => Err(Fail::new(fault)),
-    }
-}
-
 #[test]
 fn parked_bodies_and_the_moment_are_kept(rt: HostRuntime) -> Result<(), Fail> {
     let alloc = rt.alloc();
-    let manifest = read_manifest(alloc, LISTED)?;
-    let mut store = new_store(alloc, Connection::open_in_memory(alloc)?, &manifest)?;
+    let mut store = new_store(alloc, Connection::open_in_memory(alloc)?, LISTED)?;
     for (deed, expected) in DEEDS {
         if matches!(deed, Open) {
             store = opened_again(alloc, store)?;

@@ -1,7 +1,7 @@
 //! Receipts of several verdicts: which digests a store gives of bodies that no row listed.
 
 use super::assert_text;
-use esc_manifest::{Manifest, read_manifest};
+use super::stores::new_store;
 use esc_store::{Receipt, SFault, Store, Verdict};
 use sqlite::{Alter, Connection};
 use std::alloc::Global;
@@ -52,22 +52,10 @@ fn told<S: Alter>(
     tell_digests(alloc, digests.as_slice())
 }
 
-fn new_store<S: Alter + Drop>(
-    alloc: Global,
-    conn: Connection<S>,
-    manifest: &Manifest,
-) -> Result<Store<S>, Fail> {
-    match Store::create(alloc, conn, manifest) {
-        Ok(store) => Ok(store),
-        Err((fault, _)) => Err(Fail::new(fault)),
-    }
-}
-
 #[test]
 fn digests_of_unlisted_bodies_are_given(rt: HostRuntime) -> Result<(), Fail> {
     let alloc = rt.alloc();
-    let manifest = read_manifest(alloc, LISTED)?;
-    let mut store = new_store(alloc, Connection::open_in_memory(alloc)?, &manifest)?;
+    let mut store = new_store(alloc, Connection::open_in_memory(alloc)?, LISTED)?;
     for (number, byte, verdict, expected) in RECEIPTS {
         let receipt = Receipt {
             number,

@@ -1,9 +1,9 @@
 //! What a store keeps, at each of its stages and when it is opened again; and each verdict.
 
 use super::assert_text;
+use super::stores::{new_store, opened_again};
 use esc_apply::{Registry, Step};
 use esc_envelope::{DepositType, Kind, Place};
-use esc_manifest::{Manifest, read_manifest};
 use esc_store::{Change, Receipt, Reply, SFault, Store, Verdict};
 use esc_tables::{Key, Object, Row};
 use sqlite::{Alter, Connection};
@@ -11,43 +11,12 @@ use std::alloc::Global;
 use std::fmt::Write;
 use std::test::Fail;
 
-pub(crate) const LISTED: &[u8] = b"id,type,watermark,prevId,resend,sha256
+pub(super) const LISTED: &[u8] = b"id,type,watermark,prevId,resend,sha256
 F1,FULL,2024-03-03T00:00:00Z,,0,0000000000000000000000000000000000000000000000000000000000000001
 D1,DIFF,2024-03-04T00:00:00Z,F1,1,0000000000000000000000000000000000000000000000000000000000000002
 ";
 
 const THIRD: i64 = 1_709_424_000_000_000_000;
-
-pub(crate) fn listed(alloc: Global, text: &[u8]) -> Result<Manifest, Fail> {
-    Ok(read_manifest(alloc, text)?)
-}
-
-fn make<S: Alter + Drop>(
-    alloc: Global,
-    conn: Connection<S>,
-    manifest: &Manifest,
-) -> Result<Store<S>, Fail> {
-    match Store::create(alloc, conn, manifest) {
-        Ok(store) => Ok(store),
-        Err((fault, _)) => Err(Fail::new(fault)),
-    }
-}
-
-pub(crate) fn new_store<S: Alter + Drop>(
-    alloc: Global,
-    conn: Connection<S>,
-) -> Result<Store<S>, Fail> {
-    let manifest = listed(alloc, LISTED)?;
-    make(alloc, conn, &manifest)
-}
-
-// The store that is opened in a store's database.
-fn opened_again<S: Alter + Drop>(alloc: Global, store: Store<S>) -> Result<Store<S>, Fail> {
-    match Store::open(alloc, store.into_connection()) {
-        Ok(store) => Ok(store),
-        Err((fault, _)) => Err(Fail::new(fault)),
-    }
-}
 
 pub(crate) fn key(alloc: Global, kind: Kind, text: &str) -> Result<Key, Fail> {
     Ok(Key {
@@ -194,7 +163,7 @@ fn stages<S: Alter + Drop>(alloc: Global, mut store: Store<S>) -> Result<String,
 #[test]
 fn a_store_is_found_again(rt: HostRuntime) -> Result<(), Fail> {
     let alloc = rt.alloc();
-    let store = new_store(alloc, Connection::open_in_memory(alloc)?)?;
+    let store = new_store(alloc, Connection::open_in_memory(alloc)?, LISTED)?;
     let stages = stages(alloc, store)?;
     assert_text(&rt, "stages", stages.as_str(), STAGES);
     Ok(())
@@ -225,7 +194,7 @@ fn record<S: Alter>(store: &mut Store<S>, number: &str, verdict: Verdict) -> Res
 #[test]
 fn each_verdict_is_read_back(rt: HostRuntime) -> Result<(), Fail> {
     let alloc = rt.alloc();
-    let mut store = new_store(alloc, Connection::open_in_memory(alloc)?)?;
+    let mut store = new_store(alloc, Connection::open_in_memory(alloc)?, LISTED)?;
     for (number, verdict) in VERDICTS {
         record(&mut store, number, verdict)?;
     }
