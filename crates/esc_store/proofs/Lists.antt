@@ -15,7 +15,7 @@ use Rattle.esc_store.specs.Kept.{Kept, with_listed}
 use Rattle.esc_store.specs.TypedRows.{IsBooks, IsRegistry, listed_row, listed_from}
 use Rattle.sqlite_trees.specs.declared.store.Store.{Ghosts}
 use Rattle.esc_store.specs.declared.store.Store.{Store}
-use Rattle.esc_store.specs.Standing.{ChangeOf, RestIn, IsUncommitted}
+use Rattle.esc_store.specs.Standing.{ChangeOf, RestIn, IsUncommitted, GoesOn}
 use Rattle.esc_store.proofs.Standings.{survives_same}
 use Rattle.esc_store.proofs.Manifests.{listed_push}
 use Rattle.esc_store.proofs.RowSteps.{Becoming}
@@ -45,6 +45,10 @@ registry_listed s row c c' turn it = subst (λ x. IsRegistry x s) (sym turn.is) 
 -- nothing was called
 pub unchanged : {S : Type 0} {g : Ghosts S} {a : ChangeOf S} → IsUncommitted g a a
 unchanged = record { same_reference = refl; manifest = refl; writes = refl; survives = survives_same _ _; began = λ k h. h }
+
+-- a part that lists no rows, as one that may
+pub uncommitted : {S : Type 0} {g : Ghosts S} {a b : ChangeOf S} → GoesOn g a b → IsUncommitted g a b
+uncommitted goes = record { same_reference = goes.same_reference; manifest = goes.manifest; writes = goes.writes; survives = goes.survives; began = goes.began }
 
 -- what a change lists, told of what it keeps
 pub as_listed : {S : Type 0} (g : Ghosts S) (store : Store S) (listing : Option (List MRow)) (before k : Kept) → RestIn g store listing before k → (unwrap_or listing store.manifest ≡ k.listed) × RestIn g store (Some k.listed) before k
