@@ -28,6 +28,7 @@ use Rattle.std.proofs.Common.{
 use Rattle.std.proofs.lemmas.Option.{slice_get-map}
 use Rattle.std.proofs.lemmas.List.{length-map}
 use Rattle.sha2.specs.Sha256.{sha256}
+use Rattle.sqlite_trees.specs.declared.store.Store.{Ghosts}
 use Rattle.esc_tables.specs.KeyName.{KeyName}
 use Rattle.esc_tables.specs.ObjectValue.{ObjectValue}
 use Rattle.esc_tables.specs.DepositValue.{DepositValue}
@@ -37,6 +38,8 @@ use Rattle.esc_apply.specs.declared.front.Step.{Step}
 use Rattle.esc_apply.specs.Registry.{State, Content, IsEntriesOf}
 use Rattle.esc_apply.specs.Tables.{tables}
 use Rattle.esc_store.specs.Kept.{Kept, kept_replies, kept_chain, step_at, AreHeld}
+use Rattle.esc_store.specs.declared.store.Store.{Store}
+use Rattle.esc_store.specs.Standing.{IsAsBefore}
 use Rattle.esc_store.specs.ReplyValue.{ReceiptValue, replies_from}
 use Rattle.esc_events.specs.Events.{EventValue, union}
 use Rattle.esc_events.specs.Finding.{found_at, row_of, held_row}
@@ -45,10 +48,18 @@ use Rattle.esc_events.specs.Reads.{tables_of, AreTables}
 use Rattle.esc_events.specs.Stands.{or_no_deposit, deposit_of, held_body, IsApart, StandsFor}
 use Rattle.esc_events.proofs.Moving.{chain_of}
 use Rattle.esc_events.proofs.MovingLemmas.{same_deposits}
+use Rattle.esc_desk.specs.declared.desk.Desk.{Desk}
 use Rattle.esc_desk.specs.declared.status.End.{End}
+use Rattle.esc_desk.specs.Calls.{Stays}
+use Rattle.esc_desk.proofs.StoreFacts.{still_stays}
 use Rattle.esc_events.specs.declared.parked.ParkedBody.{ParkedBody}
 use Rattle.esc_events.specs.Parks.{AreParkedBodies}
 use Rattle.esc_desk.specs.Reads.{last, replies_of, AreHeldRows, AreParkedOf, SaysEnd, IsEndAt, IsEnd}
+
+-- a desk whose store was read, and that remembers what it did
+pub read_stays : {S : Type 0} (g : Ghosts S) (old : Desk S) (store : Store S) → IsAsBefore g old.store store
+    → Stays g old (record { store = store; known = old.known })
+read_stays g old store same = still_stays g old (record { store = store; known = old.known }) same refl
 
 -- what is so of an answer for two reasons
 pub if_ok_two : {X E : Type 0} (r : Result X E) (P Q R : X → Type 0) → ((x : X) → P x → Q x → R x) → IfOk r P → IfOk r Q → IfOk r R

@@ -29,6 +29,10 @@ as_before_then g first second third p q = record {
   stands = λ k h. q.stands k (p.stands k h);
 }
 
+-- nothing changed, and then nothing changed again
+pub stays_then : {S : Type 0} (g : Ghosts S) (first second third : Desk S) → Stays g first second → Stays g second third → Stays g first third
+stays_then g first second third p q = record { same = as_before_then g first.store second.store third.store p.same q.same; serves = λ e served. q.serves e (p.serves e served) }
+
 -- a walk leaves the desk as it found it
 pub walked : {S : Type 0} (g : Ghosts S) (old : Desk S) (walk after : Walk S Pages) → Stays g old (desk_of walk) → Follows g walk after → Stays g old (desk_of after)
 walked g old walk after p q = record { same = as_before_then g old.store (desk_of walk).store (desk_of after).store p.same q.same; serves = λ e served. q.serves e (p.serves e served) }
