@@ -1,17 +1,31 @@
 -- What a pass over all rows says of them.
-use Rattle.std.proofs.Common.{◌≡◌, ◌∙◌, ℕ, ◌+◌, ◌<◌, ◌≤◌, Bool, true, false, cond, List, [], ◌∷◌, length, get_or, min, refl, sym, ap, inl, inr, arith}
-use Rattle.std.specs.Prelude.{◌&&◌, nat_le, Ok, Err}
+use Rattle.std.proofs.Common.{◌≡◌, ◌∙◌, ℕ, ◌+◌, ◌<◌, ◌≤◌, Bool, true, false, cond, List, [], ◌∷◌, length, map, get_or, min, refl, sym, ap, inl, inr, arith}
+use Rattle.std.specs.Prelude.{◌==◌, ◌&&◌, nat_le, Ok, Err}
 use Rattle.std.specs.List.{list_all, flat_map, fold}
 use Rattle.std.proofs.lemmas.Bool.{cases_Bool, and_parts}
 use Rattle.std.proofs.lemmas.Bool.Decides.{nat_tests}
+use Rattle.std.proofs.lemmas.List.{nil_from_length}
 use Rattle.std.proofs.lemmas.List.Folds.{list_all-append, list_all_at}
 use Rattle.std.proofs.Math.Bool.{and_assoc}
+use Rattle.csv.specs.Machine.{next_record}
+use Rattle.csv.specs.Reading.{strip_bom, records_from}
 use Rattle.esc_bundle.specs.Bundle.{Named}
+use Rattle.esc_csv.specs.Records.{records_of}
 use Rattle.esc_envelope.specs.EnvelopeValue.{TableValue}
 use Rattle.esc_tables.specs.declared.survey.Survey.{Survey}
-use Rattle.esc_tables.specs.TableRow.{TableRow, rows_in, table_rows, is_whole, has_key}
+use Rattle.esc_tables.specs.TableRow.{TableRow, bytes_named, in_table, rows_in, table_rows, is_whole, has_key}
 use Rattle.esc_tables.specs.Reading.{check_rows, check, ◌>>=◌}
 use Rattle.esc_tables.specs.Survey.{noted, unseen, is_right, verdict}
+
+-- a file without a byte has no row
+no_records : records_of [] ≡ []
+unfolding strip_bom records_from next_record
+no_records = refl
+
+pub no_rows : (files : List Named) (t : TableValue) → (length (bytes_named files t.file) == 0) ≡ true → table_rows files t ≡ []
+no_rows files t none =
+    let nothing : bytes_named files t.file ≡ [] = nil_from_length (bytes_named files t.file) (grind (arith, none)) in
+    ap (λ (text : List ℕ). map (in_table t) (records_of text)) nothing ∙ ap (map (in_table t)) no_records
 
 -- a test of all rows is a test of the rows of each table
 pub all_in_each : {A B : Type 0} (test : B → Bool) (f : A → List B) (xs : List A) → list_all test (flat_map f xs) ≡ list_all (λ x. list_all test (f x)) xs

@@ -7,6 +7,7 @@
 ghost use Rattle.std.specs.Prelude.{
   ◌≡◌,
   ◌++◌,
+  [],
   ℕ,
   true,
   false,
@@ -37,7 +38,7 @@ use esc_envelope::Table;
 use std::alloc::Global;
 
 // Appends the rows of a table to `found`. They are all there if the survey after them is right.
-fn read_table(
+fn read_all_rows(
     alloc: Global,
     files: &[Section<'_>],
     table: &Table,
@@ -66,8 +67,8 @@ fn read_table(
     Ok(survey)
 }
 
-// Appends the keys of a table's rows to `found`, as `read_table` its rows.
-fn read_keys(
+// Appends the keys of a table's rows to `found`, as `read_all_rows` its rows.
+fn read_all_keys(
     alloc: Global,
     files: &[Section<'_>],
     table: &Table,
@@ -93,6 +94,59 @@ fn read_keys(
         found.push(read_key(alloc, table, &row)?)?;
     }
     Ok(survey)
+}
+
+// Whether the file of a table has no byte, and so no row.
+fn is_empty(files: &[Section<'_>], table: &Table) -> bool
+    ensures { result ≡ true → table_rows (views files.now) table.now ≡ [] }
+{
+    bytes_named(files, table.file.as_str()).is_empty()
+}
+
+// The same of a table that may be empty: many are, and setting up a reader costs as much as a row.
+fn read_table(
+    alloc: Global,
+    files: &[Section<'_>],
+    table: &Table,
+    survey: Survey,
+    found: &mut Vec<(Key, Row)>,
+) -> Result<Survey, Fault>
+    ensures seen { IfOk result
+        (λ s. s ≡ fold noted survey (table_rows (views files.now) table.now)) }
+    ensures whole { OnOk result (list_all is_whole (table_rows (views files.now) table.now)
+        ≡ true) }
+    ensures rows { IfOk result (λ s. is_right s ≡ true → found.new.items ≡ found.old.items
+        ++ map keyed (table_rows (views files.now) table.now)) }
+    ensures refused { IfErr result (λ e. (n : ℕ) → e ≡ Fault.Refused n
+        → (n ≡ 9) × (list_all is_whole (table_rows (views files.now) table.now) ≡ false)) }
+{
+    if is_empty(files, table) {
+        return Ok(survey);
+    }
+    read_all_rows(alloc, files, table, survey, found)
+}
+
+// The same of the keys.
+fn read_keys(
+    alloc: Global,
+    files: &[Section<'_>],
+    table: &Table,
+    survey: Survey,
+    found: &mut Vec<Key>,
+) -> Result<Survey, Fault>
+    ensures seen { IfOk result
+        (λ s. s ≡ fold noted survey (table_rows (views files.now) table.now)) }
+    ensures whole { OnOk result (list_all is_whole (table_rows (views files.now) table.now)
+        ≡ true) }
+    ensures keys { IfOk result (λ s. is_right s ≡ true → found.new.items ≡ found.old.items
+        ++ map key_of (table_rows (views files.now) table.now)) }
+    ensures refused { IfErr result (λ e. (n : ℕ) → e ≡ Fault.Refused n
+        → (n ≡ 9) × (list_all is_whole (table_rows (views files.now) table.now) ≡ false)) }
+{
+    if is_empty(files, table) {
+        return Ok(survey);
+    }
+    read_all_keys(alloc, files, table, survey, found)
 }
 
 // The same of the parent tables among these, in the order of tables and rows.

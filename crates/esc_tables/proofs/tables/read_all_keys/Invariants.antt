@@ -3,7 +3,7 @@ use Rattle.std.specs.List.{list_all, fold}
 use Rattle.esc_bundle.specs.Bundle.{views}
 use Rattle.esc_tables.specs.TableRow.{in_table, table_rows, is_whole, key_of}
 use Rattle.esc_tables.specs.Survey.{noted, is_right}
-use Rattle.esc_tables.proofs.tables.read_keys.Given as goal
+use Rattle.esc_tables.proofs.tables.read_all_keys.Given as goal
 
 abbrev pub invariant-loop-row : goal.invariant-loop-row
 invariant-loop-row l = record {
