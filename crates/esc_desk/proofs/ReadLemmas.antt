@@ -58,8 +58,8 @@ use Rattle.esc_desk.specs.Reads.{last, replies_of, AreHeldRows, AreParkedOf, Say
 
 -- a desk whose store was read, and that remembers what it did
 pub read_stays : {S : Type 0} (g : Ghosts S) (old : Desk S) (store : Store S) → IsAsBefore g old.store store
-    → Stays g old (record { store = store; known = old.known })
-read_stays g old store same = still_stays g old (record { store = store; known = old.known }) same refl
+    → Stays g old (record { store = store; known = old.known; reread = old.reread })
+read_stays g old store same = still_stays g old (record { store = store; known = old.known; reread = old.reread }) same refl
 
 -- what is so of an answer for two reasons
 pub if_ok_two : {X E : Type 0} (r : Result X E) (P Q R : X → Type 0) → ((x : X) → P x → Q x → R x) → IfOk r P → IfOk r Q → IfOk r R

@@ -171,7 +171,7 @@ fn take_body<S: Alter>(
     ensures honest { IsHonest S.Store store.new → IsHonest S.Store store.old }
     ensures cause { IfErr result (IsAgainFault S.Store store.old store.new digest.now) }
 {
-    let found = find(alloc, store.manifest(), digest, body)?;
+    let found = find(alloc, store.manifest(), digest, body, None)?;
     take_found(store, alloc, digest, known, found, body)
 }
 

@@ -54,6 +54,7 @@ ghost use Rattle.esc_desk.specs.Takings.{IsTakenIn};
 
 use crate::keeping::take_in;
 use crate::knowing::known_of;
+use crate::reread::Reread;
 use esc_apply::Work;
 use esc_events::Known;
 use esc_store::{Number, Reply, SFault, Store};
@@ -62,12 +63,16 @@ use sqlite::Alter;
 use std::alloc::Global;
 
 /// A desk over a store. It remembers which rows have a body, which have a receipt with `A1`, and
-/// the chain, so that an event needn't ask the store for them.
+/// the chain, so that an event needn't ask the store for them; and a deposit that came again, so
+/// that it needn't be read once more.
 #[derive(Drop)]
 pub struct Desk<S: Alter> {
     pub(crate) store: Store<S>,
     // `None` until an event needs it, and again once such an event has failed.
     pub(crate) known: Option<Known>,
+    // The deposit of the last arrival, if its row was held before: whoever sends a body again often
+    // sends it many times.
+    pub(crate) reread: Option<Reread>,
 }
 
 pub(crate) const NO_WORK: Work = Work {
@@ -87,7 +92,11 @@ impl<S: Alter> Desk<S> {
             → LeavesOnly S.Store store k → StandsFor sha256 reading e k
             → DeskLeaves S.Store result e [] }
     {
-        Desk { store, known: None }
+        Desk {
+            store,
+            known: None,
+            reread: None,
+        }
     }
 
     /// The desk's store. Doesn't allocate.
@@ -188,7 +197,15 @@ impl<S: Alter> Desk<S> {
             (IsArrivalFault S.Store self.old.store self.new.store digest) }
     {
         let mut known = self.take_known(alloc)?;
-        let taken = take_in(&mut self.store, alloc, number, digest, body, &mut known)?;
+        let taken = take_in(
+            &mut self.store,
+            alloc,
+            number,
+            digest,
+            body,
+            &mut known,
+            &mut self.reread,
+        )?;
         self.known = Some(known);
         Ok(taken)
     }

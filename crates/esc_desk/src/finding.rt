@@ -1,10 +1,12 @@
 //! What is found of a body by the listed rows.
 
-ghost use Rattle.std.specs.Prelude.{◌≡◌, ◌<◌, length, IfOk, IfSome, string_bytes};
+ghost use Rattle.std.specs.Prelude.{◌≡◌, ◌<◌, ℕ, length, Ok, IfOk, IfSome, string_bytes};
 ghost use Rattle.std.specs.Option.{option_map};
 ghost use Rattle.std.specs.Str.{bytes_eq};
 ghost use Rattle.sha2.specs.Sha256.{sha256};
+ghost use Rattle.esc_tables.specs.DepositValue.{DepositValue};
 ghost use Rattle.esc_tables.specs.Reading.{reading};
+ghost use Rattle.esc_events.specs.declared.finding.Finding.TheVariants.{Holding};
 ghost use Rattle.esc_events.specs.Finding.{
   as_listed,
   same_option,
@@ -14,28 +16,33 @@ ghost use Rattle.esc_events.specs.Finding.{
   held_row,
 };
 
+use crate::reread::{Reread, read_again};
 use esc_bundle::{Fault, NoMemory};
 use esc_envelope::{DepositType, Header, Place};
 use esc_events::Finding;
 use esc_manifest::{MRow, Manifest};
-use esc_tables::{Deposit, read_deposit};
+use esc_tables::Deposit;
 use std::alloc::Global;
 
-/// What is found of a body with this digest by the rows of a manifest.
+/// What is found of a body with this digest by the rows of a manifest. The body isn't read where
+/// it is that of `last`.
 pub(crate) fn find(
     alloc: Global,
     manifest: &Manifest,
     digest: &[u8; 32],
     body: &[u8],
+    last: Option<Reread>,
 ) -> Result<Finding, NoMemory>
     requires { digest.now ≡ sha256 body.now }
     ensures found { IfOk result (λ f. f ≡ finding sha256 reading manifest.now body.now) }
     ensures row { IfOk result (λ f. IfSome (held_row f) (λ r. r < length manifest.now)) }
+    ensures read { IfOk result (λ f. (r : ℕ) (d : DepositValue) → f ≡ Holding r d
+        → reading body.now ≡ Ok d) }
 {
     let Some(row) = manifest.row_by_digest(digest) else {
         return Ok(Finding::Unlisted);
     };
-    match read_deposit(alloc, body) {
+    match read_again(alloc, last, body) {
         Ok(deposit) => Ok(compare(manifest.rows(), row, deposit)),
         Err(Fault::Refused(number)) => Ok(Finding::Unreadable(row, number)),
         Err(Fault::NoMemory) => Err(NoMemory),
@@ -47,6 +54,7 @@ pub(crate) fn compare(rows: &[MRow], row: usize, deposit: Deposit) -> Finding
     requires { row < length rows.now }
     ensures compared { result ≡ compared rows.now row deposit }
     ensures row { IfSome (held_row result) (λ r. r < length rows.now) }
+    ensures read { (r : ℕ) (d : DepositValue) → result ≡ Holding r d → deposit ≡ d }
 {
     let listed = &rows[row].header;
     if is_as_listed(listed, &deposit.header) {

@@ -12,6 +12,7 @@ ghost use Rattle.std.specs.Prelude.{
   ℕ,
   List,
   length,
+  Ok,
   Some,
   None,
   IfOk,
@@ -20,6 +21,7 @@ ghost use Rattle.std.specs.Prelude.{
   OnErr,
 };
 ghost use Rattle.sha2.specs.Sha256.{sha256};
+ghost use Rattle.esc_tables.specs.DepositValue.{DepositValue};
 ghost use Rattle.esc_tables.specs.Reading.{reading};
 ghost use Rattle.esc_apply.specs.Registry.{saturated};
 ghost use Rattle.esc_store.specs.Kept.{Kept};
@@ -53,6 +55,7 @@ use crate::knowing::insert_row;
 use crate::parking::parking_of;
 use crate::plan::{Source, latest_steps, plan_move};
 use crate::receipt::{is_among, receipt_by, reply_of};
+use crate::reread::Reread;
 use esc_apply::{Work, read_deposits_mention_few};
 use esc_chain::latest_chain_at_rows_are_held;
 use esc_events::{Finding, Known, Parking, chain_after_an_event};
@@ -63,7 +66,8 @@ use std::alloc::Global;
 use std::mem;
 
 /// Takes in an arrival for which no receipt is kept. `known` is what is known of the store's rows,
-/// and is updated; after an `Err` it has no meaning.
+/// and is updated; after an `Err` it has no meaning. `last` is a deposit that was read: the body
+/// isn't read where it is that one's. It becomes this arrival's where the row had a body before.
 #[tactic(auto, using(crate::proofs::StoreFacts::was_honest))]
 pub(crate) fn take_in<S: Alter>(
     store: &mut Store<S>,
@@ -72,6 +76,7 @@ pub(crate) fn take_in<S: Alter>(
     digest: [u8; 32],
     body: &[u8],
     known: &mut Known,
+    last: &mut Option<Reread>,
 ) -> Result<(Reply, Work), SFault>
     requires { digest ≡ sha256 body.now }
     ensures answered { IsHonest S.Store store.new → (e : List EventValue) (k : Kept)
@@ -96,11 +101,11 @@ pub(crate) fn take_in<S: Alter>(
     ensures honest { IsHonest S.Store store.new → IsHonest S.Store store.old }
     ensures cause { IfErr result (IsArrivalFault S.Store store.old store.new digest) }
 {
-    let found = find(alloc, store.manifest(), &digest, body)?;
+    let found = find(alloc, store.manifest(), &digest, body, last.take())?;
     let again = is_among(&known.told, held_row(&found));
     let receipt = receipt_by(number, digest, &found, again);
     let mut reply = reply_of(alloc, store.manifest().rows(), &receipt)?;
-    let kept = keep(store, alloc, &receipt, known, found, body)?;
+    let kept = keep(store, alloc, &receipt, known, found, body, last)?;
     reply.receipt = kept.0;
     Ok((reply, kept.1))
 }
@@ -114,7 +119,9 @@ fn keep<S: Alter>(
     known: &mut Known,
     found: Finding,
     body: &[u8],
+    last: &mut Option<Reread>,
 ) -> Result<(u64, Work), SFault>
+    requires { (r : ℕ) (d : DepositValue) → found ≡ Holding r d → reading body.now ≡ Ok d }
     ensures manifest { store.new.manifest ≡ store.old.manifest }
     ensures lost { OnErr result ((k : Kept) → Stands S.Store store.old k
         → Stands S.Store store.new k) }
@@ -147,7 +154,7 @@ fn keep<S: Alter>(
             Ok((number, NO_WORK))
         }
         Finding::Holding(row, deposit) => {
-            keep_held(store, alloc, receipt, known, row, deposit, body)
+            keep_held(store, alloc, receipt, known, row, deposit, body, last)
         }
     }
 }
@@ -192,7 +199,7 @@ fn keep_parked<S: Alter>(
 }
 
 // Stores the receipt of a new arrival that is the deposit of a row, and its body if the row has
-// none yet.
+// none yet; else the deposit becomes `last`.
 #[tactic(auto, using(crate::proofs::StoreFacts::was_honest))]
 fn keep_held<S: Alter>(
     store: &mut Store<S>,
@@ -202,7 +209,9 @@ fn keep_held<S: Alter>(
     row: usize,
     deposit: Deposit,
     body: &[u8],
+    last: &mut Option<Reread>,
 ) -> Result<(u64, Work), SFault>
+    requires { reading body.now ≡ Ok deposit }
     ensures manifest { store.new.manifest ≡ store.old.manifest }
     ensures lost { OnErr result ((k : Kept) → Stands S.Store store.old k
         → Stands S.Store store.new k) }
@@ -228,6 +237,7 @@ fn keep_held<S: Alter>(
     insert_row(&mut known.told, row)?;
     if known.held.contains(&row) {
         let number = note_receipt(store, receipt, Parking::Needless, body)?;
+        *last = Reread::of(alloc, body, deposit);
         return Ok((number, NO_WORK));
     }
     insert_row(&mut known.held, row)?;

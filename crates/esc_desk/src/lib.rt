@@ -81,12 +81,14 @@
 //! # Cost
 //!
 //! A duplicate of an earlier arrival costs a SHA-256 and a look-up, unless that one's reply is
-//! `A2`. The body of any other arrival is parsed once, if a row lists it, and of the new chain's
-//! steps only the bodies past the front that both chains have in common are parsed again. Each
-//! [`Desk::held`] and [`Desk::status`] asks the store which rows are held; so do a desk's first
-//! event that may change the store, and the next one after such an event failed. Receipts with `A1`
-//! say so, and for each receipt with `A2` or `A5` whose digest a row lists now, the body of that
-//! row is read.
+//! `A2`. The body of any other arrival is parsed once, if a row lists it. Where the arrival
+//! before it had the very same body, of 64 KiB at most, and added no row to those that are
+//! held, its deposit is remembered, and the bodies are compared in place of that. Of the new
+//! chain's steps only the bodies past the front that both chains have in common are parsed
+//! again. Each [`Desk::held`] and [`Desk::status`] asks the store which rows are held; so do a
+//! desk's first event that may change the store, and the next one after such an event failed.
+//! Receipts with `A1` say so, and for each receipt with `A2` or `A5` whose digest a row lists
+//! now, the body of that row is read.
 //!
 //! [`Desk::end`] reads the body of the chain's last step, and parses its envelope alone, no row.
 //!
@@ -112,6 +114,7 @@ mod parking;
 mod plan;
 mod reads;
 mod receipt;
+mod reread;
 mod running;
 mod status;
 mod walk;
