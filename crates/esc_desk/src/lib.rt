@@ -81,9 +81,9 @@
 //! # Cost
 //!
 //! A duplicate of an earlier arrival costs a SHA-256 and a look-up, unless that one's reply is
-//! `A2`. The body of any other arrival is parsed once, if a row lists it. Where the arrival
-//! before it had the very same body, of 64 KiB at most, and added no row to those that are
-//! held, its deposit is remembered, and the bodies are compared in place of that. Of the new
+//! `A2`. The body of any other arrival is parsed once, if a row lists it. Where the last such
+//! arrival had the very same body, of 64 KiB at most, and was the deposit of a row that was held
+//! already, its deposit is remembered, and the bodies are compared in place of that. Of the new
 //! chain's steps only the bodies past the front that both chains have in common are parsed
 //! again. Each [`Desk::held`] and [`Desk::status`] asks the store which rows are held; so do a
 //! desk's first event that may change the store, and the next one after such an event failed.

@@ -103,7 +103,7 @@ fn is_empty(files: &[Section<'_>], table: &Table) -> bool
     bytes_named(files, table.file.as_str()).is_empty()
 }
 
-// The same of a table that may be empty: many are, and setting up a reader costs as much as a row.
+// The same of a table that may be empty: many are, and to set up a reader costs more than a row.
 fn read_table(
     alloc: Global,
     files: &[Section<'_>],
