@@ -9,8 +9,10 @@ use Rattle.esc_tables.specs.KeyName.{KeyName, key_eq}
 use Rattle.esc_tables.specs.ObjectValue.{ObjectValue}
 use Rattle.esc_tables.specs.DepositValue.{DepositValue}
 use Rattle.esc_apply.specs.Tables.{mentions, says, mention_count}
-use Rattle.esc_apply.specs.Registry.{State, Content, nothing, with_key, written, noted, taken, changed, stepped, restored, IsEntriesOf}
-use Rattle.esc_apply.specs.Changes.{Change, changed_by, AreNew, AreFirst, written_by}
+use Rattle.esc_apply.specs.Registry.{State, Content, nothing, with_key, written, taken, changed, stepped, restored, IsEntriesOf}
+use Rattle.esc_apply.specs.declared.registry.Targets.{Targets}
+use Rattle.esc_apply.specs.declared.registry.Targets.TheVariants.{Free, Any}
+use Rattle.esc_apply.specs.Changes.{Change, changed_by, AreNew, AreFirst, CanBePut, written_by}
 use Rattle.esc_tables.specs.KeyLaws.{key_itself}
 use Rattle.esc_apply.proofs.Keys.{Keys, one, two, keys, not_among}
 
@@ -72,29 +74,16 @@ undo-changed_by_other : (s : State) (j i : ℕ) (es : List Change) → eqb j i �
 undo-changed_by_other s j i [] differs q = refl
 undo-changed_by_other s j i (e ∷ es) differs q = undo-changed_by_other (changed s j e.0 e.1) j i es differs q ∙ rw differs refl
 
--- what holds of each key of a list holds of one that is found there
-at_found : (P : KeyName → Type 0) (es : List Change) (q : KeyName) → AllByRecursion P (keys_of es) → is_some (lookup (key_eq q) es) ≡ true → P q
-at_found P [] q all found = absurd cc
-at_found P (e ∷ es) q all found = by_keys (at_found P es q all.1) (keys q e.0)
+-- changes note what was at each of their keys
+pub undo-new : (s : State) (j : ℕ) (es : List Change) → IsDistinct key_eq (keys_of es) → (i : ℕ) (q : KeyName)
+    → (changed_by s j es).undo i q ≡ cond (eqb j i && is_some (lookup (key_eq q) es)) (Some (s.content q)) (s.undo i q)
+undo-new s j es once i q = by_step (eqb j i) refl
   where
-    by_keys : (is_some (lookup (key_eq q) es) ≡ true → P q) → Keys q e.0 → P q
-    by_keys rest (one is) = subst P (sym is) all.0
-    by_keys rest (two here there) = rest (rw here at found)
-
--- changes of keys without objects note that there was none
-pub undo-first : (s : State) (j : ℕ) (es : List Change) → AreFirst s j es → (i : ℕ) (q : KeyName)
-    → (changed_by s j es).undo i q ≡ cond (eqb j i && is_some (lookup (key_eq q) es)) (Some None) (s.undo i q)
-undo-first s j es are i q = by_tests (eqb j i) (is_some (lookup (key_eq q) es)) refl refl
-  where
-    by_tests : (a b : Bool) → eqb j i ≡ a → is_some (lookup (key_eq q) es) ≡ b → (changed_by s j es).undo i q ≡ cond {A = Noted} (a && b) (Some None) (s.undo i q)
-    by_tests false b e found = undo-changed_by_other s j i es e q
-    by_tests true true e found =
+    by_step : (a : Bool) → eqb j i ≡ a → (changed_by s j es).undo i q ≡ cond {A = Noted} (a && is_some (lookup (key_eq q) es)) (Some (s.content q)) (s.undo i q)
+    by_step false e = undo-changed_by_other s j i es e q
+    by_step true e =
         let is : j ≡ i = grind (arith, nat_tests) in
-        let none : s.content q ≡ None = at_found (λ k. s.content k ≡ None) es q are.free found in
-        subst (λ (n : ℕ). (changed_by s j es).undo n q ≡ Some None) is (undo-changed_by s j es are.new.once q ∙ rw found (ap (λ (o : Option ObjectValue). Some o) none))
-    by_tests true false e found =
-        let is : j ≡ i = grind (arith, nat_tests) in
-        subst (λ (n : ℕ). (changed_by s j es).undo n q ≡ s.undo n q) is (undo-changed_by s j es are.new.once q ∙ rw found refl)
+        subst (λ (n : ℕ). (changed_by s j es).undo n q ≡ cond {A = Noted} (is_some (lookup (key_eq q) es)) (Some (s.content q)) (s.undo n q)) is (undo-changed_by s j es once q)
 
 -- ---- changes that can be made
 fresh_all : (s : State) (j : ℕ) (ks : List KeyName) → s.undo j ≡ nothing → AllByRecursion (λ k. s.undo j k ≡ None) ks
@@ -140,12 +129,24 @@ pub new_then : (s : State) (j : ℕ) (es fs : List Change) → AreNew s j (es ++
 new_then s j [] fs are = are
 new_then s j (e ∷ es) fs are = new_then (changed s j e.0 e.1) j es fs (new_rest s j e (es ++ fs) are)
 
-pub first_first : (s : State) (j : ℕ) (es fs : List Change) → AreFirst s j (es ++ fs) → AreFirst s j es
+first_first : (s : State) (j : ℕ) (es fs : List Change) → AreFirst s j (es ++ fs) → AreFirst s j es
 first_first s j es fs are = record { new = new_first s j es fs are.new; free = all_first (λ k. s.content k ≡ None) es fs are.free }
 
-pub first_then : (s : State) (j : ℕ) (es fs : List Change) → AreFirst s j (es ++ fs) → AreFirst (changed_by s j es) j fs
+first_then : (s : State) (j : ℕ) (es fs : List Change) → AreFirst s j (es ++ fs) → AreFirst (changed_by s j es) j fs
 first_then s j [] fs are = are
 first_then s j (e ∷ es) fs are = first_then (changed s j e.0 e.1) j es fs (first_rest s j e (es ++ fs) are)
+
+pub put_new : (targets : Targets) (s : State) (j : ℕ) (es : List Change) → CanBePut targets s j es → AreNew s j es
+put_new Free s j es are = are.new
+put_new Any s j es are = are
+
+put_first : (targets : Targets) (s : State) (j : ℕ) (es fs : List Change) → CanBePut targets s j (es ++ fs) → CanBePut targets s j es
+put_first Free = first_first
+put_first Any = new_first
+
+put_then : (targets : Targets) (s : State) (j : ℕ) (es fs : List Change) → CanBePut targets s j (es ++ fs) → CanBePut targets (changed_by s j es) j fs
+put_then Free = first_then
+put_then Any = new_then
 
 -- of a registry without objects
 pub first_all : (s : State) (j : ℕ) (es : List Change) → ((q : KeyName) → s.content q ≡ None) → AreNew s j es → AreFirst s j es
@@ -210,34 +211,36 @@ leads_more Before After end j e es left is going made =
     let first : Leads Before end j (e ∷ es) = subst (λ (l : List Change). Leads Before end j l) is going in
     record { now = changed first.now j e.0 e.1; held = made first.now first.held first.new.fresh.0; new = new_rest first.now j e es first.new; leads = first.leads }
 
--- the same where no key that is left has an object
-pub record Fills (Held : State → Type 0) (end : State) (j : ℕ) (left : List Change) : Type 0 where
+-- all of them made
+pub leads_last : (Held : State → Type 0) (end : State) (j : ℕ) (left : List Change) → left ≡ [] → Leads Held end j left → Held end
+leads_last Held end j left is going =
+    let last : Leads Held end j [] = subst (λ (l : List Change). Leads Held end j l) is going in
+    subst Held last.leads last.held
+
+-- the same of changes that can be put
+pub record Fills (Held : State → Type 0) (targets : Targets) (end : State) (j : ℕ) (left : List Change) : Type 0 where
   pub now : State
   pub held : Held now
-  pub first : AreFirst now j left
+  pub can : CanBePut targets now j left
   pub leads : changed_by now j left ≡ end
 
 -- the first of them made
-pub fills_more : (Before After : State → Type 0) (end : State) (j : ℕ) (es fs left : List Change) → left ≡ es ++ fs
-    → Fills Before end j left → ((t : State) → Before t → AreFirst t j es → After (changed_by t j es)) → Fills After end j fs
-fills_more Before After end j es fs left is going made =
-    let all : Fills Before end j (es ++ fs) = subst (λ (l : List Change). Fills Before end j l) is going in
+pub fills_more : (Before After : State → Type 0) (targets : Targets) (end : State) (j : ℕ) (es fs left : List Change) → left ≡ es ++ fs
+    → Fills Before targets end j left → ((t : State) → Before t → CanBePut targets t j es → After (changed_by t j es)) → Fills After targets end j fs
+fills_more Before After targets end j es fs left is going made =
+    let all : Fills Before targets end j (es ++ fs) = subst (λ (l : List Change). Fills Before targets end j l) is going in
     record {
       now = changed_by all.now j es;
-      held = made all.now all.held (first_first all.now j es fs all.first);
-      first = first_then all.now j es fs all.first;
+      held = made all.now all.held (put_first targets all.now j es fs all.can);
+      can = put_then targets all.now j es fs all.can;
       leads = sym (changed_by-append all.now j es fs) ∙ all.leads;
     }
 
 -- all of them made
-pub fills_last : (Held : State → Type 0) (end : State) (j : ℕ) (left : List Change) → left ≡ [] → Fills Held end j left → Held end
-fills_last Held end j left is going =
-    let last : Fills Held end j [] = subst (λ (l : List Change). Fills Held end j l) is going in
+pub fills_last : (Held : State → Type 0) (targets : Targets) (end : State) (j : ℕ) (left : List Change) → left ≡ [] → Fills Held targets end j left → Held end
+fills_last Held targets end j left is going =
+    let last : Fills Held targets end j [] = subst (λ (l : List Change). Fills Held targets end j l) is going in
     subst Held last.leads last.held
-
--- one of them, noted as a key without an object and written
-pub filled_one : (Held : State → Type 0) (t : State) (j : ℕ) (e : Change) → AreFirst t j (e ∷ []) → Held (written (noted t j e.0 None) e.0 e.1) → Held (changed_by t j (e ∷ []))
-filled_one Held t j e are held = subst (λ (o : Option ObjectValue). Held (written (noted t j e.0 o) e.0 e.1)) (sym are.free.0) held
 
 -- ---- the way back
 undo-written_by : (s : State) (es : List Change) → (written_by s es).undo ≡ s.undo
@@ -250,6 +253,14 @@ written_by-all s j es are =
     let content = λ (q : KeyName). content-written_by (taken s j) es are.once q ∙ ap (λ (o : Noted). unwrap_or o (s.content q)) (are.each q) in
     let undo = undo-written_by (taken s j) es in
     λ i. record { content = λ q. content q i; undo = undo i }
+
+-- what was noted of changes first is written after it
+pub written_by-noted : (s : State) (j : ℕ) (es : List Change) → written_by (record { content = s.content; undo = (changed_by s j es).undo }) es ≡ changed_by s j es
+written_by-noted s j es =
+    let t : State = record { content = s.content; undo = (changed_by s j es).undo } in
+    let content = same_content s t j es refl in
+    let undo = undo-written_by t es in
+    λ i. record { content = sym content i; undo = undo i }
 
 -- some state is held from which the writes that are left lead to the end
 pub record Returns (Held : State → Type 0) (end : State) (left : List Change) : Type 0 where

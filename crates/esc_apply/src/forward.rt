@@ -23,16 +23,15 @@ ghost use Rattle.std.specs.Prelude.{
 };
 ghost use Rattle.std.specs.List.{list_any};
 ghost use Rattle.std.specs.Map.{lookup};
-ghost use Rattle.std.specs.Option.{option_copied};
 ghost use Rattle.std.specs.BTreeSet as sorted;
 ghost use Rattle.esc_tables.specs.KeyName.{KeyName, key_cmp, key_eq};
 ghost use Rattle.esc_tables.specs.DepositValue.{DepositValue};
 ghost use Rattle.esc_apply.specs.Tables.{deletes_of, mention_count};
 ghost use Rattle.esc_apply.specs.Registry.{State, nothing, noted, changed, stepped, saturated};
-ghost use Rattle.esc_apply.specs.Changes.{with_object, without, changed_by, AreNew};
+ghost use Rattle.esc_apply.specs.Changes.{without, changed_by, AreNew};
 ghost use Rattle.esc_apply.specs.Images.{chain_state};
 
-use crate::registry::Registry;
+use crate::registry::{Registry, Targets};
 use esc_bundle::NoMemory;
 use esc_envelope::DepositType;
 use esc_tables::{Deposit, Key, Object};
@@ -61,7 +60,7 @@ pub fn apply_step<R: Registry>(
         → s.undo pos ≡ nothing → R.holds r.new (stepped s pos d.now)) }
 {
     let deletes = plain_deletes(alloc, deletes_of(d), &d.contents)?;
-    put_contents(r, alloc, pos, &d.contents)?;
+    r.put_all(alloc, pos, Targets::Any, &d.contents)?;
     remove_deletes(r, alloc, pos, &deletes)?;
     Ok((d.contents.len() + deletes.len()) as u64)
 }
@@ -112,7 +111,7 @@ fn apply_next<R: Registry>(alloc: Global, r: &mut R, pos: u32, d: &Deposit) -> R
     }
 }
 
-// Applies a deposit as the first step of a chain. No key has an object then, so none is looked up.
+// Applies a deposit as the first step of a chain. No key has an object then.
 fn apply_first<R: Registry>(alloc: Global, r: &mut R, d: &Deposit) -> Result<u64, R::Error>
     ensures follows { R.follows r.old r.new }
     ensures cause { IfErr result R.fails }
@@ -123,7 +122,7 @@ fn apply_first<R: Registry>(alloc: Global, r: &mut R, d: &Deposit) -> Result<u64
         → R.holds r.new (chain_state (d.now ∷ []))) }
 {
     let deletes = plain_deletes(alloc, deletes_of(d), &d.contents)?;
-    r.fill(alloc, 1, &d.contents)?;
+    r.put_all(alloc, 1, Targets::Free, &d.contents)?;
     remove_deletes(r, alloc, 1, &deletes)?;
     Ok((deletes.len() + d.contents.len()) as u64)
 }
@@ -158,26 +157,6 @@ fn plain_deletes(
     Ok(plain)
 }
 
-fn put_contents<R: Registry>(
-    r: &mut R,
-    alloc: Global,
-    pos: u32,
-    contents: &BTreeMap<Key, Object>,
-) -> Result<(), R::Error>
-    ensures follows { R.follows r.old r.new }
-    ensures cause { IfErr result R.fails }
-    ensures counted { OnOk result
-        (R.count r.new ≡ saturated (R.count r.old + length contents.now.entries)) }
-    ensures put { OnOk result (R.is_honest r.new → (s : State) → R.holds r.old s
-        → AreNew s pos (map with_object contents.now.entries)
-        → R.holds r.new (changed_by s pos (map with_object contents.now.entries))) }
-{
-    for (key, object) in contents.iter() {
-        change(r, alloc, pos, key, Some(object))?;
-    }
-    Ok(())
-}
-
 fn remove_deletes<R: Registry>(
     r: &mut R,
     alloc: Global,
@@ -193,31 +172,21 @@ fn remove_deletes<R: Registry>(
         → R.holds r.new (changed_by s pos (map without deletes.now.keys))) }
 {
     for key in deletes.iter() {
-        change(r, alloc, pos, key, None)?;
+        remove_noted(r, alloc, pos, key)?;
     }
     Ok(())
 }
 
-// Notes what is at a key, and writes the new object there, or that there is none.
-fn change<R: Registry>(
-    r: &mut R,
-    alloc: Global,
-    pos: u32,
-    key: &Key,
-    after: Option<&Object>,
-) -> Result<(), R::Error>
+// Notes what is at a key, and removes it.
+fn remove_noted<R: Registry>(r: &mut R, alloc: Global, pos: u32, key: &Key) -> Result<(), R::Error>
     ensures follows { R.follows r.old r.new }
     ensures cause { IfErr result R.fails }
     ensures counted { OnOk result (R.count r.new ≡ saturated (R.count r.old + 1)) }
     ensures changed { OnOk result (R.is_honest r.new → (s : State) → R.holds r.old s
-        → s.undo pos key.now ≡ None
-        → R.holds r.new (changed s pos key.now (option_copied after.entry))) }
+        → s.undo pos key.now ≡ None → R.holds r.new (changed s pos key.now None)) }
 {
     note(r, alloc, pos, key)?;
-    match after {
-        Some(object) => r.put(alloc, key, object),
-        None => r.remove(key),
-    }
+    r.remove(key)
 }
 
 // Notes what is at a key.

@@ -22,8 +22,8 @@
 //! - [`undo_step`]: the last deposit taken back, by one write for each of its before-images.
 //! - [`move_chain`]: the steps past the common front are taken back, the last first, and the new
 //!   ones applied. Where nothing is common, all is cleared at once, which is no write. The contents
-//!   of a first step are put by one call, `Registry::fill`, that looks nothing up: no key has an
-//!   object then.
+//!   of a step are put by one call, `Registry::put_all`; of a first step it is told that no key has
+//!   an object, so that it need look nothing up ([`Targets`]).
 //! - [`MemRegistry`]: a registry in memory.
 //! - [`Objects`]: objects one at a time, for a report that need not keep all of them.
 //! - [`MapObjects`]: those of a map in memory.
@@ -57,4 +57,4 @@ pub use map::MapObjects;
 pub use memory::MemRegistry;
 pub use moves::{Work, move_chain};
 pub use objects::Objects;
-pub use registry::Registry;
+pub use registry::{Registry, Targets};

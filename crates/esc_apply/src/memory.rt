@@ -8,7 +8,7 @@ ghost use Rattle.esc_tables.specs.KeyName.{KeyName, key_cmp, key_eq};
 ghost use Rattle.esc_apply.specs.Registry.{empty};
 ghost use Rattle.esc_apply.specs.Memory.{noted_at};
 
-use crate::registry::Registry;
+use crate::registry::{Registry, Targets};
 use esc_bundle::NoMemory;
 use esc_tables::{Key, Object};
 use std::alloc::Global;
@@ -147,14 +147,16 @@ impl Registry for MemRegistry {
         note(alloc, &mut self.notes, step, k.copy(alloc)?, before)
     }
 
-    fn fill(
+    fn put_all(
         &mut self,
         alloc: Global,
         step: u32,
+        targets: Targets,
         objects: &BTreeMap<Key, Object>,
     ) -> Result<(), NoMemory> {
         for (key, object) in objects.iter() {
-            self.put_undo(alloc, step, key, None)?;
+            let before = copied(alloc, self.objects.get(key))?;
+            note(alloc, &mut self.notes, step, key.copy(alloc)?, before)?;
             self.put(alloc, key, object)?;
         }
         Ok(())

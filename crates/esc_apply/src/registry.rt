@@ -25,13 +25,22 @@ ghost use Rattle.esc_apply.specs.Registry.{
   saturated,
   IsEntriesOf,
 };
-ghost use Rattle.esc_apply.specs.Changes.{with_object, changed_by, AreFirst};
+ghost use Rattle.esc_apply.specs.Changes.{with_object, changed_by, CanBePut};
 ghost use Rattle.esc_bundle.specs.declared.fault.NoMemory.{NoMemory};
 
 use esc_bundle::NoMemory;
 use esc_tables::{Key, Object};
 use std::alloc::Global;
 use std::collections::BTreeMap;
+
+/// What is known of the keys at which objects are put.
+#[derive(Clone, Copy, Debug, PartialEq, Eq)]
+pub enum Targets {
+    /// None of them has an object.
+    Free,
+    /// Any of them may have one.
+    Any,
+}
 
 /// Objects by their keys, and their before-images: by step and key the object that the key had
 /// before the step. After an `Err` nothing is said of the content.
@@ -42,7 +51,7 @@ pub trait Registry {
     ghost holds: { Self → State → Type 0 };
 
     /// The number of writes so far. It grows by one with each `put` and `remove` and each object of
-    /// a `fill`, and stays at 2^64 - 1 once there.
+    /// a `put_all`, and stays at 2^64 - 1 once there.
     ghost count: { Self → ℕ };
 
     /// Which errors its calls return.
@@ -103,20 +112,21 @@ pub trait Registry {
             → s.undo step k.now ≡ None
             → holds self.new (noted s step k.now (option_copied before.entry))) };
 
-    /// Puts objects at keys that have none, and notes for the step that they had none; nothing may
-    /// be noted for this step and any of them yet. As many writes as objects.
-    fn fill(
+    /// Puts objects, in place of earlier ones, and notes for the step what each of their keys had;
+    /// nothing may be noted for this step and any of them yet. As many writes as objects.
+    fn put_all(
         &mut self,
         alloc: Global,
         step: u32,
+        targets: Targets,
         objects: &BTreeMap<Key, Object>,
     ) -> Result<(), Self::Error>
         ensures follows { follows self.old self.new }
         ensures cause { IfErr result fails }
         ensures counted { OnOk result
             (count self.new ≡ saturated (count self.old + length objects.now.entries)) }
-        ensures filled { OnOk result (is_honest self.new → (s : State) → holds self.old s
-            → AreFirst s step (map with_object objects.now.entries)
+        ensures put { OnOk result (is_honest self.new → (s : State) → holds self.old s
+            → CanBePut targets s step (map with_object objects.now.entries)
             → holds self.new (changed_by s step (map with_object objects.now.entries))) };
 
     /// Removes what was noted for a step, and returns it: each key once. This is no write.

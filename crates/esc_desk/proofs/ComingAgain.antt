@@ -33,6 +33,7 @@ use Rattle.std.specs.List.{list_any}
 use Rattle.std.specs.Str.{bytes_eq}
 use Rattle.std.specs.FinSet as set
 use Rattle.std.specs.Cmp.Lexicographic.{bytes_decides}
+use Rattle.std.proofs.lemmas.Bool.{and_parts}
 use Rattle.sha2.specs.Sha256.{sha256}
 use Rattle.sqlite_trees.specs.declared.store.Store.{Ghosts}
 use Rattle.sqlite.specs.Held.{Held, state}
@@ -65,7 +66,6 @@ use Rattle.esc_events.specs.Receipts.{distinct, reply_to}
 use Rattle.esc_events.specs.Stands.{StandsFor, AreBooks, IsApart, kept_arrivals, holds_by, has_digest, held_body, parked_body}
 use Rattle.esc_events.specs.Taking.{IsAgain}
 use Rattle.esc_events.specs.Works.{IsIdle, no_work}
-use Rattle.esc_events.proofs.Distinct.{both}
 use Rattle.esc_events.proofs.EventLemmas.{union-arrived}
 use Rattle.esc_events.proofs.HeldRows.{is_row_of, listed_row}
 use Rattle.esc_events.proofs.Lost.{alike_counts, came_counts}
@@ -150,7 +150,7 @@ nothing_repeated e a k books y there other =
     let x = alike_counts sha256 reading (union e) (coming (union e) a) 1 [] (distinct sha256 reading (comings e)) y told other in
     let first = x.0 in
     let counts = came_counts sha256 reading e first (distinct_among sha256 reading (comings e) first x.1) x.3 in
-    let like = both (bytes_eq a.number first.number) (bytes_eq digest (sha256 first.body)) x.2 in
+    let like = and_parts (bytes_eq a.number first.number) (bytes_eq digest (sha256 first.body)) x.2 in
     let same : sha256 first.body ≡ digest = sym ((bytes_decides digest (sha256 first.body)).0 like.1) in
     let under = (bytes_decides (sha256 first.body) digest).1 same in
     record {

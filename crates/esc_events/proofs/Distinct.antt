@@ -1,10 +1,11 @@
 -- One more arrival, in the list of distinct ones and their receipts.
-use Rattle.std.proofs.Common.{◌≡◌, ℕ, suc, Bool, true, false, cond, not, filter, ◌&&◌, ◌||◌, List, [], ◌∷◌, ◌++◌, length, Result, refl, sym, ap, ap₂, ◌∙◌, append_assoc, append-nil, true≢false}
+use Rattle.std.proofs.Common.{◌≡◌, ℕ, suc, Bool, true, false, cond, not, filter, ◌&&◌, ◌||◌, List, [], ◌∷◌, ◌++◌, length, Result, refl, sym, ap, ap₂, ◌∙◌, append_assoc, append-nil}
 use Rattle.std.specs.List.{list_any}
 use Rattle.std.specs.Str.{bytes_eq}
 use Rattle.std.specs.Cmp.{IsEquivalence}
 use Rattle.std.specs.Cmp.Lexicographic.{nat_list_eq_equiv}
 use Rattle.std.proofs.lemmas.List.Elements.{filter-append}
+use Rattle.std.proofs.lemmas.Bool.{and_parts}
 use Rattle.esc_tables.specs.DepositValue.{DepositValue}
 use Rattle.esc_events.specs.declared.finding.Finding.{Finding}
 use Rattle.esc_events.specs.declared.finding.Finding.TheVariants.{Unlisted, Unreadable, Differing, Holding}
@@ -12,19 +13,13 @@ use Rattle.esc_events.specs.Events.{Coming}
 use Rattle.esc_store.specs.ReplyValue.{ReceiptValue, is_alike}
 use Rattle.esc_events.specs.Receipts.{receipt_by, found_then, alike, distinct, receipt_for, receipts_after}
 
--- ---- laws of duplicates (`alike`)
-pub both : (a b : Bool) → (a && b) ≡ true → (a ≡ true) × (b ≡ true)
-both true true e = (refl, refl)
-both true false e = absurd (true≢false (sym e))
-both false b e = absurd (true≢false (sym e))
-
 module _ (digest : List ℕ → List ℕ) (reads : List ℕ → Result DepositValue ℕ) where
   pub alike_laws : IsEquivalence (alike digest reads)
   alike_laws = record {
     refl = λ a. ap₂ (λ x y. x && y) (nat_list_eq_equiv.refl a.number) (nat_list_eq_equiv.refl (digest a.body));
     symm = λ a b. ap₂ (λ x y. x && y) (nat_list_eq_equiv.symm a.number b.number) (nat_list_eq_equiv.symm (digest a.body) (digest b.body));
     congr = λ a b d e.
-        let p = both _ _ e in
+        let p = and_parts _ _ e in
         ap₂ (λ x y. x && y)
         (nat_list_eq_equiv.congr a.number b.number d.number p.0)
         (nat_list_eq_equiv.congr (digest a.body) (digest b.body) (digest d.body) p.1);

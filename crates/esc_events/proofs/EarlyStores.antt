@@ -3,6 +3,7 @@ use Rattle.std.proofs.Common.{◌≡◌, inl, inr, ℕ, ℤ, Bool, true, false, 
 use Rattle.std.specs.List.{find, list_any, Any}
 use Rattle.std.specs.Str.{bytes_eq}
 use Rattle.std.specs.Cmp.Lexicographic.{bytes_decides}
+use Rattle.std.proofs.lemmas.Bool.{and_parts}
 use Rattle.sha2.specs.Sha256.{sha256}
 use Rattle.esc_tables.specs.Reading.{reading}
 use Rattle.esc_manifest.specs.declared.row.MRow.{MRow}
@@ -17,7 +18,7 @@ use Rattle.esc_events.specs.FirstVersion.{StoodFor, events_before, first_arrival
 use Rattle.esc_events.specs.Receipts.{holds_row, holds, alike, distinct, receipts_after}
 use Rattle.esc_events.specs.Stands.{Among, IsApart, CameFor, StandsFor, TellsOf, body_of, holds_by, has_digest, is_lost, kept_arrivals, held_body, parked_body}
 use Rattle.esc_events.proofs.AmendingLemmas.{row_has, row_found, find_never}
-use Rattle.esc_events.proofs.Distinct.{alike_laws, any_alike, both}
+use Rattle.esc_events.proofs.Distinct.{alike_laws, any_alike}
 use Rattle.esc_events.proofs.EventLemmas.{none_is_listed}
 use Rattle.esc_events.proofs.HeldReceipts.{any_holds, any_says, any-weaker}
 use Rattle.esc_events.proofs.Lost.{counted_came, counted_kept, came_counts}
@@ -117,7 +118,7 @@ module _ (m : List MRow) (l : List ArrivalValue) where
         let any : list_any (alike sha256 reading c) (map (early_coming m) l) ≡ true =
         any_of (alike sha256 reading c) (map (early_coming m) l) c came ((alike_laws sha256 reading).refl c) in
         let x = one_of (alike sha256 reading c) first (sym (any_alike sha256 reading (map (early_coming m) l) c) ∙ any) in
-        let like = both (bytes_eq c.number x.0.number) (bytes_eq (sha256 c.body) (sha256 x.0.body)) x.2 in
+        let like = and_parts (bytes_eq c.number x.0.number) (bytes_eq (sha256 c.body) (sha256 x.0.body)) x.2 in
         let same : sha256 c.body ≡ sha256 x.0.body = (bytes_decides (sha256 c.body) (sha256 x.0.body)).0 like.1 in
         let lists : row_of m (sha256 x.0.body) ≡ Some r = ap (λ (d : List ℕ). row_of m d) (sym same) ∙ lists_held r c is in
         let it_counts = came_counts sha256 reading before x.0 (first_came x.0 x.1) (kept_by x.0 r (first_came x.0 x.1) lists) in

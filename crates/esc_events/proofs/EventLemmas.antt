@@ -1,5 +1,5 @@
 -- One more event, in what is listed, in the arrivals as they came, and in the moment that is set.
-use Rattle.std.proofs.Common.{◌≡◌, ℤ, ◌≤◌, not, List, [], ◌∷◌, ◌++◌, map, Option, None, refl, ap, ◌∙◌}
+use Rattle.std.proofs.Common.{◌≡◌, ℤ, not, List, [], ◌∷◌, ◌++◌, map, Option, None, refl, ap, ◌∙◌}
 use Rattle.std.specs.Prelude.{filter}
 use Rattle.esc_manifest.specs.declared.row.MRow.{MRow}
 use Rattle.esc_manifest.specs.Extension.{is_listed, extended}

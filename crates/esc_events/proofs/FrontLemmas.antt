@@ -3,6 +3,7 @@ use Rattle.std.proofs.Common.{◌≡◌, ℕ, suc, ◌+◌, ◌<◌, Bool, true,
 use Rattle.std.specs.List.{prefix_len, zip}
 use Rattle.std.specs.Ordering.{int_eq}
 use Rattle.std.proofs.lemmas.Bool.Decides.{nat_tests, Decides-int_eq}
+use Rattle.std.proofs.lemmas.Bool.{and_parts}
 use Rattle.esc_envelope.specs.declared.place.DepositType.{DepositType}
 use Rattle.esc_envelope.specs.declared.place.DepositType.TheVariants.{Diff, Incr, Full}
 use Rattle.esc_envelope.specs.Place.{rank}
@@ -12,7 +13,6 @@ use Rattle.esc_manifest.specs.Accepted.{IsAccepted}
 use Rattle.esc_apply.specs.declared.front.Step.{Step}
 use Rattle.esc_apply.specs.Front.{same_step, common_front}
 use Rattle.esc_store.specs.Kept.{step_at}
-use Rattle.esc_events.proofs.Distinct.{both}
 
 same_kind : (a b : DepositType) → (rank a == rank b) ≡ true → a ≡ b
 same_kind Diff Diff e = refl
@@ -47,8 +47,8 @@ module _ (m : List MRow) (accepted : IsAccepted m) where
       let watermarks = int_eq (place_at m q).watermark (place_at m r).watermark in
       let kinds = rank (place_at m q).kind == rank (place_at m r).kind in
       let resends = resend_at m q == resend_at m r in
-      let ends = both (watermarks && kinds) resends same in
-      let marks = both watermarks kinds ends.0 in
+      let ends = and_parts (watermarks && kinds) resends same in
+      let marks = and_parts watermarks kinds ends.0 in
       let watermark : (place_at m q).watermark ≡ (place_at m r).watermark = (Decides-int_eq (place_at m q).watermark (place_at m r).watermark).0 marks.0 in
       let kind : (place_at m q).kind ≡ (place_at m r).kind = same_kind (place_at m q).kind (place_at m r).kind marks.1 in
       let resend : resend_at m q ≡ resend_at m r = grind (arith, nat_tests, ends.1) in

@@ -1,6 +1,7 @@
 -- The arrivals whose bodies count: all but early ones whose body no row listed.
 use Rattle.std.proofs.Common.{◌≡◌, inl, inr, ℕ, suc, Bool, true, false, cond, not, filter, List, [], ◌∷◌, ◌++◌, Option, Some, None, is_none, Result, refl, sym, ap, ◌∙◌, true≢false}
 use Rattle.std.proofs.lemmas.List.Elements.{filter-append}
+use Rattle.std.proofs.lemmas.Bool.{and_parts}
 use Rattle.esc_tables.specs.DepositValue.{DepositValue}
 use Rattle.esc_manifest.specs.declared.row.MRow.{MRow}
 use Rattle.esc_store.specs.declared.reply.Verdict.TheVariants.{A2}
@@ -12,7 +13,7 @@ use Rattle.esc_events.specs.Events.EventValue.{arrived}
 use Rattle.esc_events.specs.Finding.{found_at, row_of, held_row}
 use Rattle.esc_events.specs.Receipts.{receipt_by, holds_any, alike, receipt_for, receipts_after, unlisted_verdict}
 use Rattle.esc_events.specs.Stands.{Among, is_lost, kept_arrivals}
-use Rattle.esc_events.proofs.Distinct.{kept_one, both}
+use Rattle.esc_events.proofs.Distinct.{kept_one}
 use Rattle.esc_events.proofs.EventLemmas.{comings-arrived}
 use Rattle.esc_events.proofs.Members.{passed_among, passed_test, among_passed}
 use Rattle.esc_events.proofs.MovingLemmas.{among_before}
@@ -56,7 +57,7 @@ module _ (digest : List ℕ → List ℕ) (reads : List ℕ → Result DepositVa
   -- an early arrival whose body no row listed had the verdict A2
   lost_verdict : (before : List Coming) (c : Coming) → is_lost digest reads c ≡ true → (receipt_for digest reads before c).verdict ≡ A2
   lost_verdict before c lost =
-      let of = both c.early (is_none (row_of c.rows (digest c.body))) lost in
+      let of = and_parts c.early (is_none (row_of c.rows (digest c.body))) lost in
       ap (λ (o : Option ℕ). (receipt_by c.number (digest c.body) c.early (found o) (holds_any digest reads before (held_row (found o)))).verdict)
       (no_row_is (row_of c.rows (digest c.body)) of.1)
       ∙ ap unlisted_verdict of.0

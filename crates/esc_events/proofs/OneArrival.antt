@@ -4,6 +4,7 @@ use Rattle.std.proofs.Common.{Option, Some, None, IsSome, is_some, Result, refl,
 use Rattle.std.specs.List.{list_any, find, Any}
 use Rattle.std.specs.Str.{bytes_eq}
 use Rattle.std.specs.Cmp.Lexicographic.{bytes_decides}
+use Rattle.std.proofs.lemmas.Bool.{and_parts}
 use Rattle.esc_manifest.specs.declared.row.MRow.{MRow}
 use Rattle.esc_tables.specs.DepositValue.{DepositValue}
 use Rattle.esc_store.specs.declared.reply.Verdict.TheVariants.{A2}
@@ -17,7 +18,7 @@ use Rattle.esc_events.specs.Receipts.{holds_row, holds_any, found_then, alike, d
 use Rattle.esc_events.specs.Stands.{Among, TellsOf, body_of, holds_by, has_digest, kept_arrivals, held_body, parked_body, IsApart, CameFor, CameWith, AreBooks}
 use Rattle.esc_events.proofs.EventLemmas.{union-arrived, comings-arrived, moment-arrived}
 use Rattle.esc_events.proofs.Searches.{none_alike, some_alike, alike-last, find-push-old, find-push-new}
-use Rattle.esc_events.proofs.Distinct.{alike_laws, any_alike, distinct-push, receipts-push, kept_any, both}
+use Rattle.esc_events.proofs.Distinct.{alike_laws, any_alike, distinct-push, receipts-push, kept_any}
 use Rattle.esc_events.proofs.HeldReceipts.{split-last, any-front, any-last, says_from_holds}
 use Rattle.esc_events.proofs.Lost.{kept_arrivals-arrived, came_counts, alike_counts}
 use Rattle.esc_events.proofs.Members.{any_of, among-front, among-last, distinct_among, some_any, any_some, no_first}
@@ -185,7 +186,7 @@ module _ (digest : List ℕ → List ℕ) (reads : List ℕ → Result DepositVa
       same_before other apart =
           let x = alike_counts digest reads (union e) came 1 [] before y (ap (reply_alike (union e) 1 a.number (digest a.body)) (sym books.receipts) ∙ there) other in
           let it_counts = came_counts digest reads e x.0 (distinct_among digest reads (comings e) x.0 x.1) x.3 in
-          let like = both (bytes_eq a.number x.0.number) (bytes_eq (digest a.body) (digest x.0.body)) x.2 in
+          let like = and_parts (bytes_eq a.number x.0.number) (bytes_eq (digest a.body) (digest x.0.body)) x.2 in
           (x.0, it_counts, apart x.0 came (earlier x.0 it_counts) last (sym ((bytes_decides (digest a.body) (digest x.0.body)).0 like.1)))
 
       -- then it changes nothing

@@ -3,13 +3,13 @@ use Rattle.std.proofs.Common.{◌≡◌, inr, ℕ, suc, Bool, true, false, cond,
 use Rattle.std.specs.List.{Any}
 use Rattle.std.specs.Str.{bytes_eq}
 use Rattle.std.specs.Cmp.Lexicographic.{bytes_decides}
+use Rattle.std.proofs.lemmas.Bool.{and_parts}
 use Rattle.esc_manifest.specs.declared.row.MRow.{MRow}
 use Rattle.esc_store.specs.declared.reply.Verdict.TheVariants.{A2}
 use Rattle.esc_store.specs.Kept.{is_unlisted, TellsUnlisted}
 use Rattle.esc_store.specs.ReplyValue.{ReplyValue, ReceiptValue, reply_kept, is_alike, reply_alike}
 use Rattle.esc_events.specs.Finding.{row_of}
 use Rattle.esc_events.specs.Stands.{TellsOf}
-use Rattle.esc_events.proofs.Distinct.{both}
 use Rattle.esc_events.proofs.HeldReceipts.{later, any-weaker}
 use Rattle.esc_events.proofs.Searches.{same_answer, no_answer}
 
@@ -29,6 +29,6 @@ told_again m number digest n (r ∷ rs) y e verdict = by_test (is_alike number d
     by_test : (b : Bool) → is_alike number digest r ≡ b → cond b (Some (reply_kept m n r)) (reply_alike m (suc n) number digest rs) ≡ Some y
         → (reply_alike m (suc n) number digest rs ≡ Some y → Any (TellsUnlisted digest) rs) → Any (TellsUnlisted digest) (r ∷ rs)
     by_test true like e rest =
-        let same = (bytes_decides r.digest digest).0 (both (bytes_eq r.number number) (bytes_eq r.digest digest) like).1 in
+        let same = (bytes_decides r.digest digest).0 (and_parts (bytes_eq r.number number) (bytes_eq r.digest digest) like).1 in
         (0, r, omega arith, refl, (ap (λ (z : ReplyValue). is_unlisted z.verdict) (same_answer e) ∙ ap is_unlisted verdict, same))
     by_test false other e rest = later (TellsUnlisted digest) r rs (rest e)

@@ -10,6 +10,7 @@ use Rattle.std.proofs.lemmas.Bool.{cases_Bool}
 use Rattle.std.proofs.lemmas.Bool.Decides.{nat_tests}
 use Rattle.std.proofs.lemmas.Fmt.{decimal_nonempty, length-decimal-le, digits_decimal, digits_value-decimal}
 use Rattle.std.proofs.lemmas.Str.Parse.{IsNumeralModel, numerals_by_value}
+use Rattle.esc_bundle.specs.ListLaws.{digits_model}
 use Rattle.esc_envelope.specs.declared.place.DepositType.{DepositType}
 use Rattle.esc_envelope.specs.declared.place.DepositType.TheVariants.{Diff, Incr, Full}
 use Rattle.esc_envelope.specs.Id.{is_id}
@@ -18,9 +19,6 @@ use Rattle.esc_manifest.specs.declared.row.MRow.{MRow}
 use Rattle.esc_manifest.specs.Fields.{id_of, type_of, prev_of, resend_of, row_of}
 use Rattle.esc_manifest.specs.Manifest.{lacks_id, lacks_type, lacks_watermark, lacks_resend, lacks_digest, is_diff_alone}
 use Rattle.esc_pack.specs.Written.{resend_field, row_line, IsLegible}
-
-own_digits : IsNumeralModel (λ ds. list_all is_ascii_digit ds ≡ true) (digits_value 10)
-own_digits = numerals_by_value _ (search rules)
 
 id_read : (id : List ℕ) → IsTrue (is_id id) → id_of id ≡ Some id
 id_read id good = rw good refl
@@ -48,8 +46,8 @@ some_digits n some few =
     let empty : (length (decimal n) == 0) ≡ false = grind (arith, nat_tests) in
     let six = length-decimal-le 6 n (omega arith) (omega arith) (omega arith) in
     let short : nat_le (length (decimal n)) 6 ≡ true = grind (arith, nat_tests) in
-    let digits = digits_decimal own_digits n (omega arith) in
-    rw (empty, short, digits, digits_value-decimal own_digits n (omega arith)) refl
+    let digits = digits_decimal digits_model n (omega arith) in
+    rw (empty, short, digits, digits_value-decimal digits_model n (omega arith)) refl
 
 resend_read : (n : ℕ) → n ≤ 999999 → resend_of (resend_field n) ≡ Some n
 resend_read n few =

@@ -6,7 +6,7 @@ use Rattle.std.specs.Str.{bytes_eq}
 use Rattle.std.proofs.lemmas.Bool.Decides.{nat_tests}
 use Rattle.std.proofs.lemmas.Grind.{flat_map-append}
 use Rattle.std.proofs.lemmas.List.{take_more, append_assoc, append-nil, length-take, length-map, get_or-map}
-use Rattle.std.proofs.lemmas.Bool.{cases_Bool}
+use Rattle.std.proofs.lemmas.Bool.{cases_Bool, and_parts}
 use Rattle.std.proofs.lemmas.Slice.Eq.{bytes_eq-Decides}
 use Rattle.std.specs.Option.{option_map_or}
 use Rattle.std.proofs.lemmas.List.Elements.{All-push}
@@ -34,19 +34,15 @@ unmarked (a ∷ []) other = refl
 unmarked (a ∷ b ∷ []) other = refl
 unmarked (a ∷ b ∷ c ∷ rest) other = rw (other (omega arith)) refl
 
-both : (a b : Bool) → (a && b) ≡ true → (a ≡ true) × (b ≡ true)
-both true b e = (refl, e)
-both false b e = absurd cc
-
 -- rows that have fields are read as they are written
 pub fields_back : (n : ℕ) (rows : List Line) → list_all (has_width n) rows ≡ true → map read_back rows ≡ rows
 fields_back n [] all = refl
 fields_back n ([] ∷ rows) all =
-    let first = (both (has_width n []) (list_all (has_width n) rows) all).0 in
-    let parts = both (0 == n) (nat_lt 0 n) first in
+    let first = (and_parts (has_width n []) (list_all (has_width n) rows) all).0 in
+    let parts = and_parts (0 == n) (nat_lt 0 n) first in
     let bad : 0 < 0 = grind (arith, nat_tests) in absurd (omega arith)
 fields_back n ((x ∷ row) ∷ rows) all =
-    let others = (both (has_width n (x ∷ row)) (list_all (has_width n) rows) all).1 in
+    let others = (and_parts (has_width n (x ∷ row)) (list_all (has_width n) rows) all).1 in
     ap (λ (rs : List Line). (x ∷ row) ∷ rs) (fields_back n rows others)
 
 -- the element at a place comes next after those before it

@@ -4,7 +4,7 @@ use Rattle.std.specs.Prelude.{◌==◌, ◌&&◌, bytes_eq, find, option_map, Is
 use Rattle.std.specs.List.{AllByRecursion, IsDistinct}
 use Rattle.std.specs.Map.{lookup, keys_of}
 use Rattle.std.specs.Option.{option_and_then}
-use Rattle.std.proofs.lemmas.Bool.{cases_Bool, eqb-true}
+use Rattle.std.proofs.lemmas.Bool.{cases_Bool, eqb-true, and_parts}
 use Rattle.std.proofs.lemmas.Bool.Decides.{nat_tests}
 use Rattle.std.proofs.lemmas.Slice.Eq.{bytes_eq-Decides}
 use Rattle.std.proofs.lemmas.List.Elements.{All-from_recursion}
@@ -12,6 +12,7 @@ use Rattle.sqlite_keyed.proofs.ListLemmas.{all_weaker}
 use Rattle.esc_envelope.specs.declared.kind.Kind.{Kind}
 use Rattle.esc_envelope.specs.declared.kind.Kind.TheVariants.{Registrar, Contact, Host, Domain, Idn, Nndn}
 use Rattle.esc_envelope.specs.Kinds.{kind_rank}
+use Rattle.esc_envelope.specs.KindLaws.{one_kind}
 use Rattle.esc_tables.specs.KeyName.{KeyName, key_eq}
 use Rattle.esc_tables.specs.ObjectValue.{ObjectValue}
 use Rattle.esc_record.specs.Record.{record_of}
@@ -25,7 +26,7 @@ use Rattle.esc_store.specs.Decoded.{times, tallies, HaveOwnKeys}
 use Rattle.esc_store.specs.Kept.{of_kind, AreCounts}
 use Rattle.esc_store.specs.TypedRows.{record_at, IsRegistry}
 use Rattle.esc_store.proofs.Gathering.{record_here}
-use Rattle.esc_store.proofs.Registries.{rank_one, same_tests}
+use Rattle.esc_store.proofs.Registries.{same_tests}
 
 abbrev name : Kind → ObjectRow → KeyName
 name kind o = record { kind = kind; text = o.key }
@@ -57,15 +58,11 @@ size f kind (o ∷ os) all = go (o.kind == kind_rank kind) (f (name kind o)) all
 
 -- ---- which
 
-and_parts : (a b : Bool) → (a && b) ≡ true → (a ≡ true) × (b ≡ true)
-and_parts true b h = (refl, h)
-and_parts false b h = absurd cc
-
 -- the key of a row that passes the test for a key
 key_there : (q : KeyName) (o : ObjectRow) (kind : Kind) → (o.kind == kind_rank kind) ≡ true → is_object_at (kind_rank q.kind) q.text o ≡ true → name kind o ≡ q
 key_there q o kind of is =
     let (a, b) = and_parts (o.kind == kind_rank q.kind) (bytes_eq o.key q.text) is in
-    let kinds : kind ≡ q.kind = rank_one kind q.kind (sym (eqb-true _ _ of) ∙ eqb-true _ _ a) in
+    let kinds : kind ≡ q.kind = one_kind kind q.kind (sym (eqb-true _ _ of) ∙ eqb-true _ _ a) in
     let texts : o.key ≡ q.text = (bytes_eq-Decides o.key q.text).0 b in
     rw (kinds, texts) refl
 

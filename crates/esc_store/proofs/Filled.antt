@@ -1,32 +1,40 @@
--- Rows of objects that are put many at a time, at keys that have none.
-use Rattle.std.proofs.Common.{◌≡◌, ℕ, Bool, true, false, cond, ◌&&◌, List, [], ◌∷◌, ◌++◌, map, Option, None, Some, is_some, refl, sym, ap, ap₂, subst, ◌∙◌, append_assoc}
-use Rattle.std.specs.Prelude.{◌==◌, if◌then◌else◌, option_map, IsSome, IfSome}
+-- Rows of objects that are put many at a time, after what their keys had is noted.
+use Rattle.std.proofs.Common.{◌≡◌, ℕ, Bool, true, false, cond, ◌&&◌, List, [], ◌∷◌, ◌++◌, map, Option, None, Some, is_some, refl, sym, ap, ap₂, subst, ◌∙◌, append_assoc, arith, ◌<◌, ◌+◌, length, take, get_or}
+use Rattle.std.specs.Prelude.{◌==◌, if◌then◌else◌, option_map, bytes_eq, IsSome, IfSome}
+use Rattle.std.proofs.lemmas.Bool.{and_parts}
 use Rattle.std.specs.Option.{option_and_then, option_or, unwrap_or}
-use Rattle.std.specs.Map.{lookup}
-use Rattle.std.proofs.lemmas.List.{append-nil, map-append, map_push}
+use Rattle.std.specs.List.{AllByRecursion}
+use Rattle.std.specs.Map.{lookup, keys_of}
+use Rattle.std.proofs.lemmas.Bool.Decides.{nat_tests}
+use Rattle.std.proofs.lemmas.Slice.Eq.{bytes_eq-Decides}
+use Rattle.std.proofs.lemmas.List.{append-nil, map-append, map_push, map_more}
 use Rattle.sqlite_trees.specs.declared.store.Store.{Ghosts}
 use Rattle.sqlite.specs.Effect.{Database}
 use Rattle.esc_envelope.specs.declared.kind.Kind.{Kind}
 use Rattle.esc_envelope.specs.Kinds.{kind_rank}
+use Rattle.esc_envelope.specs.KindLaws.{one_kind}
 use Rattle.esc_tables.specs.KeyName.{KeyName, key_eq}
 use Rattle.esc_tables.specs.KeyLaws.{keys_alike}
 use Rattle.esc_tables.specs.ObjectValue.{ObjectValue}
 use Rattle.esc_record.specs.Record.{record_of}
 use Rattle.esc_apply.specs.Objects.{Entry}
-use Rattle.esc_apply.specs.Registry.{State}
-use Rattle.esc_apply.specs.Changes.{with_object, changed_by, AreFirst}
-use Rattle.esc_apply.proofs.Runs.{content-changed_by, undo-first, Fills, fills_more, fills_last}
+use Rattle.esc_apply.specs.Registry.{State, written}
+use Rattle.esc_apply.specs.declared.registry.Targets.{Targets}
+use Rattle.esc_apply.specs.Changes.{with_object, changed_by, AreNew, CanBePut}
+use Rattle.esc_apply.proofs.Runs.{content-changed_by, undo-new, written_by-noted, Fills, fills_more, fills_last, Returns, returns_last}
 use Rattle.esc_rows.specs.Content.{Content, content_in, object_at, image_at}
 use Rattle.esc_rows.specs.declared.object.NewObject.{NewObject}
-use Rattle.esc_rows.specs.Entries.{new_entry}
-use Rattle.esc_rows.specs.Changes.{ObjectEntry, is_entry_at, entry_at, has_entry, GainsObjects, PutsObjects, GainsImages, PutsNoImages}
+use Rattle.esc_rows.specs.declared.undo.NewImage.{NewImage}
+use Rattle.esc_rows.specs.Entries.{new_entry, new_image}
+use Rattle.esc_rows.specs.Changes.{ObjectEntry, ImageEntry, is_entry_at, entry_at, has_entry, image_entry_at, GainsObjects, PutsObjects, GainsImages, PutsImages}
 use Rattle.esc_store.specs.Pages.{entry_row, stored_row, AreRowsOf}
 use Rattle.esc_store.specs.TypedRows.{kind_at, record_at, image_kept, IsRegistry}
-use Rattle.esc_store.specs.Standing.{ChangeOf, Follows}
+use Rattle.esc_store.specs.Filling.{after_filling, after_noting, no_image, image_now}
+use Rattle.esc_store.specs.Standing.{ChangeOf, Follows, IsHonest, store_in}
 use Rattle.esc_store.proofs.Gathering.{tests_alike, record_here, image_here}
 use Rattle.esc_store.proofs.Parking.{goes_then}
 use Rattle.esc_store.proofs.Parts.{Turns, turning}
-use Rattle.esc_store.proofs.Registries.{no_kind, number_of_kind, rank_one, in_branch, has_record}
+use Rattle.esc_store.proofs.Registries.{no_kind, number_of_kind, in_branch, has_record}
 
 -- ---- rows of entries
 abbrev pub RowOf : Type 0
@@ -94,12 +102,46 @@ pub record GainsAll (rows : List ObjectEntry) (c c' : Content) : Type 0 where
 pub objects_turn : (rows : List ObjectEntry) (old new : Database) → PutsObjects rows old new → Turns (GainsAll rows) old new
 objects_turn rows old new made = turning (λ tables. let m = made (content_in old.trees) tables in (record (content_in old.trees) { objects = m.0 }, m.1, record { only = refl; gains = m.2 }))
 
-pub record NotesAll (step : ℕ) (rows : List ObjectEntry) (c c' : Content) : Type 0 where
+pub record NotesAll (step : ℕ) (images : List ImageEntry) (c c' : Content) : Type 0 where
   pub only : c' ≡ record c { undo = c'.undo }
-  pub gains : GainsImages step rows c.undo c'.undo
+  pub gains : GainsImages step images c.undo c'.undo
 
-pub images_turn : (step : ℕ) (rows : List ObjectEntry) (old new : Database) → PutsNoImages step rows old new → Turns (NotesAll step rows) old new
-images_turn step rows old new made = turning (λ tables. let m = made (content_in old.trees) tables in (record (content_in old.trees) { undo = m.0 }, m.1, record { only = refl; gains = m.2 }))
+pub images_turn : (step : ℕ) (images : List ImageEntry) (old new : Database) → PutsImages step images old new → Turns (NotesAll step images) old new
+images_turn step images old new made = turning (λ tables. let m = made (content_in old.trees) tables in (record (content_in old.trees) { undo = m.0 }, m.1, record { only = refl; gains = m.2 }))
+
+-- ---- before-images of rows
+-- at a key of the rows it is what the key has
+images_found : (s : State) (rows : List ObjectEntry) (n : ℕ) (text : List ℕ) → image_entry_at n text (map (image_now s) rows) ≡ (if has_entry n text rows then Some (record_at s.content n text) else None)
+images_found s [] n text = refl
+images_found s (r ∷ rows) n text = by_test (is_entry_at n text r) refl (images_found s rows n text)
+  where
+    by_test : (b : Bool) → is_entry_at n text r ≡ b → image_entry_at n text (map (image_now s) rows) ≡ (if has_entry n text rows then Some (record_at s.content n text) else None)
+        → image_entry_at n text (map (image_now s) (r ∷ rows)) ≡ (if has_entry n text (r ∷ rows) then Some (record_at s.content n text) else None)
+    by_test true is rest =
+        let (a, b) = and_parts (r.kind == n) (bytes_eq r.key text) is in
+        let kind : r.kind ≡ n = grind (arith, nat_tests, a) in
+        let key : r.key ≡ text = (bytes_eq-Decides r.key text).0 b in
+        rw is (ap₂ (λ (k : ℕ) (t : List ℕ). Some (record_at s.content k t)) kind key)
+    by_test false is rest = rw is rest
+
+-- one row more
+pub images_more : (f : ObjectEntry → ImageEntry) (rows : List NewObject) (at : ℕ) (r : NewObject) (images now : List NewImage) (image : NewImage) → at < length rows → r ≡ get_or rows at r → now ≡ images ++ image ∷ []
+    → new_image image ≡ f (new_entry r) → map new_image images ≡ map f (map new_entry (take at rows)) → map new_image now ≡ map f (map new_entry (take (at + 1) rows))
+images_more f rows at r images now image lt is more same before =
+    ap (map new_image) more ∙ map_push new_image images image ∙ ap₂ (λ (l : List ImageEntry) (x : ImageEntry). l ++ x ∷ []) before (same ∙ ap (λ (o : NewObject). f (new_entry o)) is)
+    ∙ sym (map_push f (map new_entry (take at rows)) (new_entry (get_or rows at r))) ∙ ap (map f) (sym (map_more new_entry rows at r lt))
+
+-- where no key has an object
+pub free_images : (s : State) (es : List Entry) (rows : List ObjectEntry) → AreRowsOf es rows → AllByRecursion (λ k. s.content k ≡ None) (keys_of (map with_object es)) → map no_image rows ≡ map (image_now s) rows
+free_images s [] [] are free = refl
+free_images s [] (r ∷ rows) are free = let no = are.same in absurd cc
+free_images s (e ∷ es) [] are free = let no = are.same in absurd cc
+free_images s (e ∷ es) (r ∷ rows) are free =
+    let (same, others) = other_rows e es r rows are in
+    let kinds : kind_rank e.0.kind ≡ r.kind = ap (λ (t : RowOf). t.0) same in
+    let texts : e.0.text ≡ r.key = ap (λ (t : RowOf). t.1) same in
+    let none : record_at s.content r.kind r.key ≡ None = rw (← kinds, ← texts) (record_here s.content e.0 ∙ ap (option_and_then record_of) free.0) in
+    ap₂ (λ (b : Option (List ℕ)) (l : List ImageEntry). record { kind = r.kind; key = r.key; bytes = b } ∷ l) (sym none) (free_images s es rows others free.1)
 
 -- ---- and into tables and before-images
 -- at each key of the tables, if so at those of a kind and at those of none
@@ -114,7 +156,7 @@ by_kind f g none some n text = at (kind_at n) refl
 abbrev kept_of : Option (Option ObjectValue) → Option (Option (List ℕ))
 kept_of = option_map (λ (o : Option ObjectValue). option_and_then record_of o)
 
-module _ {es : List Entry} {rows : List ObjectEntry} (are : AreRowsOf es rows) {s : State} {step : ℕ} (new : AreFirst s step (map with_object es)) where
+module _ {es : List Entry} {rows : List ObjectEntry} (are : AreRowsOf es rows) {s : State} {step : ℕ} (new : AreNew s step (map with_object es)) where
   abbrev after : State
   after = changed_by s step (map with_object es)
 
@@ -125,12 +167,12 @@ module _ {es : List Entry} {rows : List ObjectEntry} (are : AreRowsOf es rows) {
   put_at n text = option_or (entry_at n text rows) (record_at s.content n text)
 
   abbrev noted_at : ℕ → ℕ → List ℕ → Option (Option (List ℕ))
-  noted_at p n text = if (step == p) && has_entry n text rows then Some None else image_kept (s.undo p) n text
+  noted_at p n text = if (step == p) && has_entry n text rows then Some (record_at s.content n text) else image_kept (s.undo p) n text
 
   put_then : (n : ℕ) (text : List ℕ) → put_at n text ≡ record_at after.content n text
   put_then = by_kind put_at (λ n text. record_at after.content n text) (λ n text is. rw (no_row es rows are n text is, is) refl) (λ q.
       rw (record_here s.content q, record_here after.content q) (found (here q) (entry_at (kind_rank q.kind) q.text rows) (s.content q) (rows_found es rows are q)
-      ∙ ap (option_and_then record_of) (sym (content-changed_by s step (map with_object es) new.new.once q))))
+      ∙ ap (option_and_then record_of) (sym (content-changed_by s step (map with_object es) new.once q))))
     where
       found : (a : Option (Option ObjectValue)) (b : Option (List ℕ)) (x : Option ObjectValue) → Alike a b → option_or b (option_and_then record_of x) ≡ option_and_then record_of (unwrap_or a x)
       found a b x (neither p q) = rw (p, q) refl
@@ -138,8 +180,8 @@ module _ {es : List Entry} {rows : List ObjectEntry} (are : AreRowsOf es rows) {
 
   noted_then : (p n : ℕ) (text : List ℕ) → noted_at p n text ≡ image_kept (after.undo p) n text
   noted_then p = by_kind (noted_at p) (λ n text. image_kept (after.undo p) n text) (λ n text is. rw (no_row es rows are n text is, is) (off (step == p))) (λ q.
-      rw (image_here (s.undo p) q, image_here (after.undo p) q, ← found (here q) (entry_at (kind_rank q.kind) q.text rows) (rows_found es rows are q))
-      (sym (in_branch kept_of ((step == p) && is_some (here q)) (Some None) (s.undo p q)) ∙ ap kept_of (sym (undo-first s step (map with_object es) new p q))))
+      rw (image_here (s.undo p) q, image_here (after.undo p) q, record_here s.content q, ← found (here q) (entry_at (kind_rank q.kind) q.text rows) (rows_found es rows are q))
+      (sym (in_branch kept_of ((step == p) && is_some (here q)) (Some (s.content q)) (s.undo p q)) ∙ ap kept_of (sym (undo-new s step (map with_object es) new.once p q))))
     where
       off : (b : Bool) → cond {A = Option (Option (List ℕ))} (b && false) (Some None) None ≡ None
       off true = refl
@@ -149,23 +191,30 @@ module _ {es : List Entry} {rows : List ObjectEntry} (are : AreRowsOf es rows) {
       found a b (neither p q) = rw (p, q) refl
       found a b (both o bytes p q is) = rw (p, q) refl
 
-  pub note_all : {c c' : Content} → NotesAll step rows c c' → IsRegistry c s → IsRegistry c' (record { content = s.content; undo = (changed_by s step (map with_object es)).undo })
-  note_all {c} {c'} set it = record {
+  pub note_all : {images : List ImageEntry} {c c' : Content} → images ≡ map (image_now s) rows → NotesAll step images c c' → IsRegistry c s → IsRegistry c' (after_noting s step es)
+  note_all {images} {c} {c'} is set it = record {
     objects = λ n text. ap (λ (x : Content). object_at n text x.objects) set.only ∙ it.objects n text;
-    images = λ p n text. set.gains.same p n text ∙ ap (λ x. if (step == p) && has_entry n text rows then Some None else x) (it.images p n text) ∙ noted_then p n text;
+    images = λ p n text. set.gains.same p n text ∙ gained p n text (image_at p n text c.undo) ∙ ap (λ x. if (step == p) && has_entry n text rows then Some (record_at s.content n text) else x) (it.images p n text) ∙ noted_then p n text;
     recorded = it.recorded;
-    noted = λ p q x is. noted ((step == p) && is_some (here q)) p q x (sym (undo-first s step (map with_object es) new p q) ∙ is);
+    noted = λ p q x is. noted ((step == p) && is_some (here q)) p q x (sym (undo-new s step (map with_object es) new.once p q) ∙ is);
   } where
-    noted : (b : Bool) (p : ℕ) (q : KeyName) (x : ObjectValue) → cond {A = Option (Option ObjectValue)} b (Some None) (s.undo p q) ≡ Some (Some x) → IsSome (record_of x)
-    noted true p q x is = absurd cc
+    branch : (a b : Bool) (v : Option (List ℕ)) (x : Option (Option (List ℕ))) → cond a (option_or (cond b (Some v) None) x) x ≡ cond (a && b) (Some v) x
+    branch true true v x = refl
+    branch true false v x = refl
+    branch false b v x = refl
+
+    gained : (p n : ℕ) (text : List ℕ) (x : Option (Option (List ℕ))) → (if step == p then option_or (image_entry_at n text images) x else x) ≡ (if (step == p) && has_entry n text rows then Some (record_at s.content n text) else x)
+    gained p n text x = ap (λ o. if step == p then option_or o x else x) (ap (image_entry_at n text) is ∙ images_found s rows n text) ∙ branch (step == p) (has_entry n text rows) (record_at s.content n text) x
+
+    noted : (b : Bool) (p : ℕ) (q : KeyName) (x : ObjectValue) → cond {A = Option (Option ObjectValue)} b (Some (s.content q)) (s.undo p q) ≡ Some (Some x) → IsSome (record_of x)
+    noted true p q x is = let same : s.content q ≡ Some x = cc in subst (λ (o : Option ObjectValue). IfSome o (λ y. IsSome (record_of y))) same (it.recorded q)
     noted false p q x is = it.noted p q x is
 
-  pub put_all : {c c' : Content} → GainsAll rows c c' → IsRegistry c (record { content = s.content; undo = (changed_by s step (map with_object es)).undo })
-      → IsRegistry c' (changed_by s step (map with_object es))
+  pub put_all : {c c' : Content} → GainsAll rows c c' → IsRegistry c (after_noting s step es) → IsRegistry c' (after_filling s step es)
   put_all {c} {c'} set it = record {
     objects = λ n text. set.gains.same n text ∙ ap (option_or (entry_at n text rows)) (it.objects n text) ∙ put_then n text;
     images = λ p n text. ap (λ (x : Content). image_at p n text x.undo) set.only ∙ it.images p n text;
-    recorded = λ q. subst (λ (o : Option ObjectValue). IfSome o (λ x. IsSome (record_of x))) (sym (content-changed_by s step (map with_object es) new.new.once q))
+    recorded = λ q. subst (λ (o : Option ObjectValue). IfSome o (λ x. IsSome (record_of x))) (sym (content-changed_by s step (map with_object es) new.once q))
         (recorded (here q) (entry_at (kind_rank q.kind) q.text rows) (s.content q) (rows_found es rows are q) (it.recorded q));
     noted = it.noted;
   } where
@@ -177,69 +226,102 @@ module _ {es : List Entry} {rows : List ObjectEntry} (are : AreRowsOf es rows) {
 pub follows_then : {S : Type 0} {g : Ghosts S} {a b c : ChangeOf S} → Follows g a b → Follows g b c → Follows g a c
 follows_then p q = record { goes_on = goes_then p.goes_on q.goes_on; rest = λ before k h. q.rest before k (p.rest before k h) }
 
+pub was_honest : {S : Type 0} {g : Ghosts S} {a b : ChangeOf S} → Follows g a b → IsHonest g (store_in b) → IsHonest g (store_in a)
+was_honest p clean = omega (arith, p.goes_on.survives.clean, clean)
+
 -- the key that is made of a row is its entry's
 pub row_key : (e : Entry) (r : ObjectEntry) (k : KeyName) → entry_row e ≡ stored_row r → r.kind ≡ kind_rank k.kind → r.key ≡ k.text → k ≡ e.0
 row_key e r k same kind text =
-    let kinds : k.kind ≡ e.0.kind = rank_one k.kind e.0.kind (sym kind ∙ sym (ap (λ (t : RowOf). t.0) same)) in
+    let kinds : k.kind ≡ e.0.kind = one_kind k.kind e.0.kind (sym kind ∙ sym (ap (λ (t : RowOf). t.0) same)) in
     let texts : k.text ≡ e.0.text = sym text ∙ sym (ap (λ (t : RowOf). t.1) same) in
     λ i. record { kind = kinds i; text = texts i }
 
 -- the entries of these rows are still to be put, and then those after them, and that leads to the end
-pub record Filling (Held : State → Type 0) (end : State) (step : ℕ) (rows : List ObjectEntry) (after : List Entry) : Type 0 where
+pub record Filling (Held : State → Type 0) (targets : Targets) (end : State) (step : ℕ) (rows : List ObjectEntry) (after : List Entry) : Type 0 where
   pub pending : List Entry
   pub are : AreRowsOf pending rows
-  pub fills : Fills Held end step (map with_object (pending ++ after))
+  pub fills : Fills Held targets end step (map with_object (pending ++ after))
 
-pub filling_first : (Held : State → Type 0) (s : State) (step : ℕ) (es left : List Entry) (rows : List NewObject) → rows ≡ [] → left ≡ es → AreFirst s step (map with_object es) → Held s
-    → Filling Held (changed_by s step (map with_object es)) step (map new_entry rows) left
-filling_first Held s step es left rows none is first held =
-    rw (none, is) (record { pending = []; are = record { same = refl }; fills = record { now = s; held = held; first = first; leads = refl } })
+pub filling_first : (Held : State → Type 0) (targets : Targets) (s : State) (step : ℕ) (es left : List Entry) (rows : List NewObject) → rows ≡ [] → left ≡ es → CanBePut targets s step (map with_object es) → Held s
+    → Filling Held targets (after_filling s step es) step (map new_entry rows) left
+filling_first Held targets s step es left rows none is can held =
+    rw (none, is) (record { pending = []; are = record { same = refl }; fills = record { now = s; held = held; can = can; leads = refl } })
 
 -- of a list of entries by their rows
-pub filling_rows : (Held : State → Type 0) (s : State) (step : ℕ) (es : List Entry) (rows : List ObjectEntry) → AreRowsOf es rows → AreFirst s step (map with_object es) → Held s
-    → Filling Held (changed_by s step (map with_object es)) step rows []
-filling_rows Held s step es rows are first held = record {
+pub filling_rows : (Held : State → Type 0) (targets : Targets) (s : State) (step : ℕ) (es : List Entry) (rows : List ObjectEntry) → AreRowsOf es rows → CanBePut targets s step (map with_object es) → Held s
+    → Filling Held targets (after_filling s step es) step rows []
+filling_rows Held targets s step es rows are can held = record {
   pending = es;
   are = are;
-  fills = subst (λ (l : List Entry). Fills Held (changed_by s step (map with_object es)) step (map with_object l)) (sym (append-nil es)) (record { now = s; held = held; first = first; leads = refl });
+  fills = subst (λ (l : List Entry). Fills Held targets (after_filling s step es) step (map with_object l)) (sym (append-nil es)) (record { now = s; held = held; can = can; leads = refl });
 }
 
 -- the next entry becomes a row
-pub filling_more : (Held : State → Type 0) (end : State) (step : ℕ) (rows now : List NewObject) (r : NewObject) (e : Entry) (left after : List Entry) → now ≡ rows ++ r ∷ [] → left ≡ e ∷ after
-    → entry_row e ≡ stored_row (new_entry r) → Filling Held end step (map new_entry rows) left → Filling Held end step (map new_entry now) after
-filling_more Held end step rows now r e left after more is same going = record {
+pub filling_more : (Held : State → Type 0) (targets : Targets) (end : State) (step : ℕ) (rows now : List NewObject) (r : NewObject) (e : Entry) (left after : List Entry) → now ≡ rows ++ r ∷ [] → left ≡ e ∷ after
+    → entry_row e ≡ stored_row (new_entry r) → Filling Held targets end step (map new_entry rows) left → Filling Held targets end step (map new_entry now) after
+filling_more Held targets end step rows now r e left after more is same going = record {
   pending = going.pending ++ e ∷ [];
   are = subst (AreRowsOf (going.pending ++ e ∷ [])) (sym (ap (map new_entry) more ∙ map_push new_entry rows r)) (rows_more going.pending e (map new_entry rows) (new_entry r) going.are same);
-  fills = subst (λ (l : List Entry). Fills Held end step (map with_object l)) (ap (λ (l : List Entry). going.pending ++ l) is ∙ sym (append_assoc going.pending (e ∷ []) after)) going.fills;
+  fills = subst (λ (l : List Entry). Fills Held targets end step (map with_object l)) (ap (λ (l : List Entry). going.pending ++ l) is ∙ sym (append_assoc going.pending (e ∷ []) after)) going.fills;
 }
 
 -- the first row is put
-pub filling_row : (Before After : State → Type 0) (end : State) (step : ℕ) (r : ObjectEntry) (left rows : List ObjectEntry) (after : List Entry) → left ≡ r ∷ rows → Filling Before end step left after
-    → ((t : State) (e : Entry) → entry_row e ≡ stored_row r → AreFirst t step (with_object e ∷ []) → Before t → After (changed_by t step (with_object e ∷ []))) → Filling After end step rows after
-filling_row Before After end step r left rows after is going put =
+pub filling_row : (Before After : State → Type 0) (targets : Targets) (end : State) (step : ℕ) (r : ObjectEntry) (left rows : List ObjectEntry) (after : List Entry) → left ≡ r ∷ rows → Filling Before targets end step left after
+    → ((t : State) (e : Entry) → entry_row e ≡ stored_row r → CanBePut targets t step (with_object e ∷ []) → Before t → After (after_filling t step (e ∷ []))) → Filling After targets end step rows after
+filling_row Before After targets end step r left rows after is going put =
     let it = first_row going.pending r rows (subst (λ (l : List ObjectEntry). AreRowsOf going.pending l) is going.are) in
     record {
       pending = it.others;
       are = it.are;
-      fills = fills_more Before After end step (with_object it.one ∷ []) (map with_object (it.others ++ after)) (map with_object (going.pending ++ after))
+      fills = fills_more Before After targets end step (with_object it.one ∷ []) (map with_object (it.others ++ after)) (map with_object (going.pending ++ after))
           (ap (λ (l : List Entry). map with_object (l ++ after)) it.all) going.fills
-          (λ t held first. put t it.one it.same first held);
+          (λ t held can. put t it.one it.same can held);
     }
 
 -- all rows are put
-pub filling_all : (Before After : State → Type 0) (end : State) (step : ℕ) (rows all left : List NewObject) (after : List Entry) → all ≡ rows → left ≡ []
-    → Filling Before end step (map new_entry rows) after
-    → ((t : State) (es : List Entry) → AreRowsOf es (map new_entry all) → AreFirst t step (map with_object es) → Before t → After (changed_by t step (map with_object es)))
-    → Filling After end step (map new_entry left) after
-filling_all Before After end step rows all left after same none going put = record {
+pub filling_all : (Before After : State → Type 0) (targets : Targets) (end : State) (step : ℕ) (rows all left : List NewObject) (after : List Entry) → all ≡ rows → left ≡ []
+    → Filling Before targets end step (map new_entry rows) after
+    → ((t : State) (es : List Entry) → AreRowsOf es (map new_entry all) → CanBePut targets t step (map with_object es) → Before t → After (after_filling t step es))
+    → Filling After targets end step (map new_entry left) after
+filling_all Before After targets end step rows all left after same none going put = record {
   pending = [];
   are = record { same = rw none refl };
-  fills = fills_more Before After end step (map with_object going.pending) (map with_object after) (map with_object (going.pending ++ after)) (map-append with_object going.pending after) going.fills
-      (λ t held first. put t going.pending (rw same going.are) first held);
+  fills = fills_more Before After targets end step (map with_object going.pending) (map with_object after) (map with_object (going.pending ++ after)) (map-append with_object going.pending after) going.fills
+      (λ t held can. put t going.pending (rw same going.are) can held);
 }
 
 -- none is left
-pub filling_last : (Held : State → Type 0) (end : State) (step : ℕ) (rows : List ObjectEntry) (after : List Entry) → rows ≡ [] → after ≡ [] → Filling Held end step rows after → Held end
-filling_last Held end step rows after no_rows no_more going =
+pub filling_last : (Held : State → Type 0) (targets : Targets) (end : State) (step : ℕ) (rows : List ObjectEntry) (after : List Entry) → rows ≡ [] → after ≡ [] → Filling Held targets end step rows after → Held end
+filling_last Held targets end step rows after no_rows no_more going =
     let none : going.pending ≡ [] = rows_none going.pending (subst (λ (l : List ObjectEntry). AreRowsOf going.pending l) no_rows going.are) in
-    fills_last Held end step (map with_object (going.pending ++ after)) (rw (none, no_more) refl) going.fills
+    fills_last Held targets end step (map with_object (going.pending ++ after)) (rw (none, no_more) refl) going.fills
+
+-- ---- rows of which it is noted what their keys had
+-- the entries of these rows are still to be written, and that leads to the end
+pub record Writing (Held : State → Type 0) (end : State) (rows : List ObjectEntry) : Type 0 where
+  pub pending : List Entry
+  pub are : AreRowsOf pending rows
+  pub returns : Returns Held end (map with_object pending)
+
+pub writing_first : (Held : State → Type 0) (s : State) (step : ℕ) (es : List Entry) (rows : List ObjectEntry) → AreRowsOf es rows → Held (after_noting s step es) → Writing Held (after_filling s step es) rows
+writing_first Held s step es rows are held = record {
+  pending = es;
+  are = are;
+  returns = record { now = after_noting s step es; held = held; leads = written_by-noted s step (map with_object es) };
+}
+
+pub writing_row : (Before After : State → Type 0) (end : State) (r : ObjectEntry) (left rows : List ObjectEntry) → left ≡ r ∷ rows → Writing Before end left
+    → ((t : State) (e : Entry) → entry_row e ≡ stored_row r → Before t → After (written t e.0 (Some e.1))) → Writing After end rows
+writing_row Before After end r left rows is going put =
+    let it = first_row going.pending r rows (subst (λ (l : List ObjectEntry). AreRowsOf going.pending l) is going.are) in
+    let now : Returns Before end (with_object it.one ∷ map with_object it.others) = subst (λ (l : List Entry). Returns Before end (map with_object l)) it.all going.returns in
+    record {
+      pending = it.others;
+      are = it.are;
+      returns = record { now = written now.now it.one.0 (Some it.one.1); held = put now.now it.one it.same now.held; leads = now.leads };
+    }
+
+pub writing_last : (Held : State → Type 0) (end : State) (rows : List ObjectEntry) → rows ≡ [] → Writing Held end rows → Held end
+writing_last Held end rows no_rows going =
+    let none : going.pending ≡ [] = rows_none going.pending (subst (λ (l : List ObjectEntry). AreRowsOf going.pending l) no_rows going.are) in
+    returns_last Held end (map with_object going.pending) (rw none refl) going.returns

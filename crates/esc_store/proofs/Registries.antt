@@ -1,14 +1,15 @@
 -- What the statements on objects and before-images do to tables and before-images by keys.
 use Rattle.std.proofs.Common.{◌≡◌, inl, inr, ℕ, Bool, true, false, List, [], Option, None, Some, refl, sym, ap, subst, ◌∙◌, arith}
-use Rattle.std.specs.Prelude.{◌==◌, ◌&&◌, if◌then◌else◌, bytes_eq, option_map, IsSome, IfSome}
+use Rattle.std.specs.Prelude.{◌==◌, if◌then◌else◌, bytes_eq, option_map, IsSome, IfSome}
 use Rattle.std.specs.Option.{option_and_then}
-use Rattle.std.proofs.lemmas.Bool.{cases_Bool, eqb-true}
+use Rattle.std.proofs.lemmas.Bool.{cases_Bool, eqb-true, and_parts}
 use Rattle.std.proofs.lemmas.Bool.Decides.{nat_tests}
 use Rattle.std.proofs.lemmas.Slice.Eq.{bytes_eq-Decides}
 use Rattle.sqlite.specs.Effect.{Database}
 use Rattle.esc_envelope.specs.declared.kind.Kind.{Kind}
 use Rattle.esc_envelope.specs.declared.kind.Kind.TheVariants.{Registrar, Contact, Host, Domain, Idn, Nndn}
 use Rattle.esc_envelope.specs.Kinds.{kind_rank}
+use Rattle.esc_envelope.specs.KindLaws.{one_kind}
 use Rattle.esc_tables.specs.KeyName.{KeyName, key_eq}
 use Rattle.esc_tables.specs.ObjectValue.{ObjectValue}
 use Rattle.esc_record.specs.Record.{record_of}
@@ -58,14 +59,7 @@ number_of_kind n kind h = elim (cases_Bool (n == 0)) [
   ]
 ]
 
-pub rank_one : (a b : Kind) → kind_rank a ≡ kind_rank b → a ≡ b
-rank_one a b h = some_kind a b (sym (kind_back a) ∙ (ap kind_at h ∙ kind_back b))
-
 -- ---- a function of keys by kind's number and bytes
-
-and_true : (a b : Bool) → (a && b) ≡ true → (a ≡ true) × (b ≡ true)
-and_true true b h = (refl, h)
-and_true false b h = absurd cc
 
 pub no_kind : (k : KeyName) (n : ℕ) (text : List ℕ) → kind_at n ≡ None → is_same_key (kind_rank k.kind) k.text n text ≡ false
 no_kind k n text none = elim (cases_Bool (kind_rank k.kind == n)) [
@@ -75,8 +69,8 @@ no_kind k n text none = elim (cases_Bool (kind_rank k.kind == n)) [
 
 same_names : (k : KeyName) (kind : Kind) (text : List ℕ) → is_same_key (kind_rank k.kind) k.text (kind_rank kind) text ≡ true → k ≡ record { kind = kind; text = text }
 same_names k kind text h =
-    let (a, b) = and_true (kind_rank k.kind == kind_rank kind) (bytes_eq k.text text) h in
-    let kinds : k.kind ≡ kind = rank_one k.kind kind (eqb-true _ _ a) in
+    let (a, b) = and_parts (kind_rank k.kind == kind_rank kind) (bytes_eq k.text text) h in
+    let kinds : k.kind ≡ kind = one_kind k.kind kind (eqb-true _ _ a) in
     let texts : k.text ≡ text = (bytes_eq-Decides k.text text).0 b in
     rw (← kinds, ← texts) refl
 
@@ -264,11 +258,11 @@ key_note {step} {w = w} {c = c} {c'} kinds keys same set = subst (λ (p : KeyNam
 pub has_record : (o : ObjectValue) (bytes : List ℕ) → record_of o ≡ Some bytes → IsSome (record_of o)
 has_record o bytes h = rw h refl
 
--- what is found at a key is the record of the object there
-pub record_found : {s : State} {q k : KeyName} {kind : ℕ} {key : List ℕ} {c : Content} {found : Option (List ℕ)} → kind ≡ kind_rank q.kind → key ≡ q.text → q ≡ k → IsRegistry c s → found ≡ object_at kind key c.objects → found ≡ option_and_then record_of (s.content k)
-record_found {s} {q} {k} {kind} {key} {found = found} kinds keys same it is =
+-- what is found by a key's number and text is the record of the object there
+pub record_found : (s : State) {q k : KeyName} {kind : ℕ} {key : List ℕ} {found : Option (List ℕ)} → kind ≡ kind_rank q.kind → key ≡ q.text → q ≡ k → found ≡ record_at s.content kind key → found ≡ option_and_then record_of (s.content k)
+record_found s {q} {k} {kind} {key} {found} kinds keys same is =
     subst (λ (p : KeyName). found ≡ option_and_then record_of (s.content p)) same
-    (is ∙ (it.objects kind key ∙ (ap (λ n. record_at s.content n key) kinds ∙ (ap (λ t. record_at s.content (kind_rank q.kind) t) keys ∙ ap (λ o. option_and_then record_of (option_and_then (λ (kind : Kind). s.content (record { kind = kind; text = q.text })) o)) (kind_back q.kind)))))
+    (is ∙ (ap (λ n. record_at s.content n key) kinds ∙ (ap (λ t. record_at s.content (kind_rank q.kind) t) keys ∙ ap (λ o. option_and_then record_of (option_and_then (λ (kind : Kind). s.content (record { kind = kind; text = q.text })) o)) (kind_back q.kind))))
 
 -- of one record there is one object
 pub one_object : (x : ObjectValue) (bytes : List ℕ) (o : Option ObjectValue) → record_of x ≡ Some bytes → Some bytes ≡ option_and_then record_of o → Some x ≡ o

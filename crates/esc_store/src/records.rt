@@ -15,6 +15,7 @@ ghost use Rattle.std.specs.Prelude.{
 ghost use Rattle.std.specs.Option.{option_and_then};
 ghost use Rattle.sqlite.specs.Held.{state};
 ghost use Rattle.sqlite.specs.State.{HasCleanDisk};
+ghost use Rattle.esc_tables.specs.KeyName.{KeyName};
 ghost use Rattle.esc_tables.specs.ObjectValue.{ObjectValue};
 ghost use Rattle.esc_record.specs.Record.{record_of};
 ghost use Rattle.esc_apply.specs.Registry.{State, empty, written, noted, taken};
@@ -22,6 +23,7 @@ ghost use Rattle.esc_rows.specs.Entries.{image_of};
 ghost use Rattle.esc_store.specs.Decoded.{AreNotes};
 ghost use Rattle.esc_store.specs.Faults.{IsS1OrS2};
 ghost use Rattle.esc_store.specs.Standing.{HoldsNow, Follows};
+ghost use Rattle.esc_store.specs.TypedRows.{record_at};
 
 use crate::change::Change;
 use crate::codec::object::kind_number;
@@ -43,7 +45,21 @@ impl<'a, S: Alter> Change<'a, S> {
             × IfSome (s.content k.now) (λ x. IsSome (record_of x)) × HoldsNow S.Store self.new s) }
         ensures cause { IfErr result IsS1OrS2 }
     {
-        let found = find_object(&mut self.store.conn, kind_number(k.kind), k.text.as_bytes());
+        self.find_stored(kind_number(k.kind), k.text.as_bytes())
+    }
+
+    // The record at the key with this kind's number and these bytes as its text, if there is one.
+    pub(crate) fn find_stored(&mut self, kind: u32, text: &[u8]) -> Result<Option<Vec<u8>>, SFault>
+        ensures count { self.new.count ≡ self.old.count }
+        ensures follows { Follows S.Store self.old self.new }
+        ensures found { IfOk result (λ found. HasCleanDisk (state S.Store self.new.store.now.conn)
+            → (s : State) → HoldsNow S.Store self.old s
+            → (option_map (λ b. b.items) found ≡ record_at s.content kind text.now)
+            × ((q : KeyName) → IfSome (s.content q) (λ x. IsSome (record_of x)))
+            × HoldsNow S.Store self.new s) }
+        ensures cause { IfErr result IsS1OrS2 }
+    {
+        let found = find_object(&mut self.store.conn, kind, text);
         self.store.settle(found)
     }
 

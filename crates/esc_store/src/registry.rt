@@ -3,7 +3,7 @@
 use crate::change::Change;
 use crate::codec::object::{images_of, object_in, record_bytes};
 use crate::fault::SFault;
-use esc_apply::Registry;
+use esc_apply::{Registry, Targets};
 use esc_tables::{Key, Object};
 use sqlite::Alter;
 use std::alloc::Global;
@@ -69,13 +69,14 @@ impl<'a, S: Alter> Registry for Change<'a, S> {
         }
     }
 
-    fn fill(
+    fn put_all(
         &mut self,
         alloc: Global,
         step: u32,
+        targets: Targets,
         objects: &BTreeMap<Key, Object>,
     ) -> Result<(), SFault> {
-        self.fill_records(alloc, step, objects)?;
+        self.fill_records(alloc, step, targets, objects)?;
         self.count = self.count.saturating_add(objects.len() as u64);
         Ok(())
     }

@@ -304,14 +304,14 @@ fn moved_within(
 
 /// The old chain, the new chain, how many calls the move makes, and what is said of it if all are
 /// let through. Back: for each step `take_undo` and one write for each of its keys, or one `clear`
-/// for the whole chain; forward: one `fill` for the contents of a first step, and else three calls
-/// for each mention.
+/// for the whole chain; forward: for each step one `put_all` for its contents, and three calls for
+/// each deleted key.
 static STOPPED: [(&str, &str, u32, &str); 3] = [
-    // Two steps of one key back, three mentions forward.
+    // Two steps of one key back, two forward, of which one deletes a key.
     (
         "F1 D2 D3",
         "F1 D2-resent D3",
-        13,
+        9,
         "kept, 2 back, 2 on, 5 writes, 10: b=R1 c=R1\n",
     ),
     // The clear alone: no later call fails in its place if its fault is not answered.

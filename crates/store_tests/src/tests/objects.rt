@@ -3,10 +3,10 @@
 use super::assert_text;
 use super::store::{LISTED, key, object, take_first};
 use super::stores::new_store;
-use esc_apply::Registry;
+use esc_apply::{Registry, Targets};
 use esc_envelope::Kind;
 use esc_store::{Change, Reply, SFault, Store, number};
-use esc_tables::{Key, Object};
+use esc_tables::{Key, Object, Row};
 use sqlite::{Alter, Connection};
 use std::alloc::Global;
 use std::collections::BTreeMap;
@@ -148,29 +148,49 @@ fn objects_and_before_images_are_read_back(rt: HostRuntime) -> Result<(), Fail> 
     Ok(())
 }
 
-// This many objects.
-fn many(alloc: Global, count: u32) -> Result<BTreeMap<Key, Object>, Fail> {
+// This many objects, each with this text in its only cell.
+fn many(alloc: Global, count: u32, mark: &str) -> Result<BTreeMap<Key, Object>, Fail> {
     let mut objects = BTreeMap::new(alloc);
     for n in 0..count {
         let name = format!(in alloc; "d{n}.example")?;
-        objects.insert(key(alloc, Kind::Domain, name.as_str())?, object(alloc)?)?;
+        let object = Object {
+            parent: Row::from_cells(alloc, "domain", &[("name", mark)])?,
+            children: Vec::new(alloc),
+        };
+        objects.insert(key(alloc, Kind::Domain, name.as_str())?, object)?;
     }
     Ok(objects)
 }
 
-// Puts objects by one call: how many before-images it noted, and how many of these say that there
-// was an object.
+fn has_mark(object: &Object, mark: &str) -> bool {
+    match object.parent.cell(0) {
+        Some((_, text)) => text == mark,
+        None => false,
+    }
+}
+
+fn is_first(before: &Option<Object>) -> bool {
+    match before {
+        Some(object) => has_mark(object, "first"),
+        None => false,
+    }
+}
+
+// Puts objects by one call: how many before-images it noted, and how many of these are of objects
+// that were put first.
 fn noted_of<S: Alter>(
     alloc: Global,
     store: &mut Store<S>,
+    step: u32,
+    targets: Targets,
     objects: &BTreeMap<Key, Object>,
 ) -> Result<(usize, usize), Fail> {
     let mut change = store.begin()?;
-    change.fill(alloc, 1, objects)?;
-    let noted = images(alloc, &mut change, 1)?;
+    change.put_all(alloc, step, targets, objects)?;
+    let noted = images(alloc, &mut change, step)?;
     change.commit()?;
-    let there = noted.iter().filter(|image| image.1.is_some()).count();
-    Ok((noted.len(), there))
+    let first = noted.iter().filter(|image| is_first(&image.1)).count();
+    Ok((noted.len(), first))
 }
 
 // How many writes a store has counted, and how many objects it has.
@@ -185,19 +205,66 @@ pub(super) fn tell_size<S: Alter>(
     Ok(())
 }
 
-/// How many objects are put by one call, and what is said of them. A statement takes 32.
-static FILLED: [(u32, &str); 5] = [
-    (0, "0 images, 0 of an object\n0 writes, 0 objects\n"),
-    (31, "31 images, 0 of an object\n31 writes, 31 objects\n"),
-    (32, "32 images, 0 of an object\n32 writes, 32 objects\n"),
-    (33, "33 images, 0 of an object\n33 writes, 33 objects\n"),
-    (70, "70 images, 0 of an object\n70 writes, 70 objects\n"),
+/// How many objects are put by one call as step 1, at free keys, how many then as step 2, at any
+/// keys; and of each how many before-images it noted, and how many of these are of objects that were
+/// put first. A statement takes 32.
+static PUT: [(u32, u32, &str); 6] = [
+    (0, 0, "0 0, 0 0: 0 first, 0 second\n0 writes, 0 objects\n"),
+    (
+        31,
+        33,
+        "31 0, 33 31: 0 first, 33 second\n64 writes, 33 objects\n",
+    ),
+    (
+        32,
+        32,
+        "32 0, 32 32: 0 first, 32 second\n64 writes, 32 objects\n",
+    ),
+    (
+        33,
+        31,
+        "33 0, 31 31: 2 first, 31 second\n64 writes, 33 objects\n",
+    ),
+    (
+        70,
+        64,
+        "70 0, 64 64: 6 first, 64 second\n134 writes, 70 objects\n",
+    ),
+    (
+        0,
+        70,
+        "0 0, 70 0: 0 first, 70 second\n70 writes, 70 objects\n",
+    ),
 ];
 
-fn filled<S: Alter + Drop>(alloc: Global, mut store: Store<S>, count: u32) -> Result<String, Fail> {
-    let mut text = String::new(alloc);
-    let (noted, there) = noted_of(alloc, &mut store, &many(alloc, count)?)?;
-    writeln!(text, "{noted} images, {there} of an object")?;
+// How many of a store's objects have this mark.
+fn count_marked<S: Alter>(alloc: Global, store: &mut Store<S>, mark: &str) -> Result<u32, Fail> {
+    let mut count = 0u32;
+    for (_, object) in &store.tables(alloc)? {
+        if has_mark(object, mark) {
+            count = count.saturating_add(1);
+        }
+    }
+    Ok(count)
+}
+
+fn put_twice<S: Alter + Drop>(
+    alloc: Global,
+    mut store: Store<S>,
+    first: u32,
+    second: u32,
+) -> Result<String, Fail> {
+    let objects = many(alloc, first, "first")?;
+    let (noted, of_first) = noted_of(alloc, &mut store, 1, Targets::Free, &objects)?;
+    let mut text = format!(in alloc; "{noted} {of_first}")?;
+    let objects = many(alloc, second, "second")?;
+    let (noted, of_first) = noted_of(alloc, &mut store, 2, Targets::Any, &objects)?;
+    let firsts = count_marked(alloc, &mut store, "first")?;
+    let seconds = count_marked(alloc, &mut store, "second")?;
+    writeln!(
+        text,
+        ", {noted} {of_first}: {firsts} first, {seconds} second"
+    )?;
     tell_size(alloc, &mut text, &mut store)?;
     Ok(text)
 }
@@ -205,10 +272,10 @@ fn filled<S: Alter + Drop>(alloc: Global, mut store: Store<S>, count: u32) -> Re
 #[test]
 fn many_objects_are_put_by_one_call(rt: HostRuntime) -> Result<(), Fail> {
     let alloc = rt.alloc();
-    for (count, wanted) in &FILLED {
+    for (first, second, wanted) in &PUT {
         let store = new_store(alloc, Connection::open_in_memory(alloc)?, LISTED)?;
-        let text = filled(alloc, store, *count)?;
-        assert_text(&rt, "filled", text.as_str(), wanted);
+        let text = put_twice(alloc, store, *first, *second)?;
+        assert_text(&rt, "put", text.as_str(), wanted);
     }
     Ok(())
 }

@@ -1,6 +1,6 @@
 //! A registry that fails at one of its calls.
 
-use esc_apply::{MemRegistry, Registry};
+use esc_apply::{MemRegistry, Registry, Targets};
 use esc_bundle::NoMemory;
 use esc_tables::{Key, Object};
 use std::alloc::Global;
@@ -86,14 +86,15 @@ impl Registry for Stopping {
         Ok(self.inner.put_undo(alloc, step, k, before)?)
     }
 
-    fn fill(
+    fn put_all(
         &mut self,
         alloc: Global,
         step: u32,
+        targets: Targets,
         objects: &BTreeMap<Key, Object>,
     ) -> Result<(), Stopped> {
         pass(&mut self.left)?;
-        Ok(self.inner.fill(alloc, step, objects)?)
+        Ok(self.inner.put_all(alloc, step, targets, objects)?)
     }
 
     fn take_undo(

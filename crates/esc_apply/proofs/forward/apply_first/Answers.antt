@@ -25,14 +25,14 @@ returns-clause-number g c =
 pub returns-clause-counted : goal.returns-clause-counted
 returns-clause-counted g c =
     let all = changes_counted c.args.d.now c.d.inside.contents.entries c.in_ok-deletes.deletes.keys (made g c) in
-    omega (arith, all, c.in_ok-fill.ensures.counted, c.in_ok-remove_deletes.ensures.counted)
+    omega (arith, all, c.in_ok-put_all.ensures.counted, c.in_ok-remove_deletes.ensures.counted)
 
 pub returns-clause-applied : goal.returns-clause-applied
 returns-clause-applied g c = λ honest held.
     let registry = g.R.Registry in
     let s = chain_state [] in
     applied_next (registry.holds c.remove_deletes.new.r) [] 1 c.args.d.now refl
-    (step_made (registry.holds c.fill.new.self) (registry.holds c.remove_deletes.new.r) s 1 c.args.d.now
+    (step_made (registry.holds c.put_all.new.self) (registry.holds c.remove_deletes.new.r) s 1 c.args.d.now
     (map with_object c.d.inside.contents.entries) (map without c.in_ok-deletes.deletes.keys) (made g c) (fresh-chain [] 1 refl)
-    (λ new. c.in_ok-fill.ensures.filled (g.met.R.Registry.was_honest _ _ c.in_ok-remove_deletes.ensures.follows honest) s held (first_all s 1 _ (λ q. refl) new))
+    (λ new. c.in_ok-put_all.ensures.put (g.met.R.Registry.was_honest _ _ c.in_ok-remove_deletes.ensures.follows honest) s held (first_all s 1 _ (λ q. refl) new))
     (c.in_ok-remove_deletes.ensures.removed honest))

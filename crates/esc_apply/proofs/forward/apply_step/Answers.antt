@@ -30,16 +30,16 @@ returns-clause-number g c =
 pub returns-clause-counted : goal.returns-clause-counted
 returns-clause-counted g c =
     let all = changes_counted c.args.d.now c.d.inside.contents.entries c.in_ok-deletes.deletes.keys (made g c) in
-    omega (arith, all, c.in_ok-put_contents.ensures.counted, c.in_ok-remove_deletes.ensures.counted)
+    omega (arith, all, c.in_ok-put_all.ensures.counted, c.in_ok-remove_deletes.ensures.counted)
 
 abbrev Stepped : (g : given.Over) (c : goal.After-drop-deletes-2 g) → Type 0
 Stepped g c = g.R.Registry.is_honest c.remove_deletes.new.r → (s : State) → g.R.Registry.holds c.args.r.now s → s.undo c.args.pos ≡ nothing → g.R.Registry.holds c.remove_deletes.new.r (stepped s c.args.pos c.args.d.now)
 
 all_stepped : (g : given.Over) (c : goal.After-drop-deletes-2 g) → Stepped g c
 all_stepped g c = λ honest s held none.
-    step_made (g.R.Registry.holds c.put_contents.new.r) (g.R.Registry.holds c.remove_deletes.new.r) s c.args.pos c.args.d.now
+    step_made (g.R.Registry.holds c.put_all.new.self) (g.R.Registry.holds c.remove_deletes.new.r) s c.args.pos c.args.d.now
     (map with_object c.d.inside.contents.entries) (map without c.in_ok-deletes.deletes.keys) (made g c) none
-    (c.in_ok-put_contents.ensures.put (g.met.R.Registry.was_honest _ _ c.in_ok-remove_deletes.ensures.follows honest) s held)
+    (c.in_ok-put_all.ensures.put (g.met.R.Registry.was_honest _ _ c.in_ok-remove_deletes.ensures.follows honest) s held)
     (c.in_ok-remove_deletes.ensures.removed honest)
 
 pub returns-clause-stepped : goal.returns-clause-stepped

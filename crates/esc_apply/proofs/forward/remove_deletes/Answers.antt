@@ -9,18 +9,18 @@ pub loop-key-preserved : goal.loop-key-preserved
 loop-key-preserved g c =
     let registry = g.R.Registry in
     let before = c.loop-key.invariant in
-    let made = c.in_ok-change.ensures in
+    let made = c.in_ok-remove_noted.ensures in
     let one = ap length c.in-Some.ensures.steps in
     let more : length c.loop-key.key-iterator ≡ length c.next.new.self + 1 = omega (arith, one) in
     record {
       follows = g.met.R.Registry.goes_on _ _ _ before.follows made.follows;
-      counted = one_counted (registry.count c.loop-key.r) (registry.count c.change.new.r) (length c.loop-key.key-iterator) (length c.next.new.self) _ more before.counted made.counted;
+      counted = one_counted (registry.count c.loop-key.r) (registry.count c.remove_noted.new.r) (length c.loop-key.key-iterator) (length c.next.new.self) _ more before.counted made.counted;
       leads = λ honest s held new.
-          leads_more (registry.holds c.loop-key.r) (registry.holds c.change.new.r) (changed_by s c.args.pos (map without c.args.deletes.now.keys)) c.args.pos (without c.in-Some.key.now) (map without c.next.new.self) (map without c.loop-key.key-iterator)
+          leads_more (registry.holds c.loop-key.r) (registry.holds c.remove_noted.new.r) (changed_by s c.args.pos (map without c.args.deletes.now.keys)) c.args.pos (without c.in-Some.key.now) (map without c.next.new.self) (map without c.loop-key.key-iterator)
           (ap (λ (l : List KeyName). map without l) c.in-Some.ensures.steps)
           (before.leads (g.met.R.Registry.was_honest _ _ made.follows honest) s held new)
           (λ t. made.changed honest t);
     }
 
-pub returns-in_err-change-clause-follows : goal.returns-in_err-change-clause-follows
-returns-in_err-change-clause-follows g c = g.met.R.Registry.goes_on _ _ _ c.loop-key.invariant.follows c.change.ensures.follows
+pub returns-in_err-remove_noted-clause-follows : goal.returns-in_err-remove_noted-clause-follows
+returns-in_err-remove_noted-clause-follows g c = g.met.R.Registry.goes_on _ _ _ c.loop-key.invariant.follows c.remove_noted.ensures.follows

@@ -1,10 +1,10 @@
 use Rattle.std.proofs.Common.{map, ap, ◌∙◌}
 use Rattle.std.proofs.lemmas.List.{length-map}
 use Rattle.sqlite.specs.Values.{bound}
-use Rattle.esc_rows.specs.Entries.{new_entry}
+use Rattle.esc_rows.specs.Entries.{new_image}
 use Rattle.esc_rows.proofs.PartLemmas.{makes}
 use Rattle.esc_rows.proofs.Compiled.{insert_images_is}
-use Rattle.esc_rows.proofs.UndoLemmas.{puts_no_images}
+use Rattle.esc_rows.proofs.UndoLemmas.{puts_images}
 use Rattle.esc_rows.proofs.undo.insert_images.Goals as goal
 
 pub returns : goal.returns
@@ -12,6 +12,6 @@ returns g c =
     let rows = c.args.rows.now in
     record {
       part = makes g.S.Store insert_images_is c.write_within.ensures
-          (puts_no_images c.args.at _ _ (map new_entry rows) (length-map rows new_entry ∙ c.requires))
+          (puts_images c.args.at _ _ (map new_image rows) (length-map rows new_image ∙ c.requires))
           (ap bound c.as_slice.ensures.value ∙ c.in_ok-params.ensures.params);
     }

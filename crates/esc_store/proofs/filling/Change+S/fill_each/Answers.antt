@@ -1,10 +1,10 @@
 use Rattle.std.proofs.Common.{◌∙◌, ◌∷◌, ◌+◌, [], map, drop, refl, ap, sym, arith, length-drop}
 use Rattle.std.proofs.lemmas.List.{nil_from_length, drop_more}
-use Rattle.esc_apply.specs.Changes.{with_object, changed_by}
 use Rattle.esc_rows.specs.declared.object.NewObject.{NewObject}
 use Rattle.esc_rows.specs.Entries.{new_entry}
+use Rattle.esc_store.specs.Filling.{after_filling}
 use Rattle.esc_store.specs.Standing.{HoldsNow}
-use Rattle.esc_store.proofs.Filled.{follows_then, filling_rows, filling_row, filling_last}
+use Rattle.esc_store.proofs.Filled.{follows_then, was_honest, filling_rows, filling_row, filling_last}
 use Rattle.esc_store.proofs.Parking.{follows_same}
 use Rattle.esc_store.proofs.filling.Change+S.fill_each.Goals as goal
 
@@ -12,22 +12,22 @@ pub loop-at-init : goal.loop-at-init
 loop-at-init g c = record {
   follows = follows_same g.S.Store c.args.self.now;
   count = refl;
-  filling = λ s es are first held. filling_rows (HoldsNow g.S.Store c.args.self.now) s c.args.step es _ are first held;
+  filling = λ honest s es are can held. filling_rows (HoldsNow g.S.Store c.args.self.now) c.args.targets s c.args.step es _ are can held;
 }
 
 pub loop-at-preserved : goal.loop-at-preserved
 loop-at-preserved g c = record {
   follows = follows_then c.loop-at.invariant.follows c.fill_row.ensures.follows;
   count = c.fill_row.ensures.count ∙ c.loop-at.invariant.count;
-  filling = λ s es are first held.
+  filling = λ honest s es are can held.
       let left = drop (c.loop-at.at + 1) c.args.rows.now in
       let next = drop_more c.args.rows.now c.loop-at.at c.index-rows-at.result c.loop-at-test.true ∙ ap (λ (r : NewObject). r ∷ left) (sym c.index-rows-at.is) in
-      filling_row (HoldsNow g.S.Store c.loop-at.self) (HoldsNow g.S.Store c.fill_row.new.self) (changed_by s c.args.step (map with_object es)) c.args.step
+      filling_row (HoldsNow g.S.Store c.loop-at.self) (HoldsNow g.S.Store c.fill_row.new.self) c.args.targets (after_filling s c.args.step es) c.args.step
       (new_entry c.index-rows-at.result) _ _ [] (ap (map new_entry) next)
-      (c.loop-at.invariant.filling s es are first held) c.in_ok-fill_row.ensures.filled;
+      (c.loop-at.invariant.filling (was_honest c.fill_row.ensures.follows honest) s es are can held) (c.in_ok-fill_row.ensures.filled honest);
 }
 
 pub returns-clause-filled : goal.returns-clause-filled
-returns-clause-filled g c = λ s es are first held.
+returns-clause-filled g c = λ honest s es are can held.
     let none = nil_from_length (drop c.loop-at.at c.args.rows.now) (omega (arith, length-drop c.loop-at.at c.args.rows.now)) in
-    filling_last (HoldsNow g.S.Store c.loop-at.self) (changed_by s c.args.step (map with_object es)) c.args.step _ [] (ap (map new_entry) none) refl (c.loop-at.invariant.filling s es are first held)
+    filling_last (HoldsNow g.S.Store c.loop-at.self) c.args.targets (after_filling s c.args.step es) c.args.step _ [] (ap (map new_entry) none) refl (c.loop-at.invariant.filling honest s es are can held)

@@ -1,8 +1,8 @@
-use Rattle.std.proofs.Common.{◌∙◌, [], map, refl}
+use Rattle.std.proofs.Common.{◌∙◌, [], refl}
 use Rattle.std.proofs.lemmas.Result.{on_ok_weaker}
-use Rattle.esc_apply.specs.Changes.{with_object, changed_by}
+use Rattle.esc_store.specs.Filling.{after_filling}
 use Rattle.esc_store.specs.Standing.{HoldsNow}
-use Rattle.esc_store.proofs.Filled.{follows_then, filling_first, filling_more, filling_all, filling_last}
+use Rattle.esc_store.proofs.Filled.{follows_then, was_honest, filling_first, filling_more, filling_all, filling_last}
 use Rattle.esc_store.proofs.Parking.{follows_same}
 use Rattle.esc_store.proofs.filling.Change+S.fill_records.Goals as goal
 
@@ -10,34 +10,36 @@ pub loop-key-init : goal.loop-key-init
 loop-key-init g c = record {
   follows = follows_same g.S.Store c.args.self.now;
   count = refl;
-  filling = λ s first held. filling_first (HoldsNow g.S.Store c.args.self.now) s c.args.step c.args.objects.now.entries _ _ c.new-rows.ensures.items
-      (c.into_iter-key-iterator.ensures.into_iter_gives ∙ c.iter-key-items.ensures.rest) first held;
+  filling = λ honest s can held. filling_first (HoldsNow g.S.Store c.args.self.now) c.args.targets s c.args.step c.args.objects.now.entries _ _ c.new-rows.ensures.items
+      (c.into_iter-key-iterator.ensures.into_iter_gives ∙ c.iter-key-items.ensures.rest) can held;
 }
 
 pub loop-key-preserved-then-len-lt-ROWS_AT_ONCE : goal.loop-key-preserved-then-len-lt-ROWS_AT_ONCE
 loop-key-preserved-then-len-lt-ROWS_AT_ONCE g c = record {
   follows = c.loop-key.invariant.follows;
   count = c.loop-key.invariant.count;
-  filling = λ s first held.
-      filling_more (HoldsNow g.S.Store c.loop-key.self) (changed_by s c.args.step (map with_object c.args.objects.now.entries)) c.args.step _ _ _ _ _ _
-      c.in_ok-push.ensures.items c.in-Some.ensures.steps c.in_ok-new_row.ensures.row (c.loop-key.invariant.filling s first held);
+  filling = λ honest s can held.
+      filling_more (HoldsNow g.S.Store c.loop-key.self) c.args.targets (after_filling s c.args.step c.args.objects.now.entries) c.args.step _ _ _ _ _ _
+      c.in_ok-push.ensures.items c.in-Some.ensures.steps c.in_ok-new_row.ensures.row (c.loop-key.invariant.filling honest s can held);
 }
 
 pub loop-key-preserved : goal.loop-key-preserved
 loop-key-preserved g c = record {
   follows = follows_then c.loop-key.invariant.follows c.fill_rows.ensures.follows;
   count = c.fill_rows.ensures.count ∙ c.loop-key.invariant.count;
-  filling = λ s first held.
-      filling_all (HoldsNow g.S.Store c.loop-key.self) (HoldsNow g.S.Store c.fill_rows.new.self) (changed_by s c.args.step (map with_object c.args.objects.now.entries)) c.args.step _ _ _ _
+  filling = λ honest s can held.
+      let end = after_filling s c.args.step c.args.objects.now.entries in
+      filling_all (HoldsNow g.S.Store c.loop-key.self) (HoldsNow g.S.Store c.fill_rows.new.self) c.args.targets end c.args.step _ _ _ _
       c.as_slice.ensures.value c.clear.ensures.items
-      (filling_more (HoldsNow g.S.Store c.loop-key.self) (changed_by s c.args.step (map with_object c.args.objects.now.entries)) c.args.step _ _ _ _ _ _
-      c.in_ok-push.ensures.items c.in-Some.ensures.steps c.in_ok-new_row.ensures.row (c.loop-key.invariant.filling s first held))
-      c.in_ok-fill_rows.ensures.filled;
+      (filling_more (HoldsNow g.S.Store c.loop-key.self) c.args.targets end c.args.step _ _ _ _ _ _
+      c.in_ok-push.ensures.items c.in-Some.ensures.steps c.in_ok-new_row.ensures.row (c.loop-key.invariant.filling (was_honest c.fill_rows.ensures.follows honest) s can held))
+      (c.in_ok-fill_rows.ensures.filled honest);
 }
 
 pub returns-clause-filled : goal.returns-clause-filled
-returns-clause-filled g c = on_ok_weaker c.fill_rows-2.result (λ put s first held.
-    filling_last (HoldsNow g.S.Store c.fill_rows-2.new.self) (changed_by s c.args.step (map with_object c.args.objects.now.entries)) c.args.step [] _ refl c.in-None.ensures.steps.0
-    (filling_all (HoldsNow g.S.Store c.loop-key.self) (HoldsNow g.S.Store c.fill_rows-2.new.self) (changed_by s c.args.step (map with_object c.args.objects.now.entries)) c.args.step _ _ [] _
-    c.as_slice-2.ensures.value refl (c.loop-key.invariant.filling s first held) put))
+returns-clause-filled g c = on_ok_weaker c.fill_rows-2.result (λ put honest s can held.
+    let end = after_filling s c.args.step c.args.objects.now.entries in
+    filling_last (HoldsNow g.S.Store c.fill_rows-2.new.self) c.args.targets end c.args.step [] _ refl c.in-None.ensures.steps.0
+    (filling_all (HoldsNow g.S.Store c.loop-key.self) (HoldsNow g.S.Store c.fill_rows-2.new.self) c.args.targets end c.args.step _ _ [] _
+    c.as_slice-2.ensures.value refl (c.loop-key.invariant.filling (was_honest c.fill_rows-2.ensures.follows honest) s can held) (put honest)))
     c.fill_rows-2.ensures.filled

@@ -7,5 +7,5 @@ pub returns-clause-follows : goal.returns-clause-follows
 returns-clause-follows g c = follows_step (moved c.settle.ensures c.insert_images-done.ensures.part (images_turn _ _)) (λ _ _ _ set. books_images set.only)
 
 pub returns-clause-noted : goal.returns-clause-noted
-returns-clause-noted g c = on_ok c.settle.result _ (λ x is s es are first.
-    holds_step (moved c.settle.ensures c.insert_images-done.ensures.part (images_turn _ _)) is (λ _ _ set. note_all are first set))
+returns-clause-noted g c = on_ok c.settle.result _ (λ x is s rows es images are new.
+    holds_step (moved c.settle.ensures c.insert_images-done.ensures.part (images_turn _ _)) is (λ _ _ set. note_all are new images set))

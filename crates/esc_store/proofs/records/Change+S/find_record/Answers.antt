@@ -1,12 +1,9 @@
+use Rattle.std.proofs.lemmas.Result.{IfOk-weaker}
 use Rattle.esc_store.proofs.Registries.{record_found}
-use Rattle.esc_store.proofs.Sure.{read_settled}
-use Rattle.esc_store.proofs.Looking.{if_ok, follows_look, says_look}
 use Rattle.esc_store.proofs.records.Change+S.find_record.Goals as goal
 
-pub returns-clause-follows : goal.returns-clause-follows
-returns-clause-follows g c = follows_look (read_settled c.settle.ensures c.find_object-found.ensures.read)
-
 pub returns-clause-found : goal.returns-clause-found
-returns-clause-found g c = if_ok c.settle.result _ (λ x is clean s goes.
-    let said = says_look (read_settled c.settle.ensures c.find_object-found.ensures.read) is clean goes in
-    (record_found c.kind_number.ensures c.as_bytes.ensures.value c.k.view_is said.1 said.2, said.1.recorded c.args.k.now, said.3))
+returns-clause-found g c = IfOk-weaker c.find_stored.result _ _ (λ found told clean s goes.
+    let said = told clean s goes in
+    (record_found s c.kind_number.ensures c.as_bytes.ensures.value c.k.view_is said.0, said.1 c.args.k.now, said.2))
+    c.find_stored.ensures.found

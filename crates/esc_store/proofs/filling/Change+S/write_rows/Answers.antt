@@ -1,0 +1,32 @@
+use Rattle.std.proofs.Common.{◌∙◌, ◌∷◌, ◌+◌, map, drop, refl, ap, sym, arith, length-drop}
+use Rattle.std.proofs.lemmas.List.{nil_from_length, drop_more}
+use Rattle.esc_rows.specs.declared.object.NewObject.{NewObject}
+use Rattle.esc_rows.specs.Entries.{new_entry}
+use Rattle.esc_store.specs.Filling.{after_filling}
+use Rattle.esc_store.specs.Standing.{HoldsNow}
+use Rattle.esc_store.proofs.Filled.{follows_then, writing_first, writing_row, writing_last}
+use Rattle.esc_store.proofs.Parking.{follows_same}
+use Rattle.esc_store.proofs.filling.Change+S.write_rows.Goals as goal
+
+pub loop-at-init : goal.loop-at-init
+loop-at-init g c = record {
+  follows = follows_same g.S.Store c.args.self.now;
+  count = refl;
+  writing = λ s step es are held. writing_first (HoldsNow g.S.Store c.args.self.now) s step es _ are held;
+}
+
+pub loop-at-preserved : goal.loop-at-preserved
+loop-at-preserved g c = record {
+  follows = follows_then c.loop-at.invariant.follows c.write_row.ensures.follows;
+  count = c.write_row.ensures.count ∙ c.loop-at.invariant.count;
+  writing = λ s step es are held.
+      let left = drop (c.loop-at.at + 1) c.args.rows.now in
+      let next = drop_more c.args.rows.now c.loop-at.at c.index-rows-at.result c.loop-at-test.true ∙ ap (λ (r : NewObject). r ∷ left) (sym c.index-rows-at.is) in
+      writing_row (HoldsNow g.S.Store c.loop-at.self) (HoldsNow g.S.Store c.write_row.new.self) (after_filling s step es)
+      (new_entry c.index-rows-at.result) _ _ (ap (map new_entry) next) (c.loop-at.invariant.writing s step es are held) c.in_ok-write_row.ensures.put;
+}
+
+pub returns-clause-put : goal.returns-clause-put
+returns-clause-put g c = λ s step es are new held.
+    let none = nil_from_length (drop c.loop-at.at c.args.rows.now) (omega (arith, length-drop c.loop-at.at c.args.rows.now)) in
+    writing_last (HoldsNow g.S.Store c.loop-at.self) (after_filling s step es) _ (ap (map new_entry) none) (c.loop-at.invariant.writing s step es are held)

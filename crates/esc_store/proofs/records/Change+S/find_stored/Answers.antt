@@ -1,0 +1,12 @@
+use Rattle.std.proofs.Common.{◌∙◌}
+use Rattle.esc_store.proofs.Sure.{read_settled}
+use Rattle.esc_store.proofs.Looking.{if_ok, follows_look, says_look}
+use Rattle.esc_store.proofs.records.Change+S.find_stored.Goals as goal
+
+pub returns-clause-follows : goal.returns-clause-follows
+returns-clause-follows g c = follows_look (read_settled c.settle.ensures c.find_object-found.ensures.read)
+
+pub returns-clause-found : goal.returns-clause-found
+returns-clause-found g c = if_ok c.settle.result _ (λ x is clean s goes.
+    let said = says_look (read_settled c.settle.ensures c.find_object-found.ensures.read) is clean goes in
+    (said.2 ∙ said.1.objects c.args.kind c.args.text.now, said.1.recorded, said.3))
