@@ -113,7 +113,8 @@ pub trait Registry {
             → holds self.new (noted s step k.now (option_copied before.entry))) };
 
     /// Puts objects, in place of earlier ones, and notes for the step what each of their keys had;
-    /// nothing may be noted for this step and any of them yet. As many writes as objects.
+    /// nothing may be noted for this step and any of them yet, and with `Targets::Free` none may
+    /// have an object. As many writes as objects.
     fn put_all(
         &mut self,
         alloc: Global,

@@ -19,7 +19,8 @@
 //! | `store`, `founding`, `opening` | a store, how it is made, and how one is found |
 //! | `migrating` | a store of version 1, which becomes one of this version |
 //! | `reads`, `counts` | what a store returns of what it keeps, and the counts that it remembers |
-//! | `change`, `books`, `registry`, `records` | a change: its receipt, body, chain and objects |
+//! | `change`, `books` | a change: its receipt, body and chain |
+//! | `registry`, `records`, `filling` | a change as a registry: objects, one or many at a time |
 //! | `parked`, `moment` | parked bodies and the moment: reads, and parts of a change |
 //! | `listing` | a change: the rows that an amended manifest adds |
 //! | `statements` | a write or a read of the tables: one call of `esc_rows` each |
