@@ -2,7 +2,8 @@
 
 Each function answers a request's bytes and the status that has to come, where that is plain from how they were made, or
 None. A desk here is what has `bodies` and `numbers` for arrivals."""
-import formats, mutations
+import formats
+from fuzzing import damage
 
 
 def head(rng, method, target, lines=(), version='HTTP/1.1', end=b'\r\n'):
@@ -132,7 +133,7 @@ def random_bytes(rng, desk):
 def damaged_request(rng, desk):
     front, _ = rng.choice((good, good, repeated_lines, other_length))(rng, desk)
     at = front.find(b'\n\r\n') + 3
-    damaged = mutations.damaged(rng, front[:at] if rng.random() < 0.8 else front)[0]
+    damaged = damage.damaged(rng, front[:at] if rng.random() < 0.8 else front)[0]
     return damaged + (front[at:] if rng.random() < 0.8 else b''), None
 
 

@@ -3,8 +3,10 @@
 The desk grants a client 10 seconds, and one more for each 65,536 bytes that came or went, and reads for 10 seconds what comes
 after the response. So the good client has to get its whole response within that time, and a margin for the machine; the desk
 has to tell each client that it gave up, and to end by itself with its store as it was."""
-import concurrent.futures, shutil, socket, subprocess, threading, time
-import formats
+import concurrent.futures, os, shutil, socket, subprocess, threading, time
+import formats, release
+from fuzzing.sections import table_of
+from fuzzing.trial import put
 
 FIRST_SECONDS, BYTES_A_SECOND, REST_SECONDS = 10, 65_536, 10
 MARGIN = 5
@@ -133,3 +135,22 @@ def over_each(program, base, told, prepare):
         begun = [pool.submit(over_one, program, base, what, kind, expected, prepare) for what, kind in kinds(longest).items()]
         for it in begun:
             yield it.result()
+
+
+def over_clients(trial):
+    """A client of each kind on a desk of its own, and a good one behind it."""
+    number = 60_000
+    body = table_of(b''.join(b'%059d\n' % key for key in range(number)))
+    store, folder = trial.at('held'), trial.at('held-folder')
+    put(store + '.csv', (release.HEADING + release.line('L', 'FULL', '2024-04-01T00:00:00Z', '', '', body)).encode())
+    put(os.path.join(folder, 'n1'), body)
+    trial.run('init', '--store', store, '--manifest', store + '.csv')
+    trial.run('take', '--store', store, folder)
+    told = {f'/{what}': trial.run('report', '--store', store, what)[1].decode() for what in ('status', 'gaps')}
+    told['/export/contact'] = trial.run('export', '--store', store, 'contact')[1].decode()
+    for what, got, seconds, most, is_right in over_each(trial.program, store, told, trial.bounded):
+        line = f'{what:56} the next client after {seconds:5.1f} s of at most {most:5.1f}'
+        print(line, flush=True)
+        if not is_right:
+            trial.wrong(f'client ({what})', f'the next one within {most} s', got)
+        trial.counts['inputs'] += 1

@@ -1,0 +1,40 @@
+"""Damage to the bytes of any input, seeded: bits flipped, bytes overwritten, put in, cut out, put in twice."""
+
+
+def flipped(random, text):
+    out = bytearray(text)
+    for _ in range(random.choice((1, 1, 1, 2, 8))):
+        out[random.randrange(len(out))] ^= 1 << random.randrange(8)
+    return bytes(out)
+
+
+def overwritten(random, text):
+    at, size = random.randrange(len(text)), random.randint(1, 16)
+    return text[:at] + random.randbytes(size) + text[at + size:]
+
+
+def put_in(random, text):
+    at = random.randrange(len(text) + 1)
+    piece = random.choice((random.randbytes(random.randint(1, 9)), b'\n', b'\r\n', b',', b'"', b'""', b'\0', b'\xef\xbb\xbf',
+                           b' ', b'end\n'))
+    return text[:at] + piece + text[at:]
+
+
+def cut_out(random, text):
+    at = random.randrange(len(text))
+    return text[:at] + text[at + random.choice((1, 1, random.randint(1, 200))):]
+
+
+def twice(random, text):
+    at, to = random.randrange(len(text)), random.randrange(len(text) + 1)
+    piece = text[at:at + random.choice((1, random.randint(1, 400)))]
+    return text[:to] + piece + text[to:]
+
+
+BYTES = (flipped, flipped, overwritten, put_in, cut_out, twice)
+
+
+def damaged(random, text):
+    for _ in range(random.choice((1, 1, 2, 4))):
+        text = random.choice(BYTES)(random, text) if text else text
+    return text, None
