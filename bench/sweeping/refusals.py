@@ -1,0 +1,116 @@
+"""The refusals: a program runs with `refuse.c` loaded into it, once so that its calls are counted, then once for each call that is refused.
+
+Refusals are judged side by side, in processes of their own; what they find wrong comes back to the one that prints."""
+import contextlib, os, pickle, signal, subprocess, tempfile
+
+HERE = os.path.dirname(os.path.abspath(__file__))
+LIMIT = 400
+
+
+class Sweep:
+    """A whole sweep: what was asked of it, the folder in which it works, and how many refusals have passed and failed."""
+
+    def __init__(self, top, given):
+        self.top, self.given = top, given
+        self.work = tempfile.mkdtemp(prefix='sweep-', dir='/dev/shm' if os.path.isdir('/dev/shm') else None)
+        self.library = os.path.join(self.work, 'refuse.so')
+        self.passed, self.failed = 0, 0
+        self.stores, self.port = 0, 30_000
+
+    def build_library(self):
+        """What is loaded into a program, so that a call of it is refused."""
+        subprocess.run(['gcc', '-O2', '-shared', '-fPIC', '-o', self.library, os.path.join(HERE, 'refuse.c'), '-ldl'], check=True)
+
+    def settings(self, at=None, count=None, disk=False):
+        """The environment of a run in which the call with this number is refused, or the calls are counted into this file."""
+        made = dict(os.environ)
+        if at or count:
+            made['LD_PRELOAD'] = self.library
+        if disk:
+            made['REFUSE_DISK'] = '1'
+        if at:
+            made['REFUSE_AT'] = str(at)
+        if count:
+            made['REFUSE_COUNT'] = count
+        return made
+
+    def run(self, *words, program=None, folder=None, **given_settings):
+        """Status, standard output and standard error of a run."""
+        out_path, error_path = (os.path.join(self.work, f'{it}{os.getpid()}') for it in ('out', 'err'))
+        with open(out_path, 'w+b') as out, open(error_path, 'w+b') as error:
+            with subprocess.Popen([program or self.given.restore, *words], env=self.settings(**given_settings), cwd=folder,
+                                  stdin=subprocess.DEVNULL, stdout=out, stderr=error, close_fds=False) as ran, ended_in(300, ran):
+                status = ran.wait()
+            out.seek(0), error.seek(0)
+            return status, out.read().decode(errors='replace'), error.read().decode(errors='replace')
+
+    def own(self):
+        """The path of a store that no other refusal uses."""
+        self.stores += 1
+        return os.path.join(self.work, f'store{os.getpid()}-{self.stores}')
+
+    def next_port(self):
+        """The port after the last one, of those that the system gives to no client."""
+        self.port = self.port + 1 if self.port < 30_000 else 10_000 + os.getpid() % 10_000
+        return self.port
+
+    def count_of(self, tell):
+        """How many calls there are to refuse."""
+        path = self.own()
+        tell(path)
+        with open(path) as file:
+            count = int(file.read())
+        os.remove(path)
+        return count
+
+    def numbers(self, calls, is_whole):
+        """Those of so many calls that are refused, each in turn."""
+        step = 1 if is_whole else self.given.every or max(1, -(-(calls - LIMIT) // max(1, self.given.beyond)))
+        numbers = [*range(1, min(calls, LIMIT) + 1), *range(LIMIT + step, calls + 1, step)]
+        if self.given.some:
+            numbers = numbers[::max(1, -(-len(numbers) // self.given.some))]
+        return numbers
+
+    def refuse(self, name, tell, judge, is_whole):
+        """Refuses calls, one after the other; `judge` says what is wrong with a refusal, or nothing."""
+        if self.given.only not in name:
+            return
+        calls = self.count_of(tell)
+        numbers, jobs = self.numbers(calls, is_whole), self.given.jobs
+        wrong = sorted(it for job in [begin(judge, numbers[at::jobs]) for at in range(jobs)] for it in job())
+        self.passed += len(numbers) - len(wrong)
+        self.failed += len(wrong)
+        print(f'{name}: {len(numbers)} of {calls}, {len(wrong)} failed', flush=True)
+        for at, it in wrong[:5]:
+            print(f'    {at}: {it}', flush=True)
+
+
+@contextlib.contextmanager
+def ended_in(seconds, ran):
+    """Kills what runs longer."""
+    signal.signal(signal.SIGALRM, lambda *_: ran.kill())
+    signal.alarm(seconds)
+    yield
+    signal.alarm(0)
+
+
+def begin(judge, numbers):
+    """Judges these refusals in a process of its own. Returns what waits for it: those that are wrong, and what is."""
+    told, telling = os.pipe()
+    if not (job := os.fork()):
+        # Whatever comes, the parent alone goes on.
+        try:
+            os.close(told)
+            wrong = [(at, repr(it)) for at in numbers if (it := judge(at))]
+            with os.fdopen(telling, 'wb') as pipe:
+                pickle.dump(wrong, pipe)
+        finally:
+            os._exit(0)
+    os.close(telling)
+
+    def wait():
+        with os.fdopen(told, 'rb') as pipe:
+            text = pipe.read()
+        os.waitpid(job, 0)
+        return pickle.loads(text) if text else [(at, 'not judged') for at in numbers]
+    return wait
