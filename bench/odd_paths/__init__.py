@@ -1,0 +1,1 @@
+"""The parts of the trial of odd paths, which `paths.py` runs in turn."""
