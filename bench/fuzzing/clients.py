@@ -1,4 +1,4 @@
-"""Clients that hold their connection to `serve`: each on a desk of its own, with a good client behind it.
+"""Clients that hold their connection to `serve`: each on a desk of its own, with a good client after it.
 
 The desk grants a client 10 seconds, and one more for each 65,536 bytes that came or went, and reads for 10 seconds what comes
 after the response. So the good client has to get its whole response within that time, and a margin for the machine; the desk
@@ -105,7 +105,7 @@ def asked(port, path, seconds):
 
 
 def over_one(program, base, what, kind, expected, prepare):
-    """Holds one connection, and asks behind it. Says what came, how long it took, and whether that is right."""
+    """Holds one connection, and asks on one that comes after it. Says what came, how long it took, and whether that is right."""
     store = f'{base}-{abs(hash(what))}'
     for end in ('', '-wal'):
         shutil.copy(base + end, store + end)
@@ -138,7 +138,7 @@ def over_each(program, base, told, prepare):
 
 
 def over_clients(trial):
-    """A client of each kind on a desk of its own, and a good one behind it."""
+    """A client of each kind on a desk of its own, and a good one after it."""
     number = 60_000
     body = table_of(b''.join(b'%059d\n' % key for key in range(number)))
     store, folder = trial.at('held'), trial.at('held-folder')

@@ -1,7 +1,7 @@
 """The test programs: where memory is refused in one of their tests it passes, or says that memory was refused."""
 import os, re, tempfile
 
-# What a test says that met want of memory: the fault's name, as a crate, the kit or a response has it. One counts the refusals of 228
+# What a test says that ran out of memory: the fault's name, as a crate, the kit or a response has it. One counts the refusals of 228
 # beginnings, and says that one is missing.
 WANT_OF_MEMORY = re.compile(r'out of memory|AllocError|AllocFailed|NoMemory|OutOfMemory|S2|left: 255|"227 beginnings"')
 # The files of these tests are in memory. Where memory is refused to a file it is a disk that fails: S1, or the database's name for it.

@@ -1,4 +1,4 @@
--- New rows whose parked bodies are adopted: no body was held of them, each is there once, and behind the rows that had a body they are those that have one then.
+-- New rows whose parked bodies are adopted: no body was held of them, each is there once, and after the rows that had a body they are those that have one then.
 use Rattle.std.proofs.Common.{◌≡◌, ◌≢◌, ◌⊎◌, inl, inr, ℕ, zero, suc, ◌+◌, ◌-◌, ◌<◌, ◌≤◌, Bool, true, false, cond, filter, List, [], ◌∷◌, ◌++◌, length, nat_lt}
 use Rattle.std.proofs.Common.{Option, Some, None, is_some, IsSome, refl, sym, ap, ap₂, ◌∙◌, arith, true≢false}
 use Rattle.std.specs.List.{All, Contains}

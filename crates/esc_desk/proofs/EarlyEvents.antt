@@ -1,4 +1,4 @@
--- One early arrival more; and which of the arrivals count, with one more behind them.
+-- One early arrival more; and which of the arrivals count, with one more after them.
 use Rattle.std.proofs.Common.{◌≡◌, ℤ, not, filter, List, [], ◌∷◌, ◌++◌, map, Option, None, refl, ap, ◌∙◌}
 use Rattle.std.proofs.lemmas.List.Elements.{filter-append}
 use Rattle.sha2.specs.Sha256.{sha256}

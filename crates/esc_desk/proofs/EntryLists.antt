@@ -56,7 +56,7 @@ Pass p es = AllByRecursion (λ (e : Entry). p e ≡ true) es
 pub pass_too : (p q : Entry → Bool) → ((e : Entry) → p e ≡ true → q e ≡ true) → (es : List Entry) → Pass p es → Pass q es
 pass_too p q f es all = weaker (λ (e : Entry). p e ≡ true) (λ (e : Entry). q e ≡ true) f es all
 
--- each key is below those behind it
+-- each key is below those after it
 abbrev pub Rises : List Entry → Type 0
 Rises [] = Unit {0}
 Rises (e ∷ es) = AreAbove e.0 es × Rises es
@@ -103,7 +103,7 @@ above-append : (k : KeyName) (xs ys : List Entry) → AreAbove k xs → AreAbove
 above-append k [] ys above then = then
 above-append k (a ∷ xs) ys above then = (above.0, above-append k xs ys above.1 then)
 
--- entries and then others that are behind each of them
+-- entries and then others that come after each of them
 pub rises-append : (p q : Entry → Bool) → ((a b : Entry) → p a ≡ true → q b ≡ true → key_cmp a.0 b.0 ≡ Less) → (xs ys : List Entry)
     → Rises xs → Rises ys → Pass p xs → Pass q ys → Rises (xs ++ ys)
 rises-append p q below [] ys up then ps qs = then

@@ -128,7 +128,7 @@ module _ (rows : List MRow) (parked : List ℕ → Option (List ℕ)) where
       next : suc row ≡ row + 1
       next = omega arith
 
-  -- those of the rows that pass a test: what passes of one row is put behind what was found before it
+  -- those of the rows that pass a test: what passes of one row is appended to what was found before it
   one_more : (p : ℕ → Bool) (row : ℕ) (here : List ℕ) → row < length rows → ((l : List ℕ) → filter p (row ∷ l) ≡ here ++ filter p l)
       → {whole after : List ℕ} (before : List ℕ) → after ≡ before ++ here → before ++ filter p (numbers_from row (length rows - row)) ≡ whole
       → after ++ filter p (numbers_from (row + 1) (length rows - (row + 1))) ≡ whole

@@ -45,7 +45,7 @@ use Rattle.esc_events.proofs.HeldRows.{same_test, same_self, same_number, is_row
 use Rattle.esc_events.proofs.Searches.{same_answer, no_answer}
 use Rattle.esc_desk.specs.Knowing.{IsInserted}
 
--- ---- one of a list, and of one more behind it
+-- ---- one of a list, and of one more after it
 
 any-front : (P : ReceiptValue → Type 0) (rs : List ReceiptValue) (r : ReceiptValue) → Any P rs → Any P (rs ++ r ∷ [])
 any-front P [] r any = absurd (omega (arith, any.2))

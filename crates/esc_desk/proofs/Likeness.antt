@@ -1,4 +1,4 @@
--- An arrival that is like an earlier one, and whose body is there or needn't be, changes nothing, whatever one event comes behind it.
+-- An arrival that is like an earlier one, and whose body is there or needn't be, changes nothing, whatever one event comes after it.
 use Rattle.std.proofs.Common.{
   ◌≡◌,
   ◌⊎◌,
@@ -86,7 +86,7 @@ holding m r c = holds_by sha256 reading m r c
 abbrev under : List ℕ → Coming → Bool
 under d c = has_digest sha256 reading d c
 
--- where two lists find the same, they do so with the same list behind them
+-- where two lists find the same, they do so with the same list after them
 find-both : (p : Coming → Bool) (xs zs ys : List Coming) → find p xs ≡ find p zs → find p (xs ++ ys) ≡ find p (zs ++ ys)
 find-both p xs zs ys same = by_find (find p xs) refl
   where
@@ -157,7 +157,7 @@ module _ (l : List Coming) (c : Coming) (was : list_any (like c) l ≡ true) whe
       by_test true same = or_true _ ∙ sym (list_any_congr (alike_laws sha256 reading) x c l same ∙ was)
       by_test false other = or_false _
 
-  -- with another behind it
+  -- with another after it
   two_more_seen : (x : Coming) → first_ones ((l ++ c ∷ []) ++ x ∷ []) ≡ first_ones (l ++ x ∷ [])
   two_more_seen x =
       distinct-push sha256 reading (l ++ c ∷ []) x
@@ -290,7 +290,7 @@ module _ (e : List EventValue) (a : ArrivalValue) (k : Kept) (none : AddsNothing
   count_then : kept_arrivals sha256 reading then ≡ before ++ came ∷ []
   count_then = ap counting (comings-arrived e a) ∙ counting-append (comings e) (came ∷ [])
 
-  -- and where another comes behind it
+  -- and where another comes after it
   count_with : (other : Coming) → counting ((comings e ++ came ∷ []) ++ other ∷ []) ≡ (before ++ came ∷ []) ++ counting (other ∷ [])
   count_with other =
       counting-append (comings e ++ came ∷ []) (other ∷ [])
@@ -312,7 +312,7 @@ module _ (e : List EventValue) (a : ArrivalValue) (k : Kept) (none : AddsNothing
       } in
       stands_as none.there one k stood
 
-  -- also where another event comes behind it
+  -- also where another event comes after it
   pub still_stands_with : (x : EventValue) → StandsFor sha256 reading (e ++ x ∷ []) k → StandsFor sha256 reading (then ++ x ∷ []) k
   still_stands_with (listed more) stood =
       let with = comings-listed then more ∙ comings-arrived e a in

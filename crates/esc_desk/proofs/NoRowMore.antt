@@ -1,4 +1,4 @@
--- An amendment that lists no row more changes nothing, whatever one event comes behind it; and what a crash leaves after an amendment.
+-- An amendment that lists no row more changes nothing, whatever one event comes after it; and what a crash leaves after an amendment.
 use Rattle.std.proofs.Common.{
   ◌≡◌,
   ◌≢◌,
@@ -74,7 +74,7 @@ books_alike {e} {f} {k} same books = record {
 pub stands_alike : {e f : List EventValue} {k : Kept} → AreAlike e f → StandsFor sha256 reading e k → StandsFor sha256 reading f k
 stands_alike {e} {f} {k} same stood = stands_still e f k k stood (books_alike same stood.books) refl refl refl refl refl
 
--- with one more event behind both
+-- with one more event after both
 alike_with : {e f : List EventValue} → AreAlike e f → (x : EventValue) → AreAlike (e ++ x ∷ []) (f ++ x ∷ [])
 alike_with {e} {f} same (listed more) = record {
   rows = union-listed f more ∙ ap (λ (m : List MRow). extended m more) same.rows ∙ sym (union-listed e more);

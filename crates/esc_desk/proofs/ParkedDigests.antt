@@ -19,7 +19,7 @@ not_both t u first second = let e : Less ≡ Greater = sym first ∙ nat_list_cm
 no_element : (t : List ℕ) → Contains [] t → ⊥
 no_element t there = absurd (omega (arith, there.1))
 
--- behind one first text, what is in one list is in the other
+-- after one first text, what is in one list is in the other
 behind_too : (t u : List ℕ) (ts us : List (List ℕ)) → t ≡ u → All (λ (x : List ℕ). Below t x) ts
     → ((d : List ℕ) → Contains (t ∷ ts) d → Contains (u ∷ us) d) → (d : List ℕ) → Contains ts d → Contains us d
 behind_too t u ts us one up there d at = by_first (first_or_later u d us (there d (later t d ts at)))

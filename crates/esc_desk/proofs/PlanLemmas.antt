@@ -6,7 +6,7 @@ use Rattle.esc_apply.specs.declared.front.Step.{Step}
 use Rattle.esc_tables.specs.DepositValue.{DepositValue}
 use Rattle.esc_events.specs.Plans.{rows_in}
 
--- one deposit behind others
+-- one deposit after others
 pub one_longer : (found more : List DepositValue) (d : DepositValue) (n : ℕ) → more ≡ found ++ d ∷ [] → length found ≡ n → length more ≡ n + 1
 one_longer found more d n added count = ap length added ∙ length-append found (d ∷ []) ∙ ap (λ (k : ℕ). k + 1) count
 

@@ -123,7 +123,7 @@ module _ (all more : List EventValue) (keep : RepliesStay all more) where
   answers_kept e (x ∷ xs) [] are = are
   answers_kept e (x ∷ xs) (o ∷ os) are = (answer_kept e x o are.0, answers_kept (e ++ taken_by x o) xs os are.1)
 
--- where one event x with its outcome o is behind others
+-- where one event x with its outcome o comes after others
 module _ (x : Event) (o : EventOutcome) (all : List EventValue) where
   answers_more : (e : List EventValue) (xs : List Event) (os : List EventOutcome)
       → AreAnswers e all xs os → IsAnswer (e ++ taken_in xs os) all x o → AreAnswers e all (xs ++ x ∷ []) (os ++ o ∷ [])

@@ -121,7 +121,7 @@ module _ {S : Type 0} {g : Ghosts S} {store : Store S} {pages : Pages} {es : Lis
       )
 
 module _ {S : Type 0} (g : Ghosts S) where
-  -- the page at hand was used up, and the one behind it was read
+  -- the page at hand was used up, and the one after it was read
   pub turned : (old new : Store S) (pages later : Pages) (es : List Entry) (kind : Kind) (page : List Entry)
       → IsAsBefore g old new → AreToCome g old pages es → into_iter_items pages.page ≡ [] → pages.kind ≡ Some kind
       → ((k : Kept) → Stands g old k → IsPage k.registry.content kind pages.from.items page)

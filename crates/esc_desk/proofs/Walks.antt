@@ -22,7 +22,7 @@ use Rattle.esc_desk.specs.Places.{first_kind, later_kind, IsPlaceBehind}
 use Rattle.esc_desk.specs.Walking.{of_kinds, is_behind, AreBehind}
 use Rattle.esc_desk.proofs.EntryLists.{Pass, in_order, rises, rises-filter, rises-append, all_passed, lookup-append, is_found, each_found, same_entries, pass_too}
 
--- ---- the bytes behind some bytes
+-- ---- the bytes after some bytes
 
 above_nothing : (a : List ℕ) → is_ge (slice_cmp nat_cmp a []) ≡ true
 above_nothing [] = refl
@@ -37,7 +37,7 @@ is_up_to last a = is_le (slice_cmp nat_cmp a last)
 abbrev is_past : List ℕ → List ℕ → Bool
 is_past last a = is_from (last ++ 0 ∷ []) a
 
--- a text is at the first bytes behind others just where it is not up to those
+-- a text is at the first bytes after others just where it is not up to those
 past_is : (last a : List ℕ) → is_past last a ≡ not (is_up_to last a)
 past_is [] [] = refl
 past_is [] (zero ∷ a) = above_nothing a
@@ -51,7 +51,7 @@ past_is (y ∷ last) (x ∷ a) = by_order (nat_cmp x y) (past_is last a)
     by_order Equal more = more
     by_order Greater more = refl
 
--- ---- a page and what is behind it
+-- ---- a page and what comes after it
 
 -- how a key's kind stands to another
 abbrev place : Kind → KeyName → Ordering
@@ -75,7 +75,7 @@ module _ (content : Content) (kind : Kind) (from : List ℕ) (alone : Bool) wher
     abbrev behind : KeyName → Bool
     behind q = is_behind (Some kind) (last ++ 0 ∷ []) alone q
 
-    -- what there is from a place on is on the page or behind it
+    -- what there is from a place on is on the page or comes after it
     abbrev Joined : KeyName → Type 0
     Joined q = left content (Some kind) from alone q
         ≡ option_or (cond (on_page q) (content q) None) (cond (behind q) (left content (Some kind) from alone q) None)
@@ -119,7 +119,7 @@ module _ (content : Content) (kind : Kind) (from : List ℕ) (alone : Bool) wher
         → ((kind_rank kind == kind_rank q.kind) ≡ true) × (is_from from q.text ≡ true) × (is_up_to last q.text ≡ true)
     parts q on = conjuncts (kind_rank kind == kind_rank q.kind) (is_from from q.text) (is_up_to last q.text) on
 
-    -- behind the last, so not up to it
+    -- after the last, so not up to it
     above_last : (a : List ℕ) → is_past last a ≡ true → slice_cmp nat_cmp last a ≡ Less
     above_last a past = nat_list_cmp_total.antisymm last a ∙ by_order (slice_cmp nat_cmp a last) (sym (past_is last a) ∙ past)
       where
@@ -136,7 +136,7 @@ module _ (content : Content) (kind : Kind) (from : List ℕ) (alone : Bool) wher
         by_order Equal e = nat_list_cmp_total.congr a last b e ∙ low
         by_order Greater e = absurd (true≢false (sym (rw e at up)))
 
-    -- a key of the page is below each that is behind it
+    -- a key of the page is below each that comes after it
     below : (a b : KeyName) → on_page a ≡ true → behind b ≡ true → key_cmp a b ≡ Less
     below a b on past =
         let is = parts a on in
@@ -193,7 +193,7 @@ module _ (content : Content) (kind : Kind) (from : List ℕ) (alone : Bool) wher
         by_last Equal is = refl
         by_last Greater is = absurd (true≢false is)
 
-    -- what is behind the page was behind its first bytes
+    -- what comes after the page came after its first bytes
     abbrev StillBehind : KeyName → Type 0
     StillBehind q = cond (behind q) (left content (Some kind) from alone q) None ≡ cond (behind q) (content q) None
 
@@ -209,7 +209,7 @@ module _ (content : Content) (kind : Kind) (from : List ℕ) (alone : Bool) wher
         by_order Equal e = rw e (tested (is_past last q.text) (is_from from q.text) (content q) (past_from q.text here))
         by_order Greater e = rw e (tested (not alone) (not alone) (content q) (λ is. is))
 
-    -- the page comes first, and then what is behind it
+    -- the page comes first, and then what comes after it
     pub split : (page es : List Entry) → last_text page ≡ Some last → IsPage content kind from page → AreBehind content (Some kind) from alone es
         → (rest : List Entry) × (es ≡ page ++ rest) × AreBehind content (Some kind) (last ++ 0 ∷ []) alone rest
     split page es is told are =
@@ -324,7 +324,7 @@ no_entry [] is = refl
 no_entry (e ∷ []) is = absurd cc
 no_entry (e ∷ f ∷ page) is = let none = no_entry (f ∷ page) is in absurd cc
 
--- the entries from a place on are those of the page that begins there, and then those from the place behind it on
+-- the entries from a place on are those of the page that begins there, and then those from the place after it on
 pub page_turned : {content : Content} {kind : Kind} {from : List ℕ} {alone : Bool} {page es : List Entry} (next : Option Kind) (after : List ℕ)
     → IsPage content kind from page → IsPlaceBehind kind alone page next after → AreBehind content (Some kind) from alone es
     → (rest : List Entry) × (es ≡ page ++ rest) × AreBehind content next after alone rest

@@ -32,7 +32,7 @@ use Rattle.esc_rows.proofs.Statements.{leaves}
 use Rattle.esc_rows.proofs.Typed.{stored, put_typed, next_typed}
 use Rattle.esc_rows.proofs.NumberLemmas.{insert_last}
 
--- the parameters of a row stand behind those of the rows before it
+-- the parameters of a row come after those of the rows before it
 pub column_behind : (before row : Row) (at : ℕ) → column (before ++ row) (length before + at) ≡ column row at
 column_behind [] row at = let none : 0 + at ≡ at = omega arith in ap (column row) none
 column_behind (v ∷ before) row at = let more : suc (length before) + at ≡ suc (length before + at) = omega arith in ap (column (v ∷ (before ++ row))) more ∙ column_behind before row at
@@ -83,7 +83,7 @@ module _ {X E : Type 0} (make : ℕ → E → X) (key : X → ℤ) (id : X → �
   next_after n [] x = refl
   next_after n (y ∷ xs) x = next_after (id y + 1) xs x
 
-  -- they are numbered from the next number on, and stand behind the others
+  -- they are numbered from the next number on, and come after the others
   puts_all : (es : List E) (xs : List X) → IsKeyedBy key xs → let all = xs ++ made make (next_id id xs) es in
       (put_all (map (stored key rest) xs) (numbered Chosen (map (stored key rest) xs) (map (λ e. Null ∷ cols e) es)) ≡ map (stored key rest) all) × IsKeyedBy key all
   puts_all [] xs up = rw (append-nil xs) (refl, up)

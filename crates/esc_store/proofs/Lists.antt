@@ -20,7 +20,7 @@ use Rattle.esc_store.proofs.Standings.{survives_same}
 use Rattle.esc_store.proofs.Manifests.{listed_push}
 use Rattle.esc_store.proofs.RowSteps.{Becoming}
 
--- rows are below one behind them
+-- rows are below one that comes after them
 all_below : (n m : ℕ) (rs : List MRow) → length rs + n ≤ m → AllByRecursion (λ (x : ListedRow). listed_number x <ℤ pos m) (listed_from n rs)
 all_below n m [] h = tt
 all_below n m (r ∷ rs) h = (omega (arith, ints, h), all_below (suc n) m rs (omega (arith, h)))

@@ -78,7 +78,7 @@ fn end_of(rows: &[Row], chain: &[usize]) -> Option<Place> {
     Some(row.header.place)
 }
 
-// Whether a row may stand behind a chain.
+// Whether a row may follow a chain.
 fn follows(rows: &[Row], chain: &[usize], row: &Row) -> bool {
     match (base_of(rows, row), end_of(rows, chain)) {
         (Base::Nothing, None) => true,

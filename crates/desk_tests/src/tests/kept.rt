@@ -74,7 +74,7 @@ fn put_row<S: Alter>(
     Ok(())
 }
 
-// What the receipt says that stands behind so many others.
+// What the receipt says that comes after `before` others.
 fn answer_of(
     bodies: &[Body],
     rows: &[Row],

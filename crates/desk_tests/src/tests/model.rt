@@ -130,7 +130,7 @@ fn tell_holding(
     Ok(())
 }
 
-// The line of the receipt that stands behind so many others.
+// The line of the receipt that comes after `before` others.
 fn tell_receipt(
     text: &mut String,
     bodies: &[Body],

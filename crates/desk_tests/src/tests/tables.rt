@@ -137,7 +137,7 @@ fn count_mentions(deposit: &Body) -> u64 {
     count
 }
 
-// The mentions of a chain's deposits behind its first ones.
+// The mentions of a chain's deposits after its first ones.
 fn mentions_past(
     bodies: &[Body],
     rows: &[Row],

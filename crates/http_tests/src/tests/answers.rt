@@ -55,7 +55,7 @@ static ANSWERS: [(
         RECEIPTS,
         2,
     ),
-    // No more is read than the answer needs: all of a request without a body, and nothing behind a
+    // No more is read than the answer needs: all of a request without a body, and nothing after a
     // body.
     (
         &[],

@@ -40,7 +40,7 @@ impl Pipe {
         }
     }
 
-    /// Notes whether an error is want of memory.
+    /// Notes whether an error says that memory was refused.
     pub fn note(&mut self, error: &io::Error) {
         if error.kind() == io::ErrorKind::OutOfMemory {
             self.lacks_memory = true;
