@@ -32,16 +32,12 @@ def mutated_release(rng, many):
         else:
             told = dict(id=name, type=kind, watermark=watermark, **({'prevId': prev} if prev else {}))
             body = release.delta(world, told, 6)
-        made = Listed(*reordered(bundles.bundle(rng, body)), (name, kind, watermark, prev))
+        mutation, body, known = bundles.bundle(rng, body)
+        made = Listed(mutation, known, body, (name, kind, watermark, prev))
         if made.digest not in seen:
             seen.add(made.digest)
             rows.append(made)
     return rows
-
-
-def reordered(made):
-    mutation, body, known = made
-    return mutation, known, body
 
 
 def names(rng, many):
