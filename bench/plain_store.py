@@ -9,6 +9,8 @@ it is S3, and left as it was. It needs python3 alone, and the program, which `./
 what differs."""
 import argparse, csv, datetime, os, shutil, sqlite3, subprocess, sys, tempfile
 
+from formats import KINDS
+
 HERE = os.path.dirname(os.path.abspath(__file__))
 SAMPLE = os.path.join(HERE, '..', 'samples', 'first')
 TABLES = {
@@ -26,7 +28,6 @@ TABLES = {
 }
 ANOTHER_ORDER = ('listed', 'info', *list(TABLES)[2:])
 TYPES = {'DIFF': 0, 'INCR': 1, 'FULL': 2}
-KINDS = ('registrar', 'contact', 'host', 'domain', 'idn', 'nndn')
 REPORTS = [('report', what) for what in ('status', 'gaps', 'links', 'receipts', 'parked')] + [('export', kind) for kind in KINDS]
 
 arguments = argparse.ArgumentParser(description=__doc__, formatter_class=argparse.RawDescriptionHelpFormatter)

@@ -9,8 +9,9 @@ The disks need root and mkfs.ext2; without them they are left out. It needs pyth
 last line is 'N stops, M undisturbed, wrong K'."""
 import argparse, os, random, shutil, sqlite3, subprocess, sys, tempfile, time
 
+from formats import KINDS
+
 HERE = os.path.dirname(os.path.abspath(__file__))
-KINDS = ('registrar', 'contact', 'host', 'domain', 'idn', 'nndn')
 arguments = argparse.ArgumentParser(description=__doc__.split('\n')[0])
 arguments.add_argument('--restore', default=os.path.join(HERE, '..', 'crates', 'restore', 'out', 'restore'))
 arguments.add_argument('--kills', type=int, default=100)

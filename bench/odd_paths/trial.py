@@ -1,10 +1,11 @@
 """One trial of the program: the folder it works in, runs with their limits, and what came of the cases."""
 import contextlib, os, resource, shutil, sqlite3, subprocess, tempfile
 
+from formats import KINDS
+
 from .answers import HEADING, LISTED
 from .files import DEPOSITS, MANIFEST
 
-KINDS = ('registrar', 'contact', 'host', 'domain', 'idn', 'nndn')
 GIGABYTE = 2**30
 
 

@@ -1,8 +1,8 @@
 """What a command does where a call is refused: what it does undisturbed, or the fault after a beginning of what it prints. The same
 again, undisturbed, gives what it gives at first, and leaves the same rows."""
+from formats import KINDS
 from sweeping.stores import Again, copy, told
 
-KINDS = ('registrar', 'contact', 'host', 'domain', 'idn', 'nndn')
 REPORTS = ('status', 'gaps', 'links', 'receipts', 'parked')
 
 

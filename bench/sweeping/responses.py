@@ -1,7 +1,8 @@
 """What a client of `serve` sees where memory is refused: the whole response, or 503 `S2`. The same request to the store that is left
 then gets the whole response, and the store has the same rows."""
 import os, socket, subprocess
-from sweeping.commands import KINDS, REPORTS
+from formats import KINDS
+from sweeping.commands import REPORTS
 from sweeping.refusals import ended_in
 from sweeping.stores import Again, copy, told
 
