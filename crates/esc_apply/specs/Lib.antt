@@ -4,6 +4,6 @@ pub mod Front
 pub mod Images
 pub mod Memory
 pub mod Moves
-pub mod Objects
+pub mod ObjectStreams
 pub mod Registry
 pub mod Tables

@@ -1,7 +1,7 @@
 //! The objects of a map in memory.
 
 ghost use Rattle.std.specs.Prelude.{◌≡◌};
-ghost use Rattle.esc_apply.specs.Objects.{InOrder};
+ghost use Rattle.esc_apply.specs.ObjectStreams.{InOrder};
 
 use crate::objects::Objects;
 use esc_bundle::NoMemory;
@@ -18,7 +18,7 @@ pub struct MapObjects {
 
 impl Model for MapObjects {
     ghost use Rattle.std.specs.Prelude.{List};
-    ghost use Rattle.esc_apply.specs.Objects.{Entry};
+    ghost use Rattle.esc_apply.specs.ObjectStreams.{Entry};
 
     ghost Value = { List Entry };
 

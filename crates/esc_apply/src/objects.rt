@@ -1,7 +1,7 @@
 //! Objects that are given one at a time.
 
 ghost use Rattle.std.specs.Prelude.{ℕ, ◌<◌, List, IfOk, IfErr, OnOk, OnErr, IsSome, ⊤};
-ghost use Rattle.esc_apply.specs.Objects.{Entry, Gives, InOrder};
+ghost use Rattle.esc_apply.specs.ObjectStreams.{Entry, Gives, InOrder};
 
 use esc_tables::{Key, Object};
 

@@ -6,7 +6,7 @@ use Rattle.esc_bundle.specs.declared.section.Section.{Section}
 use Rattle.esc_bundle.specs.declared.fault.Fault.{Fault}
 use Rattle.esc_bundle.specs.declared.fault.Fault.TheVariants.{Refused, NoMemory}
 use Rattle.esc_bundle.specs.Bundle.{Named, views, IsBundle}
-use Rattle.esc_bundle.specs.Steps.{GivesOrNoMemory}
+use Rattle.esc_bundle.specs.Tests.{GivesOrNoMemory}
 use Rattle.esc_bundle.specs.Reading.{IsFault}
 use Rattle.esc_bundle.specs.Frame.{frame}
 use Rattle.esc_bundle.proofs.StepFacts.{done_is, done_or_fault}

@@ -6,7 +6,7 @@ use Rattle.std.specs.Str.{bytes_eq}
 use Rattle.std.specs.Str.Parse.{digits_value}
 use Rattle.std.proofs.lemmas.Bool.{cases_Bool}
 use Rattle.esc_bundle.specs.Bundle.{Named, limit, last_line, envelope_name, is_name, is_length}
-use Rattle.esc_bundle.specs.Steps.{◌>>=◌, check, or_fault}
+use Rattle.esc_bundle.specs.Tests.{◌>>=◌, check, or_fault}
 use Rattle.esc_bundle.specs.Reading.{parted, stands_at, length_at, section_at, end_at, next_at, IsFault}
 
 -- a fault, if there is one, is U1 to U4

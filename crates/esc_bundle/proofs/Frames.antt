@@ -13,7 +13,7 @@ use Rattle.esc_bundle.specs.Frame.{frame_after, frame}
 use Rattle.esc_bundle.proofs.StepFacts.{check_done, done, done_is}
 use Rattle.esc_bundle.proofs.SectionTexts.{section_takes, sections_push, no_sections}
 use Rattle.esc_bundle.proofs.OneReading.{more_of, no_more, one_list, no_bundle_fault, one_fault}
-use Rattle.esc_bundle.specs.StepLaws.{bind_done}
+use Rattle.esc_bundle.specs.TestLaws.{bind_done}
 
 -- ---- what is at a place
 

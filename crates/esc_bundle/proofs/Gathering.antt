@@ -5,7 +5,7 @@ use Rattle.esc_bundle.specs.declared.section.Section.{Section}
 use Rattle.esc_bundle.specs.declared.fault.Fault.{Fault}
 use Rattle.esc_bundle.specs.declared.fault.Fault.TheVariants.{Refused}
 use Rattle.esc_bundle.specs.Bundle.{Named, view, views}
-use Rattle.esc_bundle.specs.Steps.{Refuses}
+use Rattle.esc_bundle.specs.Tests.{Refuses}
 use Rattle.esc_bundle.specs.Reading.{next_at}
 use Rattle.esc_bundle.specs.Frame.{frame_after}
 use Rattle.esc_bundle.proofs.OneReading.{more_of, no_more}

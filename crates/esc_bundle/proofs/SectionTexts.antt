@@ -14,13 +14,13 @@ use Rattle.std.proofs.lemmas.List.Elements.{All-push}
 use Rattle.std.proofs.lemmas.List.Quantifiers.{all_pairs_push}
 use Rattle.std.proofs.lemmas.Option.{same_Some}
 use Rattle.esc_bundle.specs.Bundle.{Named, limit, is_name, is_length, envelope_name, section_text, AreSections}
-use Rattle.esc_bundle.specs.Steps.{or_fault}
+use Rattle.esc_bundle.specs.Tests.{or_fault}
 use Rattle.esc_bundle.specs.Reading.{parted, stands_at, length_at, section_at}
 use Rattle.esc_bundle.proofs.StepFacts.{check_done, value_there, done_is}
 use Rattle.esc_bundle.proofs.Words.{with_byte}
 use Rattle.esc_bundle.proofs.Standing.{MayStand, stands_takes}
 use Rattle.esc_bundle.specs.ListLaws.{digits_model}
-use Rattle.esc_bundle.specs.StepLaws.{bind_done}
+use Rattle.esc_bundle.specs.TestLaws.{bind_done}
 
 -- a section may come after these
 abbrev pub MayFollow : List Named → Named → Type 0

@@ -9,10 +9,10 @@ use Rattle.std.proofs.lemmas.Bool.Decides.{nat_tests}
 use Rattle.std.proofs.lemmas.Slice.Eq.{bytes_eq-Decides}
 use Rattle.esc_bundle.specs.Bundle.{Named, limit, envelope_name, is_name, is_length}
 use Rattle.esc_bundle.specs.declared.fault.Fault.{Fault}
-use Rattle.esc_bundle.specs.Steps.{Refuses}
+use Rattle.esc_bundle.specs.Tests.{Refuses}
 use Rattle.esc_bundle.specs.Reading.{stands_at, length_at}
 use Rattle.esc_bundle.proofs.StepFacts.{check_done, refused_first}
-use Rattle.esc_bundle.specs.StepLaws.{check_passed}
+use Rattle.esc_bundle.specs.TestLaws.{check_passed}
 
 -- a section of this name and length may come after these
 pub record MayStand (before : List Named) (name : List ℕ) (size : ℕ) : Type 0 where

@@ -2,7 +2,7 @@
 use Rattle.std.proofs.Common.{◌≡◌, ℕ, Bool, true, false, Option, Some, None, Result, Ok, Err, refl, ap}
 use Rattle.esc_bundle.specs.declared.fault.Fault.{Fault}
 use Rattle.esc_bundle.specs.declared.fault.Fault.TheVariants.{Refused, NoMemory}
-use Rattle.esc_bundle.specs.Steps.{◌>>=◌, check, or_fault, Refuses}
+use Rattle.esc_bundle.specs.Tests.{◌>>=◌, check, or_fault, Refuses}
 
 -- ---- of two tests
 

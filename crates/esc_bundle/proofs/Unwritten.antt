@@ -15,7 +15,7 @@ use Rattle.esc_bundle.proofs.OneReading.{may_follow, move_over}
 use Rattle.esc_bundle.proofs.SectionTexts.{sections_push, no_sections}
 use Rattle.esc_bundle.proofs.Standing.{stands_takes, stands_again}
 use Rattle.esc_bundle.proofs.Written.{in_order_takes, in_order_again, over_limit_is, bundle_of_none, bundle_of_some}
-use Rattle.esc_bundle.specs.StepLaws.{bind_fault}
+use Rattle.esc_bundle.specs.TestLaws.{bind_fault}
 
 within_limit_refuses : (text : List ℕ) (n : ℕ) → within_limit text ≡ Err n → (limit < length text) × (n ≡ 4)
 unfolding within_limit

@@ -11,14 +11,14 @@ use Rattle.esc_bundle.specs.declared.section.Section.{Section}
 use Rattle.esc_bundle.specs.declared.fault.Fault.{Fault}
 use Rattle.esc_bundle.specs.declared.fault.Fault.TheVariants.{Refused, NoMemory}
 use Rattle.esc_bundle.specs.Bundle.{Named, view, views, limit, first_line, last_line, section_text, beginning_text, bundle_text, AreSections, IsBundle}
-use Rattle.esc_bundle.specs.Steps.{◌>>=◌, GivesOrNoMemory}
+use Rattle.esc_bundle.specs.Tests.{◌>>=◌, GivesOrNoMemory}
 use Rattle.esc_bundle.specs.Reading.{stands_at}
 use Rattle.esc_bundle.specs.Writing.{named, in_order, within_limit, bundle_of}
 use Rattle.esc_bundle.proofs.StepFacts.{check_done, done, done_is, done_or_fault}
 use Rattle.esc_bundle.proofs.Standing.{stands_takes, stands_again}
 use Rattle.esc_bundle.proofs.SectionTexts.{sections_push, no_sections}
 use Rattle.esc_bundle.proofs.OneReading.{may_follow, move_over}
-use Rattle.esc_bundle.specs.StepLaws.{bind_done}
+use Rattle.esc_bundle.specs.TestLaws.{bind_done}
 
 -- ---- sections in order
 

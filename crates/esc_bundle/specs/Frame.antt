@@ -18,7 +18,7 @@ use Rattle.std.specs.Prelude.{
 use Rattle.std.specs.List.{starts_with}
 use Rattle.std.specs.Option.{option_map_or}
 use Rattle.esc_bundle.specs.Bundle.{Named, limit, first_line}
-use Rattle.esc_bundle.specs.Steps.{◌>>=◌, check}
+use Rattle.esc_bundle.specs.Tests.{◌>>=◌, check}
 use Rattle.esc_bundle.specs.Reading.{next_at}
 
 -- these sections and those that come after them, read in n steps at most: one for each section, and

@@ -1,8 +1,8 @@
 pub mod Bundle
-pub mod Steps
+pub mod Tests
 pub mod Reading
 pub mod Frame
 pub mod Writing
 pub mod Codes
 pub mod ListLaws
-pub mod StepLaws
+pub mod TestLaws

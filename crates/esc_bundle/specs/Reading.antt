@@ -45,7 +45,7 @@ use Rattle.esc_bundle.specs.Bundle.{
   AreSections,
   beginning_text,
 }
-use Rattle.esc_bundle.specs.Steps.{◌>>=◌, check, or_fault}
+use Rattle.esc_bundle.specs.Tests.{◌>>=◌, check, or_fault}
 
 -- the bytes before and after the first c, if there is one
 abbrev pub parted : ℕ → List ℕ → Option (List ℕ × List ℕ)

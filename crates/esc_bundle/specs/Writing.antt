@@ -21,7 +21,7 @@ use Rattle.std.specs.Prelude.{
 use Rattle.std.specs.Global.{Vec}
 use Rattle.std.specs.declared.alloc.Global.{Global}
 use Rattle.esc_bundle.specs.Bundle.{Named, limit, bundle_text, AreSections}
-use Rattle.esc_bundle.specs.Steps.{◌>>=◌, check}
+use Rattle.esc_bundle.specs.Tests.{◌>>=◌, check}
 use Rattle.esc_bundle.specs.Reading.{stands_at}
 
 -- a name and bytes, as a section

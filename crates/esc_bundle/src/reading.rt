@@ -41,7 +41,7 @@ ghost use Rattle.esc_bundle.specs.Bundle.{
   is_length,
   IsBundle,
 };
-ghost use Rattle.esc_bundle.specs.Steps.{Gives, GivesOrNoMemory};
+ghost use Rattle.esc_bundle.specs.Tests.{Gives, GivesOrNoMemory};
 ghost use Rattle.esc_bundle.specs.Reading.{
   IsFault,
   parted,

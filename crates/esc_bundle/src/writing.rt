@@ -20,7 +20,7 @@ ghost use Rattle.std.specs.Prelude.{
 };
 ghost use Rattle.std.specs.Fmt.{decimal};
 ghost use Rattle.esc_bundle.specs.Bundle.{view, views, section_text, bundle_text, IsBundle};
-ghost use Rattle.esc_bundle.specs.Steps.{GivesOrNoMemory};
+ghost use Rattle.esc_bundle.specs.Tests.{GivesOrNoMemory};
 ghost use Rattle.esc_bundle.specs.Writing.{named, in_order, within_limit, bundle_of, IsUnwritten};
 
 use crate::fault::{Fault, NoMemory};

@@ -5,7 +5,7 @@ use lib.Signed.{lt_z}
 use Rattle.std.proofs.lemmas.Int.{ints}
 use Rattle.std.proofs.lemmas.List.{get_or-reverse, length-reverse, reverse-reverse}
 use Rattle.esc_manifest.specs.declared.row.MRow.{MRow}
-use Rattle.esc_manifest.specs.Rows.{place_at, watermark_at}
+use Rattle.esc_manifest.specs.ManifestRows.{place_at, watermark_at}
 use Rattle.esc_manifest.specs.Accepted.{IsAccepted}
 use Rattle.esc_chain.specs.Chain.{Rows, IsHeld, InRange, IsUsed, LeadsBack, IsLatestChain, IsLatestBackAt, IsLatestChainAt, AreHeldRows}
 use Rattle.esc_chain.proofs.Chains.{earlier, earlier_falls, base_earlier}

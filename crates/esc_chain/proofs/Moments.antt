@@ -11,7 +11,7 @@ use Rattle.std.proofs.lemmas.Map.Views.{tells_apart}
 use Rattle.std.proofs.Math.Bool.{or-true}
 use Rattle.esc_envelope.specs.declared.place.Place.{Place}
 use Rattle.esc_manifest.specs.declared.row.MRow.{MRow}
-use Rattle.esc_manifest.specs.Rows.{place_at, watermark_at}
+use Rattle.esc_manifest.specs.ManifestRows.{place_at, watermark_at}
 use Rattle.esc_manifest.specs.Accepted.{IsAccepted}
 use Rattle.esc_chain.specs.Chain.{Rows, IsHeld, InRange, IsUsed, LeadsBack, IsChainBack, IsLatestChain, IsBy, IsLatestBackAt, IsLatestChainAt, AreUntil}
 use Rattle.esc_chain.proofs.Chains.{base_earlier}

@@ -4,7 +4,7 @@ use Rattle.std.specs.FinSet as set
 use Rattle.std.specs.Cmp.{nat_cmp_total}
 use Rattle.std.proofs.lemmas.List.{reverse-reverse}
 use Rattle.esc_manifest.specs.declared.row.MRow.{MRow}
-use Rattle.esc_manifest.specs.Rows.{place_at}
+use Rattle.esc_manifest.specs.ManifestRows.{place_at}
 use Rattle.esc_manifest.specs.Accepted.{IsAccepted}
 use Rattle.esc_chain.specs.Chain.{Rows, IsHeld, InRange, LeadsBack, IsLatestChain, IsLatestBackAt, IsLatestChainAt}
 use Rattle.esc_chain.proofs.Chains.{used_same, base_same, base_not_full}

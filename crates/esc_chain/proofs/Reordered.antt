@@ -6,7 +6,7 @@ use Rattle.esc_envelope.specs.declared.place.DepositType.TheVariants.{Diff, Incr
 use Rattle.esc_envelope.specs.declared.place.Place.{Place}
 use Rattle.esc_envelope.specs.Place.{IsUpTo}
 use Rattle.esc_manifest.specs.declared.row.MRow.{MRow}
-use Rattle.esc_manifest.specs.Rows.{no_row, row_at, place_at, kind_at, watermark_at, prev_at, resend_at}
+use Rattle.esc_manifest.specs.ManifestRows.{no_row, row_at, place_at, kind_at, watermark_at, prev_at, resend_at}
 use Rattle.esc_chain.specs.declared.base.Base.TheVariants.{At}
 use Rattle.esc_chain.specs.Base.{IsFullBefore, IsLastFull, IsNamedBy, IsBaseOf, IsBase}
 use Rattle.esc_chain.specs.Chain.{Rows, IsHeld, IsUsed, LeadsBack, IsChainBack, IsBy, IsLatestBackAt}

@@ -26,7 +26,7 @@ use Rattle.esc_envelope.specs.declared.place.DepositType.TheVariants.{Full}
 use Rattle.esc_envelope.specs.declared.place.Place.{Place}
 use Rattle.esc_manifest.specs.declared.row.MRow.{MRow}
 use Rattle.esc_envelope.specs.Place.{IsUpTo}
-use Rattle.esc_manifest.specs.Rows.{place_at, kind_at, watermark_at, resend_at}
+use Rattle.esc_manifest.specs.ManifestRows.{place_at, kind_at, watermark_at, resend_at}
 use Rattle.esc_chain.specs.declared.base.Base.TheVariants.{At}
 use Rattle.esc_chain.specs.Base.{IsBase}
 

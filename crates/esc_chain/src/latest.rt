@@ -2,7 +2,7 @@
 
 ghost use Rattle.std.specs.Prelude.{◌↔◌, ◌<◌, length, IfOk, IsTrue};
 ghost use Rattle.esc_manifest.specs.Accepted.{IsAccepted};
-ghost use Rattle.esc_manifest.specs.Rows.{watermark_at};
+ghost use Rattle.esc_manifest.specs.ManifestRows.{watermark_at};
 ghost use Rattle.esc_chain.specs.Chain.{
   InRange,
   AreHeldRows,
@@ -15,7 +15,7 @@ ghost use Rattle.esc_chain.specs.Chain.{
 
 use crate::Held;
 use crate::bases::bases;
-use crate::links::{Link, last_with_way, links};
+use crate::predecessors::{Link, last_with_way, links};
 use crate::revision::{in_order, used_rows};
 use esc_bundle::NoMemory;
 use esc_manifest::{MRow, Manifest};

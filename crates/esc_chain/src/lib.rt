@@ -48,22 +48,22 @@
 mod base;
 mod bases;
 mod gap;
+mod gap_lines;
 mod held;
 mod latest;
 mod laws;
-mod lines;
-mod links;
+mod predecessors;
 mod revision;
 mod stops;
 mod unheld;
 
 pub use base::{Base, base_of};
 pub use gap::{Blocker, GapLine, Id, ListedPlace, State};
+pub use gap_lines::{gaps, gaps_at};
 pub use held::Held;
 pub use latest::{latest_chain, latest_chain_at};
 pub use laws::{
     chains_are_of_rows, gap_lines_are_one, latest_chain_at_is_one, latest_chain_at_rows_are_held,
     latest_chain_is_one, latest_chain_rows_are_held,
 };
-pub use lines::{gaps, gaps_at};
 pub use revision::used;

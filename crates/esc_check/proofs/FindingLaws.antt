@@ -26,7 +26,7 @@ use Rattle.esc_check.specs.Gathered.{is_empty, text_links, field_links, row_link
 use Rattle.esc_check.specs.LinkValue.{LinkValue, link_to}
 use Rattle.esc_check.specs.Links.{LinksBy, IsLinkOf}
 use Rattle.esc_check.specs.Statuses.{status_words, IsStatusOf}
-use Rattle.esc_check.specs.Tables.{Entry, tables_of}
+use Rattle.esc_check.specs.TableMap.{Entry, tables_of}
 use Rattle.esc_tables.specs.KeyLaws.{keys_alike, one_key}
 use Rattle.esc_check.proofs.Keys.{count_has, count_is}
 use Rattle.esc_check.proofs.Members.{nothing_in, here, only, from_pieces, in_pieces, from_chosen, in_chosen, from_any, any_from}

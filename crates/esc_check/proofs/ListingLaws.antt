@@ -27,7 +27,7 @@ use Rattle.esc_check.specs.Findings.{IsFinding, IsOwn, printed}
 use Rattle.esc_check.specs.Gathered.{count_of}
 use Rattle.esc_check.specs.LinkValue.{LinkValue}
 use Rattle.esc_check.specs.Links.{IsLinkOf}
-use Rattle.esc_check.specs.Tables.{Entry, tables_of}
+use Rattle.esc_check.specs.TableMap.{Entry, tables_of}
 use Rattle.esc_check.proofs.Keys.{count_is}
 use Rattle.esc_check.proofs.Members.{here, there}
 use Rattle.esc_envelope.specs.KindLaws.{one_kind}

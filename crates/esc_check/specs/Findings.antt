@@ -15,7 +15,7 @@ use Rattle.esc_check.specs.FindingValue.{FindingValue}
 use Rattle.esc_check.specs.LinkValue.{LinkValue}
 use Rattle.esc_check.specs.Links.{IsLink}
 use Rattle.esc_check.specs.Statuses.{status_words, IsStatusOf}
-use Rattle.esc_check.specs.Tables.{Tables, HasCount}
+use Rattle.esc_check.specs.TableMap.{Tables, HasCount}
 
 -- V1, as it is reported of a link
 abbrev pub missing_target : LinkValue → FindingValue

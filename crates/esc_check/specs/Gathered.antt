@@ -59,7 +59,7 @@ use Rattle.esc_check.specs.Findings.{
 }
 use Rattle.esc_check.specs.LinkValue.{LinkValue, link_to}
 use Rattle.esc_check.specs.Statuses.{status_words}
-use Rattle.esc_check.specs.Tables.{Entry}
+use Rattle.esc_check.specs.TableMap.{Entry}
 
 -- whether a text is empty
 abbrev pub is_empty : List ℕ → Bool

@@ -8,5 +8,5 @@ pub use Rattle.esc_csv.specs.Lines
 pub mod LinkValue
 pub mod Links
 pub mod Statuses
-pub mod Streams
-pub mod Tables
+pub mod ObjectReports
+pub mod TableMap

@@ -6,7 +6,7 @@ use Rattle.esc_tables.specs.ObjectValue.{RowValue, ObjectValue}
 use Rattle.esc_check.specs.declared.field.LinkField.{LinkField}
 use Rattle.esc_check.specs.Fields.{cell, field_name, parent_fields, child_field}
 use Rattle.esc_check.specs.LinkValue.{LinkValue, link_to}
-use Rattle.esc_check.specs.Tables.{Tables}
+use Rattle.esc_check.specs.TableMap.{Tables}
 
 -- a row of an object has a link by this field, whose text isn't empty
 abbrev pub LinksBy : KeyName → RowValue → LinkField → LinkValue → Type 0

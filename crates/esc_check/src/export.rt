@@ -17,7 +17,7 @@ ghost use Rattle.std.specs.Prelude.{
   string_bytes,
 };
 ghost use Rattle.std.specs.Fmt.{decimal};
-ghost use Rattle.esc_apply.specs.Objects.{Entry};
+ghost use Rattle.esc_apply.specs.ObjectStreams.{Entry};
 ghost use Rattle.esc_envelope.specs.Kinds.{kind_name, is_kind};
 ghost use Rattle.esc_csv.specs.Lines.{line_text, text_of};
 ghost use Rattle.esc_check.specs.Export.{
@@ -28,7 +28,7 @@ ghost use Rattle.esc_check.specs.Export.{
   object_lines,
   export_text,
 };
-ghost use Rattle.esc_check.specs.Streams.{IfSource, OfSource};
+ghost use Rattle.esc_check.specs.ObjectReports.{IfSource, OfSource};
 
 use crate::stream::StreamFault;
 use esc_apply::Objects;

@@ -73,7 +73,7 @@ mod export;
 mod field;
 mod finding;
 mod link;
-mod status;
+mod statuses;
 mod stream;
 mod verification;
 mod walk;

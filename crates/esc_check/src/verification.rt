@@ -14,14 +14,14 @@ ghost use Rattle.esc_check.specs.Gathered.{
   own_findings,
   object_findings,
 };
-ghost use Rattle.esc_check.specs.Tables.{tables_of};
+ghost use Rattle.esc_check.specs.TableMap.{tables_of};
 
 use crate::count::check_counts;
 use crate::date::{Limit, check_forms, check_moments, limit_at};
 use crate::distinct::settle;
 use crate::finding::Finding;
 use crate::link::{add_links, check_links};
-use crate::status::check_statuses;
+use crate::statuses::check_statuses;
 use esc_bundle::NoMemory;
 use esc_envelope::Kind;
 use esc_tables::{Key, Object};

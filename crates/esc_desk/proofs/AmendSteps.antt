@@ -4,7 +4,7 @@ use Rattle.std.proofs.lemmas.Bool.Decides.{nat_tests}
 use Rattle.sha2.specs.Sha256.{sha256}
 use Rattle.esc_tables.specs.Reading.{reading}
 use Rattle.esc_manifest.specs.declared.row.MRow.{MRow}
-use Rattle.esc_manifest.specs.Rows.{row_at}
+use Rattle.esc_manifest.specs.ManifestRows.{row_at}
 use Rattle.esc_manifest.specs.Accepted.{IsAccepted}
 use Rattle.esc_manifest.specs.Extension.{new_rows, extended}
 use Rattle.esc_chain.specs.Laws.{LatestChainsAtAreHeldRows}
@@ -26,7 +26,7 @@ use Rattle.esc_events.proofs.Moving.{moved_from, stands_moved, works_moved}
 use Rattle.esc_events.proofs.MovingLemmas.{held_within}
 use Rattle.esc_desk.specs.declared.judging.Judged.{Judged}
 use Rattle.esc_desk.specs.Amendments.{AreApartRows, IsAmendmentOf}
-use Rattle.esc_desk.specs.Sources.{AreJudged}
+use Rattle.esc_desk.specs.DepositSources.{AreJudged}
 use Rattle.esc_desk.proofs.AmendedRows.{adopted_apart, held_with_adopted}
 
 pub if_ok_at : {X E : Type 0} (r : Result X E) (P : X → Type 0) → ((x : X) → r ≡ Ok x → P x) → IfOk r P

@@ -6,7 +6,7 @@ use Rattle.std.proofs.lemmas.Bool.Decides.{nat_tests}
 use Rattle.std.proofs.lemmas.List.Elements.{All-nil, All-cons, All-head, All-tail, All-append, All-weaker, All-filter, All-contains, All-contains_itself}
 use Rattle.std.proofs.lemmas.List.Elements.{filter_passes, Contains-append_left, Contains-append_right, Contains-append_cases}
 use Rattle.esc_manifest.specs.declared.row.MRow.{MRow}
-use Rattle.esc_manifest.specs.Rows.{row_at}
+use Rattle.esc_manifest.specs.ManifestRows.{row_at}
 use Rattle.esc_store.specs.Kept.{Kept, IsRising, AreHeld}
 use Rattle.esc_events.specs.Amended.{judged, numbers_from, is_adopted, adopted_rows, amended_bodies}
 use Rattle.esc_desk.specs.Amendments.{AreApartRows}

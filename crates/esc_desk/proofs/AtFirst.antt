@@ -13,7 +13,7 @@ use Rattle.esc_store.specs.Kept.{fresh}
 use Rattle.esc_events.specs.ArrivalValue.{ArrivalValue}
 use Rattle.esc_events.specs.Events.{Coming, union, moment_after, moment_of, manifest_then}
 use Rattle.esc_events.specs.Events.EventValue.{listed, arrived}
-use Rattle.esc_events.specs.Finding.{row_of}
+use Rattle.esc_events.specs.Assessment.{row_of}
 use Rattle.esc_events.specs.Receipts.{distinct, receipts_after}
 use Rattle.esc_events.specs.Stands.{rows_of, kept_arrivals, held_body, StandsFor}
 use Rattle.esc_events.proofs.EventLemmas.{union_then, comings_then}

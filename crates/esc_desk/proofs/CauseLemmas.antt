@@ -11,7 +11,7 @@ use Rattle.esc_store.specs.Kept.{Kept, IsFull}
 use Rattle.esc_events.specs.Apart.{WhereApart}
 use Rattle.esc_events.specs.ArrivalValue.{ArrivalValue}
 use Rattle.esc_events.specs.Events.{EventValue}
-use Rattle.esc_events.specs.Finding.{row_of}
+use Rattle.esc_events.specs.Assessment.{row_of}
 use Rattle.esc_events.specs.Stands.{AreBooks, IsApart}
 use Rattle.esc_desk.specs.Again.{IsUnkept}
 use Rattle.esc_desk.specs.Calls.{HasNoRoom, HasNoPlace, IsCause}

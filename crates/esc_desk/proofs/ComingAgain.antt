@@ -50,15 +50,15 @@ use Rattle.esc_store.specs.declared.store.Store.{Store}
 use Rattle.esc_store.specs.Kept.{Kept, AreHeld, body_put, with_body, with_parked}
 use Rattle.esc_store.specs.ReplyValue.{ReplyValue, reply_alike}
 use Rattle.esc_store.specs.Standing.{Stands}
-use Rattle.esc_events.specs.declared.finding.Finding.{Finding}
-use Rattle.esc_events.specs.declared.finding.Finding.TheVariants.{Unlisted, Unreadable, Differing, Holding}
+use Rattle.esc_events.specs.declared.assessment.Assessment.{Assessment}
+use Rattle.esc_events.specs.declared.assessment.Assessment.TheVariants.{Unlisted, Unreadable, Differing, Holding}
 use Rattle.esc_events.specs.declared.known.Known.{Known}
 use Rattle.esc_events.specs.declared.plan.Plan.{Plan}
 use Rattle.esc_events.specs.Apart.{WhereApart}
 use Rattle.esc_events.specs.ArrivalValue.{ArrivalValue, an_arrival}
 use Rattle.esc_events.specs.Events.{EventValue, union, coming, comings}
 use Rattle.esc_events.specs.Events.EventValue.{arrived}
-use Rattle.esc_events.specs.Finding.{finding, row_of, held_row}
+use Rattle.esc_events.specs.Assessment.{assessment, row_of, held_row}
 use Rattle.esc_events.specs.Known.{IsKnown}
 use Rattle.esc_events.specs.Laws.{IsMove}
 use Rattle.esc_events.specs.Plans.{AreLatestSteps, IsPlanned}
@@ -77,7 +77,7 @@ use Rattle.esc_desk.specs.declared.desk.Desk.{Desk}
 use Rattle.esc_desk.specs.declared.plan.Source.TheVariants.{Arrived}
 use Rattle.esc_desk.specs.Again.{IsUnkept, IsMissing, IsMissingAfter}
 use Rattle.esc_desk.specs.Crashes.{LeavesOnlyFor}
-use Rattle.esc_desk.specs.Sources.{IsSource}
+use Rattle.esc_desk.specs.DepositSources.{IsSource}
 use Rattle.esc_desk.specs.Takings.{LeavesWith, IsTakenAgain, IsAnsweredAgain}
 use Rattle.esc_desk.proofs.CrashLemmas.{leaves_with_nothing, leaves_with_only, leaves_with_then}
 use Rattle.esc_desk.proofs.CrashSteps.{at_rest}
@@ -88,13 +88,13 @@ use Rattle.esc_desk.proofs.RunLemmas.{reply_stays}
 
 -- ---- where it adds nothing
 
-module _ (e : List EventValue) (a : ArrivalValue) (k : Kept) (found : Finding) (reply : ReplyValue) (is : IsAgain e a k found reply) where
+module _ (e : List EventValue) (a : ArrivalValue) (k : Kept) (found : Assessment) (reply : ReplyValue) (is : IsAgain e a k found reply) where
   pub told_again : reply_to sha256 reading e a ≡ Some reply
   told_again = ap (reply_alike (union e) 1 a.number (sha256 a.body)) (sym is.stood.books.receipts) ∙ is.kept
 
   -- the rows that it holds are the one that was found
   found_row : (r : ℕ) → holds_by sha256 reading (union e) r (coming (union e) a) ≡ true → held_row found ≡ Some r
-  found_row r holds = ap held_row is.found_is ∙ is_row_of r (held_row (finding sha256 reading (union e) a.body)) holds
+  found_row r holds = ap held_row is.found_is ∙ is_row_of r (held_row (assessment sha256 reading (union e) a.body)) holds
 
   -- a row lists it
   some_row : (found ≡ Unlisted → ⊥) → (q : ℕ) × (row_of (union e) (sha256 a.body) ≡ Some q)
@@ -160,10 +160,10 @@ nothing_repeated e a k books y there other =
 
 -- what is missing after the events is so in a store that stands for them
 pub missing_of : (e : List EventValue) (a : ArrivalValue) (k : Kept) → AreBooks sha256 reading e k → IsApart sha256 reading e → IsMissingAfter e a
-    → IsMissing k.bodies k.parked (sha256 a.body) (finding sha256 reading (union e) a.body)
-missing_of e a k books apart missing = by_found (finding sha256 reading (union e) a.body) missing
+    → IsMissing k.bodies k.parked (sha256 a.body) (assessment sha256 reading (union e) a.body)
+missing_of e a k books apart missing = by_found (assessment sha256 reading (union e) a.body) missing
   where
-    by_found : (f : Finding) → IsMissing (held_body sha256 reading e) (parked_body sha256 reading e) (sha256 a.body) f
+    by_found : (f : Assessment) → IsMissing (held_body sha256 reading e) (parked_body sha256 reading e) (sha256 a.body) f
         → IsMissing k.bodies k.parked (sha256 a.body) f
     by_found Unlisted is = books.parked apart (sha256 a.body) ∙ is
     by_found (Unreadable r n) is = is
@@ -171,14 +171,14 @@ missing_of e a k books apart missing = by_found (finding sha256 reading (union e
     by_found (Holding r d) is = books.bodies apart r ∙ is
 
 -- a body of which a refusal was found isn't missing
-pub refused_there : (bodies : ℕ → Option (List ℕ)) (parked : List ℕ → Option (List ℕ)) (d : List ℕ) (found : Finding)
+pub refused_there : (bodies : ℕ → Option (List ℕ)) (parked : List ℕ → Option (List ℕ)) (d : List ℕ) (found : Assessment)
     → IsRefused found → IsMissing bodies parked d found → ⊥
 refused_there bodies parked d found (inl (r, n, is)) missing = subst (IsMissing bodies parked d) is missing
 refused_there bodies parked d found (inr (r, is)) missing = subst (IsMissing bodies parked d) is missing
 
 -- ---- what is known of a store that took it in without a change
 
-pub nothing_taken : {S : Type 0} (g : Ghosts S) (old new : Store S) (e : List EventValue) (a : ArrivalValue) (k : Kept) (found : Finding) (known : Known)
+pub nothing_taken : {S : Type 0} (g : Ghosts S) (old new : Store S) (e : List EventValue) (a : ArrivalValue) (k : Kept) (found : Assessment) (known : Known)
     → StandsFor sha256 reading e k → AddsNothing e a → IsKnown k known → Stands g new k → LeavesWith g old.conn new.conn e a
     → (IsMissing k.bodies k.parked (sha256 a.body) found → LeavesOnlyFor g new.conn (e ++ arrived a ∷ []))
     → IsTakenAgain g old new e a k found known no_work
@@ -245,7 +245,7 @@ module _ (e : List EventValue) (a : ArrivalValue) (k : Kept) (reply : ReplyValue
 -- an arrival whose kept reply is A2
 pub is_again : (e : List EventValue) (n body : List ℕ) (k : Kept) (reply : ReplyValue) (digest : List ℕ)
     → digest ≡ sha256 body → StandsFor sha256 reading e k → reply.verdict ≡ A2
-    → reply_alike (union e) 1 n digest k.receipts ≡ Some reply → IsAgain e (an_arrival n body) k (finding sha256 reading (union e) body) reply
+    → reply_alike (union e) 1 n digest k.receipts ≡ Some reply → IsAgain e (an_arrival n body) k (assessment sha256 reading (union e) body) reply
 is_again e n body k reply digest same stands is there = record {
   stood = stands;
   kept = subst (λ (d : List ℕ). reply_alike (union e) 1 n d k.receipts ≡ Some reply) same there;

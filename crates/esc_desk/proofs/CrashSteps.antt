@@ -13,7 +13,7 @@ use Rattle.esc_store.specs.declared.fault.SFault.TheVariants.{S4, S5}
 use Rattle.esc_store.specs.Faults.{IsS1OrS2}
 use Rattle.esc_store.specs.Kept.{Kept}
 use Rattle.esc_store.specs.Standing.{ChangeOf, IsHonest, HoldsNow, HoldsIn}
-use Rattle.esc_store.specs.Tables.{IsStore}
+use Rattle.esc_store.specs.StoreTables.{IsStore}
 use Rattle.esc_events.specs.Events.{EventValue}
 use Rattle.esc_events.specs.Stands.{StandsFor}
 use Rattle.esc_desk.specs.Crashes.{IsStoreFor, IsNotFull}

@@ -7,7 +7,7 @@ use Rattle.esc_tables.specs.Reading.{reading}
 use Rattle.esc_manifest.specs.declared.row.MRow.{MRow}
 use Rattle.esc_store.specs.Kept.{Kept, IsRising, AreHeld, AreHeldBy, SaysHeld, AreUnlisted}
 use Rattle.esc_events.specs.Events.{EventValue, union}
-use Rattle.esc_events.specs.Finding.{row_of}
+use Rattle.esc_events.specs.Assessment.{row_of}
 use Rattle.esc_events.specs.Stands.{AreBooks, TellsOf}
 use Rattle.esc_events.proofs.Searches.{same_answer}
 use Rattle.esc_desk.specs.Knowing.{IsInserted, IsOfDigests, AreFound}

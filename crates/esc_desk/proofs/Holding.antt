@@ -40,13 +40,13 @@ use Rattle.esc_tables.specs.DepositValue.{DepositValue}
 use Rattle.esc_tables.specs.Reading.{reading}
 use Rattle.esc_manifest.specs.declared.row.MRow.{MRow}
 use Rattle.esc_store.specs.declared.fault.SFault.{SFault}
-use Rattle.esc_manifest.specs.Rows.{no_row, row_at}
+use Rattle.esc_manifest.specs.ManifestRows.{no_row, row_at}
 use Rattle.esc_store.specs.declared.store.Store.{Store}
 use Rattle.esc_store.specs.Kept.{Kept, AreHeld, AreHeldBy, body_put, kept_chain, with_body, with_receipt}
 use Rattle.esc_store.specs.ReplyValue.{ReceiptValue}
 use Rattle.esc_store.specs.Standing.{Stands, LeavesOnly, LeavesNoMore}
-use Rattle.esc_events.specs.declared.finding.Finding.{Finding}
-use Rattle.esc_events.specs.declared.finding.Finding.TheVariants.{Unlisted, Unreadable, Differing, Holding}
+use Rattle.esc_events.specs.declared.assessment.Assessment.{Assessment}
+use Rattle.esc_events.specs.declared.assessment.Assessment.TheVariants.{Unlisted, Unreadable, Differing, Holding}
 use Rattle.esc_events.specs.declared.known.Known.{Known}
 use Rattle.esc_events.specs.declared.parking.Parking.{Parking}
 use Rattle.esc_events.specs.declared.parking.Parking.TheVariants.{Needless, Free, Crowded}
@@ -54,7 +54,7 @@ use Rattle.esc_events.specs.declared.plan.Plan.{Plan}
 use Rattle.esc_events.specs.ArrivalValue.{ArrivalValue}
 use Rattle.esc_events.specs.Events.{EventValue, union}
 use Rattle.esc_events.specs.Events.EventValue.{arrived}
-use Rattle.esc_events.specs.Finding.{as_listed, finding, found_at, row_of, held_row}
+use Rattle.esc_events.specs.Assessment.{as_listed, assessment, found_at, row_of, held_row}
 use Rattle.esc_events.specs.Laws.{IsMove}
 use Rattle.esc_events.specs.Notes.{noted_by, held_by}
 use Rattle.esc_events.specs.Parks.{IsParking}
@@ -70,7 +70,7 @@ use Rattle.esc_events.proofs.Moving.{stands_still, no_work_of}
 use Rattle.esc_events.proofs.Searches.{no_answer}
 use Rattle.esc_desk.specs.declared.plan.Source.TheVariants.{Arrived}
 use Rattle.esc_desk.specs.Crashes.{AddsStore, AddsStoreFor}
-use Rattle.esc_desk.specs.Sources.{IsSource}
+use Rattle.esc_desk.specs.DepositSources.{IsSource}
 use Rattle.esc_desk.specs.Knowing.{IsInserted}
 use Rattle.esc_desk.specs.Takings.{IsKept}
 use Rattle.esc_desk.proofs.CrashLemmas.{leaves_for}
@@ -79,7 +79,7 @@ use Rattle.esc_desk.proofs.KnownRows.{told_more, told_same, says_row, says_only,
 
 -- ---- a receipt alone, or with a parked body
 
-pub stands_noted : (e : List EventValue) (a : ArrivalValue) (k : Kept) (found : Finding) (known : Known) (receipt : ReceiptValue)
+pub stands_noted : (e : List EventValue) (a : ArrivalValue) (k : Kept) (found : Assessment) (known : Known) (receipt : ReceiptValue)
     → IsNew e a k found known receipt → (found ≡ Unlisted → ⊥) → ((q : ℕ) → held_row found ≡ Some q → IsSome (k.bodies q))
     → StandsFor sha256 reading (e ++ arrived a ∷ []) (with_receipt k receipt)
 stands_noted e a k found known receipt is listed there =
@@ -87,19 +87,19 @@ stands_noted e a k found known receipt is listed there =
     stands_still e (e ++ arrived a ∷ []) k (with_receipt k receipt) is.stood books refl refl refl refl refl
 
 -- a row lists the body, and it isn't that row's deposit
-abbrev pub IsRefused : Finding → Type 0
+abbrev pub IsRefused : Assessment → Type 0
 IsRefused found = ((r : ℕ) × (n : ℕ) × (found ≡ Unreadable r n)) ⊎ ((r : ℕ) × (found ≡ Differing r))
 
-pub refused_listed : (found : Finding) → IsRefused found → found ≡ Unlisted → ⊥
+pub refused_listed : (found : Assessment) → IsRefused found → found ≡ Unlisted → ⊥
 refused_listed found (inl (r, n, is)) same = let never : ⊥ = cc in never
 refused_listed found (inr (r, is)) same = let never : ⊥ = cc in never
 
-pub refused_row : (found : Finding) → IsRefused found → held_row found ≡ None
+pub refused_row : (found : Assessment) → IsRefused found → held_row found ≡ None
 refused_row found (inl (r, n, is)) = ap held_row is
 refused_row found (inr (r, is)) = ap held_row is
 
 pub holding_listed : (r : ℕ) (d : DepositValue) → Holding r d ≡ Unlisted → ⊥
-holding_listed r d same = true≢false (ap (λ (f : Finding). is_some (held_row f)) same)
+holding_listed r d same = true≢false (ap (λ (f : Assessment). is_some (held_row f)) same)
 
 -- what a note adds to what is kept is its receipt, and maybe a parked body
 record IsNoted (receipt : ReceiptValue) (k later : Kept) : Type 0 where
@@ -145,7 +145,7 @@ module _ (e : List EventValue) (a : ArrivalValue) (k : Kept) (known : Known) (re
       adds_for stands adds
   adds_parked g old new result Crowded at none adds = adds_none (none refl)
 
-module _ {S : Type 0} (g : Ghosts S) (store : Store S) (e : List EventValue) (a : ArrivalValue) (k : Kept) (found : Finding) (known now : Known)
+module _ {S : Type 0} (g : Ghosts S) (store : Store S) (e : List EventValue) (a : ArrivalValue) (k : Kept) (found : Assessment) (known now : Known)
     (receipt : ReceiptValue) (is : IsNew e a k found known receipt)
     (parking : Parking) (stands : StandsFor sha256 reading (e ++ arrived a ∷ []) (noted_by receipt parking a.body k)) where
   -- what the store keeps then, where this is known of its rows
@@ -167,7 +167,7 @@ module _ {S : Type 0} (g : Ghosts S) (store : Store S) (e : List EventValue) (a 
       }
 
 -- where the receipt says of no row that it is held, what is known stays
-pub told_still : (e : List EventValue) (a : ArrivalValue) (k : Kept) (found : Finding) (known : Known) (receipt : ReceiptValue)
+pub told_still : (e : List EventValue) (a : ArrivalValue) (k : Kept) (found : Assessment) (known : Known) (receipt : ReceiptValue)
     → IsNew e a k found known receipt → held_row found ≡ None → AreHeldBy (k.receipts ++ receipt ∷ []) known.told.items
 told_still e a k found known receipt is none =
     subst (λ (r : ReceiptValue). AreHeldBy (k.receipts ++ r ∷ []) known.told.items) (sym is.receipt_is)
@@ -185,18 +185,18 @@ told_held e a k row d known receipt is more inserted =
 
 -- ---- a deposit is held
 
-abbrev deposit_in : Finding → DepositValue → DepositValue
+abbrev deposit_in : Assessment → DepositValue → DepositValue
 deposit_in Unlisted e = e
 deposit_in (Unreadable r n) e = e
 deposit_in (Differing r) e = e
 deposit_in (Holding r d) e = d
 
 -- a body whose deposit is held reads as that deposit
-pub reads_of : (m : List MRow) (body : List ℕ) (r : ℕ) (d : DepositValue) → finding sha256 reading m body ≡ Holding r d → reading body ≡ Ok d
+pub reads_of : (m : List MRow) (body : List ℕ) (r : ℕ) (d : DepositValue) → assessment sha256 reading m body ≡ Holding r d → reading body ≡ Ok d
 reads_of m body r d is = by_row (row_of m (sha256 body)) (reading body) is
   where
     by_test : (q : ℕ) (e : DepositValue) (b : Bool) → cond b (Holding q e) (Differing q) ≡ Holding r d → e ≡ d
-    by_test q e true is = ap (λ (f : Finding). deposit_in f e) is
+    by_test q e true is = ap (λ (f : Assessment). deposit_in f e) is
     by_test q e false is = absurd (cc)
 
     by_row : (row : Option ℕ) (told : Result DepositValue ℕ) → found_at m row told ≡ Holding r d → told ≡ Ok d
@@ -207,7 +207,7 @@ reads_of m body r d is = by_row (row_of m (sha256 body)) (reading body) is
 -- a body is held of a row whose deposit it is
 module _ (e : List EventValue) (a : ArrivalValue) (k : Kept) (row : ℕ) where
   -- the bodies with this one are where the deposits are read from
-  pub source_of : (d : DepositValue) → finding sha256 reading (union e) a.body ≡ Holding row d
+  pub source_of : (d : DepositValue) → assessment sha256 reading (union e) a.body ≡ Holding row d
       → IsSource (Arrived row (Some d)) k (body_put k.bodies row a.body)
   source_of d is =
       ((a.body, put_at k.bodies row a.body, reads_of (union e) a.body row d is), λ r other. ap (λ b. cond b (Some a.body) (k.bodies r)) other)
@@ -260,7 +260,7 @@ row_in m digest = by_row (row_of m digest) refl
 
 -- it is one of those that are listed
 pub row_within : (m : List MRow) (body number digest : List ℕ) (again : Bool)
-    → IfSome (receipt_by number digest false (finding sha256 reading m body) again).row (λ r. r < length m)
+    → IfSome (receipt_by number digest false (assessment sha256 reading m body) again).row (λ r. r < length m)
 row_within m body number digest again = by_row (row_of m (sha256 body)) (reading body) (row_in m (sha256 body))
   where
     by_row : (row : Option ℕ) (told : Result DepositValue ℕ) → IfSome row (λ r. r < length m)

@@ -33,24 +33,24 @@ use Rattle.std.proofs.Common.{
 use Rattle.esc_tables.specs.DepositValue.{DepositValue}
 use Rattle.esc_tables.specs.Reading.{reading}
 use Rattle.esc_manifest.specs.declared.row.MRow.{MRow}
-use Rattle.esc_manifest.specs.Rows.{row_at}
-use Rattle.esc_events.specs.declared.finding.Finding.{Finding}
-use Rattle.esc_events.specs.declared.finding.Finding.TheVariants.{Differing, Holding}
-use Rattle.esc_events.specs.Finding.{as_listed, found, compared}
+use Rattle.esc_manifest.specs.ManifestRows.{row_at}
+use Rattle.esc_events.specs.declared.assessment.Assessment.{Assessment}
+use Rattle.esc_events.specs.declared.assessment.Assessment.TheVariants.{Differing, Holding}
+use Rattle.esc_events.specs.Assessment.{as_listed, found, compared}
 use Rattle.esc_events.specs.Receipts.{holds_row}
 use Rattle.esc_events.specs.Amended.{judged, parked_for, is_adopted, is_dropped, numbers_from, adopted_rows, dropped_rows}
 use Rattle.esc_events.proofs.HeldRows.{same_self}
 use Rattle.esc_desk.specs.declared.judging.Judgement.{Judgement}
 use Rattle.esc_desk.specs.declared.judging.Judgement.TheVariants.{Absent, Dropped, Adopted}
-use Rattle.esc_desk.specs.Sources.{IsJudgement, adopted_by, dropped_by, judgement_of}
+use Rattle.esc_desk.specs.DepositSources.{IsJudgement, adopted_by, dropped_by, judgement_of}
 
 module _ (rows : List MRow) (parked : List ℕ → Option (List ℕ)) where
   -- ---- one row
 
   -- a body is parked for a row, and this is found of it
-  judged_by : (row : ℕ) (text : List ℕ) (f : Finding) → parked_for rows parked row ≡ Some text → found rows row (reading text) ≡ f
+  judged_by : (row : ℕ) (text : List ℕ) (f : Assessment) → parked_for rows parked row ≡ Some text → found rows row (reading text) ≡ f
       → judged rows row (parked_for rows parked row) ≡ cond (holds_row row f) (Some text) None
-  judged_by row text f there is = ap (judged rows row) there ∙ ap (λ (g : Finding). cond (holds_row row g) (Some text) None) is
+  judged_by row text f there is = ap (judged rows row) there ∙ ap (λ (g : Assessment). cond (holds_row row g) (Some text) None) is
 
   -- a body that this deposit reads from
   pub readable : (row : ℕ) (text : List ℕ) (d : DepositValue) → parked_for rows parked row ≡ Some text → reading text ≡ Ok d

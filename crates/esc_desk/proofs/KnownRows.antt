@@ -36,9 +36,9 @@ use Rattle.std.proofs.lemmas.Map.Views.{list_any-from_Contains, Contains-from_an
 use Rattle.esc_tables.specs.DepositValue.{DepositValue}
 use Rattle.esc_store.specs.Kept.{SaysHeld, AreHeld, AreHeldBy, body_put}
 use Rattle.esc_store.specs.ReplyValue.{ReceiptValue}
-use Rattle.esc_events.specs.declared.finding.Finding.{Finding}
-use Rattle.esc_events.specs.declared.finding.Finding.TheVariants.{Holding}
-use Rattle.esc_events.specs.Finding.{held_row}
+use Rattle.esc_events.specs.declared.assessment.Assessment.{Assessment}
+use Rattle.esc_events.specs.declared.assessment.Assessment.TheVariants.{Holding}
+use Rattle.esc_events.specs.Assessment.{held_row}
 use Rattle.esc_events.specs.Receipts.{receipt_by}
 use Rattle.esc_events.proofs.HeldReceipts.{holds_from_says, says_from_holds, split, later, split-last}
 use Rattle.esc_events.proofs.HeldRows.{same_test, same_self, same_number, is_row_of}
@@ -92,7 +92,7 @@ told_same {receipts} {told} receipt are none = record {
 -- ---- what a receipt says
 
 module _ (number digest : List ℕ) where
-  abbrev receipt_of : Finding → Bool → ReceiptValue
+  abbrev receipt_of : Assessment → Bool → ReceiptValue
   receipt_of found again = receipt_by number digest false found again
 
   pub says_row : (row : ℕ) (d : DepositValue) (again : Bool) → SaysHeld row (receipt_of (Holding row d) again)
@@ -101,7 +101,7 @@ module _ (number digest : List ℕ) where
   pub says_only : (row : ℕ) (d : DepositValue) (again : Bool) (r : ℕ) → SaysHeld r (receipt_of (Holding row d) again) → r ≡ row
   says_only row d again r says = sym (same_answer (is_row_of r (Some row) (holds_from_says r number digest false (Holding row d) again says)))
 
-  pub says_none : (f : Finding) (again : Bool) → held_row f ≡ None → (r : ℕ) → SaysHeld r (receipt_of f again) → ⊥
+  pub says_none : (f : Assessment) (again : Bool) → held_row f ≡ None → (r : ℕ) → SaysHeld r (receipt_of f again) → ⊥
   says_none f again none r says = no_answer (sym none ∙ is_row_of r (held_row f) (holds_from_says r number digest false f again says))
 
 -- ---- the rows of which a body is held

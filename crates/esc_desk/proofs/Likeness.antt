@@ -47,14 +47,14 @@ use Rattle.esc_tables.specs.DepositValue.{DepositValue}
 use Rattle.esc_tables.specs.Reading.{reading}
 use Rattle.esc_manifest.specs.declared.row.MRow.{MRow}
 use Rattle.esc_manifest.specs.Extension.{new_rows, extended}
-use Rattle.esc_manifest.specs.Rows.{no_row}
+use Rattle.esc_manifest.specs.ManifestRows.{no_row}
 use Rattle.esc_store.specs.Kept.{Kept}
 use Rattle.esc_store.specs.ReplyValue.{ReplyValue}
-use Rattle.esc_events.specs.declared.finding.Finding.TheVariants.{Differing, Holding}
+use Rattle.esc_events.specs.declared.assessment.Assessment.TheVariants.{Differing, Holding}
 use Rattle.esc_events.specs.ArrivalValue.{ArrivalValue}
 use Rattle.esc_events.specs.Events.{EventValue, Coming, union, coming, early_coming, comings, moment_of}
 use Rattle.esc_events.specs.Events.EventValue.{listed, arrived, moved, arrived_early}
-use Rattle.esc_events.specs.Finding.{finding, found, found_at, as_listed, row_of}
+use Rattle.esc_events.specs.Assessment.{assessment, found, found_at, as_listed, row_of}
 use Rattle.esc_events.specs.Receipts.{alike, distinct, holds_row, receipts_of, receipts_after, reply_to}
 use Rattle.esc_events.specs.Stands.{Among, IsApart, AreBooks, StandsFor, CameFor, CameWith, TellsOf, body_of, holds_by, has_digest, kept_arrivals, held_body, parked_body}
 use Rattle.esc_events.proofs.AmendingLemmas.{row_found}
@@ -196,7 +196,7 @@ module _ {m more : List MRow} {l tail : List Coming} {c : Coming} {e f : List Ev
           let x_counts = within x.0 (among-front (l ++ c ∷ []) tail x.0 (among-front l (c ∷ []) x.0 x.1)) in
           let c_counts = within c (among-front (l ++ c ∷ []) tail c (among-last l c)) in
           let body = apart x.0 c x_counts c_counts same in
-          any_of (holding (m ++ more) r) l x.0 x.1 (ap (λ (b : List ℕ). holds_row r (finding sha256 reading (m ++ more) b)) body ∙ holds)
+          any_of (holding (m ++ more) r) l x.0 x.1 (ap (λ (b : List ℕ). holds_row r (assessment sha256 reading (m ++ more) b)) body ∙ holds)
       by_case (inr (q, at, held)) =
           let x = one_of (holding m r) l (held r (sym (holds_still m more q r c at) ∙ holds)) in
           let lists = row_found m r (row_of m (sha256 x.0.body)) (reading x.0.body) x.2 in

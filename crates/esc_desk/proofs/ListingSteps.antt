@@ -2,7 +2,7 @@
 use Rattle.std.proofs.Common.{◌≡◌, ◌≢◌, ℕ, cond, ◌==◌, List, [], ◌∷◌, All, length, Option, Some, None, sym, ap, ap₂, ◌∙◌}
 use Rattle.std.proofs.lemmas.List.Elements.{All-head, All-tail}
 use Rattle.esc_manifest.specs.declared.row.MRow.{MRow}
-use Rattle.esc_manifest.specs.Rows.{row_at}
+use Rattle.esc_manifest.specs.ManifestRows.{row_at}
 use Rattle.esc_store.specs.Kept.{Kept, body_put, with_body, with_parked}
 use Rattle.esc_events.specs.Amended.{with_listed, with_adopted, with_all_adopted, with_all_dropped, adopted_rows, dropped_rows, amended_kept}
 use Rattle.esc_events.proofs.AmendingLemmas.{equal_number, no_test}

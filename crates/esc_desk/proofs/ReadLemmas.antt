@@ -42,9 +42,9 @@ use Rattle.esc_store.specs.declared.store.Store.{Store}
 use Rattle.esc_store.specs.Standing.{IsAsBefore}
 use Rattle.esc_store.specs.ReplyValue.{ReceiptValue, replies_from}
 use Rattle.esc_events.specs.Events.{EventValue, union}
-use Rattle.esc_events.specs.Finding.{found_at, row_of, held_row}
+use Rattle.esc_events.specs.Assessment.{found_at, row_of, held_row}
 use Rattle.esc_events.specs.Receipts.{is_row}
-use Rattle.esc_events.specs.Reads.{tables_of, AreTables}
+use Rattle.esc_events.specs.LatestTables.{tables_of, AreTables}
 use Rattle.esc_events.specs.Stands.{or_no_deposit, deposit_of, held_body, IsApart, StandsFor}
 use Rattle.esc_events.proofs.Moving.{chain_of}
 use Rattle.esc_events.proofs.MovingLemmas.{same_deposits}

@@ -13,7 +13,7 @@ use Rattle.esc_tables.specs.Reading.{reading}
 use Rattle.esc_manifest.specs.Accepted.{IsAccepted}
 use Rattle.esc_chain.specs.Chain.{InRange}
 use Rattle.esc_chain.specs.Laws.{OneLatestChainAt}
-use Rattle.esc_apply.specs.Objects.{Entry, InOrder}
+use Rattle.esc_apply.specs.ObjectStreams.{Entry, InOrder}
 use Rattle.esc_apply.specs.Registry.{Content}
 use Rattle.esc_store.specs.declared.store.Store.{Store}
 use Rattle.esc_store.specs.Kept.{Kept}
@@ -22,7 +22,7 @@ use Rattle.esc_store.specs.Pages.{IsPage, last_text}
 use Rattle.esc_desk.specs.declared.walk.Pages.{Pages}
 use Rattle.esc_desk.specs.declared.walk.Walk.{Walk}
 use Rattle.esc_events.specs.Events.{EventValue, union, moment_of}
-use Rattle.esc_events.specs.Reads.{AreEntries, tables_of}
+use Rattle.esc_events.specs.LatestTables.{AreEntries, tables_of}
 use Rattle.esc_events.specs.Stands.{kept_arrivals, IsApart, holds_by, held_rows}
 use Rattle.esc_events.proofs.HeldRows.{contains_held}
 use Rattle.esc_events.proofs.Members.{one_of}

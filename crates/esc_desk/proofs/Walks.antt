@@ -14,7 +14,7 @@ use Rattle.esc_envelope.specs.declared.kind.Kind.TheVariants.{Registrar, Contact
 use Rattle.esc_envelope.specs.Kinds.{kind_rank}
 use Rattle.esc_tables.specs.KeyName.{KeyName, key_cmp, key_eq}
 use Rattle.esc_tables.specs.ObjectValue.{ObjectValue}
-use Rattle.esc_apply.specs.Objects.{Entry, InOrder}
+use Rattle.esc_apply.specs.ObjectStreams.{Entry, InOrder}
 use Rattle.esc_apply.specs.Registry.{Content}
 use Rattle.esc_tables.specs.KeyLaws.{one_key as same_key}
 use Rattle.esc_store.specs.Pages.{IsPage, last_text, is_on_page}

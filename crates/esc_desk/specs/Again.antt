@@ -7,8 +7,8 @@ use Rattle.sha2.specs.Sha256.{sha256}
 use Rattle.esc_tables.specs.Reading.{reading}
 use Rattle.esc_store.specs.declared.reply.Verdict.TheVariants.{A2}
 use Rattle.esc_store.specs.ReplyValue.{ReplyValue}
-use Rattle.esc_events.specs.declared.finding.Finding.{Finding}
-use Rattle.esc_events.specs.declared.finding.Finding.TheVariants.{
+use Rattle.esc_events.specs.declared.assessment.Assessment.{Assessment}
+use Rattle.esc_events.specs.declared.assessment.Assessment.TheVariants.{
   Unlisted,
   Unreadable,
   Differing,
@@ -16,7 +16,7 @@ use Rattle.esc_events.specs.declared.finding.Finding.TheVariants.{
 }
 use Rattle.esc_events.specs.ArrivalValue.{ArrivalValue}
 use Rattle.esc_events.specs.Events.{EventValue, union}
-use Rattle.esc_events.specs.Finding.{finding}
+use Rattle.esc_events.specs.Assessment.{assessment}
 use Rattle.esc_events.specs.Receipts.{reply_to}
 use Rattle.esc_events.specs.Stands.{held_body, parked_body}
 
@@ -27,7 +27,7 @@ IsUnkept e a = (r : ReplyValue) → reply_to sha256 reading e a ≡ Some r → r
 
 -- a body with this digest, of which this was found, is missing among these held and parked bodies:
 -- no row lists it, and it isn't parked; or it is the deposit of a row that has no body
-abbrev pub IsMissing : (ℕ → Option (List ℕ)) → (List ℕ → Option (List ℕ)) → List ℕ → Finding
+abbrev pub IsMissing : (ℕ → Option (List ℕ)) → (List ℕ → Option (List ℕ)) → List ℕ → Assessment
     → Type 0
 IsMissing bodies parked digest Unlisted = parked digest ≡ None
 IsMissing bodies parked digest (Unreadable r n) = ⊥
@@ -38,4 +38,4 @@ IsMissing bodies parked digest (Holding r d) = bodies r ≡ None
 abbrev pub IsMissingAfter : List EventValue → ArrivalValue → Type 0
 IsMissingAfter e a =
     IsMissing (held_body sha256 reading e) (parked_body sha256 reading e) (sha256 a.body)
-    (finding sha256 reading (union e) a.body)
+    (assessment sha256 reading (union e) a.body)

@@ -35,7 +35,7 @@ use Rattle.esc_desk.specs.declared.judging.Judged.{Judged}
 use Rattle.esc_desk.specs.Asked.{amendment_of}
 use Rattle.esc_desk.specs.Crashes.{CrashLeaves, LeavesRefused}
 use Rattle.esc_desk.specs.Serving.{DeskServes}
-use Rattle.esc_desk.specs.Sources.{AreJudged}
+use Rattle.esc_desk.specs.DepositSources.{AreJudged}
 
 -- a text reads as an accepted manifest; the union with it is accepted, and has this many rows more
 pub record AddsRows (e : List EventValue) (text : List ℕ) (count : ℕ) : Type 0 where

@@ -27,7 +27,7 @@ use Rattle.esc_desk.specs.Again.{IsUnkept}
 use Rattle.esc_desk.specs.Asked.{taken_by, taken_in}
 use Rattle.esc_desk.specs.Serving.{Serves, DeskServes}
 use Rattle.esc_events.specs.Apart.{WhereApart}
-use Rattle.esc_events.specs.Finding.{row_of}
+use Rattle.esc_events.specs.Assessment.{row_of}
 use Rattle.esc_events.specs.Stands.{parked_body}
 use Rattle.esc_events.specs.Works.{no_work}
 use Rattle.esc_store.specs.Kept.{IsFull}

@@ -7,11 +7,11 @@ use Rattle.esc_store.specs.declared.store.Store.{Store}
 use Rattle.esc_store.specs.Faults.{IsS1OrS2}
 use Rattle.esc_store.specs.Kept.{Kept, IsFull}
 use Rattle.esc_store.specs.Standing.{ChangeOf, IsHonest, Stands, Rest}
-use Rattle.esc_events.specs.declared.finding.Finding.{Finding}
-use Rattle.esc_events.specs.declared.finding.Finding.TheVariants.{Unlisted}
+use Rattle.esc_events.specs.declared.assessment.Assessment.{Assessment}
+use Rattle.esc_events.specs.declared.assessment.Assessment.TheVariants.{Unlisted}
 use Rattle.esc_events.specs.declared.parking.Parking.{Parking}
 use Rattle.esc_events.specs.declared.parking.Parking.TheVariants.{Crowded}
-use Rattle.esc_events.specs.Finding.{row_of}
+use Rattle.esc_events.specs.Assessment.{row_of}
 
 -- no row lists a body with this digest, it isn't parked, and 1,024 others are
 pub record IsCrowded (k : Kept) (digest : List ℕ) : Type 0 where
@@ -47,7 +47,7 @@ module _ {S : Type 0} (g : Ghosts S) where
       → (k.parked digest ≡ None) × IsFull k.parked)) ⊎ IsStoreFault old new fault
 
   -- the same of a body of which this was found
-  abbrev pub IsKeepFault : Store S → Store S → Finding → List ℕ → SFault → Type 0
+  abbrev pub IsKeepFault : Store S → Store S → Assessment → List ℕ → SFault → Type 0
   IsKeepFault old new found digest fault = ((found ≡ Unlisted) × IsParkFault old new digest fault)
       ⊎ IsStoreFault old new fault
 
@@ -66,7 +66,7 @@ module _ {S : Type 0} (g : Ghosts S) where
       → (k.parked digest ≡ None) × IsFull k.parked)) ⊎ IsS1OrS2 fault
 
   -- the same of a body of which this was found
-  abbrev pub IsTakeAgainFault : Store S → Store S → Finding → List ℕ → SFault → Type 0
+  abbrev pub IsTakeAgainFault : Store S → Store S → Assessment → List ℕ → SFault → Type 0
   IsTakeAgainFault old new found digest fault =
       ((found ≡ Unlisted) × IsParkAgainFault old new digest fault) ⊎ IsS1OrS2 fault
 

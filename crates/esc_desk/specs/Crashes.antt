@@ -31,7 +31,7 @@ use Rattle.esc_store.specs.declared.fault.SFault.{SFault}
 use Rattle.esc_store.specs.declared.fault.SFault.TheVariants.{S1, S2, S3, S4, S5}
 use Rattle.esc_store.specs.Kept.{Kept}
 use Rattle.esc_store.specs.ReplyValue.{ReplyValue}
-use Rattle.esc_store.specs.Tables.{IsStore}
+use Rattle.esc_store.specs.StoreTables.{IsStore}
 use Rattle.esc_desk.specs.declared.amendment.AmendFault.{AmendFault}
 use Rattle.esc_desk.specs.declared.amendment.AmendFault.TheVariants.{M, Store as OfStore}
 use Rattle.esc_desk.specs.declared.event.Event.{Event}

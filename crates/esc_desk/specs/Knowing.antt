@@ -2,7 +2,7 @@
 use Rattle.std.specs.Prelude.{◌≡◌, ◌↔◌, ◌⊎◌, ℕ, List, Some, IsSome}
 use Rattle.std.specs.List.{Contains}
 use Rattle.esc_store.specs.Kept.{Kept, IsRising}
-use Rattle.esc_events.specs.Finding.{row_of}
+use Rattle.esc_events.specs.Assessment.{row_of}
 
 -- `more` are, in ascending order, these rows and one more, unless it is one of them
 pub record IsInserted (rows : List ℕ) (row : ℕ) (more : List ℕ) : Type 0 where

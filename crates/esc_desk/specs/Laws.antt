@@ -29,7 +29,7 @@ use Rattle.esc_events.specs.Stands.{
   held_body,
   StandsFor,
 }
-use Rattle.esc_events.specs.Reads.{IsChainOf, tables_of}
+use Rattle.esc_events.specs.LatestTables.{IsChainOf, tables_of}
 
 -- a store that stands for these events has the tables of the latest chain
 pub record HoldsTablesOf (e : List EventValue) (k : Kept) : Type 0 where

@@ -12,7 +12,7 @@ pub mod Places
 pub mod Reads
 pub mod Running
 pub mod Serving
-pub mod Sources
+pub mod DepositSources
 pub mod Takings
 pub mod Walking
 pub mod Worked

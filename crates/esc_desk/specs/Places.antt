@@ -24,7 +24,7 @@ use Rattle.esc_envelope.specs.declared.kind.Kind.TheVariants.{
   Nndn,
 }
 use Rattle.esc_envelope.specs.Kinds.{kind_rank}
-use Rattle.esc_apply.specs.Objects.{Entry}
+use Rattle.esc_apply.specs.ObjectStreams.{Entry}
 use Rattle.esc_store.specs.Pages.{last_text}
 
 -- the kind that is walked first

@@ -22,7 +22,7 @@ use Rattle.esc_events.specs.declared.parked.ParkedBody.{ParkedBody}
 use Rattle.esc_events.specs.Apart.{WhereApart}
 use Rattle.esc_events.specs.Events.{EventValue, union}
 use Rattle.esc_events.specs.Parks.{AreParkedBodies}
-use Rattle.esc_events.specs.Reads.{IsChainOf, tables_of}
+use Rattle.esc_events.specs.LatestTables.{IsChainOf, tables_of}
 use Rattle.esc_events.specs.Receipts.{receipts_of}
 use Rattle.esc_events.specs.Stands.{deposit_of, held_body, parked_body}
 use Rattle.esc_desk.specs.declared.status.Status.{Status}

@@ -10,12 +10,12 @@ use Rattle.esc_store.specs.declared.reply.Verdict.TheVariants.{A2}
 use Rattle.esc_store.specs.declared.store.Store.{Store}
 use Rattle.esc_store.specs.Kept.{Kept}
 use Rattle.esc_store.specs.ReplyValue.{ReplyValue}
-use Rattle.esc_events.specs.declared.finding.Finding.{Finding}
+use Rattle.esc_events.specs.declared.assessment.Assessment.{Assessment}
 use Rattle.esc_events.specs.declared.known.Known.{Known}
 use Rattle.esc_events.specs.ArrivalValue.{ArrivalValue}
 use Rattle.esc_events.specs.Events.{EventValue, union}
 use Rattle.esc_events.specs.Events.EventValue.{listed, arrived}
-use Rattle.esc_events.specs.Finding.{finding}
+use Rattle.esc_events.specs.Assessment.{assessment}
 use Rattle.esc_events.specs.Known.{IsKnown}
 use Rattle.esc_events.specs.Receipts.{reply_to}
 use Rattle.esc_events.specs.Works.{IsWorkOf, IsIdle, no_work}
@@ -79,7 +79,7 @@ module _ {S : Type 0} (g : Ghosts S) where
   -- this was found; a crash leaves the arrival taken in, if its body was missing; this is known of
   -- the rows, and this was the work
   pub record IsTakenAgain (old new : Store S) (e : List EventValue) (a : ArrivalValue) (k : Kept)
-      (found : Finding) (known : Known) (work : Work) : Type 0 where
+      (found : Assessment) (known : Known) (work : Work) : Type 0 where
     pub serves : Serves g new (e ++ arrived a ∷ [])
     pub knows : IsKnown serves.kept known
     pub works : IsWorkOf e (arrived a) work
@@ -98,5 +98,5 @@ module _ {S : Type 0} (g : Ghosts S) where
     pub rests : reply.verdict ≢ A2 → work ≡ no_work
     pub leaves : LeavesWith old.store.conn new.store.conn e a
     pub left : reply.verdict ≡ A2
-        → IsMissing k.bodies k.parked (sha256 a.body) (finding sha256 reading (union e) a.body)
+        → IsMissing k.bodies k.parked (sha256 a.body) (assessment sha256 reading (union e) a.body)
         → LeavesOnlyFor g new.store.conn (e ++ arrived a ∷ [])

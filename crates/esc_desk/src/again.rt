@@ -28,11 +28,11 @@ ghost use Rattle.esc_store.specs.Faults.{IsS1OrS2};
 ghost use Rattle.esc_store.specs.Kept.{Kept};
 ghost use Rattle.esc_store.specs.ReplyValue.{ReplyValue, reply_alike};
 ghost use Rattle.esc_store.specs.Standing.{Stands, IsHonest};
-ghost use Rattle.esc_events.specs.declared.finding.Finding.TheVariants.{Unlisted, Holding};
+ghost use Rattle.esc_events.specs.declared.assessment.Assessment.TheVariants.{Unlisted, Holding};
 ghost use Rattle.esc_events.specs.ArrivalValue.{an_arrival};
 ghost use Rattle.esc_events.specs.Events.{EventValue, union};
 ghost use Rattle.esc_events.specs.Events.EventValue.{arrived};
-ghost use Rattle.esc_events.specs.Finding.{finding};
+ghost use Rattle.esc_events.specs.Assessment.{assessment};
 ghost use Rattle.esc_events.specs.Known.{IsKnown};
 ghost use Rattle.esc_events.specs.Stands.{StandsFor};
 ghost use Rattle.esc_events.specs.Taking.{IsAgain};
@@ -40,15 +40,15 @@ ghost use Rattle.esc_desk.specs.Causes.{IsCrowded, IsAgainFault};
 ghost use Rattle.esc_desk.specs.Crashes.{AddsStoreFor};
 ghost use Rattle.esc_desk.specs.Takings.{IsTakenAgain, IsAnsweredAgain};
 
+use crate::assessment::find;
 use crate::bodies::{hold_body, park_body};
 use crate::desk::{Desk, NO_WORK};
-use crate::finding::find;
 use crate::knowing::insert_row;
 use crate::parking::parking_of;
 use crate::plan::{Source, latest_steps, plan_move};
 use esc_apply::{Work, read_deposits_mention_few};
 use esc_chain::latest_chain_at_rows_are_held;
-use esc_events::{Finding, Known, Parking, books_after_a_lost_one_again, chain_after_an_event};
+use esc_events::{Assessment, Known, Parking, books_after_a_lost_one_again, chain_after_an_event};
 use esc_store::{Reply, SFault, Store, Verdict};
 use esc_tables::Deposit;
 use sqlite::Alter;
@@ -112,7 +112,8 @@ impl<S: Alter> Desk<S> {
         ensures taken { IsHonest S.Store self.new.store → (e : List EventValue) (n : List ℕ)
             (k : Kept) (reply : ReplyValue) → Stands S.Store self.old.store k
             → IfSome self.old.known (IsKnown k)
-            → IsAgain e (an_arrival n body.now) k (finding sha256 reading (union e) body.now) reply
+            → IsAgain e (an_arrival n body.now) k
+            (assessment sha256 reading (union e) body.now) reply
             → IfOk result (IsAnsweredAgain S.Store self.old self.new e (an_arrival n body.now) k
             reply) }
         ensures place { IsHonest S.Store self.new.store → (k : Kept)
@@ -126,7 +127,8 @@ impl<S: Alter> Desk<S> {
         ensures crash { IsHonest S.Store self.new.store → (e : List EventValue) (n : List ℕ)
             (k : Kept) (reply : ReplyValue) → Stands S.Store self.old.store k
             → IfSome self.old.known (IsKnown k)
-            → IsAgain e (an_arrival n body.now) k (finding sha256 reading (union e) body.now) reply
+            → IsAgain e (an_arrival n body.now) k
+            (assessment sha256 reading (union e) body.now) reply
             → AddsStoreFor S.Store self.old.store.conn self.new.store.conn result
             (e ++ arrived (an_arrival n body.now) ∷ []) }
         ensures honest { IsHonest S.Store self.new.store → IsHonest S.Store self.old.store }
@@ -153,9 +155,9 @@ fn take_body<S: Alter>(
     requires { digest.now ≡ sha256 body.now }
     ensures taken { IsHonest S.Store store.new → (e : List EventValue) (n : List ℕ) (k : Kept)
         (reply : ReplyValue) → Stands S.Store store.old k → IsKnown k known.old
-        → IsAgain e (an_arrival n body.now) k (finding sha256 reading (union e) body.now) reply
+        → IsAgain e (an_arrival n body.now) k (assessment sha256 reading (union e) body.now) reply
         → IfOk result (IsTakenAgain S.Store store.old store.new e (an_arrival n body.now) k
-        (finding sha256 reading (union e) body.now) known.new) }
+        (assessment sha256 reading (union e) body.now) known.new) }
     ensures place { IsHonest S.Store store.new → (k : Kept) → Stands S.Store store.old k
         → OnOk result (IsCrowded k digest.now → ⊥) }
     ensures counted { IfOk result (λ work. store.new.writes
@@ -165,7 +167,7 @@ fn take_body<S: Alter>(
         → Stands S.Store store.new k) }
     ensures crash { IsHonest S.Store store.new → (e : List EventValue) (n : List ℕ) (k : Kept)
         (reply : ReplyValue) → Stands S.Store store.old k → IsKnown k known.old
-        → IsAgain e (an_arrival n body.now) k (finding sha256 reading (union e) body.now) reply
+        → IsAgain e (an_arrival n body.now) k (assessment sha256 reading (union e) body.now) reply
         → AddsStoreFor S.Store store.old.conn store.new.conn result
         (e ++ arrived (an_arrival n body.now) ∷ []) }
     ensures honest { IsHonest S.Store store.new → IsHonest S.Store store.old }
@@ -182,7 +184,7 @@ fn take_found<S: Alter>(
     alloc: Global,
     digest: &[u8; 32],
     known: &mut Known,
-    found: Finding,
+    found: Assessment,
     body: &[u8],
 ) -> Result<Work, SFault>
     requires { digest.now ≡ sha256 body.now }
@@ -211,9 +213,9 @@ fn take_found<S: Alter>(
     // Read for the proof alone: it shows that the count is below 2^64.
     let _writes = store.writes();
     match found {
-        Finding::Unlisted => park_again(store, alloc, digest, body),
-        Finding::Unreadable(..) | Finding::Differing(_) => Ok(NO_WORK),
-        Finding::Holding(row, deposit) => hold_again(store, alloc, known, row, deposit, body),
+        Assessment::Unlisted => park_again(store, alloc, digest, body),
+        Assessment::Unreadable(..) | Assessment::Differing(_) => Ok(NO_WORK),
+        Assessment::Holding(row, deposit) => hold_again(store, alloc, known, row, deposit, body),
     }
 }
 

@@ -4,11 +4,11 @@ ghost use Rattle.std.specs.Prelude.{◌≡◌, ◌<◌, ◌≤◌, ◌++◌, len
 ghost use Rattle.esc_store.specs.Faults.{IsS1OrS2};
 ghost use Rattle.esc_store.specs.Kept.{Kept};
 ghost use Rattle.esc_store.specs.Standing.{Stands, IsHonest, IsAsBefore};
-ghost use Rattle.esc_desk.specs.Sources.{IsJudgement, AreJudged, adopted_by, dropped_by};
+ghost use Rattle.esc_desk.specs.DepositSources.{IsJudgement, AreJudged, adopted_by, dropped_by};
 
-use crate::finding::compare;
+use crate::assessment::compare;
 use esc_bundle::{Fault, NoMemory};
-use esc_events::Finding;
+use esc_events::Assessment;
 use esc_manifest::MRow;
 use esc_store::{SFault, Store};
 use esc_tables::{Deposit, read_deposit};
@@ -98,13 +98,15 @@ pub(crate) fn judge<S: Alter>(
 }
 
 // What is judged of a body of which this was found.
-fn judgement_of(finding: Finding) -> Judgement
-    ensures { result ≡ judgement_of finding }
+fn judgement_of(assessment: Assessment) -> Judgement
+    ensures { result ≡ judgement_of assessment }
 {
-    match finding {
-        Finding::Holding(_, deposit) => Judgement::Adopted(deposit),
-        Finding::Unlisted | Finding::Unreadable(..) | Finding::Differing(_) => Judgement::Dropped,
+    match assessment {
+        Assessment::Holding(_, deposit) => Judgement::Adopted(deposit),
+        Assessment::Unlisted | Assessment::Unreadable(..) | Assessment::Differing(_) => {
+            Judgement::Dropped
+        }
     }
 }
 
-ghost use Rattle.esc_desk.specs.Sources.{judgement_of};
+ghost use Rattle.esc_desk.specs.DepositSources.{judgement_of};

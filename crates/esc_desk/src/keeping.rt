@@ -27,12 +27,12 @@ ghost use Rattle.esc_apply.specs.Registry.{saturated};
 ghost use Rattle.esc_store.specs.Kept.{Kept};
 ghost use Rattle.esc_store.specs.ReplyValue.{reply_alike};
 ghost use Rattle.esc_store.specs.Standing.{Stands, IsHonest};
-ghost use Rattle.esc_events.specs.declared.finding.Finding.{Finding};
-ghost use Rattle.esc_events.specs.declared.finding.Finding.TheVariants.{Unlisted, Holding};
+ghost use Rattle.esc_events.specs.declared.assessment.Assessment.{Assessment};
+ghost use Rattle.esc_events.specs.declared.assessment.Assessment.TheVariants.{Unlisted, Holding};
 ghost use Rattle.esc_events.specs.ArrivalValue.{an_arrival};
 ghost use Rattle.esc_events.specs.Events.{EventValue, union};
 ghost use Rattle.esc_events.specs.Events.EventValue.{arrived};
-ghost use Rattle.esc_events.specs.Finding.{held_row};
+ghost use Rattle.esc_events.specs.Assessment.{held_row};
 ghost use Rattle.esc_events.specs.Known.{IsKnown};
 ghost use Rattle.esc_events.specs.Notes.{held_by};
 ghost use Rattle.esc_events.specs.Stands.{StandsFor};
@@ -48,9 +48,9 @@ ghost use Rattle.esc_desk.specs.Causes.{
 ghost use Rattle.esc_desk.specs.Crashes.{AddsStoreFor};
 ghost use Rattle.esc_desk.specs.Takings.{IsKept, IsTaken};
 
+use crate::assessment::{find, held_row};
 use crate::changes::{hold_deposit, note_receipt};
 use crate::desk::NO_WORK;
-use crate::finding::{find, held_row};
 use crate::knowing::insert_row;
 use crate::parking::parking_of;
 use crate::plan::{Source, latest_steps, plan_move};
@@ -58,7 +58,7 @@ use crate::receipt::{is_among, receipt_by, reply_of};
 use crate::reread::Reread;
 use esc_apply::{Work, read_deposits_mention_few};
 use esc_chain::latest_chain_at_rows_are_held;
-use esc_events::{Finding, Known, Parking, chain_after_an_event};
+use esc_events::{Assessment, Known, Parking, chain_after_an_event};
 use esc_store::{Number, Receipt, Reply, SFault, Store};
 use esc_tables::Deposit;
 use sqlite::Alter;
@@ -117,7 +117,7 @@ fn keep<S: Alter>(
     alloc: Global,
     receipt: &Receipt<'_>,
     known: &mut Known,
-    found: Finding,
+    found: Assessment,
     body: &[u8],
     last: &mut Option<Reread>,
 ) -> Result<(u64, Work), SFault>
@@ -148,12 +148,12 @@ fn keep<S: Alter>(
         receipt.now.digest) }
 {
     match found {
-        Finding::Unlisted => keep_parked(store, alloc, receipt, known, body),
-        Finding::Unreadable(..) | Finding::Differing(_) => {
+        Assessment::Unlisted => keep_parked(store, alloc, receipt, known, body),
+        Assessment::Unreadable(..) | Assessment::Differing(_) => {
             let number = note_receipt(store, receipt, Parking::Needless, body)?;
             Ok((number, NO_WORK))
         }
-        Finding::Holding(row, deposit) => {
+        Assessment::Holding(row, deposit) => {
             keep_held(store, alloc, receipt, known, row, deposit, body, last)
         }
     }

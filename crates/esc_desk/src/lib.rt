@@ -100,11 +100,11 @@
 mod again;
 mod amendment;
 mod arrival;
+mod assessment;
 mod bodies;
 mod changes;
 mod desk;
 mod event;
-mod finding;
 mod judging;
 mod keeping;
 mod knowing;

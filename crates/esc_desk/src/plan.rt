@@ -1,10 +1,8 @@
 //! How the registry gets from the chain that the store keeps to another one.
 
 ghost use Rattle.std.specs.Prelude.{◌≡◌, ◌≤◌, ◌<◌, ℕ, List, Option, length, IfOk, IfErr, OnOk};
-ghost use Rattle.std.specs.FinSet as set;
 ghost use Rattle.esc_tables.specs.Reading.{reading};
 ghost use Rattle.esc_manifest.specs.declared.row.MRow.{MRow};
-ghost use Rattle.esc_chain.specs.Chain.{InRange};
 ghost use Rattle.esc_store.specs.Faults.{IsS1OrS2};
 ghost use Rattle.esc_store.specs.Kept.{Kept, step_at, kept_chain};
 ghost use Rattle.esc_store.specs.Standing.{Stands, IsHonest, IsAsBefore};
@@ -17,7 +15,7 @@ ghost use Rattle.esc_events.specs.Plans.{
   IsPlanned,
   HasDepositsPast,
 };
-ghost use Rattle.esc_desk.specs.Sources.{IsSource};
+ghost use Rattle.esc_desk.specs.DepositSources.{IsSource};
 
 use crate::judging::{Judgement, judge};
 use esc_apply::{Step, common_front};
@@ -57,21 +55,9 @@ pub(crate) fn latest_steps(
         (λ steps. AreLatestSteps manifest.now rows.now moment steps.items) }
     ensures cause { IfErr result IsS1OrS2 }
 {
-    let held = set_of(alloc, manifest, rows)?;
+    let held = Held::from_rows(alloc, manifest, rows)?.ok_or(SFault::S1)?;
     let chain = latest_chain_at(alloc, manifest, &held, moment)?;
     Ok(steps_of(alloc, manifest.rows(), &chain)?)
-}
-
-// The set of these rows.
-fn set_of(alloc: Global, manifest: &Manifest, rows: &[usize]) -> Result<Held, SFault>
-    ensures held { IfOk result (λ h. h ≡ set.from_list rows.now) }
-    ensures in_range { IfOk result (InRange manifest.now) }
-    ensures cause { IfErr result IsS1OrS2 }
-{
-    match Held::from_rows(alloc, manifest, rows)? {
-        Some(held) => Ok(held),
-        None => Err(SFault::S1),
-    }
 }
 
 // The steps of rows.

@@ -22,7 +22,7 @@ ghost use Rattle.esc_store.specs.Standing.{Stands, IsHonest, IsAsBefore};
 ghost use Rattle.esc_desk.specs.Calls.{store_of, writes_of, OkOver, Stays};
 ghost use Rattle.esc_events.specs.Events.{EventValue, union, moment_of};
 ghost use Rattle.esc_events.specs.Parks.{IsParkedBody};
-ghost use Rattle.esc_events.specs.Reads.{AreTables};
+ghost use Rattle.esc_events.specs.LatestTables.{AreTables};
 ghost use Rattle.esc_desk.specs.Serving.{Serves};
 ghost use Rattle.esc_desk.specs.Reads.{
   last,

@@ -5,7 +5,7 @@ ghost use Rattle.esc_store.specs.ReplyValue.{reply_kept};
 ghost use Rattle.esc_events.specs.Receipts.{receipt_by, is_among};
 
 use esc_bundle::NoMemory;
-use esc_events::Finding;
+use esc_events::Assessment;
 use esc_manifest::MRow;
 use esc_store::{Number, Receipt, Reply, Verdict};
 use std::alloc::Global;
@@ -14,16 +14,16 @@ use std::alloc::Global;
 pub(crate) fn receipt_by<'a>(
     number: &Number<'a>,
     digest: [u8; 32],
-    finding: &Finding,
+    assessment: &Assessment,
     again: bool,
 ) -> Receipt<'a>
-    ensures { result ≡ receipt_by number.now digest false finding.now again }
+    ensures { result ≡ receipt_by number.now digest false assessment.now again }
 {
-    let (verdict, row, again, orphans) = match finding {
-        Finding::Unlisted => (Verdict::A5, None, None, None),
-        Finding::Unreadable(row, fault) => (Verdict::A3(*fault), Some(*row), None, None),
-        Finding::Differing(row) => (Verdict::A4, Some(*row), None, None),
-        Finding::Holding(row, deposit) => (
+    let (verdict, row, again, orphans) = match assessment {
+        Assessment::Unlisted => (Verdict::A5, None, None, None),
+        Assessment::Unreadable(row, fault) => (Verdict::A3(*fault), Some(*row), None, None),
+        Assessment::Differing(row) => (Verdict::A4, Some(*row), None, None),
+        Assessment::Holding(row, deposit) => (
             Verdict::A1,
             Some(*row),
             Some(again),

@@ -14,9 +14,9 @@ use Rattle.serde_json.specs.Find.{get, as_str}
 use Rattle.esc_envelope.specs.EnvelopeValue.{TableValue}
 use Rattle.esc_envelope.specs.Id.{is_id}
 use Rattle.esc_envelope.specs.Members.{text_at, array_in, if_id}
-use Rattle.esc_envelope.specs.StepLaws.{Bound, bound}
-use Rattle.esc_envelope.specs.Steps.{◌>>=◌}
-use Rattle.esc_envelope.specs.Tables.{all_of, are_distinct, is_name, if_name, name_of, kind_of, parent_of, field_of, if_distinct, fields_in, fields_of, place_of, key_of, IsTable, table_of, have_distinct_names, have_one_parent, AreContents, AreDeletes, if_contents, if_deletes, contents_in, deletes_in}
+use Rattle.esc_envelope.specs.SequenceLaws.{Bound, bound}
+use Rattle.esc_envelope.specs.Sequences.{◌>>=◌}
+use Rattle.esc_envelope.specs.DeclaredTables.{all_of, are_distinct, is_name, if_name, name_of, kind_of, parent_of, field_of, if_distinct, fields_in, fields_of, place_of, key_of, IsTable, table_of, have_distinct_names, have_one_parent, AreContents, AreDeletes, if_contents, if_deletes, contents_in, deletes_in}
 
 -- ---- one step after another
 

@@ -15,7 +15,7 @@ use Rattle.std.proofs.lemmas.Map.Text.{is_eq-slice_cmp}
 use Rattle.std.proofs.lemmas.Slice.Eq.{bytes_eq-Decides}
 use Rattle.std.proofs.Math.Bool.{or-false, or-true, or_assoc, and-false}
 use Rattle.std.proofs.lemmas.Cmp.{nat_list_eq_equiv}
-use Rattle.esc_envelope.specs.Tables.{is_among, are_distinct, place_of}
+use Rattle.esc_envelope.specs.DeclaredTables.{is_among, are_distinct, place_of}
 
 pub among_map : {A : Type 0} (v : A → List ℕ) (text : List ℕ) (xs : List A) → list_any (λ x. bytes_eq (v x) text) xs ≡ is_among text (map v xs)
 among_map v text xs = sym (list_any_map (λ other. bytes_eq other text) v xs)

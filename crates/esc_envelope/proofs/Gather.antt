@@ -2,8 +2,8 @@
 use Rattle.std.proofs.Common.{◌≡◌, ℕ, ◌+◌, ◌<◌, ◌≤◌, List, [], ◌∷◌, ◌++◌, length, drop, map, get_or, Option, Some, None, refl, sym, ap, ◌∙◌, append_assoc}
 use Rattle.std.specs.Prelude.{option_map}
 use Rattle.std.proofs.lemmas.List.{drop_more, drop_all, append-nil}
-use Rattle.esc_envelope.specs.Steps.{◌>>=◌}
-use Rattle.esc_envelope.specs.Tables.{all_of}
+use Rattle.esc_envelope.specs.Sequences.{◌>>=◌}
+use Rattle.esc_envelope.specs.DeclaredTables.{all_of}
 
 -- what was made so far, and what is left
 abbrev pub after_front : {B : Type 0} → List B → Option (List B) → Option (List B)

@@ -8,7 +8,7 @@ use Rattle.esc_envelope.specs.declared.kind.Kind.{Kind}
 use Rattle.esc_envelope.specs.EnvelopeValue.{EnvelopeValue, TableValue}
 use Rattle.esc_envelope.specs.HeaderValue.{HeaderValue}
 use Rattle.esc_envelope.specs.Members.{header_of, counts_of, array_of}
-use Rattle.esc_envelope.specs.Tables.{contents_in, deletes_in}
+use Rattle.esc_envelope.specs.DeclaredTables.{contents_in, deletes_in}
 use Rattle.esc_envelope.specs.Envelope.{json_of, envelope_in, envelope_of}
 use Rattle.esc_envelope.specs.EnvelopeFaults.{LacksMember, LacksTables, Stands, IsLeast}
 

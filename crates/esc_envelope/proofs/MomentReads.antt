@@ -13,7 +13,7 @@ use Rattle.jiff_fmt.proofs.ReaderLemmas.{fraction_value-nil}
 use Rattle.esc_envelope.specs.declared.parts.Day.{Day}
 use Rattle.esc_envelope.specs.declared.parts.Clock.{Clock}
 use Rattle.esc_envelope.specs.Moment.{two_digits, day_text, clock_text, fraction_text, is_day, is_clock, is_fraction, moment_value, IsWatermark}
-use Rattle.esc_envelope.specs.Steps.{◌>>=◌}
+use Rattle.esc_envelope.specs.Sequences.{◌>>=◌}
 use Rattle.esc_envelope.specs.Watermark.{two_at, byte_at, before_z, day_at, clock_at, billionths_of, watermark_of}
 
 -- the value of a step that has one

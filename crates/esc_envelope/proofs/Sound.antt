@@ -3,11 +3,11 @@ use Rattle.std.proofs.Common.{◌≡◌, ℕ, ◌≤◌, List, ◌++◌, Option,
 use Rattle.std.specs.Prelude.{All, Result, Ok, Err, codes}
 use Rattle.std.proofs.lemmas.List.Elements.{All-append}
 use Rattle.serde_json.specs.Data.{Data}
-use Rattle.esc_bundle.specs.Steps.{◌>>=◌, or_fault}
+use Rattle.esc_bundle.specs.Tests.{◌>>=◌, or_fault}
 use Rattle.esc_envelope.specs.EnvelopeValue.{EnvelopeValue}
 use Rattle.esc_envelope.specs.Envelope.{json_of, envelope_in, envelope_of}
 use Rattle.esc_envelope.specs.Members.{header_of, counts_of, array_of}
-use Rattle.esc_envelope.specs.Tables.{IsTable, AreContents, AreDeletes, contents_in, deletes_in}
+use Rattle.esc_envelope.specs.DeclaredTables.{IsTable, AreContents, AreDeletes, contents_in, deletes_in}
 use Rattle.esc_envelope.proofs.Declared.{are_contents, are_deletes}
 
 -- ---- one step

@@ -3,10 +3,10 @@ use Rattle.std.specs.Prelude.{ℕ, List, if◌then◌else◌, Option, None, Resu
 use Rattle.std.specs.Str.{is_utf8}
 use Rattle.serde_json.specs.Data.{Data}
 use Rattle.serde_json.specs.Read.{read}
-use Rattle.esc_bundle.specs.Steps.{◌>>=◌, or_fault}
+use Rattle.esc_bundle.specs.Tests.{◌>>=◌, or_fault}
 use Rattle.esc_envelope.specs.EnvelopeValue.{EnvelopeValue}
 use Rattle.esc_envelope.specs.Members.{header_of, counts_of, array_of}
-use Rattle.esc_envelope.specs.Tables.{contents_in, deletes_in}
+use Rattle.esc_envelope.specs.DeclaredTables.{contents_in, deletes_in}
 
 -- the JSON that a text is, which has to be UTF-8
 unfoldable pub json_of : List ℕ → Option Data

@@ -3,7 +3,7 @@ use Rattle.std.specs.Prelude.{◌≡◌, ◌⊎◌, ◌≤◌, ℕ, List, Some, 
 use Rattle.serde_json.specs.Data.{Data}
 use Rattle.esc_envelope.specs.Envelope.{json_of}
 use Rattle.esc_envelope.specs.Members.{header_of, counts_of, array_of}
-use Rattle.esc_envelope.specs.Tables.{contents_in, deletes_in}
+use Rattle.esc_envelope.specs.DeclaredTables.{contents_in, deletes_in}
 
 -- U6: a member other than those of a table is missing, or not of its form
 abbrev pub LacksMember : Data → Type 0

@@ -9,8 +9,8 @@ pub mod Members
 pub mod Moment
 pub mod Place
 pub mod PlaceLaws
-pub mod StepLaws
-pub mod Steps
-pub mod Tables
+pub mod SequenceLaws
+pub mod Sequences
+pub mod DeclaredTables
 pub mod Told
 pub mod Watermark

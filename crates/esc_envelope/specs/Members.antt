@@ -28,7 +28,7 @@ use Rattle.esc_envelope.specs.declared.place.DepositType.TheVariants.{Diff, Incr
 use Rattle.esc_envelope.specs.HeaderValue.{HeaderValue}
 use Rattle.esc_envelope.specs.Id.{is_id}
 use Rattle.esc_envelope.specs.Kinds.{kind_name, kind_rank, kinds}
-use Rattle.esc_envelope.specs.Steps.{◌>>=◌}
+use Rattle.esc_envelope.specs.Sequences.{◌>>=◌}
 use Rattle.esc_envelope.specs.Watermark.{watermark_of}
 
 -- the text of a member that must be present

@@ -34,7 +34,7 @@ use Rattle.jiff_fmt.specs.Text.{fraction}
 use Rattle.esc_envelope.specs.declared.parts.Day.{Day}
 use Rattle.esc_envelope.specs.declared.parts.Clock.{Clock}
 use Rattle.esc_envelope.specs.Moment.{is_day, is_clock, is_fraction, moment_value, moment_text}
-use Rattle.esc_envelope.specs.Steps.{◌>>=◌}
+use Rattle.esc_envelope.specs.Sequences.{◌>>=◌}
 
 -- the moments of the years 1970 to 2261, in nanoseconds since 1970-01-01T00:00:00Z
 abbrev pub IsInYears : ℤ → Type 0

@@ -48,7 +48,7 @@ pub struct Envelope {
 
 impl Model for Envelope {
     ghost use Rattle.esc_envelope.specs.EnvelopeValue.{EnvelopeValue};
-    ghost use Rattle.esc_envelope.specs.Tables.{AreContents, AreDeletes};
+    ghost use Rattle.esc_envelope.specs.DeclaredTables.{AreContents, AreDeletes};
 
     ghost Value = { EnvelopeValue };
 

@@ -6,7 +6,7 @@
 ghost use Rattle.std.specs.Prelude.{◌≡◌, ◌≤◌, ◌++◌, ℕ, List, All, Ok, Err};
 ghost use Rattle.esc_envelope.specs.EnvelopeValue.{EnvelopeValue};
 ghost use Rattle.esc_envelope.specs.Envelope.{envelope_of};
-ghost use Rattle.esc_envelope.specs.Tables.{IsTable, AreContents, AreDeletes};
+ghost use Rattle.esc_envelope.specs.DeclaredTables.{IsTable, AreContents, AreDeletes};
 
 /// What an envelope that is read declares: each table has its form, and the tables are compatible
 /// with one another.

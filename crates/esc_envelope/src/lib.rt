@@ -23,7 +23,7 @@
 //!
 //! Its contract says exactly that. `specs/Envelope.antt` has the function `envelope_of` from bytes
 //! to an envelope or a refusal's number, put together from one small definition for each member
-//! (`specs/Members.antt`, `specs/Tables.antt`); `specs/EnvelopeFaults.antt` says which texts each
+//! (`specs/Members.antt`, `specs/DeclaredTables.antt`); `specs/EnvelopeFaults.antt` says which texts each
 //! number refuses, and that the refusal is the least of them (`IsLeast`). An `Ok` is the envelope
 //! that `envelope_of` gives, and a refusal is its number; only out of memory may be returned in
 //! place of either. Contracts see an `Envelope` as an `EnvelopeValue`, a `Header` as a

@@ -26,7 +26,7 @@ pub struct Table {
 impl Model for Table {
     ghost use Rattle.std.specs.Prelude.{map, string_bytes};
     ghost use Rattle.esc_envelope.specs.EnvelopeValue.{TableValue};
-    ghost use Rattle.esc_envelope.specs.Tables.{IsTable};
+    ghost use Rattle.esc_envelope.specs.DeclaredTables.{IsTable};
 
     ghost Value = { TableValue };
 

@@ -4,7 +4,7 @@
 ghost use Rattle.std.specs.Prelude.{◌≡◌, IfOk, map, option_map, string_bytes, count_by};
 ghost use Rattle.std.specs.List.{list_all};
 ghost use Rattle.serde_json.specs.View.{view};
-ghost use Rattle.esc_envelope.specs.Tables.{
+ghost use Rattle.esc_envelope.specs.DeclaredTables.{
   all_of,
   is_name_byte,
   is_name,
@@ -94,7 +94,7 @@ fn key_in(table: &Value, fields: &[String]) -> Option<usize>
 }
 
 /// The table that a declaration declares, or `None` if one of its members is not of its form.
-#[tactic(auto, unfolding(crate::specs::Tables::table_of))]
+#[tactic(auto, unfolding(crate::specs::DeclaredTables::table_of))]
 fn table_in(alloc: Global, table: &Value) -> Result<Option<Table>, NoMemory>
     ensures { IfOk result (λ o. o ≡ table_of (view table.now)) }
 {

@@ -16,7 +16,7 @@ ghost use Rattle.std.specs.List.{list_any};
 ghost use Rattle.std.specs.Str.{bytes_eq};
 ghost use Rattle.serde_json.specs.View.{view};
 ghost use Rattle.esc_envelope.specs.Members.{array_in, array_of};
-ghost use Rattle.esc_envelope.specs.Tables.{all_of, field_of, fields_in, are_distinct};
+ghost use Rattle.esc_envelope.specs.DeclaredTables.{all_of, field_of, fields_in, are_distinct};
 
 use crate::id::is_id;
 use esc_bundle::NoMemory;

@@ -6,7 +6,7 @@ use Rattle.std.proofs.lemmas.Bool.Decides.{nat_tests}
 use Rattle.sha2.specs.Sha256.{sha256}
 use Rattle.esc_tables.specs.Reading.{reading}
 use Rattle.esc_manifest.specs.declared.row.MRow.{MRow}
-use Rattle.esc_manifest.specs.Rows.{row_at}
+use Rattle.esc_manifest.specs.ManifestRows.{row_at}
 use Rattle.esc_manifest.specs.Accepted.{IsAccepted}
 use Rattle.esc_manifest.specs.Extension.{new_rows, extended}
 use Rattle.esc_store.specs.ReplyValue.{ReceiptValue, reply_alike}
@@ -14,7 +14,7 @@ use Rattle.esc_store.specs.Kept.{Kept, SaysHeld, TellsUnlisted, with_moment}
 use Rattle.esc_events.specs.ArrivalValue.{ArrivalValue}
 use Rattle.esc_events.specs.Events.{EventValue, Coming, union, comings}
 use Rattle.esc_events.specs.Events.EventValue.{listed, moved}
-use Rattle.esc_events.specs.Finding.{found, row_of}
+use Rattle.esc_events.specs.Assessment.{found, row_of}
 use Rattle.esc_events.specs.Receipts.{holds_row, distinct, receipts_after, receipts_of, reply_to}
 use Rattle.esc_events.specs.Stands.{AreBooks, IsApart, TellsOf, CameFor, holds_by, kept_arrivals, held_body, parked_body}
 use Rattle.esc_events.specs.Amended.{judged, amended_bodies, still_parked, with_listed, amended_kept}

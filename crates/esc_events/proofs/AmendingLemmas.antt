@@ -13,15 +13,15 @@ use Rattle.std.proofs.lemmas.List.Sums.{fails_before_first}
 use Rattle.esc_tables.specs.DepositValue.{DepositValue}
 use Rattle.esc_tables.specs.Reading.{reading}
 use Rattle.esc_manifest.specs.declared.row.MRow.{MRow}
-use Rattle.esc_manifest.specs.Rows.{row_at, no_row, id_at, resend_at}
+use Rattle.esc_manifest.specs.ManifestRows.{row_at, no_row, id_at, resend_at}
 use Rattle.esc_manifest.specs.Accepted.{IsAccepted}
 use Rattle.esc_manifest.specs.Extension.{new_rows, extended}
 use Rattle.esc_store.specs.ReplyValue.{ReplyValue, ReceiptValue, reply_kept, is_alike, reply_alike}
-use Rattle.esc_events.specs.declared.finding.Finding.{Finding}
-use Rattle.esc_events.specs.declared.finding.Finding.TheVariants.{Differing, Holding}
+use Rattle.esc_events.specs.declared.assessment.Assessment.{Assessment}
+use Rattle.esc_events.specs.declared.assessment.Assessment.TheVariants.{Differing, Holding}
 use Rattle.esc_events.specs.Events.{EventValue, Coming, coming, early_coming, union_after, comings_after, moment_after}
 use Rattle.esc_events.specs.Events.EventValue.{listed, arrived, moved, arrived_early}
-use Rattle.esc_events.specs.Finding.{finding, found_at, found, as_listed, row_of, held_row}
+use Rattle.esc_events.specs.Assessment.{assessment, found_at, found, as_listed, row_of, held_row}
 use Rattle.esc_events.specs.Receipts.{is_row, holds_row, receipt_by, holds_any, receipt_for, receipts_after}
 use Rattle.esc_events.specs.Stands.{Among, body_of, holds_by, has_digest}
 use Rattle.esc_events.specs.Amended.{judged}
@@ -225,7 +225,7 @@ module _ (digest : List ℕ → List ℕ) {n : List MRow} (okn : IsAccepted n) {
       never : digest c.body ≡ d → holds_by digest reading n r c ≡ false → (b : Coming) → Among l b → holds_by digest reading n r b ≡ true → ⊥
       never same miss b among is =
           let one : c.body ≡ b.body = apart c b (inl refl) (inr among) (same ∙ sym (digest_is digest reading n r b is)) in
-          true≢false (sym is ∙ ap (λ (x : List ℕ). holds_row r (finding digest reading n x)) (sym one) ∙ miss)
+          true≢false (sym is ∙ ap (λ (x : List ℕ). holds_row r (assessment digest reading n x)) (sym one) ∙ miss)
 
       by_digest : (t : Bool) → has_digest digest reading d c ≡ t → (h : Bool) → holds_by digest reading n r c ≡ h
           → judged n r (body_of (find (has_digest digest reading d) l)) ≡ body_of (find (holds_by digest reading n r) l)
@@ -282,7 +282,7 @@ rows_short m (arrived_early a ∷ e) c (inr there) = rows_short m e c there
 
 module _ (digest : List ℕ → List ℕ) (reads : List ℕ → Result DepositValue ℕ) where
   -- the row in the receipt of an arrival where this was found of its body
-  abbrev told_row : List Coming → Coming → Finding → Option ℕ
+  abbrev told_row : List Coming → Coming → Assessment → Option ℕ
   told_row before c f = (receipt_by c.number (digest c.body) c.early f (holds_any digest reads before (held_row f))).row
 
   row_below : (c : Coming) (n : ℕ) → length c.rows ≤ n → (before : List Coming) → IsBelow n (receipt_for digest reads before c).row

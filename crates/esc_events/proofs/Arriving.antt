@@ -13,15 +13,15 @@ use Rattle.esc_tables.specs.Reading.{reading}
 use Rattle.esc_store.specs.declared.reply.Verdict.TheVariants.{A2}
 use Rattle.esc_store.specs.Kept.{Kept, SaysHeld, TellsUnlisted, is_unlisted, AreHeldBy, body_put, parked_put, with_body, with_receipt}
 use Rattle.esc_store.specs.ReplyValue.{ReplyValue, ReceiptValue, reply_alike}
-use Rattle.esc_events.specs.declared.finding.Finding.{Finding}
-use Rattle.esc_events.specs.declared.finding.Finding.TheVariants.{Unlisted, Holding}
+use Rattle.esc_events.specs.declared.assessment.Assessment.{Assessment}
+use Rattle.esc_events.specs.declared.assessment.Assessment.TheVariants.{Unlisted, Holding}
 use Rattle.esc_events.specs.declared.known.Known.{Known}
 use Rattle.esc_events.specs.declared.parking.Parking.{Parking}
 use Rattle.esc_events.specs.declared.parking.Parking.TheVariants.{Needless, Free, Crowded}
 use Rattle.esc_events.specs.ArrivalValue.{ArrivalValue}
 use Rattle.esc_events.specs.Events.{EventValue, Coming, union, coming, comings}
 use Rattle.esc_events.specs.Events.EventValue.{arrived}
-use Rattle.esc_events.specs.Finding.{finding, found_at, held_row, row_of}
+use Rattle.esc_events.specs.Assessment.{assessment, found_at, held_row, row_of}
 use Rattle.esc_events.specs.Notes.{noted_by, held_by}
 use Rattle.esc_events.specs.Parks.{IsParking, with_parking}
 use Rattle.esc_events.specs.Receipts.{holds_row, holds, holds_any, is_among, distinct, receipt_by, receipt_for, receipts_after}
@@ -48,30 +48,30 @@ told_before before rows told (Some r) = sym (set.contains-from_list_nat rows r) 
     back : list_any (holds sha256 reading r) before ≡ true → list_any (eq_by_cmp nat_cmp r) rows ≡ true
     back any = list_any-from_Contains (eq_by_cmp_equiv nat_cmp_total) r rows ((told.each r).1 (any_says sha256 reading r [] before any))
 
-pub new_receipt : (e : List EventValue) (a : ArrivalValue) (k : Kept) (found : Finding) (known : Known) (receipt : ReceiptValue) → IsNew e a k found known receipt
+pub new_receipt : (e : List EventValue) (a : ArrivalValue) (k : Kept) (found : Assessment) (known : Known) (receipt : ReceiptValue) → IsNew e a k found known receipt
     → receipt ≡ receipt_for sha256 reading (distinct sha256 reading (comings e)) (coming (union e) a)
 new_receipt e a k found known receipt is =
     is.receipt_is
-    ∙ ap (λ (f : Finding). receipt_by a.number (sha256 a.body) false f (is_among known.told.items (held_row f))) is.found_is
-    ∙ ap (receipt_by a.number (sha256 a.body) false (finding sha256 reading (union e) a.body))
-    (told_before (distinct sha256 reading (comings e)) known.told.items told (held_row (finding sha256 reading (union e) a.body)))
+    ∙ ap (λ (f : Assessment). receipt_by a.number (sha256 a.body) false f (is_among known.told.items (held_row f))) is.found_is
+    ∙ ap (receipt_by a.number (sha256 a.body) false (assessment sha256 reading (union e) a.body))
+    (told_before (distinct sha256 reading (comings e)) known.told.items told (held_row (assessment sha256 reading (union e) a.body)))
   where
     told : AreHeldBy (receipts_after sha256 reading [] (distinct sha256 reading (comings e))) known.told.items
     told = subst (λ (rs : List ReceiptValue). AreHeldBy rs known.told.items) is.stood.books.receipts is.known_is.told
 
 -- what the receipt says is held was found to be held
-says_found : {e : List EventValue} {a : ArrivalValue} {k : Kept} {found : Finding} {known : Known} {receipt : ReceiptValue} → IsNew e a k found known receipt
+says_found : {e : List EventValue} {a : ArrivalValue} {k : Kept} {found : Assessment} {known : Known} {receipt : ReceiptValue} → IsNew e a k found known receipt
     → (r : ℕ) → SaysHeld r receipt → held_row found ≡ Some r
 says_found {a = a} {found = found} {known = known} is r says =
     is_row_of r (held_row found) (holds_from_says r a.number (sha256 a.body) false found (is_among known.told.items (held_row found)) (subst (SaysHeld r) is.receipt_is says))
 
 -- the row that the body holds was found
-held_found : (e : List EventValue) (a : ArrivalValue) (found : Finding) → found ≡ finding sha256 reading (union e) a.body
+held_found : (e : List EventValue) (a : ArrivalValue) (found : Assessment) → found ≡ assessment sha256 reading (union e) a.body
     → (r : ℕ) → holds_by sha256 reading (union e) r (coming (union e) a) ≡ true → held_row found ≡ Some r
-held_found e a found is r holds = ap held_row is ∙ is_row_of r (held_row (finding sha256 reading (union e) a.body)) holds
+held_found e a found is r holds = ap held_row is ∙ is_row_of r (held_row (assessment sha256 reading (union e) a.body)) holds
 
 -- a body that a row lists is parked under no digest
-none_parked : (e : List EventValue) (a : ArrivalValue) (found : Finding) → found ≡ finding sha256 reading (union e) a.body → (found ≡ Unlisted → ⊥)
+none_parked : (e : List EventValue) (a : ArrivalValue) (found : Assessment) → found ≡ assessment sha256 reading (union e) a.body → (found ≡ Unlisted → ⊥)
     → (d : List ℕ) → sha256 a.body ≡ d → is_some (row_of (union e) d) ≡ false → ⊥
 none_parked e a found is listed d same none =
     let lists : is_some (row_of (union e) (sha256 a.body)) ≡ true =
@@ -83,7 +83,7 @@ no_row None is = refl
 no_row (Some q) is = absurd (true≢false is)
 
 -- no body is kept: a row lists it, and it is not the deposit of a row that has no body yet
-pub books_noted : (e : List EventValue) (a : ArrivalValue) (k : Kept) (found : Finding) (known : Known) (receipt : ReceiptValue) → IsNew e a k found known receipt
+pub books_noted : (e : List EventValue) (a : ArrivalValue) (k : Kept) (found : Assessment) (known : Known) (receipt : ReceiptValue) → IsNew e a k found known receipt
     → (found ≡ Unlisted → ⊥) → ((q : ℕ) → held_row found ≡ Some q → IsSome (k.bodies q)) → AreBooks sha256 reading (e ++ arrived a ∷ []) (with_receipt k receipt)
 books_noted e a k found known receipt is listed there =
     books_with sha256 reading e k a is.stood.books is.none receipt (new_receipt e a k found known receipt is) k.bodies k.parked
@@ -106,7 +106,7 @@ held_none r held = absurd (true≢false (sym (ap is_some held)))
 
 -- it is parked under its digest
 module _ (e : List EventValue) (a : ArrivalValue) (k : Kept) (books : AreBooks sha256 reading e k)
-    (found_is : Unlisted ≡ finding sha256 reading (union e) a.body) (key : List ℕ) (key_is : key ≡ sha256 a.body) where
+    (found_is : Unlisted ≡ assessment sha256 reading (union e) a.body) (key : List ℕ) (key_is : key ≡ sha256 a.body) where
   bodies_stay : IsApart sha256 reading (e ++ arrived a ∷ []) → (r : ℕ) → k.bodies r ≡ held_body sha256 reading (e ++ arrived a ∷ []) r
   bodies_stay apart r = old_body sha256 reading e k a books apart r (λ holds. held_none r (held_found e a Unlisted found_is r holds))
 
@@ -176,7 +176,7 @@ books_parked e a k known receipt is parking at free = by_parking parking at free
 -- ---- a body that is held for a row
 
 holding_listed : (row : ℕ) (d : DepositValue) → Holding row d ≡ Unlisted → ⊥
-holding_listed row d same = true≢false (ap (λ (f : Finding). is_some (held_row f)) same)
+holding_listed row d same = true≢false (ap (λ (f : Assessment). is_some (held_row f)) same)
 
 still_some : (row : ℕ) (body : List ℕ) (bodies : ℕ → Option (List ℕ)) (r : ℕ) → IsSome (bodies r) → IsSome (body_put bodies row body r)
 still_some row body bodies r some = by_test (r == row)
@@ -185,7 +185,7 @@ still_some row body bodies r some = by_test (r == row)
     by_test true = refl
     by_test false = some
 
-module _ (e : List EventValue) (a : ArrivalValue) (row : ℕ) (d : DepositValue) (found_is : Holding row d ≡ finding sha256 reading (union e) a.body) where
+module _ (e : List EventValue) (a : ArrivalValue) (row : ℕ) (d : DepositValue) (found_is : Holding row d ≡ assessment sha256 reading (union e) a.body) where
   put_holds : (r : ℕ) → row ≡ r → holds_by sha256 reading (union e) r (coming (union e) a) ≡ true
   put_holds r same = ap (holds_row r) (sym found_is) ∙ ap (λ (q : ℕ). q == r) same ∙ same_self r
 
@@ -235,7 +235,7 @@ books_repeated e a k books r told other = repeated sha256 reading e k a books r 
 -- ---- an arrival whose body was not kept comes again
 
 -- nothing has to be done
-pub books_known_again : (e : List EventValue) (a : ArrivalValue) (k : Kept) (found : Finding) (reply : ReplyValue) → IsAgain e a k found reply
+pub books_known_again : (e : List EventValue) (a : ArrivalValue) (k : Kept) (found : Assessment) (reply : ReplyValue) → IsAgain e a k found reply
     → ((q : ℕ) → held_row found ≡ Some q → IsSome (k.bodies q)) → (found ≡ Unlisted → IsSome (k.parked (sha256 a.body))) → AreBooks sha256 reading (e ++ arrived a ∷ []) k
 books_known_again e a k found reply is there waits =
     books_again sha256 reading e k a is.stood.books reply is.kept k.bodies k.parked

@@ -7,8 +7,8 @@ use Rattle.std.specs.Cmp.Lexicographic.{nat_list_eq_equiv}
 use Rattle.std.proofs.lemmas.List.Elements.{filter-append}
 use Rattle.std.proofs.lemmas.Bool.{and_parts}
 use Rattle.esc_tables.specs.DepositValue.{DepositValue}
-use Rattle.esc_events.specs.declared.finding.Finding.{Finding}
-use Rattle.esc_events.specs.declared.finding.Finding.TheVariants.{Unlisted, Unreadable, Differing, Holding}
+use Rattle.esc_events.specs.declared.assessment.Assessment.{Assessment}
+use Rattle.esc_events.specs.declared.assessment.Assessment.TheVariants.{Unlisted, Unreadable, Differing, Holding}
 use Rattle.esc_events.specs.Events.{Coming}
 use Rattle.esc_store.specs.ReplyValue.{ReceiptValue, is_alike}
 use Rattle.esc_events.specs.Receipts.{receipt_by, found_then, alike, distinct, receipt_for, receipts_after}
@@ -85,13 +85,13 @@ module _ (digest : List ℕ → List ℕ) (reads : List ℕ → Result DepositVa
   length-receipts before [] = refl
   length-receipts before (b ∷ ds) = ap suc (length-receipts (before ++ b ∷ []) ds)
 
-  number_kept : (n k : List ℕ) (early : Bool) (f : Finding) (again : Bool) → (receipt_by n k early f again).number ≡ n
+  number_kept : (n k : List ℕ) (early : Bool) (f : Assessment) (again : Bool) → (receipt_by n k early f again).number ≡ n
   number_kept n k early Unlisted again = refl
   number_kept n k early (Unreadable r u) again = refl
   number_kept n k early (Differing r) again = refl
   number_kept n k early (Holding r d) again = refl
 
-  digest_kept : (n k : List ℕ) (early : Bool) (f : Finding) (again : Bool) → (receipt_by n k early f again).digest ≡ k
+  digest_kept : (n k : List ℕ) (early : Bool) (f : Assessment) (again : Bool) → (receipt_by n k early f again).digest ≡ k
   digest_kept n k early Unlisted again = refl
   digest_kept n k early (Unreadable r u) again = refl
   digest_kept n k early (Differing r) again = refl

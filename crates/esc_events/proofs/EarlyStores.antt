@@ -13,7 +13,7 @@ use Rattle.esc_store.specs.Kept.{Kept, SaysHeld}
 use Rattle.esc_events.specs.ArrivalValue.{ArrivalValue}
 use Rattle.esc_events.specs.Events.{EventValue, Coming, early_coming, union_after, union, comings_after, comings, moment_after, moment_of}
 use Rattle.esc_events.specs.Events.EventValue.{arrived_early}
-use Rattle.esc_events.specs.Finding.{found_at, row_of}
+use Rattle.esc_events.specs.Assessment.{found_at, row_of}
 use Rattle.esc_events.specs.FirstVersion.{StoodFor, events_before, first_arrivals}
 use Rattle.esc_events.specs.Receipts.{holds_row, holds, alike, distinct, receipts_after}
 use Rattle.esc_events.specs.Stands.{Among, IsApart, CameFor, StandsFor, TellsOf, body_of, holds_by, has_digest, is_lost, kept_arrivals, held_body, parked_body}

@@ -8,7 +8,7 @@ use Rattle.esc_envelope.specs.declared.place.DepositType.{DepositType}
 use Rattle.esc_envelope.specs.declared.place.DepositType.TheVariants.{Diff, Incr, Full}
 use Rattle.esc_envelope.specs.Place.{rank}
 use Rattle.esc_manifest.specs.declared.row.MRow.{MRow}
-use Rattle.esc_manifest.specs.Rows.{place_at, resend_at}
+use Rattle.esc_manifest.specs.ManifestRows.{place_at, resend_at}
 use Rattle.esc_manifest.specs.Accepted.{IsAccepted}
 use Rattle.esc_apply.specs.declared.front.Step.{Step}
 use Rattle.esc_apply.specs.Front.{same_step, common_front}

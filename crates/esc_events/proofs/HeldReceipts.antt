@@ -4,8 +4,8 @@ use Rattle.std.specs.List.{Any, list_any}
 use Rattle.esc_tables.specs.DepositValue.{DepositValue}
 use Rattle.esc_store.specs.Kept.{SaysHeld}
 use Rattle.esc_store.specs.ReplyValue.{ReceiptValue}
-use Rattle.esc_events.specs.declared.finding.Finding.{Finding}
-use Rattle.esc_events.specs.declared.finding.Finding.TheVariants.{Unlisted, Unreadable, Differing, Holding}
+use Rattle.esc_events.specs.declared.assessment.Assessment.{Assessment}
+use Rattle.esc_events.specs.declared.assessment.Assessment.TheVariants.{Unlisted, Unreadable, Differing, Holding}
 use Rattle.esc_events.specs.Events.{Coming}
 use Rattle.esc_events.specs.Receipts.{receipt_by, found_then, holds_row, holds, receipt_for, receipts_after}
 use Rattle.esc_events.proofs.HeldRows.{same_self, same_number}
@@ -14,7 +14,7 @@ use Rattle.esc_events.proofs.Searches.{same_answer}
 -- ---- one receipt
 
 -- it says that a row is held exactly if what was found holds the row
-pub holds_from_says : (row : ℕ) (number digest : List ℕ) (early : Bool) (f : Finding) (again : Bool)
+pub holds_from_says : (row : ℕ) (number digest : List ℕ) (early : Bool) (f : Assessment) (again : Bool)
     → SaysHeld row (receipt_by number digest early f again) → holds_row row f ≡ true
 holds_from_says row number digest true Unlisted again says = let verdict = says.0 in absurd (cc)
 holds_from_says row number digest false Unlisted again says = let verdict = says.0 in absurd (cc)
@@ -22,7 +22,7 @@ holds_from_says row number digest early (Unreadable r n) again says = let verdic
 holds_from_says row number digest early (Differing r) again says = let verdict = says.0 in absurd (cc)
 holds_from_says row number digest early (Holding r d) again says = ap (λ (q : ℕ). holds_row q (Holding r d)) (sym (same_answer says.1)) ∙ same_self r
 
-pub says_from_holds : (row : ℕ) (number digest : List ℕ) (early : Bool) (f : Finding) (again : Bool)
+pub says_from_holds : (row : ℕ) (number digest : List ℕ) (early : Bool) (f : Assessment) (again : Bool)
     → holds_row row f ≡ true → SaysHeld row (receipt_by number digest early f again)
 says_from_holds row number digest early Unlisted again is = absurd (true≢false (sym is))
 says_from_holds row number digest early (Unreadable r n) again is = absurd (true≢false (sym is))

@@ -7,9 +7,9 @@ use Rattle.std.specs.Cmp.{nat_cmp_total}
 use Rattle.std.proofs.lemmas.Bool.Decides.{nat_tests}
 use Rattle.esc_tables.specs.DepositValue.{DepositValue}
 use Rattle.esc_manifest.specs.declared.row.MRow.{MRow}
-use Rattle.esc_events.specs.declared.finding.Finding.TheVariants.{Unlisted, Differing, Holding}
+use Rattle.esc_events.specs.declared.assessment.Assessment.TheVariants.{Unlisted, Differing, Holding}
 use Rattle.esc_events.specs.Events.{Coming}
-use Rattle.esc_events.specs.Finding.{finding, found_at, held_row}
+use Rattle.esc_events.specs.Assessment.{assessment, found_at, held_row}
 use Rattle.esc_events.specs.Receipts.{is_row}
 use Rattle.esc_events.specs.Stands.{with_some, holds_by, rows_of}
 
@@ -47,7 +47,7 @@ unlisted_row m (Some q) (Ok d) is = by_test _ is
 module _ (digest : List ℕ → List ℕ) (reads : List ℕ → Result DepositValue ℕ) (m : List MRow) where
   pub any_row : (l : List Coming) (r : ℕ) → list_any (λ q. eq_by_cmp nat_cmp r q) (rows_of digest reads m l) ≡ list_any (holds_by digest reads m r) l
   any_row [] r = refl
-  any_row (a ∷ l) r = one (held_row (finding digest reads m a.body)) ∙ ap (λ b. is_row r (held_row (finding digest reads m a.body)) || b) (any_row l r)
+  any_row (a ∷ l) r = one (held_row (assessment digest reads m a.body)) ∙ ap (λ b. is_row r (held_row (assessment digest reads m a.body)) || b) (any_row l r)
     where
       one : (row : Option ℕ)
           → list_any (λ q. eq_by_cmp nat_cmp r q) (with_some row (rows_of digest reads m l)) ≡ (is_row r row || list_any (λ q. eq_by_cmp nat_cmp r q) (rows_of digest reads m l))

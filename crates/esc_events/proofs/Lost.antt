@@ -6,11 +6,11 @@ use Rattle.esc_tables.specs.DepositValue.{DepositValue}
 use Rattle.esc_manifest.specs.declared.row.MRow.{MRow}
 use Rattle.esc_store.specs.declared.reply.Verdict.TheVariants.{A2}
 use Rattle.esc_store.specs.ReplyValue.{ReplyValue, reply_kept, is_alike, reply_alike}
-use Rattle.esc_events.specs.declared.finding.Finding.{Finding}
+use Rattle.esc_events.specs.declared.assessment.Assessment.{Assessment}
 use Rattle.esc_events.specs.ArrivalValue.{ArrivalValue}
 use Rattle.esc_events.specs.Events.{EventValue, Coming, union, coming, comings}
 use Rattle.esc_events.specs.Events.EventValue.{arrived}
-use Rattle.esc_events.specs.Finding.{found_at, row_of, held_row}
+use Rattle.esc_events.specs.Assessment.{found_at, row_of, held_row}
 use Rattle.esc_events.specs.Receipts.{receipt_by, holds_any, alike, receipt_for, receipts_after, unlisted_verdict}
 use Rattle.esc_events.specs.Stands.{Among, is_lost, kept_arrivals}
 use Rattle.esc_events.proofs.Distinct.{kept_one}
@@ -62,7 +62,7 @@ module _ (digest : List ℕ → List ℕ) (reads : List ℕ → Result DepositVa
       (no_row_is (row_of c.rows (digest c.body)) of.1)
       ∙ ap unlisted_verdict of.0
     where
-      found : Option ℕ → Finding
+      found : Option ℕ → Assessment
       found o = found_at c.rows o (reads c.body)
 
   -- an arrival of the list is a duplicate of this one, and its body was kept

@@ -26,7 +26,7 @@ use Rattle.esc_store.specs.Kept.{Kept, AreHeld, step_at}
 use Rattle.esc_events.specs.declared.plan.Plan.{Plan}
 use Rattle.esc_events.specs.Events.{EventValue, union, moment_of}
 use Rattle.esc_events.specs.Plans.{AreLatestSteps, IsPlanned, IsMovedFrom, IsCostOfMove, rows_in, moved_by}
-use Rattle.esc_events.specs.Reads.{IsChainOf}
+use Rattle.esc_events.specs.LatestTables.{IsChainOf}
 use Rattle.esc_events.specs.Works.{no_work}
 use Rattle.esc_events.specs.Stands.{HaveBodies, AreBooks, StandsFor, IsApart, deposit_of, or_no_deposit, deposits_of, held_rows, held_body}
 use Rattle.esc_events.specs.Works.{chain_cost, IsWorkOf, MentionsFew}

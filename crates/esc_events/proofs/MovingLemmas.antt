@@ -17,7 +17,7 @@ use Rattle.esc_envelope.specs.Watermark.{IsInYears}
 use Rattle.esc_tables.specs.DepositValue.{DepositValue}
 use Rattle.esc_tables.specs.Reading.{reading}
 use Rattle.esc_manifest.specs.declared.row.MRow.{MRow}
-use Rattle.esc_manifest.specs.Rows.{no_row, row_at}
+use Rattle.esc_manifest.specs.ManifestRows.{no_row, row_at}
 use Rattle.esc_manifest.specs.Accepted.{IsAccepted}
 use Rattle.esc_manifest.specs.Extension.{extended}
 use Rattle.esc_apply.specs.declared.front.Step.{Step}

@@ -13,7 +13,7 @@ use Rattle.esc_store.specs.ReplyValue.{ReplyValue, ReceiptValue, reply_kept, is_
 use Rattle.esc_events.specs.ArrivalValue.{ArrivalValue}
 use Rattle.esc_events.specs.Events.{EventValue, Coming, union, coming, comings}
 use Rattle.esc_events.specs.Events.EventValue.{arrived}
-use Rattle.esc_events.specs.Finding.{finding, row_of, held_row}
+use Rattle.esc_events.specs.Assessment.{assessment, row_of, held_row}
 use Rattle.esc_events.specs.Receipts.{holds_row, holds_any, found_then, alike, distinct, receipt_for, receipts_after, receipts_of, reply_to}
 use Rattle.esc_events.specs.Stands.{Among, TellsOf, body_of, holds_by, has_digest, kept_arrivals, held_body, parked_body, IsApart, CameFor, CameWith, AreBooks}
 use Rattle.esc_events.proofs.EventLemmas.{union-arrived, comings-arrived, moment-arrived}
@@ -206,7 +206,7 @@ module _ (digest : List ℕ → List ℕ) (reads : List ℕ → Result DepositVa
               let x = same_before other apart in
               ap is_some (held_now apart r)
               ∙ any_some (holding r) counts
-              (any_of (holding r) counts x.0 x.1 (ap (λ (b : List ℕ). holds_row r (finding digest reads (union e) b)) x.2 ∙ holds))
+              (any_of (holding r) counts x.0 x.1 (ap (λ (b : List ℕ). holds_row r (assessment digest reads (union e) b)) x.2 ∙ holds))
 
           parked_there : IsApart digest reads then → (d : List ℕ) → digest a.body ≡ d → is_some (row_of (union e) d) ≡ false → IsSome (k.parked d)
           parked_there apart d same unlisted =

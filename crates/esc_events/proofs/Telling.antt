@@ -8,7 +8,7 @@ use Rattle.esc_manifest.specs.declared.row.MRow.{MRow}
 use Rattle.esc_store.specs.declared.reply.Verdict.TheVariants.{A2}
 use Rattle.esc_store.specs.Kept.{is_unlisted, TellsUnlisted}
 use Rattle.esc_store.specs.ReplyValue.{ReplyValue, ReceiptValue, reply_kept, is_alike, reply_alike}
-use Rattle.esc_events.specs.Finding.{row_of}
+use Rattle.esc_events.specs.Assessment.{row_of}
 use Rattle.esc_events.specs.Stands.{TellsOf}
 use Rattle.esc_events.proofs.HeldReceipts.{later, any-weaker}
 use Rattle.esc_events.proofs.Searches.{same_answer, no_answer}

@@ -22,9 +22,9 @@ use Rattle.std.specs.Prelude.{
 use Rattle.esc_tables.specs.Reading.{reading}
 use Rattle.esc_manifest.specs.declared.row.MRow.{MRow}
 use Rattle.esc_manifest.specs.Extension.{extended}
-use Rattle.esc_manifest.specs.Rows.{row_at}
+use Rattle.esc_manifest.specs.ManifestRows.{row_at}
 use Rattle.esc_store.specs.Kept.{Kept, with_body, with_parked}
-use Rattle.esc_events.specs.Finding.{found, row_of}
+use Rattle.esc_events.specs.Assessment.{found, row_of}
 use Rattle.esc_events.specs.Receipts.{holds_row}
 
 -- the body, if there is one and it is the deposit of row r of n; else none

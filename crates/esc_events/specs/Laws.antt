@@ -25,8 +25,8 @@ use Rattle.esc_apply.specs.declared.moves.Work.{Work}
 use Rattle.esc_store.specs.declared.reply.Verdict.TheVariants.{A2}
 use Rattle.esc_store.specs.Kept.{Kept, AreHeld, with_body, with_moment, with_receipt}
 use Rattle.esc_store.specs.ReplyValue.{ReplyValue, ReceiptValue, reply_alike}
-use Rattle.esc_events.specs.declared.finding.Finding.{Finding}
-use Rattle.esc_events.specs.declared.finding.Finding.TheVariants.{Unlisted, Holding}
+use Rattle.esc_events.specs.declared.assessment.Assessment.{Assessment}
+use Rattle.esc_events.specs.declared.assessment.Assessment.TheVariants.{Unlisted, Holding}
 use Rattle.esc_events.specs.declared.known.Known.{Known}
 use Rattle.esc_events.specs.declared.parking.Parking.{Parking}
 use Rattle.esc_events.specs.declared.parking.Parking.TheVariants.{Crowded}
@@ -35,7 +35,7 @@ use Rattle.esc_events.specs.Amended.{amended_bodies, still_parked, amended_kept}
 use Rattle.esc_events.specs.ArrivalValue.{ArrivalValue}
 use Rattle.esc_events.specs.Events.{EventValue, union}
 use Rattle.esc_events.specs.Events.EventValue.{listed, arrived, moved}
-use Rattle.esc_events.specs.Finding.{held_row}
+use Rattle.esc_events.specs.Assessment.{held_row}
 use Rattle.esc_events.specs.FirstVersion.{StoodFor, events_before}
 use Rattle.esc_events.specs.Notes.{noted_by, held_by}
 use Rattle.esc_events.specs.Parks.{IsParking, with_parking}
@@ -57,8 +57,9 @@ use Rattle.esc_events.specs.Works.{IsWorkOf, MentionsFew, no_work}
 -- a new arrival whose body a row lists and that isn't kept, since it isn't the row's deposit, or
 -- the row has a body already: one receipt is added
 abbrev pub NotedBooks : Type 0
-NotedBooks = (e : List EventValue) (a : ArrivalValue) (k : Kept) (found : Finding) (known : Known)
-    (receipt : ReceiptValue) → IsNew e a k found known receipt → (found ≡ Unlisted → ⊥)
+NotedBooks = (e : List EventValue) (a : ArrivalValue) (k : Kept) (found : Assessment)
+    (known : Known) (receipt : ReceiptValue) → IsNew e a k found known receipt
+    → (found ≡ Unlisted → ⊥)
     → ((q : ℕ) → held_row found ≡ Some q → IsSome (k.bodies q))
     → AreBooks sha256 reading (e ++ arrived a ∷ []) (with_receipt k receipt)
 
@@ -90,7 +91,7 @@ RepeatedBooks = (e : List EventValue) (a : ArrivalValue) (k : Kept) → AreBooks
 -- nothing has to be done: the body isn't the deposit of a row that has no body, and it is parked
 -- already, if no row lists it
 abbrev pub KnownAgain : Type 0
-KnownAgain = (e : List EventValue) (a : ArrivalValue) (k : Kept) (found : Finding)
+KnownAgain = (e : List EventValue) (a : ArrivalValue) (k : Kept) (found : Assessment)
     (reply : ReplyValue) → IsAgain e a k found reply
     → ((q : ℕ) → held_row found ≡ Some q → IsSome (k.bodies q))
     → (found ≡ Unlisted → IsSome (k.parked (sha256 a.body)))

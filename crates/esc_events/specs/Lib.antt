@@ -2,13 +2,13 @@ pub mod Amended
 pub mod Apart
 pub mod ArrivalValue
 pub mod Events
-pub mod Finding
+pub mod Assessment
 pub mod FirstVersion
 pub mod Known
 pub mod Notes
 pub mod Parks
 pub mod Plans
-pub mod Reads
+pub mod LatestTables
 pub mod Receipts
 pub mod Stands
 pub mod Taking

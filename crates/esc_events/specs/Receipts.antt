@@ -26,8 +26,8 @@ use Rattle.esc_tables.specs.DepositValue.{DepositValue}
 use Rattle.esc_store.specs.declared.reply.Verdict.{Verdict}
 use Rattle.esc_store.specs.declared.reply.Verdict.TheVariants.{A1, A2, A3, A4, A5}
 use Rattle.esc_store.specs.ReplyValue.{ReplyValue, ReceiptValue, reply_alike}
-use Rattle.esc_events.specs.declared.finding.Finding.{Finding}
-use Rattle.esc_events.specs.declared.finding.Finding.TheVariants.{
+use Rattle.esc_events.specs.declared.assessment.Assessment.{Assessment}
+use Rattle.esc_events.specs.declared.assessment.Assessment.TheVariants.{
   Unlisted,
   Unreadable,
   Differing,
@@ -35,7 +35,7 @@ use Rattle.esc_events.specs.declared.finding.Finding.TheVariants.{
 }
 use Rattle.esc_events.specs.ArrivalValue.{ArrivalValue}
 use Rattle.esc_events.specs.Events.{EventValue, Coming, union, comings}
-use Rattle.esc_events.specs.Finding.{finding, held_row}
+use Rattle.esc_events.specs.Assessment.{assessment, held_row}
 
 abbrev pub is_row : ℕ → Option ℕ → Bool
 is_row r None = false
@@ -47,7 +47,7 @@ is_among rows None = false
 is_among rows (Some r) = list_any (λ q. nat_eq q r) rows
 
 -- what was found is the deposit of row r
-abbrev pub holds_row : ℕ → Finding → Bool
+abbrev pub holds_row : ℕ → Assessment → Bool
 holds_row r f = is_row r (held_row f)
 
 -- the verdict on a body that no row lists: it is parked, but of an early arrival it was not kept
@@ -67,7 +67,7 @@ refusal number digest verdict row = record {
 
 -- the receipt by what was found. `early` decides the verdict on a body that no row lists; `again`
 -- says of a deposit that is held whether an earlier receipt has the row with A1
-abbrev pub receipt_by : List ℕ → List ℕ → Bool → Finding → Bool → ReceiptValue
+abbrev pub receipt_by : List ℕ → List ℕ → Bool → Assessment → Bool → ReceiptValue
 receipt_by number digest early Unlisted again = refusal number digest (unlisted_verdict early) None
 receipt_by number digest early (Unreadable r n) again = refusal number digest (A3 n) (Some r)
 receipt_by number digest early (Differing r) again = refusal number digest A4 (Some r)
@@ -92,8 +92,8 @@ module _ (digest : List ℕ → List ℕ) (reads : List ℕ → Result DepositVa
   distinct (a ∷ l) = a ∷ filter (λ b. not (alike a b)) (distinct l)
 
   -- what was found of a body when it came, by the rows that were listed then
-  abbrev pub found_then : Coming → Finding
-  found_then c = finding digest reads c.rows c.body
+  abbrev pub found_then : Coming → Assessment
+  found_then c = assessment digest reads c.rows c.body
 
   -- its verdict was A1, and this was its row
   abbrev pub holds : ℕ → Coming → Bool

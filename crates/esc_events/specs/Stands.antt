@@ -29,13 +29,13 @@ use Rattle.std.specs.Str.{bytes_eq}
 use Rattle.std.specs.FinSet as set
 use Rattle.esc_tables.specs.DepositValue.{DepositValue}
 use Rattle.esc_manifest.specs.declared.row.MRow.{MRow}
-use Rattle.esc_manifest.specs.Rows.{no_row}
+use Rattle.esc_manifest.specs.ManifestRows.{no_row}
 use Rattle.esc_chain.specs.Chain.{Rows, IsLatestChainAt}
 use Rattle.esc_apply.specs.Images.{chain_state}
 use Rattle.esc_store.specs.Kept.{Kept, SaysHeld, TellsUnlisted}
 use Rattle.esc_store.specs.ReplyValue.{ReceiptValue}
 use Rattle.esc_events.specs.Events.{EventValue, Coming, union, comings, moment_of}
-use Rattle.esc_events.specs.Finding.{finding, held_row, row_of}
+use Rattle.esc_events.specs.Assessment.{assessment, held_row, row_of}
 use Rattle.esc_events.specs.Receipts.{holds_row, receipts_of}
 
 -- a placeholder where there is no body, or no deposit reads from it; a held row never has it
@@ -92,7 +92,7 @@ module _ (digest : List ℕ → List ℕ) (reads : List ℕ → Result DepositVa
 
   -- judged by these listed rows, the body that came is the deposit of row r
   abbrev pub holds_by : List MRow → ℕ → Coming → Bool
-  holds_by m r c = holds_row r (finding digest reads m c.body)
+  holds_by m r c = holds_row r (assessment digest reads m c.body)
 
   -- the body that came has this digest
   abbrev pub has_digest : List ℕ → Coming → Bool
@@ -101,7 +101,7 @@ module _ (digest : List ℕ → List ℕ) (reads : List ℕ → Result DepositVa
   -- the rows whose deposits came, judged by the listed rows m, with repeats
   abbrev pub rows_of : List MRow → List Coming → List ℕ
   rows_of m [] = []
-  rows_of m (c ∷ l) = with_some (held_row (finding digest reads m c.body)) (rows_of m l)
+  rows_of m (c ∷ l) = with_some (held_row (assessment digest reads m c.body)) (rows_of m l)
 
   module _ (e : List EventValue) where
     -- the arrivals whose bodies count: all whose body was kept when they came

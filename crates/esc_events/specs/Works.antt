@@ -10,7 +10,7 @@ use Rattle.esc_apply.specs.Tables.{mention_count}
 use Rattle.esc_store.specs.Kept.{step_at}
 use Rattle.esc_events.specs.Apart.{WhereApart}
 use Rattle.esc_events.specs.Events.{EventValue, union}
-use Rattle.esc_events.specs.Reads.{IsChainOf}
+use Rattle.esc_events.specs.LatestTables.{IsChainOf}
 use Rattle.esc_events.specs.Stands.{deposits_of, held_rows, held_body}
 
 -- no work: nothing is done

@@ -44,14 +44,14 @@
 //! No code here runs. The contracts of the desk (`esc_desk`) are stated by these definitions.
 #![tactic(auto)]
 
-mod finding;
+mod assessment;
 mod known;
 mod laws;
 mod parked;
 mod parking;
 mod plan;
 
-pub use finding::Finding;
+pub use assessment::Assessment;
 pub use known::Known;
 pub use laws::{
     books_after_a_lost_one_again, books_after_a_moment, books_after_an_amendment,

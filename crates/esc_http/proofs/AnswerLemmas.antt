@@ -12,10 +12,10 @@ use Rattle.esc_desk.specs.declared.desk.Desk.{Desk}
 use Rattle.esc_events.specs.ArrivalValue.{ArrivalValue}
 use Rattle.esc_desk.specs.Calls.{After, ServesStill, IsCause}
 use Rattle.esc_request.specs.declared.refusal.Refusal.TheVariants.{BadRequest}
-use Rattle.esc_http.specs.declared.plan.Plan.{Plan}
-use Rattle.esc_http.specs.declared.plan.Plan.TheVariants.{Put}
+use Rattle.esc_http.specs.declared.request_plan.RequestPlan.{RequestPlan}
+use Rattle.esc_http.specs.declared.request_plan.RequestPlan.TheVariants.{Put}
 use Rattle.esc_request.specs.Head.{HasHead, HasNoHead}
-use Rattle.esc_http.specs.Plans.{plan_of_head}
+use Rattle.esc_http.specs.RequestPlans.{plan_of_head}
 use Rattle.esc_request.specs.Response.{out_of_memory}
 use Rattle.esc_http.specs.Response.{fault_response}
 use Rattle.esc_http.specs.Answering.{Request, refused, arrives, wants, with_body, Asks, IsAnswered, IsOrMemory, TellsFault, LosesArrival, text_or_memory}
@@ -68,14 +68,14 @@ cut_refused (Some input) number size short =
     rw cut refl
 
 -- the same request of the same plan, with the bytes that were read before written in another way
-pub same_request : (o : Option (List ℕ)) (front tail : List ℕ) (plan other : Plan) (request : Request) → front ≡ tail → plan ≡ other
+pub same_request : (o : Option (List ℕ)) (front tail : List ℕ) (plan other : RequestPlan) (request : Request) → front ≡ tail → plan ≡ other
     → IfSome (prepend_known front o) (λ rest. request ≡ with_body plan rest) → IfSome (prepend_known tail o) (λ rest. request ≡ with_body other rest)
 same_request o front tail plan other request same is holds =
-    subst (λ (p : Plan). IfSome (prepend_known tail o) (λ rest. request ≡ with_body p rest)) is
+    subst (λ (p : RequestPlan). IfSome (prepend_known tail o) (λ rest. request ≡ with_body p rest)) is
     (subst (λ (l : List ℕ). IfSome (prepend_known l o) (λ rest. request ≡ with_body plan rest)) same holds)
 
 -- some request that an input may make of a plan
-pub some_request : (o : Option (List ℕ)) (plan : Plan) → (request : Request) × IfSome o (λ rest. request ≡ with_body plan rest)
+pub some_request : (o : Option (List ℕ)) (plan : RequestPlan) → (request : Request) × IfSome o (λ rest. request ≡ with_body plan rest)
 some_request None plan = (refused BadRequest, tt)
 some_request (Some rest) plan = (with_body plan rest, refl)
 
@@ -93,5 +93,5 @@ module _ {S : Type 0} (g : Ghosts S) (desk : Desk S) where
   memory_answers (wants report) = (inl refl, inr (record { fault = S2; cause = inr refl; told = refl }))
 
   -- so it does whatever the input is
-  pub memory_answers_some : (o : Option (List ℕ)) (plan : Plan) → (request : Request) × IfSome o (λ rest. request ≡ with_body plan rest) × IsAnswered g desk desk request out_of_memory
+  pub memory_answers_some : (o : Option (List ℕ)) (plan : RequestPlan) → (request : Request) × IfSome o (λ rest. request ≡ with_body plan rest) × IsAnswered g desk desk request out_of_memory
   memory_answers_some o plan = let (request, is) = some_request o plan in (request, is, memory_answers request)

@@ -6,14 +6,14 @@ use Rattle.sqlite_trees.specs.declared.store.Store.{Ghosts}
 use Rattle.esc_envelope.specs.declared.kind.Kind.{Kind}
 use Rattle.esc_tables.specs.DepositValue.{DepositValue}
 use Rattle.esc_tables.specs.Reading.{reading}
-use Rattle.esc_apply.specs.Objects.{Entry, InOrder}
+use Rattle.esc_apply.specs.ObjectStreams.{Entry, InOrder}
 use Rattle.esc_apply.specs.Registry.{IsEntriesOf}
 use Rattle.esc_apply.specs.Tables.{tables}
 use Rattle.esc_check.specs.Export.{heading, object_lines, is_of, export_text}
 use Rattle.esc_csv.specs.Lines.{text_of}
 use Rattle.esc_store.specs.declared.store.Store.{Store}
 use Rattle.esc_events.specs.Events.{EventValue}
-use Rattle.esc_events.specs.Reads.{AreEntries}
+use Rattle.esc_events.specs.LatestTables.{AreEntries}
 use Rattle.esc_desk.specs.Serving.{Serves}
 use Rattle.esc_events.specs.Stands.{IsApart, deposits_of, held_body}
 use Rattle.esc_events.proofs.Moving.{chain_of}

@@ -25,10 +25,10 @@ use Rattle.esc_desk.specs.Serving.{Answers}
 use Rattle.esc_request.specs.declared.reports.Report.{Report}
 use Rattle.esc_request.specs.declared.refusal.Refusal.{Refusal}
 use Rattle.esc_request.specs.declared.refusal.Refusal.TheVariants.{BadRequest}
-use Rattle.esc_http.specs.declared.plan.Plan.{Plan}
-use Rattle.esc_http.specs.declared.plan.Plan.TheVariants.{Refuse, Put, Get}
+use Rattle.esc_http.specs.declared.request_plan.RequestPlan.{RequestPlan}
+use Rattle.esc_http.specs.declared.request_plan.RequestPlan.TheVariants.{Refuse, Put, Get}
 use Rattle.esc_request.specs.Head.{HasHead, HasNoHead}
-use Rattle.esc_http.specs.Plans.{plan_of_head}
+use Rattle.esc_http.specs.RequestPlans.{plan_of_head}
 use Rattle.esc_http.specs.Reports.{IsReport}
 use Rattle.esc_request.specs.Response.{out_of_memory, refusal_response, report_response}
 use Rattle.esc_http.specs.Response.{fault_response, reply_response}
@@ -43,7 +43,7 @@ pub data Request : Type 0 where
 
 -- what a head asks for, and the bytes that follow it: where fewer follow than its length says, it
 -- is a bad request
-abbrev pub with_body : Plan → List ℕ → Request
+abbrev pub with_body : RequestPlan → List ℕ → Request
 with_body (Refuse refusal) rest = refused refusal
 with_body (Put number size) rest
     = if nat_le size (length rest) then arrives (an_arrival number (take size rest)) else refused

@@ -1,5 +1,5 @@
 pub mod Answering
-pub mod Plans
+pub mod RequestPlans
 pub mod Reports
 pub mod Response
 pub mod StatusText

@@ -8,13 +8,13 @@ use Rattle.esc_envelope.specs.declared.kind.Kind.{Kind}
 use Rattle.esc_tables.specs.KeyName.{KeyName}
 use Rattle.esc_tables.specs.ObjectValue.{ObjectValue}
 use Rattle.esc_tables.specs.Reading.{reading}
-use Rattle.esc_apply.specs.Objects.{InOrder}
+use Rattle.esc_apply.specs.ObjectStreams.{InOrder}
 use Rattle.esc_chain.specs.declared.gap.GapLine.{GapLine}
 use Rattle.esc_chain.specs.Gap.{AreGapLinesAt}
 use Rattle.esc_check.specs.Export.{export_text}
 use Rattle.esc_check.specs.FindingValue.{FindingValue, listing_cmp}
 use Rattle.esc_check.specs.Findings.{IsFinding}
-use Rattle.esc_check.specs.Tables.{tables_of}
+use Rattle.esc_check.specs.TableMap.{tables_of}
 use Rattle.esc_store.specs.Kept.{AreHeld}
 use Rattle.esc_desk.specs.declared.status.End.{End}
 use Rattle.esc_desk.specs.declared.status.Status.{Status as Numbers}
@@ -22,7 +22,7 @@ use Rattle.esc_events.specs.declared.parked.ParkedBody.{ParkedBody}
 use Rattle.esc_events.specs.Apart.{WhereApart}
 use Rattle.esc_events.specs.Events.{EventValue, union, moment_of}
 use Rattle.esc_events.specs.Parks.{AreParkedBodies}
-use Rattle.esc_events.specs.Reads.{AreEntries}
+use Rattle.esc_events.specs.LatestTables.{AreEntries}
 use Rattle.esc_desk.specs.Reads.{replies_of, IsEndOfChain, IsStatus}
 use Rattle.esc_events.specs.Stands.{held_body, parked_body}
 use Rattle.esc_request.specs.declared.reports.Report.{Report}

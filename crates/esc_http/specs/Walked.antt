@@ -1,6 +1,6 @@
 -- What a report finds on a walk over a desk's objects.
 use Rattle.std.specs.Prelude.{List, Option}
-use Rattle.esc_apply.specs.Objects.{Entry}
+use Rattle.esc_apply.specs.ObjectStreams.{Entry}
 use Rattle.esc_check.specs.FindingValue.{FindingValue}
 use Rattle.esc_check.specs.declared.stream.StreamFault.{StreamFault}
 use Rattle.esc_check.specs.declared.stream.StreamFault.TheVariants.{Source, NoMemory}
@@ -9,7 +9,7 @@ use Rattle.esc_store.specs.declared.fault.SFault.TheVariants.{S2}
 use Rattle.esc_desk.specs.declared.status.End.{End}
 use Rattle.esc_events.specs.Apart.{WhereApart}
 use Rattle.esc_events.specs.Events.{EventValue}
-use Rattle.esc_events.specs.Reads.{AreEntries}
+use Rattle.esc_events.specs.LatestTables.{AreEntries}
 use Rattle.esc_http.specs.Reports.{AreFindings}
 
 -- these are the findings in the tables of the latest chain, where its end says this

@@ -6,9 +6,9 @@ ghost use Rattle.httparse.specs.Grammar.{RequestHead};
 ghost use Rattle.httparse.specs.Spans.{IsRequestAt, IsRequestWithin};
 ghost use Rattle.esc_events.specs.ArrivalValue.{an_arrival};
 ghost use Rattle.esc_desk.specs.Calls.{WasHonest};
-ghost use Rattle.esc_http.specs.declared.plan.Plan.TheVariants.{Put};
+ghost use Rattle.esc_http.specs.declared.request_plan.RequestPlan.TheVariants.{Put};
 ghost use Rattle.esc_request.specs.Head.{ShowsHead};
-ghost use Rattle.esc_http.specs.Plans.{plan_of_head};
+ghost use Rattle.esc_http.specs.RequestPlans.{plan_of_head};
 ghost use Rattle.esc_request.specs.Router.{rows};
 ghost use Rattle.esc_http.specs.Answering.{
   Request,
@@ -20,7 +20,7 @@ ghost use Rattle.esc_http.specs.Answering.{
   text_or_memory,
 };
 
-use crate::plan::{Plan, plan_of_head};
+use crate::request_plan::{RequestPlan, plan_of_head};
 use crate::response::{fault_response, reply_response};
 use crate::telling::report;
 use esc_desk::{Desk, Number};
@@ -108,9 +108,9 @@ fn answer_routed<S: Alter, R: Source>(
     ensures err { OnErr result (IsTrue (R.failed source.new)) }
 {
     match plan_of_head(router, bytes, lines, found) {
-        Plan::Refuse(refusal) => Ok(refusal_response(alloc, refusal)),
-        Plan::Get(report) => Ok(answer_report(alloc, desk, report)),
-        Plan::Put(number, size) => {
+        RequestPlan::Refuse(refusal) => Ok(refusal_response(alloc, refusal)),
+        RequestPlan::Get(report) => Ok(answer_report(alloc, desk, report)),
+        RequestPlan::Put(number, size) => {
             let front = &bytes[found.spans.len..];
             answer_put(alloc, desk, source, &number, front, size)
         }

@@ -62,7 +62,7 @@
 #![tactic(auto)]
 
 mod answer;
-mod plan;
+mod request_plan;
 mod response;
 mod serving;
 mod status;

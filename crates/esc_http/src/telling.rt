@@ -1,9 +1,7 @@
 //! The texts of reports.
 
 ghost use Rattle.std.specs.Prelude.{◌≡◌, Some, IfOk, IfErr};
-ghost use Rattle.std.specs.FinSet as set;
-ghost use Rattle.esc_chain.specs.Chain.{InRange};
-ghost use Rattle.esc_check.specs.Streams.{OfSource};
+ghost use Rattle.esc_check.specs.ObjectReports.{OfSource};
 ghost use Rattle.esc_store.specs.Faults.{IsS1OrS2};
 ghost use Rattle.esc_desk.specs.Calls.{OkOver, Stays};
 ghost use Rattle.esc_request.specs.declared.reports.Report.TheVariants as what;
@@ -16,7 +14,6 @@ use esc_chain::{Held, gaps_at};
 use esc_check::{Finding, StreamFault, export_from, verify_from};
 use esc_desk::{Desk, End, SFault};
 use esc_envelope::Kind;
-use esc_manifest::Manifest;
 use esc_request::Report;
 use esc_texts::{gaps_text, links_text, parked_text, receipts_text};
 use sqlite::Alter;
@@ -53,21 +50,9 @@ fn report_gaps<S: Alter>(alloc: Global, desk: &mut Desk<S>) -> Result<Vec<u8>, S
     let moment = desk.moment()?;
     let rows = desk.held(alloc)?;
     let manifest = desk.manifest();
-    let held = held_of(alloc, manifest, &rows)?;
+    let held = Held::from_rows(alloc, manifest, &rows)?.ok_or(SFault::S1)?;
     let lines = gaps_at(alloc, manifest, &held, moment)?;
     gaps_text(alloc, &lines)
-}
-
-// The set of these rows. `S1` if one of them isn't a row of the manifest.
-fn held_of(alloc: Global, manifest: &Manifest, rows: &[usize]) -> Result<Held, SFault>
-    ensures held { IfOk result (λ held. held ≡ set.from_list rows.now) }
-    ensures in_range { IfOk result (InRange manifest.now) }
-    ensures cause { IfErr result IsS1OrS2 }
-{
-    match Held::from_rows(alloc, manifest, rows)? {
-        Some(held) => Ok(held),
-        None => Err(SFault::S1),
-    }
 }
 
 fn report_status<S: Alter>(alloc: Global, desk: &mut Desk<S>) -> Result<Vec<u8>, SFault>

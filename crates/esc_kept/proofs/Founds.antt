@@ -17,7 +17,7 @@ use Rattle.sqlite.specs.State.{State, HasCleanDisk, Survives}
 use Rattle.sqlite.specs.Files.{over_files, HoldsDatabase}
 use Rattle.sqlite.proofs.Theorems.{opens_again}
 use Rattle.esc_store.specs.Kept.{Kept}
-use Rattle.esc_store.specs.Tables.{IsStore}
+use Rattle.esc_store.specs.StoreTables.{IsStore}
 use Rattle.esc_store.specs.Standing.{HoldsKept, LeavesOr}
 use Rattle.esc_rows.specs.Schema.{no_schema}
 use Rattle.sqlite.specs.Effect.{Database}
@@ -27,7 +27,7 @@ use Rattle.esc_events.specs.Events.{EventValue}
 use Rattle.esc_desk.specs.declared.desk.Desk.{Desk}
 use Rattle.esc_desk.specs.Serving.{DeskServes}
 use Rattle.esc_desk.specs.Crashes.{CrashLeaves, IsStoreForOneOf, IsStoreFor}
-use Rattle.esc_kept.specs.Images.{HoldsOneOf, IsOneOf, ServesOneOf}
+use Rattle.esc_kept.specs.FileImages.{HoldsOneOf, IsOneOf, ServesOneOf}
 
 -- whatever a crash leaves of the files of a store is one of those that it may leave of the store
 pub images_of : {D : Type 0} (g : Ghosts D) (conn : Held (FileStore D g)) (it : FileStore D g) (e doubtful : List EventValue) (log db : D) → (log, db) ≡ files it

@@ -8,7 +8,7 @@ use Rattle.sqlite.specs.State.{HasCleanDisk, IsLive, Opens}
 use Rattle.esc_rows.specs.Schema.{no_schema}
 use Rattle.esc_desk.specs.declared.desk.Desk.{Desk}
 use Rattle.esc_store.specs.Kept.{Kept}
-use Rattle.esc_store.specs.Tables.{IsBlank, IsStore}
+use Rattle.esc_store.specs.StoreTables.{IsBlank, IsStore}
 
 -- from a connection that was just opened on a database without any table, index or view: whatever a
 -- crash leaves after the call is such a database, or a store of this

@@ -1,2 +1,2 @@
 pub mod Blank
-pub mod Images
+pub mod FileImages

@@ -11,7 +11,7 @@ ghost use Rattle.esc_desk.specs.Calls.{After, DeskLeaves, IsHonestDesk};
 ghost use Rattle.esc_events.specs.Events.{EventValue};
 ghost use Rattle.esc_desk.specs.Serving.{DeskServes};
 ghost use Rattle.esc_desk.specs.Crashes.{IsStoreFor};
-ghost use Rattle.esc_kept.specs.Images.{HoldsOneOf, ServesOneOf};
+ghost use Rattle.esc_kept.specs.FileImages.{HoldsOneOf, ServesOneOf};
 
 use crate::opening::open_desk;
 use esc_desk::{Desk, SFault};

@@ -15,7 +15,7 @@ use Rattle.esc_envelope.specs.declared.place.Place.{Place}
 use Rattle.esc_manifest.specs.declared.row.MRow.{MRow}
 use Rattle.esc_manifest.specs.Lookups.{place_in, HavePlaces, is_no_earlier, names_later}
 use Rattle.esc_manifest.specs.RowFaults.{is_some_id, is_diff, moved_id, follows_later, first_against_earlier, first_against_any}
-use Rattle.esc_manifest.specs.Rows.{no_row, row_at, id_at, place_at}
+use Rattle.esc_manifest.specs.ManifestRows.{no_row, row_at, id_at, place_at}
 use Rattle.esc_manifest.proofs.AcceptedRows.{no_earlier, against_none}
 use Rattle.esc_manifest.proofs.RowTests.{not_moved_id}
 use Rattle.esc_manifest.proofs.Least.{read_row}

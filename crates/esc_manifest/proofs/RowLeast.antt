@@ -6,7 +6,7 @@ use Rattle.std.proofs.lemmas.Bool.Decides.{nat_tests}
 use Rattle.esc_manifest.specs.declared.row.MRow.{MRow}
 use Rattle.esc_manifest.specs.LeastFault.{has_fault, Stands, IsLeast}
 use Rattle.esc_manifest.specs.RowFaults.{most_rows, has_bad_id, has_bad_watermark, lacks_prev, has_bad_resend, same_revision, moved_id, follows_later, same_digest, first_against_earlier, first_against_any, fault_or, rows_fault}
-use Rattle.esc_manifest.specs.Rows.{no_row}
+use Rattle.esc_manifest.specs.ManifestRows.{no_row}
 use Rattle.esc_manifest.proofs.LeastFrom.{first_of_list, first_of_numbers, LeastFrom, AtLeastRow, up, found, step, lower, fault_or_is, at_row, least_of, is_least, IsFirst}
 
 -- M1 of rows

@@ -49,7 +49,7 @@ use Rattle.esc_manifest.specs.RowFaults.{
   follows_later,
   same_digest,
 }
-use Rattle.esc_manifest.specs.Rows.{row_at}
+use Rattle.esc_manifest.specs.ManifestRows.{row_at}
 
 -- among faults, each a number with a row, this is the least: it occurs, no lesser number occurs,
 -- and the same number occurs at no lesser row

@@ -23,7 +23,7 @@ use denote.Ref.{Bor}
 use Rattle.esc_envelope.specs.declared.place.Place.{Place}
 use Rattle.esc_manifest.specs.declared.row.MRow.{MRow}
 use Rattle.esc_manifest.specs.RowFaults.{is_some_id, is_diff}
-use Rattle.esc_manifest.specs.Rows.{id_at, place_at}
+use Rattle.esc_manifest.specs.ManifestRows.{id_at, place_at}
 
 -- the place that a map has for an id
 abbrev pub place_in : BTreeMap (Bor (List ℕ)) Place → List ℕ → Option Place

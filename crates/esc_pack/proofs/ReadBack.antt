@@ -9,7 +9,7 @@ use Rattle.esc_csv.specs.Lines.{Line, line_text, text_of}
 use Rattle.esc_csv.specs.Records.{records_of, IsUnmarked}
 use Rattle.esc_manifest.specs.declared.row.MRow.{MRow}
 use Rattle.esc_manifest.specs.Accepted.{IsAccepted}
-use Rattle.esc_manifest.specs.Rows.{no_row, row_at}
+use Rattle.esc_manifest.specs.ManifestRows.{no_row, row_at}
 use Rattle.esc_manifest.specs.RowFaults.{most_rows, rows_fault}
 use Rattle.esc_manifest.specs.Fields.{row_of}
 use Rattle.esc_manifest.specs.Manifest.{most_bytes, has_other_length, lacks_id, lacks_type, lacks_watermark, is_diff_alone, lacks_resend, lacks_digest, records_fault, text_fault, manifest_of}

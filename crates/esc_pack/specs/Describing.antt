@@ -27,11 +27,11 @@ use Rattle.std.specs.Str.{bytes_eq}
 use Rattle.esc_envelope.specs.EnvelopeValue.{TableValue, EnvelopeValue}
 use Rattle.esc_envelope.specs.Envelope.{envelope_of}
 use Rattle.esc_envelope.specs.Kinds.{is_kind}
-use Rattle.esc_pack.specs.declared.known.KnownTable.{KnownTable}
+use Rattle.esc_pack.specs.declared.known_table.KnownTable.{KnownTable}
 use Rattle.esc_pack.specs.declared.proposal.Why.{Why}
 use Rattle.esc_pack.specs.declared.proposal.Why.TheVariants.{Name, Heading, Other}
-use Rattle.esc_pack.specs.Known.{known_tables, file_stem, table_name, table_kind, is_of_deletes}
-use Rattle.esc_pack.specs.Sources.{SourceValue, SourcesValue, sources_of}
+use Rattle.esc_pack.specs.KnownTables.{known_tables, file_stem, table_name, table_kind, is_of_deletes}
+use Rattle.esc_pack.specs.TableFiles.{SourceValue, SourcesValue, sources_of}
 
 -- a file of a folder
 pub record FileValue : Type 0 where

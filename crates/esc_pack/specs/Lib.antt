@@ -1,8 +1,8 @@
 pub mod Bundling
 pub mod Describing
 pub mod GivenRows
-pub mod Known
+pub mod KnownTables
 pub mod Listing
 pub mod Release
-pub mod Sources
+pub mod TableFiles
 pub mod Written

@@ -3,7 +3,7 @@
 ghost use Rattle.std.specs.Prelude.{◌≡◌, IfOk, option_map, string_bytes};
 ghost use Rattle.std.specs.Str.{bytes_eq};
 ghost use Rattle.std.specs.List.{list_all, list_any, find, zip};
-ghost use Rattle.esc_pack.specs.Known.{known_tables, file_stem};
+ghost use Rattle.esc_pack.specs.KnownTables.{known_tables, file_stem};
 ghost use Rattle.esc_pack.specs.Describing.{
   is_file_of,
   table_named,
@@ -19,7 +19,7 @@ ghost use Rattle.esc_pack.specs.Describing.{
 
 use crate::bundle_fault::BundleFault;
 use crate::draft::draft;
-use crate::known::KnownTable;
+use crate::known_table::KnownTable;
 use crate::proposal::{FolderFile, Proposal, Unknown, Why};
 use crate::sources::{Source, Sources, read_sources};
 use esc_envelope::{Envelope, Table, read_envelope};
@@ -35,7 +35,7 @@ fn is_file_of(stem: &[u8], name: &[u8]) -> bool
 }
 
 // All known tables, those of deletes first.
-#[tactic(auto, unfolding(crate::specs::Known::known_tables))]
+#[tactic(auto, unfolding(crate::specs::KnownTables::known_tables))]
 fn all_known() -> [KnownTable; 24]
     ensures { result ≡ known_tables }
 {

@@ -2,7 +2,7 @@
 //! again (`describe_files`).
 
 use crate::describe::table_named;
-use crate::known::KnownTable;
+use crate::known_table::KnownTable;
 use crate::proposal::{FolderFile, Proposal, Unknown, Why};
 use esc_bundle::NoMemory;
 use esc_csv::{Record, Records};

@@ -17,8 +17,8 @@ ghost use Rattle.serde_json.specs.Find.{get, as_str};
 ghost use Rattle.serde_json.specs.View.{view};
 ghost use Rattle.esc_envelope.specs.Envelope.{json_of};
 ghost use Rattle.esc_envelope.specs.Members.{array_in, array_of, text_at};
-ghost use Rattle.esc_envelope.specs.Tables.{all_of};
-ghost use Rattle.esc_pack.specs.Sources.{
+ghost use Rattle.esc_envelope.specs.DeclaredTables.{all_of};
+ghost use Rattle.esc_pack.specs.TableFiles.{
   heading_from,
   only_file,
   texts_in,
@@ -44,7 +44,7 @@ pub struct Source {
 
 impl Model for Source {
     ghost use Rattle.std.specs.Prelude.{map, string_bytes};
-    ghost use Rattle.esc_pack.specs.Sources.{SourceValue};
+    ghost use Rattle.esc_pack.specs.TableFiles.{SourceValue};
 
     ghost Value = { SourceValue };
 
@@ -62,7 +62,7 @@ pub struct Sources {
 }
 
 impl Model for Sources {
-    ghost use Rattle.esc_pack.specs.Sources.{SourcesValue};
+    ghost use Rattle.esc_pack.specs.TableFiles.{SourcesValue};
 
     ghost Value = { SourcesValue };
 
@@ -158,7 +158,7 @@ fn files_in(alloc: Global, table: &Value) -> Result<Option<Vec<String>>, NoMemor
     }
 }
 
-#[tactic(auto, unfolding(crate::specs::Sources::source_of))]
+#[tactic(auto, unfolding(crate::specs::TableFiles::source_of))]
 fn source_in(alloc: Global, table: &Value) -> Result<Option<Source>, NoMemory>
     ensures { IfOk result (λ o. o ≡ source_of (view table.now)) }
 {
@@ -185,7 +185,7 @@ fn all_sources(alloc: Global, values: &[Value]) -> Result<Option<Vec<Source>>, N
     Ok(Some(sources))
 }
 
-#[tactic(auto, unfolding(crate::specs::Sources::sources_in))]
+#[tactic(auto, unfolding(crate::specs::TableFiles::sources_in))]
 fn sources_in(alloc: Global, json: &Value) -> Result<Option<Sources>, NoMemory>
     ensures { IfOk result (λ o. o ≡ sources_in (view json.now)) }
 {
@@ -222,7 +222,7 @@ fn parsed(alloc: Global, json: &[u8]) -> Result<Option<Value>, NoMemory>
 /// The files that a description names for its tables: `from`, an array of names, without it the one
 /// that `file` names; and `heading`, true where each begins with a heading row. `None` where the
 /// description is no JSON, or one of these members has another form.
-#[tactic(auto, unfolding(crate::specs::Sources::sources_of))]
+#[tactic(auto, unfolding(crate::specs::TableFiles::sources_of))]
 pub fn read_sources(alloc: Global, description: &[u8]) -> Result<Option<Sources>, NoMemory>
     ensures { IfOk result (λ o. o ≡ sources_of description.now) }
 {

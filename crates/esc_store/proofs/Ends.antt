@@ -12,7 +12,7 @@ use Rattle.esc_rows.specs.Content.{content_in}
 use Rattle.esc_store.specs.declared.counts.KindCounts.{KindCounts}
 use Rattle.esc_store.specs.Kept.{Kept, with_registry}
 use Rattle.esc_store.specs.TypedRows.{IsBooks, IsRegistry}
-use Rattle.esc_store.specs.Tables.{IsStore, IsStoreDatabase, HoldsTables}
+use Rattle.esc_store.specs.StoreTables.{IsStore, IsStoreDatabase, HoldsTables}
 use Rattle.esc_store.specs.Standing.{IsAtRest, RestsAt, AreCountsOf, IsStanding, IsBegun, IsMade, IsUnderWay}
 
 -- ---- results

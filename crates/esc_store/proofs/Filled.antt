@@ -17,7 +17,7 @@ use Rattle.esc_tables.specs.KeyName.{KeyName, key_eq}
 use Rattle.esc_tables.specs.KeyLaws.{keys_alike}
 use Rattle.esc_tables.specs.ObjectValue.{ObjectValue}
 use Rattle.esc_record.specs.Record.{record_of}
-use Rattle.esc_apply.specs.Objects.{Entry}
+use Rattle.esc_apply.specs.ObjectStreams.{Entry}
 use Rattle.esc_apply.specs.Registry.{State, written}
 use Rattle.esc_apply.specs.declared.registry.Targets.{Targets}
 use Rattle.esc_apply.specs.Changes.{with_object, changed_by, AreNew, CanBePut}

@@ -15,7 +15,7 @@ use Rattle.esc_rows.specs.Creation.{fresh as fresh_rows}
 use Rattle.esc_apply.specs.Registry.{empty}
 use Rattle.esc_store.specs.Kept.{Kept, fresh}
 use Rattle.esc_store.specs.TypedRows.{IsBooks, IsRegistry, listed_from}
-use Rattle.esc_store.specs.Tables.{IsStore, IsStoreDatabase}
+use Rattle.esc_store.specs.StoreTables.{IsStore, IsStoreDatabase}
 use Rattle.esc_store.specs.Standing.{RestsAt}
 use Rattle.esc_store.proofs.Ends.{was_clean}
 use Rattle.esc_store.proofs.Manifests.{listed_rise}

@@ -13,7 +13,7 @@ use Rattle.esc_rows.specs.Changes.{Tells}
 use Rattle.esc_store.specs.declared.store.Store.{Store}
 use Rattle.esc_store.specs.Kept.{Kept}
 use Rattle.esc_store.specs.TypedRows.{IsBooks, IsRegistry}
-use Rattle.esc_store.specs.Tables.{IsStoreDatabase, HoldsTables}
+use Rattle.esc_store.specs.StoreTables.{IsStoreDatabase, HoldsTables}
 use Rattle.esc_store.specs.Standing.{ChangeOf, IsBegun, IsMade, IsUnderWay, IsLook, IsStoreRead, BeganIn, RestIn, HoldsIn, Follows}
 use Rattle.esc_store.proofs.Ends.{at_said, was_clean, begun_committed}
 use Rattle.esc_store.proofs.Parts.{not_both}

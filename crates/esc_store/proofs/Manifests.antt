@@ -8,7 +8,7 @@ use Rattle.sqlite_keyed.specs.Keyed.{IsKeyedBy}
 use Rattle.esc_manifest.specs.declared.row.MRow.{MRow}
 use Rattle.esc_manifest.specs.declared.fault.MFault.{MFault}
 use Rattle.esc_manifest.specs.declared.fault.MFault.TheVariants.{Refused}
-use Rattle.esc_manifest.specs.Rows.{no_row}
+use Rattle.esc_manifest.specs.ManifestRows.{no_row}
 use Rattle.esc_rows.specs.Rows.{ListedRow, listed_number}
 use Rattle.esc_rows.specs.declared.listed.Listed.{Listed}
 use Rattle.esc_rows.specs.Entries.{listed_row as stored_row}

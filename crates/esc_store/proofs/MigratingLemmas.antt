@@ -14,7 +14,7 @@ use Rattle.esc_rows.specs.FirstVersion.{first_content_in, HoldsFirst as HasFirst
 use Rattle.esc_rows.specs.FirstVersion.{IsFirstStore as HasFirstTables}
 use Rattle.esc_store.specs.Kept.{Kept}
 use Rattle.esc_store.specs.TypedRows.{IsBooks, IsRegistry}
-use Rattle.esc_store.specs.Tables.{IsStore, IsStoreDatabase}
+use Rattle.esc_store.specs.StoreTables.{IsStore, IsStoreDatabase}
 use Rattle.esc_store.specs.Opening.{IsSettled}
 use Rattle.esc_store.specs.FirstVersion.{IsFirstKept, IsFirstStore, IsFirstDatabase, IsOfFirstVersion, IsFirstAtRest, SeesFirst}
 use Rattle.esc_store.proofs.Ends.{was_clean}

@@ -12,7 +12,7 @@ use Rattle.esc_rows.specs.Content.{Content, content_in, HoldsContent}
 use Rattle.esc_rows.specs.Content.{IsStore as HasTables}
 use Rattle.esc_rows.specs.Creation.{TellsVersion}
 use Rattle.esc_store.specs.Kept.{Kept}
-use Rattle.esc_store.specs.Tables.{IsStore, IsStoreDatabase, IsOfVersion}
+use Rattle.esc_store.specs.StoreTables.{IsStore, IsStoreDatabase, IsOfVersion}
 use Rattle.esc_store.specs.Opening.{IsSettled, IsAsItWas}
 use Rattle.esc_store.specs.Standing.{IsStanding, RestsAt}
 use Rattle.esc_store.proofs.Ends.{was_clean}

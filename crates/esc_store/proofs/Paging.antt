@@ -13,7 +13,7 @@ use Rattle.esc_envelope.specs.declared.kind.Kind.{Kind}
 use Rattle.esc_envelope.specs.Kinds.{kind_rank}
 use Rattle.esc_tables.specs.KeyName.{KeyName, key_cmp, key_eq}
 use Rattle.esc_record.specs.Record.{record_of}
-use Rattle.esc_apply.specs.Objects.{Entry, InOrder}
+use Rattle.esc_apply.specs.ObjectStreams.{Entry, InOrder}
 use Rattle.esc_apply.specs.Registry.{State}
 use Rattle.esc_tables.specs.KeyLaws.{keys_alike}
 use Rattle.esc_rows.specs.Content.{Content, object_at}

@@ -16,7 +16,7 @@ use Rattle.esc_store.specs.declared.store.Store.{Store}
 use Rattle.esc_store.specs.Faults.{IsS1OrS2}
 use Rattle.esc_store.specs.Kept.{Kept}
 use Rattle.esc_store.specs.TypedRows.{IsBooks, IsRegistry}
-use Rattle.esc_store.specs.Tables.{IsStoreDatabase, HoldsTables}
+use Rattle.esc_store.specs.StoreTables.{IsStoreDatabase, HoldsTables}
 use Rattle.esc_store.specs.Standing.{IsBegun, IsMade, IsUnderWay, IsGivenUp, Settles, IsStep, IsLook}
 use Rattle.esc_store.proofs.Ends.{at_ok, at_said, was_clean, keeps_then, begun_committed}
 

@@ -27,7 +27,7 @@ use Rattle.esc_apply.specs.Registry.{State as Tables}
 use Rattle.esc_store.specs.Kept.{Kept, with_receipt, with_body, with_steps}
 use Rattle.esc_store.specs.ReplyValue.{ReceiptValue}
 use Rattle.esc_store.specs.TypedRows.{IsBooks, IsRegistry, receipt_row, receipts_from, steps_from}
-use Rattle.esc_store.specs.Steps.{next_number, with_next_receipt, AddsNext, with_steps_from, ContinuesSteps}
+use Rattle.esc_store.specs.ChangeParts.{next_number, with_next_receipt, AddsNext, with_steps_from, ContinuesSteps}
 use Rattle.esc_store.specs.Standing.{IsStep, IsLook, RestIn}
 use Rattle.esc_store.proofs.Ends.{at_said, was_clean, keeps_then}
 use Rattle.esc_store.proofs.Parts.{Turns, turning}

@@ -14,7 +14,7 @@ use Rattle.esc_store.specs.declared.counts.KindCounts.{KindCounts}
 use Rattle.esc_store.specs.declared.fault.SFault.{SFault}
 use Rattle.esc_store.specs.declared.store.Store.{Store}
 use Rattle.esc_store.specs.Kept.{Kept, AreCounts}
-use Rattle.esc_store.specs.Tables.{IsStoreDatabase}
+use Rattle.esc_store.specs.StoreTables.{IsStoreDatabase}
 use Rattle.esc_store.specs.Standing.{IsAtRest, AreCountsOf, IsStanding, IsStoreRead, IsLook, IsAsBefore, IsTold, Stands, IsHonest}
 use Rattle.esc_store.proofs.Ends.{at_said, was_clean, still_counted}
 use Rattle.esc_store.proofs.Parts.{Settled, look_is}

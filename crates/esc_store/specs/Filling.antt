@@ -2,7 +2,7 @@
 use Rattle.std.specs.Prelude.{◌≡◌, ℕ, List, Option, None, map}
 use Rattle.sqlite_trees.specs.declared.store.Store.{Ghosts}
 use Rattle.esc_apply.specs.declared.registry.Targets.{Targets}
-use Rattle.esc_apply.specs.Objects.{Entry}
+use Rattle.esc_apply.specs.ObjectStreams.{Entry}
 use Rattle.esc_apply.specs.Registry.{State}
 use Rattle.esc_apply.specs.Changes.{with_object, changed_by, AreNew, CanBePut}
 use Rattle.esc_rows.specs.Changes.{ObjectEntry, ImageEntry}

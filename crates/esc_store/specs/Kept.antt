@@ -39,7 +39,7 @@ use Rattle.esc_envelope.specs.declared.kind.Kind.TheVariants.{
 }
 use Rattle.esc_envelope.specs.Kinds.{kind_rank}
 use Rattle.esc_manifest.specs.declared.row.MRow.{MRow}
-use Rattle.esc_manifest.specs.Rows.{place_at, resend_at}
+use Rattle.esc_manifest.specs.ManifestRows.{place_at, resend_at}
 use Rattle.esc_apply.specs.declared.front.Step.{Step}
 use Rattle.esc_apply.specs.Registry.{State, Content, empty, HasSize}
 use Rattle.esc_store.specs.declared.reply.Verdict.{Verdict}

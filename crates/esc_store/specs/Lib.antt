@@ -7,6 +7,6 @@ pub mod Opening
 pub mod Pages
 pub mod ReplyValue
 pub mod Standing
-pub mod Steps
-pub mod Tables
+pub mod ChangeParts
+pub mod StoreTables
 pub mod TypedRows

@@ -18,7 +18,7 @@ use Rattle.std.specs.Map.{lookup}
 use Rattle.esc_envelope.specs.declared.kind.Kind.{Kind}
 use Rattle.esc_envelope.specs.Kinds.{kind_rank}
 use Rattle.esc_tables.specs.KeyName.{KeyName, key_eq}
-use Rattle.esc_apply.specs.Objects.{Entry, InOrder}
+use Rattle.esc_apply.specs.ObjectStreams.{Entry, InOrder}
 use Rattle.esc_apply.specs.Registry.{Content}
 use Rattle.esc_record.specs.Record.{record_of}
 use Rattle.esc_rows.specs.Changes.{ObjectEntry, is_from, is_up_to}

@@ -15,7 +15,7 @@ use Rattle.std.specs.Prelude.{
   bytes_eq,
 }
 use Rattle.esc_manifest.specs.declared.row.MRow.{MRow}
-use Rattle.esc_manifest.specs.Rows.{id_at, resend_at}
+use Rattle.esc_manifest.specs.ManifestRows.{id_at, resend_at}
 use Rattle.esc_store.specs.declared.reply.Verdict.{Verdict}
 
 -- a reply of the desk

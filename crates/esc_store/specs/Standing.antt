@@ -32,7 +32,7 @@ use Rattle.esc_store.specs.declared.counts.KindCounts.{KindCounts}
 use Rattle.esc_store.specs.Kept.{Kept, AreCounts}
 use Rattle.esc_store.specs.Decoded.{counted}
 use Rattle.esc_store.specs.TypedRows.{IsBooks, IsRegistry}
-use Rattle.esc_store.specs.Tables.{IsStore, IsStoreDatabase, HoldsTables}
+use Rattle.esc_store.specs.StoreTables.{IsStore, IsStoreDatabase, HoldsTables}
 
 -- ---- a store
 

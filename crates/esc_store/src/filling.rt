@@ -1,7 +1,7 @@
 //! Objects that are put many at a time, after what their keys had is noted.
 
 ghost use Rattle.std.specs.Prelude.{◌≡◌, Some, [], ◌∷◌, length, map, IfOk, IfErr, OnOk};
-ghost use Rattle.esc_apply.specs.Objects.{Entry};
+ghost use Rattle.esc_apply.specs.ObjectStreams.{Entry};
 ghost use Rattle.esc_apply.specs.Registry.{State, noted, written};
 ghost use Rattle.esc_apply.specs.Changes.{with_object, CanBePut};
 ghost use Rattle.esc_apply.specs.declared.registry.Targets.TheVariants.{Free, Any};

@@ -10,7 +10,7 @@ ghost use Rattle.esc_store.specs.Faults.{IsS1ToS3};
 ghost use Rattle.esc_store.specs.Kept.{fresh};
 ghost use Rattle.esc_store.specs.Opening.{IsAsItWas};
 ghost use Rattle.esc_store.specs.TypedRows.{listed_from};
-ghost use Rattle.esc_store.specs.Tables.{IsStore, IsStoreDatabase};
+ghost use Rattle.esc_store.specs.StoreTables.{IsStore, IsStoreDatabase};
 ghost use Rattle.esc_store.specs.Standing.{RestsAt, IsGivenUp};
 
 use crate::fault::SFault;

@@ -7,7 +7,7 @@ ghost use Rattle.sqlite.specs.State.{HasCleanDisk, Survives, KeepsCommit, IsUnch
 ghost use Rattle.esc_store.specs.Faults.{IsS1OrS2, IsS1ToS3};
 ghost use Rattle.esc_store.specs.Kept.{Kept};
 ghost use Rattle.esc_store.specs.Opening.{IsSettled, IsAsItWas};
-ghost use Rattle.esc_store.specs.Tables.{IsStore, IsStoreDatabase};
+ghost use Rattle.esc_store.specs.StoreTables.{IsStore, IsStoreDatabase};
 ghost use Rattle.esc_store.specs.Standing.{
   Stands,
   IsStanding,

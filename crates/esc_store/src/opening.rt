@@ -6,7 +6,7 @@ ghost use Rattle.sqlite.specs.State.{HasCleanDisk, Survives, KeepsCommit, IsUnch
 ghost use Rattle.esc_store.specs.Faults.{IsS1ToS3};
 ghost use Rattle.esc_store.specs.Kept.{Kept};
 ghost use Rattle.esc_store.specs.Opening.{IsSettled, IsAsItWas};
-ghost use Rattle.esc_store.specs.Tables.{IsStore, IsStoreDatabase, IsOfVersion};
+ghost use Rattle.esc_store.specs.StoreTables.{IsStore, IsStoreDatabase, IsOfVersion};
 
 use crate::codec::manifest::kept_manifest;
 use crate::fault::SFault;

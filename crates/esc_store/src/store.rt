@@ -23,7 +23,7 @@ ghost use Rattle.esc_manifest.specs.declared.row.MRow.{MRow};
 ghost use Rattle.esc_store.specs.Opening.{IsAsItWas};
 ghost use Rattle.esc_store.specs.Kept.{Kept, fresh, with_registry};
 ghost use Rattle.esc_apply.specs.Registry.{State};
-ghost use Rattle.esc_store.specs.Tables.{IsBlank, IsStore, IsOfVersion};
+ghost use Rattle.esc_store.specs.StoreTables.{IsBlank, IsStore, IsOfVersion};
 ghost use Rattle.esc_store.specs.Standing.{
   Stands,
   Began,

@@ -16,7 +16,7 @@ use Rattle.esc_csv.specs.Records.{records_of}
 use Rattle.esc_envelope.specs.EnvelopeValue.{EnvelopeValue, TableValue}
 use Rattle.esc_envelope.specs.Envelope.{envelope_of}
 use Rattle.esc_envelope.specs.Id.{is_id, is_id_byte}
-use Rattle.esc_envelope.specs.Tables.{IsTable, is_name, is_name_byte}
+use Rattle.esc_envelope.specs.DeclaredTables.{IsTable, is_name, is_name_byte}
 use Rattle.esc_tables.specs.DepositOf.{all_rows}
 use Rattle.esc_tables.specs.DepositValue.{DepositValue}
 use Rattle.esc_tables.specs.KeyName.{KeyName, key_cmp, key_eq}

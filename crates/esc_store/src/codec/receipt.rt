@@ -25,7 +25,7 @@ ghost use Rattle.esc_store.specs.TypedRows.{
   receipts_from,
 };
 ghost use Rattle.std.specs.Ordering.{nat_cmp};
-ghost use Rattle.esc_manifest.specs.Rows.{id_at, resend_at};
+ghost use Rattle.esc_manifest.specs.ManifestRows.{id_at, resend_at};
 ghost use Rattle.esc_store.specs.declared.reply.Verdict.{Verdict as verdict};
 ghost use Rattle.esc_store.specs.Decoded.{AreOnce};
 ghost use Rattle.esc_store.specs.ReplyValue.{ReceiptValue, reply_kept, reply_alike, replies_from};

@@ -2,7 +2,7 @@ use Rattle.std.proofs.Common.{◌∙◌, sym, subst}
 use Rattle.std.proofs.lemmas.Result.{err_from_is_err_and}
 use Rattle.esc_bundle.specs.declared.fault.Fault.{Fault}
 use Rattle.esc_bundle.specs.Bundle.{views}
-use Rattle.esc_bundle.specs.Steps.{Refuses}
+use Rattle.esc_bundle.specs.Tests.{Refuses}
 use Rattle.esc_bundle.specs.Reading.{length_at}
 use Rattle.esc_bundle.proofs.Standing.{Capped, length_told, length_refused}
 use Rattle.esc_bundle.proofs.reading.told_length.Goals as goal

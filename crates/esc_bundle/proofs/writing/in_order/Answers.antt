@@ -3,7 +3,7 @@ use Rattle.std.proofs.lemmas.Result.{err_from_is_err_and}
 use Rattle.std.proofs.lemmas.List.{map_push}
 use Rattle.esc_bundle.specs.declared.fault.Fault.{Fault}
 use Rattle.esc_bundle.specs.Bundle.{Named, view, views}
-use Rattle.esc_bundle.specs.Steps.{Refuses}
+use Rattle.esc_bundle.specs.Tests.{Refuses}
 use Rattle.esc_bundle.specs.Reading.{stands_at}
 use Rattle.esc_bundle.specs.Writing.{named, in_order}
 use Rattle.esc_bundle.proofs.Written.{in_order_more, in_order_stops, in_order_ends}

@@ -1,6 +1,6 @@
 use Rattle.std.proofs.Common.{◌≡◌, ℕ, ◌+◌, ◌<◌, ℤ, length, refl, List, Option, ap, sym, subst, arith}
 use Rattle.esc_manifest.specs.declared.row.MRow.{MRow}
-use Rattle.esc_manifest.specs.Rows.{watermark_at}
+use Rattle.esc_manifest.specs.ManifestRows.{watermark_at}
 use Rattle.esc_chain.specs.Chain.{Rows, IsHeld, IsBy}
 use Rattle.esc_chain.proofs.Moments.{IsUntilBelow, until_none, until_skip, until_more, until_all}
 use Rattle.esc_chain.proofs.latest.rows_until.Goals as goal

@@ -1,5 +1,5 @@
 use Rattle.std.proofs.Common.{◌≡◌, ◌++◌, List}
-use Rattle.esc_apply.specs.Objects.{Entry}
+use Rattle.esc_apply.specs.ObjectStreams.{Entry}
 use Rattle.esc_csv.specs.Lines.{text_of}
 use Rattle.esc_check.specs.Export.{export_lines, export_text}
 use Rattle.esc_check.proofs.export.export_from.Given as goal

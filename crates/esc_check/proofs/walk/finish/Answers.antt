@@ -5,7 +5,7 @@ use Rattle.esc_check.specs.FindingValue.{FindingValue}
 use Rattle.esc_check.specs.Findings.{IsFinding, missing_target}
 use Rattle.esc_check.specs.Gathered.{count_findings}
 use Rattle.esc_check.specs.LinkValue.{LinkValue}
-use Rattle.esc_check.specs.Tables.{tables_of}
+use Rattle.esc_check.specs.TableMap.{tables_of}
 use Rattle.esc_check.proofs.ListingLaws.{in_order}
 use Rattle.esc_check.proofs.WalkLaws.{walked_found}
 use Rattle.esc_check.proofs.walk.finish.Goals as goal

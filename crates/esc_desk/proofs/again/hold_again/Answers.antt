@@ -2,7 +2,7 @@ use Rattle.std.proofs.Common.{ℕ, IsSome, is_some, nat_eq, sym, ap, subst, ◌�
 use Rattle.std.specs.List.{list_any}
 use Rattle.std.proofs.lemmas.Result.{IfOk-weaker}
 use Rattle.esc_events.specs.ArrivalValue.{an_arrival}
-use Rattle.esc_events.specs.declared.finding.Finding.TheVariants.{Holding}
+use Rattle.esc_events.specs.declared.assessment.Assessment.TheVariants.{Holding}
 use Rattle.esc_events.proofs.Searches.{same_answer}
 use Rattle.esc_desk.specs.Crashes.{AddsStoreFor}
 use Rattle.esc_desk.proofs.ComingAgain.{nothing_listed, nothing_taken}

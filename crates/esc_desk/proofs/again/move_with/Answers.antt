@@ -5,7 +5,7 @@ use Rattle.esc_apply.specs.declared.front.Step.{Step}
 use Rattle.esc_store.specs.Kept.{Kept, AreHeld, body_put, with_body}
 use Rattle.esc_store.specs.ReplyValue.{ReplyValue}
 use Rattle.esc_store.specs.Standing.{Stands, IsHonest}
-use Rattle.esc_events.specs.declared.finding.Finding.TheVariants.{Holding}
+use Rattle.esc_events.specs.declared.assessment.Assessment.TheVariants.{Holding}
 use Rattle.esc_events.specs.ArrivalValue.{an_arrival}
 use Rattle.esc_events.specs.Events.{EventValue}
 use Rattle.esc_events.specs.Events.EventValue.{arrived}

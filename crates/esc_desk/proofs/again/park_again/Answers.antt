@@ -3,7 +3,7 @@ use Rattle.esc_store.specs.Kept.{with_parked}
 use Rattle.esc_store.specs.Standing.{Stands, LeavesOnly}
 use Rattle.esc_events.specs.declared.parking.Parking.{Parking}
 use Rattle.esc_events.specs.declared.parking.Parking.TheVariants.{Free}
-use Rattle.esc_events.specs.declared.finding.Finding.TheVariants.{Unlisted}
+use Rattle.esc_events.specs.declared.assessment.Assessment.TheVariants.{Unlisted}
 use Rattle.esc_events.specs.ArrivalValue.{an_arrival}
 use Rattle.esc_events.specs.Parks.{IsParking}
 use Rattle.esc_desk.specs.Crashes.{AddsStore, AddsStoreFor}

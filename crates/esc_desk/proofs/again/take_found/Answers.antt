@@ -1,6 +1,6 @@
 use Rattle.std.proofs.Common.{sym, subst}
 use Rattle.std.proofs.lemmas.Result.{IfOk-weaker}
-use Rattle.esc_events.specs.declared.finding.Finding.{Finding}
+use Rattle.esc_events.specs.declared.assessment.Assessment.{Assessment}
 use Rattle.esc_events.specs.ArrivalValue.{an_arrival}
 use Rattle.esc_events.specs.Taking.{IsAgain}
 use Rattle.esc_desk.specs.Takings.{IsTakenAgain}
@@ -13,8 +13,8 @@ use Rattle.esc_desk.proofs.again.take_found.Goals as goal
 pub returns-in-Unlisted-clause-taken : goal.returns-in-Unlisted-clause-taken
 returns-in-Unlisted-clause-taken g c = IfOk-weaker c.park_again.result _ _ (λ work made. λ clean e n k reply stood knows is.
     let a = an_arrival n c.args.body.now in
-    subst (λ (f : Finding). IsTakenAgain g.S.Store c.args.store.now c.park_again.new.store e a k f c.args.known.now work) (sym c.in-Unlisted.is)
-    (made clean e n k reply c.args.known.now stood knows (subst (λ (f : Finding). IsAgain e a k f reply) c.in-Unlisted.is is))) c.park_again.ensures.taken
+    subst (λ (f : Assessment). IsTakenAgain g.S.Store c.args.store.now c.park_again.new.store e a k f c.args.known.now work) (sym c.in-Unlisted.is)
+    (made clean e n k reply c.args.known.now stood knows (subst (λ (f : Assessment). IsAgain e a k f reply) c.in-Unlisted.is is))) c.park_again.ensures.taken
 
 pub returns-in-Unreadable-clause-taken : goal.returns-in-Unreadable-clause-taken
 returns-in-Unreadable-clause-taken g c = λ clean e n k reply stood knows is.
@@ -30,5 +30,5 @@ returns-in-Unreadable-clause-crash g c = λ clean e n k reply stood knows is. ad
 pub returns-in-Holding-clause-taken : goal.returns-in-Holding-clause-taken
 returns-in-Holding-clause-taken g c = IfOk-weaker c.hold_again.result _ _ (λ work made. λ clean e n k reply stood knows is.
     let a = an_arrival n c.args.body.now in
-    subst (λ (f : Finding). IsTakenAgain g.S.Store c.args.store.now c.hold_again.new.store e a k f c.hold_again.new.known work) (sym c.in-Holding.is)
-    (made clean e n k reply stood knows (subst (λ (f : Finding). IsAgain e a k f reply) c.in-Holding.is is))) c.hold_again.ensures.taken
+    subst (λ (f : Assessment). IsTakenAgain g.S.Store c.args.store.now c.hold_again.new.store e a k f c.hold_again.new.known work) (sym c.in-Holding.is)
+    (made clean e n k reply stood knows (subst (λ (f : Assessment). IsAgain e a k f reply) c.in-Holding.is is))) c.hold_again.ensures.taken

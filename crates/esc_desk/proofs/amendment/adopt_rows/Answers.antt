@@ -1,7 +1,7 @@
 use Rattle.std.proofs.Common.{◌≡◌, ◌+◌, List, ℕ, None, drop, get_or, ap, subst, ◌∙◌, arith}
 use Rattle.std.proofs.lemmas.List.{drop_more}
 use Rattle.esc_manifest.specs.declared.row.MRow.{MRow}
-use Rattle.esc_manifest.specs.Rows.{row_at, no_row}
+use Rattle.esc_manifest.specs.ManifestRows.{row_at, no_row}
 use Rattle.esc_store.specs.Standing.{IsHonest}
 use Rattle.esc_store.specs.Kept.{with_body, with_parked}
 use Rattle.esc_desk.proofs.ListingSteps.{IsAdopting, adopting_one}

@@ -13,7 +13,7 @@ use Rattle.esc_events.specs.Events.{EventValue, union}
 use Rattle.esc_events.specs.Known.{IsKnown}
 use Rattle.esc_events.specs.Plans.{AreLatestSteps}
 use Rattle.esc_events.specs.Stands.{StandsFor, deposits_of}
-use Rattle.esc_desk.specs.Sources.{AreJudged}
+use Rattle.esc_desk.specs.DepositSources.{AreJudged}
 use Rattle.esc_desk.specs.Crashes.{AddsStore, AddsStoreFor}
 use Rattle.esc_desk.proofs.AmendSteps.{IsListing, if_ok_at, is_amendment, is_moved_from, stands_then, works_then, knows_then}
 use Rattle.esc_desk.proofs.CrashLemmas.{leaves_for}

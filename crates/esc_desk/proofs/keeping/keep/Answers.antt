@@ -5,7 +5,7 @@ use Rattle.esc_tables.specs.Reading.{reading}
 use Rattle.esc_store.specs.Kept.{Kept, with_receipt}
 use Rattle.esc_store.specs.ReplyValue.{ReceiptValue}
 use Rattle.esc_events.specs.ArrivalValue.{ArrivalValue, an_arrival}
-use Rattle.esc_events.specs.declared.finding.Finding.{Finding}
+use Rattle.esc_events.specs.declared.assessment.Assessment.{Assessment}
 use Rattle.esc_events.specs.declared.known.Known.{Known}
 use Rattle.esc_events.specs.declared.parking.Parking.TheVariants.{Needless}
 use Rattle.esc_events.specs.Events.{EventValue}
@@ -19,7 +19,7 @@ use Rattle.esc_desk.proofs.Holding.{IsRefused, refused_listed, refused_row, stan
 use Rattle.esc_desk.proofs.keeping.keep.Goals as goal
 
 -- a refusal was found, so only the receipt is kept
-noted : {e : List EventValue} {a : ArrivalValue} {k : Kept} {found : Finding} {known : Known} {receipt : ReceiptValue} → IsNew e a k found known receipt → IsRefused found
+noted : {e : List EventValue} {a : ArrivalValue} {k : Kept} {found : Assessment} {known : Known} {receipt : ReceiptValue} → IsNew e a k found known receipt → IsRefused found
     → StandsFor sha256 reading (e ++ arrived a ∷ []) (with_receipt k receipt)
 noted {e = e} {a = a} {k = k} {found = found} {known = known} {receipt = receipt} is refused =
     stands_noted e a k found known receipt is (refused_listed found refused) (λ q here. absurd (no_answer (sym (refused_row found refused) ∙ here)))
@@ -31,7 +31,7 @@ returns-in_err-number-in-Unreadable-clause-crash g c = λ clean e n k stood is.
 
 pub returns-in-Unlisted-clause-kept : goal.returns-in-Unlisted-clause-kept
 returns-in-Unlisted-clause-kept g c = IfOk-weaker c.keep_parked.result _ _ (λ p made. λ clean e n k stood is.
-    made clean e n k stood (subst (λ (f : Finding). IsNew e (an_arrival n c.args.body.now) k f c.args.known.now c.args.receipt.now) c.in-Unlisted.is is)) c.keep_parked.ensures.kept
+    made clean e n k stood (subst (λ (f : Assessment). IsNew e (an_arrival n c.args.body.now) k f c.args.known.now c.args.receipt.now) c.in-Unlisted.is is)) c.keep_parked.ensures.kept
 
 pub returns-in_ok-number-in-Unreadable-clause-kept : goal.returns-in_ok-number-in-Unreadable-clause-kept
 returns-in_ok-number-in-Unreadable-clause-kept g c = λ clean e n k stood is.
@@ -50,4 +50,4 @@ returns-in_ok-number-in-Unreadable-clause-crash g c = λ clean e n k stood is.
 
 pub returns-in-Holding-clause-kept : goal.returns-in-Holding-clause-kept
 returns-in-Holding-clause-kept g c = IfOk-weaker c.keep_held.result _ _ (λ p made. λ clean e n k stood is.
-    made clean e n k stood (subst (λ (f : Finding). IsNew e (an_arrival n c.args.body.now) k f c.args.known.now c.args.receipt.now) c.in-Holding.is is)) c.keep_held.ensures.kept
+    made clean e n k stood (subst (λ (f : Assessment). IsNew e (an_arrival n c.args.body.now) k f c.args.known.now c.args.receipt.now) c.in-Holding.is is)) c.keep_held.ensures.kept

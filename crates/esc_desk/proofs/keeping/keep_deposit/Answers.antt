@@ -4,7 +4,7 @@ use Rattle.esc_tables.specs.Reading.{reading}
 use Rattle.esc_apply.specs.declared.front.Step.{Step}
 use Rattle.esc_store.specs.Kept.{Kept, AreHeld, body_put}
 use Rattle.esc_store.specs.Standing.{Stands, IsHonest}
-use Rattle.esc_events.specs.declared.finding.Finding.TheVariants.{Holding}
+use Rattle.esc_events.specs.declared.assessment.Assessment.TheVariants.{Holding}
 use Rattle.esc_events.specs.declared.known.Known.{Known}
 use Rattle.esc_events.specs.ArrivalValue.{an_arrival}
 use Rattle.esc_events.specs.Events.{EventValue}

@@ -12,7 +12,7 @@ use Rattle.esc_events.specs.Events.EventValue.{arrived}
 use Rattle.esc_events.specs.Stands.{StandsFor}
 use Rattle.esc_events.specs.Taking.{IsNew}
 use Rattle.esc_events.specs.declared.known.Known.{Known}
-use Rattle.esc_events.specs.declared.finding.Finding.TheVariants.{Holding}
+use Rattle.esc_events.specs.declared.assessment.Assessment.TheVariants.{Holding}
 use Rattle.esc_events.specs.declared.parking.Parking.TheVariants.{Needless}
 use Rattle.esc_events.proofs.Searches.{same_answer}
 use Rattle.esc_desk.specs.Crashes.{AddsStore, AddsStoreFor}

@@ -1,7 +1,7 @@
 use Rattle.std.proofs.Common.{rules, ℕ, List, refl, ap, subst}
 use Rattle.esc_store.specs.ReplyValue.{ReceiptValue}
 use Rattle.esc_events.specs.ArrivalValue.{an_arrival}
-use Rattle.esc_events.specs.declared.finding.Finding.TheVariants.{Unlisted}
+use Rattle.esc_events.specs.declared.assessment.Assessment.TheVariants.{Unlisted}
 use Rattle.esc_events.specs.declared.parking.Parking.{Parking}
 use Rattle.esc_events.specs.Parks.{IsParking}
 use Rattle.esc_desk.specs.Crashes.{AddsStoreFor}

@@ -4,11 +4,11 @@ use Rattle.esc_tables.specs.Reading.{reading}
 use Rattle.esc_manifest.specs.declared.row.MRow.{MRow}
 use Rattle.esc_store.specs.Kept.{Kept}
 use Rattle.esc_store.specs.ReplyValue.{ReceiptValue, ReplyValue, reply_kept, reply_alike}
-use Rattle.esc_events.specs.declared.finding.Finding.{Finding}
+use Rattle.esc_events.specs.declared.assessment.Assessment.{Assessment}
 use Rattle.esc_events.specs.declared.known.Known.{Known}
 use Rattle.esc_events.specs.ArrivalValue.{an_arrival}
 use Rattle.esc_events.specs.Events.{EventValue, union}
-use Rattle.esc_events.specs.Finding.{finding, row_of, held_row}
+use Rattle.esc_events.specs.Assessment.{assessment, row_of, held_row}
 use Rattle.esc_events.specs.Known.{IsKnown}
 use Rattle.esc_events.specs.Receipts.{is_among, receipt_by}
 use Rattle.esc_events.specs.Stands.{StandsFor}
@@ -30,7 +30,7 @@ pub reply_of-requires : goal.reply_of-requires
 reply_of-requires g c =
     let m = c.manifest.result.now in
     let rows : c.rows.result.now ≡ m = c.rows.ensures.rows ∙ c.manifest-2.ensures.manifest ∙ sym c.manifest.ensures.manifest in
-    let found = ap (λ (f : Finding). receipt_by c.args.number.now c.args.digest false f c.is_among-again.result) c.in_ok-found.ensures.found in
+    let found = ap (λ (f : Assessment). receipt_by c.args.number.now c.args.digest false f c.is_among-again.result) c.in_ok-found.ensures.found in
     subst (λ (x : List MRow). IfSome c.receipt_by-receipt.result.row (λ r. r < length x)) (sym rows)
     (subst (λ (x : ReceiptValue). IfSome x.row (λ r. r < length m)) (sym (c.receipt_by-receipt.ensures ∙ found))
     (row_within m c.args.body.now c.args.number.now c.args.digest c.is_among-again.result))
@@ -40,13 +40,13 @@ unfolding AddsStoreFor
 returns-in_err-reply-clause-crash g c = λ clean e k stood stands known none. adds_at_rest
 
 -- an arrival for which no receipt is kept, and what was found of it
-is_new : (n body : List ℕ) {e : List EventValue} {k : Kept} {known : Known} {m : List MRow} {digest : List ℕ} {found : Finding} {again : Bool} {receipt : ReceiptValue}
-    → StandsFor sha256 reading e k → IsKnown k known → m ≡ k.listed → digest ≡ sha256 body → reply_alike (union e) 1 n digest k.receipts ≡ None → found ≡ finding sha256 reading m body
+is_new : (n body : List ℕ) {e : List EventValue} {k : Kept} {known : Known} {m : List MRow} {digest : List ℕ} {found : Assessment} {again : Bool} {receipt : ReceiptValue}
+    → StandsFor sha256 reading e k → IsKnown k known → m ≡ k.listed → digest ≡ sha256 body → reply_alike (union e) 1 n digest k.receipts ≡ None → found ≡ assessment sha256 reading m body
     → again ≡ is_among known.told.items (held_row found) → receipt ≡ receipt_by n digest false found again → IsNew e (an_arrival n body) k found known receipt
 is_new n body {e = e} {k = k} {found = found} stands known m_is digest_is none found_is again_is receipt_is = record {
   stood = stands;
   none = subst (λ (d : List ℕ). reply_alike (union e) 1 n d k.receipts ≡ None) digest_is none;
-  found_is = found_is ∙ ap (λ (x : List MRow). finding sha256 reading x body) (m_is ∙ stands.books.listed);
+  found_is = found_is ∙ ap (λ (x : List MRow). assessment sha256 reading x body) (m_is ∙ stands.books.listed);
   known_is = known;
   receipt_is = receipt_is ∙ ap₂ (λ (d : List ℕ) (b : Bool). receipt_by n d false found b) digest_is again_is;
 }
@@ -65,7 +65,7 @@ returns-in_err-kept-clause-cause g c =
     let m = c.manifest.result.now in
     let listed : m ≡ k.listed = c.manifest.ensures.kept k stood in
     let none : row_of m (sha256 c.args.body.now) ≡ None = unlisted_row m (row_of m (sha256 c.args.body.now)) (reading c.args.body.now) (sym c.in_ok-found.ensures.found ∙ unlisted) in
-    let receipt = c.receipt_by-receipt.ensures ∙ ap (λ (f : Finding). receipt_by c.args.number.now c.args.digest false f c.is_among-again.result) unlisted in
+    let receipt = c.receipt_by-receipt.ensures ∙ ap (λ (f : Assessment). receipt_by c.args.number.now c.args.digest false f c.is_among-again.result) unlisted in
     let digest : c.receipt_by-receipt.result.digest ≡ c.args.digest = ap (λ (r : ReceiptValue). r.digest) receipt in
     let at = crowded clean k stood in
     record {

@@ -1,6 +1,6 @@
 use Rattle.std.proofs.Common.{◌≡◌, List, Some, None, IsSome, is_some, sym, ap, ◌∙◌, rules, true≢false}
 use Rattle.esc_manifest.specs.declared.row.MRow.{MRow}
-use Rattle.esc_events.specs.Finding.{row_of}
+use Rattle.esc_events.specs.Assessment.{row_of}
 use Rattle.esc_events.proofs.Searches.{same_answer, no_answer}
 use Rattle.esc_desk.proofs.FoundRows.{found_no_more, found_one_more}
 use Rattle.esc_desk.proofs.knowing.insert_held.Goals as goal

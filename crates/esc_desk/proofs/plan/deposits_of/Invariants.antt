@@ -4,7 +4,7 @@ use Rattle.esc_store.specs.Kept.{Kept}
 use Rattle.esc_store.specs.Standing.{Stands, IsHonest, IsAsBefore}
 use Rattle.esc_events.specs.Plans.{rows_in}
 use Rattle.esc_events.specs.Stands.{deposits_of}
-use Rattle.esc_desk.specs.Sources.{IsSource}
+use Rattle.esc_desk.specs.DepositSources.{IsSource}
 use Rattle.esc_desk.proofs.plan.deposits_of.Given as goal
 
 -- the source still gives what it gave, and the deposits so far with those of the steps that are left are those of all steps

@@ -1,5 +1,5 @@
 use Rattle.std.proofs.Common.{List, ℕ, Option, Some, None, ◌≡◌, ◌++◌, ◌∷◌, [], cond, sym, subst, refl, ap, ◌∙◌, MatchOption}
-use Rattle.esc_apply.specs.Objects.{Entry}
+use Rattle.esc_apply.specs.ObjectStreams.{Entry}
 use Rattle.esc_desk.specs.Places.{later_kind}
 use Rattle.esc_desk.proofs.WalkSteps.{last_found}
 use Rattle.esc_desk.proofs.walk.next_place.Goals as goal

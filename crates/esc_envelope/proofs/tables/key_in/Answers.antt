@@ -1,6 +1,6 @@
 use Rattle.std.proofs.Common.{◌∙◌, ap, string_bytes}
 use Rattle.std.specs.Prelude.{option_and_then, map}
-use Rattle.esc_envelope.specs.Tables.{place_of}
+use Rattle.esc_envelope.specs.DeclaredTables.{place_of}
 use Rattle.esc_envelope.proofs.Distinct.{place_map}
 use Rattle.esc_envelope.proofs.tables.key_in.Goals as goal
 

@@ -1,6 +1,6 @@
 use Rattle.std.proofs.Common.{◌≡◌, ◌∙◌, Some, ap, sym, map, string_bytes}
 use Rattle.serde_json.specs.View.{view}
-use Rattle.esc_envelope.specs.Tables.{name_of, fields_of, key_of}
+use Rattle.esc_envelope.specs.DeclaredTables.{name_of, fields_of, key_of}
 use Rattle.esc_envelope.proofs.Declared.{is_table_of}
 use Rattle.esc_envelope.proofs.tables.table_in.Goals as goal
 

@@ -1,6 +1,6 @@
 use Rattle.std.proofs.Common.{◌∙◌, ap, sym}
 use Rattle.serde_json.specs.View.{view}
-use Rattle.esc_envelope.specs.Tables.{table_of}
+use Rattle.esc_envelope.specs.DeclaredTables.{table_of}
 use Rattle.esc_envelope.proofs.Gather.{next, fails, ended}
 use Rattle.esc_envelope.proofs.tables.tables_in.Goals as goal
 

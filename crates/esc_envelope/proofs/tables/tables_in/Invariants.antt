@@ -1,5 +1,5 @@
 use Rattle.serde_json.specs.View.{view}
-use Rattle.esc_envelope.specs.Tables.{table_of}
+use Rattle.esc_envelope.specs.DeclaredTables.{table_of}
 use Rattle.esc_envelope.proofs.Gather.{IsGathered}
 use Rattle.esc_envelope.proofs.tables.tables_in.Given as goal
 

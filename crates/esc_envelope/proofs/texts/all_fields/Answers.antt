@@ -1,6 +1,6 @@
 use Rattle.std.proofs.Common.{◌∙◌, ap, sym, map, string_bytes}
 use Rattle.serde_json.specs.View.{view}
-use Rattle.esc_envelope.specs.Tables.{field_of}
+use Rattle.esc_envelope.specs.DeclaredTables.{field_of}
 use Rattle.esc_envelope.proofs.Gather.{next, fails, ended}
 use Rattle.esc_envelope.proofs.texts.all_fields.Goals as goal
 

@@ -1,5 +1,5 @@
 use Rattle.std.proofs.Common.{◌≡◌, map, drop, string_bytes}
-use Rattle.esc_envelope.specs.Tables.{are_distinct}
+use Rattle.esc_envelope.specs.DeclaredTables.{are_distinct}
 use Rattle.esc_envelope.proofs.texts.are_distinct.Given as goal
 
 -- the texts so far occur once

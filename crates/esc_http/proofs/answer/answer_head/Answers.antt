@@ -1,4 +1,4 @@
-use Rattle.esc_http.specs.Plans.{plan_of_head}
+use Rattle.esc_http.specs.RequestPlans.{plan_of_head}
 use Rattle.esc_http.proofs.AnswerLemmas.{memory_answers_some}
 use Rattle.esc_http.proofs.answer.answer_head.Goals as goal
 

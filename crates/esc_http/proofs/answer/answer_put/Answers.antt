@@ -1,5 +1,5 @@
 use Rattle.std.proofs.Common.{refl}
-use Rattle.esc_http.specs.declared.plan.Plan.TheVariants.{Put}
+use Rattle.esc_http.specs.declared.request_plan.RequestPlan.TheVariants.{Put}
 use Rattle.esc_request.specs.declared.refusal.Refusal.TheVariants.{BadRequest}
 use Rattle.esc_http.specs.Answering.{arrives, refused}
 use Rattle.esc_http.proofs.AnswerLemmas.{text_is, whole_arrives, cut_refused, memory_answers_some}

@@ -1,9 +1,9 @@
 use Rattle.std.proofs.Common.{refl, ap}
 use Rattle.std.proofs.lemmas.List.{take_rest}
 use Rattle.std.proofs.lemmas.Result.{IfOk-weaker}
-use Rattle.esc_http.specs.declared.plan.Plan.{Plan}
-use Rattle.esc_http.specs.declared.plan.Plan.TheVariants.{Put}
-use Rattle.esc_http.specs.Plans.{plan_of_head}
+use Rattle.esc_http.specs.declared.request_plan.RequestPlan.{RequestPlan}
+use Rattle.esc_http.specs.declared.request_plan.RequestPlan.TheVariants.{Put}
+use Rattle.esc_http.specs.RequestPlans.{plan_of_head}
 use Rattle.esc_http.specs.Answering.{refused, wants, with_body}
 use Rattle.esc_http.proofs.AnswerLemmas.{text_is, always, same_request}
 use Rattle.esc_http.proofs.answer.answer_routed.Goals as goal
@@ -11,14 +11,14 @@ use Rattle.esc_http.proofs.answer.answer_routed.Goals as goal
 pub returns-in-Refuse-clause-answers : goal.returns-in-Refuse-clause-answers
 returns-in-Refuse-clause-answers g c = λ h at. (
   refused c.in-Refuse.refusal,
-  always _ _ (λ rest. ap (λ (p : Plan). with_body p rest) (c.in-Refuse.ensures h at)),
+  always _ _ (λ rest. ap (λ (p : RequestPlan). with_body p rest) (c.in-Refuse.ensures h at)),
   (refl, text_is _ _ c.refusal_response.result c.refusal_response.ensures.text),
 )
 
 pub returns-in-Get-clause-answers : goal.returns-in-Get-clause-answers
 returns-in-Get-clause-answers g c = λ h at. (
   wants c.in-Get.report,
-  always _ _ (λ rest. ap (λ (p : Plan). with_body p rest) (c.in-Get.ensures h at)),
+  always _ _ (λ rest. ap (λ (p : RequestPlan). with_body p rest) (c.in-Get.ensures h at)),
   c.answer_report.ensures.answers,
 )
 

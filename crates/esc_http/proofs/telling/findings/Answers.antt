@@ -4,7 +4,7 @@ use Rattle.std.specs.List.{Contains}
 use Rattle.std.proofs.lemmas.Int.{to_z-of_z}
 use Rattle.esc_check.specs.FindingValue.{FindingValue}
 use Rattle.esc_check.specs.Findings.{IsFinding}
-use Rattle.esc_check.specs.Tables.{tables_of}
+use Rattle.esc_check.specs.TableMap.{tables_of}
 use Rattle.esc_store.specs.Standing.{IsHonest}
 use Rattle.esc_http.proofs.Listed.{listing}
 use Rattle.esc_http.proofs.StoreFacts.{was_honest}

@@ -1,4 +1,4 @@
-use Rattle.std.proofs.Common.{◌≡◌, ℤ, List, Option, ap, ◌∙◌, subst}
+use Rattle.std.proofs.Common.{◌≡◌, ℤ, List, Option, IfSome, ap, ◌∙◌, subst}
 use Rattle.std.specs.FinSet as set
 use Rattle.std.proofs.lemmas.Result.{IfOk-weaker}
 use Rattle.esc_manifest.specs.declared.row.MRow.{MRow}
@@ -16,7 +16,8 @@ returns-clause-text g c = λ clean e serves.
     let then = stays g.S.Store c.args.desk.now.store c.moment.new.self.store e c.in_ok-moment.ensures.stays.same serves in
     let there = stays g.S.Store c.moment.new.self.store c.held.new.self.store e c.in_ok-rows.ensures.stays.same then in
     let listed : c.manifest-manifest.result.now ≡ union e = c.manifest-manifest.ensures.manifest e there in
-    let held = c.in_ok-held.ensures.held ∙ ap set.from_list c.deref.ensures.value in
+    let found = subst (λ (o : Option Rows). IfSome o (λ h. h ≡ set.from_list c.deref.result.now)) c.in_ok-held.ensures.ok_part c.in_ok-from_rows.ensures.held in
+    let held = found ∙ ap set.from_list c.deref.ensures.value in
     let set_then = c.in_ok-moment.ensures.moment before e serves in
     IfOk-weaker c.gaps_text.result _ _ (λ text is. λ apart. record {
       rows = c.in_ok-rows.rows.items;

@@ -1,7 +1,7 @@
 use Rattle.std.proofs.Common.{sym, subst}
 use Rattle.sqlite.specs.Files.{over_files}
 use Rattle.sqlite.proofs.Callers.{finds_again}
-use Rattle.esc_store.specs.Tables.{IsStore}
+use Rattle.esc_store.specs.StoreTables.{IsStore}
 use Rattle.esc_kept.proofs.Founds.{kept_trees}
 use Rattle.esc_kept.proofs.files.reopen_desk.Goals as goal
 

@@ -2,7 +2,7 @@ use Rattle.std.proofs.Common.{◌≡◌, ◌∙◌, List, String, Global, map, s
 use Rattle.std.specs.List.{list_any}
 use Rattle.std.specs.Str.{bytes_eq}
 use Rattle.esc_bundle.specs.ListLaws.{list_any_map}
-use Rattle.esc_pack.specs.Sources.{SourceValue}
+use Rattle.esc_pack.specs.TableFiles.{SourceValue}
 use Rattle.esc_pack.specs.Describing.{names_file}
 use Rattle.esc_pack.proofs.describe.names_file.Goals as goal
 

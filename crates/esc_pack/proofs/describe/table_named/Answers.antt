@@ -1,7 +1,7 @@
 use Rattle.std.proofs.Common.{◌∙◌, List, ap}
 use Rattle.std.specs.List.{find}
-use Rattle.esc_pack.specs.declared.known.KnownTable.{KnownTable}
-use Rattle.esc_pack.specs.Known.{file_stem}
+use Rattle.esc_pack.specs.declared.known_table.KnownTable.{KnownTable}
+use Rattle.esc_pack.specs.KnownTables.{file_stem}
 use Rattle.esc_pack.specs.Describing.{is_file_of}
 use Rattle.esc_pack.proofs.describe.table_named.Goals as goal
 

@@ -1,5 +1,5 @@
 use Rattle.serde_json.specs.View.{view}
-use Rattle.esc_pack.specs.Sources.{source_of}
+use Rattle.esc_pack.specs.TableFiles.{source_of}
 use Rattle.esc_envelope.proofs.Gather.{IsGathered}
 use Rattle.esc_pack.proofs.sources.all_sources.Given as goal
 

@@ -3,7 +3,7 @@ use Rattle.std.proofs.lemmas.List.{drop_more, drop_all, take_all, get_or_default
 use Rattle.esc_csv.specs.Lines.{line_text}
 use Rattle.esc_envelope.specs.Watermark.{IsInYears}
 use Rattle.esc_manifest.specs.declared.row.MRow.{MRow}
-use Rattle.esc_manifest.specs.Rows.{no_row}
+use Rattle.esc_manifest.specs.ManifestRows.{no_row}
 use Rattle.esc_pack.specs.Written.{row_line, rows_text, IsLegible}
 use Rattle.esc_pack.proofs.SectionFacts.{taken, All_next}
 use Rattle.esc_pack.proofs.written.write_rows.Goals as goal

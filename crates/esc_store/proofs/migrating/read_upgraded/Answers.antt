@@ -2,7 +2,7 @@ use Rattle.std.proofs.Common.{◌∙◌, ap, sym, subst, map}
 use Rattle.sqlite.specs.Held.{state}
 use Rattle.esc_rows.specs.Entries.{listed_row}
 use Rattle.esc_rows.specs.Content.{content_in}
-use Rattle.esc_store.specs.Tables.{IsStoreDatabase}
+use Rattle.esc_store.specs.StoreTables.{IsStoreDatabase}
 use Rattle.esc_store.proofs.Ends.{at_said, was_clean}
 use Rattle.esc_store.proofs.Following.{on_ok}
 use Rattle.esc_store.proofs.Reading.{if_goes}

@@ -3,7 +3,7 @@ use Rattle.std.specs.Map.{keys_of}
 use Rattle.std.specs.Map.Iter.{TakesFirst}
 use Rattle.std.proofs.lemmas.Map.Keys.{sorted_tail}
 use Rattle.esc_tables.specs.KeyName.{key_cmp}
-use Rattle.esc_apply.specs.Objects.{Entry, Gives, InOrder}
+use Rattle.esc_apply.specs.ObjectStreams.{Entry, Gives, InOrder}
 use Rattle.esc_apply.proofs.map.MapObjectsObjects.next.Goals as goal
 
 -- the first of a list in order, with the rest after it

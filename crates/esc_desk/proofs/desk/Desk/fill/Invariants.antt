@@ -1,6 +1,6 @@
 use Rattle.std.proofs.Common.{◌≡◌, ◌==◌, suc, cond, List}
 use Rattle.std.specs.Vec.Iter.{into_iter_len}
-use Rattle.esc_apply.specs.Objects.{Entry}
+use Rattle.esc_apply.specs.ObjectStreams.{Entry}
 use Rattle.esc_store.specs.Standing.{IsHonest, IsAsBefore}
 use Rattle.esc_desk.specs.Places.{kinds_left}
 use Rattle.esc_desk.specs.Walking.{AreToCome}

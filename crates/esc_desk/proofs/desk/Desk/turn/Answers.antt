@@ -1,5 +1,5 @@
 use Rattle.std.proofs.Common.{List, ℕ, subst, refl}
-use Rattle.esc_apply.specs.Objects.{Entry}
+use Rattle.esc_apply.specs.ObjectStreams.{Entry}
 use Rattle.esc_store.specs.Pages.{IsPage}
 use Rattle.esc_desk.specs.Places.{IsPlaceBehind}
 use Rattle.esc_desk.proofs.WalkSteps.{no_items, turned}

@@ -1,5 +1,5 @@
 use Rattle.std.proofs.Common.{◌≡◌, List, [], map, drop}
-use Rattle.esc_apply.specs.Objects.{Entry}
+use Rattle.esc_apply.specs.ObjectStreams.{Entry}
 use Rattle.esc_apply.specs.Registry.{State}
 use Rattle.esc_apply.specs.Changes.{with_object, CanBePut}
 use Rattle.esc_rows.specs.Entries.{new_entry}

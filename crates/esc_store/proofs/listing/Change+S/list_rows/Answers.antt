@@ -1,6 +1,6 @@
 use Rattle.std.proofs.Common.{◌≡◌, ◌∙◌, Some, length, take, get_or, refl, sym, ap, subst, arith}
 use Rattle.std.proofs.lemmas.List.{take_more, take_all, length-take-le}
-use Rattle.esc_manifest.specs.Rows.{no_row}
+use Rattle.esc_manifest.specs.ManifestRows.{no_row}
 use Rattle.esc_rows.specs.Entries.{listed_row as stored_row}
 use Rattle.esc_store.specs.Kept.{with_listed}
 use Rattle.esc_store.specs.TypedRows.{listed_row}

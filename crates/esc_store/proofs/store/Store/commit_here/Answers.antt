@@ -1,6 +1,6 @@
 use Rattle.std.proofs.Common.{◌∙◌}
 use Rattle.sqlite.proofs.StateLemmas.{survives_then}
-use Rattle.esc_store.specs.Tables.{IsStore}
+use Rattle.esc_store.specs.StoreTables.{IsStore}
 use Rattle.esc_store.specs.Standing.{Stands, HoldsKept, BeganIn, RestIn, HoldsIn, LeavesOr, LeavesOnly}
 use Rattle.esc_store.proofs.Ends.{ok_goes, err_goes, at_ok, at_err, committed, crash, left, given_up, keeps_then, was_clean, begun_committed}
 use Rattle.esc_store.proofs.store.Store.commit_here.Goals as goal

@@ -2,7 +2,7 @@ use Rattle.std.proofs.Common.{◌∙◌, List, ℕ, subst, sym, take, get_or, ar
 use Rattle.sqlite.specs.Held.{state}
 use Rattle.std.proofs.lemmas.List.{take_more, take_all}
 use Rattle.esc_store.specs.declared.fault.SFault.{SFault}
-use Rattle.esc_store.specs.Steps.{ContinuesSteps}
+use Rattle.esc_store.specs.ChangeParts.{ContinuesSteps}
 use Rattle.esc_store.specs.Standing.{IsStep}
 use Rattle.esc_store.proofs.RowSteps.{steps_cut, steps_more, step_nth, same_length}
 use Rattle.esc_store.proofs.store.Store.continue_steps_here.Goals as goal

@@ -3,7 +3,7 @@ use Rattle.sqlite.specs.Held.{state}
 use Rattle.esc_rows.specs.Entries.{step_row}
 use Rattle.esc_store.specs.declared.fault.SFault.{SFault}
 use Rattle.esc_store.specs.TypedRows.{steps_from}
-use Rattle.esc_store.specs.Steps.{ContinuesSteps}
+use Rattle.esc_store.specs.ChangeParts.{ContinuesSteps}
 use Rattle.esc_store.specs.Standing.{IsStep}
 use Rattle.esc_store.proofs.store.Store.continue_steps_here.Given as goal
 

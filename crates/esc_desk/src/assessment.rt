@@ -6,20 +6,20 @@ ghost use Rattle.std.specs.Str.{bytes_eq};
 ghost use Rattle.sha2.specs.Sha256.{sha256};
 ghost use Rattle.esc_tables.specs.DepositValue.{DepositValue};
 ghost use Rattle.esc_tables.specs.Reading.{reading};
-ghost use Rattle.esc_events.specs.declared.finding.Finding.TheVariants.{Holding};
-ghost use Rattle.esc_events.specs.Finding.{
+ghost use Rattle.esc_events.specs.declared.assessment.Assessment.TheVariants.{Holding};
+ghost use Rattle.esc_events.specs.Assessment.{
   as_listed,
   same_option,
   same_place,
   compared,
-  finding,
+  assessment,
   held_row,
 };
 
 use crate::reread::{Reread, read_again};
 use esc_bundle::{Fault, NoMemory};
 use esc_envelope::{DepositType, Header, Place};
-use esc_events::Finding;
+use esc_events::Assessment;
 use esc_manifest::{MRow, Manifest};
 use esc_tables::Deposit;
 use std::alloc::Global;
@@ -32,25 +32,25 @@ pub(crate) fn find(
     digest: &[u8; 32],
     body: &[u8],
     last: Option<Reread>,
-) -> Result<Finding, NoMemory>
+) -> Result<Assessment, NoMemory>
     requires { digest.now ≡ sha256 body.now }
-    ensures found { IfOk result (λ f. f ≡ finding sha256 reading manifest.now body.now) }
+    ensures found { IfOk result (λ f. f ≡ assessment sha256 reading manifest.now body.now) }
     ensures row { IfOk result (λ f. IfSome (held_row f) (λ r. r < length manifest.now)) }
     ensures read { IfOk result (λ f. (r : ℕ) (d : DepositValue) → f ≡ Holding r d
         → reading body.now ≡ Ok d) }
 {
     let Some(row) = manifest.row_by_digest(digest) else {
-        return Ok(Finding::Unlisted);
+        return Ok(Assessment::Unlisted);
     };
     match read_again(alloc, last, body) {
         Ok(deposit) => Ok(compare(manifest.rows(), row, deposit)),
-        Err(Fault::Refused(number)) => Ok(Finding::Unreadable(row, number)),
+        Err(Fault::Refused(number)) => Ok(Assessment::Unreadable(row, number)),
         Err(Fault::NoMemory) => Err(NoMemory),
     }
 }
 
 /// Compares a deposit with what a row says of it.
-pub(crate) fn compare(rows: &[MRow], row: usize, deposit: Deposit) -> Finding
+pub(crate) fn compare(rows: &[MRow], row: usize, deposit: Deposit) -> Assessment
     requires { row < length rows.now }
     ensures compared { result ≡ compared rows.now row deposit }
     ensures row { IfSome (held_row result) (λ r. r < length rows.now) }
@@ -58,9 +58,9 @@ pub(crate) fn compare(rows: &[MRow], row: usize, deposit: Deposit) -> Finding
 {
     let listed = &rows[row].header;
     if is_as_listed(listed, &deposit.header) {
-        Finding::Holding(row, deposit)
+        Assessment::Holding(row, deposit)
     } else {
-        Finding::Differing(row)
+        Assessment::Differing(row)
     }
 }
 
@@ -97,11 +97,11 @@ fn is_same_option(a: &Option<String>, b: &Option<String>) -> bool
 }
 
 /// The row whose deposit the body is, if any.
-pub(crate) fn held_row(finding: &Finding) -> Option<usize>
-    ensures { result ≡ held_row finding.now }
+pub(crate) fn held_row(assessment: &Assessment) -> Option<usize>
+    ensures { result ≡ held_row assessment.now }
 {
-    match finding {
-        Finding::Holding(row, _) => Some(*row),
-        Finding::Unlisted | Finding::Unreadable(..) | Finding::Differing(_) => None,
+    match assessment {
+        Assessment::Holding(row, _) => Some(*row),
+        Assessment::Unlisted | Assessment::Unreadable(..) | Assessment::Differing(_) => None,
     }
 }

@@ -1,7 +1,7 @@
 use Rattle.std.proofs.Common.{◌≡◌, ◌++◌, drop, map}
 use Rattle.std.specs.List.{flat_map}
 use Rattle.esc_check.specs.Gathered.{one_unknown}
-use Rattle.esc_check.proofs.status.check_each.Given as goal
+use Rattle.esc_check.proofs.statuses.check_each.Given as goal
 
 abbrev pub invariant-loop-status : goal.invariant-loop-status
 invariant-loop-status l =

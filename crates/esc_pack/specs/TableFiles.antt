@@ -18,8 +18,8 @@ use Rattle.serde_json.specs.Data.{Data}
 use Rattle.serde_json.specs.Find.{get, as_bool, as_str}
 use Rattle.esc_envelope.specs.Envelope.{json_of}
 use Rattle.esc_envelope.specs.Members.{array_in, array_of, text_at}
-use Rattle.esc_envelope.specs.Steps.{◌>>=◌}
-use Rattle.esc_envelope.specs.Tables.{all_of}
+use Rattle.esc_envelope.specs.Sequences.{◌>>=◌}
+use Rattle.esc_envelope.specs.DeclaredTables.{all_of}
 
 -- the files of a table by their names, and whether each begins with a heading row
 pub record SourceValue : Type 0 where

@@ -3,7 +3,7 @@ use Rattle.std.specs.Prelude.{◌≡◌, Option, Some, None}
 use Rattle.std.specs.Option.{is_some}
 use Rattle.std.proofs.Common.{refl, ap}
 use Rattle.std.proofs.lemmas.Bool.{false≢true}
-use Rattle.esc_envelope.specs.Steps.{◌>>=◌}
+use Rattle.esc_envelope.specs.Sequences.{◌>>=◌}
 
 -- the first step gave `it`, and the next one gave y from that
 pub record Bound {A B : Type 0} (o : Option A) (f : A → Option B) (y : B) : Type 0 where

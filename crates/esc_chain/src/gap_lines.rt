@@ -18,7 +18,7 @@ ghost use Rattle.esc_chain.specs.Stops.{
 
 use crate::bases::bases;
 use crate::gap::{Blocker, GapLine, Id, ListedPlace, State};
-use crate::links::links;
+use crate::predecessors::links;
 use crate::revision::{in_order, resend_of, used_rows};
 use crate::stops::stops_of;
 use crate::unheld::{over, unheld_resends};

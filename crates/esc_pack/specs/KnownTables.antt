@@ -3,8 +3,8 @@
 use Rattle.std.specs.Prelude.{ℕ, List, [], ◌∷◌, Bool, true, false, codes}
 use Rattle.esc_envelope.specs.declared.kind.Kind.{Kind}
 use Rattle.esc_envelope.specs.declared.kind.Kind.TheVariants as kind
-use Rattle.esc_pack.specs.declared.known.KnownTable.{KnownTable}
-use Rattle.esc_pack.specs.declared.known.KnownTable.TheVariants.{
+use Rattle.esc_pack.specs.declared.known_table.KnownTable.{KnownTable}
+use Rattle.esc_pack.specs.declared.known_table.KnownTable.TheVariants.{
   RegistrarDeletes,
   ContactDeletes,
   HostDeletes,

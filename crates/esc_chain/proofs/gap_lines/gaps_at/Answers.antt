@@ -14,8 +14,8 @@ use Rattle.esc_chain.specs.Stops.{IsUnheldEntry, line_by}
 use Rattle.esc_chain.proofs.PlaceLines.{row_in, line_told, line_place}
 use Rattle.esc_chain.proofs.PlaceMaps.{place_cmp, place_cmp_total}
 use Rattle.esc_chain.proofs.LineList.{places_more, keys_rising, keys_all}
-use Rattle.esc_chain.proofs.lines.gaps_at.Goals.{After-copied-used}
-use Rattle.esc_chain.proofs.lines.gaps_at.Goals as goal
+use Rattle.esc_chain.proofs.gap_lines.gaps_at.Goals.{After-copied-used}
+use Rattle.esc_chain.proofs.gap_lines.gaps_at.Goals as goal
 
 abbrev IsEntry : List MRow → Rows → Place × Option ℕ → Type 0
 IsEntry m h e = IsUnheldEntry m h e.0 (length m) (Some e.1)

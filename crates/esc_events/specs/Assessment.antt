@@ -28,9 +28,9 @@ use Rattle.esc_envelope.specs.Place.{rank}
 use Rattle.esc_envelope.specs.HeaderValue.{HeaderValue}
 use Rattle.esc_tables.specs.DepositValue.{DepositValue}
 use Rattle.esc_manifest.specs.declared.row.MRow.{MRow}
-use Rattle.esc_manifest.specs.Rows.{row_at}
-use Rattle.esc_events.specs.declared.finding.Finding.{Finding}
-use Rattle.esc_events.specs.declared.finding.Finding.TheVariants.{
+use Rattle.esc_manifest.specs.ManifestRows.{row_at}
+use Rattle.esc_events.specs.declared.assessment.Assessment.{Assessment}
+use Rattle.esc_events.specs.declared.assessment.Assessment.TheVariants.{
   Unlisted,
   Unreadable,
   Differing,
@@ -64,26 +64,26 @@ abbrev pub row_of : List MRow → List ℕ → Option ℕ
 row_of m digest = position (λ row. bytes_eq row.digest digest) m
 
 -- what is found at row r, if this deposit reads from the body
-abbrev pub compared : List MRow → ℕ → DepositValue → Finding
+abbrev pub compared : List MRow → ℕ → DepositValue → Assessment
 compared m r d = if as_listed (row_at m r).header d.header then Holding r d else Differing r
 
 -- what is found at row r: the refusal of the body, or how its deposit compares with the row
-abbrev pub found : List MRow → ℕ → Result DepositValue ℕ → Finding
+abbrev pub found : List MRow → ℕ → Result DepositValue ℕ → Assessment
 found m r (Ok d) = compared m r d
 found m r (Err n) = Unreadable r n
 
-abbrev pub found_at : List MRow → Option ℕ → Result DepositValue ℕ → Finding
+abbrev pub found_at : List MRow → Option ℕ → Result DepositValue ℕ → Assessment
 found_at m None reading = Unlisted
 found_at m (Some r) reading = found m r reading
 
 -- what is found of a body: no row has its digest; or at the row that has it, no deposit reads from
 -- the body, or another deposit than listed, or the listed one
-abbrev pub finding : (List ℕ → List ℕ) → (List ℕ → Result DepositValue ℕ) → List MRow → List ℕ
-    → Finding
-finding digest reads m body = found_at m (row_of m (digest body)) (reads body)
+abbrev pub assessment : (List ℕ → List ℕ) → (List ℕ → Result DepositValue ℕ) → List MRow → List ℕ
+    → Assessment
+assessment digest reads m body = found_at m (row_of m (digest body)) (reads body)
 
 -- the row whose deposit the body is, if any
-abbrev pub held_row : Finding → Option ℕ
+abbrev pub held_row : Assessment → Option ℕ
 held_row Unlisted = None
 held_row (Unreadable r n) = None
 held_row (Differing r) = None

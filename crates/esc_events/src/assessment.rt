@@ -4,7 +4,7 @@ use esc_tables::Deposit;
 
 /// What is found of a body by the listed rows (this project's profile). Rows are indices from 0.
 #[derive(Debug, Drop)]
-pub enum Finding {
+pub enum Assessment {
     /// No row has the body's SHA-256: verdict `A5`, or `A2` for an early arrival.
     Unlisted,
     /// This row has the body's SHA-256, but the body is no deposit: verdict `A3`. The number is

@@ -19,8 +19,8 @@ use Rattle.esc_tables.specs.DepositValue.{DepositValue}
 use Rattle.esc_tables.specs.Reading.{reading}
 use Rattle.esc_manifest.specs.declared.row.MRow.{MRow}
 use Rattle.esc_store.specs.Kept.{Kept}
-use Rattle.esc_events.specs.declared.finding.Finding.{Finding}
-use Rattle.esc_events.specs.declared.finding.Finding.TheVariants.{
+use Rattle.esc_events.specs.declared.assessment.Assessment.{Assessment}
+use Rattle.esc_events.specs.declared.assessment.Assessment.TheVariants.{
   Unlisted,
   Unreadable,
   Differing,
@@ -80,7 +80,7 @@ dropped_by Dropped row = row ∷ []
 dropped_by (Adopted d) row = []
 
 -- what is judged of a parked body of which this is found
-abbrev pub judgement_of : Finding → Judgement
+abbrev pub judgement_of : Assessment → Judgement
 judgement_of Unlisted = Dropped
 judgement_of (Unreadable r n) = Dropped
 judgement_of (Differing r) = Dropped

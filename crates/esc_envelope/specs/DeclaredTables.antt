@@ -36,7 +36,7 @@ use Rattle.esc_envelope.specs.EnvelopeValue.{TableValue}
 use Rattle.esc_envelope.specs.Id.{is_id}
 use Rattle.esc_envelope.specs.Kinds.{kinds, is_kind, kind_named}
 use Rattle.esc_envelope.specs.Members.{text_at, array_in, if_id}
-use Rattle.esc_envelope.specs.Steps.{◌>>=◌}
+use Rattle.esc_envelope.specs.Sequences.{◌>>=◌}
 
 -- the results of f for all elements, if each element has one
 unfoldable pub all_of : {A B : Type 0} → (A → Option B) → List A → Option (List B)

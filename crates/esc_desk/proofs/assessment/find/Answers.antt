@@ -1,8 +1,8 @@
 use Rattle.std.proofs.Common.{◌≡◌, ap, ap₂, sym, ◌∙◌, Some, List}
 use Rattle.esc_manifest.specs.declared.row.MRow.{MRow}
 use Rattle.sha2.specs.Sha256.{sha256}
-use Rattle.esc_events.specs.Finding.{row_of, found_at, compared}
-use Rattle.esc_desk.proofs.finding.find.Goals as goal
+use Rattle.esc_events.specs.Assessment.{row_of, found_at, compared}
+use Rattle.esc_desk.proofs.assessment.find.Goals as goal
 
 pub returns-in-Ok-clause-found : goal.returns-in-Ok-clause-found
 returns-in-Ok-clause-found c =

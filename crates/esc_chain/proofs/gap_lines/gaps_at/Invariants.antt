@@ -4,7 +4,7 @@ use Rattle.std.specs.Map.{keys_of}
 use Rattle.esc_chain.specs.Gap.{IsGapLineAt, places_of}
 use Rattle.esc_chain.specs.Stops.{IsUnheldEntry, AreWays}
 use Rattle.esc_chain.proofs.PlaceMaps.{place_cmp}
-use Rattle.esc_chain.proofs.lines.gaps_at.Given as goal
+use Rattle.esc_chain.proofs.gap_lines.gaps_at.Given as goal
 
 abbrev pub invariant-loop-place : goal.invariant-loop-place
 invariant-loop-place l = record {

@@ -16,7 +16,7 @@ use Rattle.std.proofs.Common.{
 }
 use Rattle.std.specs.Result.{is_ok}
 use Rattle.std.proofs.lemmas.Bool.{false≢true}
-use Rattle.esc_bundle.specs.Steps.{◌>>=◌, check}
+use Rattle.esc_bundle.specs.Tests.{◌>>=◌, check}
 
 -- the fault of a result, or 0
 abbrev fault_or_zero : {A : Type 0} → Result A ℕ → ℕ

@@ -4,7 +4,13 @@ ghost use Rattle.std.specs.Prelude.{◌≡◌, length, map, All};
 ghost use Rattle.httparse.specs.Grammar.{RequestHead};
 ghost use Rattle.httparse.specs.Spans.{IsHeaderWithin, IsRequestAt, IsRequestWithin, header_bytes};
 ghost use Rattle.esc_request.specs.Head.{ShowsHead};
-ghost use Rattle.esc_http.specs.Plans.{path_of, plan_of, plan_to_put, plan_to_get, plan_of_head};
+ghost use Rattle.esc_http.specs.RequestPlans.{
+  path_of,
+  plan_of,
+  plan_to_put,
+  plan_to_get,
+  plan_of_head,
+};
 ghost use Rattle.esc_request.specs.Router.{rows};
 
 use esc_desk::{Number, number};
@@ -14,7 +20,7 @@ use matchit::Router;
 
 /// What the head of a request asks for.
 #[derive(Debug, Drop)]
-pub(crate) enum Plan<'b> {
+pub(crate) enum RequestPlan<'b> {
     Refuse(Refusal),
     /// An arrival with this number and a body of this length.
     Put(Number<'b>, u32),
@@ -27,7 +33,7 @@ pub(crate) fn plan_of_head<'b>(
     bytes: &'b [u8],
     lines: &[HeaderSpan],
     found: &FoundHead,
-) -> Plan<'b>
+) -> RequestPlan<'b>
     requires router_is { router.now ≡ rows }
     requires within { IsRequestWithin bytes.now lines.now found.now.spans }
     requires head { ShowsHead bytes.now lines.now found.now.spans }
@@ -38,7 +44,7 @@ pub(crate) fn plan_of_head<'b>(
     let lines = &lines[..spans.headers];
     match std::str::from_utf8(spans.path.of(bytes)) {
         Ok(target) => plan_of(router, spans.method.of(bytes), target, bytes, lines),
-        Err(_) => Plan::Refuse(Refusal::BadRequest),
+        Err(_) => RequestPlan::Refuse(Refusal::BadRequest),
     }
 }
 
@@ -49,13 +55,13 @@ fn plan_of<'b>(
     target: &'b str,
     bytes: &[u8],
     lines: &[HeaderSpan],
-) -> Plan<'b>
+) -> RequestPlan<'b>
     requires router_is { router.now ≡ rows }
     requires lines_within { All (IsHeaderWithin (length bytes.now)) lines.now }
     ensures { result ≡ plan_of method.now target.now (map (header_bytes bytes.now) lines.now) }
 {
     match route_of(router, path_of(target)) {
-        None => Plan::Refuse(Refusal::NotFound),
+        None => RequestPlan::Refuse(Refusal::NotFound),
         Some(Route::Arrival(text)) => plan_to_put(method, text, bytes, lines),
         Some(Route::Tells(report)) => plan_to_get(method, report),
     }
@@ -71,30 +77,35 @@ fn path_of(target: &str) -> &str
     }
 }
 
-fn plan_to_put<'b>(method: &[u8], text: &'b str, bytes: &[u8], lines: &[HeaderSpan]) -> Plan<'b>
+fn plan_to_put<'b>(
+    method: &[u8],
+    text: &'b str,
+    bytes: &[u8],
+    lines: &[HeaderSpan],
+) -> RequestPlan<'b>
     requires { All (IsHeaderWithin (length bytes.now)) lines.now }
     ensures { result ≡ plan_to_put method.now text.now (map (header_bytes bytes.now) lines.now) }
 {
     if method != b"PUT".as_slice() {
-        return Plan::Refuse(Refusal::PutOnly);
+        return RequestPlan::Refuse(Refusal::PutOnly);
     }
     let Ok(number) = number(text) else {
-        return Plan::Refuse(Refusal::BadNumber);
+        return RequestPlan::Refuse(Refusal::BadNumber);
     };
     match body_length(bytes, lines) {
-        BodyLength::Bytes(size) => Plan::Put(number, size),
-        BodyLength::Missing => Plan::Refuse(Refusal::LengthRequired),
-        BodyLength::Malformed => Plan::Refuse(Refusal::BadRequest),
-        BodyLength::TooLong => Plan::Refuse(Refusal::TooLarge),
+        BodyLength::Bytes(size) => RequestPlan::Put(number, size),
+        BodyLength::Missing => RequestPlan::Refuse(Refusal::LengthRequired),
+        BodyLength::Malformed => RequestPlan::Refuse(Refusal::BadRequest),
+        BodyLength::TooLong => RequestPlan::Refuse(Refusal::TooLarge),
     }
 }
 
-fn plan_to_get<'b>(method: &[u8], report: Report) -> Plan<'b>
+fn plan_to_get<'b>(method: &[u8], report: Report) -> RequestPlan<'b>
     ensures { result ≡ plan_to_get method.now report }
 {
     if method == b"GET".as_slice() {
-        Plan::Get(report)
+        RequestPlan::Get(report)
     } else {
-        Plan::Refuse(Refusal::GetOnly)
+        RequestPlan::Refuse(Refusal::GetOnly)
     }
 }
