@@ -3,10 +3,11 @@
 
 `rt ci` proves each crate and its tests from nothing and runs the tests and the program, in a copy of the tree without the wrong
 bodies. These are then tried over the libraries that it built, as tools/wrong_bodies.py says: `rt ci` would check a crate once more
-for each of them. What was built is moved to the tree. It prints what `rt ci` prints, the verdict on each wrong body, a table as in
-docs/GATE.md, and at last 'N passed, M failed', the sums of both. The table has processor seconds for each crate's proof, tests and
-wrong bodies, as /proc shows them once a second (what lives shorter is in the sum alone); below it stand the whole gate's time, its
-processor minutes and the most memory that was in use beyond that at its start."""
+for each of them. What was built is moved to the tree, and the scenes are played on the program there, as tools/scenes.py says. It
+prints what `rt ci` prints, the verdict on each wrong body and on each scene, a table as in docs/GATE.md, and at last 'N passed, M
+failed', the sums of all three. The table has processor seconds for each crate's proof, tests and wrong bodies, as /proc shows them
+once a second (what lives shorter is in the sum alone); below it stand the whole gate's time, its processor minutes and the most
+memory that was in use beyond that at its start."""
 import os, re, resource, shutil, subprocess, sys, tempfile, threading, time
 
 from crates import TOP, libraries
@@ -14,6 +15,8 @@ from wrong_bodies import edits_of, tried
 
 TICK = os.sysconf('SC_CLK_TCK')
 PARTS = ('proof', 'tests', 'edits')
+# The program on which the scenes are played, as `rt ci` builds it.
+PROGRAM = 'crates/restore/out/restore'
 
 
 def memory_in_use():
@@ -152,23 +155,47 @@ class WrongBodies:
 ENDED = re.compile(r'rt: (\w+)(: its tests are)? (NOT PROVED|proved|is kept)\b')
 
 
-def proved(tree, bodies):
-    """Runs `rt ci` in a tree, prints what it prints but its last line, and gives the numbers of that line. It tells the wrong bodies
-    what has ended."""
+def counted(words, folder, take_note=lambda line: None):
+    """Runs a command in a folder, prints what it prints but its last line, and gives the numbers of that line. Each line is noted."""
     last = ''
-    with subprocess.Popen(['rt', 'ci'], cwd=tree, stdin=subprocess.DEVNULL, stdout=subprocess.PIPE, stderr=subprocess.STDOUT) as gate:
-        for line in gate.stdout:
+    with subprocess.Popen(words, cwd=folder, stdin=subprocess.DEVNULL, stdout=subprocess.PIPE, stderr=subprocess.STDOUT) as ran:
+        for line in ran.stdout:
             print(last, end='', flush=True)
             last = line.decode(errors='replace')
-            if done := ENDED.match(last):
-                bodies.note(done[1], 'tests' if done[2] else 'proof', done[3] != 'NOT PROVED')
-                if done[3] == 'is kept':
-                    # Of tests that are kept nothing is said. Where they are not, one task more runs than is counted.
-                    bodies.note(done[1], 'tests', True)
+            take_note(last)
     found = re.fullmatch(r'(\d+) passed, (\d+) failed\s*', last)
     if not found:
         print(last, end='', flush=True)
     return (int(found[1]), int(found[2])) if found else (0, 1)
+
+
+def proved(tree, bodies):
+    """Runs `rt ci` in a tree, and gives its numbers. It tells the wrong bodies what has ended."""
+    def take_note(line):
+        if done := ENDED.match(line):
+            bodies.note(done[1], 'tests' if done[2] else 'proof', done[3] != 'NOT PROVED')
+            if done[3] == 'is kept':
+                # Of tests that are kept nothing is said. Where they are not, one task more runs than is counted.
+                bodies.note(done[1], 'tests', True)
+    return counted(['rt', 'ci'], tree, take_note)
+
+
+def moved(tree):
+    """Moves what was built to the tree, and says whether the program is among it."""
+    is_built = os.path.isfile(f'{tree}/{PROGRAM}')
+    for crate in libraries():
+        if os.path.isdir(f'{tree}/crates/{crate}/out'):
+            shutil.rmtree(f'{TOP}/crates/{crate}/out', ignore_errors=True)
+            shutil.move(f'{tree}/crates/{crate}/out', f'{TOP}/crates/{crate}/out')
+    return is_built
+
+
+def played(is_built):
+    """Plays the scenes on the program that was built. Where it was not, that is one failure."""
+    if not is_built:
+        print(f'scenes: {PROGRAM} was not built', flush=True)
+        return 0, 1
+    return counted([sys.executable, 'tools/scenes.py', PROGRAM], TOP)
 
 
 def main():
@@ -180,11 +207,9 @@ def main():
         bodies = WrongBodies(tree, lanes)
         passed, failed = proved(tree, bodies)
         refused, through = bodies.ended()
-        passed, failed = passed + refused, failed + through
-        for crate in libraries():
-            if os.path.isdir(f'{tree}/crates/{crate}/out'):
-                shutil.rmtree(f'{TOP}/crates/{crate}/out', ignore_errors=True)
-                shutil.move(f'{tree}/crates/{crate}/out', f'{TOP}/crates/{crate}/out')
+        is_built = moved(tree)
+    right, wrong = played(is_built)
+    passed, failed = passed + refused + right, failed + through + wrong
     print(f'{watch.table()}\n{passed} passed, {failed} failed', flush=True)
     return 1 if failed else 0
 

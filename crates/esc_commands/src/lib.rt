@@ -46,7 +46,7 @@
 //! What a request is answered is that of [`esc_http::serve_one`], how long its client is waited for
 //! that of [`esc_client::Client`], and the texts of reports are that of [`esc_http::report`]. No
 //! contract can say what a file holds or what is printed, so the texts, statuses and the order of
-//! refusals are tested, in `restore_tests`.
+//! refusals are tested on the built program, by the scenes in `scenes/`.
 #![tactic(auto)]
 
 mod command_line;

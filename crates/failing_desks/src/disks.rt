@@ -9,8 +9,8 @@ use sqlite_disk::{Disk, Memory};
 use std::alloc::Global;
 use std::test::Fail;
 
-/// A desk over files of which one call fails.
-pub type FlakyDesk<D> = Desk<FileStore<FlakyDisk<D>>>;
+/// Files in memory of which one call fails.
+pub type FlakyFiles = Files<FlakyDisk<Memory>>;
 
 /// What a store is made of, where there is none of this version.
 #[derive(Drop)]
@@ -31,7 +31,7 @@ pub struct Call {
 }
 
 /// The files, of which this call fails.
-pub fn flaky<D: Disk + Drop>(files: Files<D>, call: Call) -> Files<FlakyDisk<D>> {
+pub fn flaky(files: Files<Memory>, call: Call) -> FlakyFiles {
     if call.of_the_log {
         Files {
             log: FlakyDisk::new(files.log, call.at),
@@ -46,7 +46,7 @@ pub fn flaky<D: Disk + Drop>(files: Files<D>, call: Call) -> Files<FlakyDisk<D>>
 }
 
 /// The files, of which no call fails from now on.
-pub fn inner<D: Disk + Drop>(files: Files<FlakyDisk<D>>) -> Files<D> {
+pub fn inner(files: FlakyFiles) -> Files<Memory> {
     Files {
         log: files.log.into_inner(),
         db: files.db.into_inner(),
@@ -54,7 +54,7 @@ pub fn inner<D: Disk + Drop>(files: Files<FlakyDisk<D>>) -> Files<D> {
 }
 
 /// The same, as files of which a call may be told to fail again.
-pub fn sound<D: Disk + Drop>(files: Files<D>) -> Files<FlakyDisk<D>> {
+pub fn sound(files: Files<Memory>) -> FlakyFiles {
     Files {
         log: FlakyDisk::sound(files.log),
         db: FlakyDisk::sound(files.db),
@@ -69,8 +69,8 @@ pub fn new_files(alloc: Global) -> Files<Memory> {
     }
 }
 
-// Whether a file in memory wanted more of it. Then a call failed that was not to.
-fn want_memory<D: Disk + Drop>(files: &Files<FlakyDisk<D>>) -> bool {
+// Whether a file in memory wanted more of it.
+fn want_memory(files: &FlakyFiles) -> bool {
     files.log.wants_memory() || files.db.wants_memory()
 }
 
@@ -90,17 +90,8 @@ pub fn copied(alloc: Global, files: &Files<Memory>) -> Result<Files<Memory>, Fai
     })
 }
 
-/// Why files of which no call is to fail are refused.
-pub fn refusal<D: Disk + Drop>(fault: SFault, files: Files<FlakyDisk<D>>) -> Fail {
-    if want_memory(&files) {
-        Fail::new("a file in memory: OutOfMemory")
-    } else {
-        Fail::new(format_args!("sound files: {fault}"))
-    }
-}
-
 /// Whether the call that is to fail has come.
-pub fn have_failed<D: Disk + Drop>(files: &Files<FlakyDisk<D>>) -> bool {
+pub fn have_failed(files: &FlakyFiles) -> bool {
     files.log.has_failed() && files.db.has_failed()
 }
 
@@ -139,28 +130,49 @@ pub fn connect<D: Disk + Drop>(
     }
 }
 
-/// A desk's files, unless one in memory wanted more of it.
-pub fn close<D: Disk + Drop>(desk: FlakyDesk<D>) -> Result<Files<FlakyDisk<D>>, Fail> {
-    let files = disconnect(desk.into_store().into_connection());
-    if want_memory(&files) {
-        return Err(refusal(SFault::S1, files));
-    }
-    Ok(files)
-}
-
 fn disconnect<D: Disk + Drop>(connection: Connection<FileStore<D>>) -> Files<D> {
     connection.into_store().close()
 }
 
-/// The files of a connection, where all of the log is copied into the database file.
-pub fn closed<D: Disk + Drop>(connection: Connection<FileStore<D>>) -> Result<Files<D>, Fail> {
-    match connection.close_files() {
-        Ok(files) => Ok(files),
-        Err((error, store)) => {
-            drop(store.close());
-            Err(Fail::new(SFault::from(error)))
-        }
+/// What is done with a database. It is written for any store: a function that names the store over
+/// files takes far longer to prove.
+pub trait Work {
+    /// Works with a connection, and gives it back.
+    fn work<S: Alter + Drop>(
+        &mut self,
+        alloc: Global,
+        connection: Connection<S>,
+    ) -> Result<Connection<S>, Fail>;
+}
+
+/// Opens the database of these files, works with it and closes it: the files. Nothing is done where
+/// it is refused by `S1`.
+pub fn work_over<D: Disk + Drop, W: Work>(
+    alloc: Global,
+    files: Files<D>,
+    room: Room,
+    work: &mut W,
+) -> Result<Files<D>, Fail> {
+    match connect(alloc, files, room) {
+        Ok(connection) => Ok(disconnect(work.work(alloc, connection)?)),
+        Err((SFault::S1, files)) => Ok(files),
+        Err((fault, _)) => Err(Fail::new(fault)),
     }
+}
+
+/// The same over files of which one call may fail. Where one in memory wanted more of it, a call
+/// failed that was not to.
+pub fn work_over_flaky<W: Work>(
+    alloc: Global,
+    files: FlakyFiles,
+    room: Room,
+    work: &mut W,
+) -> Result<FlakyFiles, Fail> {
+    let files = work_over(alloc, files, room, work)?;
+    if want_memory(&files) {
+        return Err(Fail::new("a file in memory: OutOfMemory"));
+    }
+    Ok(files)
 }
 
 fn store_of<S: Alter + Drop>(
@@ -202,15 +214,17 @@ fn open_or_create<S: Alter + Drop>(
     }
 }
 
-// The same, once more where it is refused.
-fn open_twice<S: Alter + Drop>(
+/// The desk over a database, in which a store is made if there is none; or the connection where it
+/// is refused by `S1`. Where a call may fail it is tried once more.
+pub fn open_desk<S: Alter + Drop>(
     alloc: Global,
     connection: Connection<S>,
     origin: &Origin,
+    is_sound: bool,
 ) -> Result<Result<Desk<S>, Connection<S>>, Fail> {
     match open_or_create(alloc, connection, origin)? {
-        Ok(desk) => Ok(Ok(desk)),
-        Err(connection) => open_or_create(alloc, connection, origin),
+        Err(connection) if !is_sound => open_or_create(alloc, connection, origin),
+        opened => Ok(opened),
     }
 }
 
@@ -223,52 +237,5 @@ pub fn sound_desk<S: Alter + Drop>(
     match open_or_create(alloc, connection, origin)? {
         Ok(desk) => Ok(desk),
         Err(_) => Err(Fail::new("S1 of a sound store")),
-    }
-}
-
-/// The desk over files that are opened again, of which no call fails any more.
-pub fn reopen<D: Disk + Drop>(
-    alloc: Global,
-    files: Files<FlakyDisk<D>>,
-    room: Room,
-    origin: &Origin,
-) -> Result<FlakyDesk<D>, Fail> {
-    match connect(alloc, sound(inner(files)), room) {
-        Ok(connection) => match open_or_create(alloc, connection, origin)? {
-            Ok(desk) => Ok(desk),
-            Err(connection) => Err(refusal(SFault::S1, disconnect(connection))),
-        },
-        Err((fault, files)) => Err(refusal(fault, files)),
-    }
-}
-
-// The same, where a call may have failed that was to.
-fn reopen_refused<D: Disk + Drop>(
-    alloc: Global,
-    files: Files<FlakyDisk<D>>,
-    room: Room,
-    origin: &Origin,
-) -> Result<FlakyDesk<D>, Fail> {
-    if want_memory(&files) {
-        return Err(refusal(SFault::S1, files));
-    }
-    reopen(alloc, files, room, origin)
-}
-
-/// The desk over these files, in which a store is made if there is none. Where it is refused that
-/// is done once more, and where it is refused again over the files that are opened again.
-pub fn begin<D: Disk + Drop>(
-    alloc: Global,
-    files: Files<FlakyDisk<D>>,
-    room: Room,
-    origin: &Origin,
-) -> Result<FlakyDesk<D>, Fail> {
-    match connect(alloc, files, room) {
-        Ok(connection) => match open_twice(alloc, connection, origin)? {
-            Ok(desk) => Ok(desk),
-            Err(connection) => reopen_refused(alloc, disconnect(connection), room, origin),
-        },
-        Err((SFault::S1, files)) => reopen_refused(alloc, files, room, origin),
-        Err((fault, files)) => Err(refusal(fault, files)),
     }
 }

@@ -3,7 +3,7 @@
 //!
 //! | Module | What it does |
 //! |---|---|
-//! | `disks` | the files, and desks that are made over them, opened, closed and opened again |
+//! | `disks` | the files, what is done with a database over them, and desks over it |
 //! | `list` | lists of arrivals, amendments and moments, and what a desk answers to them |
 //!
 //! The functions have no clause, as in `worked_rows`: they are proved here once, and the proof of a
@@ -13,10 +13,9 @@
 //!
 //! ```text
 //! let call = Call { of_the_log: false, at: 7 };   // the eighth call of the database file fails
-//! let list = worked_list(alloc)?;
-//! let mut desk = begin(alloc, flaky(new_files(alloc), call), PLENTY, &list.origin)?;
-//! let came = send(alloc, &mut desk, &list)?;
-//! // a line for each event, and whether each was answered
+//! let files = work_over_flaky(alloc, flaky(new_files(alloc), call), PLENTY, &mut work)?;
+//! // `work` is a `Work`: it opens a desk by `open_desk`, and sends a list to it by `send`, which
+//! // gives a line for each event, and whether each was answered
 //! ```
 #![tactic(auto)]
 

@@ -1,12 +1,15 @@
-//! Requests over memory: whole, in pieces, and with a read, a write or a flush that fails.
+//! Requests over memory: whole, in pieces, from slow clients, and with a read, a write or a flush
+//! that fails.
 
 mod amendments;
 mod answers;
 mod crowded;
+mod failing_files;
 mod lying;
 mod migrating;
 mod moments;
 mod routes;
+mod waiting;
 
 use esc_desk::{Desk, SFault};
 use esc_flaky::{FailingReader, FailingWriter};

@@ -1,9 +1,11 @@
-//! Stops at the calls of a file, and files that are closed and opened again.
+//! Stops and faults at the calls of a file, and files that are closed and opened again.
 
 mod events;
+mod faults;
 mod files;
 mod migrating;
 mod reopening;
+mod sending;
 mod stops;
 mod story;
 

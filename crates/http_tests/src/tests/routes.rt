@@ -1,31 +1,13 @@
-//! Each route where one thing fails in the middle: a call of either file, a read, a write or the
-//! flush. The same request again has the response of a desk that nothing happened to.
+//! Each route where one thing fails in the middle: a read, a write or the flush. The same request
+//! again has the response of a desk that nothing happened to.
 
-use super::{
-    HELD, OPEN, PUT_SAMPLE, RECEIPTS, Wire, assert_told, count_receipts, desk, manifest, served,
-    told_of,
-};
-use esc_desk::{Desk, SFault};
-use esc_flaky::FlakyDisk;
+use super::{HELD, OPEN, PUT_SAMPLE, RECEIPTS, Wire, assert_told, desk, told_of};
+use esc_desk::Desk;
 use esc_http::ServeFault;
-use failing_desks::disks::{
-    Call, FlakyDesk, Origin, Room, begin, close, flaky, have_failed, new_files, reopen,
-};
-use sqlite::{Alter, Files};
-use sqlite_disk::Disk;
+use sqlite::Alter;
 use std::alloc::Global;
 use std::process::Abort;
 use std::test::Fail;
-
-// What needs another page asks the disk for it, and the log is copied into the database file now
-// and then.
-const ONE_PAGE: Room = Room {
-    cache_pages: 1,
-    log_pages: 8,
-};
-
-const UNAVAILABLE: &[u8] =
-    b"HTTP/1.1 503 Service Unavailable\r\nContent-Type: text/plain\r\nContent-Length: 3\r\nConnection: close\r\n\r\nS1\n";
 
 // The export of a kind that has no object.
 const NO_OBJECTS: &[u8] =
@@ -33,15 +15,15 @@ const NO_OBJECTS: &[u8] =
 
 /// A request to a desk.
 #[derive(Clone, Copy)]
-struct Exchange {
-    request: &'static [u8],
-    response: &'static [u8],
+pub(super) struct Exchange {
+    pub request: &'static [u8],
+    pub response: &'static [u8],
     /// How many receipts there are before it, and after it.
-    receipts: (usize, usize),
+    pub receipts: (usize, usize),
 }
 
 /// Requests to a desk one after the other. Two that read the same page stand apart.
-static ROUTES: [Exchange; 15] = [
+pub(super) static ROUTES: [Exchange; 15] = [
     Exchange {
         request: PUT_SAMPLE,
         response: HELD,
@@ -120,125 +102,6 @@ static ROUTES: [Exchange; 15] = [
         receipts: (2, 2),
     },
 ];
-
-// Sends a request: whether it had its response, or else 503.
-fn is_answered<S: Alter + Drop>(
-    rt: &impl Abort,
-    alloc: Global,
-    desk: &mut Desk<S>,
-    exchange: &Exchange,
-) -> Result<bool, Fail> {
-    let wire = Wire {
-        input: exchange.request,
-        ..OPEN
-    };
-    let (fault, text) = served(alloc, desk, &wire)?;
-    let is_refused = text.as_slice() == UNAVAILABLE;
-    let response = if is_refused {
-        UNAVAILABLE
-    } else {
-        exchange.response
-    };
-    assert_eq!(rt;
-        (fault, text.as_slice()),
-        (None, response),
-        "{:?}",
-        exchange.request
-    );
-    Ok(!is_refused)
-}
-
-// Whether a desk that refused a request has the receipts that it had before. One that refuses each
-// call tells none.
-fn is_unchanged<S: Alter + Drop>(
-    alloc: Global,
-    desk: &mut Desk<S>,
-    exchange: &Exchange,
-) -> Result<bool, Fail> {
-    let (before, _) = exchange.receipts;
-    match count_receipts(alloc, desk) {
-        Ok(count) => Ok(count == before),
-        Err(SFault::S1) => Ok(true),
-        Err(fault) => Err(Fail::new(fault)),
-    }
-}
-
-// Sends a request until it is answered: once more at the same desk, or where that refuses again at
-// the one of the files that are opened again. Gives how often it was refused.
-fn settle<D: Disk + Drop>(
-    rt: &impl Abort,
-    alloc: Global,
-    mut desk: FlakyDesk<D>,
-    exchange: &Exchange,
-    origin: &Origin,
-) -> Result<(FlakyDesk<D>, u32), Fail> {
-    if is_answered(rt, alloc, &mut desk, exchange)? {
-        return Ok((desk, 0));
-    }
-    let is_unchanged = is_unchanged(alloc, &mut desk, exchange)?;
-    assert!(rt; is_unchanged, "{:?}", exchange.request);
-    if is_answered(rt, alloc, &mut desk, exchange)? {
-        return Ok((desk, 1));
-    }
-    let mut desk = reopen(alloc, close(desk)?, ONE_PAGE, origin)?;
-    if is_answered(rt, alloc, &mut desk, exchange)? {
-        return Ok((desk, 2));
-    }
-    close(desk)?;
-    Err(Fail::new(format_args!("refused by sound files: {:?}", exchange.request)))
-}
-
-// All requests over files of which one call fails, and how often each was refused at most. Whether
-// the call came.
-fn assert_routes<D: Disk + Drop>(
-    rt: &impl Abort,
-    alloc: Global,
-    files: Files<FlakyDisk<D>>,
-    origin: &Origin,
-    refused: &mut [u32],
-) -> Result<bool, Fail> {
-    let mut desk = begin(alloc, files, ONE_PAGE, origin)?;
-    for (exchange, refused) in ROUTES.iter().zip(refused) {
-        let (settled, refusals) = settle(rt, alloc, desk, exchange, origin)?;
-        desk = settled;
-        *refused = refusals.max(*refused);
-    }
-    Ok(have_failed(&close(desk)?))
-}
-
-/// More calls than there are.
-const MOST_CALLS: u64 = 5_000;
-
-// Each call of a file, up to a run of which none fails.
-fn assert_calls(
-    rt: &impl Abort,
-    alloc: Global,
-    of_the_log: bool,
-    refused: &mut [u32],
-) -> Result<(), Fail> {
-    let origin = Origin::Listed(manifest(alloc)?);
-    for at in 0..MOST_CALLS {
-        let files = flaky(new_files(alloc), Call { of_the_log, at });
-        if !assert_routes(rt, alloc, files, &origin, refused)? {
-            return Ok(());
-        }
-    }
-    Err(Fail::new("there are more calls"))
-}
-
-// How often each request is refused at most: an arrival that is a commit twice, since it may be
-// open whether it is kept, and any other request once.
-const REFUSED: [u32; 15] = [2, 1, 2, 1, 1, 1, 1, 1, 1, 1, 1, 1, 1, 1, 1];
-
-#[test]
-fn each_call_of_either_file_over_the_routes(rt: HostRuntime) -> Result<(), Fail> {
-    let mut refused = [0; 15];
-    for of_the_log in [false, true] {
-        assert_calls(&rt, rt.alloc(), of_the_log, &mut refused)?;
-    }
-    assert_eq!(rt; refused, REFUSED);
-    Ok(())
-}
 
 // Sends a request of which a read fails after so many bytes, for each number of them.
 fn assert_reads<S: Alter>(

@@ -7,12 +7,12 @@
 //! what a desk has that nothing happened to.
 
 use super::assert_text;
-use super::files::{Cut, Stop, begin, connect, crashed, cut_files, find_or_make, left_of, written};
+use super::files::{Cut, Stop, begin, crashed, cut_files, find_or_make, written};
 use super::story::{FIRST, STEPS, Sent, answers, answers_from, is_after, said_last};
 use esc_desk::{AmendFault, Arrival, Desk, Event, EventOutcome, Outcome, SFault, number};
 use esc_manifest::Manifest;
-use sqlite::{Alter, Connection, FileStore, Files};
-use sqlite_disk::Disk;
+use failing_desks::disks::{PLENTY, Work, work_over};
+use sqlite::{Alter, Connection, Files};
 use std::alloc::Global;
 use std::fmt::Write;
 use std::process::Abort;
@@ -133,30 +133,48 @@ fn take_until_stopped<S: Alter + Drop>(
     })
 }
 
-fn left_after<D: Disk + Drop>(
-    alloc: Global,
-    mut desk: Desk<FileStore<D>>,
-    list: &List,
-) -> Result<(Answered, Files<D>), Fail> {
-    let answered = take_until_stopped(alloc, &mut desk, list)?;
-    Ok((answered, left_of(desk)))
+/// The events, which a desk over a new store of a database takes.
+#[derive(Drop)]
+struct Taking<'a> {
+    list: &'a List,
+    /// What was answered, if there is a store.
+    answered: Option<Answered>,
+}
+
+impl Work for Taking<'_> {
+    fn work<S: Alter + Drop>(
+        &mut self,
+        alloc: Global,
+        connection: Connection<S>,
+    ) -> Result<Connection<S>, Fail> {
+        match begin(alloc, connection, &self.list.manifest)? {
+            Ok(mut desk) => {
+                self.answered = Some(take_until_stopped(alloc, &mut desk, self.list)?);
+                Ok(desk.into_store().into_connection())
+            }
+            Err(connection) => Ok(connection),
+        }
+    }
 }
 
 // Makes a store in the files, and takes the events up to the first that is refused: what was
 // answered, and the files.
-fn run_until_stopped<D: Disk + Drop>(
+fn run_until_stopped(
     alloc: Global,
-    files: Files<D>,
+    files: Files<Cut>,
     list: &List,
-) -> Result<(Answered, Files<D>), Fail> {
-    match begin(alloc, files, &list.manifest) {
-        Ok(desk) => left_after(alloc, desk, list),
-        Err((SFault::S1, files)) => {
-            let text = String::new(alloc);
-            Ok((Answered { count: None, text }, files))
-        }
-        Err((fault, _)) => Err(Fail::new(fault)),
-    }
+) -> Result<(Answered, Files<Cut>), Fail> {
+    let mut taking = Taking {
+        list,
+        answered: None,
+    };
+    let files = work_over(alloc, files, PLENTY, &mut taking)?;
+    let Taking { answered, .. } = taking;
+    let answered = answered.unwrap_or(Answered {
+        count: None,
+        text: String::new(alloc),
+    });
+    Ok((answered, files))
 }
 
 fn tell_parked<S: Alter + Drop>(
@@ -205,14 +223,17 @@ fn state_of<S: Alter + Drop>(alloc: Global, desk: &mut Desk<S>) -> Result<String
     Ok(text)
 }
 
-// The same, and the chain with its before-images.
-fn last_state<S: Alter + Drop>(alloc: Global, mut desk: Desk<S>) -> Result<String, Fail> {
+// The same, and the chain with its before-images. And the desk's connection.
+fn last_state<S: Alter + Drop>(
+    alloc: Global,
+    mut desk: Desk<S>,
+) -> Result<(String, Connection<S>), Fail> {
     let mut text = String::new(alloc);
     tell_parked(alloc, &mut text, &mut desk)?;
     tell_moment(&mut text, &mut desk)?;
     let mut connection = tell_desk(alloc, &mut text, desk)?;
     tell_images(&mut text, &mut connection)?;
-    Ok(text)
+    Ok((text, connection))
 }
 
 /// What the next open finds after a stop.
@@ -245,33 +266,45 @@ fn take_rest<S: Alter + Drop>(
     }
 }
 
-fn found_over<S: Alter + Drop>(
-    alloc: Global,
-    connection: Connection<S>,
-    list: &List,
+/// A look at what a stop left, and the events sent again from this one on.
+#[derive(Drop)]
+struct Looking<'a> {
+    list: &'a List,
     from: usize,
-) -> Result<Found, Fail> {
-    let (is_store, mut desk) = find_or_make(alloc, connection, &list.manifest)?;
-    let kept = state_of(alloc, &mut desk)?;
-    let again = take_rest(alloc, &mut desk, list, from)?;
-    let after = last_state(alloc, desk)?;
-    Ok(Found {
-        is_store,
-        kept,
-        again,
-        after,
-    })
+    found: Option<Found>,
 }
 
-fn found_in<D: Disk + Drop>(
-    alloc: Global,
-    files: Files<D>,
-    list: &List,
-    from: usize,
-) -> Result<Found, Fail> {
-    match connect(alloc, files) {
-        Ok(connection) => found_over(alloc, connection, list, from),
-        Err((fault, _)) => Err(Fail::new(fault)),
+impl Work for Looking<'_> {
+    fn work<S: Alter + Drop>(
+        &mut self,
+        alloc: Global,
+        connection: Connection<S>,
+    ) -> Result<Connection<S>, Fail> {
+        let (is_store, mut desk) = find_or_make(alloc, connection, &self.list.manifest)?;
+        let kept = state_of(alloc, &mut desk)?;
+        let again = take_rest(alloc, &mut desk, self.list, self.from)?;
+        let (after, connection) = last_state(alloc, desk)?;
+        self.found = Some(Found {
+            is_store,
+            kept,
+            again,
+            after,
+        });
+        Ok(connection)
+    }
+}
+
+fn found_in(alloc: Global, files: Files<Cut>, list: &List, from: usize) -> Result<Found, Fail> {
+    let mut looking = Looking {
+        list,
+        from,
+        found: None,
+    };
+    work_over(alloc, files, PLENTY, &mut looking)?;
+    let Looking { found, .. } = looking;
+    match found {
+        Some(found) => Ok(found),
+        None => Err(Fail::new(SFault::S1)),
     }
 }
 

@@ -1,9 +1,10 @@
-//! Two files in memory, one of which stops; desks over them; and what a crash leaves.
+//! Two files in memory, one of which stops, and what a crash leaves; and desks over a database.
 
 use esc_desk::{Desk, SFault};
-use esc_kept::{files_of, new_desk, open_desk, reopen_desk};
+use esc_kept::{new_desk, open_desk};
 use esc_manifest::Manifest;
-use sqlite::{Alter, Connection, FileStore, Files, Options};
+use failing_desks::disks::new_files;
+use sqlite::{Alter, Connection, Files};
 use sqlite_disk::{Crash, Disk, Fuse, Memory};
 use std::alloc::Global;
 use std::test::Fail;
@@ -20,35 +21,16 @@ pub(crate) struct Stop {
     pub calls: u64,
 }
 
-/// A connection, or the fault and the files.
-pub(crate) fn connect<D: Disk + Drop>(
+/// A desk over a new store of a database; or the connection where it is refused by `S1`.
+pub(crate) fn begin<S: Alter + Drop>(
     alloc: Global,
-    files: Files<D>,
-) -> Result<Connection<FileStore<D>>, (SFault, Files<D>)> {
-    if !files.may_be_used() {
-        return Err((SFault::S1, files));
-    }
-    match Connection::open_files(alloc, files, Options::new(7)) {
-        Ok(connection) => Ok(connection),
-        Err((error, left)) => Err((SFault::from(error), left.into_files())),
-    }
-}
-
-/// The files of a connection, as they are.
-pub(crate) fn close<D: Disk + Drop>(connection: Connection<FileStore<D>>) -> Files<D> {
-    connection.into_store().close()
-}
-
-/// The files of a connection, where all of the log is copied into the database file.
-pub(crate) fn closed<D: Disk + Drop>(
-    connection: Connection<FileStore<D>>,
-) -> Result<Files<D>, Fail> {
-    match connection.close_files() {
-        Ok(files) => Ok(files),
-        Err((error, store)) => {
-            drop(store.close());
-            Err(Fail::new(SFault::from(error)))
-        }
+    connection: Connection<S>,
+    manifest: &Manifest,
+) -> Result<Result<Desk<S>, Connection<S>>, Fail> {
+    match make(alloc, connection, manifest) {
+        Ok(desk) => Ok(Ok(desk)),
+        Err((SFault::S1, connection)) => Ok(Err(connection)),
+        Err((fault, _)) => Err(Fail::new(fault)),
     }
 }
 
@@ -63,36 +45,8 @@ fn make<S: Alter + Drop>(
     }
 }
 
-/// A desk over a new store in the files, or the fault and the files.
-pub(crate) fn begin<D: Disk + Drop>(
-    alloc: Global,
-    files: Files<D>,
-    manifest: &Manifest,
-) -> Result<Desk<FileStore<D>>, (SFault, Files<D>)> {
-    match make(alloc, connect(alloc, files)?, manifest) {
-        Ok(desk) => Ok(desk),
-        Err((fault, connection)) => Err((fault, close(connection))),
-    }
-}
-
-/// The files of a desk, as they are.
-pub(crate) fn left_of<D: Disk + Drop>(desk: Desk<FileStore<D>>) -> Files<D> {
-    files_of(desk)
-}
-
-/// The desk over its files, which are closed and opened again.
-pub(crate) fn reopened<D: Disk + Drop>(
-    alloc: Global,
-    desk: Desk<FileStore<D>>,
-) -> Result<Desk<FileStore<D>>, Fail> {
-    match reopen_desk(alloc, desk, Options::new(7)) {
-        Ok(desk) => Ok(desk),
-        Err(fault) => Err(Fail::new(fault)),
-    }
-}
-
-// The desk over a database, or the connection where it has no tables.
-fn find<S: Alter + Drop>(
+/// The desk over a database, or the connection where it has no tables.
+pub(crate) fn find<S: Alter + Drop>(
     alloc: Global,
     connection: Connection<S>,
 ) -> Result<Result<Desk<S>, Connection<S>>, Fail> {
@@ -103,7 +57,8 @@ fn find<S: Alter + Drop>(
     }
 }
 
-fn make_anew<S: Alter + Drop>(
+/// A desk over a new store of a database.
+pub(crate) fn make_anew<S: Alter + Drop>(
     alloc: Global,
     connection: Connection<S>,
     manifest: &Manifest,
@@ -135,14 +90,6 @@ fn synced(alloc: Global, file: &Memory) -> Result<Memory, Fail> {
     Ok(copy)
 }
 
-/// The files as they were written, all of them synced.
-pub(crate) fn copied(alloc: Global, files: &Files<Memory>) -> Result<Files<Memory>, Fail> {
-    Ok(Files {
-        log: synced(alloc, &files.log)?,
-        db: synced(alloc, &files.db)?,
-    })
-}
-
 /// What a crash leaves that keeps all that was written.
 pub(crate) fn written(alloc: Global, files: &Files<Cut>) -> Result<Files<Cut>, Fail> {
     Ok(Files {
@@ -156,14 +103,6 @@ pub(crate) fn crashed(mut files: Files<Cut>) -> Files<Cut> {
     files.log.crash();
     files.db.crash();
     files
-}
-
-/// Files without a byte.
-pub(crate) fn new_files(alloc: Global) -> Files<Memory> {
-    Files {
-        log: Memory::new(alloc),
-        db: Memory::new(alloc),
-    }
 }
 
 /// The files, one of which stops.

@@ -6,11 +6,12 @@
 //! opened, and has the same rows as ever. Then the body that version 1 did not keep comes again.
 
 use super::assert_text;
-use super::files::{Cut, Stop, close, closed, connect, copied, crashed, cut, new_files, written};
+use super::files::{Cut, Stop, crashed, cut, written};
 use esc_desk::{Desk, SFault};
 use esc_store::Store;
-use sqlite::{Alter, Connection, FileStore, Files};
-use sqlite_disk::{Disk, Memory};
+use failing_desks::disks::{PLENTY, Work, copied, new_files, work_over};
+use sqlite::{Alter, Connection, Files};
+use sqlite_disk::Memory;
 use std::alloc::Global;
 use std::fmt::Write;
 use std::process::Abort;
@@ -47,39 +48,46 @@ const AFTER: [&str; 18] = [
     "2 3 b.example none",
 ];
 
+/// The making of the version 1 store.
+#[derive(Drop)]
+struct Making;
+
+impl Work for Making {
+    fn work<S: Alter + Drop>(
+        &mut self,
+        alloc: Global,
+        mut connection: Connection<S>,
+    ) -> Result<Connection<S>, Fail> {
+        make_first(alloc, &mut connection, D2_LOST)?;
+        Ok(connection)
+    }
+}
+
 // Files with the version 1 store.
 fn first_files(alloc: Global) -> Result<Files<Memory>, Fail> {
-    match connect(alloc, new_files(alloc)) {
-        Ok(mut connection) => {
-            make_first(alloc, &mut connection, D2_LOST)?;
-            closed(connection)
+    work_over(alloc, new_files(alloc), PLENTY, &mut Making)
+}
+
+/// A migration, and whether it is answered: a file that fails refuses it by `S1` alone.
+#[derive(Drop)]
+struct Migrating {
+    is_answered: bool,
+}
+
+impl Work for Migrating {
+    fn work<S: Alter + Drop>(
+        &mut self,
+        alloc: Global,
+        connection: Connection<S>,
+    ) -> Result<Connection<S>, Fail> {
+        match Store::migrate(alloc, connection) {
+            Ok(store) => {
+                self.is_answered = true;
+                Ok(store.into_connection())
+            }
+            Err((SFault::S1, connection)) => Ok(connection),
+            Err((fault, _)) => Err(Fail::new(fault)),
         }
-        Err((fault, _)) => Err(Fail::new(fault)),
-    }
-}
-
-// Migrates the store of a database. Whether it is answered: a file that fails refuses it by `S1`
-// alone.
-fn migrates<D: Disk + Drop>(
-    alloc: Global,
-    connection: Connection<FileStore<D>>,
-) -> Result<(bool, Files<D>), Fail> {
-    match Store::migrate(alloc, connection) {
-        Ok(store) => Ok((true, close(store.into_connection()))),
-        Err((SFault::S1, connection)) => Ok((false, close(connection))),
-        Err((fault, _)) => Err(Fail::new(fault)),
-    }
-}
-
-// Migrates the store in the files, up to a stop: whether it is answered, and the files.
-fn migrate_until_stopped<D: Disk + Drop>(
-    alloc: Global,
-    files: Files<D>,
-) -> Result<(bool, Files<D>), Fail> {
-    match connect(alloc, files) {
-        Ok(connection) => migrates(alloc, connection),
-        Err((SFault::S1, files)) => Ok((false, files)),
-        Err((fault, _)) => Err(Fail::new(fault)),
     }
 }
 
@@ -154,48 +162,65 @@ fn tell_added<S: Alter + Drop>(
     tell_parked(alloc, text, desk)
 }
 
-// What a desk answers, and what it has then.
-fn desk_of<S: Alter + Drop>(alloc: Global, mut desk: Desk<S>) -> Result<String, Fail> {
+// What a desk answers, and what it has then. And its connection.
+fn desk_of<S: Alter + Drop>(
+    alloc: Global,
+    mut desk: Desk<S>,
+) -> Result<(String, Connection<S>), Fail> {
     let mut text = String::new(alloc);
     tell_parked(alloc, &mut text, &mut desk)?;
     tell_arrival(alloc, &mut text, &mut desk)?;
     tell_added(alloc, &mut text, &mut desk)?;
     let mut connection = tell_desk(alloc, &mut text, desk)?;
     tell_images(&mut text, &mut connection)?;
-    Ok(text)
+    Ok((text, connection))
 }
 
-fn found_over<S: Alter + Drop>(
-    alloc: Global,
-    mut connection: Connection<S>,
-) -> Result<Found, Fail> {
-    let before = rows_of(alloc, &mut connection)?;
-    let (is_first, store) = migrated_or_open(alloc, connection)?;
-    let mut connection = store.into_connection();
-    let after = rows_of(alloc, &mut connection)?;
-    let desk = desk_of(alloc, Desk::open(opened(alloc, connection)?))?;
-    Ok(Found {
-        is_first,
-        before,
-        after,
-        desk,
-    })
+/// A look at what a stop left, which is migrated or opened.
+#[derive(Drop)]
+struct Looking {
+    found: Option<Found>,
 }
 
-fn found_in<D: Disk + Drop>(alloc: Global, files: Files<D>) -> Result<Found, Fail> {
-    match connect(alloc, files) {
-        Ok(connection) => found_over(alloc, connection),
-        Err((fault, _)) => Err(Fail::new(fault)),
+impl Work for Looking {
+    fn work<S: Alter + Drop>(
+        &mut self,
+        alloc: Global,
+        mut connection: Connection<S>,
+    ) -> Result<Connection<S>, Fail> {
+        let before = rows_of(alloc, &mut connection)?;
+        let (is_first, store) = migrated_or_open(alloc, connection)?;
+        let mut connection = store.into_connection();
+        let after = rows_of(alloc, &mut connection)?;
+        let (desk, connection) = desk_of(alloc, Desk::open(opened(alloc, connection)?))?;
+        self.found = Some(Found {
+            is_first,
+            before,
+            after,
+            desk,
+        });
+        Ok(connection)
+    }
+}
+
+fn found_in(alloc: Global, files: Files<Cut>) -> Result<Found, Fail> {
+    let mut looking = Looking { found: None };
+    work_over(alloc, files, PLENTY, &mut looking)?;
+    let Looking { found } = looking;
+    match found {
+        Some(found) => Ok(found),
+        None => Err(Fail::new(SFault::S1)),
     }
 }
 
 // Stops, and opens what a crash leaves: all that was written, or what was synced. Whether the
 // migration was answered, and what was found of either.
 fn found_after(alloc: Global, files: Files<Cut>) -> Result<(bool, [Found; 2]), Fail> {
-    let (is_answered, files) = migrate_until_stopped(alloc, files)?;
+    let mut migrating = Migrating { is_answered: false };
+    let files = work_over(alloc, files, PLENTY, &mut migrating)?;
     let of_all = found_in(alloc, written(alloc, &files)?)?;
     let of_synced = found_in(alloc, crashed(files))?;
-    Ok((is_answered, [of_all, of_synced]))
+    Ok((migrating.is_answered, [of_all, of_synced]))
 }
 
 /// The files of the version 1 store, its rows, and what the desk over the migrated store answers
@@ -207,12 +232,36 @@ struct Said {
     desk: String,
 }
 
+/// The rows that both versions keep, once they were read.
+#[derive(Drop)]
+struct Reading {
+    rows: Option<String>,
+}
+
+impl Work for Reading {
+    fn work<S: Alter + Drop>(
+        &mut self,
+        alloc: Global,
+        mut connection: Connection<S>,
+    ) -> Result<Connection<S>, Fail> {
+        self.rows = Some(rows_of(alloc, &mut connection)?);
+        Ok(connection)
+    }
+}
+
+fn rows_in(alloc: Global, files: Files<Memory>) -> Result<String, Fail> {
+    let mut reading = Reading { rows: None };
+    work_over(alloc, files, PLENTY, &mut reading)?;
+    let Reading { rows } = reading;
+    match rows {
+        Some(rows) => Ok(rows),
+        None => Err(Fail::new(SFault::S1)),
+    }
+}
+
 fn unstopped(alloc: Global) -> Result<Said, Fail> {
     let files = first_files(alloc)?;
-    let rows = match connect(alloc, copied(alloc, &files)?) {
-        Ok(mut connection) => rows_of(alloc, &mut connection)?,
-        Err((fault, _)) => return Err(Fail::new(fault)),
-    };
+    let rows = rows_in(alloc, copied(alloc, &files)?)?;
     let desk = text_of(alloc, &AFTER)?;
     Ok(Said { files, rows, desk })
 }

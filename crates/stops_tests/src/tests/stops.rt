@@ -6,11 +6,11 @@
 //! and all arrivals sent again have the row's replies and leave its tables.
 
 use super::assert_text;
-use super::files::{Cut, Stop, begin, connect, crashed, cut_files, find_or_make, left_of, written};
+use super::files::{Cut, Stop, begin, crashed, cut_files, find_or_make, written};
 use esc_desk::{Desk, SFault, number};
 use esc_manifest::Manifest;
-use sqlite::{Alter, Connection, FileStore, Files};
-use sqlite_disk::Disk;
+use failing_desks::disks::{PLENTY, Work, work_over};
+use sqlite::{Alter, Connection, Files};
 use std::alloc::Global;
 use std::process::Abort;
 use std::test::Fail;
@@ -60,28 +60,46 @@ fn count_answered<S: Alter + Drop>(
     Ok(answered)
 }
 
-fn left_after<D: Disk + Drop>(
-    alloc: Global,
-    mut desk: Desk<FileStore<D>>,
-    row: &Row,
-) -> Result<(Option<usize>, Files<D>), Fail> {
-    let answered = count_answered(alloc, &mut desk, row)?;
-    Ok((Some(answered), left_of(desk)))
+/// A row's arrivals, which come to a new store of a database.
+#[derive(Drop)]
+struct Coming<'a> {
+    manifest: &'a Manifest,
+    row: &'a Row,
+    /// How many were answered, up to the first that was refused, if there is a store.
+    answered: Option<usize>,
+}
+
+impl Work for Coming<'_> {
+    fn work<S: Alter + Drop>(
+        &mut self,
+        alloc: Global,
+        connection: Connection<S>,
+    ) -> Result<Connection<S>, Fail> {
+        match begin(alloc, connection, self.manifest)? {
+            Ok(mut desk) => {
+                self.answered = Some(count_answered(alloc, &mut desk, self.row)?);
+                Ok(desk.into_store().into_connection())
+            }
+            Err(connection) => Ok(connection),
+        }
+    }
 }
 
 // Makes a store in the files, and takes a row's arrivals up to the first that is refused: how many
 // were answered, and the files. There is no count where there is no store.
-fn run_until_stopped<D: Disk + Drop>(
+fn run_until_stopped(
     alloc: Global,
-    files: Files<D>,
+    files: Files<Cut>,
     manifest: &Manifest,
     row: &Row,
-) -> Result<(Option<usize>, Files<D>), Fail> {
-    match begin(alloc, files, manifest) {
-        Ok(desk) => left_after(alloc, desk, row),
-        Err((SFault::S1, files)) => Ok((None, files)),
-        Err((fault, _)) => Err(Fail::new(fault)),
-    }
+) -> Result<(Option<usize>, Files<Cut>), Fail> {
+    let mut coming = Coming {
+        manifest,
+        row,
+        answered: None,
+    };
+    let files = work_over(alloc, files, PLENTY, &mut coming)?;
+    Ok((coming.answered, files))
 }
 
 // Sends a row's arrivals again.
@@ -100,17 +118,17 @@ fn tell_sent_again<S: Alter + Drop>(
 }
 
 // What a desk has once a row's arrivals came again: their replies, receipts, held rows, tables,
-// chain and before-images.
+// chain and before-images. And its connection.
 fn sent_again<S: Alter + Drop>(
     alloc: Global,
     mut desk: Desk<S>,
     row: &Row,
-) -> Result<String, Fail> {
+) -> Result<(String, Connection<S>), Fail> {
     let mut text = String::new(alloc);
     tell_sent_again(alloc, &mut text, &mut desk, row)?;
     let mut connection = tell_desk(alloc, &mut text, desk)?;
     tell_images(&mut text, &mut connection)?;
-    Ok(text)
+    Ok((text, connection))
 }
 
 fn receipts<S: Alter + Drop>(alloc: Global, desk: &mut Desk<S>) -> Result<String, Fail> {
@@ -130,31 +148,48 @@ struct Found {
     after: String,
 }
 
-fn found_over<S: Alter + Drop>(
-    alloc: Global,
-    connection: Connection<S>,
-    manifest: &Manifest,
-    row: &Row,
-) -> Result<Found, Fail> {
-    let (is_store, mut desk) = find_or_make(alloc, connection, manifest)?;
-    let kept = receipts(alloc, &mut desk)?;
-    let after = sent_again(alloc, desk, row)?;
-    Ok(Found {
-        is_store,
-        kept,
-        after,
-    })
+/// A look at what a stop left, and a row's arrivals sent again.
+#[derive(Drop)]
+struct Looking<'a> {
+    manifest: &'a Manifest,
+    row: &'a Row,
+    found: Option<Found>,
 }
 
-fn found_in<D: Disk + Drop>(
+impl Work for Looking<'_> {
+    fn work<S: Alter + Drop>(
+        &mut self,
+        alloc: Global,
+        connection: Connection<S>,
+    ) -> Result<Connection<S>, Fail> {
+        let (is_store, mut desk) = find_or_make(alloc, connection, self.manifest)?;
+        let kept = receipts(alloc, &mut desk)?;
+        let (after, connection) = sent_again(alloc, desk, self.row)?;
+        self.found = Some(Found {
+            is_store,
+            kept,
+            after,
+        });
+        Ok(connection)
+    }
+}
+
+fn found_in(
     alloc: Global,
-    files: Files<D>,
+    files: Files<Cut>,
     manifest: &Manifest,
     row: &Row,
 ) -> Result<Found, Fail> {
-    match connect(alloc, files) {
-        Ok(connection) => found_over(alloc, connection, manifest, row),
-        Err((fault, _)) => Err(Fail::new(fault)),
+    let mut looking = Looking {
+        manifest,
+        row,
+        found: None,
+    };
+    work_over(alloc, files, PLENTY, &mut looking)?;
+    let Looking { found, .. } = looking;
+    match found {
+        Some(found) => Ok(found),
+        None => Err(Fail::new(SFault::S1)),
     }
 }
 

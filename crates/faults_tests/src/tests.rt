@@ -1,3 +1,0 @@
-//! Lists of events over files of which one call fails.
-
-mod sweeps;

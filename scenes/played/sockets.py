@@ -1,0 +1,127 @@
+"""The desk on a socket."""
+import contextlib, socket
+
+from played.outputs import check_narrow
+from scening.stage import SECONDS, Failed, Got, Wanted, difference, pieces_of
+from scening.steps import Copy, contents
+
+HOST = '127.0.0.1'
+CONTACT = contents('contact.bundle').decode()
+INIT = 'init --store a.db --manifest listed.csv'
+
+
+def put(number, length, body):
+    return f'PUT /arrivals/{number} HTTP/1.1\r\nContent-Length: {length}\r\n\r\n{body}'
+
+
+def get(path, fields=''):
+    return f'GET {path} HTTP/1.1\r\n{fields}\r\n'
+
+
+def response(status, kind, length, body, more=''):
+    return f'HTTP/1.1 {status}\r\nContent-Type: {kind}\r\nContent-Length: {length}\r\nConnection: close\r\n{more}\r\n{body}'
+
+
+BAD_REQUEST = response('400 Bad Request', 'text/plain', 12, 'bad request\n')
+NOT_FOUND = response('404 Not Found', 'text/plain', 10, 'not found\n')
+NOT_ALLOWED = response('405 Method Not Allowed', 'text/plain', 19, 'method not allowed\n', 'Allow: PUT\r\n')
+RECEIPTS = 'receipt,number,verdict,fault,id,resend,copy,orphans\n1,n1,A1,,F1,0,new,0\n2,n2,A5,,,,,\n'
+HELD = '{"copy":"new","fault":null,"id":"F1","number":"n1","orphans":0,"receipt":1,"resend":0,"verdict":"A1"}'
+PARKED = '{"copy":null,"fault":null,"id":null,"number":"n2","orphans":null,"receipt":2,"resend":null,"verdict":"A5"}'
+CONTACTS = 'kind,key,table,row,field,value\ncontact,C1,contact,0,id,C1\ncontact,C1,contact,0,clID,R1\n'
+
+# Requests, and their responses.
+EXCHANGES = (
+    (put('n1', 228, CONTACT), response('200 OK', 'application/json', 101, HELD)),
+    ('', BAD_REQUEST),
+    (put('n2', 4, 'abc'), BAD_REQUEST),
+    (put('n2', 3, 'abc'), response('202 Accepted', 'application/json', 106, PARKED)),
+    (get('/receipts'), response('200 OK', 'text/csv', 85, RECEIPTS)),
+    (get('/export/contact'), response('200 OK', 'text/csv', 87, CONTACTS)),
+    (get('/export/zone'), NOT_FOUND),
+    (get('/arrivals/n1'), NOT_ALLOWED),
+    (get('/status', 33 * 'A: b\r\n'), BAD_REQUEST),
+)
+
+
+def free_port():
+    """A port on which nothing listens."""
+    with socket.create_server((HOST, 0)) as listener:
+        return listener.getsockname()[1]
+
+
+def first_line(child):
+    """The first line of standard output, or what comes before its end."""
+    line = b''
+    for piece in pieces_of(child.stdout):
+        line += piece
+        if line.endswith(b'\n'):
+            break
+    return line
+
+
+def call(port, request):
+    """Sends a request over a connection of its own, and ends what is sent."""
+    client = socket.create_connection((HOST, port), SECONDS)
+    client.sendall(request.encode())
+    client.shutdown(socket.SHUT_WR)
+    return client
+
+
+def served(stage, store, requests):
+    """Serves requests from a store, and gives the responses. All requests are sent before a response is read."""
+    port = free_port()
+    line, listening = f'serve --store {store} --port {port} --count {len(requests)}', f'listening {HOST}:{port}\n'
+    child = stage.begin(line.split())
+    said = first_line(child)
+    with contextlib.ExitStack() as calls:
+        clients = [calls.enter_context(call(port, it)) for it in requests if said == listening.encode()]
+        responses = [b''.join(iter(lambda: client.recv(65_536), b'')) for client in clients]
+    got = stage.end(child)
+    stage.compare(line, Wanted(0, listening), Got(got.status, said + got.out, got.err))
+    return responses
+
+
+def check_responses(stage, store, exchanges):
+    """Serves requests from a store, and compares the responses."""
+    responses = served(stage, store, [request for request, _ in exchanges])
+    for (request, wanted), got in zip(exchanges, responses, strict=True):
+        if found := difference(f'the response to {request[:60]!r}', wanted, got):
+            raise Failed('\n'.join(found))
+
+
+def set_up(stage):
+    """A store whose manifest lists one contact."""
+    Copy('listed.csv', 'with-contact.csv').do(stage)
+    stage.check(INIT, Wanted(0, 'listed 1\n'))
+
+
+def connections(stage):
+    """Connections are served one after the other."""
+    set_up(stage)
+    check_responses(stage, 'a.db', EXCHANGES)
+    # What was answered over a socket is in the store.
+    stage.check('report --store a.db receipts', Wanted(0, RECEIPTS))
+
+
+def unwanted_body(stage):
+    """A body that is not wanted is let by."""
+    set_up(stage)
+    head = 'PUT /nowhere HTTP/1.1\r\nContent-Length: 8900\r\n\r\n'
+    # More than is read at once, and less than a socket holds before anything is accepted.
+    check_responses(stage, 'a.db', [(head.ljust(9_000, 'x'), NOT_FOUND)])
+
+
+def taken_port(stage):
+    """A port that is taken."""
+    set_up(stage)
+    with socket.create_server((HOST, 0)) as listener:
+        port = listener.getsockname()[1]
+        check_narrow(stage, f'serve --store a.db --port {port} --count 1', 9, Wanted(3, '', f'E1 {HOST}:{port}\n'))
+        # The store is opened first.
+        check_narrow(stage, f'serve --store absent.db --port {port} --count 1', 9, Wanted(3, '', 'S3\n'))
+    # If `listening` can't be printed, no client is waited for.
+    check_narrow(stage, f'serve --store a.db --port {free_port()} --count 1', 9, Wanted(3, 'listening', 'E1 -\n'))
+
+
+SCENES = (connections, unwanted_body, taken_port)

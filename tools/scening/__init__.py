@@ -1,0 +1,1 @@
+"""The parts of the runner of the scenes, `tools/scenes.py`."""
