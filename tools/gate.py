@@ -3,7 +3,7 @@
 
 `rt ci` proves each crate and its tests from nothing and runs the tests and the program, in a copy of the tree without the wrong
 bodies. These are then tried over the libraries that it built, as tools/wrong_bodies.py says: `rt ci` would check a crate once more
-for each of them. What was built is moved to the tree, and the scenes are played on the program there, as tools/scenes.py says. It
+for each of them. What was built is moved to the tree, and the scenes are played on the programs there, as tools/scenes.py says. It
 prints what `rt ci` prints, the verdict on each wrong body and on each scene, a table as in docs/GATE.md, and at last 'N passed, M
 failed', the sums of all three. The table has processor seconds for each crate's proof, tests and wrong bodies, as /proc shows them
 once a second (what lives shorter is in the sum alone); below it stand the whole gate's time, its processor minutes and the most
@@ -15,8 +15,8 @@ from wrong_bodies import edits_of, tried
 
 TICK = os.sysconf('SC_CLK_TCK')
 PARTS = ('proof', 'tests', 'edits')
-# The program on which the scenes are played, as `rt ci` builds it.
-PROGRAM = 'crates/restore/out/restore'
+# The programs on which the scenes are played, as `rt ci` builds them.
+PROGRAMS = tuple(f'crates/{it}/out/{it}' for it in ('restore', 'desk_harness'))
 
 
 def memory_in_use():
@@ -181,21 +181,21 @@ def proved(tree, bodies):
 
 
 def moved(tree):
-    """Moves what was built to the tree, and says whether the program is among it."""
-    is_built = os.path.isfile(f'{tree}/{PROGRAM}')
+    """Moves what was built to the tree, and gives the programs of the scenes that are not among it."""
+    missing = [it for it in PROGRAMS if not os.path.isfile(f'{tree}/{it}')]
     for crate in libraries():
         if os.path.isdir(f'{tree}/crates/{crate}/out'):
             shutil.rmtree(f'{TOP}/crates/{crate}/out', ignore_errors=True)
             shutil.move(f'{tree}/crates/{crate}/out', f'{TOP}/crates/{crate}/out')
-    return is_built
+    return missing
 
 
-def played(is_built):
-    """Plays the scenes on the program that was built. Where it was not, that is one failure."""
-    if not is_built:
-        print(f'scenes: {PROGRAM} was not built', flush=True)
+def played(missing):
+    """Plays the scenes on the programs that were built. Where one is missing, that is one failure."""
+    if missing:
+        print(f'scenes: not built: {", ".join(missing)}', flush=True)
         return 0, 1
-    return counted([sys.executable, 'tools/scenes.py', PROGRAM], TOP)
+    return counted([sys.executable, 'tools/scenes.py', *PROGRAMS], TOP)
 
 
 def main():
@@ -207,8 +207,8 @@ def main():
         bodies = WrongBodies(tree, lanes)
         passed, failed = proved(tree, bodies)
         refused, through = bodies.ended()
-        is_built = moved(tree)
-    right, wrong = played(is_built)
+        missing = moved(tree)
+    right, wrong = played(missing)
     passed, failed = passed + refused + right, failed + through + wrong
     print(f'{watch.table()}\n{passed} passed, {failed} failed', flush=True)
     return 1 if failed else 0

@@ -1,21 +1,25 @@
 #!/usr/bin/env python3
-"""tools/scenes.py PROGRAM [NAME ..]: plays the scenes of scenes/ on the program restore that was built, or those whose file or title
-has one of these names.
+"""tools/scenes.py RESTORE HARNESS [NAME ..]: plays the scenes of scenes/ on the programs restore and desk_harness that were built, or
+those whose file or title has one of these names.
 
-A scene is a folder of files, and command lines with the status, the standard output and the standard error that they must give. It
-is written in a transcript, scenes/FILE.scene (tools/scening/transcripts.py has the form), or, where sockets, streams that fail or
-files that go are needed, as a function in scenes/played/FILE.py. Each scene that ends otherwise is printed as FAILED, with the
-first command line that did, what was wanted and what came. The last line is `N passed, M failed`; the status is 0 where M is 0."""
-import os, sqlite3, sys
+A scene is a folder of files, and command lines with the status, the standard output and the standard error that they must give, or
+lines that desk_harness is told with the answer to each. It is written in a transcript, scenes/FILE.scene (tools/scening/transcripts.py
+has the form), or, where code is needed, as a function in scenes/played/FILE.py. Scenes are played side by side, RT_JOBS of them or one
+for each processor. Each that ends otherwise is printed as FAILED, with the first line that did, what was wanted and what came. The last
+line is `N passed, M failed`; the status is 0 where M is 0."""
+import multiprocessing, os, sqlite3, sys, textwrap
 from dataclasses import dataclass
 from typing import Callable
 
 from crates import TOP
 
 sys.path += [f'{TOP}/bench', f'{TOP}/scenes']
-from played import sockets, streams
-from scening.stage import Failed, Stage
+from played import amendments, crowds, faults, lists, requests, routes, rows, sockets, stops, streams, walks
+from scening.stage import Failed, Programs, Stage
 from scening.transcripts import Misread, read_transcripts
+
+# The modules that have scenes.
+PLAYED = (faults, stops, sockets, streams, rows, walks, crowds, requests, routes, amendments, lists)
 
 
 @dataclass(frozen=True)
@@ -46,35 +50,53 @@ def scenes_of(path):
 
 def all_scenes():
     names = sorted(it for it in os.listdir(f'{TOP}/scenes') if it.endswith('.scene'))
-    told = [(module.__name__.rpartition('.')[2], module.SCENES) for module in (sockets, streams)]
+    told = [(module.__name__.rpartition('.')[2], module.SCENES) for module in PLAYED]
     return [scene for name in names for scene in scenes_of(f'{TOP}/scenes/{name}')] + [
         Scene(file, play.__doc__.partition('\n')[0].rstrip('.'), play) for file, plays in told for play in plays]
 
 
-def is_played(scene, program):
-    """Plays a scene, and tells how it ended."""
+def begin(scenes, programs):
+    """What a process that plays scenes is given as it begins."""
+    global given
+    given = scenes, programs
+
+
+def failure_at(at):
+    """Plays the scene with this index, and gives why it failed, if it did."""
+    scenes, programs = given
     try:
-        with Stage(program) as stage:
-            scene.play(stage)
+        with Stage(programs) as stage:
+            scenes[at].play(stage)
     except (Failed, OSError, sqlite3.Error) as failure:
-        print(f'scene {scene.file}: {scene.title}: FAILED', *f'{failure}'.split('\n'), sep='\n  ', flush=True)
-        return False
-    print(f'scene {scene.file}: {scene.title}: passed', flush=True)
-    return True
+        return f'{failure}'
+    return None
+
+
+def count_passed(scenes, programs):
+    """Plays scenes, as many side by side as there are lanes, and tells in their order how each ended."""
+    lanes, passed = int(os.environ.get('RT_JOBS') or os.cpu_count() or 1), 0
+    with multiprocessing.get_context('fork').Pool(lanes, begin, (scenes, programs)) as pool:
+        for scene, failure in zip(scenes, pool.imap(failure_at, range(len(scenes)))):
+            passed += failure is None
+            print(f'scene {scene.file}: {scene.title}:', 'passed' if failure is None else 'FAILED', flush=True)
+            if failure is not None:
+                print(textwrap.indent(failure, '  '), flush=True)
+    return passed
 
 
 def main():
-    if len(sys.argv) < 2:
+    if len(sys.argv) < 3:
         sys.exit(__doc__)
-    program, names = os.path.abspath(sys.argv[1]), sys.argv[2:]
-    if not os.access(program, os.X_OK):
-        sys.exit(f'scenes: there is no program {program}')
+    programs, names = Programs(*map(os.path.abspath, sys.argv[1:3])), sys.argv[3:]
+    for program in (programs.restore, programs.harness):
+        if not os.access(program, os.X_OK):
+            sys.exit(f'scenes: there is no program {program}')
     scenes = all_scenes()
     for name in names:
         if not any(it.has(name) for it in scenes):
             sys.exit(f'scenes: no scene has the name {name}')
     wanted = [it for it in scenes if not names or any(map(it.has, names))]
-    passed = sum([is_played(it, program) for it in wanted])
+    passed = count_passed(wanted, programs)
     print(f'{passed} passed, {len(wanted) - passed} failed', flush=True)
     return 0 if passed == len(wanted) else 1
 

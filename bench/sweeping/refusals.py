@@ -34,12 +34,12 @@ class Sweep:
             made['REFUSE_COUNT'] = count
         return made
 
-    def run(self, *words, program=None, folder=None, **given_settings):
-        """Status, standard output and standard error of a run."""
+    def run(self, *words, program=None, folder=None, told=os.devnull, **given_settings):
+        """Status, standard output and standard error of a run, whose standard input is the file `told`."""
         out_path, error_path = (os.path.join(self.work, f'{it}{os.getpid()}') for it in ('out', 'err'))
-        with open(out_path, 'w+b') as out, open(error_path, 'w+b') as error:
+        with open(out_path, 'w+b') as out, open(error_path, 'w+b') as error, open(told, 'rb') as input_:
             with subprocess.Popen([program or self.given.restore, *words], env=self.settings(**given_settings), cwd=folder,
-                                  stdin=subprocess.DEVNULL, stdout=out, stderr=error, close_fds=False) as ran, ended_in(300, ran):
+                                  stdin=input_, stdout=out, stderr=error, close_fds=False) as ran, ended_in(300, ran):
                 status = ran.wait()
             out.seek(0), error.seek(0)
             return status, out.read().decode(errors='replace'), error.read().decode(errors='replace')

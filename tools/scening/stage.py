@@ -61,11 +61,18 @@ def pieces_of(pipe):
     raise Failed(f'nothing has come for {SECONDS} seconds')
 
 
-class Stage:
-    """An empty folder, which is there in a `with` statement, and the program."""
+@dataclass(frozen=True)
+class Programs:
+    """Where the programs are that were built."""
+    restore: str
+    harness: str
 
-    def __init__(self, program):
-        self.program, self.room, self.children = program, tempfile.TemporaryDirectory(prefix='scene-'), []
+
+class Stage:
+    """An empty folder, which is there in a `with` statement, and the programs."""
+
+    def __init__(self, programs):
+        self.programs, self.room, self.children = programs, tempfile.TemporaryDirectory(prefix='scene-'), []
 
     def __enter__(self):
         return self
@@ -79,10 +86,15 @@ class Stage:
     def at(self, path):
         return os.path.join(self.room.name, path)
 
+    def write(self, path, content):
+        """Writes a file, or writes it anew."""
+        with open(self.at(path), 'wb') as file:
+            file.write(content)
+
     def begin(self, words, out=subprocess.PIPE, err=subprocess.PIPE, prepare=None):
-        """Starts the program. It becomes the program after it has prepared itself."""
-        self.children.append(subprocess.Popen([self.program, *words], cwd=self.room.name, stdin=subprocess.DEVNULL, stdout=out, stderr=err,
-                                              bufsize=0, preexec_fn=prepare))
+        """Starts `restore`. The child becomes the program after it has prepared itself."""
+        self.children.append(subprocess.Popen([self.programs.restore, *words], cwd=self.room.name, stdin=subprocess.DEVNULL, stdout=out,
+                                              stderr=err, bufsize=0, preexec_fn=prepare))
         return self.children[-1]
 
     def end(self, child):

@@ -10,22 +10,33 @@
     sql PATH = "STATEMENTS"         changes a database, or makes it
     store-1 PATH = NAME N:NAME ..   makes a store of version 1: of a manifest, with bodies that it took under their numbers
     parked PATH = COUNT             parks the bodies 0001, 0002 .. in a store
-    $ restore WORDS                 runs the program. Up to an empty line there follow the lines of standard output, and
+    bodies BODY ..                  makes files of these names: worked bodies (scenes/played/bodies.py)
+    manifest PATH = BODY .. "ROWS"  makes a manifest that lists worked bodies, and has further rows if there is such a text
+    first-store PATH = FILE N:BODY ..
+                                    writes the statements that make a store of version 1: of a manifest that is in the folder, with
+                                    worked bodies that it took under their numbers
+    $ restore WORDS                 runs restore. Up to an empty line there follow the lines of standard output, and
     ~ TEXT                          .. in their place: what standard output must have somewhere
     ! TEXT                          .. a line of standard error; `! ...` is any text, but some
     ? STATUS                        .. the status, if it isn't 0
+    $ desk_harness                  runs desk_harness. Up to an empty line there follow
+    > LINE                          .. what it is told, with the lines of its answer below. Below `run N` or `arrivals N` are N lines
+                                    that it is told, and then the lines of the one answer
 
-A word or a text in quotes is a JSON string: the empty word is "". A line of standard output that is empty, or begins like a line
-of another kind, has a backslash before it; so has a line of standard error after its mark."""
+A word or a text in quotes is a JSON string: the empty word is "". A line of standard output or of an answer that is empty, or begins
+like a line of another kind, has a backslash before it; so has a line of standard error after its mark."""
 import json, os, re
 from dataclasses import dataclass, field
 
+from played.bodies import BODIES
+from scening.harness import Harness
 from scening.stage import Failed, Wanted
-from scening.steps import FILES, Copy, FirstStore, Folder, Link, Parked, Statements, Text, Zeros
+from scening.steps import FILES, Bodies, Copy, FirstScript, FirstStore, Folder, Link, Manifest, Parked, Statements, Text, Zeros
 
 WORD = re.compile(r' *("(?:[^"\\]|\\.)*"|[^\s"]\S*)(?= |$)')
-# The marks below a command, and what stands before a text that begins with a character of the format.
-MARKS, ESCAPE = '~!?', '\\'
+# The marks below a run of restore, the one below a run of desk_harness, and what stands before a text that begins with a character of
+# the format.
+MARKS, TOLD, ESCAPE = '~!?', '> ', '\\'
 
 
 class Misread(Exception):
@@ -34,7 +45,7 @@ class Misread(Exception):
 
 @dataclass(frozen=True)
 class Command:
-    """A run of the program, and what it must give."""
+    """A run of restore, and what it must give."""
     place: str
     line: str
     words: list
@@ -45,6 +56,36 @@ class Command:
             stage.check(self.line, self.wanted, self.words)
         except Failed as failure:
             raise Failed(f'{self.place}: {failure}') from None
+
+
+@dataclass
+class Exchange:
+    """A line that a desk is told, with the events that it says follow, and the lines of the answer."""
+    place: str
+    told: list
+    answer: list = field(default_factory=list)
+
+    def is_told(self):
+        """Whether all events are there."""
+        run = re.fullmatch('(run|arrivals) ([0-9]+)', self.told[0])
+        return len(self.told) == 1 + (int(run[2]) if run else 0)
+
+
+@dataclass(frozen=True)
+class Talk:
+    """A run of desk_harness: what it is told, and what it must answer."""
+    exchanges: list
+
+    def do(self, stage):
+        place = ''
+        try:
+            with Harness(stage) as desk:
+                for exchange in self.exchanges:
+                    place = exchange.place
+                    line, *events = exchange.told
+                    desk.check(line, text_of(exchange.answer), *events)
+        except Failed as failure:
+            raise Failed(f'{place}: {failure}') from None
 
 
 @dataclass
@@ -90,14 +131,39 @@ def count_of(word):
     return int(word)
 
 
-def body_of(word):
+def worked(name):
+    """The name of a worked body."""
+    if name not in BODIES:
+        raise Misread(f'there is no worked body {name}')
+    return name
+
+
+def body_of(word, known):
+    """A number and the name of a body, which must be known."""
     number, _, name = word.partition(':')
-    return number, named(name)
+    return number, known(name)
+
+
+def worked_step_of(words):
+    """The step of a line about worked bodies, if it is one."""
+    match words:
+        case ['bodies', *names]:
+            return Bodies(tuple(map(worked, names)))
+        case ['manifest', path, '=', *names, more] if more.startswith('"'):
+            return Manifest(plain(path), tuple(map(worked, names)), plain(more))
+        case ['manifest', path, '=', *names]:
+            return Manifest(plain(path), tuple(map(worked, names)))
+        case ['first-store', path, '=', manifest, *bodies]:
+            return FirstScript(plain(path), plain(manifest), tuple(body_of(it, worked) for it in bodies))
+    return None
 
 
 def step_of(line):
     """The step of a line that is no command."""
-    match words_of(line):
+    words = words_of(line)
+    if step := worked_step_of(words):
+        return step
+    match words:
         case ['folder', path]:
             return Folder(plain(path))
         case ['file', path, '=', text] if text.startswith('"'):
@@ -111,7 +177,7 @@ def step_of(line):
         case ['sql', path, '=', text] if text.startswith('"'):
             return Statements(plain(path), plain(text))
         case ['store-1', path, '=', manifest, *bodies]:
-            return FirstStore(plain(path), named(manifest), tuple(map(body_of, bodies)))
+            return FirstStore(plain(path), named(manifest), tuple(body_of(it, named) for it in bodies))
         case ['parked', path, '=', count]:
             return Parked(plain(path), count_of(count))
     raise Misread(f'this is no line of a transcript: {line}')
@@ -142,37 +208,57 @@ def wanted_of(lines):
     return Wanted(count_of(statuses[0]) if statuses else 0, text_of(out), told_of(marked['!']), *parts)
 
 
-def command_of(place, line, below):
+def exchanges_of(below):
+    """What a desk is told, and what it must answer, by the lines below a run of desk_harness."""
+    found = []
+    for place, line in below:
+        is_told = bool(found) and found[-1].is_told()
+        if line.startswith(TOLD) and (is_told or not found):
+            found.append(Exchange(place, [line.removeprefix(TOLD)]))
+        elif line.startswith(TOLD):
+            found[-1].told.append(line.removeprefix(TOLD))
+        elif is_told and not line.startswith('>'):
+            found[-1].answer.append(line)
+        else:
+            raise Misread(f'nothing is answered here: {line}')
+    if not found or not found[-1].is_told():
+        raise Misread('desk_harness is told lines, and as many events as they say')
+    return found
+
+
+def run_of(lines):
+    """A run of a program, by its line and those below it, each with its place."""
+    (place, line), *below = lines
+    if line == '$ desk_harness':
+        return Talk(exchanges_of(below))
     if line != '$ restore' and not line.startswith('$ restore '):
-        raise Misread(f'this is no run of the program: {line}')
+        raise Misread(f'this is no run of a program: {line}')
     words = line.removeprefix('$ restore').removeprefix(' ')
-    return Command(place, words, list(map(plain, words_of(words))), wanted_of(below))
+    return Command(place, words, list(map(plain, words_of(words))), wanted_of([it for _, it in below]))
 
 
 class Reader:
-    """Reads the lines of a transcript: the scenes until now, and the lines of the last command."""
+    """Reads the lines of a transcript: the scenes until now, and the lines of the last run of a program, each with its place."""
 
-    def __init__(self, name):
-        self.name, self.scenes, self.command, self.place = name, [], [], ''
+    def __init__(self):
+        self.scenes, self.run = [], []
 
-    def end_command(self):
-        if self.command:
-            self.scenes[-1].steps.append(command_of(self.place, self.command[0], self.command[1:]))
-        self.command = []
+    def end_run(self):
+        if self.run:
+            self.scenes[-1].steps.append(run_of(self.run))
+        self.run = []
 
     def take(self, place, line):
         if line.startswith('#'):
             return
         if not line or line.startswith(('$', '==')):
-            self.end_command()
+            self.end_run()
         if line.startswith('== '):
             self.scenes.append(Transcript(line[3:]))
         elif line and not self.scenes:
             raise Misread('it belongs to no scene')
-        elif line.startswith('$'):
-            self.command, self.place = [line], place
-        elif self.command:
-            self.command.append(line)
+        elif line.startswith('$') or line and self.run:
+            self.run.append((place, line))
         elif line:
             self.scenes[-1].steps.append(step_of(line))
 
@@ -180,7 +266,7 @@ class Reader:
 def read_transcripts(path):
     """The scenes of a file."""
     name = os.path.basename(path)
-    reader, place = Reader(name), name
+    reader, place = Reader(), name
     with open(path, encoding='utf-8', newline='\n') as file:
         lines = file.read().split('\n')
     try:
@@ -188,8 +274,8 @@ def read_transcripts(path):
             place = f'{name}:{number}'
             reader.take(place, line)
     except Misread as error:
-        raise Misread(f'{reader.place if reader.command else place}: {error}') from None
-    idle = [it.title for it in reader.scenes if not any(isinstance(step, Command) for step in it.steps)]
+        raise Misread(f'{reader.run[0][0] if reader.run else place}: {error}') from None
+    idle = [it.title for it in reader.scenes if not any(isinstance(step, (Command, Talk)) for step in it.steps)]
     if idle or not reader.scenes:
         raise Misread(f'{name}: nothing is run: {", ".join(idle)}')
     return reader.scenes

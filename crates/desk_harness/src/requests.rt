@@ -1,0 +1,96 @@
+//! Requests to a desk, over memory.
+
+use crate::streams::split;
+use esc_desk::Desk;
+use esc_flaky::{FailingReader, FailingWriter};
+use esc_http::{ServeFault, serve_one};
+use sqlite::Alter;
+use std::alloc::Global;
+use std::fmt::Write;
+use std::fs;
+use std::test::Fail;
+
+/// How a client sends a request, and takes the response.
+#[derive(Clone, Copy, Debug)]
+struct Client {
+    /// A read and a write move at most so many bytes.
+    piece: usize,
+    /// So many bytes are read before a read fails, and written before a write does.
+    readable: usize,
+    writable: usize,
+    /// Whether nothing can be handed on.
+    is_stuck: bool,
+}
+
+/// More bytes than a request or a response has.
+const PLENTY: usize = 100_000_000;
+
+const OPEN: Client = Client {
+    piece: PLENTY,
+    readable: PLENTY,
+    writable: PLENTY,
+    is_stuck: false,
+};
+
+// The client of these words.
+fn client_of(words: &str) -> Result<Client, Fail> {
+    if words.is_empty() {
+        return Ok(OPEN);
+    }
+    let (piece, rest) = split(words);
+    let (readable, rest) = split(rest);
+    let (writable, word) = split(rest);
+    Ok(Client {
+        piece: piece.parse::<usize>()?,
+        readable: readable.parse::<usize>()?,
+        writable: writable.parse::<usize>()?,
+        is_stuck: word == "stuck",
+    })
+}
+
+// Why the response did not go out whole, if it didn't, and what of it did.
+fn served<S: Alter>(
+    alloc: Global,
+    desk: &mut Desk<S>,
+    input: &[u8],
+    client: Client,
+) -> Result<(Option<ServeFault>, Vec<u8>), Fail> {
+    let mut reader = FailingReader::new(input, client.piece, client.readable);
+    let mut writer = FailingWriter::new(alloc, client.piece, client.writable, client.is_stuck);
+    let fault = serve_one(alloc, desk, &mut reader, &mut writer).err();
+    if writer.wants_memory() {
+        return Err(Fail::new("a writer: OutOfMemory"));
+    }
+    Ok((fault, writer.into_text()))
+}
+
+fn tell_response(
+    text: &mut String,
+    fault: Option<ServeFault>,
+    response: &[u8],
+) -> Result<(), Fail> {
+    text.push_str(match fault {
+        None => "served\nx",
+        Some(ServeFault::Read) => "read fault\nx",
+        Some(ServeFault::Write) => "write fault\nx",
+    })?;
+    for byte in response {
+        write!(text, "{byte:02x}")?;
+    }
+    text.push_str("\n")?;
+    Ok(())
+}
+
+/// Serves the request in a file, and tells what came of it.
+pub fn request<S: Alter + Drop>(
+    rt: &HostRuntime,
+    text: &mut String,
+    desk: &mut Desk<S>,
+    rest: &str,
+) -> Result<(), Fail> {
+    let (path, words) = split(rest);
+    let input = fs::read(rt, path)?;
+    let client = client_of(words)?;
+    let (fault, response) = served(rt.alloc(), desk, input.as_slice(), client)?;
+    tell_response(text, fault, response.as_slice())
+}

@@ -1,0 +1,187 @@
+//! What is told, line by line, and what is answered.
+
+use crate::database::answer_of_database;
+use crate::desks::Place;
+use crate::disks::{Change, Disks, File, Room, check_memory, connect, options};
+use crate::events::answer_of_desk;
+use crate::streams::{next_line, say};
+use esc_desk::{Desk, SFault};
+use esc_kept::{files_of, reopen_desk};
+use sqlite::{Alter, Connection, FileStore, Files};
+use std::alloc::Global;
+use std::fmt::Write;
+use std::test::Fail;
+
+/// Where the session is while no database is open, and the line that is next.
+#[derive(Drop)]
+struct State {
+    disks: Disks,
+    line: Option<String>,
+}
+
+/// Answers all lines.
+pub fn play(rt: &HostRuntime) -> Result<(), Fail> {
+    let mut state = State {
+        disks: Disks::new(rt.alloc()),
+        line: next_line(rt)?,
+    };
+    for _ in 0..u64::MAX {
+        if state.line.is_none() {
+            return Ok(());
+        }
+        state = step(rt, state)?;
+    }
+    Err(Fail::new("no end"))
+}
+
+// Answers the next line, and those after it that are about the same database.
+fn step(rt: &HostRuntime, state: State) -> Result<State, Fail> {
+    let State { disks, line } = state;
+    let Some(line) = line else {
+        return Ok(State { disks, line: None });
+    };
+    match Change::of(line.as_str()) {
+        Some(change) => changed(rt, disks, change),
+        None => served(rt, disks, line),
+    }
+}
+
+fn changed(rt: &HostRuntime, disks: Disks, change: Change) -> Result<State, Fail> {
+    let mut answer = String::new(rt.alloc());
+    if let Change::Look = change {
+        writeln!(answer, "{}", disks.have_failed())?;
+    }
+    let disks = disks.changed(rt.alloc(), change)?;
+    say(rt, answer)?;
+    let line = next_line(rt)?;
+    Ok(State { disks, line })
+}
+
+// Opens the database, and answers the line and those after it up to the first that closes it.
+fn served(rt: &HostRuntime, disks: Disks, line: String) -> Result<State, Fail> {
+    let Disks { files, room } = disks;
+    let mut talk = Talk {
+        rt,
+        line: Some(line),
+    };
+    let files = match connect(rt.alloc(), files, room) {
+        Ok(connection) => {
+            let place = talk.answer_all(Place::Database(connection))?;
+            left(rt.alloc(), place, talk.closes(), room)?
+        }
+        Err((fault, files)) => {
+            talk.refuse(fault)?;
+            files
+        }
+    };
+    check_memory(&files)?;
+    let Talk { line, .. } = talk;
+    Ok(State {
+        disks: Disks { files, room },
+        line,
+    })
+}
+
+// The files of a database that is left as by a crash, or closed as by a program.
+fn left(
+    alloc: Global,
+    place: Place<FileStore<File>>,
+    closes: bool,
+    room: Room,
+) -> Result<Files<File>, Fail> {
+    match place {
+        Place::Desk(desk) => {
+            if closes {
+                files_of_reopened(alloc, desk, room)
+            } else {
+                Ok(files_of(desk))
+            }
+        }
+        Place::Database(connection) => {
+            if closes {
+                Ok(closed(connection))
+            } else {
+                Ok(connection.into_store().close())
+            }
+        }
+    }
+}
+
+fn files_of_reopened(
+    alloc: Global,
+    desk: Desk<FileStore<File>>,
+    room: Room,
+) -> Result<Files<File>, Fail> {
+    match reopen_desk(alloc, desk, options(room)) {
+        Ok(desk) => Ok(files_of(desk)),
+        Err(fault) => Err(Fail::new(fault)),
+    }
+}
+
+fn closed(connection: Connection<FileStore<File>>) -> Files<File> {
+    match connection.close_files() {
+        Ok(files) => files,
+        Err((_error, store)) => store.close(),
+    }
+}
+
+/// The lines about one database.
+#[derive(Drop)]
+struct Talk<'a> {
+    rt: &'a HostRuntime,
+    /// The next line.
+    line: Option<String>,
+}
+
+impl Talk<'_> {
+    // Whether the next line is about the database, or the desk over it.
+    fn is_for_database(&self) -> bool {
+        match &self.line {
+            Some(line) => Change::of(line.as_str()).is_none(),
+            None => false,
+        }
+    }
+
+    // Whether the next line closes the database as a program does.
+    fn closes(&self) -> bool {
+        match &self.line {
+            Some(line) => line.as_str() == "reopen",
+            None => false,
+        }
+    }
+
+    // Answers all lines up to the first that is not about the database.
+    fn answer_all<S: Alter + Drop>(&mut self, place: Place<S>) -> Result<Place<S>, Fail> {
+        let mut place = place;
+        for _ in 0..u64::MAX {
+            if !self.is_for_database() {
+                return Ok(place);
+            }
+            place = self.answer(place)?;
+        }
+        Err(Fail::new("no end"))
+    }
+
+    fn answer<S: Alter + Drop>(&mut self, place: Place<S>) -> Result<Place<S>, Fail> {
+        let line = self.line.take().ok_or("no line")?;
+        let mut text = String::new(self.rt.alloc());
+        let place = match place {
+            Place::Database(connection) => {
+                answer_of_database(self.rt, &mut text, connection, line.as_str())?
+            }
+            Place::Desk(desk) => answer_of_desk(self.rt, &mut text, desk, line.as_str())?,
+        };
+        say(self.rt, text)?;
+        self.line = next_line(self.rt)?;
+        Ok(place)
+    }
+
+    // Answers the next line by a refusal.
+    fn refuse(&mut self, fault: SFault) -> Result<(), Fail> {
+        let mut text = String::new(self.rt.alloc());
+        writeln!(text, "{fault}")?;
+        say(self.rt, text)?;
+        self.line = next_line(self.rt)?;
+        Ok(())
+    }
+}

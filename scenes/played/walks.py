@@ -1,0 +1,81 @@
+"""Walks over the tables of a desk."""
+from formats import KINDS
+from played.bodies import bytes_of
+from played.rows import C1, DOMAIN_A, FORWARD, R1, ROWS, TAKEN_D2, TAKEN_F1, compare, desk_after, desk_of, take, text_of
+from scening.stage import Failed
+
+# More objects than any desk here has.
+AMPLE = 1_000_000
+
+
+def check_walks(desk):
+    """Compares walks over all kinds, and over each alone, with the objects of the tables, in their order."""
+    objects = desk.ask('tables').split('\n')[:-1]
+    for kind in ('all', *KINDS):
+        wanted = [it for it in objects if kind in ('all', it.partition(' ')[0])]
+        desk.check(f'walk {kind} {AMPLE}', text_of([*wanted, f'{len(wanted)} walked']))
+
+
+def arrive(stage, desk, body):
+    """A body arrives, and is held."""
+    stage.write(body, bytes_of(body))
+    answer = desk.ask(f'comes 1 {body}')
+    if ',A1,' not in answer:
+        raise Failed(f'{body}: {answer}')
+
+
+def walks_over_each_row(stage):
+    """Walks over the objects of each row."""
+    for row in ROWS:
+        with desk_after(stage, row) as desk:
+            desk.check('tables', text_of(row.tables))
+            check_walks(desk)
+
+
+def walks_of_many_pages(stage):
+    """Walks of many pages."""
+    with desk_of(stage, ('Many',)) as desk:
+        arrive(stage, desk, 'Many')
+        check_walks(desk)
+        for kind, count in (('host', 256), ('domain', 600)):
+            compare(f'walk over {kind}', f'{count} walked', desk.ask(f'walk {kind} {AMPLE}').split('\n')[-2])
+
+
+def key_of(line):
+    """The kind and the key that a line of an object begins with."""
+    kind, _, key = line.partition(':')[0].partition(' ')
+    return KINDS.index(kind), key.encode()
+
+
+def a_walk_over_two_large_deposits(stage):
+    """A walk over more objects than one deposit may have."""
+    bodies = ('Hosts', 'Domains')
+    with desk_of(stage, bodies) as desk:
+        for body in bodies:
+            arrive(stage, desk, body)
+        *objects, last, _ = desk.ask(f'walk all {AMPLE}').split('\n')
+        compare('the end of the walk', '120001 walked', last)
+        keys = list(map(key_of, objects))
+        if len(keys) != 120_001 or not all(before < key for before, key in zip(keys, keys[1:])):
+            raise Failed(f'{len(keys)} objects, not in the order of their keys')
+
+
+def an_empty_desk(stage):
+    """A desk without objects has nothing to walk over."""
+    with desk_of(stage, FORWARD.listed) as desk:
+        desk.check('tables', '')
+        check_walks(desk)
+
+
+def a_walk_that_stops_early(stage):
+    """A walk that stops early changes nothing."""
+    with desk_of(stage, FORWARD.listed) as desk:
+        take(stage, desk, TAKEN_F1)
+        looks = (('writes', '3\n'), ('tables', text_of([R1, C1, DOMAIN_A])))
+        for line, wanted in (*looks, ('walk all 1', text_of([R1, '1 walked'])), *looks):
+            desk.check(line, wanted)
+        take(stage, desk, TAKEN_D2)
+        check_walks(desk)
+
+
+SCENES = (walks_over_each_row, walks_of_many_pages, a_walk_over_two_large_deposits, an_empty_desk, a_walk_that_stops_early)
