@@ -1,13 +1,13 @@
 #!/usr/bin/env python3
-"""gate.py: runs the gate, and says what it cost.
+"""gate.py [--anew]: runs the gate, and says what it cost.
 
-`rt ci` proves each crate and its tests from nothing and runs the tests and the program, in a copy of the tree without the wrong
-bodies. These are then tried over the libraries that it built, as tools/wrong_bodies.py says: `rt ci` would check a crate once more
-for each of them. What was built is moved to the tree, and the scenes are played on the programs there, as tools/scenes.py says. It
-prints what `rt ci` prints, the verdict on each wrong body and on each scene, a table as in docs/GATE.md, and at last 'N passed, M
-failed', the sums of all three. The table has processor seconds for each crate's proof, tests and wrong bodies, as /proc shows them
-once a second (what lives shorter is in the sum alone); below it stand the whole gate's time, its processor minutes and the most
-memory that was in use beyond that at its start."""
+`rt ci` proves each crate and its tests and runs the tests and the programs, in a copy of the tree without the wrong bodies. What an
+earlier run on this machine proved it keeps, but with --anew it proves all from nothing. The wrong bodies are then tried over the
+libraries that it built, as tools/wrong_bodies.py says: `rt ci` would check a crate once more for each of them. What was built is moved
+to the tree, and the scenes are played on the programs there, as tools/scenes.py says. It prints what `rt ci` prints, the verdict on each
+wrong body and on each scene, a table as in docs/GATE.md, and at last 'N passed, M failed', the sums of all three. The table has
+processor seconds for each crate's proof, tests and wrong bodies, as /proc shows them once a second (what lives shorter is in the sum
+alone); below it stand the whole gate's time, its processor minutes and the most memory that was in use beyond that at its start."""
 import os, re, resource, shutil, subprocess, sys, tempfile, threading, time
 
 from crates import TOP, libraries
@@ -177,7 +177,7 @@ def proved(tree, bodies):
             if done[3] == 'is kept':
                 # Of tests that are kept nothing is said. Where they are not, one task more runs than is counted.
                 bodies.note(done[1], 'tests', True)
-    return counted(['rt', 'ci'], tree, take_note)
+    return counted(['rt', 'ci', *sys.argv[1:]], tree, take_note)
 
 
 def moved(tree):
@@ -199,6 +199,8 @@ def played(missing):
 
 
 def main():
+    if sys.argv[1:] not in ([], ['--anew']):
+        sys.exit(f'gate.py takes --anew alone: {" ".join(sys.argv[1:])}')
     watch, lanes = Watch(), int(os.environ.get('RT_JOBS') or os.cpu_count() or 1)
     with tempfile.TemporaryDirectory(prefix='gate-') as tree:
         # `rt ci` runs programs as another user, who must be able to come this far.

@@ -7,10 +7,10 @@ from played.model import begin, fault_of, latest_chain, parked_lines, state, tak
 from played.universe import (Amendment, Arrival, Chance, Closing, History, Moment, draw_arrival, draw_bodies, draw_event, draw_first,
                              draw_history, draw_rows, event_text, manifest_text, moment_text)
 from scening.harness import Harness
-from scening.stage import Failed, difference
+from scening.stage import Failed
 
-# How many lists a scene plays: those of this many seeds.
-LISTS = 12
+# How many lists a scene plays, each of a seed.
+LISTS = 25
 # How many events a list has that is played one by one, that is played in one call, or that follows a migration.
 EVENTS, RUN_EVENTS, LATER_EVENTS = 18, 24, 16
 
@@ -47,40 +47,35 @@ def draw_migrated(seed, closes):
 
 # ---- desks that play them
 
-class Play:
-    """A desk that plays a list. What happened so far is kept, so that a failure shows it."""
+def text_of(lines):
+    return ''.join(f'{it}\n' for it in lines)
 
-    def __init__(self, stage, desk, seed, history):
-        self.stage, self.desk, self.book = stage, desk, begin(history)
-        self.told = f'the list of seed {seed}, which begins with {manifest_text(history.first)}' + ''.join(map(event_text, history.early))
+
+class Play:
+    """A desk that plays a list, and the model's book. The events are noted, so that a failure shows the list."""
+
+    def __init__(self, stage, desk, history, told):
+        self.stage, self.desk, self.book, self.told = stage, desk, begin(history), told
         for body in history.bodies:
             stage.write(f'body{body.index}', body.bytes)
-
-    def check(self, line, wanted):
-        """Compares the answer to a line with the one that is wanted, by the model."""
-        try:
-            came = self.desk.ask(line)
-        except Failed as failure:
-            came = f'{failure}\n'
-        if found := difference(f'> {line}\nthe answer', wanted, came.encode()):
-            raise Failed(self.told + '\n'.join(found))
-
-    def check_state(self):
-        for question, lines in state(self.book).items():
-            self.check(question, ''.join(f'{it}\n' for it in lines))
 
     def start(self, history):
         """Opens a desk over a new store of the first rows, or over one of version 1, which is migrated."""
         if history.early:
             self.stage.write('first.sql', first_store(self.book).encode())
-            self.check('script first.sql', '')
-            self.check('migrate', 'migrated\n')
+            self.desk.check('script first.sql', '')
+            self.desk.check('migrate', 'migrated\n')
         else:
             self.stage.write('first.csv', manifest_text(history.first).encode())
-            self.check('create first.csv', 'created\n')
+            self.desk.check('create first.csv', 'created\n')
+
+    def check_state(self):
+        for question, lines in state(self.book).items():
+            self.desk.check(question, text_of(lines))
 
     def line_of(self, at, event):
-        """The line by which a desk is told of an event."""
+        """Notes an event, and gives the line by which the desk is told of it."""
+        self.told.append(event_text(event))
         match event:
             case Arrival(number, body):
                 return f'comes n{number} body{body.index}'
@@ -89,45 +84,40 @@ class Play:
                 return f'amend rows{at}.csv'
             case Moment(half):
                 return f'as-of {moment_text(half)}'
-        raise TypeError(event)
-
-    def close(self):
-        self.check_state()
-        self.check('close', '')
-        self.check('open', 'opened\n')
-        self.check_state()
+        return 'close'
 
     def take(self, event):
-        """What the model says of an event: the answer, and the work if it is taken in."""
+        """The model's answer to an event, and the work if it is taken in."""
         answer, new = take(self.book, event)
         done = work(latest_chain(self.book), latest_chain(new)) if new else None
         self.book = new or self.book
         return answer, done
 
-    def do(self, at, event):
+    def close(self, line):
+        self.check_state()
+        self.desk.check(line, '')
+        self.desk.check('open', 'opened\n')
+        self.check_state()
+
+    def do(self, line, event):
         answer, done = self.take(event)
-        self.check(self.line_of(at, event), f'{answer}; {work_text(done)}\n' if done else f'{answer}\n')
-        self.check('parked', ''.join(f'{it}\n' for it in parked_lines(self.book)))
+        self.desk.check(line, f'{answer}; {work_text(done)}\n' if done else f'{answer}\n')
+        self.desk.check('parked', text_of(parked_lines(self.book)))
 
     def one_by_one(self, events):
         for at, event in enumerate(events):
-            self.told += event_text(event)
+            line = self.line_of(at, event)
             if isinstance(event, Closing):
-                self.close()
+                self.close(line)
             else:
-                self.do(at, event)
+                self.do(line, event)
         self.check_state()
 
     def in_one_call(self, events):
-        lines, wanted, writes = [f'run {len(events)}'], '', 0
-        for at, event in enumerate(events):
-            self.told += event_text(event)
-            lines.append(self.line_of(at, event))
-            answer, done = self.take(event)
-            wanted += f'{answer}\n'
-            writes += done.writes if done else 0
-        self.check('\n'.join(lines), wanted)
-        self.check('writes', f'{writes}\n')
+        lines = [self.line_of(at, event) for at, event in enumerate(events)]
+        taken = [self.take(event) for event in events]
+        self.desk.check(f'run {len(events)}', text_of(answer for answer, _ in taken), *lines)
+        self.desk.check('writes', text_of([sum(done.writes for _, done in taken if done)]))
         self.check_state()
 
 
@@ -135,10 +125,14 @@ def play_all(stage, first, draw, play):
     """Plays the lists of some seeds, each over a desk of its own."""
     for seed in range(first, first + LISTS):
         history = draw(seed)
-        with Harness(stage) as desk:
-            it = Play(stage, desk, seed, history)
-            it.start(history)
-            play(it, history.events)
+        told = [f'the list of seed {seed}, which begins with {manifest_text(history.first)}', *map(event_text, history.early)]
+        try:
+            with Harness(stage) as desk:
+                it = Play(stage, desk, history, told)
+                it.start(history)
+                play(it, history.events)
+        except Failed as failure:
+            raise Failed(f'{"".join(told)}{failure}') from None
 
 
 def play_lists(stage, first):

@@ -1,4 +1,4 @@
-"""What desks over files that fail are told, and what they must answer: for the modules stops.py and faults.py."""
+"""What desks over files that fail are told, and what they must answer: for the modules whose files fail, and those that ask over HTTP."""
 import re
 
 from scening.stage import Failed, difference
