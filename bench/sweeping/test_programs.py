@@ -11,9 +11,9 @@ OUT_OF_MEMORY = re.compile(r'out of memory|AllocError|AllocFailed|NoMemory|OutOf
 HARNESS = 'desk_harness'
 # Its files are in memory. Where memory is refused to a file it is a disk that fails: S1, or the database's name for it.
 OVER_FILES_IN_MEMORY = re.compile(OUT_OF_MEMORY.pattern + r'|S1|SystemIoFailure')
-REFUSALS = ('S1', 'S2')
-# How a response that is one ends, in hexadecimal digits.
-REFUSED_RESPONSES = tuple(f'{it}\n'.encode().hex() + '\n' for it in REFUSALS)
+REFUSALS = ('S1', 'S2', 'out of memory')
+# How a response that is a refusal ends, in hexadecimal digits.
+REFUSED_RESPONSES = tuple(f'{it}\n'.encode().hex() + '\n' for it in ('S1', 'S2'))
 # What it is told. The bodies and manifests are those of tools/scening.
 TOLD = (
     'create first.csv', 'comes 1 F1', 'comes 2 D2', 'comes 3 Abc', 'amend second.csv', 'comes 4 D3', 'as-of 2024-03-04T12:00:00Z',
