@@ -14,15 +14,15 @@ OVER_FILES_IN_MEMORY = re.compile(OUT_OF_MEMORY.pattern + r'|S1|SystemIoFailure'
 REFUSALS = ('S1', 'S2', 'out of memory')
 # How a response that is a refusal ends, in hexadecimal digits.
 REFUSED_RESPONSES = tuple(f'{it}\n'.encode().hex() + '\n' for it in ('S1', 'S2'))
-# What it is told. The bodies and manifests are those of tools/scening.
+# What it is told. The bodies are the worked ones of the scenes.
 TOLD = (
     'create first.csv', 'comes 1 F1', 'comes 2 D2', 'comes 3 Abc', 'amend second.csv', 'comes 4 D3', 'as-of 2024-03-04T12:00:00Z',
     'comes 5 D2Resent', 'as-of latest', 'comes 4 D3', 'status', 'end', 'moment', 'parked', 'receipts', 'held', 'tables', 'walk all 9',
     'walk domain 1', 'request get', 'request put', 'chain', 'close', 'query SELECT pos, kind, key FROM undo ORDER BY pos, kind, key',
     'crash synced', 'open', 'run 2', 'comes 6 Empty', 'as-of 2024-03-03T00:00:00Z', 'arrivals 1', 'comes 7 F5', 'reopen', 'open',
     'receipts', 'held', 'tables')
-# How many answers those have: a run has one for all its events.
-COUNT = 33
+# How many answers those have: the three events of its two runs have none of their own.
+COUNT = len(TOLD) - 3
 REQUESTS = {'get': 'GET /receipts HTTP/1.1\r\n\r\n', 'put': 'PUT /arrivals/8 HTTP/1.1\r\nContent-Length: 3\r\n\r\nabc'}
 
 
