@@ -16,7 +16,7 @@ from wrong_bodies import edits_of, tried
 TICK = os.sysconf('SC_CLK_TCK')
 PARTS = ('proof', 'tests', 'edits')
 # The programs on which the scenes are played, as `rt ci` builds them.
-PROGRAMS = tuple(f'crates/{it}/out/{it}' for it in ('restore', 'desk_harness'))
+PROGRAMS = tuple(f'crates/{it}/out/{it}' for it in ('restore', 'desk_harness', 'pack'))
 
 
 def memory_in_use():

@@ -1,6 +1,6 @@
 #!/usr/bin/env python3
-"""tools/scenes.py RESTORE HARNESS [NAME ..]: plays the scenes of scenes/ on the programs restore and desk_harness that were built, or
-those whose file or title has one of these names.
+"""tools/scenes.py RESTORE HARNESS PACK [NAME ..]: plays the scenes of scenes/ on the programs restore, desk_harness and pack that were
+built, or those whose file or title has one of these names.
 
 A scene is a folder of files, and command lines with the status, the standard output and the standard error that they must give, or
 lines that desk_harness is told with the answer to each. It is written in a transcript, scenes/FILE.scene (tools/scening/transcripts.py
@@ -8,18 +8,21 @@ has the form), or, where code is needed, as a function in scenes/played/FILE.py.
 for each processor. Each that ends otherwise is printed as FAILED, with the first line that did, what was wanted and what came. The last
 line is `N passed, M failed`; the status is 0 where M is 0."""
 import multiprocessing, os, sqlite3, sys, textwrap
-from dataclasses import dataclass
+from dataclasses import astuple, dataclass
 from typing import Callable
 
 from crates import TOP
 
 sys.path += [f'{TOP}/bench', f'{TOP}/scenes']
-from played import amendments, crowds, faults, lists, requests, routes, rows, sockets, stops, streams, walks
+from played import (
+    amendments, bundles, chains, changes, crowds, deposits, envelopes, faults, findings, lists, manifests, packs, requests, routes, rows,
+    sockets, stops, streams, waits, walks, words)
 from scening.stage import Failed, Programs, Stage
 from scening.transcripts import Misread, read_transcripts
 
 # The modules that have scenes.
-PLAYED = (faults, stops, sockets, streams, rows, walks, crowds, requests, routes, amendments, lists)
+PLAYED = (faults, stops, deposits, sockets, streams, rows, walks, crowds, requests, routes, amendments, lists, bundles, envelopes,
+          manifests, words, packs, chains, findings, changes, waits)
 
 
 @dataclass(frozen=True)
@@ -85,10 +88,10 @@ def count_passed(scenes, programs):
 
 
 def main():
-    if len(sys.argv) < 3:
+    if len(sys.argv) < 4:
         sys.exit(__doc__)
-    programs, names = Programs(*map(os.path.abspath, sys.argv[1:3])), sys.argv[3:]
-    for program in (programs.restore, programs.harness):
+    programs, names = Programs(*map(os.path.abspath, sys.argv[1:4])), sys.argv[4:]
+    for program in astuple(programs):
         if not os.access(program, os.X_OK):
             sys.exit(f'scenes: there is no program {program}')
     scenes = all_scenes()

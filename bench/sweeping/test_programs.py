@@ -20,9 +20,12 @@ TOLD = (
     'comes 5 D2Resent', 'as-of latest', 'comes 4 D3', 'status', 'end', 'moment', 'parked', 'receipts', 'held', 'tables', 'walk all 9',
     'walk domain 1', 'request get', 'request put', 'chain', 'close', 'query SELECT pos, kind, key FROM undo ORDER BY pos, kind, key',
     'crash synced', 'open', 'run 2', 'comes 6 Empty', 'as-of 2024-03-03T00:00:00Z', 'arrivals 1', 'comes 7 F5', 'reopen', 'open',
-    'receipts', 'held', 'tables')
-# How many answers those have: the three events of its two runs have none of their own.
-COUNT = len(TOLD) - 3
+    'receipts', 'held', 'tables', 'slow get 10 9', 'taken get 10 200', 'store change 13', 'record 9 7 5 0', 'park 9 nine', 'unpark 8',
+    'moment 7', 'chain 1 1', 'put domain x.example one', 'get domain x.example', 'put-all 9 any 33 two', 'image 9 domain y.example one',
+    'images 9', 'remove domain x.example', 'hold 4 body', 'commit', 'store change 1', 'clear', 'store list f5.csv', 'store listed',
+    'store body 4', 'store parked 9', 'store receipt 9 7', 'store unlisted', 'store chain', 'status', 'close', 'kind')
+# How many answers those have: the three events of its two runs and the 14 parts of its two changes have none of their own.
+COUNT = len(TOLD) - 17
 REQUESTS = {'get': 'GET /receipts HTTP/1.1\r\n\r\n', 'put': 'PUT /arrivals/8 HTTP/1.1\r\nContent-Length: 3\r\n\r\nabc'}
 
 
@@ -32,7 +35,7 @@ def put_files(folder):
         with open(os.path.join(folder, name), 'xb') as file:
             file.write(bytes_of(name))
     texts = {'first.csv': manifest_text(['F1', 'D3', 'D2Resent']), 'second.csv': manifest_text(['F1', 'D2']),
-             'told': ''.join(f'{it}\n' for it in TOLD), **REQUESTS}
+             'f5.csv': manifest_text(['F5', 'F1']), 'told': ''.join(f'{it}\n' for it in TOLD), **REQUESTS}
     for name, text in texts.items():
         with open(os.path.join(folder, name), 'x', newline='') as file:
             file.write(text)

@@ -11,6 +11,7 @@ from dataclasses import dataclass, field
 from played.stories import NOON, TABLES, check, put_files, put_first_store, query, run, run_line
 from scening.harness import Harness
 from scening.stage import Failed, Stage, difference
+from scening.steps import Bodies
 
 # More calls than there are.
 MOST_CALLS = 5_000
@@ -33,6 +34,10 @@ class List:
 # moment is taken back.
 WORKED = List((), 'create first.csv', 'created\n', (
     'comes 1 F1', 'comes 2 D2', 'comes 3 Abc', 'amend second.csv', 'comes 4 D3', f'as-of {NOON}', 'comes 5 D2Resent', 'as-of latest'))
+# Moves of the chain: two steps of one key back and two forward, of which one deletes a key; all is cleared, and made again; and all is
+# cleared, and a first step made of four objects.
+MOVED = List((), 'create moved.csv', 'created\n', (
+    'comes 1 F1', 'comes 2 D2', 'comes 3 D3', 'comes 4 D2Resent', 'as-of 2024-03-01T00:00:00Z', 'as-of latest', 'comes 5 F5'))
 # Version 1 listed F1, took it as number 1, and answered A2 to D2 and `abc`. Of these `abc` comes again before its row, and D2 after it.
 LOST = (('2', 'D2'), ('3', 'Abc'))
 AGAIN = ('comes 3 Abc', 'amend third.csv', 'comes 4 D3', 'comes 2 D2')
@@ -207,7 +212,9 @@ def check_call(phase, others, calls):
 
 def check_calls(stage, phase, reopened):
     """Each call, up to a run of which none fails. After so many of them the files have to be opened again."""
-    put_files(stage, first=('F1', 'D3', 'D2Resent'), second=('F1', 'D2'), third=('F1', 'D2', 'D3'))
+    put_files(stage, first=('F1', 'D3', 'D2Resent'), second=('F1', 'D2'), third=('F1', 'D2', 'D3'),
+              moved=('F1', 'D2', 'D3', 'D2Resent', 'F5'))
+    Bodies(('F5',)).do(stage)
     put_first_store(stage, LOST)
     count, others = 0, Undisturbed(stage, phase)
     for calls in range(MOST_CALLS):
@@ -242,6 +249,17 @@ def a_list_again_and_the_log(stage):
 def a_list_again_and_the_database_file(stage):
     """Each call of the database file fails once, while a store is opened and takes its list again."""
     check_calls(stage, Phase(WORKED, 'database', NO_LOG, is_again=True), 2)
+
+
+# Each of the seven events is a commit.
+def moves_and_the_log(stage):
+    """Each call of the log fails once, while the chain is moved back and forward, and cleared."""
+    check_calls(stage, Phase(MOVED, 'log', PLENTY), 21)
+
+
+def moves_and_the_database_file(stage):
+    """Each call of the database file fails once, while the chain is moved back and forward, and cleared."""
+    check_calls(stage, Phase(MOVED, 'database', NO_LOG), 7)
 
 
 # Each of the four events is a commit. Where the migration is open, that is found as the store is made.
@@ -279,5 +297,6 @@ def a_closed_list_again_and_the_log(stage):
 
 SCENES = (
     a_list_and_the_log, a_list_and_the_database_file, a_list_again_and_the_log, a_list_again_and_the_database_file,
+    moves_and_the_log, moves_and_the_database_file,
     a_migrated_list_and_the_log, a_migrated_list_and_the_database_file, a_migrated_list_again_and_the_log, a_closed_list_and_the_log,
     a_closed_list_and_the_database_file, a_closed_list_again_and_the_log)

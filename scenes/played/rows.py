@@ -66,6 +66,7 @@ def step_of(at, name):
 
 R1 = 'registrar R1: registrar id=R1'
 C1 = 'contact C1: contact id=C1 clID=R1'
+HOST_E = 'host ns1.e.example: host name=ns1.e.example clID=R1'
 DOMAIN_A = 'domain a.example: domain name=a.example clID=R1 registrant=C1'
 DOMAIN_B = 'domain b.example: domain name=b.example clID=R1 registrant=C1'
 DOMAIN_C = 'domain c.example: domain name=c.example clID=R1 registrant=C1'
@@ -108,6 +109,7 @@ ROWS = (
     Row('an Incremental',
         (TAKEN_F1, TAKEN_D2, TAKEN_D3, Taken('4', 'I4', '4,4,A1,,I4,0,new,0', (False, 2, 1, 3))),
         (0, 1, 2, 3), (0, 3), (R1, C1, DOMAIN_A, DOMAIN_D)),
+    Row('a Full and a blocked Differential', (TAKEN_F1, Taken('3', 'D3', '2,3,A1,,D3,0,new,0')), (0, 2), (0,), (R1, C1, DOMAIN_A)),
     Row('a blocked Differential',
         (TAKEN_F1, TAKEN_D2, Taken('3', 'D6', '3,3,A1,,D6,0,new,0')),
         (0, 1, 5), (0, 1), (R1, C1, DOMAIN_A, DOMAIN_B)),
@@ -137,6 +139,7 @@ ROWS = (
          Taken('2', 'D2', '3,2,A1,,D2,0,new,0')),
         (0, 1, 2), (2,), (R1, C1, DOMAIN_Z),
         ('F1', 'D2', 'F2')),
+    Row('a later Full', (Taken('1', 'F5', '1,1,A1,,F5,0,new,0', (False, 0, 1, 4)),), (4,), (4,), (R1, C1, HOST_E, DOMAIN_E)),
     COUNTED,
     Row('bodies that are no bundle',
         (Taken('n1', 'Empty', '1,n1,A3,U1,E0,0,,'), Taken('n2', 'Cut', '2,n2,A3,U1,F1,0,,'), Taken('n3', 'Long', '3,n3,A3,U4,F5,0,,'),

@@ -1,5 +1,5 @@
 """The desk on a socket."""
-import contextlib, socket
+import contextlib, socket, struct
 
 from played.outputs import check_narrow
 from scening.stage import SECONDS, Failed, Got, Wanted, difference, pieces_of
@@ -68,26 +68,40 @@ def call(port, request):
     return client
 
 
-def served(stage, store, requests):
-    """Serves requests from a store, and gives the responses. All requests are sent before a response is read."""
-    port = free_port()
-    line, listening = f'serve --store {store} --port {port} --count {len(requests)}', f'listening {HOST}:{port}\n'
-    child = stage.begin(line.split())
-    said = first_line(child)
+def response_of(client):
+    """What comes over a connection until its end."""
+    return b''.join(iter(lambda: client.recv(65_536), b''))
+
+
+def responses_of(port, requests):
+    """The responses to requests. All requests are sent before a response is read."""
     with contextlib.ExitStack() as calls:
-        clients = [calls.enter_context(call(port, it)) for it in requests if said == listening.encode()]
-        responses = [b''.join(iter(lambda: client.recv(65_536), b'')) for client in clients]
+        clients = [calls.enter_context(call(port, it)) for it in requests]
+        return list(map(response_of, clients))
+
+
+def served(stage, store, count, ask, told='', **streams):
+    """Serves so many connections from a store, and gives the responses, which are asked for at a port. Compares what is told of them."""
+    port = free_port()
+    line, listening = f'serve --store {store} --port {port} --count {count}', f'listening {HOST}:{port}\n'
+    child = stage.begin(line.split(), **streams)
+    said = first_line(child)
+    responses = ask(port) if said == listening.encode() else []
     got = stage.end(child)
-    stage.compare(line, Wanted(0, listening), Got(got.status, said + got.out, got.err))
+    stage.compare(line, Wanted(0, listening, told), Got(got.status, said + got.out, got.err))
     return responses
+
+
+def compare_responses(exchanges, responses):
+    for (request, wanted), got in zip(exchanges, responses, strict=True):
+        if found := difference(f'the response to {request[:60]!r}', wanted, got):
+            raise Failed('\n'.join(found))
 
 
 def check_responses(stage, store, exchanges):
     """Serves requests from a store, and compares the responses."""
-    responses = served(stage, store, [request for request, _ in exchanges])
-    for (request, wanted), got in zip(exchanges, responses, strict=True):
-        if found := difference(f'the response to {request[:60]!r}', wanted, got):
-            raise Failed('\n'.join(found))
+    requests = [request for request, _ in exchanges]
+    compare_responses(exchanges, served(stage, store, len(requests), lambda port: responses_of(port, requests)))
 
 
 def set_up(stage):
@@ -112,6 +126,39 @@ def unwanted_body(stage):
     check_responses(stage, 'a.db', [(head.ljust(9_000, 'x'), NOT_FOUND)])
 
 
+# Requests whose connections break: in the middle of the body, and before the response.
+BROKEN = (put('n1', 4, 'abc'), get('/status'))
+# What is asked for around them, and the response: nothing has arrived.
+AROUND = (get('/receipts'), response('200 OK', 'text/csv', 52, 'receipt,number,verdict,fault,id,resend,copy,orphans\n'))
+
+
+def break_call(port, request):
+    """Sends a request over a connection of its own, and breaks that."""
+    with socket.create_connection((HOST, port), SECONDS) as client:
+        client.sendall(request.encode())
+        client.setsockopt(socket.SOL_SOCKET, socket.SO_LINGER, struct.pack('ii', 1, 0))
+
+
+def responses_around_broken(port):
+    """The responses to the first request and to the last one. The connections between these break while the first one is waited for."""
+    with socket.create_connection((HOST, port), SECONDS) as first:
+        for request in BROKEN:
+            break_call(port, request)
+        first.sendall(AROUND[0].encode())
+        first.shutdown(socket.SHUT_WR)
+        return [response_of(first), *responses_of(port, AROUND[:1])]
+
+
+def broken_connections(stage):
+    """Connections that break are told, and the next ones are served.
+
+    If standard error fails, too, nothing is told."""
+    set_up(stage)
+    with open('/dev/full', 'wb') as full:
+        for told, streams in (('read fault\nwrite fault\n', {}), ('', {'err': full})):
+            compare_responses((AROUND, AROUND), served(stage, 'a.db', 4, responses_around_broken, told, **streams))
+
+
 def taken_port(stage):
     """A port that is taken."""
     set_up(stage)
@@ -124,4 +171,4 @@ def taken_port(stage):
     check_narrow(stage, f'serve --store a.db --port {free_port()} --count 1', 9, Wanted(3, 'listening', 'E1 -\n'))
 
 
-SCENES = (connections, unwanted_body, taken_port)
+SCENES = (connections, unwanted_body, broken_connections, taken_port)

@@ -1,5 +1,5 @@
-"""Where a scene plays: an empty folder, the program that runs in it, and what a run must give."""
-import difflib, os, select, subprocess, tempfile
+"""Where a scene plays: an empty folder, the programs that run in it, and what a run must give."""
+import contextlib, difflib, os, select, subprocess, tempfile
 from dataclasses import dataclass
 
 # How long a run may take.
@@ -10,6 +10,15 @@ SHOWN = 16
 
 class Failed(Exception):
     """What happened in a scene isn't what must happen."""
+
+
+@contextlib.contextmanager
+def case(name):
+    """In a `with` statement of it, what fails is told with the name of a case."""
+    try:
+        yield
+    except Failed as failure:
+        raise Failed(f'{name}: {failure}') from None
 
 
 @dataclass(frozen=True)
@@ -66,6 +75,7 @@ class Programs:
     """Where the programs are that were built."""
     restore: str
     harness: str
+    pack: str
 
 
 class Stage:
@@ -91,10 +101,10 @@ class Stage:
         with open(self.at(path), 'wb') as file:
             file.write(content)
 
-    def begin(self, words, out=subprocess.PIPE, err=subprocess.PIPE, prepare=None):
-        """Starts `restore`. The child becomes the program after it has prepared itself."""
-        self.children.append(subprocess.Popen([self.programs.restore, *words], cwd=self.room.name, stdin=subprocess.DEVNULL, stdout=out,
-                                              stderr=err, bufsize=0, preexec_fn=prepare))
+    def begin(self, words, program='restore', out=subprocess.PIPE, err=subprocess.PIPE, prepare=None):
+        """Starts `restore`, or another program. The child becomes the program after it has prepared itself."""
+        self.children.append(subprocess.Popen([getattr(self.programs, program), *words], cwd=self.room.name, stdin=subprocess.DEVNULL,
+                                              stdout=out, stderr=err, bufsize=0, preexec_fn=prepare))
         return self.children[-1]
 
     def end(self, child):
@@ -102,13 +112,14 @@ class Stage:
         try:
             out, err = child.communicate(timeout=SECONDS)
         except subprocess.TimeoutExpired:
-            raise Failed(f'$ restore {" ".join(child.args[1:])}\nit has not ended after {SECONDS} seconds') from None
+            line = ' '.join([os.path.basename(child.args[0]), *child.args[1:]])
+            raise Failed(f'$ {line}\nit has not ended after {SECONDS} seconds') from None
         return Got(child.returncode, out or b'', err or b'')
 
-    def compare(self, line, wanted, got):
+    def compare(self, line, wanted, got, program='restore'):
         if found := faults(wanted, got):
-            raise Failed('\n'.join([f'$ restore {line}', *found]))
+            raise Failed('\n'.join([f'$ {program} {line}', *found]))
 
-    def check(self, line, wanted, words=None, **streams):
-        """Runs the program on the words of a line, and compares what it gives."""
-        self.compare(line, wanted, self.end(self.begin(line.split() if words is None else words, **streams)))
+    def check(self, line, wanted, words=None, program='restore', **streams):
+        """Runs a program on the words of a line, and compares what it gives."""
+        self.compare(line, wanted, self.end(self.begin(line.split() if words is None else words, program, **streams)), program)

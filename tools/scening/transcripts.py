@@ -15,13 +15,13 @@
     first-store PATH = FILE N:BODY ..
                                     writes the statements that make a store of version 1: of a manifest that is in the folder, with
                                     worked bodies that it took under their numbers
-    $ restore WORDS                 runs restore. Up to an empty line there follow the lines of standard output, and
+    $ restore WORDS, $ pack WORDS   runs restore, or pack. Up to an empty line there follow the lines of standard output, and
     ~ TEXT                          .. in their place: what standard output must have somewhere
     ! TEXT                          .. a line of standard error; `! ...` is any text, but some
     ? STATUS                        .. the status, if it isn't 0
     $ desk_harness                  runs desk_harness. Up to an empty line there follow
-    > LINE                          .. what it is told, with the lines of its answer below. Below `run N` or `arrivals N` are N lines
-                                    that it is told, and then the lines of the one answer
+    > LINE                          .. what it is told, with the lines of its answer below. Below `run N`, `arrivals N` or `store
+                                    change N` are N lines that it is told, and then the lines of the one answer
 
 A word or a text in quotes is a JSON string: the empty word is "". A line of standard output or of an answer that is empty, or begins
 like a line of another kind, has a backslash before it; so has a line of standard error after its mark."""
@@ -34,9 +34,10 @@ from scening.stage import Failed, Wanted
 from scening.steps import FILES, Bodies, Copy, FirstScript, FirstStore, Folder, Link, Manifest, Parked, Statements, Text, Zeros
 
 WORD = re.compile(r' *("(?:[^"\\]|\\.)*"|[^\s"]\S*)(?= |$)')
-# The marks below a run of restore, the one below a run of desk_harness, and what stands before a text that begins with a character of
-# the format.
-MARKS, TOLD, ESCAPE = '~!?', '> ', '\\'
+# The programs that are run on words, and the marks below a run of them.
+RUN, MARKS = ('restore', 'pack'), '~!?'
+# The mark below a run of desk_harness, and what stands before a text that begins with a character of the format.
+TOLD, ESCAPE = '> ', '\\'
 
 
 class Misread(Exception):
@@ -45,15 +46,16 @@ class Misread(Exception):
 
 @dataclass(frozen=True)
 class Command:
-    """A run of restore, and what it must give."""
+    """A run of a program on words, and what it must give."""
     place: str
+    program: str
     line: str
     words: list
     wanted: Wanted
 
     def do(self, stage):
         try:
-            stage.check(self.line, self.wanted, self.words)
+            stage.check(self.line, self.wanted, self.words, self.program)
         except Failed as failure:
             raise Failed(f'{self.place}: {failure}') from None
 
@@ -67,7 +69,7 @@ class Exchange:
 
     def is_told(self):
         """Whether all events are there."""
-        run = re.fullmatch('(run|arrivals) ([0-9]+)', self.told[0])
+        run = re.fullmatch('(run|arrivals|store change) ([0-9]+)', self.told[0])
         return len(self.told) == 1 + (int(run[2]) if run else 0)
 
 
@@ -231,10 +233,10 @@ def run_of(lines):
     (place, line), *below = lines
     if line == '$ desk_harness':
         return Talk(exchanges_of(below))
-    if line != '$ restore' and not line.startswith('$ restore '):
+    program, _, words = line.removeprefix('$ ').partition(' ')
+    if not line.startswith('$ ') or program not in RUN:
         raise Misread(f'this is no run of a program: {line}')
-    words = line.removeprefix('$ restore').removeprefix(' ')
-    return Command(place, words, list(map(plain, words_of(words))), wanted_of([it for _, it in below]))
+    return Command(place, program, words, list(map(plain, words_of(words))), wanted_of([it for _, it in below]))
 
 
 class Reader:

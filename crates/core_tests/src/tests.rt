@@ -1,6 +1,11 @@
-//! The tests, a module for each library, and how they compare.
+//! The tests, a module for each library or type, and how they compare.
 
-mod apply;
 mod asserts;
-mod chain;
-mod check;
+mod bundles;
+mod envelopes;
+mod lines;
+mod packing;
+mod pairs;
+mod record;
+mod shown;
+mod words;

@@ -1,10 +1,14 @@
 //! What is asked of a database where no desk is open.
 
 use crate::desks::Place;
+use crate::shown::tell_bytes;
 use crate::streams::split;
 use esc_desk::{Desk, SFault};
 use esc_kept::{new_desk, open_desk};
 use esc_manifest::read_manifest;
+use esc_rows::create::build;
+use esc_rows::info::find_version;
+use esc_rows::open::{has_tables, is_unused};
 use esc_store::Store;
 use sqlite::types::ValueRef;
 use sqlite::{Alter, Connection, Error, Row};
@@ -25,7 +29,7 @@ pub fn answer_of_database<S: Alter + Drop>(
         "create" => create(rt, text, connection, rest),
         "open" => opened(text, open_desk(rt.alloc(), connection), "opened"),
         "migrate" => opened(text, migrate(rt.alloc(), connection), "migrated"),
-        "sql" | "script" | "query" => ran(rt, text, connection, word, rest),
+        "sql" | "script" | "query" | "kind" | "build" => ran(rt, text, connection, word, rest),
         _ => {
             text.push_str("no desk\n")?;
             Ok(Place::Database(connection))
@@ -90,6 +94,8 @@ fn ran<S: Alter + Drop>(
     match word {
         "sql" => writeln!(text, "{} changed", execute(&mut connection, rest)?)?,
         "script" => run_script(rt, &mut connection, rest)?,
+        "kind" => tell_kind(text, &mut connection)?,
+        "build" => tell_build(text, &mut connection)?,
         _ => tell_rows(text, query(&mut connection, rest)?.as_slice())?,
     }
     Ok(Place::Database(connection))
@@ -109,6 +115,51 @@ fn run_script<S: Alter + Drop>(
     Ok(())
 }
 
+// Whether a database is unused, and whether it has the tables of a store.
+fn kind_of<S: Alter + Drop>(connection: &Connection<S>) -> (bool, bool) {
+    (is_unused(connection), has_tables(connection))
+}
+
+fn version_of<S: Alter + Drop>(connection: &mut Connection<S>) -> Result<Option<i64>, Error> {
+    find_version(connection)
+}
+
+fn tell_version(text: &mut String, version: Option<i64>) -> Result<(), Fail> {
+    match version {
+        Some(version) => writeln!(text, "a store of version {version}")?,
+        None => text.push_str("a store of no version\n")?,
+    }
+    Ok(())
+}
+
+fn tell_kind<S: Alter + Drop>(
+    text: &mut String,
+    connection: &mut Connection<S>,
+) -> Result<(), Fail> {
+    match kind_of(connection) {
+        (true, false) => Ok(text.push_str("unused\n")?),
+        (false, false) => Ok(text.push_str("other tables\n")?),
+        (true, true) => Ok(text.push_str("unused, with tables\n")?),
+        (false, true) => tell_version(text, version_of(connection)?),
+    }
+}
+
+fn build_here<S: Alter + Drop>(connection: &mut Connection<S>) -> Result<(), Error> {
+    build(connection, &[])
+}
+
+// Makes the tables of a store, where no transaction was begun.
+fn tell_build<S: Alter + Drop>(
+    text: &mut String,
+    connection: &mut Connection<S>,
+) -> Result<(), Fail> {
+    match build_here(connection) {
+        Ok(()) => text.push_str("built\n")?,
+        Err(error) => writeln!(text, "{error:?}")?,
+    }
+    Ok(())
+}
+
 fn query<S: Alter + Drop>(connection: &mut Connection<S>, sql: &str) -> Result<Vec<Row>, Error> {
     connection.query_all(sql, &[])
 }
@@ -120,9 +171,7 @@ fn tell_value(text: &mut String, value: ValueRef<'_>) -> Result<(), Fail> {
         ValueRef::Text(bytes) => text.push_str(str::from_utf8(bytes)?)?,
         ValueRef::Blob(bytes) => {
             text.push_str("x")?;
-            for byte in bytes {
-                write!(text, "{byte:02x}")?;
-            }
+            tell_bytes(text, bytes)?;
         }
         ValueRef::Real(_) => return Err(Fail::new("a store has no such value")),
     }

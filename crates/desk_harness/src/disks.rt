@@ -208,11 +208,11 @@ pub fn options(room: Room) -> Options {
 }
 
 /// A connection, or the refusal and the files.
-pub fn connect(
+pub fn connect<D: Disk + Drop>(
     alloc: Global,
-    files: Files<File>,
+    files: Files<D>,
     room: Room,
-) -> Result<Connection<FileStore<File>>, (SFault, Files<File>)> {
+) -> Result<Connection<FileStore<D>>, (SFault, Files<D>)> {
     if !files.may_be_used() {
         return Err((SFault::S1, files));
     }

@@ -1,11 +1,13 @@
 //! Events at a desk, one by one.
 
 use crate::desks::Place;
-use crate::looks::{look, tell_chain};
+use crate::looks::look;
 use crate::requests::request;
 use crate::runs::{run, run_arrivals};
 use crate::shown::{tell_reply, tell_work};
+use crate::stores::answer_of_store;
 use crate::streams::split;
+use crate::waits::wait;
 use esc_apply::Work;
 use esc_desk::{AmendFault, Desk, Number, Reply, SFault, number};
 use esc_envelope::watermark;
@@ -25,7 +27,8 @@ pub fn answer_of_desk<S: Alter + Drop>(
     let (word, rest) = split(line);
     match word {
         "close" => return Ok(Place::Database(desk.into_store().into_connection())),
-        "chain" => return chain(rt.alloc(), text, desk),
+        "chain" => return told_of_store(rt, text, desk, line),
+        "store" => return told_of_store(rt, text, desk, rest),
         _ => answer(rt, text, &mut desk, word, rest)?,
     }
     Ok(Place::Desk(desk))
@@ -45,18 +48,20 @@ fn answer<S: Alter + Drop>(
         "run" => run(rt, text, desk, rest),
         "arrivals" => run_arrivals(rt, text, desk, rest),
         "request" => request(rt, text, desk, rest),
+        "slow" | "taken" | "rest" => wait(rt, text, desk, word, rest),
         _ => look(rt.alloc(), text, desk, word, rest),
     }
 }
 
-// The steps of the chain are asked of the store, so that the desk is opened again.
-fn chain<S: Alter + Drop>(
-    alloc: Global,
+// Does what is asked of the store below a desk, which is opened again then.
+fn told_of_store<S: Alter + Drop>(
+    rt: &HostRuntime,
     text: &mut String,
     desk: Desk<S>,
+    line: &str,
 ) -> Result<Place<S>, Fail> {
     let mut store = desk.into_store();
-    tell_chain(alloc, text, &mut store)?;
+    answer_of_store(rt, text, &mut store, line)?;
     Ok(Place::Desk(Desk::open(store)))
 }
 

@@ -1,11 +1,10 @@
 //! What a desk has.
 
-use crate::shown::{tell_counts, tell_object, tell_place, tell_reply, tell_status_of};
+use crate::shown::{tell_bytes, tell_counts, tell_object, tell_reply, tell_status_of};
 use crate::streams::split;
 use esc_apply::Objects;
 use esc_desk::{Desk, End, ParkedBody, Reply, SFault, Status, Walk};
 use esc_envelope::{Kind, watermark_text};
-use esc_store::Store;
 use esc_tables::{Key, Object};
 use sqlite::Alter;
 use std::alloc::Global;
@@ -46,9 +45,12 @@ fn found<T: Drop>(text: &mut String, found: Result<T, SFault>) -> Result<Option<
     }
 }
 
+// A watermark; what is none as its number of nanoseconds.
 fn tell_watermark(alloc: Global, text: &mut String, watermark: i64) -> Result<(), Fail> {
-    let told = watermark_text(alloc, watermark)?.ok_or("no watermark")?;
-    writeln!(text, "{told}")?;
+    match watermark_text(alloc, watermark)? {
+        Some(told) => writeln!(text, "{told}")?,
+        None => writeln!(text, "{watermark}")?,
+    }
     Ok(())
 }
 
@@ -122,9 +124,7 @@ fn parked<S: Alter + Drop>(alloc: Global, desk: &mut Desk<S>) -> Result<Vec<Park
 }
 
 fn tell_body(text: &mut String, body: &ParkedBody) -> Result<(), Fail> {
-    for byte in body.digest {
-        write!(text, "{byte:02x}")?;
-    }
+    tell_bytes(text, &body.digest)?;
     writeln!(text, " {}", body.bytes)?;
     Ok(())
 }
@@ -196,22 +196,6 @@ fn tell_held<S: Alter + Drop>(
         Some(held) => tell_rows(text, count_listed(desk), held.as_slice()),
         None => Ok(()),
     }
-}
-
-/// A line for each step of the chain.
-pub fn tell_chain<S: Alter + Drop>(
-    alloc: Global,
-    text: &mut String,
-    store: &mut Store<S>,
-) -> Result<(), Fail> {
-    let Some(steps) = found(text, store.chain(alloc))? else {
-        return Ok(());
-    };
-    for step in &steps {
-        write!(text, "step {} ", step.row)?;
-        tell_place(alloc, text, step.place, step.resend)?;
-    }
-    Ok(())
 }
 
 // ---- objects

@@ -1,12 +1,12 @@
 //! Requests to a desk, over memory.
 
+use crate::shown::tell_bytes;
 use crate::streams::split;
 use esc_desk::Desk;
 use esc_flaky::{FailingReader, FailingWriter};
 use esc_http::{ServeFault, serve_one};
 use sqlite::Alter;
 use std::alloc::Global;
-use std::fmt::Write;
 use std::fs;
 use std::test::Fail;
 
@@ -74,9 +74,7 @@ fn tell_response(
         Some(ServeFault::Read) => "read fault\nx",
         Some(ServeFault::Write) => "write fault\nx",
     })?;
-    for byte in response {
-        write!(text, "{byte:02x}")?;
-    }
+    tell_bytes(text, response)?;
     text.push_str("\n")?;
     Ok(())
 }

@@ -2,12 +2,13 @@
 
 use crate::database::answer_of_database;
 use crate::desks::Place;
-use crate::disks::{Change, Disks, File, Room, check_memory, connect, options};
+use crate::disks::{Change, Disks, Room, check_memory, connect, options};
 use crate::events::answer_of_desk;
 use crate::streams::{next_line, say};
 use esc_desk::{Desk, SFault};
 use esc_kept::{files_of, reopen_desk};
 use sqlite::{Alter, Connection, FileStore, Files};
+use sqlite_disk::Disk;
 use std::alloc::Global;
 use std::fmt::Write;
 use std::test::Fail;
@@ -57,23 +58,14 @@ fn changed(rt: &HostRuntime, disks: Disks, change: Change) -> Result<State, Fail
     Ok(State { disks, line })
 }
 
-// Opens the database, and answers the line and those after it up to the first that closes it.
+// Answers a line, and those after it up to the first that closes the database.
 fn served(rt: &HostRuntime, disks: Disks, line: String) -> Result<State, Fail> {
     let Disks { files, room } = disks;
     let mut talk = Talk {
         rt,
         line: Some(line),
     };
-    let files = match connect(rt.alloc(), files, room) {
-        Ok(connection) => {
-            let place = talk.answer_all(Place::Database(connection))?;
-            left(rt.alloc(), place, talk.closes(), room)?
-        }
-        Err((fault, files)) => {
-            talk.refuse(fault)?;
-            files
-        }
-    };
+    let files = talked(&mut talk, files, room)?;
     check_memory(&files)?;
     let Talk { line, .. } = talk;
     Ok(State {
@@ -82,13 +74,32 @@ fn served(rt: &HostRuntime, disks: Disks, line: String) -> Result<State, Fail> {
     })
 }
 
+// Opens the database in files and answers lines about it. What is over files is for any kind of
+// disk, since it is proved sooner so.
+fn talked<D: Disk + Drop>(
+    talk: &mut Talk<'_>,
+    files: Files<D>,
+    room: Room,
+) -> Result<Files<D>, Fail> {
+    match connect(talk.rt.alloc(), files, room) {
+        Ok(connection) => {
+            let place = talk.answer_all(Place::Database(connection))?;
+            left(talk.rt.alloc(), place, talk.closes(), room)
+        }
+        Err((fault, files)) => {
+            talk.refuse(fault)?;
+            Ok(files)
+        }
+    }
+}
+
 // The files of a database that is left as by a crash, or closed as by a program.
-fn left(
+fn left<D: Disk + Drop>(
     alloc: Global,
-    place: Place<FileStore<File>>,
+    place: Place<FileStore<D>>,
     closes: bool,
     room: Room,
-) -> Result<Files<File>, Fail> {
+) -> Result<Files<D>, Fail> {
     match place {
         Place::Desk(desk) => {
             if closes {
@@ -107,18 +118,18 @@ fn left(
     }
 }
 
-fn files_of_reopened(
+fn files_of_reopened<D: Disk + Drop>(
     alloc: Global,
-    desk: Desk<FileStore<File>>,
+    desk: Desk<FileStore<D>>,
     room: Room,
-) -> Result<Files<File>, Fail> {
+) -> Result<Files<D>, Fail> {
     match reopen_desk(alloc, desk, options(room)) {
         Ok(desk) => Ok(files_of(desk)),
         Err(fault) => Err(Fail::new(fault)),
     }
 }
 
-fn closed(connection: Connection<FileStore<File>>) -> Files<File> {
+fn closed<D: Disk + Drop>(connection: Connection<FileStore<D>>) -> Files<D> {
     match connection.close_files() {
         Ok(files) => files,
         Err((_error, store)) => store.close(),

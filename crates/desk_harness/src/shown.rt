@@ -37,6 +37,14 @@ fn copy_of(again: Option<bool>) -> &'static str {
     }
 }
 
+/// Bytes as hexadecimal digits.
+pub fn tell_bytes(text: &mut String, bytes: &[u8]) -> Result<(), Fail> {
+    for byte in bytes {
+        write!(text, "{byte:02x}")?;
+    }
+    Ok(())
+}
+
 /// Receipt, number, verdict, fault, id, resend, copy and orphans of a reply, with no end of line.
 pub fn tell_reply(text: &mut String, reply: &Reply) -> Result<(), Fail> {
     write!(text, "{},{},", reply.receipt, reply.number.as_str())?;

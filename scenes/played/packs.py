@@ -1,0 +1,105 @@
+"""Bundles that `pack` makes of an agent's files and of their description, and what it refuses."""
+import os
+
+from played.bundles import ENVELOPE, FILES, FIRST_LINE, envelope_of, section
+from played.rows import compare
+from scening.stage import Wanted, case
+
+LINE = 'bundle --envelope envelope.json files out'
+# Whether files have headings, the files 0.csv and 1.csv of one table with the fields `id` and `clID`, and what follows the envelope in
+# their bundle, or the refusal.
+GIVEN = (
+    (False, (b'C1,R1\n',), b'c.csv 6\nC1,R1\n\nend\n'),
+    (True, (b'id,clID\nC1,R1\n',), b'c.csv 6\nC1,R1\n\nend\n'),
+    (False, (), b'c.csv 0\n\nend\n'),
+    (False, (b'', b'\r\n'), b'c.csv 0\n\nend\n'),
+    (True, (b'id,clID',), b'c.csv 0\n\nend\n'),
+    (True, (b'id,clID\r\nC1,"R,1"', b'"id",clID\n"C""2",\n'), b'c.csv 17\nC1,"R,1"\n"C""2",\n\nend\n'),
+    (False, (b'\xef\xbb\xbfC1,R1\n',), b'c.csv 6\nC1,R1\n\nend\n'),
+    (False, (b'\xef\xbb\xbf\xef\xbb\xbfC1,R1\n',), 'H2 files/0.csv'),
+    (True, (b'id,clID\n', b'id,clId\n'), 'H1 files/1.csv'),
+    (True, (b'',), 'H1 files/0.csv'),
+    (True, (b'id,clID\nC1,R1\nC2\n',), 'U9 files/0.csv row 2'),
+    (False, (b'C1,R1\n', b'C2,R1,\n'), 'U9 files/1.csv row 1'),
+    (False, (b'C1,\xff\n',), 'U9 out'),
+    (False, (b',R1\n',), 'U10 out'),
+)
+HEADER = b'{"id":"F1","type":"FULL","watermark":"2024-03-03T00:00:00Z"}'
+# Descriptions, files, and what follows the description in their bundle, or the refusal.
+DESCRIBED = (
+    # The description of the sample as it is.
+    (ENVELOPE, {'c.csv': b'C1,R1\n'}, b'c.csv 6\nC1,R1\n\nend\n'),
+    # No tables.
+    (HEADER, {}, b'end\n'),
+    (b'{', {}, 'U5 envelope.json'),
+    (b'{"id":"F1","type":"FULL"}', {}, 'U6 envelope.json'),
+    # A section whose name has a capital, and one that occurs twice.
+    (ENVELOPE.replace(b'c.csv', b'C.csv'), {'C.csv': b'C1,R1\n'}, 'U2 out'),
+    (ENVELOPE.replace(b'}]}', b'},{"name":"more","kind":"contact","role":"child","key":"id","fields":["id","clID"],"file":"c.csv"}]}'),
+     {'c.csv': b'C1,R1\n'}, 'U3 out'),
+    # Sections whose names have all forms, and whose rows look like lines of a bundle.
+    (envelope_of(FILES),
+     {'a': b'end\n', 'b.csv': b'c.csv 1\r\nx', 'c-d': b'"\n"\n', 'e_f': b'"\n\n"\n', '0': b'\0\n', '1.2': b'\xc3\xa9\n',
+      'z' * 32: b'"C1",R1\r\n\n', 'end': b'escrow-bundle 1', 'g': b'0123456789\n'},
+     b'a 4\nend\n\nb.csv 10\nc.csv 1\nx\n\nc-d 4\n"\n"\n\ne_f 5\n"\n\n"\n\n0 2\n\0\n\n1.2 3\n\xc3\xa9\n\n'
+     b'zzzzzzzzzzzzzzzzzzzzzzzzzzzzzzzz 6\nC1,R1\n\nend 16\nescrow-bundle 1\n\ng 11\n0123456789\n\nend\n'),
+)
+# How long a bundle and each of its sections may be.
+MOST_BYTES = 16_777_216
+# A file of somewhat more than half as many bytes.
+HALF = (b'C1,' + b'x' * 99_996 + b'\n') * 84
+
+
+def description_of(has_heading, names):
+    """The description of the sample, whose rows are in these files."""
+    told = ','.join(f'"{it}"' for it in names)
+    return ENVELOPE.replace(b'"file":"c.csv"', f'"file":"c.csv","from":[{told}],"heading":{str(has_heading).lower()}'.encode())
+
+
+def check_written(stage, body):
+    """Compares the bundle that was written, and removes it."""
+    with open(stage.at('out'), 'rb') as file:
+        compare('bundle', body.decode(), file.read().decode(errors='backslashreplace'))
+    os.remove(stage.at('out'))
+
+
+def check_bundle(stage, name, description, files, wanted):
+    """Compares what follows the description in its bundle, or the refusal. Where it is refused nothing is written."""
+    stage.write('envelope.json', description)
+    for file, content in files.items():
+        stage.write(f'files/{file}', content)
+    with case(name):
+        is_refused = isinstance(wanted, str)
+        stage.check(LINE, Wanted(1, '', f'{wanted}\n') if is_refused else Wanted(), program='pack')
+        left = sorted(set(os.listdir(stage.at('.'))) - {'envelope.json', 'files'})
+        compare('what is written', '' if is_refused else 'out', ' '.join(left))
+        if not is_refused:
+            check_written(stage, FIRST_LINE + section('envelope.json', description) + wanted)
+
+
+def bundles_of_files(stage):
+    """The bundles of files."""
+    os.mkdir(stage.at('files'))
+    for has_heading, given, wanted in GIVEN:
+        files = {f'{at}.csv': content for at, content in enumerate(given)}
+        check_bundle(stage, f'{given}, with headings: {has_heading}', description_of(has_heading, files), files, wanted)
+
+
+def bundles_of_descriptions(stage):
+    """The bundles of descriptions."""
+    os.mkdir(stage.at('files'))
+    for description, files, wanted in DESCRIBED:
+        check_bundle(stage, f'{description}', description, files, wanted)
+
+
+def bundles_that_would_be_too_long(stage):
+    """A description, or the rows of two files, for which a bundle has no place."""
+    os.mkdir(stage.at('files'))
+    files = {'0.csv': HALF, '1.csv': HALF}
+    check_bundle(stage, 'a description of as many bytes as a bundle has', HEADER.ljust(MOST_BYTES), {}, 'U4 out')
+    check_bundle(stage, 'a longer description', HEADER.ljust(MOST_BYTES + 1), {}, 'E2 envelope.json')
+    check_bundle(stage, 'two files', description_of(False, files), files, 'U4 out')
+    check_bundle(stage, 'one of them', description_of(False, ['1.csv']), files, section('c.csv', HALF) + b'end\n')
+
+
+SCENES = (bundles_of_files, bundles_of_descriptions, bundles_that_would_be_too_long)
