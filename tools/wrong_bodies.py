@@ -1,9 +1,13 @@
 """Wrong bodies: edits of a crate that its prover must refuse.
 
-An edit is a file with lines 'file: PATH', 'old: TEXT' and 'new: TEXT'; each old text occurs once in its file. Edits of different
-functions are made together in one copy of the crate, and one check is asked for just these functions: what it says of each function
-is the verdict on its edit. A function's proof rests on the contracts of those that it calls and not on their bodies, so that one
-wrong body hides no other. What isn't refused so is tried alone, and at last with a check of the whole crate."""
+An edit is a file with lines 'file: PATH', 'old: TEXT' and 'new: TEXT'; each old text occurs once in its file. A line 'clause: NAME ..'
+before them names the clauses that the wrong body breaks: the check is asked for these alone of what the function ensures, so that it is
+refused for its own reason, and sooner. What a part of a contract refuses the whole refuses.
+
+Edits of different functions are made together in one copy of the crate, and one check is asked for just these functions: what it says of
+each function is the verdict on its edit. A function's proof rests on the contracts of those that it calls and not on their bodies, so
+that one wrong body hides no other; an edit that takes clauses away from a function is not tried beside one of a function that calls it.
+What isn't refused so is tried alone, and at last with a check of the whole crate."""
 import os, re, shutil, subprocess, tempfile
 from dataclasses import dataclass
 
@@ -11,15 +15,29 @@ from crates import TOP, libraries, uses
 
 # What the prover says of a text that it can't read, so that no contract was tried.
 UNREAD = re.compile(r'is not in scope|has no field|is no name|operand is missing|expected the end|cannot continue')
+# The first line of a function, and the beginning of a clause.
+HEADER = re.compile(r'^( *)(?:pub(?:\([a-z]+\))? )?(?:const )?fn \w+', re.M)
+CLAUSE = re.compile(r'(?:\s+//.*)*\s+(requires|ensures|ghost)\b\*? ?(\w*)[^{};]*\{')
 # What it says of an answer that names a step which the edit took away.
-NAMES = re.compile(r'(\./)?proofs/.*(has no field|record `[^`]*` \(nearest|is not in scope|has no `|was not admitted)')
+NAMES = re.compile(r'(\./)?proofs/.*(has no field|is not a field of|record `[^`]*` \(nearest|is not in scope|has no `|was not admitted)')
 
 
 @dataclass
 class Function:
-    """A function of a crate: what a check is asked for, and what its name in the check's lines looks like."""
+    """A function of a crate: what a check is asked for, what its name in the check's lines looks like, and its text."""
     asked: str
     line: re.Pattern
+    name: str
+    text: str
+
+
+@dataclass
+class Change:
+    """A text of a file, what stands in its place, and the clauses of the function there that are kept; all where there is none."""
+    file: str
+    old: str
+    new: str
+    clauses: frozenset
 
 
 @dataclass
@@ -33,6 +51,16 @@ class Edit:
 
     def asked(self):
         return {it.asked for it in self.functions} | set(self.added)
+
+    def hides(self, other):
+        """Whether it takes clauses away from a function that one of another edit may call."""
+        names = [it.name for it in self.functions if any(change.clauses for change in self.changes)]
+        texts = [it.text for it in other.functions] + [it.new for it in other.changes]
+        return any(re.search(rf'\b{name}\b', text) for name in names for text in texts)
+
+    def fits(self, other):
+        """Whether both can be tried in one check."""
+        return not (self.asked() & other.asked() or self.hides(other) or other.hides(self))
 
 
 @dataclass
@@ -48,18 +76,21 @@ def edits_of(crate, kind):
 
 
 def changes_of(path):
-    """The changes of an edit: file, old text, new text."""
-    changes, file, old = [], None, None
+    """The changes of an edit."""
+    changes, file, old, clauses = [], None, None, frozenset()
     with open(path) as text:
         for line in text.read().split('\n'):
             word, _, rest = line.partition(':')
             rest = rest.removeprefix(' ')
             if word == 'file':
                 file = rest.strip()
+            elif word == 'clause':
+                clauses = frozenset(rest.split())
             elif word == 'old':
                 old = rest
             elif word == 'new':
-                changes.append((file, old, rest))
+                changes.append(Change(file, old, rest, clauses))
+                clauses = frozenset()
     if not changes:
         raise ValueError('it changes nothing')
     return changes
@@ -115,11 +146,53 @@ def function_at(crate, folder, file, text, at):
     home = home_of(folder, file, block) if block and not is_trait and not instance else file
     block = instance or block
     module = '::'.join([crate, *module_of(home)])
+    whole = text[slice(*place_of(text, at))]
     if is_trait:
-        return Function(module, re.compile(rf'fn {module}::{block}\w*::{name}\b'))
+        return Function(module, re.compile(rf'fn {module}::{block}\w*::{name}\b'), name, whole)
     inner = f'{block}::{name}' if block else name
     path, closure = re.escape(inner), re.escape(f'{block}::fn::{name}' if block else f'fn::{name}')
-    return Function(f'{module}::{inner}', re.compile(rf'fn {module}::(?:{path}|(?:{closure}|fn::{path})::\S+):'))
+    return Function(f'{module}::{inner}', re.compile(rf'fn {module}::(?:{path}|(?:{closure}|fn::{path})::\S+):'), name, whole)
+
+
+def place_of(text, at):
+    """Where the function begins and ends in which a place of a text stands: from its first line to the end of its body."""
+    begin = [it for it in HEADER.finditer(text) if it.start() <= at][-1]
+    end = re.compile(rf'^{begin[1]}}}$', re.M).search(text, begin.end())
+    return begin.start(), end.end()
+
+
+def clauses_of(text):
+    """What a function ensures, by the text of the function: of each clause its name ('' of one without) and where it stands."""
+    found, at = [], 0
+    while header := CLAUSE.match(text, at) if at else CLAUSE.search(text):
+        depth, end = 1, header.end()
+        while depth:
+            depth += {'{': 1, '}': -1}.get(text[end], 0)
+            end += 1
+        if header[1] == 'ensures':
+            found.append((header[2] or '', header.start(), end))
+        at = end
+    return found
+
+
+def thinned(text, at, clauses):
+    """A file's text in which the function at a place ensures these clauses alone. One that is left alone gets a plain one beside it: a
+    goal's name has its clause's where there are several."""
+    begin, end = place_of(text, at)
+    function, alone = text[begin:end], len(clauses) == 1
+    for name, first, last in reversed(clauses_of(function)):
+        if name not in clauses:
+            function = function[:first] + function[last:]
+        elif alone:
+            function = f'{function[:last]} ensures beside {{ Unit {{0}} }}{function[last:]}'
+    return text[:begin] + function + text[end:]
+
+
+def answers_to(text, clauses):
+    """A file of answers without those to the goals of other clauses."""
+    parts = text.split('\n\n')
+    heads = [re.match(r'(?:-- .*\n)*pub \S+-clause-(\S+) : goal\.', it) for it in parts]
+    return '\n\n'.join(part for part, head in zip(parts, heads) if not head or head[1] in clauses)
 
 
 def added_function(crate, file, old, new):
@@ -130,15 +203,15 @@ def added_function(crate, file, old, new):
 
 def read_edit(crate, folder, path):
     changes, functions, added = changes_of(path), [], []
-    for file, old, new in changes:
-        with open(f'{folder}/{file}') as it:
-            text = it.read()
-        if text.count(old) != 1:
-            raise ValueError(f'its old text is in {file} {text.count(old)} times')
-        if one := added_function(crate, file, old, new):
+    for it in changes:
+        with open(f'{folder}/{it.file}') as file:
+            text = file.read()
+        if text.count(it.old) != 1:
+            raise ValueError(f'its old text is in {it.file} {text.count(it.old)} times')
+        if one := added_function(crate, it.file, it.old, it.new):
             added.append(one)
         else:
-            functions.append(function_at(crate, folder, file, text, text.index(old)))
+            functions.append(function_at(crate, folder, it.file, text, text.index(it.old)))
     return Edit(os.path.basename(path), changes, functions, added)
 
 
@@ -171,29 +244,44 @@ class Room:
     folders crates/NAME/out/rlib hold the libraries below as they are built."""
 
     def __init__(self, tree, crate, folder):
-        self.crate, self.folder, self.words = crate, folder, check_words(tree, crate)
+        self.crate, self.folder, self.words, self.own = crate, folder, check_words(tree, crate), {}
         for part in ('src', 'specs', 'proofs', 'out/incremental'):
             if os.path.isdir(f'{tree}/crates/{crate}/{part}'):
                 shutil.copytree(f'{tree}/crates/{crate}/{part}', f'{folder}/{part}')
 
+    def thinned(self, change, text):
+        """A file's text before a change, with the clauses alone that the change keeps; the answers to the others' goals go, too."""
+        if not change.clauses:
+            return text
+        at = text.index(change.old)
+        function = function_at(self.crate, self.folder, change.file, text, at)
+        answers = '/'.join(['proofs', *function.asked.split('::')[1:], 'Answers.antt'])
+        if os.path.isfile(f'{self.folder}/{answers}'):
+            self.write(answers, answers_to(self.text(answers), change.clauses))
+        return thinned(text, at, change.clauses)
+
+    def text(self, path):
+        with open(f'{self.folder}/{path}') as file:
+            return file.read()
+
+    def write(self, path, text):
+        """Writes a file. What it was first is kept in `own`."""
+        self.own.setdefault(path, self.text(path))
+        with open(f'{self.folder}/{path}', 'w') as file:
+            file.write(text)
+
     def said(self, edits, asked):
         """What a check of these functions (of all where there is none) says of the crate with these edits."""
-        own = {}
-        for edit in edits:
-            for file, old, new in edit.changes:
-                with open(f'{self.folder}/{file}') as it:
-                    text = it.read()
-                own.setdefault(file, text)
-                with open(f'{self.folder}/{file}', 'w') as it:
-                    it.write(text.replace(old, new))
         only = [word for it in sorted(asked) for word in ('--only', it)]
         try:
+            for change in [change for edit in edits for change in edit.changes]:
+                self.write(change.file, self.thinned(change, self.text(change.file)).replace(change.old, change.new))
             ran = subprocess.run([*self.words, *only], cwd=self.folder, text=True, errors='replace',
                                  stdin=subprocess.DEVNULL, stdout=subprocess.PIPE, stderr=subprocess.STDOUT)
         finally:
-            for file, text in own.items():
-                with open(f'{self.folder}/{file}', 'w') as it:
-                    it.write(text)
+            for path, text in self.own.items():
+                self.write(path, text)
+            self.own = {}
         return ran.stdout.split('\n')
 
     def tried_together(self, edits):
@@ -225,15 +313,33 @@ class Room:
 
 
 def rounds_of(edits):
-    """The edits in rounds, so that no two edits of a round change one function."""
+    """The edits in rounds, so that all edits of a round can be tried in one check."""
     rounds = []
     for edit in edits:
-        fits = next((it for it in rounds if not any(edit.asked() & one.asked() for one in it)), None)
+        fits = next((it for it in rounds if all(map(edit.fits, it))), None)
         if fits is None:
             rounds.append([edit])
         else:
             fits.append(edit)
     return rounds
+
+
+def righted(edit):
+    """The edit that changes nothing but the clauses, where it names some; else None."""
+    named = [it for it in edit.changes if it.clauses]
+    changes = [Change(it.file, it.old, it.old, it.clauses) for it in named]
+    return Edit(edit.name, changes, edit.functions, []) if named else None
+
+
+def tried_right(tree, crate, paths):
+    """Tries the right bodies of a crate where a wrong one names clauses: the verdict on each, by the edit's name."""
+    with tempfile.TemporaryDirectory(prefix='wrong-bodies-') as place:
+        room = Room(tree, crate, place)
+        edits = [it for it in (righted(read_edit(crate, room.folder, path)) for path in paths) if it]
+        refused = {}
+        for one in rounds_of(edits):
+            refused |= room.tried_together(one)
+        return {it.name: refused.get(it.name, Verdict(False, 'it is proved')) for it in edits}
 
 
 def tried(tree, crate, paths):

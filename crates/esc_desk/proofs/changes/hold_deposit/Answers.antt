@@ -22,6 +22,11 @@ returns-in_err-commit_filled-clause-crash g c = λ k held none from stood.
     (c.in_err-commit_filled.ensures.crash k _ (c.in_ok-filled.ensures.filled k held none from (c.in_ok-change.ensures.rest k stood) (c.in_ok-change.ensures.holds k stood))) in
     search (rules, made)
 
+pub returns-clause-held : goal.returns-clause-held
+returns-clause-held g c = λ clean k held none from stood.
+    let made = c.in_ok-commit_filled.ensures.committed (search (rules, clean)) k _ (c.in_ok-filled.ensures.filled k held none from (c.in_ok-change.ensures.rest k stood) (c.in_ok-change.ensures.holds k stood)) in
+    search (rules, made)
+
 pub returns-clause-crash : goal.returns-clause-crash
 unfolding AddsStore
 returns-clause-crash g c = λ k held none from stood.

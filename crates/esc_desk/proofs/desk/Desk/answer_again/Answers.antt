@@ -1,4 +1,4 @@
-use Rattle.std.proofs.Common.{rules, sym, ap, subst, ◌∙◌}
+use Rattle.std.proofs.Common.{rules, refl, sym, ap, subst, ◌∙◌}
 use Rattle.esc_store.specs.ReplyValue.{ReplyValue}
 use Rattle.esc_desk.specs.Crashes.{AddsStoreFor}
 use Rattle.esc_desk.proofs.ComingAgain.{answered_nothing, is_again, IsOther, no_verdict}
@@ -24,6 +24,9 @@ returns-in_err-work-in-A2-clause-crash g c = λ clean e n k stood stands known t
     let a2 = sym (ap (λ (v : ReplyValue). v.verdict) c.reply.view_is) ∙ c.in-A2.is in
     let is = is_again e n c.args.body.now k c.args.reply c.args.digest.now c.requires stands a2 there in
     adds_as (λ h. not_full_by c.in_err-work-in-A2.field-0.0 (search rules) h) (c.in_err-work-in-A2.ensures.crash clean e n k c.args.reply stood known is)
+
+pub returns-in-A1-clause-same : goal.returns-in-A1-clause-same
+returns-in-A1-clause-same g c = refl
 
 pub returns-in-A1-clause-answered : goal.returns-in-A1-clause-answered
 returns-in-A1-clause-answered g c = λ clean e n k stood stands known there.
