@@ -299,8 +299,8 @@ class Room:
         return refused
 
     def tried_alone(self, edit):
-        """The verdict on an edit by a check of the whole crate."""
-        lines = self.said([edit], ())
+        """The verdict on an edit by a check of the whole crate, with all clauses."""
+        lines = self.said([whole(edit)], ())
         last = next((it for it in lines if it.startswith('logic=')), '')
         unread = next((it for it in lines if re.match(r'src/\S+:\d+:\d+: error', it) and UNREAD.search(it)), None)
         if unread or not last:
@@ -322,6 +322,11 @@ def rounds_of(edits):
         else:
             fits.append(edit)
     return rounds
+
+
+def whole(edit):
+    """The edit that takes no clause away."""
+    return Edit(edit.name, [Change(it.file, it.old, it.new, frozenset()) for it in edit.changes], edit.functions, edit.added)
 
 
 def righted(edit):
