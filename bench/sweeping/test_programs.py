@@ -20,9 +20,9 @@ TOLD = (
     'comes 5 D2Resent', 'as-of latest', 'comes 4 D3', 'status', 'end', 'moment', 'parked', 'receipts', 'held', 'tables', 'walk all 9',
     'walk domain 1', 'request get', 'request put', 'chain', 'close', 'query SELECT pos, kind, key FROM undo ORDER BY pos, kind, key',
     'crash synced', 'open', 'run 2', 'comes 6 Empty', 'as-of 2024-03-03T00:00:00Z', 'arrivals 1', 'comes 7 F5', 'reopen', 'open',
-    'receipts', 'held', 'tables', 'slow get 10 9', 'taken get 10 200', 'store change 13', 'record 9 7 5 0', 'park 9 nine', 'unpark 8',
+    'receipts', 'held', 'tables', 'rest get 10 9', 'store list f5.csv', 'store change 13', 'record 9 7 5 0', 'park 9 nine', 'unpark 8',
     'moment 7', 'chain 1 1', 'put domain x.example one', 'get domain x.example', 'put-all 9 any 33 two', 'image 9 domain y.example one',
-    'images 9', 'remove domain x.example', 'hold 4 body', 'commit', 'store change 1', 'clear', 'store list f5.csv', 'store listed',
+    'images 9', 'remove domain x.example', 'hold 4 body', 'commit', 'store change 1', 'clear', 'store listed',
     'store body 4', 'store parked 9', 'store receipt 9 7', 'store unlisted', 'store chain', 'status', 'close', 'kind')
 # How many answers those have: the three events of its two runs and the 14 parts of its two changes have none of their own.
 COUNT = len(TOLD) - 17
