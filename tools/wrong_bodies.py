@@ -7,7 +7,7 @@ refused for its own reason, and sooner. What a part of a contract refuses the wh
 Edits of different functions are made together in one copy of the crate, and one check is asked for just these functions: what it says of
 each function is the verdict on its edit. A function's proof rests on the contracts of those that it calls and not on their bodies, so
 that one wrong body hides no other; an edit that takes clauses away from a function is not tried beside one of a function that calls it.
-What isn't refused so is tried alone, and at last with a check of the whole crate."""
+What isn't refused so is tried alone, and, where it names no clause, at last with a check of the whole crate."""
 import os, re, shutil, subprocess, tempfile
 from dataclasses import dataclass
 
@@ -299,8 +299,11 @@ class Room:
         return refused
 
     def tried_alone(self, edit):
-        """The verdict on an edit by a check of the whole crate, with all clauses."""
-        lines = self.said([whole(edit)], ())
+        """The verdict on an edit by a check of the whole crate. One that names clauses has to be refused for these: where some are gone,
+        the functions that need them are refused, whatever the body is."""
+        if any(it.clauses for it in edit.changes):
+            return Verdict(False, 'the clauses that it names are proved')
+        lines = self.said([edit], ())
         last = next((it for it in lines if it.startswith('logic=')), '')
         unread = next((it for it in lines if re.match(r'src/\S+:\d+:\d+: error', it) and UNREAD.search(it)), None)
         if unread or not last:
@@ -322,11 +325,6 @@ def rounds_of(edits):
         else:
             fits.append(edit)
     return rounds
-
-
-def whole(edit):
-    """The edit that takes no clause away."""
-    return Edit(edit.name, [Change(it.file, it.old, it.new, frozenset()) for it in edit.changes], edit.functions, edit.added)
 
 
 def righted(edit):

@@ -7,7 +7,7 @@ from formats import KINDS
 from played.bodies import manifest_text
 from played.rows import open_again, text_of
 from scening.harness import Harness
-from scening.stage import Failed
+from scening.stage import case
 
 COMMIT = 'commit'
 
@@ -32,15 +32,6 @@ class Row:
     def told(self):
         """What is told of it where it is listed."""
         return f'{self.id},{self.prev},{self.number:064x} {self.place()}'
-
-
-@contextlib.contextmanager
-def case_of(name):
-    """What fails in a `with` statement is said to be of this case."""
-    try:
-        yield
-    except Failed as failure:
-        raise Failed(f'{name}:\n{failure}') from None
 
 
 @contextlib.contextmanager
@@ -131,7 +122,7 @@ def changes_of(first, second):
 
 def check_chains(desk, first, second):
     for parts, rows in changes_of(first, second):
-        with case_of(f'{first} and then {second}, {", ".join(parts)}'):
+        with case(f'{first} and then {second}, {", ".join(parts)}'):
             change(desk, parts)
             desk.check('store chain', text_of(f'step {at} {CHAINED[at].place()}' for at in rows))
 
@@ -183,7 +174,7 @@ def listed_rows(stage):
     put_manifests(stage)
     with store_of(stage, (F1,)) as desk:
         for at, (deed, rows) in enumerate(LISTED, 1):
-            with case_of(f'deed {at}, {deed}'):
+            with case(f'deed {at}, {deed}'):
                 do_deed(desk, deed)
                 desk.check('store listed', text_of(it.told() for it in rows))
 
@@ -211,14 +202,14 @@ def images_of(count, kept):
 
 def put(desk, step, targets, count, mark, kept):
     """Puts so many domains with a mark by one call, where there are so many from before, and compares the before-images that it notes."""
-    with case_of(f'step {step}'):
+    with case(f'step {step}'):
         change(desk, (f'put-all {step} {targets} {count} {mark}', f'images {step}', COMMIT), ['ok', *images_of(count, kept), 'ok', 'ok'])
 
 
 def many_objects(stage):
     """Many objects are put by one call."""
     for first, second in PUT:
-        with case_of(f'{first} and then {second}'), store_of(stage, (F1,)) as desk:
+        with case(f'{first} and then {second}'), store_of(stage, (F1,)) as desk:
             put(desk, 1, 'free', first, 'first', 0)
             put(desk, 2, 'any', second, 'second', first)
             marked = names_of(second)
@@ -244,7 +235,7 @@ def counts(stage):
     """Counts of objects follow each change."""
     with store_of(stage, (F1,)) as desk:
         for parts, contacts, domains in COUNTED:
-            with case_of(f'change: {", ".join(parts)}'):
+            with case(f'change: {", ".join(parts)}'):
                 change(desk, parts)
                 wanted = status_of({'contact': contacts, 'domain': domains})
                 desk.check('status', wanted)
@@ -296,7 +287,7 @@ def check_parking(stage, closing):
     """Parks bodies in a store, which is closed so where it is opened again."""
     with store_of(stage, (F1,)) as desk:
         for at, it in enumerate(PARKED, 1):
-            with case_of(f'{closing}, change {at}: {", ".join(it.parts)}'):
+            with case(f'{closing}, change {at}: {", ".join(it.parts)}'):
                 if it.is_opened:
                     open_again(desk, closing)
                 change(desk, it.parts, it.told)
@@ -331,7 +322,7 @@ def unlisted_bodies(stage):
     """Digests of bodies that no row listed are told."""
     with store_of(stage, (F1,)) as desk:
         for receipt, unlisted in UNLISTED:
-            with case_of(receipt):
+            with case(receipt):
                 change(desk, (receipt, COMMIT))
                 desk.check('store unlisted', text_of(map(digest_of, unlisted)))
 
