@@ -1,6 +1,16 @@
 //! Objects of the registry, and the rows that they are made of.
 
-ghost use Rattle.std.specs.Prelude.{◌≡◌, IfOk, length, map, option_map, slice_get, string_bytes};
+ghost use Rattle.std.specs.Prelude.{
+  ◌≡◌,
+  ◌++◌,
+  IfOk,
+  OnOk,
+  length,
+  map,
+  option_map,
+  slice_get,
+  string_bytes,
+};
 ghost use Rattle.std.specs.List.{zip};
 ghost use Rattle.csv.specs.Records.{fields_of};
 ghost use Rattle.esc_tables.specs.TableRow.{heading_of};
@@ -61,6 +71,24 @@ fn shared(alloc: Global, name: &str, fields: StringRecord) -> Result<Rc<Heading>
     }
 }
 
+// Appends the fields' names and the texts of these cells.
+fn push_cells(
+    fields: &mut StringRecord,
+    texts: &mut StringRecord,
+    cells: &[(&str, &str)],
+) -> Result<(), NoMemory>
+    ensures fields { OnOk result (fields_of fields.new
+        ≡ fields_of fields.old ++ map (λ c. c.0.now) cells.now) }
+    ensures texts { OnOk result (fields_of texts.new
+        ≡ fields_of texts.old ++ map (λ c. c.1.now) cells.now) }
+{
+    for (field, text) in cells {
+        fields.push_field(field)?;
+        texts.push_field(text)?;
+    }
+    Ok(())
+}
+
 /// A row of a table: its cells in the declared order, each with its field's name. It has as many
 /// texts as its heading has fields. Rows that were read from one table share their heading, and the
 /// texts of a row are in one piece of memory.
@@ -110,10 +138,7 @@ impl Row {
         let room = cells.len().saturating_mul(USUAL_LENGTH);
         let mut fields = StringRecord::with_capacity(alloc, room, cells.len())?;
         let mut texts = StringRecord::with_capacity(alloc, room, cells.len())?;
-        for (field, text) in cells {
-            fields.push_field(field)?;
-            texts.push_field(text)?;
-        }
+        push_cells(&mut fields, &mut texts, cells)?;
         let heading = shared(alloc, table, fields)?;
         Ok(Row { heading, texts })
     }

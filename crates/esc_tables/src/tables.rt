@@ -7,6 +7,7 @@
 ghost use Rattle.std.specs.Prelude.{
   ◌≡◌,
   ◌++◌,
+  ◌∷◌,
   [],
   ℕ,
   true,
@@ -22,7 +23,15 @@ ghost use Rattle.std.specs.Prelude.{
 };
 ghost use Rattle.std.specs.List.{list_all, fold};
 ghost use Rattle.esc_bundle.specs.Bundle.{views};
-ghost use Rattle.esc_tables.specs.TableRow.{table_rows, rows_in, is_whole, key_of, keyed};
+ghost use Rattle.esc_tables.specs.TableRow.{
+  table_rows,
+  rows_in,
+  in_table,
+  is_whole,
+  key_of,
+  heading_of,
+  keyed,
+};
 ghost use Rattle.esc_tables.specs.Reading.{check_rows, by_name};
 ghost use Rattle.esc_tables.specs.Survey.{noted, is_right};
 
@@ -36,13 +45,107 @@ use esc_bundle::{Fault, Section};
 use esc_csv::{Record, Records};
 use esc_envelope::Table;
 use std::alloc::Global;
+use std::rc::Rc;
+
+// Notes one more row of a table, and appends it to `found` if the survey is right after it.
+fn add_row(
+    alloc: Global,
+    heading: &Rc<Heading>,
+    table: &Table,
+    row: &Record,
+    survey: Survey,
+    found: &mut Vec<(Key, Row)>,
+) -> Result<Survey, Fault>
+    requires { heading.now.value ≡ heading_of table.now }
+    ensures seen { IfOk result (λ s. s ≡ noted survey (in_table table.now row.now)) }
+    ensures whole { OnOk result (is_whole (in_table table.now row.now) ≡ true) }
+    ensures row { IfOk result (λ s. is_right s ≡ true → found.new.items ≡ found.old.items
+        ++ (keyed (in_table table.now row.now) ∷ [])) }
+    ensures refused { IfErr result (λ e. (n : ℕ) → e ≡ Fault.Refused n
+        → (n ≡ 9) × (is_whole (in_table table.now row.now) ≡ false)) }
+{
+    let survey = survey.note(table, row)?;
+    if survey.is_right() {
+        found.push(read_row(alloc, heading, table, row)?)?;
+    }
+    Ok(survey)
+}
+
+// Notes one more row of a table, and appends its key to `found`, as `add_row` the row.
+fn add_key(
+    alloc: Global,
+    table: &Table,
+    row: &Record,
+    survey: Survey,
+    found: &mut Vec<Key>,
+) -> Result<Survey, Fault>
+    ensures seen { IfOk result (λ s. s ≡ noted survey (in_table table.now row.now)) }
+    ensures whole { OnOk result (is_whole (in_table table.now row.now) ≡ true) }
+    ensures key { IfOk result (λ s. is_right s ≡ true → found.new.items ≡ found.old.items
+        ++ (key_of (in_table table.now row.now) ∷ [])) }
+    ensures refused { IfErr result (λ e. (n : ℕ) → e ≡ Fault.Refused n
+        → (n ≡ 9) × (is_whole (in_table table.now row.now) ≡ false)) }
+{
+    let survey = survey.note(table, row)?;
+    if survey.is_right() {
+        found.push(read_key(alloc, table, row)?)?;
+    }
+    Ok(survey)
+}
+
+// Appends the rows that are still to be read to `found`. They are all there if the survey after
+// them is right.
+fn add_rows(
+    alloc: Global,
+    heading: &Rc<Heading>,
+    table: &Table,
+    rows: &mut Records<'_>,
+    mut survey: Survey,
+    found: &mut Vec<(Key, Row)>,
+) -> Result<Survey, Fault>
+    requires { heading.now.value ≡ heading_of table.now }
+    ensures seen { IfOk result (λ s. s ≡ fold noted survey (map (in_table table.now) rows.old)) }
+    ensures whole { OnOk result (list_all is_whole (map (in_table table.now) rows.old) ≡ true) }
+    ensures rows { IfOk result (λ s. is_right s ≡ true → found.new.items ≡ found.old.items
+        ++ map keyed (map (in_table table.now) rows.old)) }
+    ensures refused { IfErr result (λ e. (n : ℕ) → e ≡ Fault.Refused n
+        → (n ≡ 9) × (list_all is_whole (map (in_table table.now) rows.old) ≡ false)) }
+{
+    let mut row = Record::new(alloc);
+    while rows.next(&mut row)? {
+        survey = add_row(alloc, heading, table, &row, survey, found)?;
+    }
+    Ok(survey)
+}
+
+// Appends the keys of the rows that are still to be read to `found`, as `add_rows` the rows.
+fn add_keys(
+    alloc: Global,
+    table: &Table,
+    rows: &mut Records<'_>,
+    mut survey: Survey,
+    found: &mut Vec<Key>,
+) -> Result<Survey, Fault>
+    ensures seen { IfOk result (λ s. s ≡ fold noted survey (map (in_table table.now) rows.old)) }
+    ensures whole { OnOk result (list_all is_whole (map (in_table table.now) rows.old) ≡ true) }
+    ensures keys { IfOk result (λ s. is_right s ≡ true → found.new.items ≡ found.old.items
+        ++ map key_of (map (in_table table.now) rows.old)) }
+    ensures refused { IfErr result (λ e. (n : ℕ) → e ≡ Fault.Refused n
+        → (n ≡ 9) × (list_all is_whole (map (in_table table.now) rows.old) ≡ false)) }
+{
+    let mut row = Record::new(alloc);
+    while rows.next(&mut row)? {
+        survey = add_key(alloc, table, &row, survey, found)?;
+    }
+    Ok(survey)
+}
 
 // Appends the rows of a table to `found`. They are all there if the survey after them is right.
 fn read_all_rows(
     alloc: Global,
     files: &[Section<'_>],
     table: &Table,
-    mut survey: Survey,
+    survey: Survey,
     found: &mut Vec<(Key, Row)>,
 ) -> Result<Survey, Fault>
     ensures seen { IfOk result
@@ -56,15 +159,7 @@ fn read_all_rows(
 {
     let heading = Heading::of(alloc, table)?;
     let mut rows = Records::of(alloc, bytes_named(files, table.file.as_str()));
-    let mut row = Record::new(alloc);
-    while rows.next(&mut row)? {
-        survey = survey.note(table, &row)?;
-        if !survey.is_right() {
-            continue;
-        }
-        found.push(read_row(alloc, &heading, table, &row)?)?;
-    }
-    Ok(survey)
+    add_rows(alloc, &heading, table, &mut rows, survey, found)
 }
 
 // Appends the keys of a table's rows to `found`, as `read_all_rows` its rows.
@@ -72,7 +167,7 @@ fn read_all_keys(
     alloc: Global,
     files: &[Section<'_>],
     table: &Table,
-    mut survey: Survey,
+    survey: Survey,
     found: &mut Vec<Key>,
 ) -> Result<Survey, Fault>
     ensures seen { IfOk result
@@ -85,15 +180,7 @@ fn read_all_keys(
         → (n ≡ 9) × (list_all is_whole (table_rows (views files.now) table.now) ≡ false)) }
 {
     let mut rows = Records::of(alloc, bytes_named(files, table.file.as_str()));
-    let mut row = Record::new(alloc);
-    while rows.next(&mut row)? {
-        survey = survey.note(table, &row)?;
-        if !survey.is_right() {
-            continue;
-        }
-        found.push(read_key(alloc, table, &row)?)?;
-    }
-    Ok(survey)
+    add_keys(alloc, table, &mut rows, survey, found)
 }
 
 // Whether the file of a table has no byte, and so no row.
