@@ -1,7 +1,11 @@
-use Rattle.std.proofs.Common.{take}
+use Rattle.std.proofs.Common.{◌≡◌, ◌∙◌, ◌++◌, List, take, map, sym, ap}
+use Rattle.std.specs.List.{list_all, fold}
+use Rattle.std.proofs.lemmas.List.{take_all}
 use Rattle.std.proofs.lemmas.Result.{err_from_is_err_and}
 use Rattle.esc_bundle.specs.Bundle.{views}
-use Rattle.esc_tables.specs.TableRow.{table_rows, rows_in, key_of}
+use Rattle.esc_envelope.specs.EnvelopeValue.{TableValue}
+use Rattle.esc_tables.specs.TableRow.{table_rows, rows_in, is_whole, key_of}
+use Rattle.esc_tables.specs.Survey.{noted}
 use Rattle.esc_tables.proofs.ReadFacts.{more_read, next_rows}
 use Rattle.esc_tables.proofs.SurveyFacts.{fails_in_one}
 use Rattle.esc_tables.proofs.tables.read_deletes.Goals as goal
@@ -21,3 +25,18 @@ loop-table-preserved c =
     let all = next_rows files c.args.tables.now c.loop-table.table-index c.table-item.result c.loop-table-test.true c.table-item.is in
     let read = more_read key_of c.args.survey c.args.found.now.items (rows_in files (take c.loop-table.table-index c.args.tables.now)) (table_rows files c.table-item.result) _ c.loop-table.survey c.in_ok-survey.survey c.loop-table.found.items c.read_keys.new.found.items all before.seen before.whole before.read after.seen after.whole after.keys in
     record { seen = read.seen; whole = read.whole; read = read.read }
+
+pub returns-clause-seen : goal.returns-clause-seen
+returns-clause-seen c =
+    let all : take c.loop-table.table-index c.args.tables.now ≡ c.args.tables.now = take_all c.loop-table.table-index c.args.tables.now c.loop-table-test.false in
+    c.loop-table.invariant.seen ∙ ap (λ (ts : List TableValue). fold noted c.args.survey (rows_in (views c.args.files.now) ts)) all
+
+pub returns-clause-whole : goal.returns-clause-whole
+returns-clause-whole c =
+    let all : take c.loop-table.table-index c.args.tables.now ≡ c.args.tables.now = take_all c.loop-table.table-index c.args.tables.now c.loop-table-test.false in
+    ap (λ (ts : List TableValue). list_all is_whole (rows_in (views c.args.files.now) ts)) (sym all) ∙ c.loop-table.invariant.whole
+
+pub returns-clause-keys : goal.returns-clause-keys
+returns-clause-keys c =
+    let all : take c.loop-table.table-index c.args.tables.now ≡ c.args.tables.now = take_all c.loop-table.table-index c.args.tables.now c.loop-table-test.false in
+    λ right. c.loop-table.invariant.read right ∙ ap (λ (ts : List TableValue). c.args.found.now.items ++ map key_of (rows_in (views c.args.files.now) ts)) all
