@@ -1,5 +1,5 @@
 -- Rows that are read table by table.
-use Rattle.std.proofs.Common.{◌≡◌, ◌∙◌, ℕ, ◌+◌, ◌<◌, Bool, true, cond, List, [], ◌∷◌, ◌++◌, length, map, filter, take, get_or, refl, sym, ap, subst, add-one}
+use Rattle.std.proofs.Common.{◌≡◌, ◌∙◌, ℕ, ◌+◌, ◌<◌, Bool, true, false, cond, List, [], ◌∷◌, ◌++◌, length, map, filter, take, get_or, refl, sym, ap, subst, add-one}
 use Rattle.std.specs.Borrow.{Bor}
 use Rattle.std.specs.List.{list_all, fold}
 use Rattle.std.proofs.lemmas.List.{append_assoc, append-nil, map-append}
@@ -45,6 +45,11 @@ pub next_parent : (files : List Named) (ts : List TableValue) (i : ℕ) (t : Tab
 next_parent files ts i t lt is parent =
     let kept : filter (λ t. t.parent) (take i ts ++ (t ∷ [])) ≡ filter (λ t. t.parent) (take i ts) ++ (t ∷ []) = filter-append (λ (t : TableValue). t.parent) (take i ts) (t ∷ []) ∙ ap (λ (b : Bool). filter (λ t. t.parent) (take i ts) ++ cond b (t ∷ []) []) parent in
     rw (add-one i, take_next ts i t lt is, kept) (one_more files (filter (λ t. t.parent) (take i ts)) t)
+
+pub same_parents : (ts : List TableValue) (i : ℕ) (t : TableValue) → i < length ts → t ≡ get_or ts i t → t.parent ≡ false → filter (λ t. t.parent) (take (i + 1) ts) ≡ filter (λ t. t.parent) (take i ts)
+same_parents ts i t lt is other =
+    let parents : List TableValue = filter (λ t. t.parent) (take i ts) in
+    rw (add-one i, take_next ts i t lt is) (filter-append (λ (t : TableValue). t.parent) (take i ts) (t ∷ []) ∙ ap (λ (b : Bool). parents ++ cond b (t ∷ []) []) other ∙ append-nil parents)
 
 pub next_pointed : (files : List Named) (rs : List (Bor TableValue)) (i : ℕ) (r : Bor TableValue) → i < length rs → r ≡ get_or rs i r → rows_in files (map pointed (take (i + 1) rs)) ≡ rows_in files (map pointed (take i rs)) ++ table_rows files r.now
 next_pointed files rs i r lt is = rw (add-one i, take_next rs i r lt is, map-append pointed (take i rs) (r ∷ [])) (one_more files (map pointed (take i rs)) r.now)

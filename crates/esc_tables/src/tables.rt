@@ -93,7 +93,7 @@ fn add_key(
     Ok(survey)
 }
 
-// Appends the rows that are still to be read to `found`. They are all there if the survey after
+// Appends to `found` the rows that are still to be read. They are all there if the survey after
 // them is right.
 fn add_rows(
     alloc: Global,
@@ -118,7 +118,7 @@ fn add_rows(
     Ok(survey)
 }
 
-// Appends the keys of the rows that are still to be read to `found`, as `add_rows` the rows.
+// Appends to `found` the keys of the rows that are still to be read, as `add_rows` the rows.
 fn add_keys(
     alloc: Global,
     table: &Table,

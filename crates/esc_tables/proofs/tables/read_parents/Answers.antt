@@ -1,4 +1,4 @@
-use Rattle.std.proofs.Common.{◌≡◌, ◌∙◌, ◌++◌, List, take, true, sym, ap, filter, map}
+use Rattle.std.proofs.Common.{◌≡◌, ◌∙◌, ◌++◌, List, take, true, false, sym, ap, filter, map}
 use Rattle.std.specs.List.{list_all, fold}
 use Rattle.std.proofs.lemmas.List.{take_all}
 use Rattle.std.proofs.lemmas.Result.{err_from_is_err_and}
@@ -6,7 +6,7 @@ use Rattle.esc_bundle.specs.Bundle.{views}
 use Rattle.esc_envelope.specs.EnvelopeValue.{TableValue}
 use Rattle.esc_tables.specs.TableRow.{table_rows, rows_in, is_whole, keyed}
 use Rattle.esc_tables.specs.Survey.{noted}
-use Rattle.esc_tables.proofs.ReadFacts.{more_read, next_parent}
+use Rattle.esc_tables.proofs.ReadFacts.{more_read, next_parent, same_parents}
 use Rattle.esc_tables.proofs.TurnFacts.{fails_in_parent}
 use Rattle.esc_tables.proofs.tables.read_parents.Goals as goal
 
@@ -42,3 +42,14 @@ pub returns-clause-rows : goal.returns-clause-rows
 returns-clause-rows c =
     let all : take c.loop-table.table-index c.args.tables.now ≡ c.args.tables.now = take_all c.loop-table.table-index c.args.tables.now c.loop-table-test.false in
     λ right. c.loop-table.invariant.read right ∙ ap (λ (ts : List TableValue). c.args.found.now.items ++ map keyed (rows_in (views c.args.files.now) (filter (λ t. t.parent) ts))) all
+
+pub loop-table-preserved-then-not-table : goal.loop-table-preserved-then-not-table
+loop-table-preserved-then-not-table c =
+    let other : c.table-item.result.parent ≡ false = sym (ap (λ (u : TableValue). u.parent) c.table.view_is) ∙ c.if-not-table.true in
+    let same = same_parents c.args.tables.now c.loop-table.table-index c.table-item.result c.loop-table-test.true c.table-item.is other in
+    let before = c.loop-table.invariant in
+    record {
+      seen = before.seen ∙ ap (λ (ts : List TableValue). fold noted c.args.survey (rows_in (views c.args.files.now) ts)) (sym same);
+      whole = ap (λ (ts : List TableValue). list_all is_whole (rows_in (views c.args.files.now) ts)) same ∙ before.whole;
+      read = λ right. before.read right ∙ ap (λ (ts : List TableValue). c.args.found.now.items ++ map keyed (rows_in (views c.args.files.now) ts)) (sym same);
+    }
