@@ -7,7 +7,7 @@ use Rattle.esc_envelope.specs.EnvelopeValue.{TableValue, EnvelopeValue}
 use Rattle.esc_envelope.specs.Envelope.{envelope_of}
 use Rattle.esc_tables.specs.TableRow.{table_rows, in_table}
 use Rattle.esc_tables.specs.Reading.{tables_of, deposit_of, reading}
-use Rattle.esc_pack.specs.GivenRows.{GivenTable, given_rows, IsHeaded}
+use Rattle.esc_pack.specs.GivenRows.{GivenTable, given_rows, IsHeaded, IsReadBack}
 
 -- the section of a table: the text of the rows that its files have
 abbrev pub section_of : TableValue × GivenTable → Named
@@ -24,6 +24,17 @@ AreHeaded p = p.1.has_heading ≡ true → All (IsHeaded p.0.fields) p.1.files
 -- the first section
 abbrev pub description_section : List ℕ → Named
 description_section description = record { name = envelope_name; bytes = description }
+
+-- these are the sections of the bundle of a description and of files whose rows can be read back
+pub record AreSectionsOf (description : List ℕ) (given : List GivenTable) (sections : List Named)
+    : Type 0 where
+  pub envelope : EnvelopeValue
+  pub told : envelope_of description ≡ Ok envelope
+  pub matched : length given ≡ length (tables_of envelope)
+  pub headings : All AreHeaded (zip (tables_of envelope) given)
+  pub are : sections
+      ≡ description_section description ∷ sections_of (tables_of envelope) given
+  pub read : All IsReadBack given
 
 -- the body is the bundle of this description and of these files, in the order in which it declares
 -- its tables; a row that is dropped as a heading is just the declared fields, and what is read of

@@ -1,16 +1,19 @@
 //! The bundle of an agent's files.
 
-ghost use Rattle.std.specs.Prelude.{◌≡◌, ◌++◌, ◌∷◌, All, map, length, IfOk, OnOk};
+ghost use Rattle.std.specs.Prelude.{◌≡◌, ◌++◌, ◌∷◌, [], List, All, map, length, Ok, IfOk, OnOk};
 ghost use Rattle.std.specs.List.{zip};
+ghost use Rattle.esc_bundle.specs.Bundle.{Named, IsBundle};
 ghost use Rattle.esc_bundle.specs.Writing.{named};
-ghost use Rattle.esc_tables.specs.Reading.{tables_of};
+ghost use Rattle.esc_tables.specs.DepositValue.{DepositValue};
+ghost use Rattle.esc_tables.specs.Reading.{tables_of, reading};
 ghost use Rattle.esc_pack.specs.GivenRows.{IsReadBack};
-ghost use Rattle.esc_pack.specs.Bundling.{sections_of, description_section, AreHeaded, IsBundleOf};
+ghost use Rattle.esc_pack.specs.Bundling.{sections_of, description_section, AreHeaded};
+ghost use Rattle.esc_pack.specs.Bundling.{AreSectionsOf, IsBundleOf};
 
 use crate::bundle_fault::BundleFault;
 use crate::given::TableFiles;
 use crate::table_text::table_text;
-use esc_bundle::{frame_is_exact, write_bundle};
+use esc_bundle::{Fault, NoMemory, frame_is_exact, write_bundle};
 use esc_envelope::{Envelope, Table, read_envelope};
 use esc_tables::read_deposit;
 use std::alloc::Global;
@@ -39,16 +42,31 @@ fn push_sections(
     Ok(())
 }
 
-// The sections of a description and of the files for the tables that it declares.
-fn described_sections(
+// Adds the section of a description.
+fn push_description(
     alloc: Global,
+    sections: &mut Vec<(String, Vec<u8>)>,
+    description: &[u8],
+) -> Result<(), NoMemory>
+    ensures { OnOk result (map named sections.new.items
+        ≡ map named sections.old.items ++ description_section description.now ∷ []) }
+{
+    let name = String::from_str(alloc, ENVELOPE)?;
+    sections.push((name, Vec::from_slice(alloc, description)?))?;
+    Ok(())
+}
+
+// Adds the sections of a description and of the files for the tables that it declares.
+fn push_described(
+    alloc: Global,
+    sections: &mut Vec<(String, Vec<u8>)>,
     description: &[u8],
     envelope: &Envelope,
     given: &[TableFiles<'_>],
-) -> Result<Vec<(String, Vec<u8>)>, BundleFault>
+) -> Result<(), BundleFault>
     ensures matched { OnOk result (length given.now ≡ length (tables_of envelope.now)) }
-    ensures sections { IfOk result (λ sections. map named sections.items
-        ≡ description_section description.now
+    ensures sections { OnOk result (map named sections.new.items ≡ map named sections.old.items
+        ++ description_section description.now
         ∷ sections_of (tables_of envelope.now) given.now) }
     ensures read { OnOk result (All IsReadBack given.now) }
     ensures headed { OnOk result (All AreHeaded (zip (tables_of envelope.now) given.now)) }
@@ -59,12 +77,46 @@ fn described_sections(
         return Err(BundleFault::Unmatched);
     }
     let (first, rest) = given.split_at(contents.len());
+    push_description(alloc, sections, description)?;
+    push_sections(alloc, sections, contents, first, 0)?;
+    push_sections(alloc, sections, deletes, rest, contents.len())?;
+    Ok(())
+}
+
+// The sections of a description and of the files for the tables that it declares.
+fn described_sections(
+    alloc: Global,
+    description: &[u8],
+    given: &[TableFiles<'_>],
+) -> Result<Vec<(String, Vec<u8>)>, BundleFault>
+    ensures { IfOk result (λ sections.
+        AreSectionsOf description.now given.now (map named sections.items)) }
+{
+    let envelope = read_envelope(alloc, description)?;
     let mut sections = Vec::new(alloc);
-    let name = String::from_str(alloc, ENVELOPE)?;
-    sections.push((name, Vec::from_slice(alloc, description)?))?;
-    push_sections(alloc, &mut sections, contents, first, 0)?;
-    push_sections(alloc, &mut sections, deletes, rest, contents.len())?;
+    push_described(alloc, &mut sections, description, &envelope, given)?;
     Ok(sections)
+}
+
+// The bundle of a description and of the files for the tables that it declares.
+fn described_bundle(
+    alloc: Global,
+    description: &[u8],
+    given: &[TableFiles<'_>],
+) -> Result<Vec<u8>, BundleFault>
+    ensures { IfOk result (λ body. (sections : List Named)
+        × AreSectionsOf description.now given.now sections × IsBundle body.items sections) }
+{
+    let sections = described_sections(alloc, description, given)?;
+    Ok(write_bundle(alloc, &sections)?)
+}
+
+// Reads a body as a deposit.
+fn check_deposit(alloc: Global, body: &[u8]) -> Result<(), Fault>
+    ensures { OnOk result ((d : DepositValue) × (reading body.now ≡ Ok d)) }
+{
+    read_deposit(alloc, body)?;
+    Ok(())
 }
 
 /// The bundle of a description, which is its first section as it is, and of the files that an agent
@@ -82,10 +134,8 @@ pub fn bundle_of_files(
 ) -> Result<Vec<u8>, BundleFault>
     ensures bundled { IfOk result (λ body. IsBundleOf description.now given.now body.items) }
 {
-    let envelope = read_envelope(alloc, description)?;
-    let sections = described_sections(alloc, description, &envelope, given)?;
-    let body = write_bundle(alloc, &sections)?;
-    read_deposit(alloc, &body)?;
+    let body = described_bundle(alloc, description, given)?;
+    check_deposit(alloc, &body)?;
     frame_is_exact();
     Ok(body)
 }

@@ -1,8 +1,18 @@
 //! The description that is proposed of a folder's files.
 
-ghost use Rattle.std.specs.Prelude.{◌≡◌, IfOk, option_map, string_bytes};
+ghost use Rattle.std.specs.Prelude.{
+  ◌≡◌,
+  IfOk,
+  OnOk,
+  Ok,
+  length,
+  true,
+  option_map,
+  string_bytes,
+};
 ghost use Rattle.std.specs.Str.{bytes_eq};
 ghost use Rattle.std.specs.List.{list_all, list_any, find, zip};
+ghost use Rattle.esc_envelope.specs.Envelope.{envelope_of};
 ghost use Rattle.esc_pack.specs.KnownTables.{known_tables, file_stem};
 ghost use Rattle.esc_pack.specs.Describing.{
   is_file_of,
@@ -147,6 +157,60 @@ fn are_right(unknown: &[Unknown]) -> bool
     unknown.iter().all(|said| is_right(said))
 }
 
+// Whether the tables of a description are as many as those whose files it names, it accounts for
+// all files of the folder, and what it says of those that it doesn't name is right.
+fn is_proposed(
+    envelope: &Envelope,
+    sources: &Sources,
+    unknown: &[Unknown],
+    files: &[FolderFile<'_>],
+) -> bool
+    ensures contents { result ≡ true
+        → length sources.now.contents ≡ length envelope.now.contents }
+    ensures deletes { result ≡ true
+        → length sources.now.deletes ≡ length envelope.now.deletes }
+    ensures accounted { result ≡ true
+        → list_all (is_accounted envelope.now sources.now unknown.now) files.now ≡ true }
+    ensures right { result ≡ true → list_all is_right unknown.now ≡ true }
+{
+    sources.contents.len() == envelope.contents.len()
+        && sources.deletes.len() == envelope.deletes.len()
+        && are_accounted(envelope, sources, unknown, files)
+        && are_right(unknown)
+}
+
+// Tests a proposal, of which this envelope was read.
+fn check_sources(
+    alloc: Global,
+    files: &[FolderFile<'_>],
+    proposal: &Proposal,
+    envelope: &Envelope,
+) -> Result<(), BundleFault>
+    ensures { OnOk result (envelope_of proposal.now.text ≡ Ok envelope.now
+        → IsProposalOf files.now proposal.now) }
+{
+    let Some(sources) = read_sources(alloc, &proposal.text)? else {
+        return Err(BundleFault::Unmatched);
+    };
+    if is_proposed(envelope, &sources, &proposal.unknown, files) {
+        Ok(())
+    } else {
+        Err(BundleFault::Unmatched)
+    }
+}
+
+// Reads a proposal again, and tests what it says.
+fn check_proposal(
+    alloc: Global,
+    files: &[FolderFile<'_>],
+    proposal: &Proposal,
+) -> Result<(), BundleFault>
+    ensures { OnOk result (IsProposalOf files.now proposal.now) }
+{
+    let envelope = read_envelope(alloc, &proposal.text)?;
+    check_sources(alloc, files, proposal, &envelope)
+}
+
 /// The description that is proposed of a folder's files, by their names and their headings, and the
 /// files that it doesn't name. Before it is returned it is read again, as an envelope and as the
 /// files of its tables (`read_sources`).
@@ -159,16 +223,6 @@ pub fn describe_files(alloc: Global, files: &[FolderFile<'_>]) -> Result<Proposa
     ensures { IfOk result (λ p. IsProposalOf files.now p) }
 {
     let proposal = draft(alloc, files)?;
-    let envelope = read_envelope(alloc, &proposal.text)?;
-    let Some(sources) = read_sources(alloc, &proposal.text)? else {
-        return Err(BundleFault::Unmatched);
-    };
-    if sources.contents.len() != envelope.contents.len()
-        || sources.deletes.len() != envelope.deletes.len()
-        || !are_accounted(&envelope, &sources, &proposal.unknown, files)
-        || !are_right(&proposal.unknown)
-    {
-        return Err(BundleFault::Unmatched);
-    }
+    check_proposal(alloc, files, &proposal)?;
     Ok(proposal)
 }

@@ -55,18 +55,34 @@ fn texts_of(alloc: Global, line: &Record) -> Result<Vec<String>, NoMemory> {
     Ok(texts)
 }
 
+// Reads the first row of a file, and returns whether there is one.
+fn read_first(alloc: Global, bytes: &[u8], line: &mut Record) -> Result<bool, NoMemory> {
+    let mut rows = Records::of(alloc, bytes);
+    rows.next(line)
+}
+
+// The texts of the first row of a file, if it has one.
+fn first_texts(alloc: Global, bytes: &[u8]) -> Result<Vec<String>, NoMemory> {
+    let mut line = Record::new(alloc);
+    if read_first(alloc, bytes, &mut line)? {
+        texts_of(alloc, &line)
+    } else {
+        Ok(Vec::new(alloc))
+    }
+}
+
+// Which of these texts is the key, if they are the fields of this table.
+fn key_of(table: KnownTable, fields: &[String]) -> Option<usize> {
+    if !are_fields(fields) {
+        return None;
+    }
+    fields.iter().position(|field| table.is_key(field.as_str()))
+}
+
 // The first row of a file, if it is a heading of this table.
 fn heading_of(alloc: Global, table: KnownTable, bytes: &[u8]) -> Result<Option<Heading>, NoMemory> {
-    let mut line = Record::new(alloc);
-    let mut rows = Records::of(alloc, bytes);
-    if !rows.next(&mut line)? {
-        return Ok(None);
-    }
-    let fields = texts_of(alloc, &line)?;
-    if !are_fields(&fields) {
-        return Ok(None);
-    }
-    match fields.iter().position(|field| table.is_key(field.as_str())) {
+    let fields = first_texts(alloc, bytes)?;
+    match key_of(table, &fields) {
         Some(key) => Ok(Some(Heading { fields, key })),
         None => Ok(None),
     }
@@ -143,39 +159,40 @@ fn push_json(alloc: Global, text: &mut String, word: &str) -> Result<(), NoMemor
     Ok(())
 }
 
-fn push_list(alloc: Global, text: &mut String, words: &[&str]) -> Result<(), NoMemory> {
-    text.push_str("[")?;
-    for (place, word) in words.iter().enumerate() {
-        if place > 0 {
-            text.push_str(",")?;
-        }
-        push_json(alloc, text, word)?;
+// What stands between the items of a list, unless this is the first.
+fn push_comma(text: &mut String, comma: &str) -> Result<(), NoMemory> {
+    if !text.as_str().ends_with("[") {
+        text.push_str(comma)?;
+    }
+    Ok(())
+}
+
+fn push_fields(alloc: Global, text: &mut String, fields: &[String]) -> Result<(), NoMemory> {
+    text.push_str(",\"fields\":[")?;
+    for field in fields {
+        push_comma(text, ",")?;
+        push_json(alloc, text, field.as_str())?;
     }
     text.push_str("]")?;
     Ok(())
 }
 
-fn field_names<'a>(alloc: Global, heading: &'a Heading) -> Result<Vec<&'a str>, NoMemory> {
-    let mut names = Vec::new(alloc);
-    for field in &heading.fields {
-        names.push(field.as_str())?;
-    }
-    Ok(names)
-}
-
 // The names of the files of a table.
-fn file_names<'a>(
+fn push_files(
     alloc: Global,
-    told: &[Told<'a>],
+    text: &mut String,
+    told: &[Told<'_>],
     table: KnownTable,
-) -> Result<Vec<&'a str>, NoMemory> {
-    let mut names = Vec::new(alloc);
+) -> Result<(), NoMemory> {
+    text.push_str(",\"from\":[")?;
     for file in told {
         if file.table == Some(table) && why_not(told, file).is_none() {
-            names.push(file.name)?;
+            push_comma(text, ",")?;
+            push_json(alloc, text, file.name)?;
         }
     }
-    Ok(names)
+    text.push_str("]")?;
+    Ok(())
 }
 
 fn push_words(
@@ -184,22 +201,32 @@ fn push_words(
     table: KnownTable,
     key: &str,
 ) -> Result<(), NoMemory> {
-    let name = table.table_name();
-    let kind = table.kind().name();
+    let (name, kind) = (table.table_name(), table.kind().name());
     let role = if table.is_parent() { "parent" } else { "child" };
-    let front = if table.is_of_deletes() {
-        "deleted-"
-    } else {
-        ""
-    };
-    let file = name.to_ascii_lowercase(alloc)?;
-    let words = format!(in alloc; "{{\"name\":\"{name}\",\"kind\":\"{kind}\",\"role\":\"{role}\"")?;
-    text.push_str(words.as_str())?;
     let words = format!(in alloc;
-        ",\"key\":\"{key}\",\"file\":\"{front}{file}.csv\",\"heading\":true"
+        "{{\"name\":\"{name}\",\"kind\":\"{kind}\",\"role\":\"{role}\",\"key\":\"{key}\""
     )?;
     text.push_str(words.as_str())?;
     Ok(())
+}
+
+// The name of the section of a table.
+fn push_section(alloc: Global, text: &mut String, table: KnownTable) -> Result<(), NoMemory> {
+    text.push_str(",\"file\":\"")?;
+    if table.is_of_deletes() {
+        text.push_str("deleted-")?;
+    }
+    let name = table.table_name().to_ascii_lowercase(alloc)?;
+    text.push_str(name.as_str())?;
+    text.push_str(".csv\",\"heading\":true")?;
+    Ok(())
+}
+
+fn key_field(heading: &Heading) -> &str {
+    match heading.fields.get(heading.key) {
+        Some(key) => key.as_str(),
+        None => "",
+    }
 }
 
 // The declaration of a table, if a file with a heading is of it.
@@ -212,18 +239,11 @@ fn push_table(
     let Some(heading) = first_heading(told, table) else {
         return Ok(());
     };
-    if !text.as_str().ends_with("[") {
-        text.push_str(",\n")?;
-    }
-    let key = match heading.fields.get(heading.key) {
-        Some(key) => key.as_str(),
-        None => "",
-    };
-    push_words(alloc, text, table, key)?;
-    text.push_str(",\"fields\":")?;
-    push_list(alloc, text, &field_names(alloc, heading)?)?;
-    text.push_str(",\"from\":")?;
-    push_list(alloc, text, &file_names(alloc, told, table)?)?;
+    push_comma(text, ",\n")?;
+    push_words(alloc, text, table, key_field(heading))?;
+    push_section(alloc, text, table)?;
+    push_fields(alloc, text, &heading.fields)?;
+    push_files(alloc, text, told, table)?;
     text.push_str("}")?;
     Ok(())
 }
@@ -244,17 +264,26 @@ fn push_tables(
     Ok(())
 }
 
+fn push_description(alloc: Global, text: &mut String, told: &[Told<'_>]) -> Result<(), NoMemory> {
+    text.push_str(FRONT)?;
+    text.push_str(",\n\"contents\":")?;
+    push_tables(alloc, text, told, false)?;
+    text.push_str(",\n\"deletes\":")?;
+    push_tables(alloc, text, told, true)?;
+    text.push_str("}\n")?;
+    Ok(())
+}
+
+fn description_of(alloc: Global, told: &[Told<'_>]) -> Result<Vec<u8>, NoMemory> {
+    let mut text = String::new(alloc);
+    push_description(alloc, &mut text, told)?;
+    Ok(text.into_bytes())
+}
+
 /// A description of these files, and which of them it doesn't name.
 pub(crate) fn draft(alloc: Global, files: &[FolderFile<'_>]) -> Result<Proposal, NoMemory> {
     let told = told_files(alloc, files)?;
-    let mut text = String::from_str(alloc, FRONT)?;
-    text.push_str(",\n\"contents\":")?;
-    push_tables(alloc, &mut text, &told, false)?;
-    text.push_str(",\n\"deletes\":")?;
-    push_tables(alloc, &mut text, &told, true)?;
-    text.push_str("}\n")?;
-    Ok(Proposal {
-        text: Vec::from_slice(alloc, text.as_str().as_bytes())?,
-        unknown: unknown_of(alloc, &told)?,
-    })
+    let text = description_of(alloc, &told)?;
+    let unknown = unknown_of(alloc, &told)?;
+    Ok(Proposal { text, unknown })
 }

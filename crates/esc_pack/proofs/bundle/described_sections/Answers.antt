@@ -1,55 +1,14 @@
-use Rattle.std.proofs.Common.{◌≡◌, ◌∙◌, ◌∷◌, ◌≤◌, [], List, length, take, drop, map, string_bytes, refl, sym, ap, subst, arith, rules}
-use Rattle.std.specs.Prelude.{All}
-use Rattle.std.specs.List.{zip}
-use Rattle.std.proofs.lemmas.List.{take-append-drop}
-use Rattle.std.proofs.lemmas.List.Elements.{All-append}
-use Rattle.esc_bundle.specs.Bundle.{Named, envelope_name}
-use Rattle.esc_bundle.specs.Writing.{named}
-use Rattle.esc_envelope.specs.EnvelopeValue.{TableValue}
-use Rattle.esc_pack.specs.GivenRows.{GivenTable, IsReadBack}
-use Rattle.esc_pack.specs.Bundling.{description_section, sections_of, AreHeaded}
-use Rattle.esc_pack.proofs.SectionFacts.{in_parts, sections_split}
+use Rattle.std.proofs.Common.{◌∙◌, refl}
 use Rattle.esc_pack.proofs.bundle.described_sections.Goals as goal
 
-pub returns-clause-sections : goal.returns-clause-sections
-returns-clause-sections c =
-    let given = c.args.given.now in
-    let first = c.as_slice-contents.result.now in
-    let fits : length first ≤ length given = omega (arith, c.if-given-contents.false) in
-    let parts = in_parts given c.envelope.view_is c.as_slice-contents.ensures.value c.as_slice-deletes.ensures.value fits in
-    let description = description_section c.args.description.now in
-    let name : string_bytes c.in_ok-name.name ≡ envelope_name = search rules in
-    let bytes : c.in_ok-from_slice.field-0.items ≡ c.args.description.now = search rules in
-    let told : named (c.in_ok-name.name, c.in_ok-from_slice.field-0) ≡ description =
-    λ i. record { name = name i; bytes = bytes i } in
-    let zero : map named c.push.new.self.items ≡ description ∷ [] =
-    ap (map named) c.in_ok-push.ensures.items ∙ rw (c.new-sections.ensures.items) (ap (λ (s : Named). s ∷ []) told) in
-    let one : map named c.push_sections.new.sections.items ≡ description ∷ sections_of first (take (length first) given) =
-    c.in_ok-push_sections.ensures.pushed ∙ rw (zero, c.split_at.ensures.front) refl in
-    let all = sym (sections_split _ _ parts) in
-    c.in_ok-push_sections-2.ensures.pushed
-    ∙ rw (one, c.split_at.ensures.back) (ap (λ (ss : List Named). description ∷ ss) all)
-
-pub returns-clause-read : goal.returns-clause-read
-returns-clause-read c =
-    let given = c.args.given.now in
-    let n = length c.as_slice-contents.result.now in
-    let front : All IsReadBack (take n given) =
-    subst (λ (gs : List GivenTable). All IsReadBack gs) c.split_at.ensures.front c.in_ok-push_sections.ensures.read in
-    let back : All IsReadBack (drop n given) =
-    subst (λ (gs : List GivenTable). All IsReadBack gs) c.split_at.ensures.back c.in_ok-push_sections-2.ensures.read in
-    let all = All-append IsReadBack (take n given) (drop n given) front back in
-    subst (λ (gs : List GivenTable). All IsReadBack gs) (take-append-drop n given) all
-
-pub returns-clause-headed : goal.returns-clause-headed
-returns-clause-headed c =
-    let given = c.args.given.now in
-    let first = c.as_slice-contents.result.now in
-    let more = c.as_slice-deletes.result.now in
-    let fits : length first ≤ length given = omega (arith, c.if-given-contents.false) in
-    let parts = in_parts given c.envelope.view_is c.as_slice-contents.ensures.value c.as_slice-deletes.ensures.value fits in
-    let front : All AreHeaded (zip first (take (length first) given)) =
-    subst (λ (gs : List GivenTable). All AreHeaded (zip first gs)) c.split_at.ensures.front c.in_ok-push_sections.ensures.headed in
-    let back : All AreHeaded (zip more (drop (length first) given)) =
-    subst (λ (gs : List GivenTable). All AreHeaded (zip more gs)) c.split_at.ensures.back c.in_ok-push_sections-2.ensures.headed in
-    subst (λ (ps : List (TableValue × GivenTable)). All AreHeaded ps) (sym parts) (All-append AreHeaded _ _ front back)
+pub returns : goal.returns
+returns c =
+    let told = c.in_ok-push_described.ensures in
+    record {
+      envelope = c.in_ok-envelope.envelope;
+      told = c.in_ok-envelope.ensures.envelope;
+      matched = told.matched;
+      headings = told.headed;
+      are = told.sections ∙ rw (c.new-sections.ensures.items) refl;
+      read = told.read;
+    }
