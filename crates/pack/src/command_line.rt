@@ -2,8 +2,8 @@
 
 use crate::bundle::{Bundling, write_bundle};
 use crate::describe::describe;
-use crate::files::read_bundles;
-use crate::stop::{DONE, Stop, USAGE, print, tell_stop};
+use crate::files::{read_bundles, slices_of};
+use crate::stop::{DONE, Refusal, Stop, USAGE, print, tell_stop};
 use clap::error::ErrorKind;
 use clap::{Arg, ArgMatches, Command, Error};
 use esc_pack::{ReleaseFault, manifest_of_bundles};
@@ -37,11 +37,6 @@ folder), S2 (no memory).
 Status: 0 done; 1 refused by E2, U, M or H; 2 other words; 3 stopped by E1 or S2.
 ";
 
-const MANIFEST: &str = "Prints the release manifest of these bundles, in the order of places";
-
-const BUNDLE: &str =
-    "Writes the bundle of a folder's CSV files, whose tables a description declares";
-
 const DESCRIPTION: &str = "\
 The description is the bundle's envelope, with two more members that a table may have: \"from\", an
 array of the names of its files in DIR, whose rows follow each other (without it the one that
@@ -52,9 +47,6 @@ which is dropped:
     {\"name\":\"contact\",\"kind\":\"contact\",\"role\":\"parent\",\"key\":\"id\",\"fields\":[\"id\",\"clID\"],
     \"file\":\"c.csv\",\"from\":[\"Contacts_1.csv\",\"Contacts_2.csv\"],\"heading\":true}]}
 ";
-
-const DESCRIBE: &str =
-    "Proposes a description of a folder's CSV files, by their names and their headings";
 
 const PROPOSAL: &str = "\
 A file is known by what its name has before the first dash or dot of its ending, as in domain.csv
@@ -70,58 +62,137 @@ the type and the watermark, for which the description has ID, FULL and 1970-01-0
 each file that it doesn't name. Set them, and give the description to pack bundle.
 ";
 
-fn manifest_command<'a>(alloc: Global) -> Result<Command<'a>, AllocError> {
-    let bundles = Arg::new(alloc, "bundle")
-        .value_name("BUNDLE")
-        .required(true)
-        .num_args(1..)
-        .help("The files of the bundles, in any order");
-    Command::new(alloc, "manifest").about(MANIFEST).arg(bundles)
+/// An argument of a command. Each is required.
+struct Argument {
+    id: &'static str,
+    value_name: &'static str,
+    form: ArgumentForm,
+    help: &'static str,
 }
 
-fn bundle_command<'a>(alloc: Global) -> Result<Command<'a>, AllocError> {
-    let envelope = Arg::new(alloc, "envelope")
-        .long("envelope")
-        .value_name("FILE")
-        .required(true)
-        .help("The description of the tables");
-    let folder = Arg::new(alloc, "folder")
-        .value_name("DIR")
-        .required(true)
-        .help("The folder of the files");
-    let target = Arg::new(alloc, "target")
-        .value_name("OUT")
-        .required(true)
-        .help("Where the bundle is written; nothing may be there");
-    Command::new(alloc, "bundle")
-        .about(BUNDLE)
-        .after_help(DESCRIPTION)
-        .arg(envelope)?
-        .arg(folder)?
-        .arg(target)
+/// How the words give an argument.
+enum ArgumentForm {
+    /// An option, `--ID VALUE`.
+    Option,
+    /// One word, known by its place.
+    Word,
+    /// All words from its place on, at least one.
+    Words,
 }
 
-fn describe_command<'a>(alloc: Global) -> Result<Command<'a>, AllocError> {
-    let folder = Arg::new(alloc, "described")
-        .value_name("DIR")
-        .required(true)
-        .help("The folder of the files");
-    Command::new(alloc, "describe")
-        .about(DESCRIBE)
-        .after_help(PROPOSAL)
-        .arg(folder)
+/// A command of the program.
+struct Form {
+    name: &'static str,
+    about: &'static str,
+    /// What its help ends with.
+    details: Option<&'static str>,
+    arguments: &'static [Argument],
 }
 
-fn command_line<'a>(alloc: Global) -> Result<Command<'a>, AllocError> {
+static COMMANDS: [Form; 3] = [
+    Form {
+        name: "manifest",
+        about: "Prints the release manifest of these bundles, in the order of places",
+        details: None,
+        arguments: &[Argument {
+            id: "bundle",
+            value_name: "BUNDLE",
+            form: ArgumentForm::Words,
+            help: "The files of the bundles, in any order",
+        }],
+    },
+    Form {
+        name: "bundle",
+        about: "Writes the bundle of a folder's CSV files, whose tables a description declares",
+        details: Some(DESCRIPTION),
+        arguments: &[
+            Argument {
+                id: "envelope",
+                value_name: "FILE",
+                form: ArgumentForm::Option,
+                help: "The description of the tables",
+            },
+            Argument {
+                id: "folder",
+                value_name: "DIR",
+                form: ArgumentForm::Word,
+                help: "The folder of the files",
+            },
+            Argument {
+                id: "target",
+                value_name: "OUT",
+                form: ArgumentForm::Word,
+                help: "Where the bundle is written; nothing may be there",
+            },
+        ],
+    },
+    Form {
+        name: "describe",
+        about: "Proposes a description of a folder's CSV files, by their names and their headings",
+        details: Some(PROPOSAL),
+        arguments: &[Argument {
+            id: "described",
+            value_name: "DIR",
+            form: ArgumentForm::Word,
+            help: "The folder of the files",
+        }],
+    },
+];
+
+impl Argument {
+    fn arg<'a>(&self, alloc: Global) -> Arg<'a> {
+        let arg = Arg::new(alloc, self.id)
+            .value_name(self.value_name)
+            .required(true)
+            .help(self.help);
+        match self.form {
+            ArgumentForm::Option => arg.long(self.id),
+            ArgumentForm::Word => arg,
+            ArgumentForm::Words => arg.num_args(1..),
+        }
+    }
+}
+
+impl Form {
+    fn command<'a>(&self, alloc: Global) -> Result<Command<'a>, AllocError> {
+        let mut command = self.heading(alloc);
+        for argument in self.arguments {
+            command = command.arg(argument.arg(alloc))?;
+        }
+        Ok(command)
+    }
+
+    // The command without its arguments.
+    fn heading<'a>(&self, alloc: Global) -> Command<'a> {
+        let command = Command::new(alloc, self.name).about(self.about);
+        match self.details {
+            Some(details) => command.after_help(details),
+            None => command,
+        }
+    }
+}
+
+// The program without its commands.
+fn program<'a>(alloc: Global) -> Command<'a> {
     Command::new(alloc, "pack")
         .version(VERSION)
         .about(ABOUT)
         .after_help(DETAILS)
         .subcommand_required(true)
         .arg_required_else_help(true)
-        .subcommand(manifest_command(alloc)?)?
-        .subcommand(bundle_command(alloc)?)?
-        .subcommand(describe_command(alloc)?)
+}
+
+fn command_line<'a>(alloc: Global) -> Result<Command<'a>, AllocError> {
+    let commands = commands(alloc)?;
+    program(alloc).subcommands(commands)
+}
+
+fn commands<'a>(alloc: Global) -> Result<Vec<Command<'a>>, AllocError> {
+    let mut commands = Vec::new(alloc);
+    for form in COMMANDS.as_slice() {
+        commands.push(form.command(alloc)?)?;
+    }
+    Ok(commands)
 }
 
 fn matches_of<'a>(alloc: Global, words: &'a [String]) -> Result<ArgMatches<'a>, Error> {
@@ -196,22 +267,19 @@ fn print_description<E: Write>(
 // `manifest BUNDLE..`: the release manifest of the bundles at these paths.
 fn manifest(rt: &HostRuntime, paths: &[&str]) -> Result<Vec<u8>, Stop> {
     let files = read_bundles(rt, paths)?;
-    let mut bodies: Vec<&[u8]> = Vec::new(rt.alloc());
-    for file in &files {
-        bodies.push(file.as_slice())?;
-    }
+    let bodies = slices_of(rt, &files)?;
     match manifest_of_bundles(rt.alloc(), &bodies) {
         Ok(text) => Ok(text),
-        Err(fault) => Err(stop_of(rt, paths, fault)),
+        Err(fault) => Err(stop_of(rt, paths, &fault)),
     }
 }
 
 // A fault, with the path of the bundle that has it.
-fn stop_of(rt: &HostRuntime, paths: &[&str], fault: ReleaseFault) -> Stop {
-    match fault {
+fn stop_of(rt: &HostRuntime, paths: &[&str], fault: &ReleaseFault) -> Stop {
+    match *fault {
         ReleaseFault::Unread { bundle, code } => {
             let path = paths.get(bundle).copied().unwrap_or("");
-            Stop::unread(rt, code, path)
+            Stop::at(rt, Refusal::Unread(code), path)
         }
         ReleaseFault::Unlisted { code, row } => Stop::Unlisted { code, row },
         ReleaseFault::NoMemory => Stop::NoMemory,

@@ -1,9 +1,8 @@
 //! `describe DIR`: a description of a folder's files.
 
-use crate::bundle::path_in;
-use crate::files::{folder_names, read_bundle};
-use crate::stop::Stop;
-use esc_pack::{BundleFault, FolderFile, Proposal, describe_files};
+use crate::files::{folder_names, read_files};
+use crate::stop::{Refusal, Stop};
+use esc_pack::{BundleFault, FolderFile, Proposal, Unknown, describe_files};
 
 /// What no file says, so that the description has placeholders for it.
 const UNTOLD: &str = "unknown id\nunknown type\nunknown watermark\n";
@@ -18,44 +17,62 @@ pub struct Description {
 /// The description that is proposed of the plain files of a folder.
 pub fn describe(rt: &HostRuntime, folder: &str) -> Result<Description, Stop> {
     let found = folder_names(rt, folder)?;
-    let bodies = read_bodies(rt, folder, &found.names)?;
+    let proposal = proposal_of(rt, folder, &found.names)?;
+    let unknown = untold(rt, &proposal.unknown, found.unnamed)?;
+    Ok(Description {
+        text: proposal.text,
+        unknown,
+    })
+}
+
+// The description of the files of these names.
+fn proposal_of(rt: &HostRuntime, folder: &str, names: &[String]) -> Result<Proposal, Stop> {
+    let bodies = read_files(rt, folder, names)?;
+    let files = named_files(rt, names, &bodies)?;
+    match describe_files(rt.alloc(), &files) {
+        Ok(proposal) => Ok(proposal),
+        Err(BundleFault::NoMemory) => Err(Stop::NoMemory),
+        Err(_) => Err(Stop::at(rt, Refusal::Undescribed, folder)),
+    }
+}
+
+fn named_files<'a>(
+    rt: &HostRuntime,
+    names: &'a [String],
+    bodies: &'a [Vec<u8>],
+) -> Result<Vec<FolderFile<'a>>, Stop> {
     let mut files = Vec::new(rt.alloc());
-    for (name, bytes) in found.names.iter().zip(&bodies) {
+    for (name, bytes) in names.iter().zip(bodies) {
         files.push(FolderFile {
             name: name.as_str(),
             bytes: bytes.as_slice(),
         })?;
     }
-    match describe_files(rt.alloc(), &files) {
-        Ok(proposal) => described(rt, proposal, found.unnamed),
-        Err(BundleFault::NoMemory) => Err(Stop::NoMemory),
-        Err(_) => Err(Stop::undescribed(rt, folder)),
-    }
+    Ok(files)
 }
 
-fn read_bodies(rt: &HostRuntime, folder: &str, names: &[String]) -> Result<Vec<Vec<u8>>, Stop> {
-    let mut bodies = Vec::new(rt.alloc());
-    for name in names {
-        let path = path_in(rt, folder, name.as_str())?;
-        bodies.push(read_bundle(rt, path.as_str())?)?;
+// What a description doesn't say.
+fn untold(rt: &HostRuntime, files: &[Unknown], unnamed: u64) -> Result<String, Stop> {
+    let mut lines = String::from_str(rt.alloc(), UNTOLD)?;
+    for file in files {
+        push_file(rt, &mut lines, file)?;
     }
-    Ok(bodies)
+    if unnamed > 0 {
+        push_unnamed(rt, &mut lines, unnamed)?;
+    }
+    Ok(lines)
 }
 
 // A name is printed as Rust writes a string, so that it is one line whatever it has.
-fn described(rt: &HostRuntime, proposal: Proposal, unnamed: u64) -> Result<Description, Stop> {
-    let mut unknown = String::from_str(rt.alloc(), UNTOLD)?;
-    for file in &proposal.unknown {
-        let (name, why) = (file.name.as_str(), file.why);
-        let line = format!(in rt.alloc(); "unknown file {name:?}: {why}\n")?;
-        unknown.push_str(line.as_str())?;
-    }
-    if unnamed > 0 {
-        let line = format!(in rt.alloc(); "unknown files: {unnamed} whose names are no UTF-8\n")?;
-        unknown.push_str(line.as_str())?;
-    }
-    Ok(Description {
-        text: proposal.text,
-        unknown,
-    })
+fn push_file(rt: &HostRuntime, lines: &mut String, file: &Unknown) -> Result<(), Stop> {
+    let (name, why) = (file.name.as_str(), file.why);
+    let line = format!(in rt.alloc(); "unknown file {name:?}: {why}\n")?;
+    lines.push_str(line.as_str())?;
+    Ok(())
+}
+
+fn push_unnamed(rt: &HostRuntime, lines: &mut String, unnamed: u64) -> Result<(), Stop> {
+    let line = format!(in rt.alloc(); "unknown files: {unnamed} whose names are no UTF-8\n")?;
+    lines.push_str(line.as_str())?;
+    Ok(())
 }

@@ -1,6 +1,6 @@
 //! Files.
 
-use crate::stop::Stop;
+use crate::stop::{Refusal, Stop};
 use std::fs::{self, File};
 use std::io::{Error, ErrorKind, Read, Write};
 
@@ -14,6 +14,34 @@ pub fn read_bundles(rt: &HostRuntime, paths: &[&str]) -> Result<Vec<Vec<u8>>, St
         bundles.push(read_bundle(rt, path)?)?;
     }
     Ok(bundles)
+}
+
+/// The bytes of the files with these names in a folder, in their order.
+pub fn read_files(rt: &HostRuntime, folder: &str, names: &[String]) -> Result<Vec<Vec<u8>>, Stop> {
+    let mut files = Vec::new(rt.alloc());
+    for name in names {
+        files.push(read_named(rt, folder, name.as_str())?)?;
+    }
+    Ok(files)
+}
+
+fn read_named(rt: &HostRuntime, folder: &str, name: &str) -> Result<Vec<u8>, Stop> {
+    let path = path_in(rt, folder, name)?;
+    read_bundle(rt, path.as_str())
+}
+
+/// The bytes of files, borrowed.
+pub fn slices_of<'a>(rt: &HostRuntime, files: &'a [Vec<u8>]) -> Result<Vec<&'a [u8]>, Stop> {
+    let mut slices: Vec<&'a [u8]> = Vec::new(rt.alloc());
+    for file in files {
+        slices.push(file.as_slice())?;
+    }
+    Ok(slices)
+}
+
+/// The path of a file in a folder.
+pub fn path_in(rt: &HostRuntime, folder: &str, name: &str) -> Result<String, Stop> {
+    Ok(format!(in rt.alloc(); "{folder}/{name}")?)
 }
 
 /// The plain files of a folder: their names in byte order, and how many have one that is no UTF-8.
@@ -34,19 +62,29 @@ pub fn folder_names(rt: &HostRuntime, folder: &str) -> Result<Listing, Stop> {
         unnamed: 0,
     };
     for entry in entries {
-        match entry {
-            Ok(entry) => add_entry(rt, &mut listing, folder, &entry)?,
-            Err(error) if error.kind() == ErrorKind::InvalidFilename => {
-                listing.unnamed = listing.unnamed.saturating_add(1);
-            }
-            Err(error) => return Err(Stop::unreadable(rt, folder, &error)),
-        }
+        add_entry(rt, &mut listing, folder, entry)?;
     }
     listing.names.sort_unstable();
     Ok(listing)
 }
 
 fn add_entry(
+    rt: &HostRuntime,
+    listing: &mut Listing,
+    folder: &str,
+    entry: Result<fs::DirEntry, Error>,
+) -> Result<(), Stop> {
+    match entry {
+        Ok(entry) => add_plain(rt, listing, folder, &entry),
+        Err(error) if error.kind() == ErrorKind::InvalidFilename => {
+            listing.unnamed = listing.unnamed.saturating_add(1);
+            Ok(())
+        }
+        Err(error) => Err(Stop::unreadable(rt, folder, &error)),
+    }
+}
+
+fn add_plain(
     rt: &HostRuntime,
     listing: &mut Listing,
     folder: &str,
@@ -66,7 +104,7 @@ fn add_entry(
 /// The bytes of a plain file of at most 16,777,216 bytes.
 pub fn read_bundle(rt: &HostRuntime, path: &str) -> Result<Vec<u8>, Stop> {
     match front_of(rt, path) {
-        Ok(bytes) if bytes.len() as u64 > MOST_BYTES => Err(Stop::too_large(rt, path)),
+        Ok(bytes) if bytes.len() as u64 > MOST_BYTES => Err(Stop::at(rt, Refusal::TooLarge, path)),
         Ok(bytes) => Ok(bytes),
         Err(error) => Err(Stop::unreadable(rt, path, &error)),
     }
@@ -98,9 +136,8 @@ fn put_file(rt: &HostRuntime, beside: &str, path: &str, bytes: &[u8]) -> Result<
     if fs::symlink_metadata(rt, path).is_ok() {
         return Err(Error::from(ErrorKind::AlreadyExists));
     }
-    let mut file = File::create_new(rt, beside)?;
-    let written = write_whole(&mut file, bytes);
-    let placed = match written {
+    let file = File::create_new(rt, beside)?;
+    let placed = match write_whole(file, bytes) {
         Ok(()) => fs::rename(rt, beside, path),
         Err(error) => Err(error),
     };
@@ -110,7 +147,8 @@ fn put_file(rt: &HostRuntime, beside: &str, path: &str, bytes: &[u8]) -> Result<
     placed
 }
 
-fn write_whole(file: &mut File, bytes: &[u8]) -> Result<(), Error> {
+// Writes a file and closes it.
+fn write_whole(mut file: File, bytes: &[u8]) -> Result<(), Error> {
     file.write_all(bytes)?;
     file.sync_all()
 }

@@ -45,13 +45,19 @@ fn run(rt: &HostRuntime) -> u8 {
 
 // The words, of which the first is the program's name.
 fn given_words(rt: &HostRuntime) -> Result<Vec<String>, Stop> {
+    let mut given = Vec::new(rt.alloc());
+    given.push(String::from_str(rt.alloc(), "pack")?)?;
+    push_words(rt, &mut given)?;
+    Ok(given)
+}
+
+// Adds the words after the program's name.
+fn push_words(rt: &HostRuntime, given: &mut Vec<String>) -> Result<(), Stop> {
     let Ok(all) = env::args(rt) else {
         return Err(Stop::NoMemory);
     };
-    let mut given = Vec::new(rt.alloc());
-    given.push(String::from_str(rt.alloc(), "pack")?)?;
     for word in all.skip(1) {
         given.push(word)?;
     }
-    Ok(given)
+    Ok(())
 }

@@ -17,76 +17,62 @@ pub const USAGE: u8 = 2;
 /// A file failed, or memory was refused.
 const STOPPED: u8 = 3;
 
+/// What is wrong with a file or a folder.
+#[derive(Clone, Copy)]
+pub enum Refusal {
+    /// It can't be read or written.
+    Unreadable,
+    /// It has over 16,777,216 bytes.
+    TooLarge,
+    /// It is no deposit, by the refusal of this number.
+    Unread(u8),
+    /// It begins with another row than the names of the declared fields.
+    Heading,
+    /// This row has another number of fields than declared.
+    Row(usize),
+    /// The rows of a table, of which it is the first file, begin with a byte order mark.
+    Marked,
+    /// The description made of its files doesn't read back as it was made.
+    Undescribed,
+}
+
 /// What the program stops for.
-#[derive(Debug, Drop)]
+#[derive(Drop)]
 pub enum Stop {
-    /// A file can't be read or written; standard output is `-`.
-    Unreadable(String),
-    /// A file has over 16,777,216 bytes.
-    TooLarge(String),
-    /// A bundle is no deposit, by the refusal of this number.
-    Unread { code: u8, path: String },
+    /// What is at this path is refused; standard output is `-`.
+    At { refusal: Refusal, path: String },
     /// No manifest lists the deposits, by the refusal of this number at this row.
     Unlisted { code: u8, row: u32 },
-    /// A file with a heading begins with another row than the names of the declared fields.
-    Heading(String),
-    /// A row of a file has another number of fields than declared.
-    Row { path: String, row: usize },
-    /// The rows of a table begin with a byte order mark, of which this is the first file.
-    Marked(String),
-    /// The description made of a folder's files doesn't read back as it was made.
-    Undescribed(String),
     /// Memory was refused.
     NoMemory,
 }
 
 impl Stop {
+    /// A refusal of what is at a path.
+    pub fn at(rt: &HostRuntime, refusal: Refusal, path: &str) -> Stop {
+        match String::from_str(rt.alloc(), path) {
+            Ok(path) => Stop::At { refusal, path },
+            Err(_) => Stop::NoMemory,
+        }
+    }
+
     /// A file that can't be read or written.
     pub fn unreadable(rt: &HostRuntime, path: &str, error: &Error) -> Stop {
         if error.kind() == ErrorKind::OutOfMemory {
             return Stop::NoMemory;
         }
-        match String::from_str(rt.alloc(), path) {
-            Ok(path) => Stop::Unreadable(path),
-            Err(_) => Stop::NoMemory,
-        }
-    }
-
-    /// A file that is too large for a bundle.
-    pub fn too_large(rt: &HostRuntime, path: &str) -> Stop {
-        match String::from_str(rt.alloc(), path) {
-            Ok(path) => Stop::TooLarge(path),
-            Err(_) => Stop::NoMemory,
-        }
-    }
-
-    /// A bundle that is no deposit, by the refusal of this number.
-    pub fn unread(rt: &HostRuntime, code: u8, path: &str) -> Stop {
-        match String::from_str(rt.alloc(), path) {
-            Ok(path) => Stop::Unread { code, path },
-            Err(_) => Stop::NoMemory,
-        }
-    }
-
-    /// A folder whose description doesn't read back.
-    pub fn undescribed(rt: &HostRuntime, path: &str) -> Stop {
-        match String::from_str(rt.alloc(), path) {
-            Ok(path) => Stop::Undescribed(path),
-            Err(_) => Stop::NoMemory,
-        }
+        Stop::at(rt, Refusal::Unreadable, path)
     }
 
     /// The program's status.
     pub fn status(&self) -> u8 {
         match self {
-            Stop::TooLarge(_)
-            | Stop::Unread { .. }
-            | Stop::Unlisted { .. }
-            | Stop::Heading(_)
-            | Stop::Row { .. }
-            | Stop::Marked(_)
-            | Stop::Undescribed(_) => REFUSED,
-            Stop::Unreadable(_) | Stop::NoMemory => STOPPED,
+            Stop::At {
+                refusal: Refusal::Unreadable,
+                ..
+            }
+            | Stop::NoMemory => STOPPED,
+            Stop::At { .. } | Stop::Unlisted { .. } => REFUSED,
         }
     }
 }
@@ -94,17 +80,24 @@ impl Stop {
 impl fmt::Display for Stop {
     fn fmt<W: fmt::Write>(&self, f: &mut fmt::Formatter<W>) -> fmt::Result {
         match self {
-            Stop::Unreadable(path) => write!(f, "E1 {path}"),
-            Stop::TooLarge(path) => write!(f, "E2 {path}"),
-            Stop::Unread { code, path } => write!(f, "U{code} {path}"),
+            Stop::At { refusal, path } => fmt_at(f, *refusal, path),
             Stop::Unlisted { code, row } => write!(f, "M{code} row {row}"),
-            Stop::Heading(path) => write!(f, "H1 {path}"),
-            Stop::Row { path, row } => write!(f, "U9 {path} row {row}"),
-            Stop::Marked(path) => write!(f, "H2 {path}"),
-            Stop::Undescribed(path) => write!(f, "H3 {path}"),
             Stop::NoMemory => f.write_str("S2"),
         }
     }
+}
+
+fn fmt_at<W: fmt::Write>(f: &mut fmt::Formatter<W>, refusal: Refusal, path: &str) -> fmt::Result {
+    let name = match refusal {
+        Refusal::Unread(code) => return write!(f, "U{code} {path}"),
+        Refusal::Row(row) => return write!(f, "U9 {path} row {row}"),
+        Refusal::Unreadable => "E1",
+        Refusal::TooLarge => "E2",
+        Refusal::Heading => "H1",
+        Refusal::Marked => "H2",
+        Refusal::Undescribed => "H3",
+    };
+    write!(f, "{name} {path}")
 }
 
 impl From<NoMemory> for Stop {
