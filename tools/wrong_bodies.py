@@ -4,10 +4,12 @@ An edit is a file with lines 'file: PATH', 'old: TEXT' and 'new: TEXT'; each old
 before them names the clauses that the wrong body breaks: the check is asked for these alone of what the function ensures, so that it is
 refused for its own reason, and sooner. What a part of a contract refuses the whole refuses.
 
-Edits of different functions are made together in one copy of the crate, and one check is asked for just these functions: what it says of
-each function is the verdict on its edit. A function's proof rests on the contracts of those that it calls and not on their bodies, so
-that one wrong body hides no other; an edit that takes clauses away from a function is not tried beside one of a function that calls it.
-What isn't refused so is tried alone, and, where it names no clause, at last with a check of the whole crate."""
+Edits are made together in one copy of the crate, and one check is asked for just the functions that they change: what it says of each is
+the verdict on its edit. The function of an edit is written a second time, below the right one and under a name of its own, with the files
+of its proof: so no other function calls it, and edits of one function can be tried at once. A method of a trait, and functions that one
+edit changes together, are changed where they stand: a proof rests on the contracts of the functions that are called and not on their
+bodies, so that one wrong body hides no other, and an edit that takes clauses away from a function there is not tried beside one of a
+function that calls it. What isn't refused so is tried alone, and, where it names no clause, at last with a check of the whole crate."""
 import json, os, re, shutil, subprocess, tempfile
 from dataclasses import dataclass
 
@@ -24,11 +26,21 @@ NAMES = re.compile(r'(\./)?proofs/.*(has no field|is not a field of|record `[^`]
 
 @dataclass
 class Function:
-    """A function of a crate: what a check is asked for, what its name in the check's lines looks like, and its text."""
+    """A function of a crate: what a check is asked for, what its name in the check's lines looks like, its text, and whether it is a
+    method of a trait."""
     asked: str
     line: re.Pattern
     name: str
     text: str
+    is_of_trait: bool = False
+
+    def proofs(self):
+        """The folder of its proof's files."""
+        return '/'.join(['proofs', *self.asked.split('::')[1:]])
+
+    def renamed(self, name):
+        """The same function under a name that no other has."""
+        return Function(f'{self.asked.removesuffix(self.name)}{name}', re.compile(rf'fn \S*\b{name}\b'), name, self.text)
 
 
 @dataclass
@@ -42,21 +54,29 @@ class Change:
 
 @dataclass
 class Edit:
-    """An edit: the changes of its file's texts, the functions that it changes (None where it changes what is in no function), and
-    what a check is asked for besides: the functions that it adds in the place of a comment."""
+    """An edit: the changes of its file's texts, the functions that it changes (None where it changes what is in no function), what a
+    check is asked for besides: the functions that it adds in the place of a comment; and the right function, where the wrong one is
+    written below it."""
     name: str
     changes: list
     functions: list
     added: list
+    right: Function | None = None
 
     def asked(self):
         return {it.asked for it in self.functions} | set(self.added)
 
     def hides(self, other):
-        """Whether it takes clauses away from a function that one of another edit may call."""
+        """Whether it takes clauses away, where it stands, from a function that one of another edit may call."""
+        if self.right:
+            return False
         names = [it.name for it in self.functions if any(change.clauses for change in self.changes)]
         texts = [it.text for it in other.functions] + [it.new for it in other.changes]
         return any(re.search(rf'\b{name}\b', text) for name in names for text in texts)
+
+    def is_below(self, change):
+        """Whether a change is made in the wrong function that is written below the right one."""
+        return self.right is not None and change.old in self.right.text
 
     def fits(self, other):
         """Whether both can be tried in one check."""
@@ -148,7 +168,7 @@ def function_at(crate, folder, file, text, at):
     module = '::'.join([crate, *module_of(home)])
     whole = text[slice(*place_of(text, at))]
     if is_trait:
-        return Function(module, re.compile(rf'fn {module}::{block}\w*::{name}\b'), name, whole)
+        return Function(module, re.compile(rf'fn {module}::{block}\w*::{name}\b'), name, whole, True)
     inner = f'{block}::{name}' if block else name
     path, closure = re.escape(inner), re.escape(f'{block}::fn::{name}' if block else f'fn::{name}')
     return Function(f'{module}::{inner}', re.compile(rf'fn {module}::(?:{path}|(?:{closure}|fn::{path})::\S+):'), name, whole)
@@ -212,7 +232,11 @@ def read_edit(crate, folder, path):
             added.append(one)
         else:
             functions.append(function_at(crate, folder, it.file, text, text.index(it.old)))
-    return Edit(os.path.basename(path), changes, functions, added)
+    edit = Edit(os.path.basename(path), changes, functions, added)
+    right = functions[0] if functions else None
+    if right and not right.is_of_trait and all(it and it.asked == right.asked for it in functions):
+        edit.right, edit.functions = right, [right.renamed(f'{right.name}_{re.sub(r"[^0-9a-z]", "_", edit.name.removesuffix(".edit"))}')]
+    return edit
 
 
 def check_words(tree, crate):
@@ -271,11 +295,34 @@ class Room:
         if not change.clauses:
             return text
         at = text.index(change.old)
-        function = function_at(self.crate, self.folder, change.file, text, at)
-        answers = '/'.join(['proofs', *function.asked.split('::')[1:], 'Answers.antt'])
+        answers = f'{function_at(self.crate, self.folder, change.file, text, at).proofs()}/Answers.antt'
         if os.path.isfile(f'{self.folder}/{answers}'):
             self.write(answers, answers_to(self.text(answers), change.clauses))
         return thinned(text, at, change.clauses)
+
+    def write_below(self, edit):
+        """Writes the wrong function of an edit below the right one, and the files of its proof."""
+        right, wrong, changes = edit.right, edit.functions[0], [it for it in edit.changes if edit.is_below(it)]
+        file = changes[0].file
+        text = self.text(file)
+        begin, end = place_of(text, text.index(changes[0].old))
+        function, kept = text[begin:end], frozenset().union(*(it.clauses for it in changes))
+        for change in changes:
+            function = function.replace(change.old, change.new)
+        function = re.sub(rf'\bfn {right.name}\b', f'fn {wrong.name}', thinned(function, 0, kept) if kept else function, count=1)
+        above = re.search(r'(?:^ *#\[.*\n)*\Z', text[:begin], re.M)[0]
+        self.write(file, f'{text[:end]}\n\n{above}{function}{text[end:]}')
+        if os.path.isdir(f'{self.folder}/{right.proofs()}'):
+            self.write_proof(right, wrong, kept)
+
+    def write_proof(self, right, wrong, kept):
+        """Writes the files of a function's proof for one that is written below it, which ensures these clauses alone if there are some."""
+        names = [f'Rattle.{self.crate}.{it.proofs().replace("/", ".")}.' for it in (right, wrong)]
+        os.makedirs(f'{self.folder}/{wrong.proofs()}')
+        for file in os.listdir(f'{self.folder}/{right.proofs()}'):
+            proof = self.text(f'{right.proofs()}/{file}').replace(*names)
+            with open(f'{self.folder}/{wrong.proofs()}/{file}', 'w') as below:
+                below.write(answers_to(proof, kept) if kept and file == 'Answers.antt' else proof)
 
     def text(self, path):
         with open(f'{self.folder}/{path}') as file:
@@ -290,15 +337,20 @@ class Room:
     def said(self, edits, asked):
         """What a check of these functions (of all where there is none) says of the crate with these edits."""
         only = [word for it in sorted(asked) for word in ('--only', it)]
+        below = [it for it in edits if it.right]
         try:
-            for change in [change for edit in edits for change in edit.changes]:
-                self.write(change.file, self.thinned(change, self.text(change.file)).replace(change.old, change.new))
+            for edit in below:
+                self.write_below(edit)
+            for change in [change for edit in edits for change in edit.changes if not edit.is_below(change)]:
+                self.write(change.file, self.thinned(change, self.text(change.file)).replace(change.old, change.new, 1))
             ran = subprocess.run([*self.words, *only], cwd=self.folder, text=True, errors='replace',
                                  stdin=subprocess.DEVNULL, stdout=subprocess.PIPE, stderr=subprocess.STDOUT)
         finally:
             for path, text in self.own.items():
                 self.write(path, text)
             self.own = {}
+            for edit in below:
+                shutil.rmtree(f'{self.folder}/{edit.functions[0].proofs()}', ignore_errors=True)
         return ran.stdout.split('\n')
 
     def tried_together(self, edits):
@@ -348,7 +400,7 @@ def righted(edit):
     """The edit that changes nothing but the clauses, where it names some; else None."""
     named = [it for it in edit.changes if it.clauses]
     changes = [Change(it.file, it.old, it.old, it.clauses) for it in named]
-    return Edit(edit.name, changes, edit.functions, []) if named else None
+    return Edit(edit.name, changes, edit.functions, [], edit.right) if named else None
 
 
 def tried_right(tree, crate, paths):
