@@ -10,7 +10,7 @@ of its proof: so no other function calls it, and edits of one function can be tr
 edit changes together, are changed where they stand: a proof rests on the contracts of the functions that are called and not on their
 bodies, so that one wrong body hides no other, and an edit that takes clauses away from a function there is not tried beside one of a
 function that calls it. What isn't refused so is tried alone, and, where it names no clause, at last with a check of the whole crate."""
-import json, os, re, shutil, subprocess, tempfile
+import os, re, shutil, subprocess, tempfile
 from dataclasses import dataclass
 
 from crates import TOP, libraries, uses
@@ -263,32 +263,15 @@ def reason(line, lines):
     return re.sub(r'; it (calls|passes) .*', '', line) + (f': {told}' if told else '')
 
 
-def unpacked(rlib, folder):
-    """Puts what a library holds of its own proof into a folder in which checks of its crate keep such: they begin with it."""
-    with open(f'{rlib}/format') as file:
-        build = next(line.split()[1] for line in file if line.startswith('rattle-build '))
-    kept = f'{folder}/{build.replace("/", "_")}'
-    os.makedirs(kept)
-    with open(f'{rlib}/toolchain/checked.json') as index, open(f'{rlib}/toolchain/checked.a', 'rb') as modules:
-        for module, begin, size in map(json.loads, index):
-            if '/' not in module:
-                modules.seek(begin)
-                with open(f'{kept}/{module}.oantt', 'wb') as file:
-                    file.write(modules.read(size))
-
-
 class Room:
     """A copy of a crate in which edits are tried, with what its checks keep. `tree` is the repository, or a copy of it, whose
-    folders crates/NAME/out/rlib hold the libraries as they are built."""
+    folders crates/NAME/out/rlib hold the libraries below as they are built."""
 
     def __init__(self, tree, crate, folder):
         self.crate, self.folder, self.words, self.own = crate, folder, check_words(tree, crate), {}
-        home = f'{tree}/crates/{crate}'
         for part in ('src', 'specs', 'proofs', 'out/incremental'):
-            if os.path.isdir(f'{home}/{part}'):
-                shutil.copytree(f'{home}/{part}', f'{folder}/{part}')
-        if not os.path.isdir(f'{folder}/out/incremental') and os.path.isdir(f'{home}/out/rlib/{crate}.rlib'):
-            unpacked(f'{home}/out/rlib/{crate}.rlib', f'{folder}/out/incremental')
+            if os.path.isdir(f'{tree}/crates/{crate}/{part}'):
+                shutil.copytree(f'{tree}/crates/{crate}/{part}', f'{folder}/{part}')
 
     def thinned(self, change, text):
         """A file's text before a change, with the clauses alone that the change keeps; the answers to the others' goals go, too."""
