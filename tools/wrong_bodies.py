@@ -232,11 +232,11 @@ def read_edit(crate, folder, path):
             added.append(one)
         else:
             functions.append(function_at(crate, folder, it.file, text, text.index(it.old)))
-    edit = Edit(os.path.basename(path), changes, functions, added)
-    right = functions[0] if functions else None
+    name, right = os.path.basename(path), functions[0] if functions else None
     if right and not right.is_of_trait and all(it and it.asked == right.asked for it in functions):
-        edit.right, edit.functions = right, [right.renamed(f'{right.name}_{re.sub(r"[^0-9a-z]", "_", edit.name.removesuffix(".edit"))}')]
-    return edit
+        label = re.sub('[^0-9a-z]', '_', name.removesuffix('.edit'))
+        return Edit(name, changes, [right.renamed(f'{right.name}_{label}')], added, right)
+    return Edit(name, changes, functions, added)
 
 
 def check_words(tree, crate):
@@ -380,21 +380,23 @@ def rounds_of(edits):
 
 
 def righted(edit):
-    """The edit that changes nothing but the clauses, where it names some; else None."""
-    named = [it for it in edit.changes if it.clauses]
-    changes = [Change(it.file, it.old, it.old, it.clauses) for it in named]
-    return Edit(edit.name, changes, edit.functions, [], edit.right) if named else None
+    """The edit that changes no body: the right function is written below itself, and ensures the clauses alone that are named, if some
+    are. None of an edit that is made where its function stands, and names none."""
+    changes = [Change(it.file, it.old, it.old, it.clauses) for it in edit.changes if it.clauses or edit.is_below(it)]
+    return Edit(edit.name, changes, edit.functions, [], edit.right) if changes else None
 
 
 def tried_right(tree, crate, paths):
-    """Tries the right bodies of a crate where a wrong one names clauses: the verdict on each, by the edit's name."""
+    """Tries the right body in the place of each wrong one of a crate: the names of the edits of which it is proved, and of the others."""
+    proved, others = set(), set()
     with tempfile.TemporaryDirectory(prefix='wrong-bodies-') as place:
         room = Room(tree, crate, place)
-        edits = [it for it in (righted(read_edit(crate, room.folder, path)) for path in paths) if it]
-        refused = {}
-        for one in rounds_of(edits):
-            refused |= room.tried_together(one)
-        return {it.name: refused.get(it.name, Verdict(False, 'it is proved')) for it in edits}
+        for one in rounds_of([it for it in (righted(read_edit(crate, room.folder, path)) for path in paths) if it]):
+            lines = room.said(one, set().union(*(edit.asked() for edit in one)))
+            for edit in one:
+                own = [line for line in lines for function in edit.functions if function.line.match(line)]
+                (proved if own and all(it.endswith(': proved') for it in own) else others).add(edit.name)
+    return proved, others
 
 
 def tried(tree, crate, paths):
