@@ -9,7 +9,9 @@ the verdict on its edit. The function of an edit is written a second time, below
 of its proof: so no other function calls it, and edits of one function can be tried at once. A method of a trait, and functions that one
 edit changes together, are changed where they stand: a proof rests on the contracts of the functions that are called and not on their
 bodies, so that one wrong body hides no other, and an edit that takes clauses away from a function there is not tried beside one of a
-function that calls it. What isn't refused so is tried alone, and, where it names no clause, at last with a check of the whole crate."""
+function that calls it. A check proves what a function calls, too: so each other function of the crate is a stub, which has no proof and is
+passed over soon. What isn't refused so is tried alone, and, where it names no clause, at last with a check of the whole crate, in which no
+function is a stub."""
 import os, re, shutil, subprocess, tempfile
 from dataclasses import dataclass
 
@@ -20,6 +22,10 @@ UNREAD = re.compile(r'is not in scope|has no field|is no name|operand is missing
 # The first line of a function, and the beginning of a clause.
 HEADER = re.compile(r'^( *)(?:pub(?:\([a-z]+\))? )?(?:const )?fn \w+', re.M)
 CLAUSE = re.compile(r'(?:\s+//.*)*\s+(requires|ensures|ghost)\b\*? ?(\w*)[^{};]*\{')
+# The files of a function's proof.
+PROOF = ('Answers.antt', 'Invariants.antt')
+# What it says of a function whose own proof holds, and of one whose proof it hasn't tried, since one that is called couldn't be read.
+OWN_HOLDS, UNTRIED = ': no proof: it calls ', ': no proof: the borrow checker'
 # What it says of an answer that names a step which the edit took away.
 NAMES = re.compile(r'(\./)?proofs/.*(has no field|is not a field of|record `[^`]*` \(nearest|is not in scope|has no `|was not admitted)')
 
@@ -215,6 +221,24 @@ def answers_to(text, clauses):
     return '\n\n'.join(part for part, head in zip(parts, heads) if not head or head[1] in clauses)
 
 
+def stubbed(text, kept):
+    """A file's text in which the functions have stubs for bodies, but for those of these names."""
+    lines, at = text.split('\n'), 0
+    while at < len(lines):
+        header, at = HEADER.match(lines[at]), at + 1
+        # An edit may add functions before one, on its line.
+        if header and not kept.intersection(re.findall(r'\bfn (\w+)', header.string)):
+            last = f'{header[1]}}}'
+            end = next(it for it in range(at, len(lines) + 1) if it == len(lines) or lines[it] == last or HEADER.match(lines[it]))
+            # A method that a trait declares without a body ends before the next one, or with the file.
+            if lines[end:end + 1] == [last]:
+                # Below clauses a body begins with a line of its own.
+                alone = [it for it in range(at, end) if lines[it] == f'{header[1]}{{']
+                begin = (alone or [it for it in range(at - 1, end) if lines[it].endswith('{')])[0]
+                lines[begin + 1:end] = [f'{header[1]}    unreachable!()']
+    return '\n'.join(lines)
+
+
 def added_function(crate, file, old, new):
     """What a check is asked for of a function that a change adds in the place of a comment between functions; None of another change."""
     item = re.match(r'fn (\w+)', new)
@@ -307,6 +331,17 @@ class Room:
             with open(f'{self.folder}/{wrong.proofs()}/{file}', 'w') as below:
                 below.write(answers_to(proof, kept) if kept and file == 'Answers.antt' else proof)
 
+    def write_stubs(self, kept):
+        """Writes stubs in place of the functions, but for those of these names, and takes the files of their proofs away."""
+        for at, _, names in os.walk(f'{self.folder}/src'):
+            for path in (os.path.relpath(f'{at}/{it}', self.folder) for it in names):
+                self.write(path, stubbed(self.text(path), kept))
+        for at, _, names in os.walk(f'{self.folder}/proofs'):
+            if os.path.basename(at) not in kept:
+                for path in (os.path.relpath(f'{at}/{it}', self.folder) for it in names if it in PROOF):
+                    self.own.setdefault(path, self.text(path))
+                    os.remove(f'{self.folder}/{path}')
+
     def text(self, path):
         with open(f'{self.folder}/{path}') as file:
             return file.read()
@@ -317,8 +352,16 @@ class Room:
         with open(f'{self.folder}/{path}', 'w') as file:
             file.write(text)
 
+    def put_back(self):
+        """Writes each file as it was first."""
+        for path, text in self.own.items():
+            with open(f'{self.folder}/{path}', 'w') as file:
+                file.write(text)
+        self.own = {}
+
     def said(self, edits, asked):
-        """What a check of these functions (of all where there is none) says of the crate with these edits."""
+        """What a check of these functions among stubs says of the crate with these edits; of all functions, none of them a stub, where
+        there is none."""
         only = [word for it in sorted(asked) for word in ('--only', it)]
         below = [it for it in edits if it.right]
         try:
@@ -326,12 +369,12 @@ class Room:
                 self.write_below(edit)
             for change in [change for edit in edits for change in edit.changes if not edit.is_below(change)]:
                 self.write(change.file, self.thinned(change, self.text(change.file)).replace(change.old, change.new, 1))
+            if asked:
+                self.write_stubs({it.name for edit in edits for it in edit.functions} | {it.rpartition('::')[2] for it in asked})
             ran = subprocess.run([*self.words, *only], cwd=self.folder, text=True, errors='replace',
                                  stdin=subprocess.DEVNULL, stdout=subprocess.PIPE, stderr=subprocess.STDOUT)
         finally:
-            for path, text in self.own.items():
-                self.write(path, text)
-            self.own = {}
+            self.put_back()
             for edit in below:
                 shutil.rmtree(f'{self.folder}/{edit.functions[0].proofs()}', ignore_errors=True)
         return ran.stdout.split('\n')
@@ -344,8 +387,7 @@ class Room:
         refused = {}
         for edit in edits:
             own = [line for line in lines for function in edit.functions if function.line.match(line)]
-            # A function whose own proof holds and that calls one without a proof reads 'no proof: it calls ..'.
-            own = [it for it in own if re.search(r': (no proof|not proved)', it) and ': no proof: it calls ' not in it]
+            own = [it for it in own if re.search(r': (no proof|not proved)', it) and OWN_HOLDS not in it and UNTRIED not in it]
             if own:
                 refused[edit.name] = Verdict(True, reason(own[0], lines))
         return refused
@@ -395,7 +437,7 @@ def tried_right(tree, crate, paths):
             lines = room.said(one, set().union(*(edit.asked() for edit in one)))
             for edit in one:
                 own = [line for line in lines for function in edit.functions if function.line.match(line)]
-                (proved if own and all(it.endswith(': proved') for it in own) else others).add(edit.name)
+                (proved if own and all(it.endswith(': proved') or OWN_HOLDS in it for it in own) else others).add(edit.name)
     return proved, others
 
 
