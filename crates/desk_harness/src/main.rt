@@ -101,16 +101,16 @@ mod database;
 mod desks;
 mod disks;
 mod events;
+mod lines;
 mod looks;
 mod requests;
 mod runs;
-mod session;
 mod shown;
 mod stores;
 mod streams;
 mod waits;
 
-use session::play;
+use lines::play;
 use std::test::Fail;
 
 fn main(rt: HostRuntime) -> Result<(), Fail> {

@@ -121,7 +121,8 @@ fn keep<S: Alter>(
     body: &[u8],
     last: &mut Option<Reread>,
 ) -> Result<(u64, Work), SFault>
-    requires { (r : ℕ) (d : DepositValue) → found ≡ Holding r d → reading body.now ≡ Ok d }
+    requires { (r : ℕ) (d : DepositValue) → found ≡ Holding r d
+        → reading body.now ≡ Ok d }
     ensures manifest { store.new.manifest ≡ store.old.manifest }
     ensures lost { OnErr result ((k : Kept) → Stands S.Store store.old k
         → Stands S.Store store.new k) }

@@ -13,7 +13,7 @@ use std::alloc::Global;
 use std::fmt::Write;
 use std::test::Fail;
 
-/// Where the session is while no database is open, and the line that is next.
+/// What there is while no database is open: the files, and the line that is next.
 #[derive(Drop)]
 struct State {
     disks: Disks,
