@@ -229,8 +229,9 @@ def stubbed(text, kept):
         # An edit may add functions before one, on its line.
         if header and not kept.intersection(re.findall(r'\bfn (\w+)', header.string)):
             last = f'{header[1]}}}'
-            end = next(it for it in range(at, len(lines) + 1) if it == len(lines) or lines[it] == last or HEADER.match(lines[it]))
-            # A method that a trait declares without a body ends before the next one, or with the file.
+            end = next(it for it in range(at, len(lines) + 1) if it == len(lines) or lines[it] == last or HEADER.match(lines[it])
+                       or lines[it] and not lines[it].startswith(header[1]))
+            # A method that a trait declares without a body ends before the next one, or with the trait.
             if lines[end:end + 1] == [last]:
                 # Below clauses a body begins with a line of its own.
                 alone = [it for it in range(at, end) if lines[it] == f'{header[1]}{{']
