@@ -423,10 +423,9 @@ def rounds_of(edits):
 
 
 def righted(edit):
-    """The edit that changes no body: the right function is written below itself, and ensures the clauses alone that are named, if some
-    are. None of an edit that is made where its function stands, and names none."""
-    changes = [Change(it.file, it.old, it.old, it.clauses) for it in edit.changes if it.clauses or edit.is_below(it)]
-    return Edit(edit.name, changes, edit.functions, [], edit.right) if changes else None
+    """The edit that changes no body: the right function stands where the wrong one would, and ensures the clauses alone that are named, if
+    some are."""
+    return Edit(edit.name, [Change(it.file, it.old, it.old, it.clauses) for it in edit.changes], edit.functions, [], edit.right)
 
 
 def tried_right(tree, crate, paths):
@@ -434,7 +433,8 @@ def tried_right(tree, crate, paths):
     proved, others = set(), set()
     with tempfile.TemporaryDirectory(prefix='wrong-bodies-') as place:
         room = Room(tree, crate, place)
-        for one in rounds_of([it for it in (righted(read_edit(crate, room.folder, path)) for path in paths) if it]):
+        edits = [read_edit(crate, room.folder, path) for path in paths]
+        for one in rounds_of([righted(it) for it in edits if None not in it.functions]):
             lines = room.said(one, set().union(*(edit.asked() for edit in one)))
             for edit in one:
                 own = [line for line in lines for function in edit.functions if function.line.match(line)]
