@@ -1,10 +1,9 @@
 //! The links of objects, and those that lead to no object (V1).
 
-ghost use Rattle.std.specs.Prelude.{◌≡◌, ◌∷◌, [], ◌++◌, OnOk, IfOk, not, map, filter};
+ghost use Rattle.std.specs.Prelude.{◌≡◌, ◌∷◌, [], ◌++◌, OnOk, not, map, filter};
 ghost use Rattle.std.specs.List.{flat_map};
 ghost use Rattle.std.specs.BTreeSet as sorted;
 ghost use Rattle.esc_tables.specs.KeyName.{key_cmp};
-ghost use Rattle.esc_tables.specs.TableRow.{is_dns, key_named};
 ghost use Rattle.esc_check.specs.Fields.{parent_fields};
 ghost use Rattle.esc_check.specs.Findings.{missing_target};
 ghost use Rattle.esc_check.specs.Gathered.{
@@ -19,7 +18,6 @@ ghost use Rattle.esc_check.specs.Gathered.{
 use crate::field::{LinkField, cell, child_field, parent_fields};
 use crate::finding::{Finding, add};
 use esc_bundle::NoMemory;
-use esc_envelope::Kind;
 use esc_tables::{Key, Object, Row};
 use std::alloc::Global;
 use std::collections::{BTreeMap, BTreeSet};
@@ -41,26 +39,6 @@ impl Model for Link {
     ghost view = { λ l. record { from = l.from; field = l.field; to = l.to } };
 }
 
-fn is_dns(kind: Kind) -> bool
-    ensures { result ≡ is_dns kind }
-{
-    match kind {
-        Kind::Host | Kind::Domain => true,
-        Kind::Registrar | Kind::Contact | Kind::Idn | Kind::Nndn => false,
-    }
-}
-
-// The key with this kind and name: of a host in lower-case ASCII letters.
-fn key_named(alloc: Global, kind: Kind, name: &str) -> Result<Key, NoMemory>
-    ensures { IfOk result (λ key. key ≡ key_named kind name.now) }
-{
-    let mut text = String::from_str(alloc, name)?;
-    if is_dns(kind) {
-        text.make_ascii_lowercase();
-    }
-    Ok(Key { kind, text })
-}
-
 // Adds the link of a text, if it is not empty.
 fn add_link(
     alloc: Global,
@@ -78,7 +56,7 @@ fn add_link(
     links.push(Link {
         from: from.copy(alloc)?,
         field,
-        to: key_named(alloc, field.target(), text)?,
+        to: Key::named(alloc, field.target(), text)?,
     })?;
     Ok(())
 }

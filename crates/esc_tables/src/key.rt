@@ -6,6 +6,7 @@ ghost use Rattle.std.specs.Cmp.{partial_order_from_own_ties};
 ghost use Rattle.std.specs.Cmp.Rules.{comparing};
 ghost use Rattle.std.specs.Ordering.{as_partial_cmp};
 ghost use Rattle.esc_tables.specs.KeyName.{key_cmp, key_eq};
+ghost use Rattle.esc_tables.specs.TableRow.{is_dns, key_named};
 
 use esc_bundle::NoMemory;
 use esc_envelope::Kind;
@@ -31,7 +32,29 @@ impl Model for Key {
     ghost view = { λ k. record { kind = k.kind; text = string_bytes k.text } };
 }
 
+// Whether keys of a kind are names of the DNS, in which ASCII letters of either case are the same.
+fn is_dns(kind: Kind) -> bool
+    ensures { result ≡ is_dns kind }
+{
+    match kind {
+        Kind::Host | Kind::Domain => true,
+        Kind::Registrar | Kind::Contact | Kind::Idn | Kind::Nndn => false,
+    }
+}
+
 impl Key {
+    /// The key with this kind and name: of a host or a domain with ASCII letters in lower case.
+    /// `NoMemory` out of memory.
+    pub fn named(alloc: Global, kind: Kind, name: &str) -> Result<Key, NoMemory>
+        ensures { IfOk result (λ key. key ≡ key_named kind name.now) }
+    {
+        let mut text = String::from_str(alloc, name)?;
+        if is_dns(kind) {
+            text.make_ascii_lowercase();
+        }
+        Ok(Key { kind, text })
+    }
+
     /// An equal key.
     pub fn copy(&self, alloc: Global) -> Result<Key, NoMemory>
         ensures { IfOk result (λ k. k ≡ self.now) }

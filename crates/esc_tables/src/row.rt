@@ -5,8 +5,6 @@ ghost use Rattle.esc_tables.specs.TableRow.{
   in_table,
   is_whole,
   has_key,
-  is_dns,
-  key_named,
   key_of,
   heading_of,
   keyed,
@@ -16,7 +14,7 @@ use crate::key::Key;
 use crate::object::{Heading, Row};
 use esc_bundle::NoMemory;
 use esc_csv::Record;
-use esc_envelope::{Kind, Table};
+use esc_envelope::Table;
 use std::alloc::Global;
 use std::rc::Rc;
 
@@ -38,31 +36,12 @@ pub fn has_key(table: &Table, row: &Record) -> bool
     !key.is_empty() && key.len() <= LONGEST_KEY
 }
 
-fn is_dns(kind: Kind) -> bool
-    ensures { result ≡ is_dns kind }
-{
-    match kind {
-        Kind::Host | Kind::Domain => true,
-        Kind::Registrar | Kind::Contact | Kind::Idn | Kind::Nndn => false,
-    }
-}
-
-fn key_named(alloc: Global, kind: Kind, name: &str) -> Result<Key, NoMemory>
-    ensures { IfOk result (λ key. key ≡ key_named kind name.now) }
-{
-    let mut text = String::from_str(alloc, name)?;
-    if is_dns(kind) {
-        text.make_ascii_lowercase();
-    }
-    Ok(Key { kind, text })
-}
-
 /// The key of a row's object: of a host or a domain with ASCII letters in lower case.
 pub fn read_key(alloc: Global, table: &Table, row: &Record) -> Result<Key, NoMemory>
     requires { is_whole (in_table table.now row.now) ≡ true }
     ensures { IfOk result (λ key. key ≡ key_of (in_table table.now row.now)) }
 {
-    key_named(alloc, table.kind, row.text(table.key))
+    Key::named(alloc, table.kind, row.text(table.key))
 }
 
 /// A row with the key of its object, under its table's heading.
