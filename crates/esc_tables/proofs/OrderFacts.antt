@@ -1,10 +1,11 @@
 -- Tables in the order of their names.
-use Rattle.std.proofs.Common.{◌≡◌, ◌∙◌, ℕ, zero, suc, ◌+◌, ◌<◌, ◌≤◌, Bool, false, cond, List, [], ◌∷◌, ◌++◌, length, map, filter, take, get_or, refl, sym, ap, inl, inr, arith, add-one}
+use Rattle.std.proofs.Common.{◌≡◌, ◌∙◌, ℕ, suc, ◌+◌, ◌<◌, ◌≤◌, Bool, false, cond, List, [], ◌∷◌, ◌++◌, length, map, filter, take, get_or, refl, sym, ap, inl, inr, arith}
 use Rattle.std.specs.Borrow.{Bor}
 use Rattle.std.specs.Prelude.{not, unwrap_or, nat_lt, All}
 use Rattle.std.specs.List.{insert, position, position_or_len, fold}
 use Rattle.std.proofs.lemmas.Bool.{cases_Bool}
 use Rattle.std.proofs.lemmas.Bool.Decides.{nat_tests}
+use Rattle.std.proofs.lemmas.List.{take_more}
 use Rattle.std.proofs.lemmas.List.Elements.{All-nil, All-cons, All-tail, All-filter, filter-append}
 use Rattle.std.proofs.lemmas.List.Sums.{fold_push, prefix_len-le-length}
 use Rattle.esc_envelope.specs.EnvelopeValue.{TableValue}
@@ -44,18 +45,15 @@ inserted us t i is = rw (is, place_or_end (is_after t.now) us) (inserted_at us t
 
 -- ---- one more table
 
-pub take_next : {X : Type 0} (xs : List X) (i : ℕ) (x : X) → i < length xs → x ≡ get_or xs i x → take (suc i) xs ≡ take i xs ++ (x ∷ [])
-take_next [] i x lt is = absurd (omega arith)
-take_next {X = X} (y ∷ ys) zero x lt is = ap (λ (z : X). z ∷ []) (sym is)
-take_next {X = X} (y ∷ ys) (suc i) x lt is = ap (λ (zs : List X). y ∷ zs) (take_next ys i x (omega arith) is)
+pub take_next : {X : Type 0} (xs : List X) (i : ℕ) (x : X) → i < length xs → x ≡ get_or xs i x → take (i + 1) xs ≡ take i xs ++ (x ∷ [])
+take_next {X = X} xs i x lt is = take_more xs i x lt ∙ ap (λ (y : X). take i xs ++ (y ∷ [])) (sym is)
 
 abbrev is_child : TableValue → Bool
 is_child t = not t.parent
 
 pub next_table : (ts : List TableValue) (i : ℕ) (t : TableValue) → i < length ts → t ≡ get_or ts i t → t.parent ≡ false → by_name (filter is_child (take (i + 1) ts)) ≡ placed (by_name (filter is_child (take i ts))) t
 next_table ts i t lt is child =
-    let more : take (i + 1) ts ≡ take i ts ++ (t ∷ []) = rw (add-one i) (take_next ts i t lt is) in
-    ap (λ (us : List TableValue). by_name (filter is_child us)) more ∙ ap by_name (filter-append is_child (take i ts) (t ∷ []))
+    ap (λ (us : List TableValue). by_name (filter is_child us)) (take_next ts i t lt is) ∙ ap by_name (filter-append is_child (take i ts) (t ∷ []))
     ∙ ap (λ (b : Bool). by_name (filter is_child (take i ts) ++ cond (not b) (t ∷ []) [])) child ∙ fold_push placed [] (filter is_child (take i ts)) t
 
 -- ---- what holds of all tables holds of those in order

@@ -1,55 +1,79 @@
--- Rows that are read table by table.
-use Rattle.std.proofs.Common.{◌≡◌, ◌∙◌, ℕ, ◌+◌, ◌<◌, Bool, true, false, cond, List, [], ◌∷◌, ◌++◌, length, map, filter, take, get_or, refl, sym, ap, subst, add-one}
-use Rattle.std.specs.Borrow.{Bor}
-use Rattle.std.specs.List.{list_all, fold}
-use Rattle.std.proofs.lemmas.List.{append_assoc, append-nil, map-append}
-use Rattle.std.proofs.lemmas.List.Elements.{filter-append}
-use Rattle.std.proofs.lemmas.List.Folds.{list_all-append}
+-- Rows that are read piece by piece: row by row, and table by table.
+use Rattle.std.proofs.Common.{◌≡◌, ◌∙◌, ℕ, ◌+◌, ◌<◌, ◌≤◌, Bool, true, false, cond, List, [], ◌∷◌, ◌++◌, length, map, filter, take, get_or, refl, sym, ap, subst}
+use Rattle.std.specs.List.{list_all, flat_map, fold}
+use Rattle.std.proofs.lemmas.List.{append_assoc, append-nil, map-append, flat_map_more, take_all}
+use Rattle.std.proofs.lemmas.List.Folds.{list_all-append, list_all_at}
 use Rattle.std.proofs.lemmas.List.Sums.{fold-append}
-use Rattle.std.proofs.lemmas.Grind.{flat_map-append}
 use Rattle.esc_bundle.specs.Bundle.{Named}
+use Rattle.esc_bundle.specs.declared.fault.Fault.{Fault}
 use Rattle.esc_envelope.specs.EnvelopeValue.{TableValue}
 use Rattle.esc_tables.specs.declared.survey.Survey.{Survey}
 use Rattle.esc_tables.specs.TableRow.{TableRow, table_rows, rows_in, is_whole}
-use Rattle.esc_tables.specs.Survey.{noted, is_right}
-use Rattle.esc_tables.proofs.OrderFacts.{pointed, take_next}
-use Rattle.esc_tables.proofs.SurveyFacts.{right_at_first}
+use Rattle.esc_tables.specs.Survey.{noted, is_right, AreRead, IsFaultOf}
+use Rattle.esc_tables.proofs.OrderFacts.{take_next}
+use Rattle.esc_tables.proofs.SurveyFacts.{right_at_first, all_in_each}
 
--- what was seen and found after these rows
-pub record Read {X : Type 0} (make : TableRow → X) (start : Survey) (first : List X) (rows : List TableRow) (s : Survey) (found : List X) : Type 0 where
-  pub seen : s ≡ fold noted start rows
-  pub whole : list_all is_whole rows ≡ true
-  pub read : is_right s ≡ true → found ≡ first ++ map make rows
+-- no row is read
+pub none_read : {X : Type 0} (of_row : TableRow → X) (s : Survey) (found : List X) → AreRead of_row [] (s, found) (s, found)
+none_read of_row s found = record { seen = refl; whole = refl; kept = λ right. sym (append-nil found) }
 
--- the rows of one more table
-pub more_read : {X : Type 0} (make : TableRow → X) (start : Survey) (first : List X) (rows more all : List TableRow) (s t : Survey) (found next : List X)
-    → all ≡ rows ++ more → s ≡ fold noted start rows → list_all is_whole rows ≡ true → (is_right s ≡ true → found ≡ first ++ map make rows)
-    → t ≡ fold noted s more → list_all is_whole more ≡ true → (is_right t ≡ true → next ≡ found ++ map make more) → Read make start first all t next
-more_read {X = X} make start first rows more all s t found next is seen1 whole1 read1 seen2 whole2 read2 = subst (λ (rs : List TableRow). Read make start first rs t next) (sym is) (record {
-  seen = seen2 ∙ ap (λ (x : Survey). fold noted x more) seen1 ∙ sym (fold-append noted start rows more);
-  whole = rw (list_all-append is_whole rows more, whole1, whole2) refl;
-  read = λ right.
-      read2 right ∙ ap (λ (xs : List X). xs ++ map make more) (read1 (right_at_first s more (ap is_right (sym seen2) ∙ right)))
-      ∙ append_assoc first (map make rows) (map make more) ∙ ap (λ (xs : List X). first ++ xs) (sym (map-append make rows more));
-})
+-- what is right after rows was right before them
+pub was_right : {X : Type 0} {of_row : TableRow → X} {rows : List TableRow} {a b : Survey × List X} → AreRead of_row rows a b → is_right b.0 ≡ true → is_right a.0 ≡ true
+was_right {rows = rows} {a = a} read right = right_at_first a.0 rows (ap is_right (sym read.seen) ∙ right)
 
--- ---- the rows of the tables so far, and those of the next
+-- what was read into an empty list
+pub read_alone : {X : Type 0} {of_row : TableRow → X} {rows : List TableRow} {a b : Survey × List X} → AreRead of_row rows a b → a.1 ≡ [] → is_right b.0 ≡ true → b.1 ≡ map of_row rows
+read_alone {X = X} {of_row = of_row} {rows = rows} read none right = read.kept right ∙ ap (λ (xs : List X). xs ++ map of_row rows) none
 
-one_more : (files : List Named) (ts : List TableValue) (t : TableValue) → rows_in files (ts ++ (t ∷ [])) ≡ rows_in files ts ++ table_rows files t
-one_more files ts t = flat_map-append (table_rows files) ts (t ∷ []) ∙ ap (λ (rows : List TableRow). rows_in files ts ++ rows) (append-nil (table_rows files t))
+-- rows and then more
+pub more_read : {X : Type 0} {of_row : TableRow → X} {rows more : List TableRow} {a b c : Survey × List X} → AreRead of_row rows a b → AreRead of_row more b c → AreRead of_row (rows ++ more) a c
+more_read {X = X} {of_row = of_row} {rows = rows} {more = more} {a = a} first then = record {
+  seen = then.seen ∙ ap (λ (s : Survey). fold noted s more) first.seen ∙ sym (fold-append noted a.0 rows more);
+  whole = rw (list_all-append is_whole rows more, first.whole, then.whole) refl;
+  kept = λ right.
+      then.kept right ∙ ap (λ (xs : List X). xs ++ map of_row more) (first.kept (was_right then right))
+      ∙ append_assoc a.1 (map of_row rows) (map of_row more) ∙ ap (λ (xs : List X). a.1 ++ xs) (sym (map-append of_row rows more));
+}
 
-pub next_rows : (files : List Named) (ts : List TableValue) (i : ℕ) (t : TableValue) → i < length ts → t ≡ get_or ts i t → rows_in files (take (i + 1) ts) ≡ rows_in files (take i ts) ++ table_rows files t
-next_rows files ts i t lt is = rw (add-one i, take_next ts i t lt is) (one_more files (take i ts) t)
+-- after whole rows, whether all are whole is whether the rest are
+pub rest_whole : {X : Type 0} {of_row : TableRow → X} {rows : List TableRow} {a b : Survey × List X} (rest : List TableRow) → AreRead of_row rows a b → list_all is_whole rest ≡ list_all is_whole (rows ++ rest)
+rest_whole {rows = rows} rest read = rw (list_all-append is_whole rows rest, read.whole) refl
 
-pub next_parent : (files : List Named) (ts : List TableValue) (i : ℕ) (t : TableValue) → i < length ts → t ≡ get_or ts i t → t.parent ≡ true → rows_in files (filter (λ t. t.parent) (take (i + 1) ts)) ≡ rows_in files (filter (λ t. t.parent) (take i ts)) ++ table_rows files t
-next_parent files ts i t lt is parent =
-    let kept : filter (λ t. t.parent) (take i ts ++ (t ∷ [])) ≡ filter (λ t. t.parent) (take i ts) ++ (t ∷ []) = filter-append (λ (t : TableValue). t.parent) (take i ts) (t ∷ []) ∙ ap (λ (b : Bool). filter (λ t. t.parent) (take i ts) ++ cond b (t ∷ []) []) parent in
-    rw (add-one i, take_next ts i t lt is, kept) (one_more files (filter (λ t. t.parent) (take i ts)) t)
+-- ---- what each of several things gives to read
 
-pub same_parents : (ts : List TableValue) (i : ℕ) (t : TableValue) → i < length ts → t ≡ get_or ts i t → t.parent ≡ false → filter (λ t. t.parent) (take (i + 1) ts) ≡ filter (λ t. t.parent) (take i ts)
-same_parents ts i t lt is other =
-    let parents : List TableValue = filter (λ t. t.parent) (take i ts) in
-    rw (add-one i, take_next ts i t lt is) (filter-append (λ (t : TableValue). t.parent) (take i ts) (t ∷ []) ∙ ap (λ (b : Bool). parents ++ cond b (t ∷ []) []) other ∙ append-nil parents)
+next_piece : {A : Type 0} (rows_of : A → List TableRow) (xs : List A) (i : ℕ) (x : A) → i < length xs → x ≡ get_or xs i x → flat_map rows_of (take (i + 1) xs) ≡ flat_map rows_of (take i xs) ++ rows_of x
+next_piece rows_of xs i x lt is = ap (flat_map rows_of) (take_next xs i x lt is) ∙ sym (flat_map_more rows_of [] (take i xs) x)
 
-pub next_pointed : (files : List Named) (rs : List (Bor TableValue)) (i : ℕ) (r : Bor TableValue) → i < length rs → r ≡ get_or rs i r → rows_in files (map pointed (take (i + 1) rs)) ≡ rows_in files (map pointed (take i rs)) ++ table_rows files r.now
-next_pointed files rs i r lt is = rw (add-one i, take_next rs i r lt is, map-append pointed (take i rs) (r ∷ [])) (one_more files (map pointed (take i rs)) r.now)
+pub piece_read : {A X : Type 0} {of_row : TableRow → X} (rows_of : A → List TableRow) (xs : List A) (i : ℕ) (x : A) {a b c : Survey × List X} → i < length xs → x ≡ get_or xs i x
+    → AreRead of_row (flat_map rows_of (take i xs)) a b → AreRead of_row (rows_of x) b c → AreRead of_row (flat_map rows_of (take (i + 1) xs)) a c
+piece_read rows_of xs i x lt is before step = rw (next_piece rows_of xs i x lt is) (more_read before step)
+
+pub all_read : {A X : Type 0} {of_row : TableRow → X} (rows_of : A → List TableRow) (xs : List A) (i : ℕ) {a b : Survey × List X} → length xs ≤ i
+    → AreRead of_row (flat_map rows_of (take i xs)) a b → AreRead of_row (flat_map rows_of xs) a b
+all_read {of_row = of_row} rows_of xs i {a = a} {b = b} end read = subst (λ ys. AreRead of_row (flat_map rows_of ys) a b) (take_all i xs end) read
+
+pub piece_refused : {A : Type 0} (rows_of : A → List TableRow) (xs : List A) (i : ℕ) (x : A) (fault : Fault) → i < length xs → x ≡ get_or xs i x → IsFaultOf (rows_of x) fault → IsFaultOf (flat_map rows_of xs) fault
+piece_refused {A = A} rows_of xs i x fault lt is told = λ n same.
+    let one = told n same in
+    let there = ap (λ (y : A). list_all is_whole (rows_of y)) (sym is) ∙ one.1 in
+    (one.0, all_in_each is_whole rows_of xs ∙ list_all_at (λ y. list_all is_whole (rows_of y)) xs i x lt there)
+
+-- ---- of a parent table its rows, and of another none
+
+abbrev pub if_parent : List Named → TableValue → List TableRow
+if_parent files t = cond t.parent (table_rows files t) []
+
+pub of_parent : (files : List Named) (t : TableValue) → t.parent ≡ true → if_parent files t ≡ table_rows files t
+of_parent files t parent = ap (λ (b : Bool). cond b (table_rows files t) []) parent
+
+pub of_other : (files : List Named) (t : TableValue) → t.parent ≡ false → if_parent files t ≡ []
+of_other files t other = ap (λ (b : Bool). cond b (table_rows files t) []) other
+
+pub all_parents : (files : List Named) (ts : List TableValue) → flat_map (if_parent files) ts ≡ rows_in files (filter (λ t. t.parent) ts)
+all_parents files [] = refl
+all_parents files (t ∷ ts) = by_test t.parent (all_parents files ts)
+  where
+    by_test : (b : Bool) → flat_map (if_parent files) ts ≡ rows_in files (filter (λ t. t.parent) ts)
+        → cond b (table_rows files t) [] ++ flat_map (if_parent files) ts ≡ rows_in files (cond b (t ∷ filter (λ t. t.parent) ts) (filter (λ t. t.parent) ts))
+    by_test true later = ap (λ (rows : List TableRow). table_rows files t ++ rows) later
+    by_test false later = later

@@ -1,11 +1,11 @@
 -- What a pass over all rows says of them.
-use Rattle.std.proofs.Common.{◌≡◌, ◌∙◌, ℕ, ◌+◌, ◌<◌, ◌≤◌, Bool, true, false, cond, List, [], ◌∷◌, length, map, get_or, min, refl, sym, ap, inl, inr, arith}
+use Rattle.std.proofs.Common.{◌≡◌, ◌∙◌, ℕ, ◌+◌, ◌<◌, ◌≤◌, Bool, true, false, cond, List, [], ◌∷◌, length, map, min, refl, sym, ap, inl, inr, arith}
 use Rattle.std.specs.Prelude.{◌==◌, ◌&&◌, nat_le, Ok, Err}
 use Rattle.std.specs.List.{list_all, flat_map, fold}
 use Rattle.std.proofs.lemmas.Bool.{cases_Bool, and_parts}
 use Rattle.std.proofs.lemmas.Bool.Decides.{nat_tests}
 use Rattle.std.proofs.lemmas.List.{nil_from_length}
-use Rattle.std.proofs.lemmas.List.Folds.{list_all-append, list_all_at}
+use Rattle.std.proofs.lemmas.List.Folds.{list_all-append}
 use Rattle.std.proofs.Math.Bool.{and_assoc}
 use Rattle.csv.specs.Machine.{next_record}
 use Rattle.csv.specs.Reading.{strip_bom, records_from}
@@ -13,7 +13,7 @@ use Rattle.esc_bundle.specs.Bundle.{Named}
 use Rattle.esc_csv.specs.Records.{records_of}
 use Rattle.esc_envelope.specs.EnvelopeValue.{TableValue}
 use Rattle.esc_tables.specs.declared.survey.Survey.{Survey}
-use Rattle.esc_tables.specs.TableRow.{TableRow, bytes_named, in_table, rows_in, table_rows, is_whole, has_key}
+use Rattle.esc_tables.specs.TableRow.{TableRow, bytes_named, in_table, table_rows, is_whole, has_key}
 use Rattle.esc_tables.specs.Reading.{check_rows, check, ◌>>=◌}
 use Rattle.esc_tables.specs.Survey.{noted, unseen, is_right, verdict}
 
@@ -31,11 +31,6 @@ no_rows files t none =
 pub all_in_each : {A B : Type 0} (test : B → Bool) (f : A → List B) (xs : List A) → list_all test (flat_map f xs) ≡ list_all (λ x. list_all test (f x)) xs
 all_in_each test f [] = refl
 all_in_each test f (x ∷ xs) = list_all-append test (f x) (flat_map f xs) ∙ ap (λ (b : Bool). list_all test (f x) && b) (all_in_each test f xs)
-
--- one table with a row that fails
-pub fails_in_one : (files : List Named) (tables : List TableValue) (i : ℕ) (t : TableValue) → i < length tables → t ≡ get_or tables i t → list_all is_whole (table_rows files t) ≡ false → list_all is_whole (rows_in files tables) ≡ false
-fails_in_one files tables i t lt is fails =
-    all_in_each is_whole (table_rows files) tables ∙ list_all_at (λ u. list_all is_whole (table_rows files u)) tables i t lt (ap (λ (u : TableValue). list_all is_whole (table_rows files u)) (sym is) ∙ fails)
 
 and_true : (b : Bool) → b ≡ (b && true)
 and_true true = refl
@@ -86,7 +81,7 @@ pub right_verdict : (s : Survey) → verdict s ≡ Ok tt → is_right s ≡ true
 right_verdict s h = both_pass s.has_keys (nat_le s.rows 100_000) h
 
 -- what is right after a row was right before it
-pub right_before : (s : Survey) (r : TableRow) → is_right (noted s r) ≡ true → is_right s ≡ true
+right_before : (s : Survey) (r : TableRow) → is_right (noted s r) ≡ true → is_right s ≡ true
 right_before s r h = by_test (nat_le s.rows 100_000) refl
   where
     by_test : (b : Bool) → nat_le s.rows 100_000 ≡ b → is_right s ≡ true

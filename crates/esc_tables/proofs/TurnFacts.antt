@@ -1,48 +1,23 @@
 -- The tables of a bundle in the order in which they are read: parents, children by name, deletes.
-use Rattle.std.proofs.Common.{◌≡◌, ◌∙◌, ℕ, zero, suc, ◌+◌, ◌<◌, Bool, true, false, cond, List, [], ◌∷◌, ◌++◌, length, map, filter, get_or, refl, sym, ap, inl, inr, arith}
-use Rattle.std.specs.Borrow.{Bor}
+use Rattle.std.proofs.Common.{◌≡◌, ◌∙◌, ℕ, ◌+◌, Bool, true, false, cond, List, [], ◌∷◌, ◌++◌, length, filter, refl, sym, ap, inl, inr, arith}
 use Rattle.std.specs.Prelude.{not, ◌&&◌, Err}
 use Rattle.std.specs.List.{list_all, fold}
 use Rattle.std.proofs.lemmas.Bool.{cases_Bool}
 use Rattle.std.proofs.lemmas.List.{length-append}
-use Rattle.std.proofs.lemmas.List.Folds.{list_all-append, list_all-map, list_all_at}
+use Rattle.std.proofs.lemmas.List.Folds.{list_all-append}
 use Rattle.std.proofs.lemmas.List.Sums.{fold-append}
 use Rattle.std.proofs.lemmas.Grind.{flat_map-append}
 use Rattle.std.proofs.Math.Bool.{and_assoc}
 use Rattle.esc_bundle.specs.Bundle.{Named}
+use Rattle.esc_bundle.specs.declared.fault.Fault.{Fault}
+use Rattle.esc_bundle.specs.declared.fault.Fault.TheVariants.{Refused}
 use Rattle.esc_envelope.specs.EnvelopeValue.{TableValue}
 use Rattle.esc_tables.specs.declared.survey.Survey.{Survey}
 use Rattle.esc_tables.specs.TableRow.{TableRow, table_rows, rows_in, is_whole, has_key}
 use Rattle.esc_tables.specs.Reading.{placed, by_name, is_before, check_rows}
-use Rattle.esc_tables.specs.Survey.{noted, unseen, verdict}
-use Rattle.esc_tables.proofs.OrderFacts.{pointed}
+use Rattle.esc_tables.specs.Survey.{noted, unseen, verdict, AreRead, IsFaultOf}
 use Rattle.esc_tables.proofs.SizeFacts.{same_length}
 use Rattle.esc_tables.proofs.SurveyFacts.{all_in_each, SeenOf, seen_is, judged, told_9}
-
--- ---- one table with a row that fails
-
-fails_kept : (kept test : TableValue → Bool) (ts : List TableValue) (i : ℕ) (t : TableValue) → i < length ts → t ≡ get_or ts i t → kept t ≡ true → test t ≡ false → list_all test (filter kept ts) ≡ false
-fails_kept kept test [] i t lt is here fails = absurd (omega arith)
-fails_kept kept test (y ∷ ys) zero t lt is here fails =
-    let there : kept y ≡ true = ap kept (sym is) ∙ here in
-    let wrong : test y ≡ false = ap test (sym is) ∙ fails in
-    rw (there, wrong) refl
-fails_kept kept test (y ∷ ys) (suc i) t lt is here fails =
-    let later : list_all test (filter kept ys) ≡ false = fails_kept kept test ys i t (omega arith) is here fails in
-    elim (cases_Bool (kept y)) [ inl e ↦ rw (e, later) (and_false (test y)) | inr e ↦ rw e later ]
-  where
-    and_false : (b : Bool) → (b && false) ≡ false
-    and_false true = refl
-    and_false false = refl
-
-pub fails_in_parent : (files : List Named) (ts : List TableValue) (i : ℕ) (t : TableValue) → i < length ts → t ≡ get_or ts i t → t.parent ≡ true → list_all is_whole (table_rows files t) ≡ false → list_all is_whole (rows_in files (filter (λ t. t.parent) ts)) ≡ false
-fails_in_parent files ts i t lt is here fails =
-    all_in_each is_whole (table_rows files) (filter (λ t. t.parent) ts) ∙ fails_kept (λ t. t.parent) (λ u. list_all is_whole (table_rows files u)) ts i t lt is here fails
-
-pub fails_in_pointed : (files : List Named) (rs : List (Bor TableValue)) (i : ℕ) (r : Bor TableValue) → i < length rs → r ≡ get_or rs i r → list_all is_whole (table_rows files r.now) ≡ false → list_all is_whole (rows_in files (map pointed rs)) ≡ false
-fails_in_pointed files rs i r lt is fails =
-    all_in_each is_whole (table_rows files) (map pointed rs) ∙ list_all-map (λ u. list_all is_whole (table_rows files u)) pointed rs
-    ∙ list_all_at (λ u. list_all is_whole (table_rows files u.now)) rs i r lt (ap (λ (u : Bor TableValue). list_all is_whole (table_rows files u.now)) (sym is) ∙ fails)
 
 -- ---- a test of tables in turn
 
@@ -133,30 +108,48 @@ parts_length files cs ds =
     let all : length (rows_in files (cs ++ ds)) ≡ length (rows_in files cs) + length (rows_in files ds) = ap (λ (rows : List TableRow). length rows) (flat_map-append (table_rows files) cs ds) ∙ length-append (rows_in files cs) (rows_in files ds) in
     omega (arith, all, parted_length files cs, same_length files (filter is_child cs), length-append (rows_in files (filter is_parent cs)) (rows_in files (by_name (filter is_child cs)) ++ rows_in files ds), length-append (rows_in files (by_name (filter is_child cs))) (rows_in files ds))
 
-pub same_faults : (files : List Named) (cs ds : List TableValue) → check_rows (rows_in files (cs ++ ds)) ≡ check_rows (in_parts files cs ds)
+same_faults : (files : List Named) (cs ds : List TableValue) → check_rows (rows_in files (cs ++ ds)) ≡ check_rows (in_parts files cs ds)
 unfolding check_rows
 same_faults files cs ds = rw (parts_tested files cs ds is_whole, parts_tested files cs ds has_key, parts_length files cs ds) refl
 
 -- ---- the least fault of rows that were read in three parts
 
-seen_in_parts : (ps cs ds : List TableRow) (s t u : Survey) → s ≡ fold noted unseen ps → t ≡ fold noted s cs → u ≡ fold noted t ds → SeenOf (ps ++ (cs ++ ds)) u
-seen_in_parts ps cs ds s t u first second third =
-    let all : u ≡ fold noted unseen (ps ++ (cs ++ ds)) =
+-- what was seen of them, if the first part was read before any other row
+seen_in_parts : (ps cs ds : List TableRow) {s t u : Survey} → s ≡ fold noted unseen ps → t ≡ fold noted s cs → u ≡ fold noted t ds → SeenOf (ps ++ (cs ++ ds)) u
+seen_in_parts ps cs ds first second third =
+    let all =
     third ∙ ap (λ (x : Survey). fold noted x ds) second ∙ ap (λ (x : Survey). fold noted (fold noted x cs) ds) first
     ∙ sym (fold-append noted (fold noted unseen ps) cs ds) ∙ sym (fold-append noted unseen ps (cs ++ ds)) in
     rw all (seen_is (ps ++ (cs ++ ds)))
 
--- of rows in three parts, all of them whole, the verdict is that of what was seen of them
-pub judged_in_parts : (ps cs ds : List TableRow) (s t u : Survey) → s ≡ fold noted unseen ps → t ≡ fold noted s cs → u ≡ fold noted t ds
-    → list_all is_whole ps ≡ true → list_all is_whole cs ≡ true → list_all is_whole ds ≡ true → check_rows (ps ++ (cs ++ ds)) ≡ verdict u
-judged_in_parts ps cs ds s t u first second third whole1 whole2 whole3 =
-    judged (ps ++ (cs ++ ds)) u (rw (list_all-append is_whole ps (cs ++ ds), list_all-append is_whole cs ds, whole1, whole2, whole3) refl) (seen_in_parts ps cs ds s t u first second third)
+-- their verdict is that of what was seen of them
+pub judged_in_turn : {X Y : Type 0} {of_row : TableRow → X} {of_delete : TableRow → Y} (files : List Named) (contents deletes : List TableValue) {s t u : Survey} {a b c d : List X} {e f : List Y}
+    → AreRead of_row (parents_in files contents) (unseen, a) (s, b) → AreRead of_row (children_in files contents) (s, c) (t, d) → AreRead of_delete (rows_in files deletes) (t, e) (u, f)
+    → check_rows (rows_in files (contents ++ deletes)) ≡ verdict u
+judged_in_turn files contents deletes {u = u} first second third =
+    let ps = parents_in files contents in
+    let cs = children_in files contents in
+    let ds = rows_in files deletes in
+    let whole : list_all is_whole (ps ++ (cs ++ ds)) ≡ true = rw (list_all-append is_whole ps (cs ++ ds), list_all-append is_whole cs ds, first.whole, second.whole, third.whole) refl in
+    same_faults files contents deletes ∙ judged (ps ++ (cs ++ ds)) u whole (seen_in_parts ps cs ds first.seen second.seen third.seen)
 
-pub broken_first : (ps cs ds : List TableRow) → list_all is_whole ps ≡ false → check_rows (ps ++ (cs ++ ds)) ≡ Err 9
-broken_first ps cs ds broken = told_9 (ps ++ (cs ++ ds)) (rw (list_all-append is_whole ps (cs ++ ds), broken) refl)
+and_false : (b : Bool) → (b && false) ≡ false
+and_false true = refl
+and_false false = refl
 
-pub broken_second : (ps cs ds : List TableRow) → list_all is_whole ps ≡ true → list_all is_whole cs ≡ false → check_rows (ps ++ (cs ++ ds)) ≡ Err 9
-broken_second ps cs ds whole broken = told_9 (ps ++ (cs ++ ds)) (rw (list_all-append is_whole ps (cs ++ ds), list_all-append is_whole cs ds, whole, broken) refl)
+-- they are refused where one of the parts is
+pub refused_in_first : (rows more : List TableRow) (fault : Fault) → IsFaultOf rows fault → IsFaultOf (rows ++ more) fault
+refused_in_first rows more fault told = λ n same.
+    let one = told n same in
+    (one.0, rw (list_all-append is_whole rows more, one.1) refl)
 
-pub broken_third : (ps cs ds : List TableRow) → list_all is_whole ps ≡ true → list_all is_whole cs ≡ true → list_all is_whole ds ≡ false → check_rows (ps ++ (cs ++ ds)) ≡ Err 9
-broken_third ps cs ds whole1 whole2 broken = told_9 (ps ++ (cs ++ ds)) (rw (list_all-append is_whole ps (cs ++ ds), list_all-append is_whole cs ds, whole1, whole2, broken) refl)
+pub refused_in_rest : (rows more : List TableRow) (fault : Fault) → IsFaultOf more fault → IsFaultOf (rows ++ more) fault
+refused_in_rest rows more fault told = λ n same.
+    let one = told n same in
+    (one.0, rw (list_all-append is_whole rows more, one.1) (and_false (list_all is_whole rows)))
+
+pub refused_in_turn : (files : List Named) (contents deletes : List TableValue) (fault : Fault) → IsFaultOf (in_parts files contents deletes) fault
+    → (n : ℕ) → fault ≡ Refused n → check_rows (rows_in files (contents ++ deletes)) ≡ Err n
+refused_in_turn files contents deletes fault told n same =
+    let one = told n same in
+    rw one.0 (same_faults files contents deletes ∙ told_9 (in_parts files contents deletes) one.1)

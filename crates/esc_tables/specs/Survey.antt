@@ -1,16 +1,24 @@
 -- What one pass over rows notes.
 use Rattle.std.specs.Prelude.{
+  ◌≡◌,
   ℕ,
   Bool,
   ◌+◌,
   true,
+  false,
   ◌&&◌,
   nat_le,
   if◌then◌else◌,
   Result,
+  List,
+  ◌++◌,
+  map,
 }
+use Rattle.std.specs.List.{list_all, fold}
+use Rattle.esc_bundle.specs.declared.fault.Fault.{Fault}
+use Rattle.esc_bundle.specs.declared.fault.Fault.TheVariants.{Refused}
 use Rattle.esc_tables.specs.declared.survey.Survey.{Survey}
-use Rattle.esc_tables.specs.TableRow.{TableRow, has_key}
+use Rattle.esc_tables.specs.TableRow.{TableRow, is_whole, has_key}
 use Rattle.esc_tables.specs.Reading.{most_rows, check, ◌>>=◌}
 
 -- what was seen of the rows, with one more
@@ -33,3 +41,16 @@ abbrev pub verdict : Survey → Result (Unit {0}) ℕ
 verdict s = do
   named ← check s.has_keys 10
   check (nat_le s.rows most_rows) 11
+
+-- these rows were read. They are whole, what was seen of them is noted, and as long as that is
+-- right, what is read of each is appended to a list; what was seen and the list are given as they
+-- stood before and after
+pub record AreRead {X : Type 0} (of_row : TableRow → X) (rows : List TableRow)
+    (before after : Survey × List X) : Type 0 where
+  pub seen : after.0 ≡ fold noted before.0 rows
+  pub whole : list_all is_whole rows ≡ true
+  pub kept : is_right after.0 ≡ true → after.1 ≡ before.1 ++ map of_row rows
+
+-- a fault of these rows. If it is a refusal, it is U9, and one of them isn't whole
+abbrev pub IsFaultOf : List TableRow → Fault → Type 0
+IsFaultOf rows fault = (n : ℕ) → fault ≡ Refused n → (n ≡ 9) × (list_all is_whole rows ≡ false)

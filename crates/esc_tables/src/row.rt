@@ -1,7 +1,9 @@
 //! One row of a declared table.
 
-ghost use Rattle.std.specs.Prelude.{◌≡◌, true, IfOk};
+ghost use Rattle.std.specs.Prelude.{◌≡◌, true, ⊤, IfOk};
+ghost use Rattle.esc_envelope.specs.EnvelopeValue.{TableValue};
 ghost use Rattle.esc_tables.specs.TableRow.{
+  TableRow,
   in_table,
   is_whole,
   has_key,
@@ -36,26 +38,70 @@ pub fn has_key(table: &Table, row: &Record) -> bool
     !key.is_empty() && key.len() <= LONGEST_KEY
 }
 
-/// The key of a row's object: of a host or a domain with ASCII letters in lower case.
-pub fn read_key(alloc: Global, table: &Table, row: &Record) -> Result<Key, NoMemory>
-    requires { is_whole (in_table table.now row.now) ≡ true }
-    ensures { IfOk result (λ key. key ≡ key_of (in_table table.now row.now)) }
-{
-    Key::named(alloc, table.kind, row.text(table.key))
+/// What a row is read as.
+pub trait FromRow: Drop {
+    /// What the rows of a table have in common.
+    type Shared: Drop;
+
+    /// What is read of a whole row.
+    ghost of_row: { TableRow → Self };
+
+    /// Whether it is what the rows of this table have in common.
+    ghost is_shared: { Self.Shared → TableValue → Type 0 };
+
+    /// What the rows of this table have in common.
+    fn shared_in(alloc: Global, table: &Table) -> Result<Self::Shared, NoMemory>
+        ensures { IfOk result (λ shared. is_shared shared table.now) };
+
+    /// Reads a whole row of this table.
+    fn read(
+        alloc: Global,
+        shared: &Self::Shared,
+        table: &Table,
+        row: &Record,
+    ) -> Result<Self, NoMemory>
+        requires shared { is_shared shared.now table.now }
+        requires whole { is_whole (in_table table.now row.now) ≡ true }
+        ensures { IfOk result (λ it. it ≡ of_row (in_table table.now row.now)) };
+}
+
+/// The key of a row's object alone. The rows of a table need nothing in common.
+impl FromRow for Key {
+    type Shared = ();
+
+    ghost of_row = { key_of };
+
+    ghost is_shared = { λ shared t. ⊤ };
+
+    fn shared_in(_alloc: Global, _table: &Table) -> Result<(), NoMemory> {
+        Ok(())
+    }
+
+    fn read(alloc: Global, _shared: &(), table: &Table, row: &Record) -> Result<Key, NoMemory> {
+        Key::named(alloc, table.kind, row.text(table.key))
+    }
 }
 
 /// A row with the key of its object, under its table's heading.
-pub fn read_row(
-    alloc: Global,
-    heading: &Rc<Heading>,
-    table: &Table,
-    row: &Record,
-) -> Result<(Key, Row), NoMemory>
-    requires heading { heading.now.value ≡ heading_of table.now }
-    requires whole { is_whole (in_table table.now row.now) ≡ true }
-    ensures { IfOk result (λ r. r ≡ keyed (in_table table.now row.now)) }
-{
-    let key = read_key(alloc, table, row)?;
-    let texts = row.texts()?;
-    Ok((key, Row::under(heading.clone()?, texts)))
+impl FromRow for (Key, Row) {
+    type Shared = Rc<Heading>;
+
+    ghost of_row = { keyed };
+
+    ghost is_shared = { λ heading t. heading.value ≡ heading_of t };
+
+    fn shared_in(alloc: Global, table: &Table) -> Result<Rc<Heading>, NoMemory> {
+        Heading::of(alloc, table)
+    }
+
+    fn read(
+        alloc: Global,
+        heading: &Rc<Heading>,
+        table: &Table,
+        row: &Record,
+    ) -> Result<(Key, Row), NoMemory> {
+        let key = Key::read(alloc, &(), table, row)?;
+        let texts = row.texts()?;
+        Ok((key, Row::under(heading.clone()?, texts)))
+    }
 }

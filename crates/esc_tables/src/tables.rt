@@ -11,7 +11,6 @@ ghost use Rattle.std.specs.Prelude.{
   [],
   ℕ,
   true,
-  false,
   Ok,
   Err,
   IfOk,
@@ -21,167 +20,21 @@ ghost use Rattle.std.specs.Prelude.{
   filter,
   not,
 };
-ghost use Rattle.std.specs.List.{list_all, fold};
 ghost use Rattle.esc_bundle.specs.Bundle.{views};
-ghost use Rattle.esc_tables.specs.TableRow.{
-  table_rows,
-  rows_in,
-  in_table,
-  is_whole,
-  key_of,
-  heading_of,
-  keyed,
-};
+ghost use Rattle.esc_tables.specs.TableRow.{table_rows, rows_in, in_table, key_of, keyed};
 ghost use Rattle.esc_tables.specs.Reading.{check_rows, by_name};
-ghost use Rattle.esc_tables.specs.Survey.{noted, is_right};
+ghost use Rattle.esc_tables.specs.Survey.{AreRead, IsFaultOf};
 
 use crate::files::bytes_named;
 use crate::key::Key;
-use crate::object::{Heading, Row};
+use crate::object::Row;
 use crate::order::child_tables;
-use crate::row::{read_key, read_row};
+use crate::row::FromRow;
 use crate::survey::Survey;
 use esc_bundle::{Fault, Section};
 use esc_csv::{Record, Records};
 use esc_envelope::Table;
 use std::alloc::Global;
-use std::rc::Rc;
-
-// Notes one more row of a table, and appends it to `found` if the survey is right after it.
-fn add_row(
-    alloc: Global,
-    heading: &Rc<Heading>,
-    table: &Table,
-    row: &Record,
-    survey: Survey,
-    found: &mut Vec<(Key, Row)>,
-) -> Result<Survey, Fault>
-    requires { heading.now.value ≡ heading_of table.now }
-    ensures seen { IfOk result (λ s. s ≡ noted survey (in_table table.now row.now)) }
-    ensures whole { OnOk result (is_whole (in_table table.now row.now) ≡ true) }
-    ensures row { IfOk result (λ s. is_right s ≡ true → found.new.items ≡ found.old.items
-        ++ (keyed (in_table table.now row.now) ∷ [])) }
-    ensures refused { IfErr result (λ e. (n : ℕ) → e ≡ Fault.Refused n
-        → (n ≡ 9) × (is_whole (in_table table.now row.now) ≡ false)) }
-{
-    let survey = survey.note(table, row)?;
-    if survey.is_right() {
-        found.push(read_row(alloc, heading, table, row)?)?;
-    }
-    Ok(survey)
-}
-
-// Notes one more row of a table, and appends its key to `found`, as `add_row` the row.
-fn add_key(
-    alloc: Global,
-    table: &Table,
-    row: &Record,
-    survey: Survey,
-    found: &mut Vec<Key>,
-) -> Result<Survey, Fault>
-    ensures seen { IfOk result (λ s. s ≡ noted survey (in_table table.now row.now)) }
-    ensures whole { OnOk result (is_whole (in_table table.now row.now) ≡ true) }
-    ensures key { IfOk result (λ s. is_right s ≡ true → found.new.items ≡ found.old.items
-        ++ (key_of (in_table table.now row.now) ∷ [])) }
-    ensures refused { IfErr result (λ e. (n : ℕ) → e ≡ Fault.Refused n
-        → (n ≡ 9) × (is_whole (in_table table.now row.now) ≡ false)) }
-{
-    let survey = survey.note(table, row)?;
-    if survey.is_right() {
-        found.push(read_key(alloc, table, row)?)?;
-    }
-    Ok(survey)
-}
-
-// Appends to `found` the rows that are still to be read. They are all there if the survey after
-// them is right.
-fn add_rows(
-    alloc: Global,
-    heading: &Rc<Heading>,
-    table: &Table,
-    rows: &mut Records<'_>,
-    mut survey: Survey,
-    found: &mut Vec<(Key, Row)>,
-) -> Result<Survey, Fault>
-    requires { heading.now.value ≡ heading_of table.now }
-    ensures seen { IfOk result (λ s. s ≡ fold noted survey (map (in_table table.now) rows.old)) }
-    ensures whole { OnOk result (list_all is_whole (map (in_table table.now) rows.old) ≡ true) }
-    ensures rows { IfOk result (λ s. is_right s ≡ true → found.new.items ≡ found.old.items
-        ++ map keyed (map (in_table table.now) rows.old)) }
-    ensures refused { IfErr result (λ e. (n : ℕ) → e ≡ Fault.Refused n
-        → (n ≡ 9) × (list_all is_whole (map (in_table table.now) rows.old) ≡ false)) }
-{
-    let mut row = Record::new(alloc);
-    while rows.next(&mut row)? {
-        survey = add_row(alloc, heading, table, &row, survey, found)?;
-    }
-    Ok(survey)
-}
-
-// Appends to `found` the keys of the rows that are still to be read, as `add_rows` the rows.
-fn add_keys(
-    alloc: Global,
-    table: &Table,
-    rows: &mut Records<'_>,
-    mut survey: Survey,
-    found: &mut Vec<Key>,
-) -> Result<Survey, Fault>
-    ensures seen { IfOk result (λ s. s ≡ fold noted survey (map (in_table table.now) rows.old)) }
-    ensures whole { OnOk result (list_all is_whole (map (in_table table.now) rows.old) ≡ true) }
-    ensures keys { IfOk result (λ s. is_right s ≡ true → found.new.items ≡ found.old.items
-        ++ map key_of (map (in_table table.now) rows.old)) }
-    ensures refused { IfErr result (λ e. (n : ℕ) → e ≡ Fault.Refused n
-        → (n ≡ 9) × (list_all is_whole (map (in_table table.now) rows.old) ≡ false)) }
-{
-    let mut row = Record::new(alloc);
-    while rows.next(&mut row)? {
-        survey = add_key(alloc, table, &row, survey, found)?;
-    }
-    Ok(survey)
-}
-
-// Appends the rows of a table to `found`. They are all there if the survey after them is right.
-fn read_all_rows(
-    alloc: Global,
-    files: &[Section<'_>],
-    table: &Table,
-    survey: Survey,
-    found: &mut Vec<(Key, Row)>,
-) -> Result<Survey, Fault>
-    ensures seen { IfOk result
-        (λ s. s ≡ fold noted survey (table_rows (views files.now) table.now)) }
-    ensures whole { OnOk result (list_all is_whole (table_rows (views files.now) table.now)
-        ≡ true) }
-    ensures rows { IfOk result (λ s. is_right s ≡ true → found.new.items ≡ found.old.items
-        ++ map keyed (table_rows (views files.now) table.now)) }
-    ensures refused { IfErr result (λ e. (n : ℕ) → e ≡ Fault.Refused n
-        → (n ≡ 9) × (list_all is_whole (table_rows (views files.now) table.now) ≡ false)) }
-{
-    let heading = Heading::of(alloc, table)?;
-    let mut rows = Records::of(alloc, bytes_named(files, table.file.as_str()));
-    add_rows(alloc, &heading, table, &mut rows, survey, found)
-}
-
-// Appends the keys of a table's rows to `found`, as `read_all_rows` its rows.
-fn read_all_keys(
-    alloc: Global,
-    files: &[Section<'_>],
-    table: &Table,
-    survey: Survey,
-    found: &mut Vec<Key>,
-) -> Result<Survey, Fault>
-    ensures seen { IfOk result
-        (λ s. s ≡ fold noted survey (table_rows (views files.now) table.now)) }
-    ensures whole { OnOk result (list_all is_whole (table_rows (views files.now) table.now)
-        ≡ true) }
-    ensures keys { IfOk result (λ s. is_right s ≡ true → found.new.items ≡ found.old.items
-        ++ map key_of (table_rows (views files.now) table.now)) }
-    ensures refused { IfErr result (λ e. (n : ℕ) → e ≡ Fault.Refused n
-        → (n ≡ 9) × (list_all is_whole (table_rows (views files.now) table.now) ≡ false)) }
-{
-    let mut rows = Records::of(alloc, bytes_named(files, table.file.as_str()));
-    add_keys(alloc, table, &mut rows, survey, found)
-}
 
 // Whether the file of a table has no byte, and so no row.
 fn is_empty(files: &[Section<'_>], table: &Table) -> bool
@@ -190,50 +43,67 @@ fn is_empty(files: &[Section<'_>], table: &Table) -> bool
     bytes_named(files, table.file.as_str()).is_empty()
 }
 
-// The same of a table that may be empty: many are, and to set up a reader costs more than a row.
-fn read_table(
+// Notes one more row of a table, and appends what is read of it to `found` if the survey is right
+// after it.
+fn read_row<T: FromRow>(
     alloc: Global,
-    files: &[Section<'_>],
+    shared: &T::Shared,
     table: &Table,
+    row: &Record,
     survey: Survey,
-    found: &mut Vec<(Key, Row)>,
+    found: &mut Vec<T>,
 ) -> Result<Survey, Fault>
-    ensures seen { IfOk result
-        (λ s. s ≡ fold noted survey (table_rows (views files.now) table.now)) }
-    ensures whole { OnOk result (list_all is_whole (table_rows (views files.now) table.now)
-        ≡ true) }
-    ensures rows { IfOk result (λ s. is_right s ≡ true → found.new.items ≡ found.old.items
-        ++ map keyed (table_rows (views files.now) table.now)) }
-    ensures refused { IfErr result (λ e. (n : ℕ) → e ≡ Fault.Refused n
-        → (n ≡ 9) × (list_all is_whole (table_rows (views files.now) table.now) ≡ false)) }
+    requires { T.is_shared shared.now table.now }
+    ensures read { IfOk result (λ s. AreRead T.of_row (in_table table.now row.now ∷ [])
+        (survey, found.old.items) (s, found.new.items)) }
+    ensures refused { IfErr result (IsFaultOf (in_table table.now row.now ∷ [])) }
 {
-    if is_empty(files, table) {
-        return Ok(survey);
+    let survey = survey.note(table, row)?;
+    if survey.is_right() {
+        found.push(T::read(alloc, shared, table, row)?)?;
     }
-    read_all_rows(alloc, files, table, survey, found)
+    Ok(survey)
 }
 
-// The same of the keys.
-fn read_keys(
+// The same of the rows that are still to be read. What is read of them is all there if the survey
+// after them is right.
+fn read_records<T: FromRow>(
+    alloc: Global,
+    table: &Table,
+    rows: &mut Records<'_>,
+    mut survey: Survey,
+    found: &mut Vec<T>,
+) -> Result<Survey, Fault>
+    ensures read { IfOk result (λ s. AreRead T.of_row (map (in_table table.now) rows.old)
+        (survey, found.old.items) (s, found.new.items)) }
+    ensures refused { IfErr result (IsFaultOf (map (in_table table.now) rows.old)) }
+{
+    let shared = T::shared_in(alloc, table)?;
+    let mut row = Record::new(alloc);
+    while rows.next(&mut row)? {
+        survey = read_row(alloc, &shared, table, &row, survey, found)?;
+    }
+    Ok(survey)
+}
+
+// The same of the rows of a table. It may be empty: many are, and to set up a reader costs more
+// than a row.
+fn read_table<T: FromRow>(
     alloc: Global,
     files: &[Section<'_>],
     table: &Table,
     survey: Survey,
-    found: &mut Vec<Key>,
+    found: &mut Vec<T>,
 ) -> Result<Survey, Fault>
-    ensures seen { IfOk result
-        (λ s. s ≡ fold noted survey (table_rows (views files.now) table.now)) }
-    ensures whole { OnOk result (list_all is_whole (table_rows (views files.now) table.now)
-        ≡ true) }
-    ensures keys { IfOk result (λ s. is_right s ≡ true → found.new.items ≡ found.old.items
-        ++ map key_of (table_rows (views files.now) table.now)) }
-    ensures refused { IfErr result (λ e. (n : ℕ) → e ≡ Fault.Refused n
-        → (n ≡ 9) × (list_all is_whole (table_rows (views files.now) table.now) ≡ false)) }
+    ensures read { IfOk result (λ s. AreRead T.of_row (table_rows (views files.now) table.now)
+        (survey, found.old.items) (s, found.new.items)) }
+    ensures refused { IfErr result (IsFaultOf (table_rows (views files.now) table.now)) }
 {
     if is_empty(files, table) {
         return Ok(survey);
     }
-    read_all_keys(alloc, files, table, survey, found)
+    let mut rows = Records::of(alloc, bytes_named(files, table.file.as_str()));
+    read_records(alloc, table, &mut rows, survey, found)
 }
 
 // The same of the parent tables among these, in the order of tables and rows.
@@ -244,15 +114,11 @@ fn read_parents(
     mut survey: Survey,
     found: &mut Vec<(Key, Row)>,
 ) -> Result<Survey, Fault>
-    ensures seen { IfOk result (λ s. s ≡ fold noted survey
+    ensures read { IfOk result (λ s. AreRead keyed
+        (rows_in (views files.now) (filter (λ t. t.parent) tables.now))
+        (survey, found.old.items) (s, found.new.items)) }
+    ensures refused { IfErr result (IsFaultOf
         (rows_in (views files.now) (filter (λ t. t.parent) tables.now))) }
-    ensures whole { OnOk result (list_all is_whole
-        (rows_in (views files.now) (filter (λ t. t.parent) tables.now)) ≡ true) }
-    ensures rows { IfOk result (λ s. is_right s ≡ true → found.new.items ≡ found.old.items
-        ++ map keyed (rows_in (views files.now) (filter (λ t. t.parent) tables.now))) }
-    ensures refused { IfErr result (λ e. (n : ℕ) → e ≡ Fault.Refused n → (n ≡ 9)
-        × (list_all is_whole (rows_in (views files.now) (filter (λ t. t.parent) tables.now))
-        ≡ false)) }
 {
     for table in tables {
         if !table.parent {
@@ -263,7 +129,7 @@ fn read_parents(
     Ok(survey)
 }
 
-// The same of all these tables, in this order.
+// The same of all these tables, in their order.
 fn read_tables(
     alloc: Global,
     files: &[Section<'_>],
@@ -271,15 +137,11 @@ fn read_tables(
     mut survey: Survey,
     found: &mut Vec<(Key, Row)>,
 ) -> Result<Survey, Fault>
-    ensures seen { IfOk result (λ s. s ≡ fold noted survey
+    ensures read { IfOk result (λ s. AreRead keyed
+        (rows_in (views files.now) (map (λ t. t.now) tables.now))
+        (survey, found.old.items) (s, found.new.items)) }
+    ensures refused { IfErr result (IsFaultOf
         (rows_in (views files.now) (map (λ t. t.now) tables.now))) }
-    ensures whole { OnOk result (list_all is_whole
-        (rows_in (views files.now) (map (λ t. t.now) tables.now)) ≡ true) }
-    ensures rows { IfOk result (λ s. is_right s ≡ true → found.new.items ≡ found.old.items
-        ++ map keyed (rows_in (views files.now) (map (λ t. t.now) tables.now))) }
-    ensures refused { IfErr result (λ e. (n : ℕ) → e ≡ Fault.Refused n → (n ≡ 9)
-        × (list_all is_whole (rows_in (views files.now) (map (λ t. t.now) tables.now))
-        ≡ false)) }
 {
     for table in tables {
         survey = read_table(alloc, files, table, survey, found)?;
@@ -295,41 +157,30 @@ fn read_children(
     survey: Survey,
     found: &mut Vec<(Key, Row)>,
 ) -> Result<Survey, Fault>
-    ensures seen { IfOk result (λ s. s ≡ fold noted survey
-        (rows_in (views files.now) (by_name (filter (λ t. not t.parent) tables.now)))) }
-    ensures whole { OnOk result (list_all is_whole
+    ensures read { IfOk result (λ s. AreRead keyed
         (rows_in (views files.now) (by_name (filter (λ t. not t.parent) tables.now)))
-        ≡ true) }
-    ensures rows { IfOk result (λ s. is_right s ≡ true → found.new.items ≡ found.old.items
-        ++ map keyed (rows_in (views files.now)
-        (by_name (filter (λ t. not t.parent) tables.now)))) }
-    ensures refused { IfErr result (λ e. (n : ℕ) → e ≡ Fault.Refused n → (n ≡ 9)
-        × (list_all is_whole (rows_in (views files.now)
-        (by_name (filter (λ t. not t.parent) tables.now))) ≡ false)) }
+        (survey, found.old.items) (s, found.new.items)) }
+    ensures refused { IfErr result (IsFaultOf
+        (rows_in (views files.now) (by_name (filter (λ t. not t.parent) tables.now)))) }
 {
     let sorted = child_tables(alloc, tables)?;
     read_tables(alloc, files, sorted.as_slice(), survey, found)
 }
 
-// The same of the keys of these tables' rows, in the order of tables and rows.
+// The same of the keys of delete rows, in the order of tables and rows.
 fn read_deletes(
     alloc: Global,
     files: &[Section<'_>],
-    tables: &[Table],
+    deletes: &[Table],
     mut survey: Survey,
     found: &mut Vec<Key>,
 ) -> Result<Survey, Fault>
-    ensures seen { IfOk result
-        (λ s. s ≡ fold noted survey (rows_in (views files.now) tables.now)) }
-    ensures whole { OnOk result (list_all is_whole (rows_in (views files.now) tables.now)
-        ≡ true) }
-    ensures keys { IfOk result (λ s. is_right s ≡ true → found.new.items ≡ found.old.items
-        ++ map key_of (rows_in (views files.now) tables.now)) }
-    ensures refused { IfErr result (λ e. (n : ℕ) → e ≡ Fault.Refused n
-        → (n ≡ 9) × (list_all is_whole (rows_in (views files.now) tables.now) ≡ false)) }
+    ensures read { IfOk result (λ s. AreRead key_of (rows_in (views files.now) deletes.now)
+        (survey, found.old.items) (s, found.new.items)) }
+    ensures refused { IfErr result (IsFaultOf (rows_in (views files.now) deletes.now)) }
 {
-    for table in tables {
-        survey = read_keys(alloc, files, table, survey, found)?;
+    for table in deletes {
+        survey = read_table(alloc, files, table, survey, found)?;
     }
     Ok(survey)
 }

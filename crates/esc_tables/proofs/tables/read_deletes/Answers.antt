@@ -1,42 +1,18 @@
-use Rattle.std.proofs.Common.{◌≡◌, ◌∙◌, ◌++◌, List, take, map, sym, ap}
-use Rattle.std.specs.List.{list_all, fold}
-use Rattle.std.proofs.lemmas.List.{take_all}
 use Rattle.std.proofs.lemmas.Result.{err_from_is_err_and}
 use Rattle.esc_bundle.specs.Bundle.{views}
-use Rattle.esc_envelope.specs.EnvelopeValue.{TableValue}
-use Rattle.esc_tables.specs.TableRow.{table_rows, rows_in, is_whole, key_of}
-use Rattle.esc_tables.specs.Survey.{noted}
-use Rattle.esc_tables.proofs.ReadFacts.{more_read, next_rows}
-use Rattle.esc_tables.proofs.SurveyFacts.{fails_in_one}
+use Rattle.esc_tables.specs.TableRow.{table_rows}
+use Rattle.esc_tables.proofs.ReadFacts.{piece_read, all_read, piece_refused}
 use Rattle.esc_tables.proofs.tables.read_deletes.Goals as goal
+
+pub loop-table-preserved : goal.loop-table-preserved
+loop-table-preserved c =
+    piece_read (table_rows (views c.args.files.now)) c.args.deletes.now c.loop-table.table-index c.table-item.result c.loop-table-test.true c.table-item.is
+    c.loop-table.invariant c.in_ok-survey.ensures.read
+
+pub returns-clause-read : goal.returns-clause-read
+returns-clause-read c = all_read (table_rows (views c.args.files.now)) c.args.deletes.now c.loop-table.table-index c.loop-table-test.false c.loop-table.invariant
 
 pub returns-in_err-survey-clause-refused : goal.returns-in_err-survey-clause-refused
 returns-in_err-survey-clause-refused c =
     let p = err_from_is_err_and c.from_residual.result c.from_residual.ensures.1 in
-    rw (p.1, p.2) (λ n same.
-    let told = c.in_err-survey.ensures.refused n same in
-    (told.0, fails_in_one (views c.args.files.now) c.args.tables.now c.loop-table.table-index c.table-item.result c.loop-table-test.true c.table-item.is told.1))
-
-pub loop-table-preserved : goal.loop-table-preserved
-loop-table-preserved c =
-    let files = views c.args.files.now in
-    let before = c.loop-table.invariant in
-    let after = c.in_ok-survey.ensures in
-    let all = next_rows files c.args.tables.now c.loop-table.table-index c.table-item.result c.loop-table-test.true c.table-item.is in
-    let read = more_read key_of c.args.survey c.args.found.now.items (rows_in files (take c.loop-table.table-index c.args.tables.now)) (table_rows files c.table-item.result) _ c.loop-table.survey c.in_ok-survey.survey c.loop-table.found.items c.read_keys.new.found.items all before.seen before.whole before.read after.seen after.whole after.keys in
-    record { seen = read.seen; whole = read.whole; read = read.read }
-
-pub returns-clause-seen : goal.returns-clause-seen
-returns-clause-seen c =
-    let all : take c.loop-table.table-index c.args.tables.now ≡ c.args.tables.now = take_all c.loop-table.table-index c.args.tables.now c.loop-table-test.false in
-    c.loop-table.invariant.seen ∙ ap (λ (ts : List TableValue). fold noted c.args.survey (rows_in (views c.args.files.now) ts)) all
-
-pub returns-clause-whole : goal.returns-clause-whole
-returns-clause-whole c =
-    let all : take c.loop-table.table-index c.args.tables.now ≡ c.args.tables.now = take_all c.loop-table.table-index c.args.tables.now c.loop-table-test.false in
-    ap (λ (ts : List TableValue). list_all is_whole (rows_in (views c.args.files.now) ts)) (sym all) ∙ c.loop-table.invariant.whole
-
-pub returns-clause-keys : goal.returns-clause-keys
-returns-clause-keys c =
-    let all : take c.loop-table.table-index c.args.tables.now ≡ c.args.tables.now = take_all c.loop-table.table-index c.args.tables.now c.loop-table-test.false in
-    λ right. c.loop-table.invariant.read right ∙ ap (λ (ts : List TableValue). c.args.found.now.items ++ map key_of (rows_in (views c.args.files.now) ts)) all
+    rw (p.1, p.2) (piece_refused (table_rows (views c.args.files.now)) c.args.deletes.now c.loop-table.table-index c.table-item.result _ c.loop-table-test.true c.table-item.is c.in_err-survey.ensures.refused)

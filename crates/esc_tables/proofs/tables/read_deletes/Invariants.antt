@@ -1,13 +1,8 @@
-use Rattle.std.proofs.Common.{◌≡◌, ◌++◌, map, take, true}
-use Rattle.std.specs.List.{list_all, fold}
+use Rattle.std.proofs.Common.{take}
 use Rattle.esc_bundle.specs.Bundle.{views}
-use Rattle.esc_tables.specs.TableRow.{rows_in, is_whole, key_of}
-use Rattle.esc_tables.specs.Survey.{noted, is_right}
+use Rattle.esc_tables.specs.TableRow.{rows_in, key_of}
+use Rattle.esc_tables.specs.Survey.{AreRead}
 use Rattle.esc_tables.proofs.tables.read_deletes.Given as goal
 
 abbrev pub invariant-loop-table : goal.invariant-loop-table
-invariant-loop-table l = record {
-  seen : l.survey ≡ fold noted l.fn.survey (rows_in (views l.files) (take l.table-index l.tables));
-  whole : list_all is_whole (rows_in (views l.files) (take l.table-index l.tables)) ≡ true;
-  read : is_right l.survey ≡ true → l.found.items ≡ l.fn.found.items ++ map key_of (rows_in (views l.files) (take l.table-index l.tables));
-}
+invariant-loop-table l = AreRead key_of (rows_in (views l.files) (take l.table-index l.deletes)) (l.fn.survey, l.fn.found.items) (l.survey, l.found.items)

@@ -1,13 +1,10 @@
-use Rattle.std.proofs.Common.{◌≡◌, ◌++◌, map, take, true, filter}
-use Rattle.std.specs.List.{list_all, fold}
+use Rattle.std.proofs.Common.{take}
+use Rattle.std.specs.List.{flat_map}
 use Rattle.esc_bundle.specs.Bundle.{views}
-use Rattle.esc_tables.specs.TableRow.{rows_in, is_whole, keyed}
-use Rattle.esc_tables.specs.Survey.{noted, is_right}
+use Rattle.esc_tables.specs.TableRow.{keyed}
+use Rattle.esc_tables.specs.Survey.{AreRead}
+use Rattle.esc_tables.proofs.ReadFacts.{if_parent}
 use Rattle.esc_tables.proofs.tables.read_parents.Given as goal
 
 abbrev pub invariant-loop-table : goal.invariant-loop-table
-invariant-loop-table l = record {
-  seen : l.survey ≡ fold noted l.fn.survey (rows_in (views l.files) (filter (λ t. t.parent) (take l.table-index l.tables)));
-  whole : list_all is_whole (rows_in (views l.files) (filter (λ t. t.parent) (take l.table-index l.tables))) ≡ true;
-  read : is_right l.survey ≡ true → l.found.items ≡ l.fn.found.items ++ map keyed (rows_in (views l.files) (filter (λ t. t.parent) (take l.table-index l.tables)));
-}
+invariant-loop-table l = AreRead keyed (flat_map (if_parent (views l.files)) (take l.table-index l.tables)) (l.fn.survey, l.fn.found.items) (l.survey, l.found.items)

@@ -1,42 +1,30 @@
-use Rattle.std.proofs.Common.{◌≡◌, ◌∙◌, ◌++◌, List, Bor, take, map, sym, ap}
-use Rattle.std.specs.List.{list_all, fold}
-use Rattle.std.proofs.lemmas.List.{take_all}
+use Rattle.std.specs.Borrow.{Bor}
+use Rattle.std.proofs.Common.{List}
+use Rattle.std.proofs.lemmas.List.Folds.{flat_map-map}
 use Rattle.std.proofs.lemmas.Result.{err_from_is_err_and}
-use Rattle.esc_bundle.specs.Bundle.{views}
+use Rattle.esc_bundle.specs.Bundle.{Named, views}
 use Rattle.esc_envelope.specs.EnvelopeValue.{TableValue}
-use Rattle.esc_tables.specs.TableRow.{table_rows, rows_in, is_whole, keyed}
-use Rattle.esc_tables.specs.Survey.{noted}
-use Rattle.esc_tables.proofs.ReadFacts.{more_read, next_pointed}
-use Rattle.esc_tables.proofs.TurnFacts.{fails_in_pointed}
+use Rattle.esc_tables.specs.TableRow.{TableRow, table_rows}
+use Rattle.esc_tables.proofs.OrderFacts.{pointed}
+use Rattle.esc_tables.proofs.ReadFacts.{piece_read, all_read, piece_refused}
 use Rattle.esc_tables.proofs.tables.read_tables.Goals as goal
 
-pub returns-in_err-survey-clause-refused : goal.returns-in_err-survey-clause-refused
-returns-in_err-survey-clause-refused c =
-    let p = err_from_is_err_and c.from_residual.result c.from_residual.ensures.1 in
-    rw (p.1, p.2) (λ n same.
-    let told = c.in_err-survey.ensures.refused n same in
-    (told.0, fails_in_pointed (views c.args.files.now) c.args.tables.now c.loop-table.table-index c.table-item.result c.loop-table-test.true c.table-item.is told.1))
+abbrev pointed_rows : List Named → Bor TableValue → List TableRow
+pointed_rows files t = table_rows files t.now
 
 pub loop-table-preserved : goal.loop-table-preserved
 loop-table-preserved c =
+    piece_read (pointed_rows (views c.args.files.now)) c.args.tables.now c.loop-table.table-index c.table-item.result c.loop-table-test.true c.table-item.is
+    c.loop-table.invariant c.in_ok-survey.ensures.read
+
+pub returns-clause-read : goal.returns-clause-read
+returns-clause-read c =
     let files = views c.args.files.now in
-    let before = c.loop-table.invariant in
-    let after = c.in_ok-survey.ensures in
-    let all = next_pointed files c.args.tables.now c.loop-table.table-index c.table-item.result c.loop-table-test.true c.table-item.is in
-    let read = more_read keyed c.args.survey c.args.found.now.items (rows_in files (map (λ t. t.now) (take c.loop-table.table-index c.args.tables.now))) (table_rows files c.table-item.result.now) _ c.loop-table.survey c.in_ok-survey.survey c.loop-table.found.items c.read_table.new.found.items all before.seen before.whole before.read after.seen after.whole after.rows in
-    record { seen = read.seen; whole = read.whole; read = read.read }
+    rw (flat_map-map (table_rows files) pointed c.args.tables.now) (all_read (pointed_rows files) c.args.tables.now c.loop-table.table-index c.loop-table-test.false c.loop-table.invariant)
 
-pub returns-clause-seen : goal.returns-clause-seen
-returns-clause-seen c =
-    let all : take c.loop-table.table-index c.args.tables.now ≡ c.args.tables.now = take_all c.loop-table.table-index c.args.tables.now c.loop-table-test.false in
-    c.loop-table.invariant.seen ∙ ap (λ (ts : List (Bor TableValue)). fold noted c.args.survey (rows_in (views c.args.files.now) (map (λ t. t.now) ts))) all
-
-pub returns-clause-whole : goal.returns-clause-whole
-returns-clause-whole c =
-    let all : take c.loop-table.table-index c.args.tables.now ≡ c.args.tables.now = take_all c.loop-table.table-index c.args.tables.now c.loop-table-test.false in
-    ap (λ (ts : List (Bor TableValue)). list_all is_whole (rows_in (views c.args.files.now) (map (λ t. t.now) ts))) (sym all) ∙ c.loop-table.invariant.whole
-
-pub returns-clause-rows : goal.returns-clause-rows
-returns-clause-rows c =
-    let all : take c.loop-table.table-index c.args.tables.now ≡ c.args.tables.now = take_all c.loop-table.table-index c.args.tables.now c.loop-table-test.false in
-    λ right. c.loop-table.invariant.read right ∙ ap (λ (ts : List (Bor TableValue)). c.args.found.now.items ++ map keyed (rows_in (views c.args.files.now) (map (λ t. t.now) ts))) all
+pub returns-in_err-survey-clause-refused : goal.returns-in_err-survey-clause-refused
+returns-in_err-survey-clause-refused c =
+    let files = views c.args.files.now in
+    let p = err_from_is_err_and c.from_residual.result c.from_residual.ensures.1 in
+    rw (p.1, p.2, flat_map-map (table_rows files) pointed c.args.tables.now)
+    (piece_refused (pointed_rows files) c.args.tables.now c.loop-table.table-index c.table-item.result _ c.loop-table-test.true c.table-item.is c.in_err-survey.ensures.refused)
