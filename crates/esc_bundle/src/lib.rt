@@ -52,6 +52,6 @@ pub use laws::{
     bundle_of_is_exact, each_text_has_one_reading, frame_is_exact, no_bundle_begins_another,
     worked_texts,
 };
-pub use reading::sections;
+pub use reading::{LONGEST_NAME, MOST_BYTES, MOST_SECTIONS, sections};
 pub use section::Section;
 pub use writing::write_bundle;

@@ -65,16 +65,16 @@ pub(crate) const FIRST_LINE: &[u8] = b"escrow-bundle 1\n";
 pub(crate) const LAST_LINE: &[u8] = b"end\n";
 
 /// The most bytes of a bundle, and of a section.
-pub(crate) const LIMIT: usize = 16_777_216;
+pub const MOST_BYTES: usize = 16_777_216;
 
 /// The name of the first section.
 const ENVELOPE: &[u8] = b"envelope.json";
 
 /// The most sections of a bundle.
-const MOST_SECTIONS: usize = 64;
+pub const MOST_SECTIONS: usize = 64;
 
-/// The most bytes of a name.
-const LONGEST_NAME: usize = 32;
+/// The most bytes of a section's name.
+pub const LONGEST_NAME: usize = 32;
 
 /// U1: the text does not have the frame of a bundle.
 pub(crate) const BROKEN_FRAME: Fault = Fault::Refused(1);
@@ -150,9 +150,9 @@ fn value_of(digits: &[u8]) -> usize
     match str::from_utf8(digits) {
         Ok(text) => match text.parse::<usize>() {
             Ok(value) => value,
-            Err(_) => LIMIT + 1,
+            Err(_) => MOST_BYTES + 1,
         },
-        Err(_) => LIMIT + 1,
+        Err(_) => MOST_BYTES + 1,
     }
 }
 
@@ -192,7 +192,7 @@ pub(crate) fn check_stand(before: &[Section<'_>], name: &[u8], size: usize) -> R
     if is_repeated(before, name) {
         return Err(REPEATED_NAME);
     }
-    if before.len() >= MOST_SECTIONS || size > LIMIT {
+    if before.len() >= MOST_SECTIONS || size > MOST_BYTES {
         return Err(OVER_LIMIT);
     }
     if !is_in_order(before, name) {
@@ -318,7 +318,7 @@ pub fn sections(alloc: Global, body: &[u8]) -> Result<Vec<Section<'_>>, Fault>
     ensures other_line { length body.now ≤ limit →
         ((rest : List ℕ) → body.now ≢ first_line ++ rest) → result ≡ Err (Fault.Refused 1) }
 {
-    if body.len() > LIMIT {
+    if body.len() > MOST_BYTES {
         return Err(OVER_LIMIT);
     }
     match body.strip_prefix(FIRST_LINE) {

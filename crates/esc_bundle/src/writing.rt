@@ -24,7 +24,7 @@ ghost use Rattle.esc_bundle.specs.Tests.{GivesOrNoMemory};
 ghost use Rattle.esc_bundle.specs.Writing.{named, in_order, within_limit, bundle_of, IsUnwritten};
 
 use crate::fault::{Fault, NoMemory};
-use crate::reading::{BROKEN_FRAME, FIRST_LINE, LAST_LINE, LIMIT, OVER_LIMIT, check_stand};
+use crate::reading::{BROKEN_FRAME, FIRST_LINE, LAST_LINE, MOST_BYTES, OVER_LIMIT, check_stand};
 use crate::section::Section;
 use std::alloc::Global;
 
@@ -77,12 +77,12 @@ fn join(alloc: Global, sections: &[Section<'_>]) -> Result<Vec<u8>, Fault>
     let mut text = Vec::from_slice(alloc, FIRST_LINE)?;
     for section in sections {
         push_section(alloc, &mut text, section)?;
-        if text.len() > LIMIT {
+        if text.len() > MOST_BYTES {
             return Err(OVER_LIMIT);
         }
     }
     text.extend_from_slice(LAST_LINE)?;
-    if text.len() > LIMIT {
+    if text.len() > MOST_BYTES {
         return Err(OVER_LIMIT);
     }
     Ok(text)

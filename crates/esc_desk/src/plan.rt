@@ -22,14 +22,11 @@ use esc_apply::{Step, common_front};
 use esc_bundle::{Fault, NoMemory};
 use esc_chain::{Held, latest_chain_at};
 use esc_events::Plan;
-use esc_manifest::{MRow, Manifest};
+use esc_manifest::{MOST_ROWS, MRow, Manifest};
 use esc_store::{SFault, Store};
 use esc_tables::{Deposit, read_deposit};
 use sqlite::Alter;
 use std::alloc::Global;
-
-/// The most steps of a chain: as many as a manifest may have rows.
-const MOST_STEPS: usize = 4096;
 
 /// Where the deposits of a plan's new steps are read from.
 #[derive(Drop)]
@@ -105,7 +102,7 @@ pub(crate) fn plan_move<S: Alter>(
         → old.items ≡ kept_chain k → IfOk result (IsPlanned k bodies) }
     ensures cause { IfErr result IsS1OrS2 }
 {
-    if old.len() > MOST_STEPS {
+    if old.len() > MOST_ROWS {
         return Err(SFault::S1);
     }
     let front = common_front(&old, &new);

@@ -4,6 +4,9 @@ ghost use Rattle.std.specs.Prelude.{◌≡◌};
 ghost use Rattle.std.specs.List.{list_all};
 ghost use Rattle.esc_envelope.specs.Id.{is_id_byte, is_id};
 
+/// The most bytes of an id, and of the number of an arrival.
+pub const LONGEST_ID: usize = 64;
+
 fn is_id_byte(byte: u8) -> bool
     ensures { result ≡ is_id_byte byte }
 {
@@ -20,7 +23,7 @@ fn are_id_bytes(text: &[u8]) -> bool
 pub fn is_id(text: &str) -> bool
     ensures { result ≡ is_id text.now }
 {
-    if text.is_empty() || text.len() > 64 {
+    if text.is_empty() || text.len() > LONGEST_ID {
         return false;
     }
     are_id_bytes(text.as_bytes())

@@ -57,9 +57,13 @@ mod texts;
 
 pub use envelope::{Envelope, read_envelope, refusals_are_least};
 pub use header::Header;
-pub use id::is_id;
+pub use id::{LONGEST_ID, is_id};
 pub use kind::Kind;
 pub use laws::{declared_tables_have_their_forms, envelope_refusals_are_5_to_7};
-pub use moment::{printed_watermarks_are_read, watermark, watermark_text, watermarks_are_moments};
+pub use moment::{
+    END_OF_YEARS, printed_watermarks_are_read, watermark, watermark_text, watermarks_are_moments,
+};
 pub use place::{DepositType, Place};
 pub use table::Table;
+pub use tables::LONGEST_TABLE_NAME;
+pub use texts::MOST_FIELDS;

@@ -34,7 +34,7 @@ use jiff::tz::Offset;
 use std::alloc::Global;
 
 /// The end of the years of watermarks: 2262-01-01T00:00:00Z, in nanoseconds.
-const END: i64 = 9_214_646_400_000_000_000;
+pub const END_OF_YEARS: i64 = 9_214_646_400_000_000_000;
 
 fn nanoseconds_at(civil: DateTime) -> i64
     requires { IsBetween (pos 1970) (pos 2261) civil.date.year }
@@ -109,7 +109,7 @@ pub fn watermark_text(alloc: Global, watermark: i64) -> Result<Option<String>, N
     ensures text { IfOk result (λ o. option_map string_bytes o ≡ watermark_text_of watermark) }
     ensures outside { (IsInYears watermark → ⊥) → result ≡ Ok None }
 {
-    if watermark < 0 || watermark >= END {
+    if watermark < 0 || watermark >= END_OF_YEARS {
         return Ok(None);
     }
     let civil = civil_at(watermark);

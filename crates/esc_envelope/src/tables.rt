@@ -30,6 +30,9 @@ use serde_json::Value;
 use std::alloc::Global;
 use std::collections::BTreeSet;
 
+/// The most bytes of a table's name.
+pub const LONGEST_TABLE_NAME: usize = 64;
+
 fn is_name_byte(byte: u8) -> bool
     ensures { result ≡ is_name_byte byte }
 {
@@ -45,7 +48,7 @@ fn are_name_bytes(text: &[u8]) -> bool
 fn is_name(text: &str) -> bool
     ensures { result ≡ is_name text.now }
 {
-    if text.is_empty() || text.len() > 64 {
+    if text.is_empty() || text.len() > LONGEST_TABLE_NAME {
         return false;
     }
     are_name_bytes(text.as_bytes())

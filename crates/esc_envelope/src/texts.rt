@@ -23,6 +23,9 @@ use esc_bundle::NoMemory;
 use serde_json::Value;
 use std::alloc::Global;
 
+/// The most fields of a table.
+pub const MOST_FIELDS: usize = 64;
+
 /// The values of an array, in order; `None` if the value is no array.
 pub(crate) fn array_in(value: &Value) -> Option<&[Value]>
     ensures { option_map (λ values. map view values.now) result ≡ array_in (view value.now) }
@@ -100,7 +103,7 @@ pub(crate) fn fields_in(alloc: Global, values: &[Value]) -> Result<Option<Vec<St
     ensures { IfOk result (λ o. option_map (λ v. map string_bytes v.items) o
         ≡ fields_in (map view values.now)) }
 {
-    if values.is_empty() || values.len() > 64 {
+    if values.is_empty() || values.len() > MOST_FIELDS {
         return Ok(None);
     }
     let Some(fields) = all_fields(alloc, values)? else {

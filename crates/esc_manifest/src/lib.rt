@@ -71,6 +71,6 @@ mod rows;
 pub use fault::MFault;
 pub use laws::{accepted_texts_are_read_whole, faults_are_least, rows_without_fault_are_accepted};
 pub use manifest::Manifest;
-pub use reading::read_manifest;
+pub use reading::{MOST_BYTES, read_manifest};
 pub use row::MRow;
-pub use rows::from_rows;
+pub use rows::{MOST_RESEND, MOST_ROWS, from_rows};

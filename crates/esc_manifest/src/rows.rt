@@ -38,17 +38,14 @@ use crate::apart::{
 use crate::fault::MFault;
 use crate::manifest::Manifest;
 use crate::row::MRow;
-use esc_envelope::{DepositType, Place, is_id};
+use esc_envelope::{DepositType, END_OF_YEARS, Place, is_id};
 use std::alloc::Global;
 
-/// The end of the years of watermarks: 2262-01-01T00:00:00Z, in nanoseconds.
-const END_OF_YEARS: i64 = 9_214_646_400_000_000_000;
-
 /// The greatest resend.
-const MOST_RESEND: u32 = 999_999;
+pub const MOST_RESEND: u32 = 999_999;
 
 /// The most rows of a manifest.
-pub(crate) const MOST_ROWS: usize = 4_096;
+pub const MOST_ROWS: usize = 4_096;
 
 fn has_bad_id(row: &MRow) -> bool
     ensures { result ≡ has_bad_id row.now }

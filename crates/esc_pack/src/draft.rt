@@ -6,15 +6,12 @@ use crate::known_table::KnownTable;
 use crate::proposal::{FolderFile, Proposal, Unknown, Why};
 use esc_bundle::NoMemory;
 use esc_csv::{Record, Records};
-use esc_envelope::is_id;
+use esc_envelope::{MOST_FIELDS, is_id};
 use serde_json::json;
 use std::alloc::Global;
 
 /// Placeholders for id, type and watermark, which no file says.
 const FRONT: &str = "{\"id\":\"ID\",\"type\":\"FULL\",\"watermark\":\"1970-01-01T00:00:00Z\"";
-
-// The most fields of a table.
-const MOST_FIELDS: usize = 64;
 
 // The heading of a table: its fields, and which of them, from 0, is the key.
 #[derive(Drop)]

@@ -11,14 +11,11 @@ use crate::fault::ReleaseFault;
 use crate::written::manifest_text;
 use esc_bundle::{Fault, NoMemory};
 use esc_csv::written_lines_read_back;
-use esc_manifest::{MFault, MRow, Manifest, from_rows};
+use esc_manifest::{MFault, MOST_BYTES, MRow, Manifest, from_rows};
 use esc_tables::read_deposit;
 use sha2::{Digest, Sha256};
 use std::alloc::Global;
 use std::cmp::Ordering;
-
-/// The most bytes of a manifest (4 MiB).
-const MOST_BYTES: usize = 4_194_304;
 
 // The row of a body.
 fn row_of_body(alloc: Global, body: &[u8]) -> Result<MRow, Fault>

@@ -13,10 +13,11 @@ ghost use Rattle.esc_request.specs.BodyLength.{
 };
 ghost use Rattle.esc_request.specs.Seen.{values_seen};
 
+use esc_bundle::MOST_BYTES;
 use httparse::spans::HeaderSpan;
 
-/// The most bytes of a body.
-pub const MOST_BODY_BYTES: u32 = 16_777_216;
+/// The most bytes of a body: as many as a bundle has at most.
+pub const MOST_BODY_BYTES: u32 = MOST_BYTES as u32;
 
 /// The length of a body, or why there is none (RFC 9112, section 6, within this project's profile).
 #[derive(Clone, Copy, Debug, PartialEq, Eq)]

@@ -82,3 +82,5 @@ pub use laws::{
 };
 pub use object::{Object, Row};
 pub use reading::{read_bundled_envelope, read_deposit};
+pub use row::LONGEST_KEY;
+pub use survey::MOST_ROWS;

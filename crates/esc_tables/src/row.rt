@@ -21,7 +21,7 @@ use std::alloc::Global;
 use std::rc::Rc;
 
 /// The greatest length of a key, in bytes.
-const LONGEST_KEY: usize = 255;
+pub const LONGEST_KEY: usize = 255;
 
 /// Whether a row has as many fields as its table declares, each of them UTF-8.
 pub fn is_whole(table: &Table, row: &Record) -> bool

@@ -10,7 +10,7 @@ use esc_csv::Record;
 use esc_envelope::Table;
 
 /// The most rows of a bundle.
-const MOST_ROWS: u32 = 100_000;
+pub const MOST_ROWS: u32 = 100_000;
 
 /// U9: a row has another number of fields than its table declares, or a field that is no UTF-8.
 const BROKEN_ROW: Fault = Fault::Refused(9);

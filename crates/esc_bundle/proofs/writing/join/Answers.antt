@@ -4,16 +4,16 @@ use Rattle.esc_bundle.specs.Bundle.{views, limit, bundle_text}
 use Rattle.esc_bundle.proofs.Written.{text_of, text_more, text_whole, over_limit_already, over_limit_is, within_limit_is}
 use Rattle.esc_bundle.proofs.writing.join.Goals as goal
 
-pub returns-then-len-gt-LIMIT : goal.returns-then-len-gt-LIMIT
-returns-then-len-gt-LIMIT c = λ n same.
+pub returns-then-len-gt-MOST_BYTES : goal.returns-then-len-gt-MOST_BYTES
+returns-then-len-gt-MOST_BYTES c = λ n same.
     let four : 4 ≡ n = cc in
     let i = c.loop-section.section-index in
     let more : c.push_section.new.text.items ≡ text_of c.args.sections.now (i + 1) = text_more c.args.sections.now i _ _ _ c.loop-section-test.true c.loop-section.invariant c.in_ok-push_section.ensures in
     let over : limit < length c.push_section.new.text.items = grind (arith, common_steps) in
     over_limit_already c.args.sections.now (i + 1) _ more over ∙ ap Err four
 
-pub returns-then-len-gt-LIMIT-2 : goal.returns-then-len-gt-LIMIT-2
-returns-then-len-gt-LIMIT-2 c = λ n same.
+pub returns-then-len-gt-MOST_BYTES-2 : goal.returns-then-len-gt-MOST_BYTES-2
+returns-then-len-gt-MOST_BYTES-2 c = λ n same.
     let four : 4 ≡ n = cc in
     let whole : c.extend_from_slice.new.self.items ≡ bundle_text (views c.args.sections.now) = text_whole c.args.sections.now c.loop-section.section-index _ _ c.loop-section-test.false c.loop-section.invariant c.in_ok-extend_from_slice.ensures.items in
     let over : limit < length c.extend_from_slice.new.self.items = grind (arith, common_steps) in
