@@ -1,11 +1,13 @@
 """Bundles that `pack` makes of an agent's files and of their description, and what it refuses."""
-import os
+import json, os
 
 from played.bundles import ENVELOPE, FILES, FIRST_LINE, envelope_of, section
 from played.rows import compare
 from scening.stage import Wanted, case
 
 LINE = 'bundle --envelope envelope.json files out'
+# A row behind two byte order marks.
+MARKED = b'\xef\xbb\xbf\xef\xbb\xbfC1,R1\n'
 # Whether files have headings, the files 0.csv and 1.csv of one table with the fields `id` and `clID`, and what follows the envelope in
 # their bundle, or the refusal.
 GIVEN = (
@@ -16,7 +18,7 @@ GIVEN = (
     (True, (b'id,clID',), b'c.csv 0\n\nend\n'),
     (True, (b'id,clID\r\nC1,"R,1"', b'"id",clID\n"C""2",\n'), b'c.csv 17\nC1,"R,1"\n"C""2",\n\nend\n'),
     (False, (b'\xef\xbb\xbfC1,R1\n',), b'c.csv 6\nC1,R1\n\nend\n'),
-    (False, (b'\xef\xbb\xbf\xef\xbb\xbfC1,R1\n',), 'H2 files/0.csv'),
+    (False, (MARKED,), 'H2 files/0.csv'),
     (True, (b'id,clID\n', b'id,clId\n'), 'H1 files/1.csv'),
     (True, (b'',), 'H1 files/0.csv'),
     (True, (b'id,clID\nC1,R1\nC2\n',), 'U9 files/0.csv row 2'),
@@ -44,6 +46,15 @@ DESCRIBED = (
      b'a 4\nend\n\nb.csv 10\nc.csv 1\nx\n\nc-d 4\n"\n"\n\ne_f 5\n"\n\n"\n\n0 2\n\0\n\n1.2 3\n\xc3\xa9\n\n'
      b'zzzzzzzzzzzzzzzzzzzzzzzzzzzzzzzz 6\nC1,R1\n\nend 16\nescrow-bundle 1\n\ng 11\n0123456789\n\nend\n'),
 )
+# Names of files, and how they are printed: on one line. Control characters are escaped as Rust writes them, and so are the backslashes of
+# a name that has one.
+NAMES = (
+    ('a\nU1 n1', r'a\nU1 n1'),
+    ('a\r\tb', r'a\r\tb'),
+    ('a\\b\x1b[2J', r'a\\b\u{1b}[2J'),
+    ('a\x7f\x85', r'a\u{7f}\u{85}'),
+    ('a\\b \xe9', 'a\\b \xe9'),
+)
 # How long a bundle and each of its sections may be.
 MOST_BYTES = 16_777_216
 # A file of somewhat more than half as many bytes.
@@ -52,8 +63,7 @@ HALF = (b'C1,' + b'x' * 99_996 + b'\n') * 84
 
 def description_of(has_heading, names):
     """The description of the sample, whose rows are in these files."""
-    told = ','.join(f'"{it}"' for it in names)
-    return ENVELOPE.replace(b'"file":"c.csv"', f'"file":"c.csv","from":[{told}],"heading":{str(has_heading).lower()}'.encode())
+    return ENVELOPE.replace(b'"file":"c.csv"', f'"file":"c.csv","from":{json.dumps([*names])},"heading":{json.dumps(has_heading)}'.encode())
 
 
 def check_written(stage, body):
@@ -102,4 +112,28 @@ def bundles_that_would_be_too_long(stage):
     check_bundle(stage, 'one of them', description_of(False, ['1.csv']), files, section('c.csv', HALF) + b'end\n')
 
 
-SCENES = (bundles_of_files, bundles_of_descriptions, bundles_that_would_be_too_long)
+def names_on_one_line(stage):
+    """The names of files that are refused, each on one line."""
+    os.mkdir(stage.at('files'))
+    for name, told in NAMES:
+        check_bundle(stage, f'{name!r}, with no heading', description_of(True, [name]), {name: b'C1,R1\n'}, f'H1 files/{told}')
+        check_bundle(stage, f'{name!r}, with marks', description_of(False, [name]), {name: MARKED}, f'H2 files/{told}')
+        check_bundle(stage, f'{name!r}, with a short row', description_of(False, [name]), {name: b'C1\n'}, f'U9 files/{told} row 1')
+        with case(f'{name!r}, as a bundle'):
+            wanted = Wanted(1, '', f'U1 files/{told}\n')
+            stage.check(f'manifest files/{name!r}', wanted, ['manifest', f'files/{name}'], program='pack')
+
+
+def paths_that_are_no_plain_files(stage):
+    """A pipe, a link to it and a folder. Nobody writes the pipe, and it isn't waited for."""
+    os.makedirs(stage.at('files/folder'))
+    os.mkfifo(stage.at('files/pipe'))
+    os.symlink('pipe', stage.at('files/link'))
+    for name in ('pipe', 'link', 'folder'):
+        stage.write('envelope.json', description_of(False, [name]))
+        for line in (f'manifest files/{name}', f'bundle --envelope files/{name} files out', LINE):
+            stage.check(line, Wanted(3, '', f'E1 files/{name}\n'), program='pack')
+    stage.check('describe files/pipe', Wanted(3, '', 'E1 files/pipe\n'), program='pack')
+
+
+SCENES = (bundles_of_files, bundles_of_descriptions, bundles_that_would_be_too_long, names_on_one_line, paths_that_are_no_plain_files)

@@ -1,10 +1,11 @@
 //! The command line: what the words after the program's name ask for.
 
 use clap::builder::ValueParser;
-use clap::{Arg, ArgMatches, Command, Error};
+use clap::{ArgMatches, Error};
+use esc_console::{Argument, Form, Place, Program};
 use esc_envelope::Kind;
 use esc_http::Report;
-use std::alloc::{AllocError, Global};
+use std::alloc::Global;
 
 /// What the program is asked to do, with the store of a file.
 #[derive(Clone, Copy)]
@@ -42,26 +43,6 @@ pub enum DeskTask<'a> {
     Serve { port: u16, count: u32 },
     /// Print a report, or the export of one kind of objects.
     Tell { report: Report },
-}
-
-/// An argument of a command. Each is required.
-struct Argument {
-    id: &'static str,
-    /// Whether it is an option (`--ID VALUE`) rather than known by its place.
-    is_option: bool,
-    value_name: &'static str,
-    values: ValueParser<'static>,
-    help: &'static str,
-}
-
-/// A command of the program.
-struct Form {
-    name: &'static str,
-    about: &'static str,
-    /// What its help ends with.
-    details: Option<&'static str>,
-    /// Its arguments beside `--store`.
-    arguments: &'static [Argument],
 }
 
 const ABOUT: &str =
@@ -143,173 +124,132 @@ receipts  a line for each distinct arrival, with its verdict: A1 held, A3 unread
 parked    the SHA-256 and the length of each bundle that was taken and that no row lists
 ";
 
-/// The argument of every command.
-static STORE: Argument = Argument {
-    id: "store",
-    is_option: true,
-    value_name: "FILE",
-    values: ValueParser::String,
-    help: "The store's file; beside it FILE-wal may stand, and belongs to it",
+static PROGRAM: Program = Program {
+    name: "restore",
+    version: VERSION,
+    about: ABOUT,
+    details: DETAILS,
+    shared: &[Argument {
+        id: "store",
+        place: Place::Option,
+        value_name: "FILE",
+        values: ValueParser::String,
+        help: "The store's file; beside it FILE-wal may stand, and belongs to it",
+    }],
+    commands: &[
+        Form {
+            name: "init",
+            about: "Makes a store of a release manifest, and prints how many deposits it lists",
+            details: None,
+            arguments: &[Argument {
+                id: "manifest",
+                place: Place::Option,
+                value_name: "FILE",
+                values: ValueParser::String,
+                help: "The release manifest: CSV with a row for each listed deposit",
+            }],
+        },
+        Form {
+            name: "amend",
+            about: "Lists the deposits of one more manifest, and prints how many are new",
+            details: Some(AMENDMENTS),
+            arguments: &[Argument {
+                id: "manifest",
+                place: Place::Option,
+                value_name: "FILE",
+                values: ValueParser::String,
+                help: "A further part of the release manifest, or all of it anew; listed deposits may stand in it again",
+            }],
+        },
+        Form {
+            name: "migrate",
+            about: "Makes a store of version 1 one of this version",
+            details: Some(MIGRATION),
+            arguments: &[],
+        },
+        Form {
+            name: "as-of",
+            about: "Rebuilds the registry as it was at a moment, and prints where its chain ends then",
+            details: Some(MOMENTS),
+            arguments: &[Argument {
+                id: "moment",
+                place: Place::Word,
+                value_name: "MOMENT",
+                values: ValueParser::String,
+                help: "A watermark, as 2024-03-10T00:00:00Z, or `latest`",
+            }],
+        },
+        Form {
+            name: "take",
+            about: "Takes every plain file of a folder in byte order of names, and prints a receipt for each",
+            details: None,
+            arguments: &[Argument {
+                id: "folder",
+                place: Place::Word,
+                value_name: "DIR",
+                values: ValueParser::String,
+                help: "The folder of bundles; each file's name is the number of its arrival",
+            }],
+        },
+        Form {
+            name: "serve",
+            about: "Takes arrivals and gives reports over HTTP, one connection after the other",
+            details: Some(ROUTES),
+            arguments: &[
+                Argument {
+                    id: "port",
+                    place: Place::Option,
+                    value_name: "P",
+                    values: ValueParser::Signed(1, 65_535),
+                    help: "The port of 127.0.0.1 to listen on",
+                },
+                Argument {
+                    id: "count",
+                    place: Place::Option,
+                    value_name: "N",
+                    values: ValueParser::Signed(1, 1_000_000),
+                    help: "How many connections to serve, one request each, before it ends",
+                },
+            ],
+        },
+        Form {
+            name: "report",
+            about: "Prints a report",
+            details: Some(REPORTS_TOLD),
+            arguments: &[Argument {
+                id: "report",
+                place: Place::Word,
+                value_name: "WHAT",
+                values: ValueParser::Names(&["status", "gaps", "links", "receipts", "parked"]),
+                help: "How far the desk has come, which deposits are missing, what breaks a rule, all receipts, or the bundles that no row lists",
+            }],
+        },
+        Form {
+            name: "export",
+            about: "Prints all objects of a kind as CSV, a line for each cell",
+            details: None,
+            arguments: &[Argument {
+                id: "kind",
+                place: Place::Word,
+                value_name: "KIND",
+                values: ValueParser::Names(&[
+                    "registrar",
+                    "contact",
+                    "host",
+                    "domain",
+                    "idn",
+                    "nndn",
+                ]),
+                help: "The kind of objects",
+            }],
+        },
+    ],
 };
-
-static COMMANDS: [Form; 8] = [
-    Form {
-        name: "init",
-        about: "Makes a store of a release manifest, and prints how many deposits it lists",
-        details: None,
-        arguments: &[Argument {
-            id: "manifest",
-            is_option: true,
-            value_name: "FILE",
-            values: ValueParser::String,
-            help: "The release manifest: CSV with a row for each listed deposit",
-        }],
-    },
-    Form {
-        name: "amend",
-        about: "Lists the deposits of one more manifest, and prints how many are new",
-        details: Some(AMENDMENTS),
-        arguments: &[Argument {
-            id: "manifest",
-            is_option: true,
-            value_name: "FILE",
-            values: ValueParser::String,
-            help: "A further part of the release manifest, or all of it anew; listed deposits may stand in it again",
-        }],
-    },
-    Form {
-        name: "migrate",
-        about: "Makes a store of version 1 one of this version",
-        details: Some(MIGRATION),
-        arguments: &[],
-    },
-    Form {
-        name: "as-of",
-        about: "Rebuilds the registry as it was at a moment, and prints where its chain ends then",
-        details: Some(MOMENTS),
-        arguments: &[Argument {
-            id: "moment",
-            is_option: false,
-            value_name: "MOMENT",
-            values: ValueParser::String,
-            help: "A watermark, as 2024-03-10T00:00:00Z, or `latest`",
-        }],
-    },
-    Form {
-        name: "take",
-        about: "Takes every plain file of a folder in byte order of names, and prints a receipt for each",
-        details: None,
-        arguments: &[Argument {
-            id: "folder",
-            is_option: false,
-            value_name: "DIR",
-            values: ValueParser::String,
-            help: "The folder of bundles; each file's name is the number of its arrival",
-        }],
-    },
-    Form {
-        name: "serve",
-        about: "Takes arrivals and gives reports over HTTP, one connection after the other",
-        details: Some(ROUTES),
-        arguments: &[
-            Argument {
-                id: "port",
-                is_option: true,
-                value_name: "P",
-                values: ValueParser::Signed(1, 65_535),
-                help: "The port of 127.0.0.1 to listen on",
-            },
-            Argument {
-                id: "count",
-                is_option: true,
-                value_name: "N",
-                values: ValueParser::Signed(1, 1_000_000),
-                help: "How many connections to serve, one request each, before it ends",
-            },
-        ],
-    },
-    Form {
-        name: "report",
-        about: "Prints a report",
-        details: Some(REPORTS_TOLD),
-        arguments: &[Argument {
-            id: "report",
-            is_option: false,
-            value_name: "WHAT",
-            values: ValueParser::Names(&["status", "gaps", "links", "receipts", "parked"]),
-            help: "How far the desk has come, which deposits are missing, what breaks a rule, all receipts, or the bundles that no row lists",
-        }],
-    },
-    Form {
-        name: "export",
-        about: "Prints all objects of a kind as CSV, a line for each cell",
-        details: None,
-        arguments: &[Argument {
-            id: "kind",
-            is_option: false,
-            value_name: "KIND",
-            values: ValueParser::Names(&["registrar", "contact", "host", "domain", "idn", "nndn"]),
-            help: "The kind of objects",
-        }],
-    },
-];
-
-impl Argument {
-    fn arg<'a>(&self, alloc: Global) -> Arg<'a> {
-        let arg = Arg::new(alloc, self.id)
-            .value_name(self.value_name)
-            .required(true)
-            .value_parser(self.values)
-            .help(self.help);
-        if self.is_option {
-            arg.long(self.id)
-        } else {
-            arg
-        }
-    }
-}
-
-impl Form {
-    fn command<'a>(&self, alloc: Global) -> Result<Command<'a>, AllocError> {
-        let mut command = self.heading(alloc).arg(STORE.arg(alloc))?;
-        for argument in self.arguments {
-            command = command.arg(argument.arg(alloc))?;
-        }
-        Ok(command)
-    }
-
-    // The command without its arguments.
-    fn heading<'a>(&self, alloc: Global) -> Command<'a> {
-        let command = Command::new(alloc, self.name).about(self.about);
-        match self.details {
-            Some(details) => command.after_help(details),
-            None => command,
-        }
-    }
-}
-
-// The program without its commands.
-fn program<'a>(alloc: Global) -> Command<'a> {
-    Command::new(alloc, "restore")
-        .version(VERSION)
-        .about(ABOUT)
-        .after_help(DETAILS)
-        .subcommand_required(true)
-        .arg_required_else_help(true)
-}
-
-fn command_line<'a>(alloc: Global) -> Result<Command<'a>, AllocError> {
-    let mut command = program(alloc);
-    for form in COMMANDS.as_slice() {
-        command = command.subcommand(form.command(alloc)?)?;
-    }
-    Ok(command)
-}
 
 /// What the words ask for; the first of them is the program's name. A request for help or for the
 /// version is an `Err`, too.
 pub fn parse<'a>(alloc: Global, words: &'a [&'a str]) -> Result<Option<Invocation<'a>>, Error> {
-    let matches = command_line(alloc)?.try_get_matches_from(words)?;
+    let matches = PROGRAM.matches_of(alloc, words)?;
     Ok(invocation_of(&matches))
 }
 

@@ -1,12 +1,12 @@
 //! The commands, each over a store in a file.
 
 use crate::command_line::{DeskTask, Invocation, Task, parse};
-use crate::files::{MOST_MANIFEST_BYTES, read_file};
+use crate::files::{read_text, stop_at};
 use crate::jobs::{Ended, Job, use_file};
-use crate::stop::{DONE, NO_MEMORY, Stop, USAGE, print, tell_stop};
+use crate::stop::{NO_MEMORY, Stop, print, tell_stop};
 use crate::store_file::{Closed, close, open_file, open_store_file};
 use clap::Error;
-use clap::error::ErrorKind;
+use esc_console::{DONE, USAGE, tell_answer};
 use esc_desk::Desk;
 use esc_envelope::watermark;
 use esc_manifest::{Manifest, read_manifest};
@@ -50,19 +50,9 @@ fn with_name<'a>(alloc: Global, words: &'a [String]) -> Result<Vec<&'a str>, All
 
 // Prints the help or the version that was asked for, or what is wrong with the words.
 fn tell_error<O: Write, E: Write>(rt: &HostRuntime, error: &Error, out: &mut O, err: &mut E) -> u8 {
-    if error.kind() == ErrorKind::OutOfMemory {
-        return tell_stop(rt, err, &NO_MEMORY);
-    }
-    let Ok(text) = format!(in rt.alloc(); "{error}") else {
-        return tell_stop(rt, err, &NO_MEMORY);
-    };
-    if error.use_stderr() {
-        let _ = err.write_all(text.as_bytes());
-        return USAGE;
-    }
-    match print(rt, out, text.as_bytes()) {
-        Ok(()) => DONE,
-        Err(stop) => tell_stop(rt, err, &stop),
+    match tell_answer(rt.alloc(), error, out, err) {
+        Ok(status) => status,
+        Err(error) => tell_stop(rt, err, &stop_at(rt, "-", &error)),
     }
 }
 
@@ -165,7 +155,7 @@ where
     O: Write,
     E: Write,
 {
-    let text = read_file(rt, manifest, MOST_MANIFEST_BYTES)?;
+    let text = read_text(rt, manifest)?;
     let _ = manifest_in(rt.alloc(), &text)?;
     use_store(rt, net, store, DeskTask::List { text: &text }, out, err)
 }
@@ -200,9 +190,9 @@ fn moment_named(alloc: Global, word: &str) -> Result<Option<i64>, Stop> {
     }
 }
 
-// The manifest in a file. Of a file that is too long only the first bytes are read.
+// The manifest in a file.
 fn manifest_of(rt: &HostRuntime, path: &str) -> Result<Manifest, Stop> {
-    let text = read_file(rt, path, MOST_MANIFEST_BYTES)?;
+    let text = read_text(rt, path)?;
     manifest_in(rt.alloc(), &text)
 }
 

@@ -3,11 +3,12 @@
 use crate::command_line::DeskTask;
 use crate::events;
 use crate::serve::serve_connections;
-use crate::stop::{DONE, Stop};
+use crate::stop::Stop;
 use crate::store_file::{
     Closed, Used, close, connection_of, create_store, migrate_store, open_desk,
 };
 use crate::take::take_folder;
+use esc_console::DONE;
 use esc_desk::Desk;
 use esc_http::{Report, end_line, report};
 use esc_manifest::Manifest;

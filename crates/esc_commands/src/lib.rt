@@ -11,15 +11,18 @@
 //!
 //! | Module | Does |
 //! |---|---|
-//! | `command_line` | from the words to what is asked for, and help, by `clap` |
+//! | `command_line` | the table of the commands and its texts; from the words to what is asked for |
 //! | `commands` | the commands: from what is asked for to the status |
 //! | `jobs` | what a command does with the database of a file, and with the desk of its store |
 //! | `store_file` | opens the file of a store and closes it, once for each command |
 //! | `events` | arrivals, amendments and moments, each a run of the desk of its own |
 //! | `take` | takes the plain files of a folder, in byte order of names |
 //! | `serve` | serves connections on a port, one after the other, each within a time |
-//! | `files` | reads files, and lists folders |
+//! | `files` | reads manifests and bodies, and says what stops a command at a path |
 //! | `stop` | what a command stops for, its text and its status |
+//!
+//! What `pack` does alike is in [`esc_console`]: the commands as `clap` is told of them, the reading
+//! of files and folders, and names on one line.
 //!
 //! # Example
 //!

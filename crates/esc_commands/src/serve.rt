@@ -1,8 +1,9 @@
 //! The desk on a port.
 
-use crate::files::stop_at;
-use crate::stop::{DONE, Stop, print};
+use crate::files::or_stop;
+use crate::stop::{Stop, print};
 use esc_client::{Client, Patience};
+use esc_console::DONE;
 use esc_desk::Desk;
 use esc_http::{ServeFault, serve_one};
 use sqlite::Alter;
@@ -34,16 +35,13 @@ where
     E: Write,
 {
     let address = format!(in rt.alloc(); "127.0.0.1:{port}")?;
-    let listener = match TcpListener::bind(net, address.as_str()) {
-        Ok(listener) => listener,
-        Err(error) => return Err(stop_at(rt, address.as_str(), &error)),
-    };
+    let bound = TcpListener::bind(net, address.as_str());
+    let listener = or_stop(rt, address.as_str(), bound)?;
     let line = format!(in rt.alloc(); "listening {address}\n")?;
     print(rt, out, line.as_bytes())?;
     for _ in 0..count {
-        if let Err(error) = serve_next(rt, desk, &listener, err) {
-            return Err(stop_at(rt, address.as_str(), &error));
-        }
+        let served = serve_next(rt, desk, &listener, err);
+        or_stop(rt, address.as_str(), served)?;
     }
     Ok(DONE)
 }

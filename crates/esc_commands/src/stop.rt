@@ -1,21 +1,16 @@
 //! What the program stops for, its statuses, and its two streams.
 
-use crate::files::stop_at;
+use crate::files::or_stop;
 use esc_bundle::NoMemory;
+use esc_console::{OneLine, USAGE};
 use esc_desk::SFault;
 use esc_manifest::MFault;
 use std::alloc::{AllocError, AllocFailed};
 use std::fmt;
 use std::io::Write;
 
-/// Done: nothing was refused.
-pub const DONE: u8 = 0;
-
 /// `M1` to `M13`, `E3`, or `take` met `N1`, `E2` or a verdict other than `A1` and went on.
 pub const REFUSED: u8 = 1;
-
-/// Words that are no command of the program.
-pub const USAGE: u8 = 2;
 
 /// `S1` to `S5`, `E1`: the store or a file failed, and the program stopped there.
 pub const STOPPED: u8 = 3;
@@ -83,37 +78,9 @@ impl<T: Drop> From<AllocFailed<T>> for Stop {
     }
 }
 
-/// A name or a path as a refusal prints it: on one line, so that no name can look like a second
-/// refusal. If it has control characters, such as a line end, these are escaped as Rust writes them
-/// (`\n`, `\u{1b}`), and so are its backslashes.
-#[derive(Clone, Copy)]
-struct OneLine<'a>(&'a str);
-
-impl fmt::Display for OneLine<'_> {
-    fn fmt<W: fmt::Write>(&self, f: &mut fmt::Formatter<W>) -> fmt::Result {
-        if self.0.is_empty() {
-            return f.write_str("(an empty path)");
-        }
-        if !self.0.chars().any(char::is_control) {
-            return f.write_str(self.0);
-        }
-        for letter in self.0.chars() {
-            if letter.is_control() || letter == '\\' {
-                write!(f, "{}", letter.escape_default())?;
-            } else {
-                f.write_char(letter)?;
-            }
-        }
-        Ok(())
-    }
-}
-
 /// Prints on standard output, whose path is `-`.
 pub fn print<O: Write>(rt: &HostRuntime, out: &mut O, text: &[u8]) -> Result<(), Stop> {
-    match out.write_all(text) {
-        Ok(()) => Ok(()),
-        Err(error) => Err(stop_at(rt, "-", &error)),
-    }
+    or_stop(rt, "-", out.write_all(text))
 }
 
 /// Prints a refusal that doesn't stop the program. A failure of standard error is ignored: there is

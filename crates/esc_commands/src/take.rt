@@ -1,8 +1,9 @@
 //! Taking a folder of deposits.
 
 use crate::events;
-use crate::files::{path_in, plain_files, read_body};
-use crate::stop::{DONE, REFUSED, Stop, print, tell};
+use crate::files::{or_stop, read_body};
+use crate::stop::{REFUSED, Stop, print, tell};
+use esc_console::{DONE, path_in, plain_files};
 use esc_desk::{Arrival, Desk, Verdict, number};
 use esc_http::{receipt_line, receipts_heading};
 use sqlite::Alter;
@@ -18,7 +19,7 @@ pub fn take_folder<S: Alter, O: Write, E: Write>(
     out: &mut O,
     err: &mut E,
 ) -> Result<u8, Stop> {
-    let listing = plain_files(rt, folder)?;
+    let listing = or_stop(rt, folder, plain_files(rt, folder))?;
     print(rt, out, &receipts_heading(rt.alloc())?)?;
     let mut status = DONE;
     for _ in 0..listing.unnamed {
@@ -47,7 +48,7 @@ fn take_file<S: Alter, O: Write, E: Write>(
         tell(rt, err, "N1", name)?;
         return Ok(false);
     };
-    let path = path_in(rt, folder, name)?;
+    let path = path_in(rt.alloc(), folder, name)?;
     let Some(body) = read_body(rt, path.as_str())? else {
         tell(rt, err, "E2", name)?;
         return Ok(false);

@@ -1,8 +1,9 @@
 //! `bundle --envelope FILE DIR OUT`: one bundle of an agent's files.
 
-use crate::files::{path_in, place_file, read_bundle, read_files, slices_of};
+use crate::files::{place_file, read_bundle, read_files, slices_of};
 use crate::stop::{Refusal, Stop};
 use esc_bundle::Fault;
+use esc_console::path_in;
 use esc_envelope::read_envelope;
 use esc_pack::{BundleFault, Source, Sources, TableFiles, bundle_of_files, read_sources};
 
@@ -147,9 +148,9 @@ fn stop_of(rt: &HostRuntime, words: Bundling<'_>, sources: &[Source], fault: &Bu
 
 // A refusal of a file in the folder.
 fn stop_in(rt: &HostRuntime, folder: &str, name: &str, refusal: Refusal) -> Stop {
-    match path_in(rt, folder, name) {
+    match path_in(rt.alloc(), folder, name) {
         Ok(path) => Stop::At { refusal, path },
-        Err(stop) => stop,
+        Err(_) => Stop::NoMemory,
     }
 }
 

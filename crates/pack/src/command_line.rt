@@ -3,11 +3,11 @@
 use crate::bundle::{Bundling, write_bundle};
 use crate::describe::describe;
 use crate::files::{read_bundles, slices_of};
-use crate::stop::{DONE, Refusal, Stop, USAGE, print, tell_stop};
-use clap::error::ErrorKind;
-use clap::{Arg, ArgMatches, Command, Error};
+use crate::stop::{Refusal, Stop, print, tell_stop};
+use clap::builder::ValueParser;
+use clap::{ArgMatches, Error};
+use esc_console::{Argument, DONE, Form, Place, Program, tell_answer};
 use esc_pack::{ReleaseFault, manifest_of_bundles};
-use std::alloc::{AllocError, Global};
 use std::io::Write;
 
 /// The version of the program, and that of the stores that `restore` makes of what it writes.
@@ -62,142 +62,67 @@ the type and the watermark, for which the description has ID, FULL and 1970-01-0
 each file that it doesn't name. Set them, and give the description to pack bundle.
 ";
 
-/// An argument of a command. Each is required.
-struct Argument {
-    id: &'static str,
-    value_name: &'static str,
-    form: ArgumentForm,
-    help: &'static str,
-}
-
-/// How the words give an argument.
-enum ArgumentForm {
-    /// An option, `--ID VALUE`.
-    Option,
-    /// One word, known by its place.
-    Word,
-    /// All words from its place on, at least one.
-    Words,
-}
-
-/// A command of the program.
-struct Form {
-    name: &'static str,
-    about: &'static str,
-    /// What its help ends with.
-    details: Option<&'static str>,
-    arguments: &'static [Argument],
-}
-
-static COMMANDS: [Form; 3] = [
-    Form {
-        name: "manifest",
-        about: "Prints the release manifest of these bundles, in the order of places",
-        details: None,
-        arguments: &[Argument {
-            id: "bundle",
-            value_name: "BUNDLE",
-            form: ArgumentForm::Words,
-            help: "The files of the bundles, in any order",
-        }],
-    },
-    Form {
-        name: "bundle",
-        about: "Writes the bundle of a folder's CSV files, whose tables a description declares",
-        details: Some(DESCRIPTION),
-        arguments: &[
-            Argument {
-                id: "envelope",
-                value_name: "FILE",
-                form: ArgumentForm::Option,
-                help: "The description of the tables",
-            },
-            Argument {
-                id: "folder",
+static PROGRAM: Program = Program {
+    name: "pack",
+    version: VERSION,
+    about: ABOUT,
+    details: DETAILS,
+    shared: &[],
+    commands: &[
+        Form {
+            name: "manifest",
+            about: "Prints the release manifest of these bundles, in the order of places",
+            details: None,
+            arguments: &[Argument {
+                id: "bundle",
+                place: Place::Words,
+                value_name: "BUNDLE",
+                values: ValueParser::String,
+                help: "The files of the bundles, in any order",
+            }],
+        },
+        Form {
+            name: "bundle",
+            about: "Writes the bundle of a folder's CSV files, whose tables a description declares",
+            details: Some(DESCRIPTION),
+            arguments: &[
+                Argument {
+                    id: "envelope",
+                    place: Place::Option,
+                    value_name: "FILE",
+                    values: ValueParser::String,
+                    help: "The description of the tables",
+                },
+                Argument {
+                    id: "folder",
+                    place: Place::Word,
+                    value_name: "DIR",
+                    values: ValueParser::String,
+                    help: "The folder of the files",
+                },
+                Argument {
+                    id: "target",
+                    place: Place::Word,
+                    value_name: "OUT",
+                    values: ValueParser::String,
+                    help: "Where the bundle is written; nothing may be there",
+                },
+            ],
+        },
+        Form {
+            name: "describe",
+            about: "Proposes a description of a folder's CSV files, by their names and their headings",
+            details: Some(PROPOSAL),
+            arguments: &[Argument {
+                id: "described",
+                place: Place::Word,
                 value_name: "DIR",
-                form: ArgumentForm::Word,
+                values: ValueParser::String,
                 help: "The folder of the files",
-            },
-            Argument {
-                id: "target",
-                value_name: "OUT",
-                form: ArgumentForm::Word,
-                help: "Where the bundle is written; nothing may be there",
-            },
-        ],
-    },
-    Form {
-        name: "describe",
-        about: "Proposes a description of a folder's CSV files, by their names and their headings",
-        details: Some(PROPOSAL),
-        arguments: &[Argument {
-            id: "described",
-            value_name: "DIR",
-            form: ArgumentForm::Word,
-            help: "The folder of the files",
-        }],
-    },
-];
-
-impl Argument {
-    fn arg<'a>(&self, alloc: Global) -> Arg<'a> {
-        let arg = Arg::new(alloc, self.id)
-            .value_name(self.value_name)
-            .required(true)
-            .help(self.help);
-        match self.form {
-            ArgumentForm::Option => arg.long(self.id),
-            ArgumentForm::Word => arg,
-            ArgumentForm::Words => arg.num_args(1..),
-        }
-    }
-}
-
-impl Form {
-    fn command<'a>(&self, alloc: Global) -> Result<Command<'a>, AllocError> {
-        let mut command = self.heading(alloc);
-        for argument in self.arguments {
-            command = command.arg(argument.arg(alloc))?;
-        }
-        Ok(command)
-    }
-
-    // The command without its arguments.
-    fn heading<'a>(&self, alloc: Global) -> Command<'a> {
-        let command = Command::new(alloc, self.name).about(self.about);
-        match self.details {
-            Some(details) => command.after_help(details),
-            None => command,
-        }
-    }
-}
-
-// The program without its commands.
-fn program<'a>(alloc: Global) -> Command<'a> {
-    Command::new(alloc, "pack")
-        .version(VERSION)
-        .about(ABOUT)
-        .after_help(DETAILS)
-        .subcommand_required(true)
-        .arg_required_else_help(true)
-}
-
-fn command_line<'a>(alloc: Global) -> Result<Command<'a>, AllocError> {
-    let commands = commands(alloc)?;
-    program(alloc).subcommands(commands)
-}
-
-fn commands<'a>(alloc: Global) -> Result<Vec<Command<'a>>, AllocError> {
-    let mut commands = Vec::new(alloc);
-    for form in COMMANDS.as_slice() {
-        commands.push(form.command(alloc)?)?;
-    }
-    Ok(commands)
-}
-
-fn matches_of<'a>(alloc: Global, words: &'a [String]) -> Result<ArgMatches<'a>, Error> {
-    command_line(alloc)?.try_get_matches_from(words)
-}
+            }],
+        },
+    ],
+};
 
 /// Runs the program on its words, of which the first is its name. Returns the status.
 pub fn run_words<O: Write, E: Write>(
@@ -206,7 +131,7 @@ pub fn run_words<O: Write, E: Write>(
     out: &mut O,
     err: &mut E,
 ) -> u8 {
-    let told = match matches_of(rt.alloc(), words) {
+    let told = match PROGRAM.matches_of(rt.alloc(), words) {
         Ok(matches) => answer(rt, &matches, err),
         Err(error) => return tell_error(rt, &error, out, err),
     };
@@ -288,18 +213,8 @@ fn stop_of(rt: &HostRuntime, paths: &[&str], fault: &ReleaseFault) -> Stop {
 
 // Tells the help or the version that was asked for, or what is wrong with the words.
 fn tell_error<O: Write, E: Write>(rt: &HostRuntime, error: &Error, out: &mut O, err: &mut E) -> u8 {
-    if error.kind() == ErrorKind::OutOfMemory {
-        return tell_stop(rt, err, &Stop::NoMemory);
-    }
-    let Ok(text) = format!(in rt.alloc(); "{error}") else {
-        return tell_stop(rt, err, &Stop::NoMemory);
-    };
-    if error.use_stderr() {
-        let _ = err.write_all(text.as_bytes());
-        return USAGE;
-    }
-    match print(rt, out, text.as_bytes()) {
-        Ok(()) => DONE,
-        Err(stop) => tell_stop(rt, err, &stop),
+    match tell_answer(rt.alloc(), error, out, err) {
+        Ok(status) => status,
+        Err(error) => tell_stop(rt, err, &Stop::unreadable(rt, "-", &error)),
     }
 }

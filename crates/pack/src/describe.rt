@@ -1,7 +1,8 @@
 //! `describe DIR`: a description of a folder's files.
 
-use crate::files::{folder_names, read_files};
-use crate::stop::{Refusal, Stop};
+use crate::files::read_files;
+use crate::stop::{Refusal, Stop, or_stop};
+use esc_console::plain_files;
 use esc_pack::{BundleFault, FolderFile, Proposal, Unknown, describe_files};
 
 /// What no file says, so that the description has placeholders for it.
@@ -16,7 +17,7 @@ pub struct Description {
 
 /// The description that is proposed of the plain files of a folder.
 pub fn describe(rt: &HostRuntime, folder: &str) -> Result<Description, Stop> {
-    let found = folder_names(rt, folder)?;
+    let found = or_stop(rt, folder, plain_files(rt, folder))?;
     let proposal = proposal_of(rt, folder, &found.names)?;
     let unknown = untold(rt, &proposal.unknown, found.unnamed)?;
     Ok(Description {
@@ -52,7 +53,7 @@ fn named_files<'a>(
 }
 
 // What a description doesn't say.
-fn untold(rt: &HostRuntime, files: &[Unknown], unnamed: u64) -> Result<String, Stop> {
+fn untold(rt: &HostRuntime, files: &[Unknown], unnamed: usize) -> Result<String, Stop> {
     let mut lines = String::from_str(rt.alloc(), UNTOLD)?;
     for file in files {
         push_file(rt, &mut lines, file)?;
@@ -71,7 +72,7 @@ fn push_file(rt: &HostRuntime, lines: &mut String, file: &Unknown) -> Result<(),
     Ok(())
 }
 
-fn push_unnamed(rt: &HostRuntime, lines: &mut String, unnamed: u64) -> Result<(), Stop> {
+fn push_unnamed(rt: &HostRuntime, lines: &mut String, unnamed: usize) -> Result<(), Stop> {
     let line = format!(in rt.alloc(); "unknown files: {unnamed} whose names are no UTF-8\n")?;
     lines.push_str(line.as_str())?;
     Ok(())

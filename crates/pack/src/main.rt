@@ -14,8 +14,20 @@
 //! `U9 PATH` for a bundle that is no deposit (with `row 2` for a row of a file with another number
 //! of fields), `M10 row 2` for deposits that no manifest lists, `H1 PATH` for a file that doesn't
 //! begin with its heading, `H2 PATH` for rows that begin with a byte order mark, `H3 DIR` for a
-//! folder whose description doesn't read back, `S2` when out of memory. The status is 0 where all
-//! went well; 1 for E2, U, M and H; 2 for other words; 3 for E1 and S2.
+//! folder whose description doesn't read back, `S2` when out of memory. A control character in a
+//! path is escaped. The status is 0 where all went well; 1 for E2, U, M and H; 2 for other words; 3
+//! for E1 and S2.
+//!
+//! | Module | Does |
+//! |---|---|
+//! | `command_line` | the table of the commands and its texts; from the words to the status |
+//! | `bundle` | `bundle`: a description and the files of a folder, as one bundle |
+//! | `describe` | `describe`: the description of a folder |
+//! | `files` | reads bundles and files, and writes a bundle in one step |
+//! | `stop` | what the program stops for, its text and its status |
+//!
+//! What `restore` does alike is in [`esc_console`]: the commands as `clap` is told of them, the
+//! reading of files and folders, and names on one line.
 //!
 //! By proof: that no call is unsafe and that each ends, whatever the words and files are.
 #![tactic(auto)]

@@ -1,18 +1,13 @@
 //! What the program stops for, its statuses, and its two streams.
 
 use esc_bundle::NoMemory;
+use esc_console::OneLine;
 use std::alloc::{AllocError, AllocFailed};
 use std::fmt;
 use std::io::{Error, ErrorKind, Write};
 
-/// All went well.
-pub const DONE: u8 = 0;
-
 /// A file that is refused.
 const REFUSED: u8 = 1;
-
-/// Other words than the program knows.
-pub const USAGE: u8 = 2;
 
 /// A file failed, or memory was refused.
 const STOPPED: u8 = 3;
@@ -80,14 +75,18 @@ impl Stop {
 impl fmt::Display for Stop {
     fn fmt<W: fmt::Write>(&self, f: &mut fmt::Formatter<W>) -> fmt::Result {
         match self {
-            Stop::At { refusal, path } => fmt_at(f, *refusal, path),
+            Stop::At { refusal, path } => fmt_at(f, *refusal, OneLine(path.as_str())),
             Stop::Unlisted { code, row } => write!(f, "M{code} row {row}"),
             Stop::NoMemory => f.write_str("S2"),
         }
     }
 }
 
-fn fmt_at<W: fmt::Write>(f: &mut fmt::Formatter<W>, refusal: Refusal, path: &str) -> fmt::Result {
+fn fmt_at<W: fmt::Write>(
+    f: &mut fmt::Formatter<W>,
+    refusal: Refusal,
+    path: OneLine<'_>,
+) -> fmt::Result {
     let name = match refusal {
         Refusal::Unread(code) => return write!(f, "U{code} {path}"),
         Refusal::Row(row) => return write!(f, "U9 {path} row {row}"),
@@ -118,12 +117,17 @@ impl<T: Drop> From<AllocFailed<T>> for Stop {
     }
 }
 
+/// What came of a path, or the stop for it.
+pub fn or_stop<T>(rt: &HostRuntime, path: &str, found: Result<T, Error>) -> Result<T, Stop> {
+    match found {
+        Ok(found) => Ok(found),
+        Err(error) => Err(Stop::unreadable(rt, path, &error)),
+    }
+}
+
 /// Prints on standard output, whose path is `-`.
 pub fn print<O: Write>(rt: &HostRuntime, out: &mut O, text: &[u8]) -> Result<(), Stop> {
-    match out.write_all(text) {
-        Ok(()) => Ok(()),
-        Err(error) => Err(Stop::unreadable(rt, "-", &error)),
-    }
+    or_stop(rt, "-", out.write_all(text))
 }
 
 /// Prints what the program stops for, and returns its status. If there is no memory for the line,

@@ -1,0 +1,113 @@
+//! Files and folders.
+
+ghost use Rattle.std.specs.Prelude.{◌≤◌, IfOk, IfSome, length, string_cmp};
+ghost use Rattle.std.specs.List.Sorted.{IsSorted};
+
+use std::alloc::{AllocError, Global};
+use std::fs::{self, DirEntry, File, Metadata};
+use std::io::{Error, ErrorKind, Read};
+
+/// What is made of a link at a path.
+#[derive(Clone, Copy)]
+pub enum Links {
+    /// What it leads to is read.
+    Followed,
+    /// It is no plain file.
+    Refused,
+}
+
+/// The plain files of a folder.
+#[derive(Drop)]
+pub struct Listing {
+    /// Their names, in byte order.
+    pub names: Vec<String>,
+    /// How many names are no UTF-8.
+    pub unnamed: usize,
+}
+
+/// The bytes of a plain file; `None` if it has more than `most`.
+pub fn read_whole(
+    rt: &HostRuntime,
+    path: &str,
+    links: Links,
+    most: u64,
+) -> Result<Option<Vec<u8>>, Error>
+    ensures bound { IfOk result (λ found. IfSome found (λ bytes. length bytes.items ≤ most)) }
+{
+    let bytes = read_front(rt, path, links, most)?;
+    if bytes.len() as u64 > most {
+        Ok(None)
+    } else {
+        Ok(Some(bytes))
+    }
+}
+
+/// The first bytes of a plain file: at most one more than `most`. So a file that is too long shows
+/// in the length of what was read, and its end is not waited for. A pipe would be waited for until
+/// somebody writes it, and a device may have no end: so these are not opened.
+pub fn read_front(rt: &HostRuntime, path: &str, links: Links, most: u64) -> Result<Vec<u8>, Error> {
+    check_plain(match links {
+        Links::Followed => fs::metadata(rt, path),
+        Links::Refused => fs::symlink_metadata(rt, path),
+    })?;
+    open_and_read(rt, path, most)
+}
+
+fn check_plain(found: Result<Metadata, Error>) -> Result<(), Error> {
+    if found?.is_file() {
+        Ok(())
+    } else {
+        Err(Error::from(ErrorKind::Unsupported))
+    }
+}
+
+// What was opened is looked at again: the path may have come to name something else.
+fn open_and_read(rt: &HostRuntime, path: &str, most: u64) -> Result<Vec<u8>, Error> {
+    let file = File::open(rt, path)?;
+    check_plain(file.metadata())?;
+    let mut bytes = Vec::new(rt.alloc());
+    file.take(most.saturating_add(1)).read_to_end(&mut bytes)?;
+    Ok(bytes)
+}
+
+/// The plain files of a folder. Folders, links, pipes and devices in it are passed over.
+pub fn plain_files(rt: &HostRuntime, folder: &str) -> Result<Listing, Error>
+    ensures rising { IfOk result (λ listing. IsSorted string_cmp listing.names.items) }
+{
+    let entries = fs::read_dir(rt, folder)?;
+    let mut listing = Listing {
+        names: Vec::new(rt.alloc()),
+        unnamed: 0,
+    };
+    for entry in entries {
+        listing.add(rt.alloc(), entry)?;
+    }
+    listing.names.sort_unstable();
+    Ok(listing)
+}
+
+impl Listing {
+    fn add(&mut self, alloc: Global, entry: Result<DirEntry, Error>) -> Result<(), Error> {
+        match entry {
+            Ok(entry) => self.add_plain(alloc, &entry),
+            Err(error) if error.kind() == ErrorKind::InvalidFilename => {
+                self.unnamed = self.unnamed.saturating_add(1);
+                Ok(())
+            }
+            Err(error) => Err(error),
+        }
+    }
+
+    fn add_plain(&mut self, alloc: Global, entry: &DirEntry) -> Result<(), Error> {
+        if entry.metadata()?.is_file() {
+            let name = String::from_str(alloc, entry.file_name())?;
+            self.names.push(name)?;
+        }
+        Ok(())
+    }
+}
+
+/// The path of a file in a folder.
+pub fn path_in(alloc: Global, folder: &str, name: &str) -> Result<String, AllocError> {
+    format!(in alloc; "{folder}/{name}")
+}

@@ -1,0 +1,114 @@
+//! The commands of a program as a table, and how `clap` is told of it.
+
+use clap::builder::ValueParser;
+use clap::{Arg, ArgMatches, Command, Error};
+use std::alloc::{AllocError, Global};
+use std::convert::AsStr;
+
+/// A program, with its commands.
+pub struct Program {
+    pub name: &'static str,
+    pub version: &'static str,
+    pub about: &'static str,
+    /// What its help ends with.
+    pub details: &'static str,
+    /// The arguments of every command, before its own.
+    pub shared: &'static [Argument],
+    pub commands: &'static [Form],
+}
+
+/// A command of a program.
+pub struct Form {
+    pub name: &'static str,
+    pub about: &'static str,
+    /// What its help ends with.
+    pub details: Option<&'static str>,
+    pub arguments: &'static [Argument],
+}
+
+/// An argument of a command. Each is required.
+pub struct Argument {
+    pub id: &'static str,
+    pub place: Place,
+    pub value_name: &'static str,
+    pub values: ValueParser<'static>,
+    pub help: &'static str,
+}
+
+/// How the words give an argument.
+#[derive(Clone, Copy)]
+pub enum Place {
+    /// An option, `--ID VALUE`.
+    Option,
+    /// One word, known by its place.
+    Word,
+    /// All words from its place on, at least one.
+    Words,
+}
+
+impl Program {
+    /// What the words ask for; the first of them is the program's name. A request for help or for
+    /// the version is an `Err`, too.
+    pub fn matches_of<'a, S: AsStr>(
+        &self,
+        alloc: Global,
+        words: &'a [S],
+    ) -> Result<ArgMatches<'a>, Error> {
+        self.command(alloc)?.try_get_matches_from(words)
+    }
+
+    fn command<'a>(&self, alloc: Global) -> Result<Command<'a>, AllocError> {
+        let mut command = heading(alloc, self.name, self.about)
+            .version(self.version)
+            .after_help(self.details)
+            .subcommand_required(true)
+            .arg_required_else_help(true);
+        for form in self.commands {
+            command = command.subcommand(form.command(alloc, self.shared)?)?;
+        }
+        Ok(command)
+    }
+}
+
+impl Form {
+    fn command<'a>(&self, alloc: Global, shared: &[Argument]) -> Result<Command<'a>, AllocError> {
+        let command = heading(alloc, self.name, self.about);
+        let command = match self.details {
+            Some(details) => command.after_help(details),
+            None => command,
+        };
+        let command = with_arguments(alloc, command, shared)?;
+        with_arguments(alloc, command, self.arguments)
+    }
+}
+
+// A command without arguments or further commands.
+fn heading<'a>(alloc: Global, name: &'static str, about: &'static str) -> Command<'a> {
+    Command::new(alloc, name).about(about)
+}
+
+fn with_arguments<'a>(
+    alloc: Global,
+    mut command: Command<'a>,
+    arguments: &[Argument],
+) -> Result<Command<'a>, AllocError> {
+    for argument in arguments {
+        command = command.arg(argument.arg(alloc))?;
+    }
+    Ok(command)
+}
+
+impl Argument {
+    fn arg<'a>(&self, alloc: Global) -> Arg<'a> {
+        let arg = Arg::new(alloc, self.id)
+            .value_name(self.value_name)
+            .required(true)
+            .value_parser(self.values)
+            .help(self.help);
+        match self.place {
+            Place::Option => arg.long(self.id),
+            Place::Word => arg,
+            Place::Words => arg.num_args(1..),
+        }
+    }
+}
