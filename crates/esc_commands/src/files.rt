@@ -5,12 +5,6 @@ use esc_console::{Links, read_front, read_whole};
 use std::fs::{self, File};
 use std::io::{Error, ErrorKind};
 
-/// The most bytes of a body.
-pub const MOST_BYTES: u64 = 16_777_216;
-
-/// The most bytes of a manifest.
-const MOST_MANIFEST_BYTES: u64 = 4_194_304;
-
 /// The stop for a path that can't be read, listed or written: `E1 PATH`, or `S2` where memory was
 /// refused.
 pub fn stop_at(rt: &HostRuntime, path: &str, error: &Error) -> Stop {
@@ -51,13 +45,13 @@ pub fn check_access(rt: &HostRuntime, path: &str) -> Result<(), Stop> {
 /// The manifest in a plain file, or in one that a link leads to. Of a file that is too long only
 /// the first bytes are read, one more than a manifest has at most.
 pub fn read_text(rt: &HostRuntime, path: &str) -> Result<Vec<u8>, Stop> {
-    let front = read_front(rt, path, Links::Followed, MOST_MANIFEST_BYTES);
+    let front = read_front(rt, path, Links::Followed, esc_manifest::MOST_BYTES as u64);
     or_stop(rt, path, front)
 }
 
 /// The body in a plain file, which may not be a link. `None` if the file can be read, and is too
 /// long for a body.
 pub fn read_body(rt: &HostRuntime, path: &str) -> Result<Option<Vec<u8>>, Stop> {
-    let body = read_whole(rt, path, Links::Refused, MOST_BYTES);
+    let body = read_whole(rt, path, Links::Refused, esc_bundle::MOST_BYTES as u64);
     or_stop(rt, path, body)
 }

@@ -63,6 +63,5 @@ mod store_file;
 mod take;
 
 pub use commands::run_words;
-pub use files::MOST_BYTES;
 pub use serve::serve_streams;
 pub use stop::{NO_MEMORY, Stop, tell_no_text, tell_stop};

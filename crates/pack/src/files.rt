@@ -1,12 +1,10 @@
 //! Files.
 
 use crate::stop::{Refusal, Stop, or_stop};
+use esc_bundle::MOST_BYTES;
 use esc_console::{Links, path_in, read_whole};
 use std::fs::{self, File};
 use std::io::{Error, ErrorKind, Write};
-
-/// The most bytes of a bundle.
-const MOST_BYTES: u64 = 16_777_216;
 
 /// The bytes of the files at these paths, in their order.
 pub fn read_bundles(rt: &HostRuntime, paths: &[&str]) -> Result<Vec<Vec<u8>>, Stop> {
@@ -42,7 +40,7 @@ pub fn slices_of<'a>(rt: &HostRuntime, files: &'a [Vec<u8>]) -> Result<Vec<&'a [
 
 /// The bytes of a plain file of at most 16,777,216 bytes.
 pub fn read_bundle(rt: &HostRuntime, path: &str) -> Result<Vec<u8>, Stop> {
-    let bytes = read_whole(rt, path, Links::Followed, MOST_BYTES);
+    let bytes = read_whole(rt, path, Links::Followed, MOST_BYTES as u64);
     match or_stop(rt, path, bytes)? {
         Some(bytes) => Ok(bytes),
         None => Err(Stop::at(rt, Refusal::TooLarge, path)),
