@@ -3,11 +3,11 @@ use Rattle.std.proofs.Common.{◌≡◌, inl, inr, ℕ, pos, ◌≤◌, ◌&&◌
 use Rattle.std.proofs.Common.{◌++◌, map, filter, length, Option, None, option_map, Ok, refl, sym, ap, subst, ◌∙◌, int_eq, is_eq, Less, Equal}
 use Rattle.std.specs.Prelude.{bytes_eq, is_some}
 use Rattle.std.specs.Ordering.{nat_cmp, ordering_then}
-use Rattle.std.specs.Cmp.{IsTotalOrder, IsEquivalence}
+use Rattle.std.specs.Cmp.{IsTotalOrder}
 use Rattle.std.specs.Cmp.Lexicographic.{slice_cmp}
 use Rattle.std.specs.List.{list_any}
 use Rattle.std.proofs.lemmas.Bool.{cases_Bool}
-use Rattle.std.proofs.lemmas.Cmp.{nat_list_cmp_total, on_total}
+use Rattle.std.proofs.lemmas.Cmp.{nat_list_cmp_total, nat_list_eq_equiv, on_total}
 use Rattle.std.proofs.lemmas.Map.Text.{is_eq-slice_cmp}
 use Rattle.std.proofs.lemmas.Slice.Eq.{bytes_eq-Decides}
 use Rattle.std.proofs.lemmas.List.Sorted.{list_any-IsPermutation}
@@ -44,21 +44,15 @@ use Rattle.esc_rows.proofs.Sorts.{sort_same, then_equal}
 use Rattle.esc_rows.proofs.Firsts.{rises-sorted}
 use Rattle.esc_rows.proofs.NumberLemmas.{every}
 use Rattle.esc_rows.proofs.Statements.{asks, finds, cuts}
-use Rattle.esc_rows.proofs.ObjectLemmas.{differ_int, two_true}
+use Rattle.esc_rows.proofs.ObjectLemmas.{differ_int, swapped, two_true, never, still}
 
 -- the two are under one digest
 abbrev pub is_same_parked : ParkedRow → ParkedRow → Bool
 is_same_parked a b = is_parked_at b.digest a
 
-swapped : (a b : Bool) → ((a && true) && b) ≡ (b && a)
-swapped true true = refl
-swapped true false = refl
-swapped false true = refl
-swapped false false = refl
-
 clash_is : (a b : ParkedRow) → (agree rising (1 ∷ []) (stored_row Parked a) (1 ∷ []) (stored_row Parked b) && differ (rowid (stored_row Parked a)) (rowid (stored_row Parked b))) ≡ (not (int_eq (parked_number a) (parked_number b)) && is_same_parked a b)
 unfolding first_key
-clash_is a b = rw (same_blob a.digest b.digest, differ_int (pos a.id) (pos b.id)) (swapped (bytes_eq a.digest b.digest) (not (int_eq (pos a.id) (pos b.id))))
+clash_is a b = rw (same_blob a.digest b.digest, and_true (bytes_eq a.digest b.digest), differ_int (pos a.id) (pos b.id)) (swapped (bytes_eq a.digest b.digest) (not (int_eq (pos a.id) (pos b.id))))
 
 pub parked_apart : (db : Database) (c : Content) → HoldsContent db c → AreApart is_same_parked c.parked
 parked_apart db c h =
@@ -70,11 +64,8 @@ parked_apart db c h =
 same_digest : (a b : List ℕ) → bytes_eq a b ≡ true → a ≡ b
 same_digest a b h = (bytes_eq-Decides a b).0 h
 
-itself : (d : List ℕ) → bytes_eq d d ≡ true
-itself d = (bytes_eq-Decides d d).1 refl
-
 one_parked : (digest : List ℕ) (ps : List ParkedRow) → AreApart is_same_parked ps → length (filter (is_parked_at digest) ps) ≤ 1
-one_parked digest ps = at_most_one_apart is_same_parked (is_parked_at digest) (λ a b x y. rw (same_digest a.digest digest x, same_digest b.digest digest y) (itself digest)) ps
+one_parked digest ps = at_most_one_apart is_same_parked (is_parked_at digest) (λ a b x y. rw (same_digest a.digest digest x, same_digest b.digest digest y) (nat_list_eq_equiv.refl digest)) ps
 
 -- at one digest the tests are one
 test_same : (digest d : List ℕ) (p : ParkedRow) → bytes_eq digest d ≡ true → is_parked_at d p ≡ is_parked_at digest p
@@ -85,7 +76,7 @@ tests_apart : (digest d : List ℕ) (p : ParkedRow) → bytes_eq digest d ≡ fa
 tests_apart digest d p other here = elim (cases_Bool (is_parked_at digest p)) [
   | inl there ↦
       let same : digest ≡ d = sym (same_digest p.digest digest there) ∙ same_digest p.digest d here in
-      let e : true ≡ false = sym (itself d) ∙ subst (λ x. bytes_eq x d ≡ false) same other in
+      let e : true ≡ false = sym (nat_list_eq_equiv.refl d) ∙ subst (λ x. bytes_eq x d ≡ false) same other in
       absurd cc
   | inr apart ↦ apart
 ]
@@ -107,7 +98,7 @@ puts_parked old new digest body count ran c h =
     params insert_parked_text parked_terms 3 (tt ∷ []) insert_parked_is refl old new count c h ran in
     let apart = parked_apart new.now (record c { parked = ps }) now in
     let found = λ (d : List ℕ). found_after added (is_parked_at d) (λ _. bytes_eq digest d) (λ p. p.body) (λ _. body) (λ n e. refl) (λ n e. refl) _ (tt ∷ []) c.parked (one_parked d ps apart) in
-    (ps, now, (found digest).0 (rw (itself digest) refl), λ d. (found d).1 ∙ of_one (bytes_eq digest d) tt (λ _. body) (parked_at d c.parked))
+    (ps, now, (found digest).0 (rw (nat_list_eq_equiv.refl digest) refl), λ d. (found d).1 ∙ of_one (bytes_eq digest d) tt (λ _. body) (parked_at d c.parked))
 
 -- ---- delete
 
@@ -121,15 +112,6 @@ gone_at digest ps d =
       | inl same ↦ rw same (ap body_of (find_same _ (λ _. false) (λ p. ap (λ b. not (is_parked_at digest p) && b) (test_same digest d p same) ∙ never (is_parked_at digest p)) ps ∙ find_never ps))
       | inr other ↦ rw other (ap body_of (find_same _ (is_parked_at d) (λ p. still (is_parked_at digest p) (is_parked_at d p) (tests_apart digest d p other)) ps))
     ]
-  where
-    never : (b : Bool) → (not b && b) ≡ false
-    never true = refl
-    never false = refl
-
-    still : (a b : Bool) → (b ≡ true → a ≡ false) → (not a && b) ≡ b
-    still true true h = absurd (let e = h refl in cc)
-    still true false h = refl
-    still false b h = refl
 
 pub removes_parked : (old new : State) (digest : List ℕ) (count : ℕ) → Executes delete_parked_text (Blob digest ∷ []) old new (Ok count) → RemovesParked digest old.now new.now
 removes_parked old new digest count ran c h =
@@ -180,26 +162,14 @@ among : (d : List ℕ) (ps : List ParkedRow) → list_any (bytes_eq d) (map dige
 among d [] = refl
 among d (p ∷ ps) = ap (λ b. bytes_eq d p.digest || b) (among d ps)
 
-turned : (a b : List ℕ) → bytes_eq a b ≡ bytes_eq b a
-turned a b = elim (cases_Bool (bytes_eq a b)) [
-  | inl is ↦ rw (same_digest a b is) refl
-  | inr other ↦ elim (cases_Bool (bytes_eq b a)) [
-    | inl is ↦ rw (same_digest b a is) refl
-    | inr apart ↦ other ∙ sym apart
-  ]
-]
-
 found_any : (d : List ℕ) (ps : List ParkedRow) → list_any (λ (p : ParkedRow). bytes_eq d p.digest) ps ≡ is_some (parked_at d ps)
 found_any d [] = refl
-found_any d (p ∷ ps) = rw (turned d p.digest) (elim (cases_Bool (bytes_eq p.digest d)) [ inl is ↦ rw is refl | inr other ↦ rw other (found_any d ps) ])
-
-bytes_laws : IsEquivalence bytes_eq
-bytes_laws = record { refl = itself; symm = turned; congr = λ x y z same. ap (λ a. bytes_eq a z) (same_digest x y same) }
+found_any d (p ∷ ps) = rw (nat_list_eq_equiv.symm d p.digest) (elim (cases_Bool (bytes_eq p.digest d)) [ inl is ↦ rw is refl | inr other ↦ rw other (found_any d ps) ])
 
 pub lists_parked : (db : Database) (c : Content) (found : List (List ℕ)) → HoldsContent db c → found ≡ map digest_of (sort_by by_digest c.parked) → ListsParked c found
 lists_parked db c found h is = subst (ListsParked c) (sym is) (record {
   rising = ascending-map (λ a b. slice_cmp nat_cmp a b ≡ Less) digest_of (sort_by by_digest c.parked) (rises-sorted by_digest total c.parked (unlike c.parked (parked_apart db c h)));
-  each = λ d. (λ has. sym (there d) ∙ list_any-from_Contains bytes_laws d _ has, λ some. Contains-from_any same_digest d _ (there d ∙ some));
+  each = λ d. (λ has. sym (there d) ∙ list_any-from_Contains nat_list_eq_equiv d _ has, λ some. Contains-from_any same_digest d _ (there d ∙ some));
 }) where
   there : (d : List ℕ) → list_any (bytes_eq d) (map digest_of (sort_by by_digest c.parked)) ≡ is_some (parked_at d c.parked)
   there d =
