@@ -9,10 +9,12 @@ use Rattle.std.proofs.lemmas.Bool.Decides.{nat_tests}
 use Rattle.std.proofs.lemmas.List.{append-nil}
 use Rattle.std.proofs.lemmas.Str.{is_utf8-from_IsUtf8}
 use Rattle.std.proofs.lemmas.Option.{same_Some}
+use Rattle.esc_envelope.specs.Sequences.{◌>>=◌}
+use Rattle.esc_envelope.specs.SequenceLaws.{bound}
 use Rattle.esc_tables.specs.ObjectValue.{RowValue, ObjectValue}
 use Rattle.esc_record.specs.Record.{number_bytes, row_bytes, object_bytes, rows_of, is_small, is_small_cell, is_small_row, is_small_object, record_of, IsCellOfTexts, IsRowOfTexts, IsOfTexts}
-use Rattle.esc_record.specs.Reading.{◌>>=◌, cut, number_at, many, row_at, of_rows, object_of}
-use Rattle.esc_record.proofs.Pieces.{AreBytes, IsGoodCell, IsGoodRow, bind_some, number_again, number_takes, many_again, many_takes, row_again, row_takes}
+use Rattle.esc_record.specs.Reading.{cut, number_at, many, row_at, of_rows, object_of}
+use Rattle.esc_record.proofs.Pieces.{AreBytes, IsGoodCell, IsGoodRow, number_again, number_takes, many_again, many_takes, row_again, row_takes}
 
 -- ---- which rows are good
 
@@ -122,7 +124,7 @@ object_again o bytes texts h =
     let a = record_is o bytes h in
     let rows : List RowValue × List ℕ = (rows_of o, []) in
     let all : rows_at is_utf8 bytes ≡ Some rows = ap (rows_at is_utf8) (sym a.is ∙ sym (append-nil (object_bytes o))) ∙ rows_again is_utf8 o [] a.small (utf8_pass (rows_of o) texts) in
-    let b = bind_some (number_at bytes) (λ n. many (row_at is_utf8) n.0 n.1) rows all in
+    let b = bound (number_at bytes) (λ n. many (row_at is_utf8) n.0 n.1) rows all in
     rw (b.was, b.goes) refl
 
 nothing_left : (r : List ℕ) (p : List ℕ × List ℕ) → cut (length r) [] ≡ Some p → r ≡ []
@@ -140,9 +142,9 @@ of_rows_is (r ∷ rs) o h = ap rows_of (same_Some _ _ h)
 pub object_takes : (bytes : List ℕ) (o : ObjectValue) → AreBytes bytes → object_of is_utf8 bytes ≡ Some o → record_of o ≡ Some bytes
 unfolding object_of record_of
 object_takes bytes o are h =
-    let a = bind_some (number_at bytes) (λ n. many (row_at is_utf8) n.0 n.1 >>= (λ rows. cut (length rows.1) [] >>= (λ ends. of_rows is_utf8 rows.0))) o h in
-    let b = bind_some (many (row_at is_utf8) a.it.0 a.it.1) (λ rows. cut (length rows.1) [] >>= (λ ends. of_rows is_utf8 rows.0)) o a.goes in
-    let d = bind_some (cut (length b.it.1) []) (λ ends. of_rows is_utf8 b.it.0) o b.goes in
+    let a = bound (number_at bytes) (λ n. many (row_at is_utf8) n.0 n.1 >>= (λ rows. cut (length rows.1) [] >>= (λ ends. of_rows is_utf8 rows.0))) o h in
+    let b = bound (many (row_at is_utf8) a.it.0 a.it.1) (λ rows. cut (length rows.1) [] >>= (λ ends. of_rows is_utf8 rows.0)) o a.goes in
+    let d = bound (cut (length b.it.1) []) (λ ends. of_rows is_utf8 b.it.0) o b.goes in
     let n = number_takes bytes a.it are a.was in
     let rows = many_takes (row_at is_utf8) row_bytes (IsGoodRow is_utf8) (row_takes is_utf8) a.it.0 a.it.1 b.it n.rest b.was in
     let ended : b.it.1 ≡ [] = nothing_left b.it.1 d.it d.was in

@@ -9,9 +9,11 @@ use Rattle.std.proofs.lemmas.List.{get_or-drop, get_or-take, get_or_past, length
 use Rattle.std.proofs.lemmas.List.Concat.{flat_map-cons}
 use Rattle.std.proofs.lemmas.Nat.{be_bytes_4, from_be_bytes-to_be_bytes_4}
 use Rattle.std.proofs.lemmas.Option.{same_Some}
+use Rattle.esc_envelope.specs.Sequences.{◌>>=◌}
+use Rattle.esc_envelope.specs.SequenceLaws.{bound}
 use Rattle.esc_tables.specs.ObjectValue.{RowValue}
 use Rattle.esc_record.specs.Record.{number_bytes, text_bytes, cell_bytes, row_bytes}
-use Rattle.esc_record.specs.Reading.{◌>>=◌, cut, number_at, many, text_at, cell_at, row_at}
+use Rattle.esc_record.specs.Reading.{cut, number_at, many, text_at, cell_at, row_at}
 
 -- each element is a byte
 abbrev pub AreBytes : List ℕ → Type 0
@@ -29,15 +31,6 @@ pub record Took {A : Type 0} (text : A → List ℕ) (Good : A → Type 0) (byte
 
 abbrev pub Takes : {A : Type 0} → (List ℕ → Option (A × List ℕ)) → (A → List ℕ) → (A → Type 0) → Type 0
 Takes {A} one text Good = (bytes : List ℕ) (p : A × List ℕ) → AreBytes bytes → one bytes ≡ Some p → Took text Good bytes p
-
-pub record Bound {A B : Type 0} (o : Option A) (f : A → Option B) (y : B) : Type 0 where
-  pub it : A
-  pub was : o ≡ Some it
-  pub goes : f it ≡ Some y
-
-pub bind_some : {A B : Type 0} (o : Option A) (f : A → Option B) (y : B) → (o >>= f) ≡ Some y → Bound o f y
-bind_some None f y h = absurd cc
-bind_some (Some x) f y h = record { it = x; was = refl; goes = h }
 
 bytes_drop : (n : ℕ) (bytes : List ℕ) → AreBytes bytes → AreBytes (drop n bytes)
 bytes_drop n bytes are i = rw get_or-drop (are (n + i))
@@ -82,7 +75,7 @@ short_bytes n bytes are i = elim (cases_lt i n) [
 pub number_takes : Takes number_at number_bytes (λ n. n < 2 ^ 32)
 unfolding number_bytes
 number_takes bytes p are h =
-    let b = bind_some (cut 4 bytes) (λ q. Some (from_be_bytes w32 q.0, q.1)) p h in
+    let b = bound (cut 4 bytes) (λ q. Some (from_be_bytes w32 q.0, q.1)) p h in
     let k = cut_takes 4 bytes b.it b.was in
     let e : (from_be_bytes w32 b.it.0, b.it.1) ≡ p = same_Some _ _ b.goes in
     let four : AreBytes b.it.0 = rw k.front (short_bytes 4 bytes are) in
@@ -114,8 +107,8 @@ many_takes {A} one text Good takes zero bytes p are h =
     let e : none ≡ p = same_Some _ _ h in
     subst (TookMany text Good 0 bytes) e (record { is = refl; size = refl; good = tt; rest = are })
 many_takes {A} one text Good takes (suc n) bytes p are h =
-    let a = bind_some (one bytes) (λ x. many one n x.1 >>= (λ xs. Some (x.0 ∷ xs.0, xs.1))) p h in
-    let b = bind_some (many one n a.it.1) (λ xs. Some (a.it.0 ∷ xs.0, xs.1)) p a.goes in
+    let a = bound (one bytes) (λ x. many one n x.1 >>= (λ xs. Some (x.0 ∷ xs.0, xs.1))) p h in
+    let b = bound (many one n a.it.1) (λ xs. Some (a.it.0 ∷ xs.0, xs.1)) p a.goes in
     let first = takes bytes a.it are a.was in
     let others = many_takes one text Good takes n a.it.1 b.it first.rest b.was in
     let both : List A × List ℕ = (a.it.0 ∷ b.it.0, b.it.1) in
@@ -139,8 +132,8 @@ text_again is_text t rest good =
 
 pub text_takes : (is_text : List ℕ → Bool) → Takes (text_at is_text) text_bytes (IsGoodText is_text)
 text_takes is_text bytes p are h =
-    let a = bind_some (number_at bytes) (λ n. cut n.0 n.1 >>= (λ q. (if is_text q.0 then Some q.0 else None) >>= (λ t. Some (t, q.1)))) p h in
-    let b = bind_some (cut a.it.0 a.it.1) (λ q. (if is_text q.0 then Some q.0 else None) >>= (λ t. Some (t, q.1))) p a.goes in
+    let a = bound (number_at bytes) (λ n. cut n.0 n.1 >>= (λ q. (if is_text q.0 then Some q.0 else None) >>= (λ t. Some (t, q.1)))) p h in
+    let b = bound (cut a.it.0 a.it.1) (λ q. (if is_text q.0 then Some q.0 else None) >>= (λ t. Some (t, q.1))) p a.goes in
     let n = number_takes bytes a.it are a.was in
     let k = cut_takes a.it.0 a.it.1 b.it b.was in
     elim (cases_Bool (is_text b.it.0)) [
@@ -166,8 +159,8 @@ cell_again is_text c rest good =
 pub cell_takes : (is_text : List ℕ → Bool) → Takes (cell_at is_text) cell_bytes (IsGoodCell is_text)
 unfolding cell_at
 cell_takes is_text bytes p are h =
-    let a = bind_some (text_at is_text bytes) (λ f. text_at is_text f.1 >>= (λ v. Some ((f.0, v.0), v.1))) p h in
-    let b = bind_some (text_at is_text a.it.1) (λ v. Some ((a.it.0, v.0), v.1)) p a.goes in
+    let a = bound (text_at is_text bytes) (λ f. text_at is_text f.1 >>= (λ v. Some ((f.0, v.0), v.1))) p h in
+    let b = bound (text_at is_text a.it.1) (λ v. Some ((a.it.0, v.0), v.1)) p a.goes in
     let f = text_takes is_text bytes a.it are a.was in
     let v = text_takes is_text a.it.1 b.it f.rest b.was in
     let both : (List ℕ × List ℕ) × List ℕ = ((a.it.0, b.it.0), b.it.1) in
@@ -194,9 +187,9 @@ row_again is_text r rest good =
 pub row_takes : (is_text : List ℕ → Bool) → Takes (row_at is_text) row_bytes (IsGoodRow is_text)
 unfolding row_at
 row_takes is_text bytes p are h =
-    let a = bind_some (text_at is_text bytes) (λ t. number_at t.1 >>= (λ n. many (cell_at is_text) n.0 n.1 >>= (λ cs. Some (let row : RowValue = record { table = t.0; cells = cs.0 } in (row, cs.1))))) p h in
-    let b = bind_some (number_at a.it.1) (λ n. many (cell_at is_text) n.0 n.1 >>= (λ cs. Some (let row : RowValue = record { table = a.it.0; cells = cs.0 } in (row, cs.1)))) p a.goes in
-    let c = bind_some (many (cell_at is_text) b.it.0 b.it.1) (λ cs. Some (let row : RowValue = record { table = a.it.0; cells = cs.0 } in (row, cs.1))) p b.goes in
+    let a = bound (text_at is_text bytes) (λ t. number_at t.1 >>= (λ n. many (cell_at is_text) n.0 n.1 >>= (λ cs. Some (let row : RowValue = record { table = t.0; cells = cs.0 } in (row, cs.1))))) p h in
+    let b = bound (number_at a.it.1) (λ n. many (cell_at is_text) n.0 n.1 >>= (λ cs. Some (let row : RowValue = record { table = a.it.0; cells = cs.0 } in (row, cs.1)))) p a.goes in
+    let c = bound (many (cell_at is_text) b.it.0 b.it.1) (λ cs. Some (let row : RowValue = record { table = a.it.0; cells = cs.0 } in (row, cs.1))) p b.goes in
     let t = text_takes is_text bytes a.it are a.was in
     let n = number_takes a.it.1 b.it t.rest b.was in
     let cs = many_takes (cell_at is_text) cell_bytes (IsGoodCell is_text) (cell_takes is_text) b.it.0 b.it.1 c.it n.rest c.was in

@@ -1,6 +1,7 @@
 -- Lists of things, read one after another.
 use Rattle.std.proofs.Common.{◌≡◌, ℕ, ◌+◌, ◌-◌, ◌<◌, ◌≤◌, suc, List, [], ◌∷◌, ◌++◌, Option, None, Some, option_map, refl, sym, ap, ◌∙◌, arith, append_assoc}
-use Rattle.esc_record.specs.Reading.{◌>>=◌, many}
+use Rattle.esc_envelope.specs.Sequences.{◌>>=◌}
+use Rattle.esc_record.specs.Reading.{many}
 
 -- what was read is before what is read next
 abbrev pub behind_done : {A : Type 0} → List A → List A × List ℕ → List A × List ℕ

@@ -17,12 +17,8 @@ use Rattle.std.specs.Prelude.{
   Some,
 }
 use Rattle.std.specs.Int.{from_be_bytes, w32}
+use Rattle.esc_envelope.specs.Sequences.{◌>>=◌}
 use Rattle.esc_tables.specs.ObjectValue.{RowValue, ObjectValue}
-
-infixl 10 ◌>>=◌
-abbrev pub ◌>>=◌ : {A B : Type 0} → Option A → (A → Option B) → Option B
-None >>= f = None
-(Some x) >>= f = f x
 
 -- the first n bytes and the rest, if there are n
 abbrev pub cut : ℕ → List ℕ → Option (List ℕ × List ℕ)
