@@ -1,5 +1,5 @@
 -- A manifest is taken in: from what is kept before it to what is kept after it, by a plan.
-use Rattle.std.proofs.Common.{◌≡◌, ℕ, ℤ, ◌<◌, ◌≤◌, Bool, true, cond, List, [], ◌∷◌, ◌++◌, length, nat_lt, Option, Some, None, Result, Ok, Err, IfOk, refl, sym, ap, subst, ◌∙◌, arith, length-append}
+use Rattle.std.proofs.Common.{◌≡◌, ℕ, ℤ, ◌<◌, ◌≤◌, Bool, true, cond, List, [], ◌∷◌, ◌++◌, length, nat_lt, Option, Some, None, sym, ap, subst, ◌∙◌, arith, length-append}
 use Rattle.std.proofs.lemmas.Bool.Decides.{nat_tests}
 use Rattle.sha2.specs.Sha256.{sha256}
 use Rattle.esc_tables.specs.Reading.{reading}
@@ -28,10 +28,6 @@ use Rattle.esc_desk.specs.declared.judging.Judged.{Judged}
 use Rattle.esc_desk.specs.Amendments.{AreApartRows, IsAmendmentOf}
 use Rattle.esc_desk.specs.DepositSources.{AreJudged}
 use Rattle.esc_desk.proofs.AmendedRows.{adopted_apart, held_with_adopted}
-
-pub if_ok_at : {X E : Type 0} (r : Result X E) (P : X → Type 0) → ((x : X) → r ≡ Ok x → P x) → IfOk r P
-if_ok_at (Ok x) P h = h x refl
-if_ok_at (Err f) P h = tt
 
 -- ---- what is known when the rows of a union are to be listed: the store stands for e, n is the union of its rows and more, this was
 -- judged of the parked bodies, these are the rows of which a body is held then, and the plan goes to the latest steps of those

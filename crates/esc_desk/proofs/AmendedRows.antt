@@ -8,9 +8,9 @@ use Rattle.std.proofs.lemmas.List.Elements.{filter_passes, Contains-append_left,
 use Rattle.esc_manifest.specs.declared.row.MRow.{MRow}
 use Rattle.esc_manifest.specs.ManifestRows.{row_at}
 use Rattle.esc_store.specs.Kept.{Kept, IsRising, AreHeld}
+use Rattle.esc_store.specs.ListLaws.{first_or_later, later}
 use Rattle.esc_events.specs.Amended.{judged, numbers_from, is_adopted, adopted_rows, amended_bodies}
 use Rattle.esc_desk.specs.Amendments.{AreApartRows}
-use Rattle.esc_desk.proofs.Remembering.{first_or_later, later}
 
 -- ---- numbers that rise by one
 

@@ -2,6 +2,7 @@
 use Rattle.std.proofs.Common.{◌≡◌, ℕ, ℤ, Bool, true, false, cond, List, [], ◌∷◌, map, Option, None, refl, sym, ap, subst, ◌∙◌, arith, is_some, true≢false}
 use Rattle.std.specs.FinSet as set
 use Rattle.std.specs.Ordering.{nat_cmp}
+use Rattle.std.proofs.lemmas.Option.{none-some}
 use Rattle.sha2.specs.Sha256.{sha256}
 use Rattle.esc_tables.specs.DepositValue.{DepositValue}
 use Rattle.esc_tables.specs.Reading.{reading}
@@ -19,7 +20,6 @@ use Rattle.esc_events.specs.Stands.{rows_of, kept_arrivals, held_body, StandsFor
 use Rattle.esc_events.proofs.EventLemmas.{union_then, comings_then}
 use Rattle.esc_events.proofs.Moving.{chain_of}
 use Rattle.esc_events.proofs.MovingLemmas.{same_deposits}
-use Rattle.esc_events.proofs.Searches.{no_answer}
 use Rattle.esc_desk.specs.Laws.{AreLeftByArrivals, came_with}
 use Rattle.esc_desk.proofs.EarlyEvents.{counted_then}
 
@@ -42,8 +42,8 @@ stands_at_first m = record {
     bodies = λ apart r. refl;
     parked = λ apart d. sym (none_either_way (is_some (row_of (union (listed m ∷ [])) d)));
     moment = refl;
-    came = λ r body is. absurd (no_answer is);
-    waits = λ d body is. absurd (no_answer is);
+    came = λ r body is. absurd (none-some _ is);
+    waits = λ d body is. absurd (none-some _ is);
     told = λ r any. absurd (omega (arith, any.2));
     held_told = λ r some. absurd (true≢false (sym some));
     parked_told = λ d some. absurd (true≢false (sym some));

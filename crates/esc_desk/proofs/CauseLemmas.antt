@@ -17,10 +17,6 @@ use Rattle.esc_desk.specs.Again.{IsUnkept}
 use Rattle.esc_desk.specs.Calls.{HasNoRoom, HasNoPlace, IsCause}
 use Rattle.esc_desk.specs.Causes.{IsCrowded}
 
-pub if_err_each : {X E : Type 0} (r : Result X E) (P Q : E → Type 0) → ((f : E) → P f → Q f) → IfErr r P → IfErr r Q
-if_err_each (Ok x) P Q h p = tt
-if_err_each (Err f) P Q h p = h f p
-
 pub if_err_both : {X E : Type 0} (r : Result X E) (P : Type 0) (Q R : E → Type 0) → ((f : E) → P → Q f → R f) → OnErr r P → IfErr r Q → IfErr r R
 if_err_both (Ok x) P Q R h p q = tt
 if_err_both (Err f) P Q R h p q = h f p q

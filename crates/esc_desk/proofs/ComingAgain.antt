@@ -34,6 +34,7 @@ use Rattle.std.specs.Str.{bytes_eq}
 use Rattle.std.specs.FinSet as set
 use Rattle.std.specs.Cmp.Lexicographic.{bytes_decides}
 use Rattle.std.proofs.lemmas.Bool.{and_parts}
+use Rattle.std.proofs.lemmas.Option.{none-some}
 use Rattle.sha2.specs.Sha256.{sha256}
 use Rattle.sqlite_trees.specs.declared.store.Store.{Ghosts}
 use Rattle.sqlite.specs.Held.{Held, state}
@@ -50,6 +51,7 @@ use Rattle.esc_store.specs.declared.store.Store.{Store}
 use Rattle.esc_store.specs.Kept.{Kept, AreHeld, body_put, with_body, with_parked}
 use Rattle.esc_store.specs.ReplyValue.{ReplyValue, reply_alike}
 use Rattle.esc_store.specs.Standing.{Stands}
+use Rattle.esc_store.specs.StandingLaws.{survives_same}
 use Rattle.esc_events.specs.declared.assessment.Assessment.{Assessment}
 use Rattle.esc_events.specs.declared.assessment.Assessment.TheVariants.{Unlisted, Unreadable, Differing, Holding}
 use Rattle.esc_events.specs.declared.known.Known.{Known}
@@ -72,7 +74,6 @@ use Rattle.esc_events.proofs.Lost.{alike_counts, came_counts}
 use Rattle.esc_events.proofs.Members.{any_of, distinct_among}
 use Rattle.esc_events.proofs.Moving.{apart_before, stands_still, no_work_of}
 use Rattle.esc_events.proofs.MovingLemmas.{contains_held}
-use Rattle.esc_events.proofs.Searches.{no_answer}
 use Rattle.esc_desk.specs.declared.desk.Desk.{Desk}
 use Rattle.esc_desk.specs.declared.plan.Source.TheVariants.{Arrived}
 use Rattle.esc_desk.specs.Again.{IsUnkept, IsMissing, IsMissingAfter}
@@ -80,7 +81,6 @@ use Rattle.esc_desk.specs.Crashes.{LeavesOnlyFor}
 use Rattle.esc_desk.specs.DepositSources.{IsSource}
 use Rattle.esc_desk.specs.Takings.{LeavesWith, IsTakenAgain, IsAnsweredAgain}
 use Rattle.esc_desk.proofs.CrashLemmas.{leaves_with_nothing, leaves_with_only, leaves_with_then}
-use Rattle.esc_desk.proofs.CrashSteps.{at_rest}
 use Rattle.esc_desk.proofs.Holding.{IsRefused, refused_listed, refused_row, source_of, move_to}
 use Rattle.esc_desk.proofs.KnownRows.{put_at}
 use Rattle.esc_desk.proofs.Likeness.{AddsNothing, seen, still_stands}
@@ -139,7 +139,7 @@ module _ (e : List EventValue) (a : ArrivalValue) (k : Kept) (found : Assessment
           }
 
   pub nothing_refused : IsRefused found → AddsNothing e a
-  nothing_refused refused = nothing_listed (refused_listed found refused) (λ q here. absurd (no_answer (sym (refused_row found refused) ∙ here)))
+  nothing_refused refused = nothing_listed (refused_listed found refused) (λ q here. absurd (none-some _ (sym (refused_row found refused) ∙ here)))
 
 -- it is like an earlier one that wasn't answered A2
 pub nothing_repeated : (e : List EventValue) (a : ArrivalValue) (k : Kept) → AreBooks sha256 reading e k
@@ -281,7 +281,7 @@ answered_nothing g desk e n body k reply digest same stood stands known there ot
       works = no_work_of e (arrived a) k k stands stands_for (union-arrived e a) refl;
       idle = λ apart same. refl;
       rests = λ other. refl;
-      leaves = leaves_with_nothing g desk.store.conn desk.store.conn none at_rest;
+      leaves = leaves_with_nothing g desk.store.conn desk.store.conn none survives_same;
       left = λ is. absurd (other is);
     }
 

@@ -39,7 +39,7 @@ one_at_least trees e (x ∷ doubtful) one = inr (one_at_least trees e doubtful o
 
 -- ---- an event that was refused
 
-one_with : (trees : Trees) (e doubtful : List EventValue) (x : EventValue) (f : SFault) → IsStoreForOneOf trees e doubtful → IsStoreForOneOf trees e (doubtful_with f x doubtful)
+pub one_with : (trees : Trees) (e doubtful : List EventValue) (x : EventValue) (f : SFault) → IsStoreForOneOf trees e doubtful → IsStoreForOneOf trees e (doubtful_with f x doubtful)
 one_with trees e doubtful x S1 one = inr one
 one_with trees e doubtful x S2 one = inr one
 one_with trees e doubtful x S3 one = inr one
@@ -89,7 +89,8 @@ module _ {S : Type 0} (g : Ghosts S) where
   pub leaves_with_then : (old mid new : Held S) (e : List EventValue) (a : ArrivalValue) → Survives (state g old) (state g mid) (λ _. ⊥) → LeavesWith g mid new e a → LeavesWith g old new e a
   leaves_with_then old mid new e a s with doubtful left = with doubtful (leaves_as old mid e doubtful left s)
 
-  leaves_only : (new : Held S) (e : List EventValue) → LeavesOnlyFor g new e → CrashLeaves g new e []
+  -- no event is in doubt
+  pub leaves_only : (new : Held S) (e : List EventValue) → LeavesOnlyFor g new e → CrashLeaves g new e []
   unfolding CrashLeaves LeavesOnlyFor
   leaves_only new e only = only
 

@@ -1,5 +1,5 @@
 -- What a crash may leave, from one call of the store to the next.
-use Rattle.std.proofs.Common.{◌≡◌, ◌≢◌, inl, inr, List, Result, Ok, Err, refl, arith}
+use Rattle.std.proofs.Common.{◌≡◌, ◌≢◌, inl, inr, List, Result, Ok, Err}
 use Rattle.std.specs.Prelude.{IfOk, IfErr, OnOk}
 use Rattle.sha2.specs.Sha256.{sha256}
 use Rattle.sqlite_trees.specs.declared.store.Store.{Ghosts}
@@ -20,16 +20,9 @@ use Rattle.esc_desk.specs.Crashes.{IsStoreFor, IsNotFull}
 
 -- ---- calls: AddsStore and AddsStoreFor say that a crash leaves no more than this, and an answer by one of these lemmas unfolds them
 
--- nothing was called
-pub at_rest : {a : State} → Survives a a (λ _. ⊥)
-at_rest = record { clean = omega arith; shield = λ h. h; counts = omega arith; limit = refl; closes = λ _ up. inl up; crash = λ _ db may. inl may }
-
 -- nothing was added
 pub adds_none : {a b : State} {P : Trees → Type 0} → Survives a b (λ _. ⊥) → Survives a b P
 adds_none {P = P} s = survives_weaker _ _ (λ _. ⊥) P (λ _ db none. absurd none) s
-
-pub adds_at_rest : {a : State} {P : Trees → Type 0} → Survives a a P
-adds_at_rest = adds_none at_rest
 
 -- first a call that added nothing, then this one
 pub adds_then : {a b c : State} {P : Trees → Type 0} → Survives a b (λ _. ⊥) → Survives b c P → Survives a c P

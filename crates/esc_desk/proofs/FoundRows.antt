@@ -2,16 +2,16 @@
 use Rattle.std.proofs.Common.{◌≡◌, ◌⊎◌, inl, inr, ℕ, List, [], ◌∷◌, ◌++◌, Some, IsSome, refl, sym, ap, subst, ◌∙◌, arith}
 use Rattle.std.specs.List.{Contains, Any}
 use Rattle.std.proofs.lemmas.List.Elements.{Contains-append_left, Contains-append_right, Contains-append_cases}
+use Rattle.std.proofs.lemmas.Option.{same_Some}
 use Rattle.sha2.specs.Sha256.{sha256}
 use Rattle.esc_tables.specs.Reading.{reading}
 use Rattle.esc_manifest.specs.declared.row.MRow.{MRow}
-use Rattle.esc_store.specs.Kept.{Kept, IsRising, AreHeld, AreHeldBy, SaysHeld, AreUnlisted}
+use Rattle.esc_store.specs.Kept.{Kept, AreHeld, AreHeldBy, SaysHeld, AreUnlisted}
+use Rattle.esc_store.specs.ListLaws.{first_or_later}
 use Rattle.esc_events.specs.Events.{EventValue, union}
 use Rattle.esc_events.specs.Assessment.{row_of}
 use Rattle.esc_events.specs.Stands.{AreBooks, TellsOf}
-use Rattle.esc_events.proofs.Searches.{same_answer}
 use Rattle.esc_desk.specs.Knowing.{IsInserted, IsOfDigests, AreFound}
-use Rattle.esc_desk.proofs.Remembering.{first_or_later}
 
 -- ---- one digest more
 
@@ -20,17 +20,6 @@ abbrev IsOneOf : Kept → List ℕ → List (List ℕ) → ℕ → Type 0
 IsOneOf k told digests r = Contains told r ⊎ (IsOfDigests k digests r × IsSome (k.bodies r))
 
 module _ (k : Kept) (told : List ℕ) where
-  none_of : (r : ℕ) → IsOfDigests k [] r → ⊥
-  none_of r of = omega (arith, of.among.1)
-
-  -- no digest yet
-  pub found_none : IsRising told → AreFound k told [] told
-  found_none up = record { rising = up; each = λ r. (λ there. inl there, back r) }
-    where
-      back : (r : ℕ) → IsOneOf k told [] r → Contains told r
-      back r (inl there) = there
-      back r (inr of) = absurd (none_of r of.0)
-
   module _ (digests : List (List ℕ)) (digest : List ℕ) (rows : List ℕ) (found : AreFound k told digests rows) where
     still : (r : ℕ) → IsOfDigests k digests r → IsOfDigests k (digests ++ digest ∷ []) r
     still r of = record { digest = of.digest; among = Contains-append_left digests (digest ∷ []) of.digest of.among; lists = of.lists }
@@ -88,7 +77,7 @@ module _ (k : Kept) (told : List ℕ) where
           where
             by_either : IsOfDigests k digests r ⊎ (row_of k.listed digest ≡ Some r) → (r ≡ row) ⊎ Contains rows r
             by_either (inl old) = inr ((found.each r).1 (inr (old, of.1)))
-            by_either (inr last) = inl (same_answer (sym last ∙ lists))
+            by_either (inr last) = inl (same_Some _ _ (sym last ∙ lists))
 
 -- ---- what is held
 

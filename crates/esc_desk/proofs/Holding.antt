@@ -28,11 +28,12 @@ use Rattle.std.proofs.Common.{
   subst,
   ◌∙◌,
   append-nil,
-  true≢false,
 }
-use Rattle.std.specs.Prelude.{is_some, IfSome, ◌<◌, length}
+use Rattle.std.specs.Prelude.{IfSome, ◌<◌, length}
 use Rattle.std.specs.Str.{bytes_eq}
 use Rattle.std.proofs.lemmas.List.Quantifiers.{position-Some}
+use Rattle.std.proofs.lemmas.Option.{none-some}
+use Rattle.std.proofs.lemmas.Bool.{eqb-true}
 use Rattle.sha2.specs.Sha256.{sha256}
 use Rattle.sqlite_trees.specs.declared.store.Store.{Ghosts}
 use Rattle.sqlite.specs.Held.{Held}
@@ -65,9 +66,7 @@ use Rattle.esc_events.specs.Taking.{IsNew}
 use Rattle.esc_events.specs.Works.{no_work}
 use Rattle.esc_events.proofs.Arriving.{books_noted, books_parked, books_held}
 use Rattle.esc_events.proofs.EventLemmas.{union-arrived}
-use Rattle.esc_events.proofs.HeldRows.{same_number}
 use Rattle.esc_events.proofs.Moving.{stands_still, no_work_of}
-use Rattle.esc_events.proofs.Searches.{no_answer}
 use Rattle.esc_desk.specs.declared.plan.Source.TheVariants.{Arrived}
 use Rattle.esc_desk.specs.Crashes.{AddsStore, AddsStoreFor}
 use Rattle.esc_desk.specs.DepositSources.{IsSource}
@@ -97,9 +96,6 @@ refused_listed found (inr (r, is)) same = let never : ⊥ = cc in never
 pub refused_row : (found : Assessment) → IsRefused found → held_row found ≡ None
 refused_row found (inl (r, n, is)) = ap held_row is
 refused_row found (inr (r, is)) = ap held_row is
-
-pub holding_listed : (r : ℕ) (d : DepositValue) → Holding r d ≡ Unlisted → ⊥
-holding_listed r d same = true≢false (ap (λ (f : Assessment). is_some (held_row f)) same)
 
 -- what a note adds to what is kept is its receipt, and maybe a parked body
 record IsNoted (receipt : ReceiptValue) (k later : Kept) : Type 0 where
@@ -216,7 +212,7 @@ module _ (e : List EventValue) (a : ArrivalValue) (k : Kept) (row : ℕ) where
   still_held none r body some = by_test (r == row) refl
     where
       by_test : (b : Bool) → (r == row) ≡ b → cond b (Some a.body) (k.bodies r) ≡ Some body
-      by_test true same = absurd (no_answer (sym none ∙ ap k.bodies (sym (same_number r row same)) ∙ some))
+      by_test true same = absurd (none-some _ (sym none ∙ ap k.bodies (sym (eqb-true r row same)) ∙ some))
       by_test false other = some
 
   -- where nothing else of what a move is made by has changed, there is a move

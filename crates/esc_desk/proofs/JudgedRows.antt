@@ -30,6 +30,7 @@ use Rattle.std.proofs.Common.{
   append-nil,
   arith,
 }
+use Rattle.std.proofs.lemmas.Bool.{and_right}
 use Rattle.esc_tables.specs.DepositValue.{DepositValue}
 use Rattle.esc_tables.specs.Reading.{reading}
 use Rattle.esc_manifest.specs.declared.row.MRow.{MRow}
@@ -39,7 +40,7 @@ use Rattle.esc_events.specs.declared.assessment.Assessment.TheVariants.{Differin
 use Rattle.esc_events.specs.Assessment.{as_listed, found, compared}
 use Rattle.esc_events.specs.Receipts.{holds_row}
 use Rattle.esc_events.specs.Amended.{judged, parked_for, is_adopted, is_dropped, numbers_from, adopted_rows, dropped_rows}
-use Rattle.esc_events.proofs.HeldRows.{same_self}
+use Rattle.esc_events.specs.HeldLaws.{same_self}
 use Rattle.esc_desk.specs.declared.judging.Judgement.{Judgement}
 use Rattle.esc_desk.specs.declared.judging.Judgement.TheVariants.{Absent, Dropped, Adopted}
 use Rattle.esc_desk.specs.DepositSources.{IsJudgement, adopted_by, dropped_by, judgement_of}
@@ -102,16 +103,12 @@ module _ (rows : List MRow) (parked : List ℕ → Option (List ℕ)) where
       let_go Dropped = true
       let_go (Adopted d) = false
 
-      never : (b : Bool) → (b && false) ≡ false
-      never true = refl
-      never false = refl
-
       test : (told : Judgement) → IsJudgement rows parked row told → is_dropped rows parked row ≡ let_go told
       test Absent is = ap (λ (o : Option (List ℕ)). is_some o && not (is_adopted rows parked row)) is
       test Dropped is = ap (λ b. b && not (is_adopted rows parked row)) is.0 ∙ ap not is.1
       test (Adopted d) is =
           let there = is_some (parked_for rows parked row) in
-          ap (λ (o : Option (List ℕ)). there && not (is_some o)) is.1 ∙ never there
+          ap (λ (o : Option (List ℕ)). there && not (is_some o)) is.1 ∙ and_right there false refl
 
       split : (told : Judgement) → cond (let_go told) (row ∷ dropped_of l) (dropped_of l) ≡ dropped_by told row ++ dropped_of l
       split Absent = refl

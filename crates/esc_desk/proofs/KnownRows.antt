@@ -24,40 +24,27 @@ use Rattle.std.proofs.Common.{
   ap,
   subst,
   ◌∙◌,
-  arith,
   nat_eq,
   true≢false,
 }
 use Rattle.std.specs.List.{Any, Contains, list_any}
 use Rattle.std.specs.FinSet as set
-use Rattle.std.specs.Ordering.{nat_cmp, eq_by_cmp}
 use Rattle.std.specs.Cmp.{nat_cmp_total, eq_by_cmp_equiv}
 use Rattle.std.proofs.lemmas.Map.Views.{list_any-from_Contains, Contains-from_any}
+use Rattle.std.proofs.lemmas.Option.{same_Some, none-some}
+use Rattle.std.proofs.lemmas.Bool.{eqb-true}
 use Rattle.esc_tables.specs.DepositValue.{DepositValue}
 use Rattle.esc_store.specs.Kept.{SaysHeld, AreHeld, AreHeldBy, body_put}
 use Rattle.esc_store.specs.ReplyValue.{ReceiptValue}
+use Rattle.esc_store.specs.ListLaws.{any_front_or_last, any_front, any_last}
 use Rattle.esc_events.specs.declared.assessment.Assessment.{Assessment}
 use Rattle.esc_events.specs.declared.assessment.Assessment.TheVariants.{Holding}
 use Rattle.esc_events.specs.Assessment.{held_row}
 use Rattle.esc_events.specs.Receipts.{receipt_by}
-use Rattle.esc_events.proofs.HeldReceipts.{holds_from_says, says_from_holds, split, later, split-last}
-use Rattle.esc_events.proofs.HeldRows.{same_test, same_self, same_number, is_row_of}
-use Rattle.esc_events.proofs.Searches.{same_answer, no_answer}
+use Rattle.esc_events.specs.HeldLaws.{same_self, exact}
+use Rattle.esc_events.proofs.HeldReceipts.{holds_from_says, says_from_holds}
+use Rattle.esc_events.proofs.HeldRows.{is_row_of}
 use Rattle.esc_desk.specs.Knowing.{IsInserted}
-
--- ---- one of a list, and of one more after it
-
-any-front : (P : ReceiptValue → Type 0) (rs : List ReceiptValue) (r : ReceiptValue) → Any P rs → Any P (rs ++ r ∷ [])
-any-front P [] r any = absurd (omega (arith, any.2))
-any-front P (q ∷ rs) r any = by_case (split P q rs any) (any-front P rs r)
-  where
-    by_case : P q ⊎ Any P rs → (Any P rs → Any P (rs ++ r ∷ [])) → Any P (q ∷ rs ++ r ∷ [])
-    by_case (inl p) rest = (0, q, omega arith, refl, p)
-    by_case (inr behind) rest = later P q (rs ++ r ∷ []) (rest behind)
-
-any-last : (P : ReceiptValue → Type 0) (rs : List ReceiptValue) (r : ReceiptValue) → P r → Any P (rs ++ r ∷ [])
-any-last P [] r p = (0, r, omega arith, refl, p)
-any-last P (q ∷ rs) r p = later P q (rs ++ r ∷ []) (any-last P rs r p)
 
 -- ---- the rows that receipts say are held
 
@@ -66,12 +53,12 @@ pub told_more : {receipts : List ReceiptValue} {told more : List ℕ} {row : ℕ
     → SaysHeld row receipt → ((r : ℕ) → SaysHeld r receipt → r ≡ row) → AreHeldBy (receipts ++ receipt ∷ []) more
 told_more {receipts} {told} {more} {row} receipt are inserted says only = record {
   rising = inserted.rising;
-  each = λ r. (λ there. to r ((inserted.each r).0 there), λ any. (inserted.each r).1 (back r (split-last (SaysHeld r) receipts receipt any)));
+  each = λ r. (λ there. to r ((inserted.each r).0 there), λ any. (inserted.each r).1 (back r (any_front_or_last (SaysHeld r) receipts receipt any)));
 }
   where
     to : (r : ℕ) → (r ≡ row) ⊎ Contains told r → Any (SaysHeld r) (receipts ++ receipt ∷ [])
-    to r (inl is) = any-last (SaysHeld r) receipts receipt (subst (λ (q : ℕ). SaysHeld q receipt) (sym is) says)
-    to r (inr there) = any-front (SaysHeld r) receipts receipt ((are.each r).0 there)
+    to r (inl is) = any_last (SaysHeld r) receipts receipt (subst (λ (q : ℕ). SaysHeld q receipt) (sym is) says)
+    to r (inr there) = any_front (SaysHeld r) receipts receipt ((are.each r).0 there)
 
     back : (r : ℕ) → Any (SaysHeld r) receipts ⊎ SaysHeld r receipt → (r ≡ row) ⊎ Contains told r
     back r (inl any) = inr ((are.each r).1 any)
@@ -82,7 +69,7 @@ pub told_same : {receipts : List ReceiptValue} {told : List ℕ} (receipt : Rece
     → AreHeldBy (receipts ++ receipt ∷ []) told
 told_same {receipts} {told} receipt are none = record {
   rising = are.rising;
-  each = λ r. (λ there. any-front (SaysHeld r) receipts receipt ((are.each r).0 there), λ any. back r (split-last (SaysHeld r) receipts receipt any));
+  each = λ r. (λ there. any_front (SaysHeld r) receipts receipt ((are.each r).0 there), λ any. back r (any_front_or_last (SaysHeld r) receipts receipt any));
 }
   where
     back : (r : ℕ) → Any (SaysHeld r) receipts ⊎ SaysHeld r receipt → Contains told r
@@ -99,10 +86,10 @@ module _ (number digest : List ℕ) where
   says_row row d again = says_from_holds row number digest false (Holding row d) again (same_self row)
 
   pub says_only : (row : ℕ) (d : DepositValue) (again : Bool) (r : ℕ) → SaysHeld r (receipt_of (Holding row d) again) → r ≡ row
-  says_only row d again r says = sym (same_answer (is_row_of r (Some row) (holds_from_says r number digest false (Holding row d) again says)))
+  says_only row d again r says = sym (same_Some _ _ (is_row_of r (Some row) (holds_from_says r number digest false (Holding row d) again says)))
 
   pub says_none : (f : Assessment) (again : Bool) → held_row f ≡ None → (r : ℕ) → SaysHeld r (receipt_of f again) → ⊥
-  says_none f again none r says = no_answer (sym none ∙ is_row_of r (held_row f) (holds_from_says r number digest false f again says))
+  says_none f again none r says = none-some _ (sym none ∙ is_row_of r (held_row f) (holds_from_says r number digest false f again says))
 
 -- ---- the rows of which a body is held
 
@@ -125,13 +112,10 @@ held_more bodies row body held more are inserted = record {
     to r (inr there) = still (r == row) (bodies r) ((are.each r).0 there)
 
     back : (r : ℕ) (b : Bool) → (r == row) ≡ b → IsSome (cond b (Some body) (bodies r)) → (r ≡ row) ⊎ Contains held r
-    back r true is some = inl (same_number r row is)
+    back r true is some = inl (eqb-true r row is)
     back r false is some = inr ((are.each r).1 some)
 
 -- ---- whether a row is one of them
-
-exact : (x y : ℕ) → eq_by_cmp nat_cmp x y ≡ true → x ≡ y
-exact x y e = sym (same_number y x (sym (same_test y x) ∙ e))
 
 pub contained : (rows : List ℕ) (r : ℕ) → list_any (λ q. nat_eq q r) rows ≡ true → Contains rows r
 contained rows r any = Contains-from_any exact r rows (sym (set.contains-from_list nat_cmp_total rows r) ∙ set.contains-from_list_nat rows r ∙ any)

@@ -42,6 +42,8 @@ use Rattle.std.proofs.lemmas.Grind.{common_steps}
 use Rattle.std.proofs.lemmas.List.{get_or_append_left}
 use Rattle.std.proofs.lemmas.List.Folds.{list_any-append}
 use Rattle.std.proofs.lemmas.Map.Steps.{list_any_congr}
+use Rattle.std.proofs.lemmas.Option.{none-some}
+use Rattle.std.proofs.lemmas.Bool.{or_right}
 use Rattle.sha2.specs.Sha256.{sha256}
 use Rattle.esc_tables.specs.DepositValue.{DepositValue}
 use Rattle.esc_tables.specs.Reading.{reading}
@@ -63,12 +65,8 @@ use Rattle.esc_events.proofs.Distinct.{alike_laws, distinct-push}
 use Rattle.esc_events.proofs.Members.{any_of, one_of, among-front, among-last}
 use Rattle.esc_events.proofs.Moving.{stands_still}
 use Rattle.esc_events.proofs.OneArrival.{any_kept}
-use Rattle.esc_events.proofs.Searches.{some_alike, find-front, find-back, find-push-old, no_answer}
+use Rattle.esc_events.proofs.Searches.{some_alike, find-front, find-back, find-push-old}
 use Rattle.esc_desk.proofs.EarlyEvents.{union-early, comings-early, moment-early, counting, counting-append}
-
-or_true : (b : Bool) → (b || true) ≡ true
-or_true true = refl
-or_true false = refl
 
 or_false : (b : Bool) → (b || false) ≡ b
 or_false true = refl
@@ -154,7 +152,7 @@ module _ (l : List Coming) (c : Coming) (was : list_any (like c) l ≡ true) whe
   any_with x = list_any-append (like x) l (c ∷ []) ∙ by_test (like x c) refl
     where
       by_test : (b : Bool) → like x c ≡ b → (list_any (like x) l || (b || false)) ≡ list_any (like x) l
-      by_test true same = or_true _ ∙ sym (list_any_congr (alike_laws sha256 reading) x c l same ∙ was)
+      by_test true same = or_right _ true refl ∙ sym (list_any_congr (alike_laws sha256 reading) x c l same ∙ was)
       by_test false other = or_false _
 
   -- with another after it
@@ -211,7 +209,7 @@ module _ {m more : List MRow} {l tail : List Coming} {c : Coming} {e f : List Ev
 
       by_case : IsThere m l c → list_any (under d) l ≡ true
       by_case (inl any) = subst (λ (x : List ℕ). list_any (under x) l ≡ true) same any
-      by_case (inr (q, at, held)) = absurd (no_answer (sym none ∙ ap (row_of (m ++ more)) (sym same) ∙ (row_still m more (sha256 c.body) q at).0))
+      by_case (inr (q, at, held)) = absurd (none-some _ (sym none ∙ ap (row_of (m ++ more)) (sym same) ∙ (row_still m more (sha256 c.body) q at).0))
 
   found_as : (p : Coming → Bool) → (p c ≡ true → list_any p l ≡ true) → find p (kept_arrivals sha256 reading f) ≡ find p (kept_arrivals sha256 reading e)
   found_as p before =

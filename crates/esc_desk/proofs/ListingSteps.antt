@@ -1,17 +1,17 @@
 -- What a change that lists rows makes of held and parked bodies, row by row.
 use Rattle.std.proofs.Common.{◌≡◌, ◌≢◌, ℕ, cond, ◌==◌, List, [], ◌∷◌, All, length, Option, Some, None, sym, ap, ap₂, ◌∙◌}
 use Rattle.std.proofs.lemmas.List.Elements.{All-head, All-tail}
+use Rattle.std.proofs.lemmas.Bool.{eqb-true, false_from_ne_true}
 use Rattle.esc_manifest.specs.declared.row.MRow.{MRow}
 use Rattle.esc_manifest.specs.ManifestRows.{row_at}
 use Rattle.esc_store.specs.Kept.{Kept, body_put, with_body, with_parked}
 use Rattle.esc_events.specs.Amended.{with_listed, with_adopted, with_all_adopted, with_all_dropped, adopted_rows, dropped_rows, amended_kept}
-use Rattle.esc_events.proofs.AmendingLemmas.{equal_number, no_test}
 use Rattle.esc_desk.specs.declared.judging.Judged.{Judged}
 use Rattle.esc_desk.specs.Amendments.{AreApartRows, IsAmendmentOf}
 
 -- a body that is held of one row is none of another's
 put_elsewhere : (bodies : ℕ → Option (List ℕ)) (r q : ℕ) (body : List ℕ) → r ≢ q → bodies q ≡ None → body_put bodies r body q ≡ None
-put_elsewhere bodies r q body other none = ap (λ t. cond t (Some body) (bodies q)) (no_test (q == r) (λ same. other (sym (equal_number q r same)))) ∙ none
+put_elsewhere bodies r q body other none = ap (λ t. cond t (Some body) (bodies q)) (false_from_ne_true (q == r) (λ same. other (sym (eqb-true q r same)))) ∙ none
 
 apart_still : (k : Kept) (r : ℕ) (d body : List ℕ) (rows : List ℕ) → All (λ q. r ≢ q) rows → AreApartRows k rows → AreApartRows (with_parked (with_body k r body) d None) rows
 apart_still k r d body [] others apart = tt

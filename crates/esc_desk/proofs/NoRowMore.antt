@@ -1,7 +1,6 @@
 -- An amendment that lists no row more changes nothing, whatever one event comes after it; and what a crash leaves after an amendment.
 use Rattle.std.proofs.Common.{
   ◌≡◌,
-  ◌≢◌,
   inl,
   inr,
   ℕ,
@@ -25,6 +24,7 @@ use Rattle.std.proofs.Common.{
   arith,
 }
 use Rattle.std.specs.List.{Any}
+use Rattle.std.proofs.lemmas.List.{nil_from_length}
 use Rattle.sha2.specs.Sha256.{sha256}
 use Rattle.sqlite_trees.specs.declared.store.Store.{Ghosts}
 use Rattle.sqlite_trees.specs.Tree.{Trees}
@@ -34,7 +34,6 @@ use Rattle.esc_manifest.specs.declared.row.MRow.{MRow}
 use Rattle.esc_manifest.specs.Extension.{new_rows, extended}
 use Rattle.esc_manifest.specs.Manifest.{manifest_of}
 use Rattle.esc_store.specs.declared.fault.SFault.{SFault}
-use Rattle.esc_store.specs.declared.fault.SFault.TheVariants.{S1, S2, S3, S4, S5}
 use Rattle.esc_store.specs.declared.store.Store.{Store}
 use Rattle.esc_store.specs.Kept.{Kept}
 use Rattle.esc_store.specs.Standing.{Stands}
@@ -46,8 +45,9 @@ use Rattle.esc_events.proofs.AmendingEvents.{receipts_as, apart_as, held_as, par
 use Rattle.esc_events.proofs.EventLemmas.{union-arrived, comings-arrived, moment-arrived, union-listed, comings-listed, moment-listed, union-moved, comings-moved, moment-moved}
 use Rattle.esc_events.proofs.Moving.{stands_still, no_work_of}
 use Rattle.esc_desk.specs.Asked.{rows_read, amendment_of}
-use Rattle.esc_desk.specs.Crashes.{IsStoreFor, IsStoreForOneOf, CrashLeaves, LeavesOnlyFor, doubtful_with, IsNotFull, AddsStoreFor}
+use Rattle.esc_desk.specs.Crashes.{IsStoreFor, IsStoreForOneOf, CrashLeaves, doubtful_with, AddsStoreFor}
 use Rattle.esc_desk.proofs.EarlyEvents.{union-early, comings-early, moment-early}
+use Rattle.esc_desk.proofs.CrashLemmas.{one_with, leaves_refused}
 
 -- ---- two lists of events with the same rows, arrivals and moment
 
@@ -108,10 +108,6 @@ one_alike trees (x ∷ doubtful) same (inr more) = inr (one_alike trees doubtful
 
 -- ---- an amendment
 
-nothing_of : (xs : List MRow) → length xs ≡ 0 → xs ≡ []
-nothing_of [] none = refl
-nothing_of (x ∷ xs) none = absurd (omega (arith, none))
-
 -- how many rows are new
 pub new_count : (m more : List MRow) → length (extended m more) - length m ≡ length (new_rows m more)
 new_count m more = omega (arith, length-append m (new_rows m more))
@@ -119,7 +115,7 @@ new_count m more = omega (arith, length-append m (new_rows m more))
 module _ (e : List EventValue) (more : List MRow) (none : length (new_rows (union e) more) ≡ 0) where
   pub alike_none : AreAlike e (e ++ listed more ∷ [])
   alike_none = record {
-    rows = union-listed e more ∙ ap (λ (xs : List MRow). union e ++ xs) (nothing_of (new_rows (union e) more) none) ∙ append-nil (union e);
+    rows = union-listed e more ∙ ap (λ (xs : List MRow). union e ++ xs) (nil_from_length (new_rows (union e) more) none) ∙ append-nil (union e);
     came = comings-listed e more;
     moment = moment-listed e more;
   }
@@ -136,22 +132,6 @@ amendment_is text rows read = ap (λ (r : Result (List MRow) (ℕ × ℕ)). list
 
 -- ---- what a crash leaves
 
-one_with : (trees : Trees) (e doubtful : List EventValue) (x : EventValue) (f : SFault)
-    → IsStoreForOneOf trees e doubtful → IsStoreForOneOf trees e (doubtful_with f x doubtful)
-one_with trees e doubtful x S1 one = inr one
-one_with trees e doubtful x S2 one = inr one
-one_with trees e doubtful x S3 one = inr one
-one_with trees e doubtful x S4 one = one
-one_with trees e doubtful x S5 one = one
-
-one_more : (trees : Trees) (e doubtful : List EventValue) (x : EventValue) (f : SFault)
-    → (f ≢ S4) × (f ≢ S5) → IsStoreFor trees (e ++ x ∷ []) → IsStoreForOneOf trees e (doubtful_with f x doubtful)
-one_more trees e doubtful x S1 other stands = inl stands
-one_more trees e doubtful x S2 other stands = inl stands
-one_more trees e doubtful x S3 other stands = inl stands
-one_more trees e doubtful x S4 other stands = absurd (other.0 refl)
-one_more trees e doubtful x S5 other stands = absurd (other.1 refl)
-
 module _ {S : Type 0} (g : Ghosts S) where
   -- the rows of a store are those that it keeps
   pub rows_of_store : (store : Store S) (k : Kept) → Stands g store k → store.manifest ≡ k.listed
@@ -163,11 +143,6 @@ module _ {S : Type 0} (g : Ghosts S) where
   unfolding CrashLeaves
   leaves_alike conn e f doubtful same left clean trees may = one_alike trees doubtful same (left clean trees may)
 
-  -- rows were listed
-  pub leaves_sure : (conn : Held S) (e : List EventValue) → LeavesOnlyFor g conn e → CrashLeaves g conn e []
-  unfolding CrashLeaves LeavesOnlyFor
-  leaves_sure conn e only = only
-
   -- it was refused before anything was begun
   pub leaves_before : (conn : Held S) (e doubtful : List EventValue) (x : EventValue) (f : SFault)
       → CrashLeaves g conn e doubtful → CrashLeaves g conn e (doubtful_with f x doubtful)
@@ -177,8 +152,5 @@ module _ {S : Type 0} (g : Ghosts S) where
   -- it was refused
   pub leaves_lost : {X : Type 0} (old new : Held S) (e doubtful : List EventValue) (x : EventValue) (result : Result X SFault) (f : SFault)
       → result ≡ Err f → CrashLeaves g old e doubtful → AddsStoreFor g old new result (e ++ x ∷ []) → CrashLeaves g new e (doubtful_with f x doubtful)
-  unfolding CrashLeaves AddsStoreFor
-  leaves_lost old new e doubtful x result f is left s clean trees may = elim (s.crash clean trees may) [
-    | inl was ↦ one_with trees e doubtful x f (left (omega (arith, s.clean, clean)) trees was)
-    | inr made ↦ one_more trees e doubtful x f (subst IsNotFull is made.0) made.1
-  ]
+  leaves_lost {X} old new e doubtful x result f is left s =
+      leaves_refused g old new e doubtful left X x f (subst (λ (r : Result X SFault). AddsStoreFor g old new r (e ++ x ∷ [])) is s)

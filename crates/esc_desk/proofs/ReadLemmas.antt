@@ -19,7 +19,6 @@ use Rattle.std.proofs.Common.{
   refl,
   sym,
   ap,
-  ap₂,
   subst,
   ◌∙◌,
   true≢false,
@@ -37,10 +36,9 @@ use Rattle.esc_manifest.specs.declared.row.MRow.{MRow}
 use Rattle.esc_apply.specs.declared.front.Step.{Step}
 use Rattle.esc_apply.specs.Registry.{State, Content, IsEntriesOf}
 use Rattle.esc_apply.specs.Tables.{tables}
-use Rattle.esc_store.specs.Kept.{Kept, kept_replies, kept_chain, step_at, AreHeld}
+use Rattle.esc_store.specs.Kept.{Kept, kept_chain, step_at, AreHeld}
 use Rattle.esc_store.specs.declared.store.Store.{Store}
 use Rattle.esc_store.specs.Standing.{IsAsBefore}
-use Rattle.esc_store.specs.ReplyValue.{ReceiptValue, replies_from}
 use Rattle.esc_events.specs.Events.{EventValue, union}
 use Rattle.esc_events.specs.Assessment.{found_at, row_of, held_row}
 use Rattle.esc_events.specs.Receipts.{is_row}
@@ -54,7 +52,7 @@ use Rattle.esc_desk.specs.Calls.{Stays}
 use Rattle.esc_desk.proofs.StoreFacts.{still_stays}
 use Rattle.esc_events.specs.declared.parked.ParkedBody.{ParkedBody}
 use Rattle.esc_events.specs.Parks.{AreParkedBodies}
-use Rattle.esc_desk.specs.Reads.{last, replies_of, AreHeldRows, AreParkedOf, SaysEnd, IsEndAt, IsEnd}
+use Rattle.esc_desk.specs.Reads.{last, AreHeldRows, AreParkedOf, SaysEnd, IsEndAt, IsEnd}
 
 -- a desk whose store was read, and that remembers what it did
 pub read_stays : {S : Type 0} (g : Ghosts S) (old : Desk S) (store : Store S) → IsAsBefore g old.store store
@@ -93,9 +91,6 @@ held_by same held = record {
 }
 
 module _ (e : List EventValue) (k : Kept) (stood : StandsFor sha256 reading e k) where
-  pub same_replies : kept_replies k ≡ replies_of e
-  same_replies = ap₂ (λ (x : List MRow) (rs : List ReceiptValue). replies_from x 1 rs) stood.books.listed stood.books.receipts
-
   pub same_held : (rows : List ℕ) → AreHeld k.bodies rows → AreHeldRows e rows
   same_held rows held apart = held_by (stood.books.bodies apart) held
 

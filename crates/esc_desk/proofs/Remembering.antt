@@ -1,12 +1,12 @@
 -- Rows that rise, and one row more in its place.
 use Rattle.std.proofs.Common.{◌≡◌, ◌⊎◌, inl, inr, ℕ, zero, suc, ◌<◌, ◌≤◌, List, [], ◌∷◌, length, get_or, Err, refl, sym, subst, arith}
-use Rattle.std.specs.Prelude.{slice_index_or}
 use Rattle.std.specs.List.{Contains, insert}
 use Rattle.std.specs.List.Sorted.{IsBinarySearchResult}
 use Rattle.std.specs.Ordering.{nat_cmp}
 use Rattle.std.proofs.lemmas.List.Sorted.{searched, IsPermutation-insert, IsPermutation-sym, All-permutation, Contains-permutation}
 use Rattle.std.proofs.lemmas.List.Elements.{All-cons, All-from_get_or}
 use Rattle.esc_store.specs.Kept.{IsRising}
+use Rattle.esc_store.specs.ListLaws.{first_or_later, later}
 use Rattle.esc_desk.specs.Knowing.{IsInserted}
 
 -- ---- rising rows, by place
@@ -30,16 +30,6 @@ rising_insert (x ∷ xs) (suc i) y up le below above = (
 )
 
 -- ---- one element more
-
-pub first_or_later : {X : Type 0} (y x : X) (xs : List X) → Contains (y ∷ xs) x → (y ≡ x) ⊎ Contains xs x
-first_or_later {X = X} y x xs there = by_place there.0 there.1 there.2
-  where
-    by_place : (k : ℕ) → k < length (y ∷ xs) → slice_index_or (y ∷ xs) k x ≡ x → (y ≡ x) ⊎ Contains xs x
-    by_place zero within is = inl is
-    by_place (suc k) within is = inr (k, omega (arith, within), is)
-
-pub later : {X : Type 0} (y x : X) (xs : List X) → Contains xs x → Contains (y ∷ xs) x
-later y x xs there = (suc there.0, omega (arith, there.1), there.2)
 
 module _ (rows : List ℕ) (row : ℕ) (up : IsRising rows) where
   -- a row that is put in its place

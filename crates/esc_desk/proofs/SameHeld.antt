@@ -16,7 +16,7 @@ use Rattle.esc_events.proofs.AmendingLemmas.{digest_is}
 use Rattle.esc_events.proofs.Members.{first_of}
 use Rattle.esc_events.proofs.Moving.{chain_of}
 use Rattle.esc_events.proofs.MovingLemmas.{contains_held, same_deposits}
-use Rattle.esc_desk.specs.Laws.{TablesAreOfEvents, HoldTheSame, SameHeldSameKept}
+use Rattle.esc_desk.specs.Laws.{TablesAreOfEvents, HoldTheSame, SameHeldSameKept, AreApart}
 use Rattle.esc_desk.proofs.ReadLemmas.{same_content}
 use Rattle.esc_desk.proofs.WalkSteps.{held_in_range}
 
@@ -24,12 +24,29 @@ pub tables_are_of : TablesAreOfEvents
 tables_are_of e k stood apart = record { latest = chain_of e k stood apart; content = same_content e k stood apart }
 
 -- two searches that both find an arrival, or neither does, find the same body where the arrivals have the same
-pub same_found : (o p : Option Coming) → is_some (body_of o) ≡ is_some (body_of p)
+same_found : (o p : Option Coming) → is_some (body_of o) ≡ is_some (body_of p)
     → ((c d : Coming) → o ≡ Some c → p ≡ Some d → c.body ≡ d.body) → body_of o ≡ body_of p
 same_found None None some same = refl
 same_found None (Some d) some same = absurd (true≢false (sym some))
 same_found (Some c) None some same = absurd (true≢false some)
 same_found (Some c) (Some d) some same = ap Some (same c d refl refl)
+
+-- rows with one digest have the same body, wherever each list has the row, if both have one or neither
+pub same_body : (e f : List EventValue) → AreApart e f → (r s : ℕ) → is_some (held_body sha256 reading e r) ≡ is_some (held_body sha256 reading f s)
+    → (row_at (union e) r).digest ≡ (row_at (union f) s).digest → held_body sha256 reading e r ≡ held_body sha256 reading f s
+same_body e f apart r s some row = same_found (find in_e (kept_arrivals sha256 reading e)) (find in_f (kept_arrivals sha256 reading f)) some bodies
+  where
+    in_e : Coming → Bool
+    in_e = holds_by sha256 reading (union e) r
+
+    in_f : Coming → Bool
+    in_f = holds_by sha256 reading (union f) s
+
+    bodies : (c d : Coming) → find in_e (kept_arrivals sha256 reading e) ≡ Some c → find in_f (kept_arrivals sha256 reading f) ≡ Some d → c.body ≡ d.body
+    bodies c d here there =
+        let a = first_of in_e (kept_arrivals sha256 reading e) c here in
+        let b = first_of in_f (kept_arrivals sha256 reading f) d there in
+        apart c d a.0 b.0 (digest_is sha256 reading (union e) r c a.1 ∙ row ∙ sym (digest_is sha256 reading (union f) s d b.1))
 
 module _ {e f : List EventValue} (same : HoldTheSame e f) where
   -- a body is held of the same rows
@@ -38,20 +55,7 @@ module _ {e f : List EventValue} (same : HoldTheSame e f) where
 
   -- the same body is held of each row
   body_same : (r : ℕ) → held_body sha256 reading e r ≡ held_body sha256 reading f r
-  body_same r = same_found (find in_e (kept_arrivals sha256 reading e)) (find in_f (kept_arrivals sha256 reading f)) (some_same r) bodies
-    where
-      in_e : Coming → Bool
-      in_e = holds_by sha256 reading (union e) r
-
-      in_f : Coming → Bool
-      in_f = holds_by sha256 reading (union f) r
-
-      bodies : (c d : Coming) → find in_e (kept_arrivals sha256 reading e) ≡ Some c → find in_f (kept_arrivals sha256 reading f) ≡ Some d → c.body ≡ d.body
-      bodies c d here there =
-          let a = first_of in_e (kept_arrivals sha256 reading e) c here in
-          let b = first_of in_f (kept_arrivals sha256 reading f) d there in
-          let row = ap (λ (m : List MRow). (row_at m r).digest) same.listed in
-          same.apart c d a.0 b.0 (digest_is sha256 reading (union e) r c a.1 ∙ row ∙ sym (digest_is sha256 reading (union f) r d b.1))
+  body_same r = same_body e f same.apart r r (some_same r) (ap (λ (m : List MRow). (row_at m r).digest) same.listed)
 
 pub same_kept : OneLatestChainAt → SameHeldSameKept
 same_kept law e f k l accepted same apart others stood other =

@@ -1,6 +1,5 @@
 -- Two lists of events by which the same rows are listed and held leave the same tables, in whatever order the rows were listed.
-use Rattle.std.proofs.Common.{◌≡◌, ℕ, ℤ, Bool, true, List, [], ◌∷◌, ◌++◌, reverse, Option, Some, is_some, refl, sym, ap, ap₂, subst, ◌∙◌}
-use Rattle.std.specs.List.{find}
+use Rattle.std.proofs.Common.{◌≡◌, ℕ, ℤ, true, List, [], ◌∷◌, ◌++◌, reverse, Option, is_some, refl, sym, ap, ap₂, subst, ◌∙◌}
 use Rattle.std.proofs.lemmas.List.{reverse-append, reverse-reverse}
 use Rattle.sha2.specs.Sha256.{sha256}
 use Rattle.esc_tables.specs.DepositValue.{DepositValue}
@@ -10,15 +9,13 @@ use Rattle.esc_manifest.specs.ManifestRows.{row_at}
 use Rattle.esc_chain.specs.Chain.{Rows, IsHeld, LeadsBack, IsLatestBackAt, IsLatestChainAt}
 use Rattle.esc_chain.specs.Laws.{rows_along, ChainsAreOfRows}
 use Rattle.esc_apply.specs.Images.{chain_state}
-use Rattle.esc_events.specs.Events.{EventValue, Coming, union, moment_of}
-use Rattle.esc_events.specs.Stands.{kept_arrivals, holds_by, deposit_of, deposits_of, held_rows, held_body}
-use Rattle.esc_events.proofs.AmendingLemmas.{digest_is}
-use Rattle.esc_events.proofs.Members.{first_of}
+use Rattle.esc_events.specs.Events.{EventValue, union, moment_of}
+use Rattle.esc_events.specs.Stands.{deposit_of, deposits_of, held_rows, held_body}
 use Rattle.esc_events.proofs.Moving.{chain_of}
 use Rattle.esc_events.proofs.MovingLemmas.{Each, contains_held, same_deposits}
 use Rattle.esc_desk.specs.Laws.{HoldTheSameRows, SameRowsSameTables}
-use Rattle.esc_desk.proofs.SameHeld.{same_found}
 use Rattle.esc_desk.proofs.WalkSteps.{held_in_range}
+use Rattle.esc_desk.proofs.SameHeld.{same_body}
 
 -- ---- the rows of a chain are held
 
@@ -52,26 +49,13 @@ module _ {e f : List EventValue} (same : HoldTheSameRows e f) where
 
   -- the same body is held of a row, wherever each list has the row
   body_same : (r s : ℕ) → held_e r → held_f s → row_at (union e) r ≡ row_at (union f) s → held_body sha256 reading e r ≡ held_body sha256 reading f s
-  body_same r s held other row = same_found (find in_e (kept_arrivals sha256 reading e)) (find in_f (kept_arrivals sha256 reading f)) (some ∙ sym others) bodies
+  body_same r s held other row = same_body e f same.apart r s (some ∙ sym others) (ap (λ (x : MRow). x.digest) row)
     where
-      in_e : Coming → Bool
-      in_e = holds_by sha256 reading (union e) r
-
-      in_f : Coming → Bool
-      in_f = holds_by sha256 reading (union f) s
-
       some : is_some (held_body sha256 reading e r) ≡ true
       some = sym (contains_held sha256 reading e r) ∙ held
 
       others : is_some (held_body sha256 reading f s) ≡ true
       others = sym (contains_held sha256 reading f s) ∙ other
-
-      bodies : (c d : Coming) → find in_e (kept_arrivals sha256 reading e) ≡ Some c → find in_f (kept_arrivals sha256 reading f) ≡ Some d → c.body ≡ d.body
-      bodies c d here there =
-          let a = first_of in_e (kept_arrivals sha256 reading e) c here in
-          let b = first_of in_f (kept_arrivals sha256 reading f) d there in
-          let digest = ap (λ (x : MRow). x.digest) row in
-          same.apart c d a.0 b.0 (digest_is sha256 reading (union e) r c a.1 ∙ digest ∙ sym (digest_is sha256 reading (union f) s d b.1))
 
   -- chains of the same rows have the same deposits
   deposits_same : (c d : List ℕ) → Each (IsHeld (held_rows sha256 reading e)) c → Each (IsHeld (held_rows sha256 reading f)) d

@@ -5,6 +5,7 @@ use Rattle.std.specs.Option.{is_some}
 use Rattle.std.specs.Vec.Iter.{into_iter_items, into_iter_len}
 use Rattle.std.specs.declared.vec.IntoIter.{IntoIter}
 use Rattle.std.proofs.lemmas.Map.Keys.{sorted_tail}
+use Rattle.std.proofs.lemmas.List.{nil_from_length}
 use Rattle.sha2.specs.Sha256.{sha256}
 use Rattle.sqlite_trees.specs.declared.store.Store.{Ghosts}
 use Rattle.esc_envelope.specs.declared.kind.Kind.{Kind}
@@ -46,12 +47,8 @@ held_in_range e r held =
 
 -- ---- the page at hand
 
-empty_list : {X : Type 0} (xs : List X) → length xs ≡ 0 → xs ≡ []
-empty_list [] is = refl
-empty_list (x ∷ xs) is = absurd (omega (arith, is))
-
 pub no_items : {X Z : Type 0} (it : IntoIter X Z) → into_iter_len it ≡ 0 → into_iter_items it ≡ []
-no_items it is = empty_list (into_iter_items it) (sym it.rest.ok.0 ∙ is)
+no_items it is = nil_from_length (into_iter_items it) (sym it.rest.ok.0 ∙ is)
 
 no_entries : (es : List Entry) → ((q : KeyName) → lookup (key_eq q) es ≡ None) → es ≡ []
 no_entries [] none = refl

@@ -106,7 +106,7 @@ impl<S: Alter> Desk<S> {
 
     // Takes in the body of a duplicate of an arrival with `A2`. What is remembered is forgotten
     // first, and is only remembered again once the body was taken in.
-    #[tactic(auto, using(crate::proofs::StoreFacts::was_honest))]
+    #[tactic(auto, using(esc_store::specs::StandingLaws::was_honest))]
     fn take_again(&mut self, alloc: Global, digest: &[u8; 32], body: &[u8]) -> Result<Work, SFault>
         requires { digest.now ≡ sha256 body.now }
         ensures taken { IsHonest S.Store self.new.store → (e : List EventValue) (n : List ℕ)
@@ -144,7 +144,7 @@ impl<S: Alter> Desk<S> {
 
 // Takes in the body of a duplicate of an arrival with `A2`. `known` is what is known of the store's
 // rows, and is updated; after an `Err` it has no meaning.
-#[tactic(auto, using(crate::proofs::StoreFacts::was_honest))]
+#[tactic(auto, using(esc_store::specs::StandingLaws::was_honest))]
 fn take_body<S: Alter>(
     store: &mut Store<S>,
     alloc: Global,
@@ -178,7 +178,7 @@ fn take_body<S: Alter>(
 }
 
 // Takes in the body of a duplicate of an arrival with `A2`, by what was found of it.
-#[tactic(auto, using(crate::proofs::StoreFacts::was_honest))]
+#[tactic(auto, using(esc_store::specs::StandingLaws::was_honest))]
 fn take_found<S: Alter>(
     store: &mut Store<S>,
     alloc: Global,
@@ -222,7 +222,7 @@ fn take_found<S: Alter>(
 ghost use Rattle.esc_desk.specs.Causes.{IsTakeAgainFault};
 
 // Parks a body that no row lists, unless it is parked.
-#[tactic(auto, using(crate::proofs::StoreFacts::was_honest))]
+#[tactic(auto, using(esc_store::specs::StandingLaws::was_honest))]
 fn park_again<S: Alter>(
     store: &mut Store<S>,
     alloc: Global,
@@ -268,7 +268,7 @@ fn park_again<S: Alter>(
 ghost use Rattle.esc_desk.specs.Causes.{IsParkAgainFault};
 
 // Stores the body of a row, unless the row has one.
-#[tactic(auto, using(crate::proofs::StoreFacts::was_honest))]
+#[tactic(auto, using(esc_store::specs::StandingLaws::was_honest))]
 fn hold_again<S: Alter>(
     store: &mut Store<S>,
     alloc: Global,
@@ -309,7 +309,7 @@ fn hold_again<S: Alter>(
 // Stores the body of a row that has none yet, and moves the chain. `known` is what is known of the
 // store's rows with this one among them, and of its chain, which is updated; after an `Err` it has
 // no meaning.
-#[tactic(auto, using(crate::proofs::StoreFacts::was_honest))]
+#[tactic(auto, using(esc_store::specs::StandingLaws::was_honest))]
 fn move_with<S: Alter>(
     store: &mut Store<S>,
     alloc: Global,

@@ -153,7 +153,7 @@ impl<S: Alter> Desk<S> {
 
     // Lists the rows of a union. What is remembered is forgotten first, and is only remembered
     // again once the rows are listed.
-    #[tactic(auto, using(crate::proofs::StoreFacts::was_honest))]
+    #[tactic(auto, using(esc_store::specs::StandingLaws::was_honest))]
     fn list_more(&mut self, alloc: Global, union: Manifest) -> Result<Work, SFault>
         requires begins { take (length self.old.store.manifest) union ≡ self.old.store.manifest }
         ensures made { IsHonest S.Store self.new.store → (e : List EventValue) (k : Kept)
@@ -188,7 +188,7 @@ ghost use Rattle.esc_desk.specs.Amendments.{IsUnionWith, IsRefusedUnion};
 
 // Lists the rows of a union. `known` is what is known of the store's rows, and is updated; after an
 // `Err` it has no meaning.
-#[tactic(auto, using(crate::proofs::StoreFacts::was_honest))]
+#[tactic(auto, using(esc_store::specs::StandingLaws::was_honest))]
 fn list_in<S: Alter>(
     store: &mut Store<S>,
     alloc: Global,

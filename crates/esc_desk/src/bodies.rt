@@ -65,7 +65,7 @@ pub(crate) fn park_body<S: Alter>(
 }
 
 // Parks a body in a change that isn't committed yet.
-#[tactic(auto, using(crate::proofs::StoreFacts::goes_then))]
+#[tactic(auto, using(esc_store::specs::StandingLaws::goes_then))]
 fn fill_parked<S: Alter>(
     change: &mut Change<'_, S>,
     digest: &[u8; 32],
@@ -122,7 +122,7 @@ pub(crate) fn hold_body<S: Alter>(
 }
 
 // Stores the body and moves the chain in a change that isn't committed yet.
-#[tactic(auto, using(crate::proofs::StoreFacts::goes_then))]
+#[tactic(auto, using(esc_store::specs::StandingLaws::goes_then))]
 fn fill_held<S: Alter>(
     change: &mut Change<'_, S>,
     alloc: Global,

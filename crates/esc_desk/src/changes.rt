@@ -95,7 +95,7 @@ pub(crate) fn note_receipt<S: Alter>(
 }
 
 // Makes the change of a receipt, all but its commit.
-#[tactic(auto, using(crate::proofs::StoreFacts::goes_then))]
+#[tactic(auto, using(esc_store::specs::StandingLaws::goes_then))]
 fn fill_note<S: Alter>(
     change: &mut Change<'_, S>,
     receipt: &Receipt<'_>,
@@ -170,7 +170,7 @@ pub(crate) fn hold_deposit<S: Alter>(
 }
 
 // Makes all of a deposit's change but its commit.
-#[tactic(auto, using(crate::proofs::StoreFacts::goes_then))]
+#[tactic(auto, using(esc_store::specs::StandingLaws::goes_then))]
 fn fill_deposit<S: Alter>(
     change: &mut Change<'_, S>,
     alloc: Global,
@@ -206,7 +206,7 @@ fn fill_deposit<S: Alter>(
 }
 
 /// Moves the tables of a change by a plan, and sets its new chain.
-#[tactic(auto, using(crate::proofs::StoreFacts::goes_then))]
+#[tactic(auto, using(esc_store::specs::StandingLaws::goes_then))]
 pub(crate) fn move_in<S: Alter>(
     change: &mut Change<'_, S>,
     alloc: Global,

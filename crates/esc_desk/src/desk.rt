@@ -118,7 +118,7 @@ impl<S: Alter> Desk<S> {
     /// At `Err` nothing has changed: `S1`, `S2`, `S4` where the store has 1,000,000,000 receipts
     /// and the arrival is no duplicate, or `S5` where its body would be parked and 1,024 others
     /// are. A crash leaves what was answered; after `S1` or `S2` it may leave the arrival taken in.
-    #[tactic(auto, using(crate::proofs::StoreFacts::was_honest))]
+    #[tactic(auto, using(esc_store::specs::StandingLaws::was_honest))]
     pub fn arrive(
         &mut self,
         alloc: Global,
@@ -160,7 +160,7 @@ impl<S: Alter> Desk<S> {
 
     // Takes in an arrival for which no receipt is kept. What is remembered is forgotten first, and
     // is only remembered again once the arrival was taken in.
-    #[tactic(auto, using(crate::proofs::StoreFacts::was_honest))]
+    #[tactic(auto, using(esc_store::specs::StandingLaws::was_honest))]
     fn take_new(
         &mut self,
         alloc: Global,

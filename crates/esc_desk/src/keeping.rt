@@ -68,7 +68,7 @@ use std::mem;
 /// Takes in an arrival for which no receipt is kept. `known` is what is known of the store's rows,
 /// and is updated; after an `Err` it has no meaning. `last` is a deposit that was read: the body
 /// isn't read where it is that one's. It becomes this arrival's where the row had a body before.
-#[tactic(auto, using(crate::proofs::StoreFacts::was_honest))]
+#[tactic(auto, using(esc_store::specs::StandingLaws::was_honest))]
 pub(crate) fn take_in<S: Alter>(
     store: &mut Store<S>,
     alloc: Global,
@@ -161,7 +161,7 @@ fn keep<S: Alter>(
 }
 
 // Stores the receipt of a new arrival whose body no row lists, and the body if it is to be parked.
-#[tactic(auto, using(crate::proofs::StoreFacts::was_honest))]
+#[tactic(auto, using(esc_store::specs::StandingLaws::was_honest))]
 fn keep_parked<S: Alter>(
     store: &mut Store<S>,
     alloc: Global,
@@ -201,7 +201,7 @@ fn keep_parked<S: Alter>(
 
 // Stores the receipt of a new arrival that is the deposit of a row, and its body if the row has
 // none yet; else the deposit becomes `last`.
-#[tactic(auto, using(crate::proofs::StoreFacts::was_honest))]
+#[tactic(auto, using(esc_store::specs::StandingLaws::was_honest))]
 fn keep_held<S: Alter>(
     store: &mut Store<S>,
     alloc: Global,
@@ -249,7 +249,7 @@ fn keep_held<S: Alter>(
 // store's rows with this one among them, and of its chain, which is updated: the row was inserted
 // there before anything changes in the store, so that nothing can run out of memory once the change
 // is made. After an `Err` it has no meaning.
-#[tactic(auto, using(crate::proofs::StoreFacts::was_honest))]
+#[tactic(auto, using(esc_store::specs::StandingLaws::was_honest))]
 fn keep_deposit<S: Alter>(
     store: &mut Store<S>,
     alloc: Global,

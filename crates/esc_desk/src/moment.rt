@@ -115,7 +115,7 @@ fn set_moment<S: Alter>(
 }
 
 // Makes all of a moment's change but its commit.
-#[tactic(auto, using(crate::proofs::StoreFacts::goes_then))]
+#[tactic(auto, using(esc_store::specs::StandingLaws::goes_then))]
 fn fill_moment<S: Alter>(
     change: &mut Change<'_, S>,
     alloc: Global,

@@ -92,7 +92,7 @@ impl<S: Alter> Desk<S> {
 
     /// The bodies that no row lists, each as its digest and length, in the order of digests. They
     /// are read one at a time. `S1`, `S2`.
-    #[tactic(auto, using(crate::proofs::ReadLemmas::read_stays, crate::proofs::StoreFacts::as_before_then))]
+    #[tactic(auto, using(crate::proofs::ReadLemmas::read_stays, esc_store::specs::StandingLaws::as_before_then))]
     pub fn parked(&mut self, alloc: Global) -> Result<Vec<ParkedBody>, SFault>
         ensures stays { Stays S.Store self.old self.new }
         ensures bodies { OkOver S.Store self.old self.new result
@@ -128,7 +128,7 @@ impl<S: Alter> Desk<S> {
 
     /// What the latest chain's last deposit says of the registry, read from its body's envelope;
     /// `None` where there is no chain. `S1`, `S2`.
-    #[tactic(auto, using(crate::proofs::ReadLemmas::read_stays, crate::proofs::StoreFacts::as_before_then))]
+    #[tactic(auto, using(crate::proofs::ReadLemmas::read_stays, esc_store::specs::StandingLaws::as_before_then))]
     pub fn end(&mut self, alloc: Global) -> Result<Option<End>, SFault>
         ensures stays { Stays S.Store self.old self.new }
         ensures end { OkOver S.Store self.old self.new result
@@ -147,7 +147,7 @@ impl<S: Alter> Desk<S> {
 
     /// The desk's counts, and the end of its latest chain. Reads what [`Desk::held`] reads, and the
     /// kind of each object. `S1`, `S2`.
-    #[tactic(auto, using(crate::proofs::ReadLemmas::read_stays, crate::proofs::StoreFacts::as_before_then))]
+    #[tactic(auto, using(crate::proofs::ReadLemmas::read_stays, esc_store::specs::StandingLaws::as_before_then))]
     pub fn status(&mut self, alloc: Global) -> Result<Status, SFault>
         ensures stays { Stays S.Store self.old self.new }
         ensures status { OkOver S.Store self.old self.new result

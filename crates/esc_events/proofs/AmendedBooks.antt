@@ -3,6 +3,7 @@ use Rattle.std.proofs.Common.{◌≡◌, inl, inr, ℕ, ℤ, ◌<◌, ◌≤◌,
 use Rattle.std.proofs.Common.{Option, Some, None, IsSome, is_some, refl, sym, ap, subst, ◌∙◌, arith, true≢false, length-append}
 use Rattle.std.specs.List.{Any}
 use Rattle.std.proofs.lemmas.Bool.Decides.{nat_tests}
+use Rattle.std.proofs.lemmas.Option.{none-some}
 use Rattle.sha2.specs.Sha256.{sha256}
 use Rattle.esc_tables.specs.Reading.{reading}
 use Rattle.esc_manifest.specs.declared.row.MRow.{MRow}
@@ -11,6 +12,7 @@ use Rattle.esc_manifest.specs.Accepted.{IsAccepted}
 use Rattle.esc_manifest.specs.Extension.{new_rows, extended}
 use Rattle.esc_store.specs.ReplyValue.{ReceiptValue, reply_alike}
 use Rattle.esc_store.specs.Kept.{Kept, SaysHeld, TellsUnlisted, with_moment}
+use Rattle.esc_store.specs.ListLaws.{any_weaker}
 use Rattle.esc_events.specs.ArrivalValue.{ArrivalValue}
 use Rattle.esc_events.specs.Events.{EventValue, Coming, union, comings}
 use Rattle.esc_events.specs.Events.EventValue.{listed, moved}
@@ -18,14 +20,13 @@ use Rattle.esc_events.specs.Assessment.{found, row_of}
 use Rattle.esc_events.specs.Receipts.{holds_row, distinct, receipts_after, receipts_of, reply_to}
 use Rattle.esc_events.specs.Stands.{AreBooks, IsApart, TellsOf, CameFor, holds_by, kept_arrivals, held_body, parked_body}
 use Rattle.esc_events.specs.Amended.{judged, amended_bodies, still_parked, with_listed, amended_kept}
-use Rattle.esc_events.proofs.AmendingLemmas.{union_more, comings_more, moment_more, row_is, row_has, row_held, same_at, listed_still, holds_same, judged_at, judged_some}
-use Rattle.esc_events.proofs.AmendingLemmas.{union_moved, comings_moved, moment_moved, reply_same, rows_short, receipts_below}
+use Rattle.esc_events.proofs.AmendingLemmas.{row_is, row_has, row_held, same_at, listed_still, holds_same, judged_at, judged_some}
+use Rattle.esc_events.proofs.AmendingLemmas.{reply_same, rows_short, receipts_below}
 use Rattle.esc_events.proofs.AmendingEvents.{came_under, holds_as, receipts_as, apart_as, held_as, parked_as, came_as, waits_as, held_is, parked_is}
 use Rattle.esc_events.proofs.AmendingKept.{StayBesides, rest_stays, parked_was, parked_are, bodies_are}
-use Rattle.esc_events.proofs.HeldReceipts.{any-weaker}
 use Rattle.esc_events.proofs.Members.{distinct_among}
-use Rattle.esc_events.proofs.Searches.{no_answer}
 use Rattle.esc_events.proofs.Telling.{any_of_row}
+use Rattle.esc_events.proofs.EventLemmas.{union-listed, comings-listed, moment-listed, union-moved, comings-moved, moment-moved}
 
 -- by the definitions: the bodies that are held after an amendment are those that were held, and for
 -- each new row the parked body with its digest, if that is its deposit; and the parked ones are
@@ -54,7 +55,7 @@ books_amended e k more books ok okn = record {
   receipts = rest.1 ∙ books.receipts ∙ sym (receipts_as sha256 e f came);
   bodies = λ apart r. bodies_held (apart_as sha256 e f came apart) r;
   parked = λ apart d. parked_still (apart_as sha256 e f came apart) d;
-  moment = rest.2 ∙ books.moment ∙ sym (moment_more None e more);
+  moment = rest.2 ∙ books.moment ∙ sym (moment-listed e more);
   came = λ r body is. came_for r body (nat_lt r (length k.listed)) refl (nat_lt r (length n)) refl (sym (kept_bodies k more okk few r) ∙ is);
   waits = λ d body is. waits_as sha256 e f came d body (books.waits d body (parked_was n okk k (length k.listed) (no_shorter k.listed more) d body is));
   told = λ r any. told_of r (books.told r (subst (Any (SaysHeld r)) rest.1 any)) (k.bodies r) refl;
@@ -69,10 +70,10 @@ books_amended e k more books ok okn = record {
     n = extended k.listed more
 
     came : comings (e ++ listed more ∷ []) ≡ comings e
-    came = comings_more [] e more
+    came = comings-listed e more
 
     rows : union (e ++ listed more ∷ []) ≡ extended (union e) more
-    rows = union_more [] e more
+    rows = union-listed e more
 
     rows_k : extended k.listed more ≡ extended (union e) more
     rows_k = ap (λ (m : List MRow). extended m more) books.listed
@@ -137,7 +138,7 @@ books_amended e k more books ok okn = record {
         ∙ ap (λ (b : List ℕ). holds_row r (found n r (reading b))) bodies
         ∙ x.1)
         (books.waits (row_at n r).digest body x.0)
-    came_for r body false new false lt is = absurd (no_answer is)
+    came_for r body false new false lt is = absurd (none-some _ is)
 
     told_of : (r : ℕ) → IsSome (k.bodies r) → (o : Option (List ℕ)) → k.bodies r ≡ o → IsSome ((amended_kept k more).bodies r)
     told_of r some None is = absurd (true≢false (sym some ∙ ap (λ (o : Option (List ℕ)). is_some o) is))
@@ -158,14 +159,14 @@ books_amended e k more books ok okn = record {
     by_source : (r : ℕ) (body : List ℕ) (s : Bool) → nat_lt r (length k.listed) ≡ s → (t : Bool) → nat_lt r (length (extended k.listed more)) ≡ t
         → cond s (k.bodies r) (cond t (judged (extended k.listed more) r (k.parked (row_at (extended k.listed more) r).digest)) None) ≡ Some body
         → Any (TellsOf (union f) r) k.receipts
-    by_source r body true old t lt is = any-weaker (TellsOf (union e) r) (TellsOf (union f) r) (still_tells r) k.receipts (books.held_told r (ap is_some is))
+    by_source r body true old t lt is = any_weaker (TellsOf (union e) r) (TellsOf (union f) r) (still_tells r) k.receipts (books.held_told r (ap is_some is))
     by_source r body false new true lt is =
         let inside : r < length n = grind (arith, nat_tests, lt) in
         any_of_row (union f) (row_at n r).digest r
         (ap (λ (m : List MRow). row_of m (row_at n r).digest) (rows ∙ sym rows_k) ∙ row_is okk inside refl)
         k.receipts
         (books.parked_told (row_at n r).digest (ap is_some (judged_some n r (k.parked (row_at n r).digest) body is).0))
-    by_source r body false new false lt is = absurd (no_answer is)
+    by_source r body false new false lt is = absurd (none-some _ is)
 
     by_body : (r : ℕ) (o : Option (List ℕ)) → (amended_kept k more).bodies r ≡ o → IsSome ((amended_kept k more).bodies r)
         → Any (TellsOf (union f) r) (amended_kept k more).receipts
@@ -184,14 +185,14 @@ books_amended e k more books ok okn = record {
 -- the books after a moment was set
 pub books_of_moment : (e : List EventValue) (k : Kept) (moment : Option ℤ) → AreBooks sha256 reading e k → AreBooks sha256 reading (e ++ moved moment ∷ []) (with_moment k moment)
 books_of_moment e k moment books =
-    let rows : union (e ++ moved moment ∷ []) ≡ union e = union_moved [] e moment in
-    let same : comings (e ++ moved moment ∷ []) ≡ comings e = comings_moved [] e moment in
+    let rows : union (e ++ moved moment ∷ []) ≡ union e = union-moved e moment in
+    let same : comings (e ++ moved moment ∷ []) ≡ comings e = comings-moved e moment in
     record {
       listed = books.listed ∙ sym rows;
       receipts = books.receipts ∙ sym (receipts_as sha256 e (e ++ moved moment ∷ []) same);
       bodies = λ apart r. books.bodies (apart_as sha256 e (e ++ moved moment ∷ []) same apart) r ∙ sym (held_as sha256 e (e ++ moved moment ∷ []) same (union e) rows r);
       parked = λ apart d. books.parked (apart_as sha256 e (e ++ moved moment ∷ []) same apart) d ∙ sym (parked_as sha256 e (e ++ moved moment ∷ []) same (union e) rows d);
-      moment = sym (moment_moved None e moment);
+      moment = sym (moment-moved e moment);
       came = λ r body is. came_as sha256 e (e ++ moved moment ∷ []) same r r body (λ c holds. ap (λ (m : List MRow). holds_by sha256 reading m r c) rows ∙ holds) (books.came r body is);
       waits = λ d body is. waits_as sha256 e (e ++ moved moment ∷ []) same d body (books.waits d body is);
       told = books.told;
@@ -202,7 +203,7 @@ books_of_moment e k moment books =
 -- a reply stays as it was when more rows are listed
 pub replies_stay : (e : List EventValue) (more : List MRow) (a : ArrivalValue) → reply_to sha256 reading (e ++ listed more ∷ []) a ≡ reply_to sha256 reading e a
 replies_stay e more a =
-    ap (λ (cs : List Coming). reply_alike (union (e ++ listed more ∷ [])) 1 a.number (sha256 a.body) (receipts_after sha256 reading [] (distinct sha256 reading cs))) (comings_more [] e more)
-    ∙ ap (λ (m : List MRow). reply_alike m 1 a.number (sha256 a.body) (receipts_of sha256 reading e)) (union_more [] e more)
+    ap (λ (cs : List Coming). reply_alike (union (e ++ listed more ∷ [])) 1 a.number (sha256 a.body) (receipts_after sha256 reading [] (distinct sha256 reading cs))) (comings-listed e more)
+    ∙ ap (λ (m : List MRow). reply_alike m 1 a.number (sha256 a.body) (receipts_of sha256 reading e)) (union-listed e more)
     ∙ reply_same (union e) (new_rows (union e) more) 1 a.number (sha256 a.body) (receipts_of sha256 reading e)
     (receipts_below sha256 reading (length (union e)) [] (distinct sha256 reading (comings e)) (λ c among. rows_short [] e c (distinct_among sha256 reading (comings e) c among)))

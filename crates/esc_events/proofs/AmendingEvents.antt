@@ -14,7 +14,8 @@ use Rattle.esc_events.specs.Assessment.{row_of}
 use Rattle.esc_events.specs.Receipts.{distinct, receipts_after, receipts_of}
 use Rattle.esc_events.specs.Stands.{Among, IsApart, CameFor, CameWith, body_of, holds_by, has_digest, is_lost, kept_arrivals, held_body, parked_body}
 use Rattle.esc_events.specs.Amended.{judged, amended_bodies, still_parked}
-use Rattle.esc_events.proofs.AmendingLemmas.{union_more, comings_more, find_same, find_never, holds_same, beyond_held, listed_still, unlisted_before, judged_first}
+use Rattle.esc_events.proofs.AmendingLemmas.{find_same, find_never, holds_same, beyond_held, listed_still, unlisted_before, judged_first}
+use Rattle.esc_events.proofs.EventLemmas.{union-listed, comings-listed}
 
 module _ (digest : List ℕ → List ℕ) where
   -- the body that is held of a row, and that is parked under a digest, of these arrivals
@@ -78,7 +79,7 @@ module _ (digest : List ℕ → List ℕ) where
     f = e ++ listed more ∷ []
 
     after : (r : ℕ) → held_body digest reading f r ≡ held_from n (kept_arrivals digest reading e) r
-    after r = held_as e f (comings_more [] e more) n (union_more [] e more) r
+    after r = held_as e f (comings-listed e more) n (union-listed e more) r
 
     pub held_is : IsApart digest reading e → (r : ℕ) → amended_bodies n (parked_body digest reading e) (length m) (held_body digest reading e) r ≡ held_body digest reading f r
     held_is apart r = by_old (nat_lt r (length m)) refl (nat_lt r (length n)) refl
@@ -102,7 +103,7 @@ module _ (digest : List ℕ → List ℕ) where
         by_old false is false lt = beyond (grind (arith, nat_tests, lt))
 
     pub parked_is : (d : List ℕ) → still_parked n (parked_body digest reading e) d ≡ parked_body digest reading f d
-    parked_is d = by_row (row_of m d) refl (row_of n d) refl ∙ sym (parked_as e f (comings_more [] e more) n (union_more [] e more) d)
+    parked_is d = by_row (row_of m d) refl (row_of n d) refl ∙ sym (parked_as e f (comings-listed e more) n (union-listed e more) d)
       where
         by_row : (o : Option ℕ) → row_of m d ≡ o → (p : Option ℕ) → row_of n d ≡ p
             → cond (is_some (row_of n d)) None (parked_from m (kept_arrivals digest reading e) d) ≡ parked_from n (kept_arrivals digest reading e) d

@@ -4,6 +4,8 @@ use Rattle.std.proofs.Common.{List, [], ◌∷◌, length, filter, Option, Some,
 use Rattle.std.specs.Str.{bytes_eq}
 use Rattle.std.specs.Cmp.Lexicographic.{bytes_decides}
 use Rattle.std.proofs.lemmas.Bool.Decides.{nat_tests}
+use Rattle.std.proofs.lemmas.Option.{none-some}
+use Rattle.std.proofs.lemmas.Bool.{eqb-true, false_from_ne_true}
 use Rattle.esc_manifest.specs.declared.row.MRow.{MRow}
 use Rattle.esc_manifest.specs.ManifestRows.{row_at}
 use Rattle.esc_manifest.specs.Accepted.{IsAccepted}
@@ -12,8 +14,7 @@ use Rattle.esc_events.specs.Assessment.{row_of}
 use Rattle.esc_events.specs.Stands.{Among}
 use Rattle.esc_events.specs.Amended.{judged, numbers_from, is_adopted, is_dropped, adopted_rows, dropped_rows}
 use Rattle.esc_events.specs.Amended.{amended_bodies, still_parked, with_listed, with_adopted, with_all_adopted, with_all_dropped}
-use Rattle.esc_events.proofs.AmendingLemmas.{equal_number, no_test, row_is, row_has, judged_some}
-use Rattle.esc_events.proofs.Searches.{no_answer}
+use Rattle.esc_events.proofs.AmendingLemmas.{row_is, row_has, judged_some}
 
 none_both : (t : Bool) (o : Option (List ℕ)) → o ≡ None → cond t None o ≡ None
 none_both true o none = refl
@@ -55,8 +56,8 @@ module _ (p : ℕ → Bool) where
 
       by_tests : (s : Bool) → (q == first) ≡ s → (t : Bool) → p first ≡ t → (suc first ≤ q → Among (filter p (numbers_from (suc first) count)) q)
           → Among (cond t (first ∷ filter p (numbers_from (suc first) count)) (filter p (numbers_from (suc first) count))) q
-      by_tests true same true passes rest = inl (equal_number q first same)
-      by_tests true same false fails rest = absurd (true≢false (sym is ∙ ap p (equal_number q first same) ∙ fails))
+      by_tests true same true passes rest = inl (eqb-true q first same)
+      by_tests true same false fails rest = absurd (true≢false (sym is ∙ ap p (eqb-true q first same) ∙ fails))
       by_tests false other true passes rest = inr (rest (later other))
       by_tests false other false fails rest = rest (later other)
 
@@ -151,7 +152,7 @@ module _ (n : List MRow) where
   gone_some parked (r ∷ rows) d body is = by_test (bytes_eq (digest_at r) d) (gone_some (parked_put parked (digest_at r) None) rows d body is)
     where
       by_test : (t : Bool) → cond t None (parked d) ≡ Some body → parked d ≡ Some body
-      by_test true e = absurd (no_answer e)
+      by_test true e = absurd (none-some _ e)
       by_test false e = e
 
   -- ---- bodies
@@ -182,7 +183,7 @@ module _ (n : List MRow) where
   adopted_here okn k first (r ∷ rows) rises few q body (inr there) parked =
       adopted_here okn (adopt k r) (suc r) rows rises.1 (λ s t. few s (inr t)) q body there
       (one_gone k r (digest_at r) (k.parked (digest_at r)) refl (digest_at q)
-      ∙ ap (λ (t : Bool). cond t None (k.parked (digest_at q))) (no_test (bytes_eq (digest_at r) (digest_at q)) other) ∙ parked)
+      ∙ ap (λ (t : Bool). cond t None (k.parked (digest_at q))) (false_from_ne_true (bytes_eq (digest_at r) (digest_at q)) other) ∙ parked)
     where
       other : bytes_eq (digest_at r) (digest_at q) ≡ true → ⊥
       other same =
@@ -235,7 +236,7 @@ module _ (n : List MRow) (okn : IsAccepted n) (k : Kept) (from : ℕ) (le : from
       none is = gone_none n (gone n k.parked adopted) dropped d (gone_none n k.parked adopted d is)
 
       other : row_of n d ≡ None → (s : ℕ) → s < length n → bytes_eq (digest_at n s) d ≡ false
-      other unlisted s lt = no_test (bytes_eq (digest_at n s) d) (λ same. no_answer (sym unlisted ∙ row_is okn lt ((bytes_decides (digest_at n s) d).0 same)))
+      other unlisted s lt = false_from_ne_true (bytes_eq (digest_at n s) d) (λ same. none-some _ (sym unlisted ∙ row_is okn lt ((bytes_decides (digest_at n s) d).0 same)))
 
       new : (q : ℕ) → row_of n d ≡ Some q → from ≤ q → (o : Option (List ℕ)) → k.parked d ≡ o → gone n (gone n k.parked adopted) dropped d ≡ None
       new q row far None is = none is
@@ -272,7 +273,7 @@ module _ (n : List MRow) (okn : IsAccepted n) (k : Kept) (from : ℕ) (le : from
   bodies_are few r = dropped_bodies n bodies_held dropped r ∙ by_tests (nat_lt r from) refl (nat_lt r (length n)) refl
     where
       stays : ((s : ℕ) → Among adopted s → r ≡ s → ⊥) → bodies_held.bodies r ≡ k.bodies r
-      stays never = adopted_others n rows_listed adopted r (λ s there. no_test (r == s) (λ same. never s there (equal_number r s same)))
+      stays never = adopted_others n rows_listed adopted r (λ s there. false_from_ne_true (r == s) (λ same. never s there (eqb-true r s same)))
 
       none : from ≤ r → (o : Option (List ℕ)) → k.bodies r ≡ o → o ≡ None
       none far None is = refl

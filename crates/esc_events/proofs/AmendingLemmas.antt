@@ -1,15 +1,15 @@
--- One more event in what is listed and what came; the row of a digest; and what bodies are judged
--- by, where rows are added.
-use Rattle.std.proofs.Common.{◌≡◌, inl, inr, ℕ, ℤ, suc, ◌<◌, ◌≤◌, Bool, true, false, cond, ◌==◌, Option, Some, None, option_map, IfSome, Result, Ok, Err}
+-- The row of a digest, and what bodies are judged by, where rows are added.
+use Rattle.std.proofs.Common.{◌≡◌, inl, inr, ℕ, suc, ◌<◌, ◌≤◌, Bool, true, false, cond, Option, Some, None, option_map, IfSome, Result, Ok, Err}
 use Rattle.std.proofs.Common.{List, [], ◌∷◌, ◌++◌, length, get_or, position, refl, sym, ap, ap₂, subst, ◌∙◌, arith, true≢false, length-append}
 use Rattle.std.specs.List.{position_or_len, find}
 use Rattle.std.specs.Str.{bytes_eq}
 use Rattle.std.specs.Cmp.Lexicographic.{bytes_decides}
-use Rattle.std.proofs.lemmas.Bool.Decides.{nat_tests}
 use Rattle.std.proofs.lemmas.Grind.{common_steps}
 use Rattle.std.proofs.lemmas.List.{get_or_append_left}
 use Rattle.std.proofs.lemmas.List.Quantifiers.{position-Some}
 use Rattle.std.proofs.lemmas.List.Sums.{fails_before_first}
+use Rattle.std.proofs.lemmas.Option.{same_Some, none-some}
+use Rattle.std.proofs.lemmas.Bool.{eqb-true}
 use Rattle.esc_tables.specs.DepositValue.{DepositValue}
 use Rattle.esc_tables.specs.Reading.{reading}
 use Rattle.esc_manifest.specs.declared.row.MRow.{MRow}
@@ -19,59 +19,12 @@ use Rattle.esc_manifest.specs.Extension.{new_rows, extended}
 use Rattle.esc_store.specs.ReplyValue.{ReplyValue, ReceiptValue, reply_kept, is_alike, reply_alike}
 use Rattle.esc_events.specs.declared.assessment.Assessment.{Assessment}
 use Rattle.esc_events.specs.declared.assessment.Assessment.TheVariants.{Differing, Holding}
-use Rattle.esc_events.specs.Events.{EventValue, Coming, coming, early_coming, union_after, comings_after, moment_after}
+use Rattle.esc_events.specs.Events.{EventValue, Coming, union_after, comings_after}
 use Rattle.esc_events.specs.Events.EventValue.{listed, arrived, moved, arrived_early}
 use Rattle.esc_events.specs.Assessment.{assessment, found_at, found, as_listed, row_of, held_row}
 use Rattle.esc_events.specs.Receipts.{is_row, holds_row, receipt_by, holds_any, receipt_for, receipts_after}
 use Rattle.esc_events.specs.Stands.{Among, body_of, holds_by, has_digest}
 use Rattle.esc_events.specs.Amended.{judged}
-use Rattle.esc_events.proofs.Searches.{same_answer, no_answer}
-
--- ---- one more manifest in a list of events
-
-pub union_more : (m : List MRow) (e : List EventValue) (more : List MRow) → union_after m (e ++ listed more ∷ []) ≡ extended (union_after m e) more
-union_more m [] more = refl
-union_more m (listed k ∷ e) more = union_more (extended m k) e more
-union_more m (arrived a ∷ e) more = union_more m e more
-union_more m (moved t ∷ e) more = union_more m e more
-union_more m (arrived_early a ∷ e) more = union_more m e more
-
-pub comings_more : (m : List MRow) (e : List EventValue) (more : List MRow) → comings_after m (e ++ listed more ∷ []) ≡ comings_after m e
-comings_more m [] more = refl
-comings_more m (listed k ∷ e) more = comings_more (extended m k) e more
-comings_more m (arrived a ∷ e) more = ap (λ (l : List Coming). coming m a ∷ l) (comings_more m e more)
-comings_more m (moved t ∷ e) more = comings_more m e more
-comings_more m (arrived_early a ∷ e) more = ap (λ (l : List Coming). early_coming m a ∷ l) (comings_more m e more)
-
-pub moment_more : (t : Option ℤ) (e : List EventValue) (more : List MRow) → moment_after t (e ++ listed more ∷ []) ≡ moment_after t e
-moment_more t [] more = refl
-moment_more t (listed k ∷ e) more = moment_more t e more
-moment_more t (arrived a ∷ e) more = moment_more t e more
-moment_more t (moved u ∷ e) more = moment_more u e more
-moment_more t (arrived_early a ∷ e) more = moment_more t e more
-
--- ---- one more moment
-
-pub union_moved : (m : List MRow) (e : List EventValue) (u : Option ℤ) → union_after m (e ++ moved u ∷ []) ≡ union_after m e
-union_moved m [] u = refl
-union_moved m (listed k ∷ e) u = union_moved (extended m k) e u
-union_moved m (arrived a ∷ e) u = union_moved m e u
-union_moved m (moved t ∷ e) u = union_moved m e u
-union_moved m (arrived_early a ∷ e) u = union_moved m e u
-
-pub comings_moved : (m : List MRow) (e : List EventValue) (u : Option ℤ) → comings_after m (e ++ moved u ∷ []) ≡ comings_after m e
-comings_moved m [] u = refl
-comings_moved m (listed k ∷ e) u = comings_moved (extended m k) e u
-comings_moved m (arrived a ∷ e) u = ap (λ (l : List Coming). coming m a ∷ l) (comings_moved m e u)
-comings_moved m (moved t ∷ e) u = comings_moved m e u
-comings_moved m (arrived_early a ∷ e) u = ap (λ (l : List Coming). early_coming m a ∷ l) (comings_moved m e u)
-
-pub moment_moved : (t : Option ℤ) (e : List EventValue) (u : Option ℤ) → moment_after t (e ++ moved u ∷ []) ≡ u
-moment_moved t [] u = refl
-moment_moved t (listed k ∷ e) u = moment_moved t e u
-moment_moved t (arrived a ∷ e) u = moment_moved t e u
-moment_moved t (moved s ∷ e) u = moment_moved s e u
-moment_moved t (arrived_early a ∷ e) u = moment_moved t e u
 
 -- ---- tests
 
@@ -80,13 +33,6 @@ same_bool true true f g = refl
 same_bool true false f g = absurd (true≢false (sym (f refl)))
 same_bool false true f g = absurd (true≢false (sym (g refl)))
 same_bool false false f g = refl
-
-pub equal_number : (r q : ℕ) → (r == q) ≡ true → r ≡ q
-equal_number r q is = grind (arith, nat_tests, is)
-
-pub no_test : (b : Bool) → (b ≡ true → ⊥) → b ≡ false
-no_test true never = absurd (never refl)
-no_test false never = refl
 
 -- ---- rows by digest
 
@@ -115,7 +61,7 @@ row_found m r (Some q) (Err n) is = absurd (true≢false (sym is))
 row_found m r (Some q) (Ok d) is = by_test _ is
   where
     by_test : (t : Bool) → is_row r (held_row (cond t (Holding q d) (Differing q))) ≡ true → Some q ≡ Some r
-    by_test true same = ap Some (equal_number q r same)
+    by_test true same = ap Some (eqb-true q r same)
     by_test false none = absurd (true≢false (sym none))
 
 -- ---- searches
@@ -134,12 +80,12 @@ find_never p (c ∷ l) never = by_test (p c) refl (find_never p l (λ b among. n
 
 -- what is judged to be the deposit of a row was there, and is it
 pub judged_some : (n : List MRow) (r : ℕ) (o : Option (List ℕ)) (body : List ℕ) → judged n r o ≡ Some body → (o ≡ Some body) × (holds_row r (found n r (reading body)) ≡ true)
-judged_some n r None body e = absurd (no_answer e)
+judged_some n r None body e = absurd (none-some _ e)
 judged_some n r (Some b) body e = by_test (holds_row r (found n r (reading b))) refl e
   where
     by_test : (t : Bool) → holds_row r (found n r (reading b)) ≡ t → cond t (Some b) None ≡ Some body → (Some b ≡ Some body) × (holds_row r (found n r (reading body)) ≡ true)
-    by_test true passes e = (e, ap (λ (x : List ℕ). holds_row r (found n r (reading x))) (sym (same_answer e)) ∙ passes)
-    by_test false fails e = absurd (no_answer e)
+    by_test true passes e = (e, ap (λ (x : List ℕ). holds_row r (found n r (reading x))) (sym (same_Some _ _ e)) ∙ passes)
+    by_test false fails e = absurd (none-some _ e)
 
 -- ---- what bodies hold, where rows are added
 

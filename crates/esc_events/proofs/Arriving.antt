@@ -7,6 +7,8 @@ use Rattle.std.specs.Ordering.{nat_cmp, eq_by_cmp}
 use Rattle.std.specs.Cmp.{nat_cmp_total, eq_by_cmp_equiv}
 use Rattle.std.specs.Cmp.Lexicographic.{bytes_decides}
 use Rattle.std.proofs.lemmas.Map.Views.{list_any-from_Contains, Contains-from_any}
+use Rattle.std.proofs.lemmas.Option.{same_Some}
+use Rattle.std.proofs.lemmas.Bool.{eqb-true}
 use Rattle.sha2.specs.Sha256.{sha256}
 use Rattle.esc_tables.specs.DepositValue.{DepositValue}
 use Rattle.esc_tables.specs.Reading.{reading}
@@ -27,11 +29,11 @@ use Rattle.esc_events.specs.Parks.{IsParking, with_parking}
 use Rattle.esc_events.specs.Receipts.{holds_row, holds, holds_any, is_among, distinct, receipt_by, receipt_for, receipts_after}
 use Rattle.esc_events.specs.Stands.{TellsOf, holds_by, held_body, parked_body, IsApart, AreBooks}
 use Rattle.esc_events.specs.Taking.{IsNew, IsAgain}
+use Rattle.esc_events.specs.HeldLaws.{same_self, exact, holding_listed}
 use Rattle.esc_events.proofs.AmendingLemmas.{same_bool, row_found}
 use Rattle.esc_events.proofs.HeldReceipts.{holds_from_says, any_holds, any_says}
-use Rattle.esc_events.proofs.HeldRows.{same_self, same_number, exact, is_row_of, listed_row, unlisted_row}
+use Rattle.esc_events.proofs.HeldRows.{is_row_of, listed_row, unlisted_row}
 use Rattle.esc_events.proofs.OneArrival.{OldOrHolds, OldOrHas, old_body, new_body, old_parked, new_parked, repeated, books_again, books_with}
-use Rattle.esc_events.proofs.Searches.{same_answer}
 use Rattle.esc_events.proofs.Telling.{any_of_row, told_again}
 
 -- ---- the receipt
@@ -131,7 +133,7 @@ module _ (e : List EventValue) (a : ArrivalValue) (k : Kept) (books : AreBooks s
   put_waits d body put = by_test (bytes_eq key d) refl put
     where
       by_test : (b : Bool) → bytes_eq key d ≡ b → cond b (Some a.body) (k.parked d) ≡ Some body → OldOrHas sha256 reading k a d body
-      by_test true same put = inr (sym key_is ∙ (bytes_decides key d).0 same, same_answer put)
+      by_test true same put = inr (sym key_is ∙ (bytes_decides key d).0 same, same_Some _ _ put)
       by_test false other put = inl put
 
 -- it is parked, unless it is already
@@ -175,9 +177,6 @@ books_parked e a k known receipt is parking at free = by_parking parking at free
 
 -- ---- a body that is held for a row
 
-holding_listed : (row : ℕ) (d : DepositValue) → Holding row d ≡ Unlisted → ⊥
-holding_listed row d same = true≢false (ap (λ (f : Assessment). is_some (held_row f)) same)
-
 still_some : (row : ℕ) (body : List ℕ) (bodies : ℕ → Option (List ℕ)) (r : ℕ) → IsSome (bodies r) → IsSome (body_put bodies row body r)
 still_some row body bodies r some = by_test (r == row)
   where
@@ -195,18 +194,18 @@ module _ (e : List EventValue) (a : ArrivalValue) (row : ℕ) (d : DepositValue)
     where
       by_test : (b : Bool) → (r == row) ≡ b → cond b (Some a.body) (k.bodies r) ≡ held_body sha256 reading (e ++ arrived a ∷ []) r
       by_test true same =
-          let at : r ≡ row = same_number r row same in
+          let at : r ≡ row = eqb-true r row same in
           new_body sha256 reading e k a books apart r (ap k.bodies at ∙ none) (put_holds r (sym at))
       by_test false other = old_body sha256 reading e k a books apart r (λ holds. absurd (true≢false (sym (again holds) ∙ other)))
         where
           again : holds_by sha256 reading (union e) r (coming (union e) a) ≡ true → (r == row) ≡ true
-          again holds = ap (λ (q : ℕ). r == q) (same_answer (held_found e a (Holding row d) found_is r holds)) ∙ same_self r
+          again holds = ap (λ (q : ℕ). r == q) (same_Some _ _ (held_found e a (Holding row d) found_is r holds)) ∙ same_self r
 
   put_comes : (k : Kept) (r : ℕ) (body : List ℕ) → body_put k.bodies row a.body r ≡ Some body → OldOrHolds sha256 reading e k a r body
   put_comes k r body put = by_test (r == row) refl put
     where
       by_test : (b : Bool) → (r == row) ≡ b → cond b (Some a.body) (k.bodies r) ≡ Some body → OldOrHolds sha256 reading e k a r body
-      by_test true same put = inr (put_holds r (sym (same_number r row same)), same_answer put)
+      by_test true same put = inr (put_holds r (sym (eqb-true r row same)), same_Some _ _ put)
       by_test false other put = inl put
 
 -- the body is the deposit of a row that has no body yet
@@ -224,7 +223,7 @@ books_held e a k row d known receipt is none =
     told : (r : ℕ) → IsSome (k.bodies r) ⊎ SaysHeld r receipt → IsSome (body_put k.bodies row a.body r)
     told r (inl some) = still_some row a.body k.bodies r some
     told r (inr says) =
-        let same : row ≡ r = same_answer (says_found is r says) in
+        let same : row ≡ r = same_Some _ _ (says_found is r says) in
         ap (λ b. is_some (cond b (Some a.body) (k.bodies r))) (ap (λ (q : ℕ). r == q) same ∙ same_self r)
 
 -- a duplicate of an earlier arrival changes nothing, unless that one's verdict is A2
@@ -306,6 +305,6 @@ books_held_again e a k row d reply is none =
       where
         by_test : (b : Bool) → (r == row) ≡ b → IsSome (cond b (Some a.body) (k.bodies r)) → Any (TellsOf (union e) r) k.receipts
         by_test true same some =
-            any_of_row (union e) (sha256 a.body) r (lists ∙ ap Some (sym (same_number r row same))) k.receipts
+            any_of_row (union e) (sha256 a.body) r (lists ∙ ap Some (sym (eqb-true r row same))) k.receipts
             (told_again (union e) a.number (sha256 a.body) 1 k.receipts reply is.kept is.verdict)
         by_test false other some = is.stood.books.held_told r some

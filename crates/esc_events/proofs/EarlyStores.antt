@@ -4,12 +4,14 @@ use Rattle.std.specs.List.{find, list_any, Any}
 use Rattle.std.specs.Str.{bytes_eq}
 use Rattle.std.specs.Cmp.Lexicographic.{bytes_decides}
 use Rattle.std.proofs.lemmas.Bool.{and_parts}
+use Rattle.std.proofs.lemmas.Option.{same_Some, none-some}
 use Rattle.sha2.specs.Sha256.{sha256}
 use Rattle.esc_tables.specs.Reading.{reading}
 use Rattle.esc_manifest.specs.declared.row.MRow.{MRow}
 use Rattle.esc_manifest.specs.Extension.{extended}
 use Rattle.esc_chain.specs.Chain.{IsLatestChainAt}
 use Rattle.esc_store.specs.Kept.{Kept, SaysHeld}
+use Rattle.esc_store.specs.ListLaws.{any_weaker}
 use Rattle.esc_events.specs.ArrivalValue.{ArrivalValue}
 use Rattle.esc_events.specs.Events.{EventValue, Coming, early_coming, union_after, union, comings_after, comings, moment_after, moment_of}
 use Rattle.esc_events.specs.Events.EventValue.{arrived_early}
@@ -20,10 +22,9 @@ use Rattle.esc_events.specs.Stands.{Among, IsApart, CameFor, StandsFor, TellsOf,
 use Rattle.esc_events.proofs.AmendingLemmas.{row_has, row_found, find_never}
 use Rattle.esc_events.proofs.Distinct.{alike_laws, any_alike}
 use Rattle.esc_events.proofs.EventLemmas.{none_is_listed}
-use Rattle.esc_events.proofs.HeldReceipts.{any_holds, any_says, any-weaker}
+use Rattle.esc_events.proofs.HeldReceipts.{any_holds, any_says}
 use Rattle.esc_events.proofs.Lost.{counted_came, counted_kept, came_counts}
 use Rattle.esc_events.proofs.Members.{any_of, one_of, first_of, distinct_among, some_any, any_some}
-use Rattle.esc_events.proofs.Searches.{same_answer, no_answer}
 
 -- ---- the events
 
@@ -169,11 +170,11 @@ stands_early m l k stood = record {
     parked = λ apart d. stood.parked d ∙ none_parked m l d;
     moment = stood.moment ∙ sym (moment_is m l);
     came = λ r body at. came_for r body (find (holds sha256 reading r) (first m l)) refl (sym (stood.bodies r) ∙ at);
-    waits = λ d body at. absurd (no_answer (sym (stood.parked d) ∙ at));
+    waits = λ d body at. absurd (none-some _ (sym (stood.parked d) ∙ at));
     told = λ r any.
         ap is_some (stood.bodies r)
         ∙ any_some (holds sha256 reading r) (first m l) (any_holds sha256 reading r [] (first m l) (subst (Any (SaysHeld r)) stood.receipts any));
-    held_told = λ r some. any-weaker (SaysHeld r) (TellsOf (union (events_before m l)) r) (λ receipt says. inl says) k.receipts
+    held_told = λ r some. any_weaker (SaysHeld r) (TellsOf (union (events_before m l)) r) (λ receipt says. inl says) k.receipts
         (subst (Any (SaysHeld r)) (sym stood.receipts) (any_says sha256 reading r [] (first m l) (some_any (holds sha256 reading r) (first m l) (sym (ap is_some (stood.bodies r)) ∙ some))));
     parked_told = λ d some. absurd (true≢false (sym some ∙ ap is_some (stood.parked d)));
   };
@@ -186,8 +187,8 @@ stands_early m l k stood = record {
   where
     came_for : (r : ℕ) (body : List ℕ) (o : Option Coming) → find (holds sha256 reading r) (first m l) ≡ o → body_of (find (holds sha256 reading r) (first m l)) ≡ Some body
         → CameFor sha256 reading (events_before m l) r body
-    came_for r body None none at = absurd (no_answer (sym (ap body_of none) ∙ at))
+    came_for r body None none at = absurd (none-some _ (sym (ap body_of none) ∙ at))
     came_for r body (Some c) is at =
         let x = first_of (holds sha256 reading r) (first m l) c is in
         let z = holder_counts m l r c x.0 x.1 in
-        record { arrival = c; among = z.0; holds = z.1; is_body = same_answer (sym (ap body_of is) ∙ at) }
+        record { arrival = c; among = z.0; holds = z.1; is_body = same_Some _ _ (sym (ap body_of is) ∙ at) }

@@ -1,10 +1,10 @@
 -- The rows that bodies hold.
-use Rattle.std.proofs.Common.{◌≡◌, ℕ, Bool, true, false, ◌||◌, ◌==◌, List, [], ◌∷◌, Option, Some, None, Result, Ok, Err, cond, refl, sym, ap, ◌∙◌, arith, true≢false, is_some}
+use Rattle.std.proofs.Common.{◌≡◌, ℕ, Bool, true, false, ◌||◌, List, [], ◌∷◌, Option, Some, None, Result, Ok, Err, cond, refl, sym, ap, ◌∙◌, true≢false, is_some}
 use Rattle.std.specs.List.{list_any}
 use Rattle.std.specs.FinSet as set
 use Rattle.std.specs.Ordering.{nat_cmp, eq_by_cmp}
 use Rattle.std.specs.Cmp.{nat_cmp_total}
-use Rattle.std.proofs.lemmas.Bool.Decides.{nat_tests}
+use Rattle.std.proofs.lemmas.Bool.{eqb-true}
 use Rattle.esc_tables.specs.DepositValue.{DepositValue}
 use Rattle.esc_manifest.specs.declared.row.MRow.{MRow}
 use Rattle.esc_events.specs.declared.assessment.Assessment.TheVariants.{Unlisted, Differing, Holding}
@@ -12,23 +12,11 @@ use Rattle.esc_events.specs.Events.{Coming}
 use Rattle.esc_events.specs.Assessment.{assessment, found_at, held_row}
 use Rattle.esc_events.specs.Receipts.{is_row}
 use Rattle.esc_events.specs.Stands.{with_some, holds_by, rows_of}
-
-pub same_test : (q r : ℕ) → eq_by_cmp nat_cmp r q ≡ (q == r)
-same_test q r = grind (arith, nat_tests)
-
-pub same_self : (q : ℕ) → (q == q) ≡ true
-same_self q = grind (arith, nat_tests)
-
-pub same_number : (r q : ℕ) → (r == q) ≡ true → r ≡ q
-same_number r q is = grind (arith, nat_tests, is)
-
--- numbers that compare as equal are equal
-pub exact : (x y : ℕ) → eq_by_cmp nat_cmp x y ≡ true → x ≡ y
-exact x y e = sym (same_number y x (sym (same_test y x) ∙ e))
+use Rattle.esc_events.specs.HeldLaws.{same_test}
 
 pub is_row_of : (r : ℕ) (row : Option ℕ) → is_row r row ≡ true → row ≡ Some r
 is_row_of r None is = absurd (true≢false (sym is))
-is_row_of r (Some q) is = ap Some (same_number q r is)
+is_row_of r (Some q) is = ap Some (eqb-true q r is)
 
 -- a row lists the body exactly if that is found
 pub listed_row : (m : List MRow) (row : Option ℕ) (told : Result DepositValue ℕ) → (found_at m row told ≡ Unlisted → ⊥) → is_some row ≡ true

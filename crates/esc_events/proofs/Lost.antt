@@ -2,6 +2,7 @@
 use Rattle.std.proofs.Common.{◌≡◌, inl, inr, ℕ, suc, Bool, true, false, cond, not, filter, List, [], ◌∷◌, ◌++◌, Option, Some, None, is_none, Result, refl, sym, ap, ◌∙◌, true≢false}
 use Rattle.std.proofs.lemmas.List.Elements.{filter-append}
 use Rattle.std.proofs.lemmas.Bool.{and_parts}
+use Rattle.std.proofs.lemmas.Option.{same_Some, none-some}
 use Rattle.esc_tables.specs.DepositValue.{DepositValue}
 use Rattle.esc_manifest.specs.declared.row.MRow.{MRow}
 use Rattle.esc_store.specs.declared.reply.Verdict.TheVariants.{A2}
@@ -17,7 +18,6 @@ use Rattle.esc_events.proofs.Distinct.{kept_one}
 use Rattle.esc_events.proofs.EventLemmas.{comings-arrived}
 use Rattle.esc_events.proofs.Members.{passed_among, passed_test, among_passed}
 use Rattle.esc_events.proofs.MovingLemmas.{among_before}
-use Rattle.esc_events.proofs.Searches.{same_answer, no_answer}
 
 no_row_is : (o : Option ℕ) → is_none o ≡ true → o ≡ None
 no_row_is None is = refl
@@ -73,7 +73,7 @@ module _ (digest : List ℕ → List ℕ) (reads : List ℕ → Result DepositVa
   pub alike_counts : (m : List MRow) (a : Coming) (n : ℕ) (before ds : List Coming) (y : ReplyValue)
       → reply_alike m n a.number (digest a.body) (receipts_after digest reads before ds) ≡ Some y → (y.verdict ≡ A2 → ⊥)
       → (c : Coming) × Among ds c × (alike digest reads a c ≡ true) × (is_lost digest reads c ≡ false)
-  alike_counts m a n before [] y e other = absurd (no_answer e)
+  alike_counts m a n before [] y e other = absurd (none-some _ e)
   alike_counts m a n before (c ∷ ds) y e other =
       by_test (is_alike a.number (digest a.body) (receipt_for digest reads before c)) refl e
       (λ behind. alike_counts m a (suc n) (before ++ c ∷ []) ds y behind other)
@@ -88,5 +88,5 @@ module _ (digest : List ℕ → List ℕ) (reads : List ℕ → Result DepositVa
       by_test : (b : Bool) → is_alike a.number (digest a.body) (receipt_for digest reads before c) ≡ b
           → cond b (Some (reply_kept m n (receipt_for digest reads before c))) reply_behind ≡ Some y
           → (reply_behind ≡ Some y → KeptAlike a ds) → KeptAlike a (c ∷ ds)
-      by_test true like e rest = (c, inl refl, sym (kept_one digest reads before c a) ∙ like, kept (same_answer e) (is_lost digest reads c) refl)
+      by_test true like e rest = (c, inl refl, sym (kept_one digest reads before c a) ∙ like, kept (same_Some _ _ e) (is_lost digest reads c) refl)
       by_test false unlike e rest = let x = rest e in (x.0, inr x.1, x.2, x.3)

@@ -1,20 +1,18 @@
 -- The arrivals of a list.
 use Rattle.std.proofs.Common.{◌≡◌, inl, inr, ℕ, Bool, true, false, cond, not, filter, ◌||◌, List, [], ◌∷◌, ◌++◌, Option, Some, None, is_some, Result, refl, sym, ap, ◌∙◌, true≢false}
 use Rattle.std.specs.List.{list_any, find}
+use Rattle.std.proofs.lemmas.Bool.{or_right}
+use Rattle.std.proofs.lemmas.Option.{same_Some}
 use Rattle.esc_tables.specs.DepositValue.{DepositValue}
 use Rattle.esc_events.specs.Events.{Coming}
 use Rattle.esc_events.specs.Receipts.{alike, distinct}
 use Rattle.esc_events.specs.Stands.{Among, body_of}
-use Rattle.esc_events.proofs.Searches.{find_some, find_none, same_answer}
+use Rattle.esc_events.proofs.Searches.{find_some, find_none}
 
 pub any_of : (p : Coming → Bool) (l : List Coming) (a : Coming) → Among l a → p a ≡ true → list_any p l ≡ true
 any_of p [] a among e = absurd among
 any_of p (b ∷ l) a (inl is) e = ap (λ (x : Coming). p x || list_any p l) (sym is) ∙ ap (λ t. t || list_any p l) e
-any_of p (b ∷ l) a (inr there) e = ap (λ t. p b || t) (any_of p l a there e) ∙ or_true (p b)
-  where
-    or_true : (x : Bool) → (x || true) ≡ true
-    or_true true = refl
-    or_true false = refl
+any_of p (b ∷ l) a (inr there) e = ap (λ t. p b || t) (any_of p l a there e) ∙ or_right (p b) true refl
 
 pub one_of : (p : Coming → Bool) (l : List Coming) → list_any p l ≡ true → (a : Coming) × Among l a × (p a ≡ true)
 one_of p [] e = absurd (true≢false (sym e))
@@ -30,7 +28,7 @@ first_of p [] y e = absurd (cc)
 first_of p (b ∷ l) y e = by_test (p b) refl e (first_of p l y)
   where
     by_test : (t : Bool) → p b ≡ t → cond t (Some b) (find p l) ≡ Some y → (find p l ≡ Some y → Among l y × (p y ≡ true)) → Among (b ∷ l) y × (p y ≡ true)
-    by_test true is e rest = (inl (sym (same_answer e)), ap p (sym (same_answer e)) ∙ is)
+    by_test true is e rest = (inl (sym (same_Some _ _ e)), ap p (sym (same_Some _ _ e)) ∙ is)
     by_test false is e rest = let x = rest e in (inr x.0, x.1)
 
 pub among-front : (l m : List Coming) (a : Coming) → Among l a → Among (l ++ m) a

@@ -29,10 +29,10 @@ use Rattle.esc_events.specs.Events.{EventValue, Coming, union, comings_after}
 use Rattle.esc_events.specs.Events.EventValue.{listed, arrived, moved, arrived_early}
 use Rattle.esc_events.specs.Works.{no_work}
 use Rattle.esc_events.specs.Stands.{Among, HaveBodies, holds_by, body_of, kept_arrivals, held_rows, held_body, deposit_of, deposits_of}
+use Rattle.esc_events.specs.HeldLaws.{same_self, exact}
 use Rattle.esc_events.proofs.AmendingLemmas.{same_bool, row_held}
 use Rattle.esc_events.proofs.FrontLemmas.{AreOf}
 use Rattle.esc_events.proofs.HeldRows as rows
-use Rattle.esc_events.proofs.HeldRows.{same_self, exact}
 
 -- ---- each row of a list
 abbrev pub Each : (ℕ → Type 0) → List ℕ → Type 0

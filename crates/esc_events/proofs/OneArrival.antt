@@ -10,6 +10,7 @@ use Rattle.esc_tables.specs.DepositValue.{DepositValue}
 use Rattle.esc_store.specs.declared.reply.Verdict.TheVariants.{A2}
 use Rattle.esc_store.specs.Kept.{Kept, SaysHeld, TellsUnlisted, with_receipt}
 use Rattle.esc_store.specs.ReplyValue.{ReplyValue, ReceiptValue, reply_kept, is_alike, reply_alike}
+use Rattle.esc_store.specs.ListLaws.{any_front_or_last, any_front, any_last}
 use Rattle.esc_events.specs.ArrivalValue.{ArrivalValue}
 use Rattle.esc_events.specs.Events.{EventValue, Coming, union, coming, comings}
 use Rattle.esc_events.specs.Events.EventValue.{arrived}
@@ -19,7 +20,7 @@ use Rattle.esc_events.specs.Stands.{Among, TellsOf, body_of, holds_by, has_diges
 use Rattle.esc_events.proofs.EventLemmas.{union-arrived, comings-arrived, moment-arrived}
 use Rattle.esc_events.proofs.Searches.{none_alike, some_alike, alike-last, find-push-old, find-push-new}
 use Rattle.esc_events.proofs.Distinct.{alike_laws, any_alike, distinct-push, receipts-push, kept_any}
-use Rattle.esc_events.proofs.HeldReceipts.{split-last, any-front, any-last, says_from_holds}
+use Rattle.esc_events.proofs.HeldReceipts.{says_from_holds}
 use Rattle.esc_events.proofs.Lost.{kept_arrivals-arrived, came_counts, alike_counts}
 use Rattle.esc_events.proofs.Members.{any_of, among-front, among-last, distinct_among, some_any, any_some, no_first}
 
@@ -214,9 +215,6 @@ module _ (digest : List ℕ → List ℕ) (reads : List ℕ → Result DepositVa
               ap is_some (parked_now apart d unlisted)
               ∙ any_some (under d) counts (any_of (under d) counts x.0 x.1 ((bytes_decides (digest x.0.body) d).1 (ap digest x.2 ∙ same)))
 
-      pub repeated_reply : reply_to digest reads then a ≡ Some y
-      repeated_reply = reply_by k.receipts (ap (receipts_after digest reads []) no_more ∙ sym books.receipts) ∙ there
-
     -- ---- an arrival that is no duplicate
     module _ (none : reply_alike (union e) 1 a.number (digest a.body) k.receipts ≡ None) where
       pub one_more : after ≡ before ++ came ∷ []
@@ -259,7 +257,7 @@ module _ (digest : List ℕ → List ℕ) (reads : List ℕ → Result DepositVa
         moment = books.moment ∙ sym (moment-arrived e a);
         came = λ r body at. came_for r body (come r body at);
         waits = λ d body at. came_with d body (wait d body at);
-        told = λ r any. by_receipt r (split-last (SaysHeld r) k.receipts receipt any);
+        told = λ r any. by_receipt r (any_front_or_last (SaysHeld r) k.receipts receipt any);
         held_told = λ r some. subst (λ (m : List MRow). Any (TellsOf m r) (k.receipts ++ receipt ∷ [])) (sym (union-arrived e a)) (by_body r (bodies r) refl some);
         parked_told = λ d some. by_parked d (tells d some);
       }
@@ -269,17 +267,17 @@ module _ (digest : List ℕ → List ℕ) (reads : List ℕ → Result DepositVa
           by_receipt r (inr new) = tell r (inr new)
 
           by_source : (r : ℕ) (body : List ℕ) → OldOrHolds e k a r body → Any (TellsOf (union e) r) (k.receipts ++ receipt ∷ [])
-          by_source r body (inl old) = any-front (TellsOf (union e) r) k.receipts receipt (books.held_told r (ap is_some old))
+          by_source r body (inl old) = any_front (TellsOf (union e) r) k.receipts receipt (books.held_told r (ap is_some old))
           by_source r body (inr new) =
               let found = found_then digest reads came in
               let again = holds_any digest reads before (held_row found) in
               let says : SaysHeld r receipt = subst (SaysHeld r) (sym is) (says_from_holds r a.number (digest a.body) false found again new.0) in
-              any-last (TellsOf (union e) r) k.receipts receipt (inl says)
+              any_last (TellsOf (union e) r) k.receipts receipt (inl says)
 
           by_body : (r : ℕ) (o : Option (List ℕ)) → bodies r ≡ o → IsSome (bodies r) → Any (TellsOf (union e) r) (k.receipts ++ receipt ∷ [])
           by_body r None at some = absurd (true≢false (sym some ∙ ap is_some at))
           by_body r (Some body) at some = by_source r body (come r body at)
 
           by_parked : (d : List ℕ) → IsSome (k.parked d) ⊎ TellsUnlisted d receipt → Any (TellsUnlisted d) (k.receipts ++ receipt ∷ [])
-          by_parked d (inl old) = any-front (TellsUnlisted d) k.receipts receipt (books.parked_told d old)
-          by_parked d (inr new) = any-last (TellsUnlisted d) k.receipts receipt new
+          by_parked d (inl old) = any_front (TellsUnlisted d) k.receipts receipt (books.parked_told d old)
+          by_parked d (inr new) = any_last (TellsUnlisted d) k.receipts receipt new

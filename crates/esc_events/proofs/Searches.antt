@@ -4,16 +4,6 @@ use Rattle.std.specs.List.{list_any, find}
 use Rattle.esc_manifest.specs.declared.row.MRow.{MRow}
 use Rattle.esc_store.specs.ReplyValue.{ReplyValue, ReceiptValue, reply_kept, is_alike, reply_alike}
 
-pub same_answer : {X : Type 0} {x y : X} → Some x ≡ Some y → x ≡ y
-same_answer {X = X} {x = x} e = ap item e
-  where
-    item : Option X → X
-    item None = x
-    item (Some z) = z
-
-pub no_answer : {X : Type 0} {x : X} → None ≡ Some x → ⊥
-no_answer e = cc
-
 pub find_some : {X : Type 0} (p : X → Bool) (xs : List X) (y : X) → find p xs ≡ Some y → list_any p xs ≡ true
 find_some p [] y e = absurd (cc)
 find_some p (x ∷ xs) y e = by_test (p x) (find_some p xs y) e

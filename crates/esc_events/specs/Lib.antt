@@ -14,3 +14,4 @@ pub mod Stands
 pub mod Taking
 pub mod Works
 pub mod Laws
+pub mod HeldLaws

@@ -8,6 +8,7 @@ use Rattle.std.proofs.lemmas.Bool.{cases_Bool, eqb-true, and_parts}
 use Rattle.std.proofs.lemmas.Bool.Decides.{nat_tests}
 use Rattle.std.proofs.lemmas.Slice.Eq.{bytes_eq-Decides}
 use Rattle.std.proofs.lemmas.List.Elements.{All-from_recursion}
+use Rattle.std.proofs.lemmas.Cmp.{nat_list_eq_equiv}
 use Rattle.sqlite_keyed.proofs.ListLemmas.{all_weaker}
 use Rattle.esc_envelope.specs.declared.kind.Kind.{Kind}
 use Rattle.esc_envelope.specs.declared.kind.Kind.TheVariants.{Registrar, Contact, Host, Domain, Idn, Nndn}
@@ -115,15 +116,6 @@ there f kind q (o ∷ os) = by_kind (o.kind == kind_rank kind) (f (name kind o))
   by_kind true None of none more = passed f kind q o os (entries_in f kind os) (λ there. here of there ∙ none) more
   by_kind true (Some x) of some more = taken_up f kind q o os (entries_in f kind os) x of (λ there. here of there ∙ some) more
 
-bytes_turned : (p q : List ℕ) → bytes_eq p q ≡ bytes_eq q p
-bytes_turned p q = elim (cases_Bool (bytes_eq p q)) [
-  | inl is ↦ is ∙ sym ((bytes_eq-Decides q p).1 (sym ((bytes_eq-Decides p q).0 is)))
-  | inr other ↦ elim (cases_Bool (bytes_eq q p)) [
-    | inl is ↦ (let e : true ≡ false = sym ((bytes_eq-Decides p q).1 (sym ((bytes_eq-Decides q p).0 is))) ∙ other in absurd cc)
-    | inr also ↦ other ∙ sym also
-  ]
-]
-
 -- ---- each once
 
 apart_from : (f : Objects) (kind : Kind) (a : ObjectRow) (os : List ObjectRow) → (a.kind == kind_rank kind) ≡ true → AllByRecursion (λ (b : ObjectRow). is_object_at b.kind b.key a ≡ false) os → AllByRecursion (λ y. key_eq (name kind a) y ≡ false) (keys_of (entries_in f kind os))
@@ -134,7 +126,7 @@ apart_from f kind a (b ∷ os) of all = go (b.kind == kind_rank kind) (f (name k
     same_sides : is_object_at b.kind a.key b ≡ is_object_at b.kind b.key a
     same_sides =
         let kinds : a.kind ≡ b.kind = eqb-true a.kind (kind_rank kind) of ∙ sym (eqb-true b.kind (kind_rank kind) also) in
-        rw kinds (ap (λ t. (b.kind == b.kind) && t) (bytes_turned b.key a.key))
+        rw kinds (ap (λ t. (b.kind == b.kind) && t) (nat_list_eq_equiv.symm b.key a.key))
 
   go : (t : Bool) (x : Option ObjectValue) → (b.kind == kind_rank kind) ≡ t → AllByRecursion (λ y. key_eq (name kind a) y ≡ false) (keys_of (entries_in f kind os)) → AllByRecursion (λ y. key_eq (name kind a) y ≡ false) (keys_of (picked (name kind b) t x (entries_in f kind os)))
   go true (Some x) also more = (other also, more)

@@ -25,12 +25,6 @@ pub err_goes : {X E : Type 0} (r : Result X E) (P Q : Type 0) → OnErr r P → 
 err_goes (Ok x) P Q h f = tt
 err_goes (Err e) P Q h f = f h
 
-pub at_ok : {X E : Type 0} (r : Result X E) (x : X) (P : Type 0) → r ≡ Ok x → OnOk r P → P
-at_ok r x P is h = rw is at h
-
-pub at_said : {X E : Type 0} (r : Result X E) (x : X) (P : X → Type 0) → r ≡ Ok x → IfOk r P → P x
-at_said r x P is h = rw is at h
-
 pub at_err : {X E : Type 0} (r : Result X E) (P : Type 0) → IsErr r → OnErr r P → P
 at_err (Ok x) P bad h = let no : ⊥ = cc in absurd no
 at_err (Err e) P bad h = h

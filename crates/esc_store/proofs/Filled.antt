@@ -31,8 +31,8 @@ use Rattle.esc_store.specs.Pages.{entry_row, stored_row, AreRowsOf}
 use Rattle.esc_store.specs.TypedRows.{kind_at, record_at, image_kept, IsRegistry}
 use Rattle.esc_store.specs.Filling.{after_filling, after_noting, no_image, image_now}
 use Rattle.esc_store.specs.Standing.{ChangeOf, Follows, IsHonest, store_in}
+use Rattle.esc_store.specs.StandingLaws.{goes_then}
 use Rattle.esc_store.proofs.Gathering.{tests_alike, record_here, image_here}
-use Rattle.esc_store.proofs.Parking.{goes_then}
 use Rattle.esc_store.proofs.Parts.{Turns, turning}
 use Rattle.esc_store.proofs.Registries.{no_kind, number_of_kind, in_branch, has_record}
 

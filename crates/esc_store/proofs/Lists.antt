@@ -16,7 +16,7 @@ use Rattle.esc_store.specs.TypedRows.{IsBooks, IsRegistry, listed_row, listed_fr
 use Rattle.sqlite_trees.specs.declared.store.Store.{Ghosts}
 use Rattle.esc_store.specs.declared.store.Store.{Store}
 use Rattle.esc_store.specs.Standing.{ChangeOf, RestIn, IsUncommitted, GoesOn}
-use Rattle.esc_store.proofs.Standings.{survives_same}
+use Rattle.esc_store.specs.StandingLaws.{survives_same}
 use Rattle.esc_store.proofs.Manifests.{listed_push}
 use Rattle.esc_store.proofs.RowSteps.{Becoming}
 
@@ -44,7 +44,7 @@ registry_listed s row c c' turn it = subst (λ x. IsRegistry x s) (sym turn.is) 
 
 -- nothing was called
 pub unchanged : {S : Type 0} {g : Ghosts S} {a : ChangeOf S} → IsUncommitted g a a
-unchanged = record { same_reference = refl; manifest = refl; writes = refl; survives = survives_same _ _; began = λ k h. h }
+unchanged = record { same_reference = refl; manifest = refl; writes = refl; survives = survives_same; began = λ k h. h }
 
 -- a part that lists no rows, as one that may
 pub uncommitted : {S : Type 0} {g : Ghosts S} {a b : ChangeOf S} → GoesOn g a b → IsUncommitted g a b

@@ -1,7 +1,8 @@
 -- What a read within a change leaves as it was, and what it says.
 use Rattle.std.proofs.Common.{◌≡◌, List, Option, true, refl, sym, subst, ◌∙◌}
-use Rattle.std.specs.Prelude.{Result, Ok, Err, IfOk, IfErr, OnErr}
+use Rattle.std.specs.Prelude.{Result, Ok, Err, IfErr}
 use Rattle.std.specs.Option.{unwrap_or}
+use Rattle.std.proofs.lemmas.Result.{IfOk-at_ok, IfErr-at_err}
 use Rattle.sqlite_trees.specs.declared.store.Store.{Ghosts}
 use Rattle.sqlite.specs.Effect.{Database}
 use Rattle.sqlite.specs.Held.{state}
@@ -15,7 +16,7 @@ use Rattle.esc_store.specs.Kept.{Kept}
 use Rattle.esc_store.specs.TypedRows.{IsBooks, IsRegistry}
 use Rattle.esc_store.specs.StoreTables.{IsStoreDatabase, HoldsTables}
 use Rattle.esc_store.specs.Standing.{ChangeOf, IsBegun, IsMade, IsUnderWay, IsLook, IsStoreRead, BeganIn, RestIn, HoldsIn, Follows}
-use Rattle.esc_store.proofs.Ends.{at_said, was_clean, begun_committed}
+use Rattle.esc_store.proofs.Ends.{was_clean, begun_committed}
 use Rattle.esc_store.proofs.Parts.{not_both}
 
 module _ {X E : Type 0} {old new : State} {P : Content → X → Type 0} {r : Result X E} (look : IsLook old new (Tells P) r) where
@@ -23,10 +24,7 @@ module _ {X E : Type 0} {old new : State} {P : Content → X → Type 0} {r : Re
   clean_before = was_clean old new (λ trees. ⊥) look.survives
 
   shown : (x : X) → r ≡ Ok x → HasCleanDisk new → Shows old new old.now old.committed old.in_transaction
-  shown x is clean = (at_said r x _ is (look.said clean)).1.0
-
-  bad : {Q : Type 0} (e : E) → r ≡ Err e → OnErr r Q → Q
-  bad e is h = rw is at h
+  shown x is clean = (IfOk-at_ok _ is (look.said clean)).1.0
 
   begun_look : (m : List MRow) (k : Kept) → IsBegun old m k → IsBegun new m k
   begun_look m k begun = elim r as (λ y. r ≡ y → IsBegun new m k) [
@@ -39,11 +37,11 @@ module _ {X E : Type 0} {old new : State} {P : Content → X → Type 0} {r : Re
     }
     | Err e ↦ λ is. record {
       listed = begun.listed;
-      on = λ clean on. absurd (not_both new.in_transaction on (bad e is (look.failed clean)).0);
+      on = λ clean on. absurd (not_both new.in_transaction on (IfErr-at_err _ is (look.failed clean)).0);
       off = λ clean off up. let kept = look.kept clean in (
         subst (λ db. IsStoreDatabase db k) (sym (kept.committed up))
             (begun_committed old m k begun (clean_before clean) (kept.was_open up)),
-        (bad e is (look.failed clean)).1 up,
+        (IfErr-at_err _ is (look.failed clean)).1 up,
       );
     }
   ] refl
@@ -53,7 +51,7 @@ module _ {X E : Type 0} {old new : State} {P : Content → X → Type 0} {r : Re
     books_of : HasCleanDisk new → new.in_transaction ≡ true → IsBooks (content_in new.now.trees) k
     books_of clean on = elim r as (λ y. r ≡ y → IsBooks (content_in new.now.trees) k) [
       | Ok x ↦ λ is. let it = shown x is clean in subst (λ (db : Database). IsBooks (content_in db.trees) k) (sym it.now_is) (made.books (clean_before clean) (sym it.mode ∙ on))
-      | Err e ↦ λ is. absurd (not_both new.in_transaction on (bad e is (look.failed clean)).0)
+      | Err e ↦ λ is. absurd (not_both new.in_transaction on (IfErr-at_err _ is (look.failed clean)).0)
     ] refl
 
   pub under_way_seen : (s : Tables) (x : X) → r ≡ Ok x → HasCleanDisk new → IsUnderWay old s → IsUnderWay new s
@@ -67,7 +65,7 @@ module _ {X E : Type 0} {old new : State} {P : Content → X → Type 0} {r : Re
       }
 
   pub said_seen : (s : Tables) (x : X) → r ≡ Ok x → HasCleanDisk new → IsUnderWay old s → P (content_in old.now.trees) x
-  said_seen s x is clean goes = (at_said r x _ is (look.said clean)).0 (content_in old.now.trees) goes.tables_are
+  said_seen s x is clean goes = (IfOk-at_ok _ is (look.said clean)).0 (content_in old.now.trees) goes.tables_are
 
 module _ {S : Type 0} {g : Ghosts S} {X E : Type 0} {old new : Store S} {P : Content → X → Type 0} {r : Result X E} (read : IsStoreRead g old new P r) where
   began_look : (k : Kept) → BeganIn g old k → BeganIn g new k
@@ -96,12 +94,7 @@ follows_look {old = old} read = record {
   rest = rest_look read old.listing;
 }
 
--- what follows from a result, of its value
-pub if_ok : {X E : Type 0} (r : Result X E) (P : X → Type 0) → ((x : X) → r ≡ Ok x → P x) → IfOk r P
-if_ok (Ok x) P f = f x refl
-if_ok (Err e) P f = tt
-
--- what follows of its fault
+-- what follows from a result, of its fault
 pub if_err : {X E : Type 0} (r : Result X E) (P Q : E → Type 0) → IfErr r P → ((e : E) → P e → Q e) → IfErr r Q
 if_err (Ok x) P Q h f = tt
 if_err (Err e) P Q h f = f e h

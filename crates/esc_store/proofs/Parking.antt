@@ -6,12 +6,12 @@ use Rattle.std.specs.Ordering.{nat_cmp}
 use Rattle.std.specs.declared.cmp.Ordering.TheVariants.{Less}
 use Rattle.std.specs.Cmp.Lexicographic.{slice_cmp}
 use Rattle.std.proofs.lemmas.List.Elements.{All-from_recursion}
+use Rattle.std.proofs.lemmas.Result.{IfOk-at_ok}
 use Rattle.sqlite_trees.specs.declared.store.Store.{Ghosts}
 use Rattle.sqlite_trees.specs.Tree.{IsAscending}
 use Rattle.sqlite.specs.Effect.{Database}
 use Rattle.sqlite.specs.Held.{state}
 use Rattle.sqlite.specs.State.{HasCleanDisk}
-use Rattle.sqlite.proofs.StateLemmas.{survives_then}
 use Rattle.esc_manifest.specs.declared.row.MRow.{MRow}
 use Rattle.esc_apply.specs.Registry.{State as Tables}
 use Rattle.esc_rows.specs.Content.{Content, content_in, HoldsContent, parked_at}
@@ -19,10 +19,10 @@ use Rattle.esc_rows.specs.Parked.{PutsParked, RemovesParked, ListsParked, SetsMo
 use Rattle.esc_store.specs.declared.store.Store.{Store}
 use Rattle.esc_store.specs.Kept.{Kept, with_parked, with_moment, AreRisingTexts, AreParked}
 use Rattle.esc_store.specs.TypedRows.{IsBooks, IsRegistry}
-use Rattle.esc_store.specs.Standing.{ChangeOf, IsStep, IsStoreRead, RestIn, GoesOn, Follows}
-use Rattle.esc_store.proofs.Ends.{at_ok, at_said, was_clean}
+use Rattle.esc_store.specs.Standing.{ChangeOf, IsStep, IsStoreRead, RestIn, Follows}
+use Rattle.esc_store.specs.StandingLaws.{survives_same}
+use Rattle.esc_store.proofs.Ends.{was_clean}
 use Rattle.esc_store.proofs.Parts.{Turns, turning}
-use Rattle.esc_store.proofs.Standings.{survives_same}
 use Rattle.esc_store.proofs.RowSteps.{Becoming}
 
 -- under this digest there is this body, or none, and all else is as it was
@@ -54,7 +54,7 @@ pub was_free : {S X E : Type 0} (g : Ghosts S) (old new : Store S) (digest body 
     → (listing : Option (List MRow)) (before k : Kept) → RestIn g old listing before k → k.parked digest ≡ None
 unfolding RestIn
 was_free g old new digest body {r} {x} is step clean listing before k made =
-    let m = at_ok r x _ is (step.made clean) in
+    let m = IfOk-at_ok _ is (step.made clean) in
     let was = was_clean (state g old.conn) (state g new.conn) (λ trees. ⊥) step.survives clean in
     let tables = (made.begun.on was m.0).2 in
     sym ((made.books was m.0).parked digest) ∙ (m.1 (content_in (state g old.conn).now.trees) tables).2
@@ -92,21 +92,11 @@ books_moment k w c c' turn books = subst (λ x. IsBooks x (with_moment k (Some w
 pub registry_moment : (s : Tables) (w : ℤ) (c c' : Content) → Becoming (with_moment_row w) c c' → IsRegistry c s → IsRegistry c' s
 registry_moment s w c c' turn it = subst (λ x. IsRegistry x s) (sym turn.is) (record { objects = it.objects; images = it.images; recorded = it.recorded; noted = it.noted })
 
--- ---- one part after another
-
-pub goes_then : {S : Type 0} {g : Ghosts S} {a b c : ChangeOf S} → GoesOn g a b → GoesOn g b c → GoesOn g a c
-goes_then p q = record {
-  same_reference = q.same_reference ∙ p.same_reference;
-  manifest = q.manifest ∙ p.manifest;
-  listed = q.listed ∙ p.listed;
-  writes = q.writes ∙ p.writes;
-  survives = survives_then _ _ _ _ _ _ (λ _ db none. none) (λ _ db none. none) p.survives q.survives;
-  began = λ k h. q.began k (p.began k h);
-}
+-- ---- a change
 
 -- nothing was called
 pub follows_same : {S : Type 0} (g : Ghosts S) (c : ChangeOf S) → Follows g c c
-follows_same g c = record { goes_on = record { same_reference = refl; manifest = refl; listed = refl; writes = refl; survives = survives_same _ _; began = λ k h. h }; rest = λ before k h. h }
+follows_same g c = record { goes_on = record { same_reference = refl; manifest = refl; listed = refl; writes = refl; survives = survives_same; began = λ k h. h }; rest = λ before k h. h }
 
 -- what a read in a change found is what the change keeps
 pub found_parked : {S X E : Type 0} {g : Ghosts S} {old new : Store S} {digest : List ℕ} (view : X → Option (List ℕ)) {r : Result X E} {x : X} → r ≡ Ok x → old.conn.in_transaction ≡ true
@@ -115,5 +105,5 @@ unfolding RestIn
 found_parked {g = g} {old} {new} {digest} view {r} {x} is on read clean listing before k made =
     let was = was_clean (state g old.conn) (state g new.conn) (λ trees. ⊥) read.look.survives clean in
     let tables = (made.begun.on was on).2 in
-    let s = at_said r x _ is (read.look.said clean) in
+    let s = IfOk-at_ok _ is (read.look.said clean) in
     s.0 (content_in (state g old.conn).now.trees) tables ∙ (made.books was on).parked digest

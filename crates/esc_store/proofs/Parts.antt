@@ -1,6 +1,7 @@
 -- What a part of a change does to what the change has made.
 use Rattle.std.proofs.Common.{◌≡◌, Bool, true, false, List, refl, sym, subst, ◌∙◌}
 use Rattle.std.specs.Prelude.{IsTrue, Result, Ok, Err, IfOk, IfErr, OnErr, IsErr}
+use Rattle.std.proofs.lemmas.Result.{IfOk-at_ok, IfErr-at_err}
 use Rattle.sqlite_trees.specs.declared.store.Store.{Ghosts}
 use Rattle.sqlite.specs.Effect.{Database}
 use Rattle.sqlite.specs.Held.{state}
@@ -18,7 +19,7 @@ use Rattle.esc_store.specs.Kept.{Kept}
 use Rattle.esc_store.specs.TypedRows.{IsBooks, IsRegistry}
 use Rattle.esc_store.specs.StoreTables.{IsStoreDatabase, HoldsTables}
 use Rattle.esc_store.specs.Standing.{IsBegun, IsMade, IsUnderWay, IsGivenUp, Settles, IsStep, IsLook}
-use Rattle.esc_store.proofs.Ends.{at_ok, at_said, was_clean, keeps_then, begun_committed}
+use Rattle.esc_store.proofs.Ends.{was_clean, keeps_then, begun_committed}
 
 pub not_both : (b : Bool) → b ≡ true → b ≡ false → ⊥
 not_both b is_on is_off = let e : true ≡ false = sym is_on ∙ is_off in cc
@@ -51,7 +52,7 @@ module _ {S : Type 0} {g : Ghosts S} {old : State} {before new : Store S} {X D E
         | Ok x ↦ λ ok err. subst (λ (s : Store S). IsStep {X = X} {E = E} old (state g s.conn) Made (Ok x)) (sym ok.1) (record {
           survives = part.survives;
           kept = part.kept;
-          made = λ clean. let m = at_ok outcome x _ ok.0 (part.made clean) in (at_ok outcome x _ ok.0 part.within, m.0, m.1, m.2);
+          made = λ clean. let m = IfOk-at_ok _ ok.0 (part.made clean) in (IfOk-at_ok _ ok.0 part.within, m.0, m.1, m.2);
           failed = λ clean. tt;
         })
         | Err e ↦ λ ok err. record { survives = after old err.1 part.survives; kept = keeps_after old err.1 part.kept; made = λ clean. tt; failed = λ clean. (err.1.ended clean, err.1.settled clean) }
@@ -64,7 +65,7 @@ module _ {S : Type 0} {g : Ghosts S} {old : State} {before new : Store S} {X D E
         | Ok x ↦ λ ok err. subst (λ (s : Store S). IsLook {X = X} {E = E} old (state g s.conn) Says (Ok x)) (sym ok.1) (record {
           survives = read.survives;
           kept = read.kept;
-          said = λ clean. at_said outcome x _ ok.0 (read.said clean);
+          said = λ clean. IfOk-at_ok _ ok.0 (read.said clean);
           failed = λ clean. tt;
         })
         | Err e ↦ λ ok err. record { survives = after old err.1 read.survives; kept = keeps_after old err.1 read.kept; said = λ clean. tt; failed = λ clean. (err.1.ended clean, err.1.settled clean) }
@@ -97,7 +98,7 @@ module _ {X E : Type 0} {old new : State} {R : Content → Content → Type 0} {
     is_open : IsTrue new.is_open
 
   made_of : (x : X) → r ≡ Ok x → HasCleanDisk new → Made
-  made_of x is clean = let m = at_ok r x _ is (step.made clean) in record { was_on = m.0; turns = m.1; on = m.2; is_open = m.3 }
+  made_of x is clean = let m = IfOk-at_ok _ is (step.made clean) in record { was_on = m.0; turns = m.1; on = m.2; is_open = m.3 }
 
   clean_before : HasCleanDisk new → HasCleanDisk old
   clean_before = was_clean old new (λ trees. ⊥) step.survives
@@ -112,16 +113,14 @@ module _ {X E : Type 0} {old new : State} {R : Content → Content → Type 0} {
     }
     | Err e ↦ λ is. record {
       listed = begun.listed;
-      on = λ clean on. absurd (not_both new.in_transaction on (at_bad e is (step.failed clean)).0);
+      on = λ clean on. absurd (not_both new.in_transaction on (IfErr-at_err _ is (step.failed clean)).0);
       off = λ clean off up. (
         subst (λ db. IsStoreDatabase db k) (sym ((step.kept clean).committed up))
             (begun_committed old m k begun (clean_before clean) ((step.kept clean).was_open up)),
-        (at_bad e is (step.failed clean)).1 up,
+        (IfErr-at_err _ is (step.failed clean)).1 up,
       );
     }
-  ] refl where
-    at_bad : {P : Type 0} (e : E) → r ≡ Err e → OnErr r P → P
-    at_bad e is h = rw is at h
+  ] refl
 
   pub made_on : (m rows rows' : List MRow) (before k k' : Kept) (x : X) → r ≡ Ok x → (rows ≡ k.listed → rows' ≡ k'.listed)
       → ((c c' : Content) → R c c' → IsBooks c k → IsBooks c' k') → IsMade old m rows before k → IsMade new m rows' before k'
@@ -137,11 +136,9 @@ module _ {X E : Type 0} {old new : State} {R : Content → Content → Type 0} {
     | Err e ↦ λ is. record {
       begun = begun_on m before made.begun;
       listed = made.listed;
-      books = λ clean on. absurd (not_both new.in_transaction on (at_bad e is (step.failed clean)).0);
+      books = λ clean on. absurd (not_both new.in_transaction on (IfErr-at_err _ is (step.failed clean)).0);
     }
-  ] refl where
-    at_bad : {P : Type 0} (e : E) → r ≡ Err e → OnErr r P → P
-    at_bad e is h = rw is at h
+  ] refl
 
   pub under_way_on : (s s' : Tables) (x : X) → r ≡ Ok x → ((c c' : Content) → R c c' → IsRegistry c s → IsRegistry c' s') → (HasCleanDisk old → IsUnderWay old s) → HasCleanDisk new → IsUnderWay new s'
   under_way_on s s' x is turn goes clean =

@@ -11,10 +11,6 @@ use Rattle.esc_store.specs.ReplyValue.{ReceiptValue, ReplyValue, reply_alike}
 use Rattle.esc_store.specs.TypedRows.{receipts_from}
 use Rattle.esc_store.specs.Standing.{IsTold, Stands}
 
-pub if_goes : {X E : Type 0} (r : Result X E) (P Q : X → Type 0) → IfOk r P → ((x : X) → P x → Q x) → IfOk r Q
-if_goes (Ok x) P Q h f = f x h
-if_goes (Err e) P Q h f = tt
-
 pub if_both : {X E : Type 0} (r : Result X E) (P Q R : X → Type 0) → IfOk r P → IfOk r Q → ((x : X) → P x → Q x → R x) → IfOk r R
 if_both (Ok x) P Q R p q f = f x p q
 if_both (Err e) P Q R p q f = tt

@@ -1,5 +1,5 @@
 -- The rows of which receipts say that their deposits are held.
-use Rattle.std.proofs.Common.{◌≡◌, ◌⊎◌, inl, inr, ℕ, zero, suc, ◌<◌, ◌==◌, Bool, true, false, cond, List, [], ◌∷◌, length, map, filter, Option, Some, refl, sym, ap, subst, ◌∙◌, arith, eqb, true≢false}
+use Rattle.std.proofs.Common.{◌≡◌, ◌⊎◌, inl, inr, ℕ, suc, ◌<◌, ◌==◌, Bool, true, false, cond, List, [], ◌∷◌, length, map, filter, Option, Some, refl, sym, ap, subst, ◌∙◌, arith, eqb, true≢false}
 use Rattle.std.specs.Prelude.{IsSorted, slice_index_or}
 use Rattle.std.specs.List.{Contains, Any, AllPairs, dedup}
 use Rattle.std.specs.Ordering.{nat_cmp}
@@ -17,6 +17,7 @@ use Rattle.esc_store.specs.Decoded.{AreOnce}
 use Rattle.esc_store.specs.Kept.{Kept, IsRising, SaysHeld, AreHeldBy}
 use Rattle.esc_store.specs.ReplyValue.{ReceiptValue}
 use Rattle.esc_store.specs.TypedRows.{verdict_number, receipt_row, receipts_from, IsBooks}
+use Rattle.esc_store.specs.ListLaws.{first_or_later, later, any_first, any_later, any_split}
 
 -- ---- each once
 
@@ -31,23 +32,6 @@ are_once numbers up = record {
 }
 
 -- ---- elements of lists
-
-pub first_or_later : {X : Type 0} (x y : X) (xs : List X) → Contains (x ∷ xs) y → (x ≡ y) ⊎ Contains xs y
-first_or_later x y xs (zero, within, is) = inl is
-first_or_later x y xs (suc k, within, is) = inr (k, omega (arith, within), is)
-
-pub later : {X : Type 0} (x y : X) (xs : List X) → Contains xs y → Contains (x ∷ xs) y
-later x y xs (k, within, is) = (suc k, omega (arith, within), is)
-
-pub any_first : {X : Type 0} (P : X → Type 0) (x : X) (xs : List X) → P x → Any P (x ∷ xs)
-any_first P x xs p = (0, x, omega arith, refl, p)
-
-pub any_later : {X : Type 0} (P : X → Type 0) (x : X) (xs : List X) → Any P xs → Any P (x ∷ xs)
-any_later P x xs (k, y, within, is, p) = (suc k, y, omega (arith, within), is, p)
-
-pub any_split : {X : Type 0} (P : X → Type 0) (x : X) (xs : List X) → Any P (x ∷ xs) → P x ⊎ Any P xs
-any_split P x xs (zero, y, within, is, p) = inl (subst P (sym is) p)
-any_split P x xs (suc k, y, within, is, p) = inr (k, y, omega (arith, within), is, p)
 
 some_there : (xs : List ℕ) (n : ℕ) → Contains xs n → Contains (map (λ x. Some x) xs) (Some n)
 some_there xs n (k, within, is) = (k, omega (arith, within, length-map xs (λ (x : ℕ). Some x)), get_or-map (λ x. Some x) xs k n (Some n) within ∙ ap (λ x. Some x) is)

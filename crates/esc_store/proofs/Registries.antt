@@ -15,6 +15,7 @@ use Rattle.esc_tables.specs.ObjectValue.{ObjectValue}
 use Rattle.esc_record.specs.Record.{record_of}
 use Rattle.esc_record.proofs.Objects.{alone}
 use Rattle.std.proofs.lemmas.List.{append-nil}
+use Rattle.std.proofs.lemmas.Option.{same_Some}
 use Rattle.esc_apply.specs.Registry.{State, Befores, empty, nothing, with_key, written, noted, taken}
 use Rattle.esc_apply.specs.Registry.{Content as Objects}
 use Rattle.esc_tables.specs.KeyLaws.{key_itself, one_key as same_key}
@@ -160,9 +161,6 @@ pub record PutsOneImage (step kind : ℕ) (key : List ℕ) (before : Option (Lis
 pub image_turns : (step kind : ℕ) (key : List ℕ) (before : Option (List ℕ)) (old new : Database) → PutsImage step kind key before old new → Turns (PutsOneImage step kind key before) old new
 image_turns step kind key before old new made = turning (λ tables. let m = made (content_in old.trees) tables in (record (content_in old.trees) { undo = m.0 }, m.1, record { only = refl; map_is = m.3 }))
 
-some_inner : {X : Type 0} (a b : X) → Some a ≡ Some b → a ≡ b
-some_inner a b h = cc
-
 pub note_registry : {s : State} {step : ℕ} (k : KeyName) (o : Option ObjectValue) {w : Option (List ℕ)} {c c' : Content} → option_and_then record_of o ≡ w → IfSome o (λ x. IsSome (record_of x)) → PutsOneImage step (kind_rank k.kind) k.text w c c' → IsRegistry c s → IsRegistry c' (noted s step k o)
 note_registry {s} {step} k o {w} {c} {c'} bytes has set it = record {
   objects = λ n text. ap (λ (x : Content). object_at n text x.objects) set.only ∙ it.objects n text;
@@ -179,7 +177,7 @@ note_registry {s} {step} k o {w} {c} {c'} bytes has set it = record {
   by_step p n text false is = rw is (it.images p n text)
 
   one_noted : (p : ℕ) (q : KeyName) (x : ObjectValue) (a b : Bool) → (step == p) ≡ a → key_eq k q ≡ b → (noted s step k o).undo p q ≡ Some (Some x) → IsSome (record_of x)
-  one_noted p q x true true here same is = subst (λ (y : Option ObjectValue). IfSome y (λ v. IsSome (record_of v))) (some_inner o (Some x) (rw (here, same) at is)) has
+  one_noted p q x true true here same is = subst (λ (y : Option ObjectValue). IfSome y (λ v. IsSome (record_of v))) (same_Some o (Some x) (rw (here, same) at is)) has
   one_noted p q x true false here same is = it.noted step q x (rw (here, same) at is)
   one_noted p q x false b here same is = it.noted p q x (rw here at is)
 

@@ -19,6 +19,7 @@ use Rattle.std.specs.declared.cmp.Ordering.TheVariants.{Less, Equal, Greater}
 use Rattle.std.proofs.lemmas.Cmp.{int_ranked}
 use Rattle.std.proofs.lemmas.Bool.{lt-ltb, le-ltb}
 use Rattle.std.proofs.lemmas.Bool.Decides.{nat_tests}
+use Rattle.std.proofs.lemmas.Result.{IfOk-at_ok}
 use Rattle.esc_rows.specs.StoreTable.{Receipts}
 use Rattle.esc_rows.specs.Rows.{ReceiptRow, StepRow, HeldRow, receipt_number, held_number}
 use Rattle.esc_rows.specs.Content.{Content, content_in, HoldsContent}
@@ -29,7 +30,7 @@ use Rattle.esc_store.specs.ReplyValue.{ReceiptValue}
 use Rattle.esc_store.specs.TypedRows.{IsBooks, IsRegistry, receipt_row, receipts_from, steps_from}
 use Rattle.esc_store.specs.ChangeParts.{next_number, with_next_receipt, AddsNext, with_steps_from, ContinuesSteps}
 use Rattle.esc_store.specs.Standing.{IsStep, IsLook, RestIn}
-use Rattle.esc_store.proofs.Ends.{at_said, was_clean, keeps_then}
+use Rattle.esc_store.proofs.Ends.{was_clean, keeps_then}
 use Rattle.esc_store.proofs.Parts.{Turns, turning}
 use Rattle.esc_store.proofs.Reading.{counted}
 use Rattle.sqlite_trees.specs.declared.store.Store.{Ghosts}
@@ -65,7 +66,7 @@ step_next old mid new r last v row y z on look is row_is step = record {
 } where
   adds : HasCleanDisk new → AddsReceipt row mid.now new.now → AddsNext v old.now new.now
   adds clean added c h =
-      let s = at_said r last _ is (look.said (was_clean mid new (λ trees. ⊥) step.survives clean)) in
+      let s = IfOk-at_ok _ is (look.said (was_clean mid new (λ trees. ⊥) step.survives clean)) in
       let there : HoldsContent mid.now c = subst (λ db. HoldsContent db c) (sym s.1.0.now_is) h in
       let next : row ≡ receipt_row (next_number c) v = row_is ∙ ap (λ n. receipt_row (n + 1) v) (s.0 c h) in
       subst (λ (x : ReceiptRow). HoldsContent new.now (record c { receipts = c.receipts ++ x ∷ [] })) next
@@ -73,7 +74,7 @@ step_next old mid new r last v row y z on look is row_is step = record {
 
 -- the number that was read, of the tables before
 pub last_told : {D : Type 0} (old mid : State) (r : Result ℕ D) (last : ℕ) → IsLook old mid (Tells (λ c (found : ℕ). found ≡ last_number c.receipts)) r → r ≡ Ok last → HasCleanDisk mid → (c : Content) → HoldsContent old.now c → last ≡ last_number c.receipts
-last_told old mid r last look is clean c h = (at_said r last _ is (look.said clean)).0 c h
+last_told old mid r last look is clean c h = (IfOk-at_ok _ is (look.said clean)).0 c h
 
 -- what a change of the content turns into
 pub record Becoming (change : Content → Content) (c c' : Content) : Type 0 where

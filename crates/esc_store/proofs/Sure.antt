@@ -1,6 +1,7 @@
 -- Reads of a store's tables.
 use Rattle.std.proofs.Common.{◌≡◌, List, Option, Some, refl, sym, subst, ◌∙◌}
-use Rattle.std.specs.Prelude.{IsTrue, Result, Ok, Err, IfOk, OnErr}
+use Rattle.std.specs.Prelude.{IsTrue, Result, Ok, Err, IfOk}
+use Rattle.std.proofs.lemmas.Result.{IfOk-at_ok, IfErr-at_err}
 use Rattle.sqlite_trees.specs.declared.store.Store.{Ghosts}
 use Rattle.sqlite.specs.Held.{Held, state}
 use Rattle.sqlite.specs.State.{State, HasCleanDisk, IsUnchanged}
@@ -16,9 +17,9 @@ use Rattle.esc_store.specs.declared.store.Store.{Store}
 use Rattle.esc_store.specs.Kept.{Kept, AreCounts}
 use Rattle.esc_store.specs.StoreTables.{IsStoreDatabase}
 use Rattle.esc_store.specs.Standing.{IsAtRest, AreCountsOf, IsStanding, IsStoreRead, IsLook, IsAsBefore, IsTold, Stands, IsHonest}
-use Rattle.esc_store.proofs.Ends.{at_said, was_clean, still_counted}
+use Rattle.esc_store.specs.StandingLaws.{survives_same}
+use Rattle.esc_store.proofs.Ends.{was_clean, still_counted}
 use Rattle.esc_store.proofs.Parts.{Settled, look_is}
-use Rattle.esc_store.proofs.Standings.{survives_same}
 
 module _ {X E : Type 0} {old new : State} {P : Content → X → Type 0} {r : Result X E} (look : IsLook old new (Tells P) r) where
   pub stands_sure : (m : List MRow) (a b : Option KindCounts) (k : Kept) → b ≡ a → IsStanding old m a k → IsStanding new m b k
@@ -32,16 +33,14 @@ module _ {X E : Type 0} {old new : State} {P : Content → X → Type 0} {r : Re
         let was = stands.rests (was_clean old new (λ trees. ⊥) look.survives clean) (kept.was_open up) in
         let held : IsStoreDatabase new.committed k = subst (λ db. IsStoreDatabase db k) (sym (kept.committed up)) was.kept in
         elim r as (λ y. r ≡ y → IsAtRest new k) [
-          | Ok x ↦ λ is. let shown = (at_said r x _ is (look.said clean)).1.0 in
+          | Ok x ↦ λ is. let shown = (IfOk-at_ok _ is (look.said clean)).1.0 in
               record { kept = held; same = shown.now_is ∙ (was.same ∙ sym shown.committed_is); autocommit = shown.mode ∙ was.autocommit }
-          | Err e ↦ λ is. let f = bad e is (look.failed clean) in record { kept = held; same = f.1 up; autocommit = f.0 }
-        ] refl where
-          bad : {Q : Type 0} (e : E) → r ≡ Err e → OnErr r Q → Q
-          bad e is h = rw is at h
+          | Err e ↦ λ is. let f = IfErr-at_err _ is (look.failed clean) in record { kept = held; same = f.1 up; autocommit = f.0 }
+        ] refl
 
   pub told : (m : List MRow) (counts : Option KindCounts) (k : Kept) (x : X) → r ≡ Ok x → HasCleanDisk new → IsStanding old m counts k → IsTold k (λ c. P c x)
   told m counts k x is clean stands =
-      let s = at_said r x _ is (look.said clean) in
+      let s = IfOk-at_ok _ is (look.said clean) in
       let was = stands.rests (was_clean old new (λ trees. ⊥) look.survives clean) s.1.0.was_open in
       let kept = subst (λ db. IsStoreDatabase db k) (sym was.same) was.kept in
       record {
@@ -84,11 +83,7 @@ module _ {S X E : Type 0} {g : Ghosts S} {old new : Store S} {P : Content → X 
 
 -- nothing was read
 pub unread : {S : Type 0} {g : Ghosts S} {s : Store S} → IsAsBefore g s s
-unread = record { manifest = refl; writes = refl; survives = survives_same _ _; stands = λ k h. h }
-
--- a read gave back what was written only where that was so before
-pub was_honest : {S : Type 0} (g : Ghosts S) (old new : Store S) → IsAsBefore g old new → IsHonest g new → IsHonest g old
-was_honest g old new same clean = was_clean (state g old.conn) (state g new.conn) (λ trees. ⊥) same.survives clean
+unread = record { manifest = refl; writes = refl; survives = survives_same; stands = λ k h. h }
 
 pub told_at : {S X E : Type 0} {g : Ghosts S} {old new : Store S} {P : Content → X → Type 0} (r : Result X E) (x : X) → r ≡ Ok x
     → IsStoreRead g old new P r → IsHonest g new → (k : Kept) → Stands g old k → IsTold k (λ c. P c x)

@@ -13,7 +13,7 @@ use Rattle.esc_store.specs.Decoded.{IsOfVerdict, AreOfVerdict}
 use Rattle.esc_store.specs.Kept.{Kept, is_unlisted, TellsUnlisted, AreUnlisted}
 use Rattle.esc_store.specs.ReplyValue.{ReceiptValue}
 use Rattle.esc_store.specs.TypedRows.{verdict_number, receipt_row, receipts_from, IsBooks}
-use Rattle.esc_store.proofs.ReceiptRows.{first_or_later, later, any_first, any_later, any_split}
+use Rattle.esc_store.specs.ListLaws.{first_or_later, later, any_first, any_later, any_split}
 
 -- ---- of one verdict
 

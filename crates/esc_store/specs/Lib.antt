@@ -10,3 +10,6 @@ pub mod Standing
 pub mod ChangeParts
 pub mod StoreTables
 pub mod TypedRows
+pub mod StandingLaws
+pub mod ResultLaws
+pub mod ListLaws

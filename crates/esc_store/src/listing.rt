@@ -72,7 +72,7 @@ impl<'a, S: Alter> Change<'a, S> {
     }
 
     // Adds the rows of a union, from an index on, to their table, which has those before it.
-    #[tactic(auto, using(crate::proofs::Parking::goes_then))]
+    #[tactic(auto, using(crate::specs::StandingLaws::goes_then))]
     fn list_rows(&mut self, rows: &[Listed], from: usize) -> Result<(), SFault>
         ensures goes_on { GoesOn S.Store self.old self.new }
         ensures listing { self.new.listing ≡ self.old.listing }

@@ -48,7 +48,7 @@ impl<S: Alter> Store<S> {
 impl<'a, S: Alter> Change<'a, S> {
     /// Sets the moment, in nanoseconds since 1970-01-01T00:00:00Z, or removes it (`None`). The
     /// chain and the tables stay as they are. `S1`, `S2`.
-    #[tactic(auto, using(crate::proofs::Parking::goes_then))]
+    #[tactic(auto, using(crate::specs::StandingLaws::goes_then))]
     pub fn set_moment(&mut self, moment: Option<i64>) -> Result<(), SFault>
         ensures goes_on { GoesOn S.Store self.old self.new }
         ensures count { count_of self.new ≡ count_of self.old }

@@ -138,7 +138,7 @@ impl<'a, S: Alter> Change<'a, S> {
 
     /// Moves the body that is parked under a SHA-256 to a listed row that has none yet: it is the
     /// row's body then, and is parked no more. `S1`, also if none is parked under it; `S2`.
-    #[tactic(auto, using(crate::proofs::Parking::goes_then))]
+    #[tactic(auto, using(crate::specs::StandingLaws::goes_then))]
     pub fn adopt(&mut self, row: usize, digest: &[u8; 32]) -> Result<(), SFault>
         ensures goes_on { GoesOn S.Store self.old self.new }
         ensures count { count_of self.new ≡ count_of self.old }

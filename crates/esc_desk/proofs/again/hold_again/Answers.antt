@@ -1,14 +1,14 @@
 use Rattle.std.proofs.Common.{ℕ, IsSome, is_some, nat_eq, sym, ap, subst, ◌∙◌, true≢false}
 use Rattle.std.specs.List.{list_any}
 use Rattle.std.proofs.lemmas.Result.{IfOk-weaker}
+use Rattle.std.proofs.lemmas.Option.{same_Some}
+use Rattle.esc_store.specs.StandingLaws.{survives_same}
 use Rattle.esc_events.specs.ArrivalValue.{an_arrival}
 use Rattle.esc_events.specs.declared.assessment.Assessment.TheVariants.{Holding}
-use Rattle.esc_events.proofs.Searches.{same_answer}
+use Rattle.esc_events.specs.HeldLaws.{holding_listed}
 use Rattle.esc_desk.specs.Crashes.{AddsStoreFor}
 use Rattle.esc_desk.proofs.ComingAgain.{nothing_listed, nothing_taken}
 use Rattle.esc_desk.proofs.CrashLemmas.{leaves_with_nothing, leaves_with_only}
-use Rattle.esc_desk.proofs.CrashSteps.{adds_at_rest, at_rest}
-use Rattle.esc_desk.proofs.Holding.{holding_listed}
 use Rattle.esc_desk.proofs.KnownRows.{contained, no_body, held_more}
 use Rattle.esc_desk.proofs.again.hold_again.Goals as goal
 
@@ -20,17 +20,17 @@ returns-then-contains-clause-taken g c = λ clean e n k reply stood knows is.
     let found = Holding row c.args.deposit in
     let any = ap (list_any (λ q. nat_eq q row)) (sym c.deref.ensures.value) ∙ sym c.if-contains.ensures.value in
     let some = (knows.held.each row).0 (contained known.held.items row any) in
-    let none = nothing_listed e a k found reply is (holding_listed row c.args.deposit) (λ q here. subst (λ (r : ℕ). IsSome (k.bodies r)) (same_answer here) some) in
-    nothing_taken g.S.Store c.args.store.now c.args.store.now e a k found known is.stood none knows stood (leaves_with_nothing g.S.Store _ _ none at_rest)
+    let none = nothing_listed e a k found reply is (holding_listed row c.args.deposit) (λ q here. subst (λ (r : ℕ). IsSome (k.bodies r)) (same_Some _ _ here) some) in
+    nothing_taken g.S.Store c.args.store.now c.args.store.now e a k found known is.stood none knows stood (leaves_with_nothing g.S.Store _ _ none survives_same)
     (λ missing. absurd (true≢false (sym some ∙ ap is_some missing)))
 
 pub returns-then-contains-clause-crash : goal.returns-then-contains-clause-crash
 unfolding AddsStoreFor
-returns-then-contains-clause-crash g c = λ clean e n k reply stood knows is. adds_at_rest
+returns-then-contains-clause-crash g c = λ clean e n k reply stood knows is. survives_same
 
 pub returns-in_err-insert_row-clause-crash : goal.returns-in_err-insert_row-clause-crash
 unfolding AddsStoreFor
-returns-in_err-insert_row-clause-crash g c = λ clean e n k reply stood knows is. adds_at_rest
+returns-in_err-insert_row-clause-crash g c = λ clean e n k reply stood knows is. survives_same
 
 pub returns-clause-taken : goal.returns-clause-taken
 returns-clause-taken g c = IfOk-weaker c.move_with.result _ _ (λ work made. λ clean e n k reply stood knows is.

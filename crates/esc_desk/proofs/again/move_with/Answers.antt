@@ -5,6 +5,7 @@ use Rattle.esc_apply.specs.declared.front.Step.{Step}
 use Rattle.esc_store.specs.Kept.{Kept, AreHeld, body_put, with_body}
 use Rattle.esc_store.specs.ReplyValue.{ReplyValue}
 use Rattle.esc_store.specs.Standing.{Stands, IsHonest}
+use Rattle.esc_store.specs.StandingLaws.{was_honest}
 use Rattle.esc_events.specs.declared.assessment.Assessment.TheVariants.{Holding}
 use Rattle.esc_events.specs.ArrivalValue.{an_arrival}
 use Rattle.esc_events.specs.Events.{EventValue}
@@ -16,7 +17,6 @@ use Rattle.esc_events.specs.Stands.{deposits_of}
 use Rattle.esc_events.specs.Taking.{IsAgain}
 use Rattle.esc_events.proofs.Moving.{moved_from}
 use Rattle.esc_desk.specs.Crashes.{AddsStore, AddsStoreFor}
-use Rattle.esc_desk.proofs.StoreFacts.{was_honest}
 use Rattle.esc_desk.proofs.ComingAgain.{again_source, again_move, again_idle}
 use Rattle.esc_desk.proofs.Working.{both_ok}
 use Rattle.esc_desk.proofs.CrashLemmas.{leaves_for}

@@ -3,6 +3,7 @@ use Rattle.std.proofs.lemmas.Result.{IfOk-weaker}
 use Rattle.sha2.specs.Sha256.{sha256}
 use Rattle.esc_tables.specs.Reading.{reading}
 use Rattle.esc_manifest.specs.declared.row.MRow.{MRow}
+use Rattle.esc_store.specs.StandingLaws.{survives_same}
 use Rattle.esc_events.specs.declared.assessment.Assessment.{Assessment}
 use Rattle.esc_events.specs.ArrivalValue.{an_arrival}
 use Rattle.esc_events.specs.Events.{union}
@@ -10,12 +11,11 @@ use Rattle.esc_events.specs.Assessment.{assessment}
 use Rattle.esc_events.specs.Taking.{IsAgain}
 use Rattle.esc_desk.specs.Takings.{IsTakenAgain}
 use Rattle.esc_desk.specs.Crashes.{AddsStoreFor}
-use Rattle.esc_desk.proofs.CrashSteps.{adds_at_rest}
 use Rattle.esc_desk.proofs.again.take_body.Goals as goal
 
 pub returns-in_err-found-clause-crash : goal.returns-in_err-found-clause-crash
 unfolding AddsStoreFor
-returns-in_err-found-clause-crash g c = λ clean e n k reply stood knows is. adds_at_rest
+returns-in_err-found-clause-crash g c = λ clean e n k reply stood knows is. survives_same
 
 pub returns-clause-taken : goal.returns-clause-taken
 returns-clause-taken g c = λ clean e n k reply stood knows is.

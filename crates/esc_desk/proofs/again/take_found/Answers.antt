@@ -1,5 +1,6 @@
 use Rattle.std.proofs.Common.{sym, subst}
 use Rattle.std.proofs.lemmas.Result.{IfOk-weaker}
+use Rattle.esc_store.specs.StandingLaws.{survives_same}
 use Rattle.esc_events.specs.declared.assessment.Assessment.{Assessment}
 use Rattle.esc_events.specs.ArrivalValue.{an_arrival}
 use Rattle.esc_events.specs.Taking.{IsAgain}
@@ -7,7 +8,6 @@ use Rattle.esc_desk.specs.Takings.{IsTakenAgain}
 use Rattle.esc_desk.specs.Crashes.{AddsStoreFor}
 use Rattle.esc_desk.proofs.ComingAgain.{nothing_refused, nothing_taken, refused_there}
 use Rattle.esc_desk.proofs.CrashLemmas.{leaves_with_nothing}
-use Rattle.esc_desk.proofs.CrashSteps.{adds_at_rest, at_rest}
 use Rattle.esc_desk.proofs.again.take_found.Goals as goal
 
 pub returns-in-Unlisted-clause-taken : goal.returns-in-Unlisted-clause-taken
@@ -21,11 +21,11 @@ returns-in-Unreadable-clause-taken g c = λ clean e n k reply stood knows is.
     let a = an_arrival n c.args.body.now in
     let none = nothing_refused e a k c.args.found reply is c.in-Unreadable.is in
     nothing_taken g.S.Store c.args.store.now c.args.store.now e a k c.args.found c.args.known.now is.stood none knows stood
-    (leaves_with_nothing g.S.Store _ _ none at_rest) (λ missing. absurd (refused_there k.bodies k.parked _ c.args.found c.in-Unreadable.is missing))
+    (leaves_with_nothing g.S.Store _ _ none survives_same) (λ missing. absurd (refused_there k.bodies k.parked _ c.args.found c.in-Unreadable.is missing))
 
 pub returns-in-Unreadable-clause-crash : goal.returns-in-Unreadable-clause-crash
 unfolding AddsStoreFor
-returns-in-Unreadable-clause-crash g c = λ clean e n k reply stood knows is. adds_at_rest
+returns-in-Unreadable-clause-crash g c = λ clean e n k reply stood knows is. survives_same
 
 pub returns-in-Holding-clause-taken : goal.returns-in-Holding-clause-taken
 returns-in-Holding-clause-taken g c = IfOk-weaker c.hold_again.result _ _ (λ work made. λ clean e n k reply stood knows is.

@@ -4,8 +4,8 @@ use Rattle.esc_manifest.specs.declared.row.MRow.{MRow}
 use Rattle.esc_manifest.specs.ManifestRows.{row_at, no_row}
 use Rattle.esc_store.specs.Standing.{IsHonest}
 use Rattle.esc_store.specs.Kept.{with_body, with_parked}
+use Rattle.esc_store.specs.StandingLaws.{goes_then}
 use Rattle.esc_desk.proofs.ListingSteps.{IsAdopting, adopting_one}
-use Rattle.esc_desk.proofs.StoreFacts.{goes_then}
 use Rattle.esc_desk.proofs.amendment.adopt_rows.Goals as goal
 
 pub loop-row-preserved : goal.loop-row-preserved

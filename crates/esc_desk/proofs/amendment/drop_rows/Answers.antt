@@ -3,8 +3,8 @@ use Rattle.std.proofs.lemmas.List.{at_drop_more}
 use Rattle.esc_manifest.specs.declared.row.MRow.{MRow}
 use Rattle.esc_manifest.specs.ManifestRows.{row_at, no_row}
 use Rattle.esc_store.specs.Kept.{with_parked}
+use Rattle.esc_store.specs.StandingLaws.{goes_then}
 use Rattle.esc_events.specs.Amended.{with_all_dropped}
-use Rattle.esc_desk.proofs.StoreFacts.{goes_then}
 use Rattle.esc_desk.proofs.amendment.drop_rows.Goals as goal
 
 pub loop-row-preserved : goal.loop-row-preserved

@@ -8,6 +8,8 @@ use Rattle.esc_manifest.specs.Extension.{extended}
 use Rattle.esc_apply.specs.declared.front.Step.{Step}
 use Rattle.esc_store.specs.Kept.{Kept}
 use Rattle.esc_store.specs.Standing.{Stands, IsHonest}
+use Rattle.esc_store.specs.StandingLaws.{was_honest, as_before_then}
+use Rattle.esc_store.specs.ResultLaws.{if_ok}
 use Rattle.esc_events.specs.Amended.{amended_bodies}
 use Rattle.esc_events.specs.Events.{EventValue, union}
 use Rattle.esc_events.specs.Known.{IsKnown}
@@ -15,10 +17,9 @@ use Rattle.esc_events.specs.Plans.{AreLatestSteps}
 use Rattle.esc_events.specs.Stands.{StandsFor, deposits_of}
 use Rattle.esc_desk.specs.DepositSources.{AreJudged}
 use Rattle.esc_desk.specs.Crashes.{AddsStore, AddsStoreFor}
-use Rattle.esc_desk.proofs.AmendSteps.{IsListing, if_ok_at, is_amendment, is_moved_from, stands_then, works_then, knows_then}
+use Rattle.esc_desk.proofs.AmendSteps.{IsListing, is_amendment, is_moved_from, stands_then, works_then, knows_then}
 use Rattle.esc_desk.proofs.CrashLemmas.{leaves_for}
 use Rattle.esc_desk.proofs.CrashSteps.{adds_for, adds_none, adds_then}
-use Rattle.esc_desk.proofs.StoreFacts.{was_honest, as_before_then}
 use Rattle.esc_desk.proofs.amendment.list_in.Given as given
 use Rattle.esc_desk.proofs.amendment.list_in.Goals as goal
 
@@ -86,7 +87,7 @@ returns-clause-listed g c = λ clean e k more stood stands knows united.
     let amends = is_amendment is in
     let moves = is_moved_from is in
     let here = c.in_ok-plan.ensures.same.stands k (c.in_ok-moment.ensures.same.stands k (c.in_ok-judged.ensures.same.stands k stood)) in
-    if_ok_at c.list_rows-work.result _ (λ work done. record {
+    if_ok c.list_rows-work.result _ (λ work done. record {
       serves = record {
         kept = _;
         stands = IfOk-at_ok _ done c.list_rows-work.ensures.listed clean k before more amends moves here;

@@ -1,6 +1,6 @@
 use Rattle.std.proofs.Common.{◌≡◌, length, arith}
+use Rattle.esc_store.specs.StandingLaws.{was_honest, as_before_then}
 use Rattle.esc_desk.proofs.JudgedRows.{adopted_more, dropped_more, adopted_all, dropped_all}
-use Rattle.esc_desk.proofs.StoreFacts.{was_honest, as_before_then}
 use Rattle.esc_desk.proofs.judging.judge_rows.Goals as goal
 
 pub loop-row-preserved : goal.loop-row-preserved

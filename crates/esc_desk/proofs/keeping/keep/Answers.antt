@@ -1,5 +1,6 @@
 use Rattle.std.proofs.Common.{rules, List, [], ◌∷◌, ◌++◌, sym, subst, ◌∙◌}
 use Rattle.std.proofs.lemmas.Result.{IfOk-weaker}
+use Rattle.std.proofs.lemmas.Option.{none-some}
 use Rattle.sha2.specs.Sha256.{sha256}
 use Rattle.esc_tables.specs.Reading.{reading}
 use Rattle.esc_store.specs.Kept.{Kept, with_receipt}
@@ -12,7 +13,6 @@ use Rattle.esc_events.specs.Events.{EventValue}
 use Rattle.esc_events.specs.Events.EventValue.{arrived}
 use Rattle.esc_events.specs.Stands.{StandsFor}
 use Rattle.esc_events.specs.Taking.{IsNew}
-use Rattle.esc_events.proofs.Searches.{no_answer}
 use Rattle.esc_desk.specs.Crashes.{AddsStore, AddsStoreFor}
 use Rattle.esc_desk.proofs.CrashSteps.{adds_as, adds_for, not_full_by}
 use Rattle.esc_desk.proofs.Holding.{IsRefused, refused_listed, refused_row, stands_noted, kept_noted, told_still}
@@ -22,7 +22,7 @@ use Rattle.esc_desk.proofs.keeping.keep.Goals as goal
 noted : {e : List EventValue} {a : ArrivalValue} {k : Kept} {found : Assessment} {known : Known} {receipt : ReceiptValue} → IsNew e a k found known receipt → IsRefused found
     → StandsFor sha256 reading (e ++ arrived a ∷ []) (with_receipt k receipt)
 noted {e = e} {a = a} {k = k} {found = found} {known = known} {receipt = receipt} is refused =
-    stands_noted e a k found known receipt is (refused_listed found refused) (λ q here. absurd (no_answer (sym (refused_row found refused) ∙ here)))
+    stands_noted e a k found known receipt is (refused_listed found refused) (λ q here. absurd (none-some _ (sym (refused_row found refused) ∙ here)))
 
 pub returns-in_err-number-in-Unreadable-clause-crash : goal.returns-in_err-number-in-Unreadable-clause-crash
 unfolding AddsStore AddsStoreFor

@@ -4,6 +4,7 @@ use Rattle.esc_tables.specs.Reading.{reading}
 use Rattle.esc_apply.specs.declared.front.Step.{Step}
 use Rattle.esc_store.specs.Kept.{Kept, AreHeld, body_put}
 use Rattle.esc_store.specs.Standing.{Stands, IsHonest}
+use Rattle.esc_store.specs.StandingLaws.{was_honest}
 use Rattle.esc_events.specs.declared.assessment.Assessment.TheVariants.{Holding}
 use Rattle.esc_events.specs.declared.known.Known.{Known}
 use Rattle.esc_events.specs.ArrivalValue.{an_arrival}
@@ -17,7 +18,6 @@ use Rattle.esc_events.specs.Stands.{deposits_of}
 use Rattle.esc_events.specs.Taking.{IsNew}
 use Rattle.esc_events.proofs.Moving.{moved_from}
 use Rattle.esc_desk.specs.Crashes.{AddsStore, AddsStoreFor}
-use Rattle.esc_desk.proofs.StoreFacts.{was_honest}
 use Rattle.esc_desk.proofs.Holding.{held_source, move_of}
 use Rattle.esc_desk.proofs.Working.{both_ok, idle_held}
 use Rattle.esc_desk.proofs.CrashLemmas.{leaves_for}

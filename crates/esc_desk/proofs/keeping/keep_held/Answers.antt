@@ -1,11 +1,13 @@
 use Rattle.std.proofs.Common.{rules, ◌≡◌, ℕ, List, [], ◌∷◌, ◌++◌, true, IsSome, nat_eq, sym, ap, subst, ◌∙◌}
 use Rattle.std.specs.List.{list_any}
 use Rattle.std.proofs.lemmas.Result.{IfOk-weaker}
+use Rattle.std.proofs.lemmas.Option.{same_Some}
 use Rattle.sha2.specs.Sha256.{sha256}
 use Rattle.esc_tables.specs.DepositValue.{DepositValue}
 use Rattle.esc_tables.specs.Reading.{reading}
 use Rattle.esc_store.specs.Kept.{Kept, with_receipt}
 use Rattle.esc_store.specs.ReplyValue.{ReceiptValue}
+use Rattle.esc_store.specs.StandingLaws.{survives_same}
 use Rattle.esc_events.specs.ArrivalValue.{ArrivalValue, an_arrival}
 use Rattle.esc_events.specs.Events.{EventValue}
 use Rattle.esc_events.specs.Events.EventValue.{arrived}
@@ -14,10 +16,10 @@ use Rattle.esc_events.specs.Taking.{IsNew}
 use Rattle.esc_events.specs.declared.known.Known.{Known}
 use Rattle.esc_events.specs.declared.assessment.Assessment.TheVariants.{Holding}
 use Rattle.esc_events.specs.declared.parking.Parking.TheVariants.{Needless}
-use Rattle.esc_events.proofs.Searches.{same_answer}
+use Rattle.esc_events.specs.HeldLaws.{holding_listed}
 use Rattle.esc_desk.specs.Crashes.{AddsStore, AddsStoreFor}
-use Rattle.esc_desk.proofs.CrashSteps.{adds_as, adds_at_rest, adds_for, not_full_by}
-use Rattle.esc_desk.proofs.Holding.{holding_listed, stands_noted, kept_noted, told_held}
+use Rattle.esc_desk.proofs.CrashSteps.{adds_as, adds_for, not_full_by}
+use Rattle.esc_desk.proofs.Holding.{stands_noted, kept_noted, told_held}
 use Rattle.esc_desk.proofs.KnownRows.{contained, no_body, held_more}
 use Rattle.esc_desk.proofs.keeping.keep_held.Goals as goal
 
@@ -26,11 +28,11 @@ noted : {e : List EventValue} {a : ArrivalValue} {k : Kept} {row : ℕ} {d : Dep
     → list_any (λ q. nat_eq q row) known.held.items ≡ true → StandsFor sha256 reading (e ++ arrived a ∷ []) (with_receipt k receipt)
 noted {e = e} {a = a} {k = k} {row = row} {d = d} {known = known} {receipt = receipt} is any =
     let some = (is.known_is.held.each row).0 (contained known.held.items row any) in
-    stands_noted e a k (Holding row d) known receipt is (holding_listed row d) (λ q here. subst (λ (r : ℕ). IsSome (k.bodies r)) (same_answer here) some)
+    stands_noted e a k (Holding row d) known receipt is (holding_listed row d) (λ q here. subst (λ (r : ℕ). IsSome (k.bodies r)) (same_Some _ _ here) some)
 
 pub returns-in_err-insert_row-clause-crash : goal.returns-in_err-insert_row-clause-crash
 unfolding AddsStoreFor
-returns-in_err-insert_row-clause-crash g c = λ clean e n k stood is. adds_at_rest
+returns-in_err-insert_row-clause-crash g c = λ clean e n k stood is. survives_same
 
 pub returns-in_err-number-clause-crash : goal.returns-in_err-number-clause-crash
 unfolding AddsStore AddsStoreFor
@@ -57,7 +59,7 @@ returns-then-contains-clause-crash g c = λ clean e n k stood is.
 
 pub returns-in_err-insert_row-2-clause-crash : goal.returns-in_err-insert_row-2-clause-crash
 unfolding AddsStoreFor
-returns-in_err-insert_row-2-clause-crash g c = λ clean e n k stood is. adds_at_rest
+returns-in_err-insert_row-2-clause-crash g c = λ clean e n k stood is. survives_same
 
 pub returns-clause-kept : goal.returns-clause-kept
 returns-clause-kept g c = IfOk-weaker c.keep_deposit.result _ _ (λ p made. λ clean e n k stood is.

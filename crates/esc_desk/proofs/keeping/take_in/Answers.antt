@@ -4,6 +4,7 @@ use Rattle.esc_tables.specs.Reading.{reading}
 use Rattle.esc_manifest.specs.declared.row.MRow.{MRow}
 use Rattle.esc_store.specs.Kept.{Kept}
 use Rattle.esc_store.specs.ReplyValue.{ReceiptValue, ReplyValue, reply_kept, reply_alike}
+use Rattle.esc_store.specs.StandingLaws.{survives_same}
 use Rattle.esc_events.specs.declared.assessment.Assessment.{Assessment}
 use Rattle.esc_events.specs.declared.known.Known.{Known}
 use Rattle.esc_events.specs.ArrivalValue.{an_arrival}
@@ -18,13 +19,13 @@ use Rattle.esc_events.proofs.HeldRows.{unlisted_row}
 use Rattle.esc_events.proofs.OneArrival.{new_reply}
 use Rattle.esc_desk.specs.Crashes.{AddsStoreFor}
 use Rattle.esc_desk.proofs.CauseLemmas.{if_err_is, faults_of}
-use Rattle.esc_desk.proofs.CrashSteps.{adds_as, adds_at_rest, not_full_by}
+use Rattle.esc_desk.proofs.CrashSteps.{adds_as, not_full_by}
 use Rattle.esc_desk.proofs.Holding.{row_within}
 use Rattle.esc_desk.proofs.keeping.take_in.Goals as goal
 
 pub returns-in_err-found-clause-crash : goal.returns-in_err-found-clause-crash
 unfolding AddsStoreFor
-returns-in_err-found-clause-crash g c = λ clean e k stood stands known none. adds_at_rest
+returns-in_err-found-clause-crash g c = λ clean e k stood stands known none. survives_same
 
 pub reply_of-requires : goal.reply_of-requires
 reply_of-requires g c =
@@ -37,7 +38,7 @@ reply_of-requires g c =
 
 pub returns-in_err-reply-clause-crash : goal.returns-in_err-reply-clause-crash
 unfolding AddsStoreFor
-returns-in_err-reply-clause-crash g c = λ clean e k stood stands known none. adds_at_rest
+returns-in_err-reply-clause-crash g c = λ clean e k stood stands known none. survives_same
 
 -- an arrival for which no receipt is kept, and what was found of it
 is_new : (n body : List ℕ) {e : List EventValue} {k : Kept} {known : Known} {m : List MRow} {digest : List ℕ} {found : Assessment} {again : Bool} {receipt : ReceiptValue}

@@ -1,7 +1,7 @@
 use Rattle.std.proofs.Common.{List, ℕ, take, sym, subst}
 use Rattle.std.proofs.lemmas.List.{take_more}
+use Rattle.esc_store.specs.StandingLaws.{was_honest, as_before_then}
 use Rattle.esc_desk.specs.Knowing.{AreFound}
-use Rattle.esc_desk.proofs.StoreFacts.{was_honest, as_before_then}
 use Rattle.esc_desk.proofs.knowing.held_of.Goals as goal
 
 pub loop-digest-preserved : goal.loop-digest-preserved

@@ -1,7 +1,7 @@
 use Rattle.std.proofs.Common.{◌≡◌, List, Some, None, IsSome, is_some, sym, ap, ◌∙◌, rules, true≢false}
+use Rattle.std.proofs.lemmas.Option.{same_Some, none-some}
 use Rattle.esc_manifest.specs.declared.row.MRow.{MRow}
 use Rattle.esc_events.specs.Assessment.{row_of}
-use Rattle.esc_events.proofs.Searches.{same_answer, no_answer}
 use Rattle.esc_desk.proofs.FoundRows.{found_no_more, found_one_more}
 use Rattle.esc_desk.proofs.knowing.insert_held.Goals as goal
 
@@ -9,7 +9,7 @@ use Rattle.esc_desk.proofs.knowing.insert_held.Goals as goal
 pub returns-in_default-clause-found : goal.returns-in_default-clause-found
 returns-in_default-clause-found g c = λ clean k stood told digests found.
     let none : row_of k.listed c.args.digest.now ≡ None = search rules in
-    found_no_more k told digests c.args.digest.now c.args.rows.now.items found (λ r lists some. absurd (no_answer (sym none ∙ lists)))
+    found_no_more k told digests c.args.digest.now c.args.rows.now.items found (λ r lists some. absurd (none-some _ (sym none ∙ lists)))
 
 -- no body is held of the row
 pub returns-else-is_some-clause-found : goal.returns-else-is_some-clause-found
@@ -17,7 +17,7 @@ returns-else-is_some-clause-found g c = λ clean k stood told digests found.
     let lists : row_of k.listed c.args.digest.now ≡ Some c.in-Some.row = ap (λ (m : List MRow). row_of m c.args.digest.now) (sym (c.manifest.ensures.kept k stood)) ∙ sym c.in-Some.ensures in
     let none : k.bodies c.in-Some.row ≡ None = search rules in
     found_no_more k told digests c.args.digest.now c.args.rows.now.items found (λ r again some.
-    let same : c.in-Some.row ≡ r = same_answer (sym lists ∙ again) in
+    let same : c.in-Some.row ≡ r = same_Some _ _ (sym lists ∙ again) in
     true≢false (sym some ∙ ap (λ q. is_some (k.bodies q)) (sym same) ∙ ap is_some none))
 
 -- a body is held of the row

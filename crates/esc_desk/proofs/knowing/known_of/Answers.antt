@@ -1,4 +1,4 @@
-use Rattle.esc_desk.proofs.StoreFacts.{was_honest}
+use Rattle.esc_store.specs.StandingLaws.{was_honest}
 use Rattle.esc_desk.proofs.knowing.known_of.Goals as goal
 
 pub returns-clause-known : goal.returns-clause-known

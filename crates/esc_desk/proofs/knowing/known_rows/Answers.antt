@@ -1,8 +1,8 @@
 use Rattle.std.proofs.Common.{List, ℕ, sym, subst}
 use Rattle.esc_store.specs.Kept.{AreHeldBy, IsRising}
+use Rattle.esc_store.specs.StandingLaws.{was_honest}
 use Rattle.esc_desk.specs.Knowing.{AreFound}
 use Rattle.esc_desk.proofs.FoundRows.{held_of_found}
-use Rattle.esc_desk.proofs.StoreFacts.{was_honest}
 use Rattle.esc_desk.proofs.knowing.known_rows.Goals as goal
 
 pub returns-clause-known : goal.returns-clause-known

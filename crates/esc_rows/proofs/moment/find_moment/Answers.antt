@@ -1,10 +1,11 @@
 use Rattle.std.proofs.Common.{◌∙◌}
+use Rattle.esc_rows.specs.ResultLaws.{if_goes}
 use Rattle.esc_rows.proofs.MomentLemmas.{moment_is}
-use Rattle.esc_rows.proofs.PartLemmas.{read_then, if_ok}
+use Rattle.esc_rows.proofs.PartLemmas.{read_then}
 use Rattle.esc_rows.proofs.moment.find_moment.Goals as goal
 
 pub returns : goal.returns
 returns g c = record {
-  read = read_then c.in_ok-rows.ensures.read (λ db x h shows. if_ok c.moment_in.result _ _ c.moment_in.ensures
+  read = read_then c.in_ok-rows.ensures.read (λ db x h shows. if_goes c.moment_in.result _ _ c.moment_in.ensures
       (λ found is. moment_is x _ found (c.deref.ensures.value ∙ shows) is));
 }

@@ -1,15 +1,16 @@
 use Rattle.std.proofs.Common.{map, ◌∙◌}
 use Rattle.sqlite_keyed.specs.Lists.{sort_by}
 use Rattle.esc_rows.specs.Parked.{by_digest, digest_of, shown_digest}
+use Rattle.esc_rows.specs.ResultLaws.{if_goes}
 use Rattle.esc_rows.proofs.DecodeLemmas.{reads_back}
 use Rattle.esc_rows.proofs.ParkedLemmas.{lists_parked}
-use Rattle.esc_rows.proofs.PartLemmas.{read_then, if_ok}
+use Rattle.esc_rows.proofs.PartLemmas.{read_then}
 use Rattle.esc_rows.proofs.parked.parked_digests.Goals as goal
 
 pub returns : goal.returns
 returns g c = record {
   read = read_then c.in_ok-rows.ensures.read (λ db x h shows.
       let sorted = sort_by by_digest x.parked in
-      if_ok c.read_rows.result _ _ c.read_rows.ensures (λ all are. lists_parked db x (map (λ d. d.items) all.items) h
+      if_goes c.read_rows.result _ _ c.read_rows.ensures (λ all are. lists_parked db x (map (λ d. d.items) all.items) h
       (reads_back shown_digest (λ d. d.items) (map digest_of sorted) _ all.items are (c.deref.ensures.value ∙ shows))));
 }

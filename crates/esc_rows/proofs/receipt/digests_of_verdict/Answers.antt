@@ -1,14 +1,15 @@
 use Rattle.std.proofs.Common.{◌∙◌}
 use Rattle.esc_rows.specs.Changes.{verdict_digests}
 use Rattle.esc_rows.specs.Parked.{shown_digest}
+use Rattle.esc_rows.specs.ResultLaws.{if_goes}
 use Rattle.esc_rows.proofs.DecodeLemmas.{reads_back}
-use Rattle.esc_rows.proofs.PartLemmas.{read_then, if_ok}
+use Rattle.esc_rows.proofs.PartLemmas.{read_then}
 use Rattle.esc_rows.proofs.receipt.digests_of_verdict.Goals as goal
 
 pub returns : goal.returns
 returns g c = record {
   read = read_then c.in_ok-rows.ensures.read (λ db x h shows.
       let digests = verdict_digests c.args.verdict x.receipts in
-      if_ok c.read_rows.result _ _ c.read_rows.ensures
+      if_goes c.read_rows.result _ _ c.read_rows.ensures
       (λ all are. reads_back shown_digest (λ d. d.items) digests _ all.items are (c.deref.ensures.value ∙ shows)));
 }

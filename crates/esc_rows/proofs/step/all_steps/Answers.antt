@@ -1,12 +1,13 @@
 use Rattle.std.proofs.Common.{◌∙◌}
 use Rattle.esc_rows.specs.Rows.{shown_step}
 use Rattle.esc_rows.specs.Entries.{step_row}
+use Rattle.esc_rows.specs.ResultLaws.{if_goes}
 use Rattle.esc_rows.proofs.DecodeLemmas.{reads_back}
-use Rattle.esc_rows.proofs.PartLemmas.{read_then, if_ok}
+use Rattle.esc_rows.proofs.PartLemmas.{read_then}
 use Rattle.esc_rows.proofs.step.all_steps.Goals as goal
 
 pub returns : goal.returns
 returns g c = record {
-  read = read_then c.in_ok-rows.ensures.read (λ db x h shows. if_ok c.read_rows.result _ _ c.read_rows.ensures
+  read = read_then c.in_ok-rows.ensures.read (λ db x h shows. if_goes c.read_rows.result _ _ c.read_rows.ensures
       (λ all are. reads_back shown_step step_row x.steps _ all.items are (c.deref.ensures.value ∙ shows)));
 }

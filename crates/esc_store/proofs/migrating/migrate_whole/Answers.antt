@@ -1,6 +1,6 @@
-use Rattle.esc_store.proofs.Ends.{at_ok}
+use Rattle.std.proofs.lemmas.Result.{IfOk-at_ok}
+use Rattle.esc_rows.specs.ResultLaws.{if_goes}
 use Rattle.esc_store.proofs.Following.{on_ok}
-use Rattle.esc_store.proofs.Reading.{if_goes}
 use Rattle.esc_store.proofs.MigratingLemmas.{tested, migrated_survives}
 use Rattle.esc_store.proofs.migrating.migrate_whole.Goals as goal
 
@@ -18,4 +18,4 @@ returns-clause-stands g c = if_goes c.commit_upgraded.result _ _ c.commit_upgrad
 
 pub returns-clause-left : goal.returns-clause-left
 returns-clause-left g c = on_ok c.commit_upgraded.result _ (λ x is k sees.
-    at_ok c.commit_upgraded.result x _ is c.commit_upgraded.ensures.left k (tested _ _ k c.test_first.ensures.survives c.in_ok-test_first.ensures.version sees))
+    IfOk-at_ok _ is c.commit_upgraded.ensures.left k (tested _ _ k c.test_first.ensures.survives c.in_ok-test_first.ensures.version sees))

@@ -12,8 +12,8 @@ use Rattle.esc_desk.specs.Asked.{amendment_of}
 use Rattle.esc_desk.specs.Amendments.{IsUnionWith, IsRefusedUnion}
 use Rattle.esc_desk.specs.Serving.{DeskServes}
 use Rattle.esc_desk.specs.Crashes.{CrashLeaves, doubtful_with}
-use Rattle.esc_desk.proofs.NoRowMore.{new_count, alike_none, stands_none, works_none, amendment_is, rows_of_store, leaves_alike, leaves_sure, leaves_before, leaves_lost}
-use Rattle.esc_desk.proofs.CrashLemmas.{if_clean}
+use Rattle.esc_desk.proofs.NoRowMore.{new_count, alike_none, stands_none, works_none, amendment_is, rows_of_store, leaves_alike, leaves_before, leaves_lost}
+use Rattle.esc_desk.proofs.CrashLemmas.{if_clean, leaves_only}
 use Rattle.esc_desk.proofs.desk.Desk.amend.Goals as goal
 
 pub returns-in-Err-NoMemory-clause-crash : goal.returns-in-Err-NoMemory-clause-crash
@@ -90,7 +90,7 @@ returns-in-Ok-list_more-clause-crash g c = λ e doubtful served left. if_clean g
     let some : ((length c.rows.result.now - length c.rows-2.result.now) == 0) ≡ false = grind (arith, nat_tests, c.if-added-eq0.false) in
     subst (λ (t : Bool). CrashLeaves g.S.Store c.list_more.new.self.store.conn (e ++ amendment_of c.args.text.now ∷ []) (cond t doubtful [])) (sym some)
     (subst (λ (x : EventValue). CrashLeaves g.S.Store c.list_more.new.self.store.conn (e ++ x ∷ []) []) (sym (amendment_is c.args.text.now u.rows u.read))
-    (leaves_sure g.S.Store c.list_more.new.self.store.conn (e ++ listed u.rows ∷ []) made.left)))
+    (leaves_only g.S.Store c.list_more.new.self.store.conn (e ++ listed u.rows ∷ []) made.left)))
 
 pub returns-in-Err-clause-crash : goal.returns-in-Err-clause-crash
 returns-in-Err-clause-crash g c = λ e doubtful served left. if_clean g.S.Store _ _ _ (λ clean.

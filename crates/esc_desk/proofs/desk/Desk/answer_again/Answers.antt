@@ -1,8 +1,9 @@
 use Rattle.std.proofs.Common.{rules, refl, sym, ap, subst, ◌∙◌}
 use Rattle.esc_store.specs.ReplyValue.{ReplyValue}
+use Rattle.esc_store.specs.StandingLaws.{survives_same}
 use Rattle.esc_desk.specs.Crashes.{AddsStoreFor}
 use Rattle.esc_desk.proofs.ComingAgain.{answered_nothing, is_again, IsOther, no_verdict}
-use Rattle.esc_desk.proofs.CrashSteps.{adds_as, adds_at_rest, not_full_by}
+use Rattle.esc_desk.proofs.CrashSteps.{adds_as, not_full_by}
 use Rattle.esc_desk.proofs.desk.Desk.answer_again.Goals as goal
 
 pub returns-in_ok-work-in-A2-clause-answered : goal.returns-in_ok-work-in-A2-clause-answered
@@ -38,4 +39,4 @@ returns-in-A1-clause-place g c = λ clean k stood is. absurd (no_verdict c.args.
 
 pub returns-in-A1-clause-crash : goal.returns-in-A1-clause-crash
 unfolding AddsStoreFor
-returns-in-A1-clause-crash g c = λ clean e n k stood stands known there. adds_at_rest
+returns-in-A1-clause-crash g c = λ clean e n k stood stands known there. survives_same

@@ -1,5 +1,6 @@
 use Rattle.std.proofs.Common.{rules, refl, ◌≡◌, ◌<◌, ◌≤◌, Some, None, List, length, sym, ap, ap₂, subst, ◌∙◌}
-use Rattle.std.proofs.lemmas.Result.{IfOk-weaker}
+use Rattle.std.proofs.lemmas.Result.{IfOk-weaker, IfErr-weaker}
+use Rattle.std.proofs.lemmas.Option.{same_Some, none-some}
 use Rattle.sha2.specs.Sha256.{sha256}
 use Rattle.esc_tables.specs.Reading.{reading}
 use Rattle.esc_manifest.specs.declared.row.MRow.{MRow}
@@ -8,14 +9,13 @@ use Rattle.esc_store.specs.Standing.{IsHonest}
 use Rattle.esc_events.specs.ArrivalValue.{an_arrival}
 use Rattle.esc_events.specs.Events.{EventValue, union}
 use Rattle.esc_events.specs.Receipts.{reply_to}
-use Rattle.esc_events.proofs.Searches.{same_answer, no_answer}
 use Rattle.esc_desk.specs.Causes.{IsCrowded}
 use Rattle.esc_desk.specs.Crashes.{AddsStoreFor}
 use Rattle.esc_desk.specs.Serving.{DeskServes}
 use Rattle.esc_desk.proofs.ComingAgain.{left_again}
 use Rattle.esc_desk.proofs.CrashLemmas.{leaves_early, leaves_taken, leaves_again}
 use Rattle.esc_desk.proofs.CrashSteps.{adds_then, if_ok_each, if_then_on, on_ok_each, on_ok_where}
-use Rattle.esc_desk.proofs.CauseLemmas.{on_err_so, if_err_is, if_err_each, if_err_both, one_of_four, again_four, cause_by, cause_of, again_cause, crowded_of, no_place_of}
+use Rattle.esc_desk.proofs.CauseLemmas.{on_err_so, if_err_is, if_err_both, one_of_four, again_four, cause_by, cause_of, again_cause, crowded_of, no_place_of}
 use Rattle.esc_desk.proofs.StoreFacts.{still_serves}
 use Rattle.esc_desk.proofs.ReadLemmas.{if_ok_two}
 use Rattle.esc_desk.proofs.desk.Desk.arrive.Given as given
@@ -99,17 +99,17 @@ returns-in-Some-clause-repeated g c = λ clean e served.
     let done = c.answer_again.ensures.answered clean e c.args.number.now serves.kept there serves.stands_for served.remembers (kept_reply g c clean e served) in
     let at = told g c clean e served in
     if_ok_two c.answer_again.result _ _ _ (λ p same again r told.
-    let one = same_answer (sym at ∙ told) in
+    let one = same_Some _ _ (sym at ∙ told) in
     (same ∙ one, λ other. again.rests (λ is. other (ap (λ (x : ReplyValue). x.verdict) (sym (same ∙ one)) ∙ is)))) c.answer_again.ensures.same done
 
 pub returns-in-None-clause-repeated : goal.returns-in-None-clause-repeated
 returns-in-None-clause-repeated g c = λ clean e served.
-    if_ok_each c.take_new.result _ (λ p r told. absurd (no_answer (sym (untold g c clean e served) ∙ told)))
+    if_ok_each c.take_new.result _ (λ p r told. absurd (none-some _ (sym (untold g c clean e served) ∙ told)))
 
 pub returns-in-Some-clause-room : goal.returns-in-Some-clause-room
 returns-in-Some-clause-room g c = λ clean e served.
     let at = told g c clean e served in
-    if_ok_each c.answer_again.result _ (λ p none. absurd (no_answer (sym none ∙ at)))
+    if_ok_each c.answer_again.result _ (λ p none. absurd (none-some _ (sym none ∙ at)))
 
 pub returns-in-None-clause-room : goal.returns-in-None-clause-room
 returns-in-None-clause-room g c = λ clean e served.
@@ -152,7 +152,7 @@ returns-in-Some-clause-crash g c = λ e doubtful served left.
     c.answer_again.ensures.same (c.answer_again.ensures.answered clean e a.number serves.kept kept stood served.remembers (kept_reply g c clean e served)))
 
 pub returns-in-Some-clause-cause : goal.returns-in-Some-clause-cause
-returns-in-Some-clause-cause g c = if_err_each c.answer_again.result _ _ (λ f cause. again_four f _ cause) c.answer_again.ensures.cause
+returns-in-Some-clause-cause g c = IfErr-weaker c.answer_again.result _ _ (λ f cause. again_four f _ cause) c.answer_again.ensures.cause
 
 pub returns-in-Some-clause-full : goal.returns-in-Some-clause-full
 returns-in-Some-clause-full g c = λ clean e served.
@@ -162,7 +162,7 @@ returns-in-Some-clause-full g c = λ clean e served.
     let at = told g c clean e served in
     let kept = c.in_ok-reply.ensures.same.stands serves.kept serves.stands in
     if_err_both c.answer_again.result _ _ _ (λ f again cause. again_cause e a f _
-    (λ crowded. no_place_of e a serves.kept books (λ r told. ap (λ (x : ReplyValue). x.verdict) (same_answer (sym told ∙ at)) ∙ again)
+    (λ crowded. no_place_of e a serves.kept books (λ r told. ap (λ (x : ReplyValue). x.verdict) (same_Some _ _ (sym told ∙ at)) ∙ again)
     (subst (IsCrowded serves.kept) c.digest-digest.ensures (crowded clean serves.kept kept))) cause) c.answer_again.ensures.again c.answer_again.ensures.cause
 
 pub returns-in-None-clause-crash : goal.returns-in-None-clause-crash
@@ -182,7 +182,7 @@ returns-in_err-reply-clause-full g c = λ clean e served.
     (cause_by e (an_arrival c.args.number.now c.args.body.now) c.in_err-reply.field-0.0 c.in_err-reply.ensures.cause)
 
 pub returns-in-None-clause-cause : goal.returns-in-None-clause-cause
-returns-in-None-clause-cause g c = if_err_each c.take_new.result _ _ (λ f cause. one_of_four f _ _ cause) c.take_new.ensures.cause
+returns-in-None-clause-cause g c = IfErr-weaker c.take_new.result _ _ (λ f cause. one_of_four f _ _ cause) c.take_new.ensures.cause
 
 pub returns-in-None-clause-full : goal.returns-in-None-clause-full
 returns-in-None-clause-full g c = λ clean e served.
@@ -191,8 +191,8 @@ returns-in-None-clause-full g c = λ clean e served.
     let a = an_arrival c.args.number.now c.args.body.now in
     let there = c.in_ok-reply.ensures.same.stands serves.kept serves.stands in
     let never = untold g c clean e served in
-    if_err_each c.take_new.result _ _ (λ f cause. cause_of e a f _ _
-    (λ crowded. no_place_of e a serves.kept books (λ r told. absurd (no_answer (sym never ∙ told))) (subst (IsCrowded serves.kept) c.digest-digest.ensures (crowded clean serves.kept there)))
+    IfErr-weaker c.take_new.result _ _ (λ f cause. cause_of e a f _ _
+    (λ crowded. no_place_of e a serves.kept books (λ r told. absurd (none-some _ (sym never ∙ told))) (subst (IsCrowded serves.kept) c.digest-digest.ensures (crowded clean serves.kept there)))
     (λ full. (never, subst (λ (rs : List ReceiptValue). 1_000_000_000 ≤ length rs) books.receipts (full clean serves.kept there))) cause) c.take_new.ensures.cause
 
 pub returns-in_err-reply-clause-lost : goal.returns-in_err-reply-clause-lost

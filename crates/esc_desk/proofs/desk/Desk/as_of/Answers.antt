@@ -3,6 +3,7 @@ use Rattle.esc_tables.specs.Reading.{reading}
 use Rattle.esc_apply.specs.declared.front.Step.{Step}
 use Rattle.esc_store.specs.Kept.{with_moment}
 use Rattle.esc_store.specs.Standing.{IsHonest}
+use Rattle.esc_store.specs.StandingLaws.{was_honest}
 use Rattle.esc_events.specs.Events.{EventValue}
 use Rattle.esc_events.specs.Events.EventValue.{moved}
 use Rattle.esc_events.specs.Known.{IsKnown}
@@ -12,7 +13,6 @@ use Rattle.esc_events.specs.Stands.{deposits_of}
 use Rattle.esc_events.proofs.Moving.{moved_from}
 use Rattle.esc_desk.specs.Crashes.{AddsStore, AddsStoreFor}
 use Rattle.esc_desk.specs.Serving.{DeskServes}
-use Rattle.esc_desk.proofs.StoreFacts.{was_honest}
 use Rattle.esc_desk.proofs.CrashLemmas.{if_clean, leaves_unmade, leaves_at}
 use Rattle.esc_desk.proofs.CrashSteps.{adds_as, adds_for, adds_none, adds_then, not_full_by}
 use Rattle.esc_desk.proofs.Working.{moment_move}

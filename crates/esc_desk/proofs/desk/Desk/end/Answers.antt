@@ -1,6 +1,6 @@
 use Rattle.std.proofs.Common.{sym, ◌∙◌}
+use Rattle.esc_store.specs.StandingLaws.{was_honest}
 use Rattle.esc_desk.proofs.ReadLemmas.{no_end, end_said}
-use Rattle.esc_desk.proofs.StoreFacts.{was_honest}
 use Rattle.esc_desk.proofs.desk.Desk.end.Goals as goal
 
 pub returns-in-None-clause-end : goal.returns-in-None-clause-end

@@ -1,7 +1,7 @@
 use Rattle.std.proofs.Common.{subst, sym, ◌∙◌}
 use Rattle.esc_store.specs.Kept.{AreParked}
+use Rattle.esc_store.specs.StandingLaws.{was_honest}
 use Rattle.esc_desk.proofs.ReadLemmas.{if_ok_two, same_parked}
-use Rattle.esc_desk.proofs.StoreFacts.{was_honest}
 use Rattle.esc_desk.proofs.desk.Desk.parked.Goals as goal
 
 pub returns-clause-bodies : goal.returns-clause-bodies

@@ -5,8 +5,9 @@ use Rattle.esc_rows.specs.Entries.{listed_row as stored_row}
 use Rattle.esc_store.specs.Kept.{with_listed}
 use Rattle.esc_store.specs.TypedRows.{listed_row}
 use Rattle.esc_store.specs.Standing.{RestIn}
+use Rattle.esc_store.specs.StandingLaws.{goes_then}
 use Rattle.esc_store.proofs.Manifests.{stored_get, listed_size}
-use Rattle.esc_store.proofs.Parking.{goes_then, follows_same}
+use Rattle.esc_store.proofs.Parking.{follows_same}
 use Rattle.esc_store.proofs.listing.Change+S.list_rows.Goals as goal
 
 pub loop-at-init : goal.loop-at-init

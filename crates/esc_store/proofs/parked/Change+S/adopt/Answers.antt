@@ -1,9 +1,9 @@
 use Rattle.std.proofs.Common.{None, sym, subst, arith}
+use Rattle.std.proofs.lemmas.Result.{IfOk-at_ok}
 use Rattle.sqlite.specs.Held.{state}
 use Rattle.sqlite.specs.State.{HasCleanDisk}
 use Rattle.esc_store.specs.Kept.{with_body, with_parked}
 use Rattle.esc_store.specs.Standing.{Rest}
-use Rattle.esc_store.proofs.Ends.{at_ok}
 use Rattle.esc_store.proofs.Following.{on_ok}
 use Rattle.esc_store.proofs.parked.Change+S.adopt.Goals as goal
 
@@ -15,5 +15,5 @@ returns-clause-adopted g c = on_ok c.unpark.result _ (λ x is clean before k fre
       c.in-Some.body.items,
       sym (rw c.in-Some.is at found),
       subst (λ b. Rest g.S.Store c.unpark.new.self before (with_parked (with_body k c.args.row b) c.args.digest.now None)) c.as_slice.ensures.value
-          (at_ok c.unpark.result x _ is c.unpark.ensures.dropped before _ held),
+          (IfOk-at_ok _ is c.unpark.ensures.dropped before _ held),
     ))

@@ -1,7 +1,8 @@
 use Rattle.std.specs.Prelude.{option_map}
+use Rattle.esc_store.specs.ResultLaws.{if_ok}
 use Rattle.esc_store.proofs.Following.{on_ok}
 use Rattle.esc_store.proofs.Sure.{read_settled}
-use Rattle.esc_store.proofs.Looking.{if_ok, follows_look, holds_look}
+use Rattle.esc_store.proofs.Looking.{follows_look, holds_look}
 use Rattle.esc_store.proofs.Parking.{follows_same, found_parked}
 use Rattle.esc_store.proofs.parked.Change+S.find_parked.Goals as goal
 

@@ -1,23 +1,24 @@
 use Rattle.std.proofs.Common.{◌∙◌}
+use Rattle.std.proofs.lemmas.Result.{IfOk-at_ok}
 use Rattle.sqlite.proofs.StateLemmas.{survives_then}
 use Rattle.esc_store.specs.Standing.{Stands, BeganIn, RestIn, HoldsIn}
-use Rattle.esc_store.proofs.Ends.{ok_goes, err_goes, at_ok, began, made, under_way, given_up, keeps_then, was_clean}
+use Rattle.esc_store.proofs.Ends.{ok_goes, err_goes, began, made, under_way, given_up, keeps_then, was_clean}
 use Rattle.esc_store.proofs.store.Store.begin_here.Goals as goal
 
 pub returns-clause-began : goal.returns-clause-began
 unfolding Stands BeganIn
 returns-clause-began g c = ok_goes c.settle.result _ _ c.settle.ensures.settled.ok (λ x p k stands. rw p.1
-    (began _ _ _ _ k c.begin_in-begun.ensures.survives (λ clean. (at_ok c.begin_in-begun.result x _ p.0 (c.begin_in-begun.ensures.begun clean)).0) stands))
+    (began _ _ _ _ k c.begin_in-begun.ensures.survives (λ clean. (IfOk-at_ok _ p.0 (c.begin_in-begun.ensures.begun clean)).0) stands))
 
 pub returns-clause-rest : goal.returns-clause-rest
 unfolding Stands RestIn
 returns-clause-rest g c = ok_goes c.settle.result _ _ c.settle.ensures.settled.ok (λ x p k stands. rw p.1
-    (made _ _ _ _ k c.begin_in-begun.ensures.survives (λ clean. (at_ok c.begin_in-begun.result x _ p.0 (c.begin_in-begun.ensures.begun clean)).0) stands))
+    (made _ _ _ _ k c.begin_in-begun.ensures.survives (λ clean. (IfOk-at_ok _ p.0 (c.begin_in-begun.ensures.begun clean)).0) stands))
 
 pub returns-clause-holds : goal.returns-clause-holds
 unfolding Stands HoldsIn
 returns-clause-holds g c = ok_goes c.settle.result _ _ c.settle.ensures.settled.ok (λ x p k stands. rw p.1
-    (under_way _ _ _ _ k c.begin_in-begun.ensures.survives (λ clean. (at_ok c.begin_in-begun.result x _ p.0 (c.begin_in-begun.ensures.begun clean)).0) stands))
+    (under_way _ _ _ _ k c.begin_in-begun.ensures.survives (λ clean. (IfOk-at_ok _ p.0 (c.begin_in-begun.ensures.begun clean)).0) stands))
 
 pub returns-clause-stands : goal.returns-clause-stands
 unfolding Stands

@@ -1,21 +1,22 @@
 use Rattle.std.proofs.Common.{◌∙◌}
+use Rattle.std.proofs.lemmas.Result.{IfOk-at_ok}
 use Rattle.sqlite.proofs.StateLemmas.{survives_then}
 use Rattle.esc_store.specs.StoreTables.{IsStore}
 use Rattle.esc_store.specs.Standing.{Stands, HoldsKept, BeganIn, RestIn, HoldsIn, LeavesOr, LeavesOnly}
-use Rattle.esc_store.proofs.Ends.{ok_goes, err_goes, at_ok, at_err, committed, crash, left, given_up, keeps_then, was_clean, begun_committed}
+use Rattle.esc_store.proofs.Ends.{ok_goes, err_goes, at_err, committed, crash, left, given_up, keeps_then, was_clean, begun_committed}
 use Rattle.esc_store.proofs.store.Store.commit_here.Goals as goal
 
 pub returns-clause-committed : goal.returns-clause-committed
 unfolding HoldsKept RestIn HoldsIn
 returns-clause-committed g c = ok_goes c.settle.result _ _ c.settle.ensures.settled.ok (λ x p listing before k s rest holds. rw p.1
     (committed _ _ _ _ before k s rest holds _ c.commit_in-committed.ensures.survives
-    (λ clean. at_ok c.commit_in-committed.result x _ p.0 (c.commit_in-committed.ensures.committed clean))))
+    (λ clean. IfOk-at_ok _ p.0 (c.commit_in-committed.ensures.committed clean))))
 
 pub returns-clause-left : goal.returns-clause-left
 unfolding LeavesOnly RestIn HoldsIn
 returns-clause-left g c = ok_goes c.settle.result _ _ c.settle.ensures.settled.ok (λ x p listing before k s rest holds. rw p.1
     (left _ _ _ _ before k s rest holds _ c.commit_in-committed.ensures.survives
-    (λ clean. at_ok c.commit_in-committed.result x _ p.0 (c.commit_in-committed.ensures.committed clean)) c.commit_in-committed.ensures.only))
+    (λ clean. IfOk-at_ok _ p.0 (c.commit_in-committed.ensures.committed clean)) c.commit_in-committed.ensures.only))
 
 pub returns-clause-crash : goal.returns-clause-crash
 unfolding LeavesOr RestIn HoldsIn

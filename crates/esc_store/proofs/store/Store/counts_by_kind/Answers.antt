@@ -1,7 +1,7 @@
 use Rattle.std.proofs.Common.{sym, subst}
+use Rattle.esc_rows.specs.ResultLaws.{if_goes}
 use Rattle.esc_store.specs.Kept.{AreCounts}
 use Rattle.esc_store.specs.Standing.{Stands}
-use Rattle.esc_store.proofs.Reading.{if_goes}
 use Rattle.esc_store.proofs.store.Store.counts_by_kind.Goals as goal
 
 pub returns-in-Some-clause-counts : goal.returns-in-Some-clause-counts

@@ -1,7 +1,7 @@
 use Rattle.std.proofs.Common.{◌∙◌, map, subst, sym, ap}
+use Rattle.esc_rows.specs.ResultLaws.{if_goes}
 use Rattle.esc_store.specs.Kept.{AreParked}
 use Rattle.esc_store.proofs.Parking.{are_parked}
-use Rattle.esc_store.proofs.Reading.{if_goes}
 use Rattle.esc_store.proofs.Sure.{told_of}
 use Rattle.esc_store.proofs.store.Store.parked.Goals as goal
 

@@ -1,12 +1,11 @@
 use Rattle.std.proofs.Common.{◌∙◌, ◌++◌, List, ℕ, ap}
-use Rattle.esc_store.proofs.Sure.{was_honest}
+use Rattle.esc_store.specs.StandingLaws.{was_honest}
 use Rattle.esc_store.proofs.Unlisted.{are_unlisted}
 use Rattle.esc_store.proofs.store.Store.unlisted_digests.Goals as goal
 
 pub returns-clause-digests : goal.returns-clause-digests
 returns-clause-digests g c = λ honest k stands.
-    let mid = c.digests_of_verdict.new.self in
-    let clean = was_honest g.S.Store mid c.digests_of_verdict-2.new.self c.digests_of_verdict-2.ensures.same honest in
+    let clean = was_honest c.digests_of_verdict-2.ensures.same honest in
     let firsts : List (List ℕ) = c.in_ok-digests.digests.items in
     are_unlisted k.receipts firsts c.in_ok-parked.parked.items _ (c.in_ok-digests.ensures.digests clean k stands)
     (c.in_ok-parked.ensures.digests honest k (c.digests_of_verdict.ensures.same.stands k stands))

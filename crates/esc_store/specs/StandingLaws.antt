@@ -1,0 +1,46 @@
+-- Laws of stores and of changes, from one call to the next.
+use Rattle.std.proofs.Common.{inl, refl, ◌∙◌, arith}
+use Rattle.sqlite_trees.specs.declared.store.Store.{Ghosts}
+use Rattle.sqlite_trees.specs.Tree.{Trees}
+use Rattle.sqlite.specs.State.{State, Survives}
+use Rattle.sqlite.proofs.StateLemmas.{survives_then}
+use Rattle.esc_store.specs.declared.store.Store.{Store}
+use Rattle.esc_store.specs.Standing.{ChangeOf, IsHonest, IsAsBefore, GoesOn}
+
+-- nothing was called
+pub survives_same : {s : State} {C : Trees → Type 0} → Survives s s C
+survives_same = record {
+  clean = omega arith;
+  shield = λ h. h;
+  counts = omega arith;
+  limit = refl;
+  closes = λ _ up. inl up;
+  crash = λ _ db may. inl may;
+}
+
+-- a store that is honest after a read was honest before it
+pub was_honest : {S : Type 0} {g : Ghosts S} {old new : Store S} → IsAsBefore g old new
+    → IsHonest g new → IsHonest g old
+was_honest same clean = omega (arith, same.survives.clean, clean)
+
+-- as before, and then as before again
+pub as_before_then : {S : Type 0} {g : Ghosts S} {a b c : Store S} → IsAsBefore g a b
+    → IsAsBefore g b c → IsAsBefore g a c
+as_before_then p q = record {
+  manifest = q.manifest ∙ p.manifest;
+  writes = q.writes ∙ p.writes;
+  survives = survives_then _ _ _ _ _ _ (λ _ db none. none) (λ _ db none. none) p.survives q.survives;
+  stands = λ k h. q.stands k (p.stands k h);
+}
+
+-- a change goes on, and then goes on again
+pub goes_then : {S : Type 0} {g : Ghosts S} {a b c : ChangeOf S} → GoesOn g a b → GoesOn g b c
+    → GoesOn g a c
+goes_then p q = record {
+  same_reference = q.same_reference ∙ p.same_reference;
+  manifest = q.manifest ∙ p.manifest;
+  listed = q.listed ∙ p.listed;
+  writes = q.writes ∙ p.writes;
+  survives = survives_then _ _ _ _ _ _ (λ _ db none. none) (λ _ db none. none) p.survives q.survives;
+  began = λ k h. q.began k (p.began k h);
+}
