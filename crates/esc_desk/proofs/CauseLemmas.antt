@@ -24,10 +24,6 @@ if_err_both (Err f) P Q R h p q = h f p q
 pub if_err_is : {X E : Type 0} (r : Result X E) (f : E) (P : E → Type 0) → r ≡ Err f → P f → IfErr r P
 if_err_is r f P is p = rw is p
 
-pub on_err_so : {X E : Type 0} (r : Result X E) (P : Type 0) → P → OnErr r P
-on_err_so (Ok x) P p = tt
-on_err_so (Err f) P p = p
-
 -- S1, S2, or S4 for this reason
 abbrev pub IsS4For : SFault → Type 0 → Type 0
 IsS4For f P = IsS1OrS2 f ⊎ ((f ≡ S4) × P)

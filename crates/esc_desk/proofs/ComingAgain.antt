@@ -31,7 +31,6 @@ use Rattle.std.proofs.Common.{
 use Rattle.std.specs.Prelude.{OnOk}
 use Rattle.std.specs.List.{list_any}
 use Rattle.std.specs.Str.{bytes_eq}
-use Rattle.std.specs.FinSet as set
 use Rattle.std.specs.Cmp.Lexicographic.{bytes_decides}
 use Rattle.std.proofs.lemmas.Bool.{and_parts}
 use Rattle.std.proofs.lemmas.Option.{none-some}
@@ -42,7 +41,6 @@ use Rattle.sqlite.specs.State.{Survives}
 use Rattle.esc_tables.specs.DepositValue.{DepositValue}
 use Rattle.esc_tables.specs.Reading.{reading}
 use Rattle.esc_manifest.specs.declared.row.MRow.{MRow}
-use Rattle.esc_chain.specs.Chain.{Rows}
 use Rattle.esc_apply.specs.declared.moves.Work.{Work}
 use Rattle.esc_store.specs.declared.fault.SFault.{SFault}
 use Rattle.esc_store.specs.declared.reply.Verdict.{Verdict}
@@ -72,8 +70,7 @@ use Rattle.esc_events.proofs.EventLemmas.{union-arrived}
 use Rattle.esc_events.proofs.HeldRows.{is_row_of, listed_row}
 use Rattle.esc_events.proofs.Lost.{alike_counts, came_counts}
 use Rattle.esc_events.proofs.Members.{any_of, distinct_among}
-use Rattle.esc_events.proofs.Moving.{apart_before, stands_still, no_work_of}
-use Rattle.esc_events.proofs.MovingLemmas.{contains_held}
+use Rattle.esc_events.proofs.Moving.{stands_still, no_work_of}
 use Rattle.esc_desk.specs.declared.desk.Desk.{Desk}
 use Rattle.esc_desk.specs.declared.plan.Source.TheVariants.{Arrived}
 use Rattle.esc_desk.specs.Again.{IsUnkept, IsMissing, IsMissingAfter}
@@ -82,9 +79,9 @@ use Rattle.esc_desk.specs.DepositSources.{IsSource}
 use Rattle.esc_desk.specs.Takings.{LeavesWith, IsTakenAgain, IsAnsweredAgain}
 use Rattle.esc_desk.proofs.CrashLemmas.{leaves_with_nothing, leaves_with_only, leaves_with_then}
 use Rattle.esc_desk.proofs.Holding.{IsRefused, refused_listed, refused_row, source_of, move_to}
-use Rattle.esc_desk.proofs.KnownRows.{put_at}
 use Rattle.esc_desk.proofs.Likeness.{AddsNothing, seen, still_stands}
 use Rattle.esc_desk.proofs.RunLemmas.{reply_stays}
+use Rattle.esc_desk.proofs.Working.{idle_by}
 
 -- ---- where it adds nothing
 
@@ -206,17 +203,8 @@ module _ (e : List EventValue) (a : ArrivalValue) (k : Kept) (row : ℕ) (d : De
         → IsMove e (arrived a) k (with_body k row a.body) [] rows (body_put k.bodies row a.body) plan
     again_move rows plan moment listed = move_to e a k row k.receipts none is.stood books
 
-    -- it adds a row, so nothing is said of one that adds none
     pub again_idle : (work : Work) → IsIdle e (arrived a) work
-    again_idle work apart same =
-        let now = books.bodies apart row in
-        let before = is.stood.books.bodies (apart_before e (arrived a) apart) row in
-        absurd (true≢false (
-        ap is_some (sym (put_at k.bodies row a.body) ∙ now)
-        ∙ sym (contains_held sha256 reading (e ++ arrived a ∷ []) row)
-        ∙ ap (λ (h : Rows). set.contains h row) same
-        ∙ contains_held sha256 reading e row
-        ∙ ap is_some (sym before ∙ none)))
+    again_idle = idle_by e a k row is.stood none (λ apart. books.bodies apart row)
 
 -- ---- where it is parked
 

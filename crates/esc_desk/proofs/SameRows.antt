@@ -1,4 +1,5 @@
 -- Two lists of events by which the same rows are listed and held leave the same tables, in whatever order the rows were listed.
+use Rattle.std.specs.List.{AllByRecursion}
 use Rattle.std.proofs.Common.{◌≡◌, ℕ, ℤ, true, List, [], ◌∷◌, ◌++◌, reverse, Option, is_some, refl, sym, ap, ap₂, subst, ◌∙◌}
 use Rattle.std.proofs.lemmas.List.{reverse-append, reverse-reverse}
 use Rattle.sha2.specs.Sha256.{sha256}
@@ -12,33 +13,33 @@ use Rattle.esc_apply.specs.Images.{chain_state}
 use Rattle.esc_events.specs.Events.{EventValue, union, moment_of}
 use Rattle.esc_events.specs.Stands.{deposit_of, deposits_of, held_rows, held_body}
 use Rattle.esc_events.proofs.Moving.{chain_of}
-use Rattle.esc_events.proofs.MovingLemmas.{Each, contains_held, same_deposits}
+use Rattle.esc_events.proofs.MovingLemmas.{contains_held, same_deposits}
 use Rattle.esc_desk.specs.Laws.{HoldTheSameRows, SameRowsSameTables}
 use Rattle.esc_desk.proofs.WalkSteps.{held_in_range}
 use Rattle.esc_desk.proofs.SameHeld.{same_body}
 
 -- ---- the rows of a chain are held
 
-leads_held : (m : List MRow) (h : Rows) (r : ℕ) (c : List ℕ) → LeadsBack m h r c → Each (IsHeld h) c
+leads_held : (m : List MRow) (h : Rows) (r : ℕ) (c : List ℕ) → LeadsBack m h r c → AllByRecursion (IsHeld h) c
 leads_held m h r [] leads = tt
 leads_held m h r (s ∷ c) leads = (leads.1.held, leads_held m h s c leads.2)
 
-back_held : (m : List MRow) (h : Rows) (t : Option ℤ) (c : List ℕ) → IsLatestBackAt m h t c → Each (IsHeld h) c
+back_held : (m : List MRow) (h : Rows) (t : Option ℤ) (c : List ℕ) → IsLatestBackAt m h t c → AllByRecursion (IsHeld h) c
 back_held m h t [] latest = tt
 back_held m h t (r ∷ c) latest = (latest.0.0.held, leads_held m h r c latest.0.1)
 
-each_append : (P : ℕ → Type 0) (c d : List ℕ) → Each P c → Each P d → Each P (c ++ d)
+each_append : (P : ℕ → Type 0) (c d : List ℕ) → AllByRecursion P c → AllByRecursion P d → AllByRecursion P (c ++ d)
 each_append P [] d first rest = rest
 each_append P (r ∷ c) d first rest = (first.0, each_append P c d first.1 rest)
 
-each_reverse : (P : ℕ → Type 0) (c : List ℕ) → Each P c → Each P (reverse c)
+each_reverse : (P : ℕ → Type 0) (c : List ℕ) → AllByRecursion P c → AllByRecursion P (reverse c)
 each_reverse P [] each = tt
 each_reverse P (r ∷ c) each =
-    let both : Each P (reverse c ++ r ∷ []) = each_append P (reverse c) (r ∷ []) (each_reverse P c each.1) (each.0, tt) in
-    subst (Each P) (sym (reverse-append (r ∷ []) c)) both
+    let both : AllByRecursion P (reverse c ++ r ∷ []) = each_append P (reverse c) (r ∷ []) (each_reverse P c each.1) (each.0, tt) in
+    subst (AllByRecursion P) (sym (reverse-append (r ∷ []) c)) both
 
-chain_held : (m : List MRow) (h : Rows) (t : Option ℤ) (c : List ℕ) → IsLatestChainAt m h t c → Each (IsHeld h) c
-chain_held m h t c latest = subst (Each (IsHeld h)) (reverse-reverse c) (each_reverse (IsHeld h) (reverse c) (back_held m h t (reverse c) latest))
+chain_held : (m : List MRow) (h : Rows) (t : Option ℤ) (c : List ℕ) → IsLatestChainAt m h t c → AllByRecursion (IsHeld h) c
+chain_held m h t c latest = subst (AllByRecursion (IsHeld h)) (reverse-reverse c) (each_reverse (IsHeld h) (reverse c) (back_held m h t (reverse c) latest))
 
 module _ {e f : List EventValue} (same : HoldTheSameRows e f) where
   abbrev held_e : ℕ → Type 0
@@ -58,7 +59,7 @@ module _ {e f : List EventValue} (same : HoldTheSameRows e f) where
       others = sym (contains_held sha256 reading f s) ∙ other
 
   -- chains of the same rows have the same deposits
-  deposits_same : (c d : List ℕ) → Each (IsHeld (held_rows sha256 reading e)) c → Each (IsHeld (held_rows sha256 reading f)) d
+  deposits_same : (c d : List ℕ) → AllByRecursion (IsHeld (held_rows sha256 reading e)) c → AllByRecursion (IsHeld (held_rows sha256 reading f)) d
       → rows_along (union e) c ≡ rows_along (union f) d
       → deposits_of reading (held_body sha256 reading e) c ≡ deposits_of reading (held_body sha256 reading f) d
   deposits_same [] [] held others rows = refl

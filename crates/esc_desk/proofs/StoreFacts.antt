@@ -1,7 +1,6 @@
 -- What follows of a store from one call to the next.
-use Rattle.std.proofs.Common.{◌≡◌, List, IfSome, sym, subst, arith}
+use Rattle.std.proofs.Common.{◌≡◌, List, IfSome, sym, subst}
 use Rattle.sqlite_trees.specs.declared.store.Store.{Ghosts}
-use Rattle.sqlite.specs.State.{State, HasCleanDisk, Survives}
 use Rattle.esc_store.specs.Standing.{IsAsBefore}
 use Rattle.esc_desk.specs.declared.desk.Desk.{Desk}
 use Rattle.esc_desk.specs.Calls.{Stays}
@@ -21,7 +20,3 @@ still_serves g old new same known e served =
 -- the same in one word
 pub still_stays : {S : Type 0} (g : Ghosts S) (old new : Desk S) → IsAsBefore g old.store new.store → new.known ≡ old.known → Stays g old new
 still_stays g old new same known = record { same = same; serves = still_serves g old new same known }
-
--- a disk that is clean was clean before
-pub clean_before : {old new : State} → Survives old new (λ _. ⊥) → HasCleanDisk new → HasCleanDisk old
-clean_before survives clean = omega (arith, survives.clean, clean)

@@ -8,7 +8,7 @@ use Rattle.esc_tables.specs.Reading.{reading}
 use Rattle.esc_manifest.specs.declared.row.MRow.{MRow}
 use Rattle.esc_chain.specs.Chain.{Rows}
 use Rattle.esc_apply.specs.declared.moves.Work.{Work}
-use Rattle.esc_store.specs.Kept.{Kept, with_moment}
+use Rattle.esc_store.specs.Kept.{Kept, with_moment, body_put}
 use Rattle.esc_store.specs.ReplyValue.{ReceiptValue}
 use Rattle.esc_events.specs.declared.assessment.Assessment.TheVariants.{Holding}
 use Rattle.esc_events.specs.declared.known.Known.{Known}
@@ -19,7 +19,7 @@ use Rattle.esc_events.specs.Events.EventValue.{arrived, moved}
 use Rattle.esc_events.specs.Known.{IsKnown}
 use Rattle.esc_events.specs.Laws.{IsMove}
 use Rattle.esc_events.specs.Plans.{AreLatestSteps, IsPlanned}
-use Rattle.esc_events.specs.Stands.{StandsFor}
+use Rattle.esc_events.specs.Stands.{StandsFor, IsApart, held_body}
 use Rattle.esc_events.specs.Taking.{IsNew}
 use Rattle.esc_events.specs.Works.{IsIdle}
 use Rattle.esc_events.proofs.AmendedBooks.{books_of_moment}
@@ -33,18 +33,24 @@ pub both_ok : {X E : Type 0} (r : Result X E) (P : Type 0) (Q : X → Type 0) �
 both_ok (Ok x) P Q p q = (p, q)
 both_ok (Err e) P Q p q = tt
 
--- it adds a row, so nothing is said of one that adds none
-pub idle_held : {e : List EventValue} {a : ArrivalValue} {k : Kept} {row : ℕ} {d : DepositValue} {known : Known} {receipt : ReceiptValue} → IsNew e a k (Holding row d) known receipt
-    → k.bodies row ≡ None → (work : Work) → IsIdle e (arrived a) work
-idle_held {e = e} {a = a} {k = k} {row = row} {d = d} {known = known} {receipt = receipt} is none work apart same =
-    let now = (books_held e a k row d known receipt is none).bodies apart row in
-    let before = is.stood.books.bodies (apart_before e (arrived a) apart) row in
+-- an arrival that adds a row: nothing is said of one that adds none
+pub idle_by : (e : List EventValue) (a : ArrivalValue) (k : Kept) (row : ℕ) → StandsFor sha256 reading e k → k.bodies row ≡ None
+    → (IsApart sha256 reading (e ++ arrived a ∷ []) → body_put k.bodies row a.body row ≡ held_body sha256 reading (e ++ arrived a ∷ []) row)
+    → (work : Work) → IsIdle e (arrived a) work
+idle_by e a k row stood none held work apart same =
+    let now = held apart in
+    let before = stood.books.bodies (apart_before e (arrived a) apart) row in
     absurd (true≢false (
     ap is_some (sym (put_at k.bodies row a.body) ∙ now)
     ∙ sym (contains_held sha256 reading (e ++ arrived a ∷ []) row)
     ∙ ap (λ (h : Rows). set.contains h row) same
     ∙ contains_held sha256 reading e row
     ∙ ap is_some (sym before ∙ none)))
+
+pub idle_held : {e : List EventValue} {a : ArrivalValue} {k : Kept} {row : ℕ} {d : DepositValue} {known : Known} {receipt : ReceiptValue} → IsNew e a k (Holding row d) known receipt
+    → k.bodies row ≡ None → (work : Work) → IsIdle e (arrived a) work
+idle_held {e = e} {a = a} {k = k} {row = row} {d = d} {known = known} {receipt = receipt} is none =
+    idle_by e a k row is.stood none (λ apart. (books_held e a k row d known receipt is none).bodies apart row)
 
 -- ---- another moment is set
 

@@ -238,7 +238,7 @@ fn append_rows(rows: &mut Vec<usize>, more: &[usize]) -> Result<(), NoMemory>
 
 // Lists the rows of a union, with the bodies that are parked for them as they were judged, and
 // moves the chain.
-#[tactic(auto, using(crate::proofs::StoreFacts::clean_before))]
+#[tactic(auto, using(esc_store::specs::StandingLaws::was_clean))]
 fn list_rows<S: Alter>(
     store: &mut Store<S>,
     alloc: Global,

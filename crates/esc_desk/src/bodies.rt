@@ -37,7 +37,7 @@ use sqlite::Alter;
 use std::alloc::Global;
 
 /// Parks a body under its digest.
-#[tactic(auto, using(crate::proofs::StoreFacts::clean_before))]
+#[tactic(auto, using(esc_store::specs::StandingLaws::was_clean))]
 pub(crate) fn park_body<S: Alter>(
     store: &mut Store<S>,
     digest: &[u8; 32],
@@ -82,7 +82,7 @@ fn fill_parked<S: Alter>(
 }
 
 /// Stores the body of a row that has none yet, and moves the chain. Returns the work.
-#[tactic(auto, using(crate::proofs::StoreFacts::clean_before))]
+#[tactic(auto, using(esc_store::specs::StandingLaws::was_clean))]
 pub(crate) fn hold_body<S: Alter>(
     store: &mut Store<S>,
     alloc: Global,

@@ -59,7 +59,7 @@ use std::alloc::Global;
 
 /// Stores a receipt, and its body if that is to be parked. Returns the receipt's number. Where both
 /// `S4` and `S5` apply, it is `S4`.
-#[tactic(auto, using(crate::proofs::StoreFacts::clean_before))]
+#[tactic(auto, using(esc_store::specs::StandingLaws::was_clean))]
 pub(crate) fn note_receipt<S: Alter>(
     store: &mut Store<S>,
     receipt: &Receipt<'_>,
@@ -125,7 +125,7 @@ fn fill_note<S: Alter>(
 
 /// Stores a receipt and the body of a row that has none yet, and moves the chain. Returns the
 /// receipt's number and the work.
-#[tactic(auto, using(crate::proofs::StoreFacts::clean_before))]
+#[tactic(auto, using(esc_store::specs::StandingLaws::was_clean))]
 pub(crate) fn hold_deposit<S: Alter>(
     store: &mut Store<S>,
     alloc: Global,

@@ -76,7 +76,7 @@ impl<S: Alter> Desk<S> {
 ghost use Rattle.std.specs.Prelude.{◌++◌, ◌∷◌, []};
 
 // Sets a moment, or none, and moves the chain.
-#[tactic(auto, using(crate::proofs::StoreFacts::clean_before))]
+#[tactic(auto, using(esc_store::specs::StandingLaws::was_clean))]
 fn set_moment<S: Alter>(
     store: &mut Store<S>,
     alloc: Global,

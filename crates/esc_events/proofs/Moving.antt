@@ -2,7 +2,7 @@
 use Rattle.std.proofs.Common.{◌≡◌, ℕ, ℤ, ◌<◌, ◌≤◌, ◌*◌, ◌^◌, true, Option, Some, None, is_some, Result, Ok, Err}
 use Rattle.std.proofs.Common.{List, [], ◌∷◌, ◌++◌, length, map, take, drop, refl, sym, ap, ap₂, subst, ◌∙◌, arith, true≢false, length-append}
 use Rattle.std.specs.Prelude.{sum_by, slice_index}
-use Rattle.std.specs.List.{take-map, drop-map}
+use Rattle.std.specs.List.{take-map, drop-map, AllByRecursion}
 use Rattle.std.specs.FinSet as set
 use Rattle.std.specs.FinSet.{nat_cmp-IsAntisymmetric}
 use Rattle.std.specs.Cmp.{nat_cmp_total}
@@ -32,7 +32,7 @@ use Rattle.esc_events.specs.Stands.{HaveBodies, AreBooks, StandsFor, IsApart, de
 use Rattle.esc_events.specs.Works.{chain_cost, IsWorkOf, MentionsFew}
 use Rattle.esc_events.proofs.FrontLemmas.{same_front}
 use Rattle.esc_events.proofs.Lost.{counted_before}
-use Rattle.esc_events.proofs.MovingLemmas.{Each, each_of, are_of, same_maps, same_deposits, first_step, accepted_first, contains_held, have_bodies, true_of, held_within, front_of_same, no_move}
+use Rattle.esc_events.proofs.MovingLemmas.{each_of, are_of, same_maps, same_deposits, first_step, accepted_first, contains_held, have_bodies, true_of, held_within, front_of_same, no_move}
 
 module _ (few : MentionsFew) where
   few_of : (body : List ℕ) (told : Result DepositValue ℕ) → reading body ≡ told → mention_count (or_no_deposit told) ≤ 100_000
@@ -162,7 +162,7 @@ module _ (law : LatestChainsAtAreHeldRows) (e : List EventValue) (x : EventValue
       one : (i : ℕ) → i < length k.steps → step_at k.listed (slice_index k.steps i) ≡ step_at l.listed (slice_index k.steps i)
       one i within = sym (ap (λ (m : List MRow). step_at m (slice_index k.steps i)) begins ∙ first_step k.listed more (slice_index k.steps i) (old_rows.in_range i within))
 
-  kept : Each (λ r. deposit_of reading (k.bodies r) ≡ deposit_of reading (l.bodies r)) k.steps
+  kept : AllByRecursion (λ r. deposit_of reading (k.bodies r) ≡ deposit_of reading (l.bodies r)) k.steps
   kept = each_of (λ r. deposit_of reading (k.bodies r) ≡ deposit_of reading (l.bodies r)) k.steps (λ i within. one (slice_index k.steps i) (true_of _ (old_rows.held i within)))
     where
       one : (r : ℕ) → set.contains stood.held r ≡ true → deposit_of reading (k.bodies r) ≡ deposit_of reading (l.bodies r)

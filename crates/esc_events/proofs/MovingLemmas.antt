@@ -3,7 +3,7 @@ use Rattle.std.proofs.Common.{◌≡◌, inl, inr, ℕ, suc, ◌+◌, ◌-◌, �
 use Rattle.std.proofs.Common.{List, [], ◌∷◌, ◌++◌, length, map, drop, Option, Some, is_some, IsSome, IfSome, IsTrue, Result}
 use Rattle.std.proofs.Common.{refl, sym, ap, ap₂, subst, subst₂, ◌∙◌, arith, length-append}
 use Rattle.std.specs.Prelude.{◌<ℤ◌, sum_by, nat_lt, slice_index}
-use Rattle.std.specs.List.{list_any, find, prefix_len, zip}
+use Rattle.std.specs.List.{list_any, find, prefix_len, zip, AllByRecursion}
 use Rattle.std.specs.FinSet as set
 use Rattle.std.specs.Ordering.{nat_cmp, eq_by_cmp}
 use Rattle.std.specs.Cmp.{nat_cmp_total, eq_by_cmp_equiv}
@@ -35,19 +35,15 @@ use Rattle.esc_events.proofs.FrontLemmas.{AreOf}
 use Rattle.esc_events.proofs.HeldRows as rows
 
 -- ---- each row of a list
-abbrev pub Each : (ℕ → Type 0) → List ℕ → Type 0
-Each P [] = Unit {0}
-Each P (r ∷ rows) = P r × Each P rows
-
-pub each_of : (P : ℕ → Type 0) (rows : List ℕ) → ((i : ℕ) → i < length rows → P (slice_index rows i)) → Each P rows
+pub each_of : (P : ℕ → Type 0) (rows : List ℕ) → ((i : ℕ) → i < length rows → P (slice_index rows i)) → AllByRecursion P rows
 each_of P [] all = tt
 each_of P (r ∷ rows) all = (all 0 (omega arith), each_of P rows (λ i within. all (suc i) (omega (arith, within))))
 
-pub are_of : (m : List MRow) (rows : List ℕ) → Each (λ r. r < length m) rows → AreOf m rows
+pub are_of : (m : List MRow) (rows : List ℕ) → AllByRecursion (λ r. r < length m) rows → AreOf m rows
 are_of m [] all = tt
 are_of m (r ∷ rows) all = (all.0, are_of m rows all.1)
 
-pub same_maps : {X : Type 0} (f g : ℕ → X) (rows : List ℕ) → Each (λ r. f r ≡ g r) rows → map f rows ≡ map g rows
+pub same_maps : {X : Type 0} (f g : ℕ → X) (rows : List ℕ) → AllByRecursion (λ r. f r ≡ g r) rows → map f rows ≡ map g rows
 same_maps f g [] all = refl
 same_maps {X = X} f g (r ∷ rows) all = ap₂ (λ (d : X) (ds : List X). d ∷ ds) all.0 (same_maps f g rows all.1)
 

@@ -1,5 +1,5 @@
 -- The beginning and the ends of a change.
-use Rattle.std.proofs.Common.{◌≡◌, inl, inr, true, false, List, Option, sym, ap, subst, ◌∙◌, arith}
+use Rattle.std.proofs.Common.{◌≡◌, inl, inr, true, false, List, Option, sym, ap, subst, ◌∙◌}
 use Rattle.std.specs.Prelude.{IsTrue, Result, Ok, Err, IfOk, OnOk, OnErr, IsErr}
 use Rattle.std.proofs.lemmas.Bool.{cases_Bool}
 use Rattle.sqlite_trees.specs.Tree.{Trees}
@@ -14,6 +14,7 @@ use Rattle.esc_store.specs.Kept.{Kept, with_registry}
 use Rattle.esc_store.specs.TypedRows.{IsBooks, IsRegistry}
 use Rattle.esc_store.specs.StoreTables.{IsStore, IsStoreDatabase, HoldsTables}
 use Rattle.esc_store.specs.Standing.{IsAtRest, RestsAt, AreCountsOf, IsStanding, IsBegun, IsMade, IsUnderWay}
+use Rattle.esc_store.specs.StandingLaws.{was_clean}
 
 -- ---- results
 
@@ -28,9 +29,6 @@ err_goes (Err e) P Q h f = f h
 pub at_err : {X E : Type 0} (r : Result X E) (P : Type 0) → IsErr r → OnErr r P → P
 at_err (Ok x) P bad h = let no : ⊥ = cc in absurd no
 at_err (Err e) P bad h = h
-
-pub was_clean : (old new : State) (C : Trees → Type 0) → Survives old new C → HasCleanDisk new → HasCleanDisk old
-was_clean old new C s clean = omega (arith, s.clean, clean)
 
 -- ---- databases
 
@@ -53,7 +51,7 @@ both db k s tables books registry = record {
 module _ (old new : State) (m : List MRow) (counts : Option KindCounts) (k : Kept) (survives : Survives old new (λ _. ⊥))
     (shown : HasCleanDisk new → Shows old new old.now old.committed true) (stands : IsStanding old m counts k) where
   rested : HasCleanDisk new → IsAtRest old k
-  rested clean = stands.rests (was_clean old new (λ _. ⊥) survives clean) (shown clean).was_open
+  rested clean = stands.rests (was_clean survives clean) (shown clean).was_open
 
   pub began : IsBegun new m k
   began = record {
@@ -81,7 +79,7 @@ module _ (old new : State) (m : List MRow) (counts : Option KindCounts) (k : Kep
 
 -- counts that are remembered stay true
 pub still_counted : (old new : State) (a b : Option KindCounts) (k : Kept) (C : Trees → Type 0) → Survives old new C → b ≡ a → (HasCleanDisk old → AreCountsOf a k) → HasCleanDisk new → AreCountsOf b k
-still_counted old new a b k C survives same was clean = subst (λ c. AreCountsOf c k) (sym same) (was (was_clean old new C survives clean))
+still_counted old new a b k C survives same was clean = subst (λ c. AreCountsOf c k) (sym same) (was (was_clean survives clean))
 
 -- nothing was committed and no transaction is on: the store stands for what it stood for
 pub given_up : (old new : State) (m : List MRow) (a b : Option KindCounts) (k : Kept) (C : Trees → Type 0) → Survives old new C
@@ -91,7 +89,7 @@ pub given_up : (old new : State) (m : List MRow) (a b : Option KindCounts) (k : 
 given_up old new m a b k C survives kept ended settled listed held same counts = record {
   listed = listed;
   rests = λ clean up. record {
-    kept = subst (λ db. IsStoreDatabase db k) (sym ((kept clean).committed up)) (held (was_clean old new C survives clean) ((kept clean).was_open up));
+    kept = subst (λ db. IsStoreDatabase db k) (sym ((kept clean).committed up)) (held (was_clean survives clean) ((kept clean).was_open up));
     same = settled clean up;
     autocommit = ended clean;
   };
@@ -112,20 +110,20 @@ module _ (old new : State) (m rows : List MRow) (before k : Kept) (s : Tables) (
 
   pub committed : (C : Trees → Type 0) → Survives old new C → (HasCleanDisk new → Shows old new old.now old.now false) → RestsAt new k
   committed C survives shown clean up = record {
-    kept = subst (λ db. IsStoreDatabase db k) (sym (shown clean).committed_is) (whole (was_clean old new C survives clean));
+    kept = subst (λ db. IsStoreDatabase db k) (sym (shown clean).committed_is) (whole (was_clean survives clean));
     same = (shown clean).now_is ∙ sym (shown clean).committed_is;
     autocommit = (shown clean).mode;
   }
 
   pub crash : Survives old new (λ trees. trees ≡ old.now.trees) → Survives old new (λ trees. IsStore trees k)
   crash survives = survives_weaker old new (λ trees. trees ≡ old.now.trees) (λ trees. IsStore trees k)
-      (λ clean trees is. subst (λ t. IsStore t k) (sym is) (whole_trees (was_clean old new (λ trees. trees ≡ old.now.trees) survives clean))) survives
+      (λ clean trees is. subst (λ t. IsStore t k) (sym is) (whole_trees (was_clean survives clean))) survives
 
   pub left : (C : Trees → Type 0) → Survives old new C → (HasCleanDisk new → Shows old new old.now old.now false)
       → (IsTrue new.is_open → (trees : Trees) → new.may_leave trees → trees ≡ new.committed.trees) → HasCleanDisk new → (trees : Trees) → new.may_leave trees → IsStore trees k
   left C survives shown only clean trees may =
       let sh = shown clean in
-      subst (λ t. IsStore t k) (sym (only sh.is_open trees may ∙ ap (λ (db : Database). db.trees) sh.committed_is)) (whole_trees (was_clean old new C survives clean))
+      subst (λ t. IsStore t k) (sym (only sh.is_open trees may ∙ ap (λ (db : Database). db.trees) sh.committed_is)) (whole_trees (was_clean survives clean))
 
 -- what is committed while a change is on
 pub begun_committed : (s : State) (m : List MRow) (k : Kept) → IsBegun s m k → HasCleanDisk s → IsTrue s.is_open → IsStoreDatabase s.committed k

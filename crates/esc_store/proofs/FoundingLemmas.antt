@@ -17,7 +17,7 @@ use Rattle.esc_store.specs.Kept.{Kept, fresh}
 use Rattle.esc_store.specs.TypedRows.{IsBooks, IsRegistry, listed_from}
 use Rattle.esc_store.specs.StoreTables.{IsStore, IsStoreDatabase}
 use Rattle.esc_store.specs.Standing.{RestsAt}
-use Rattle.esc_store.proofs.Ends.{was_clean}
+use Rattle.esc_store.specs.StandingLaws.{was_clean}
 use Rattle.esc_store.proofs.Manifests.{listed_rise}
 use Rattle.esc_store.proofs.Registries.{nothing_kept, nothing_there}
 
@@ -50,11 +50,11 @@ module _ (start mid new : State) (k : Kept) (first : Survives start mid (λ _. �
 
   pub founded_survives : Survives mid new (λ trees. trees ≡ mid.now.trees) → Survives start new (λ trees. IsStore trees k)
   founded_survives second = survives_then start mid new (λ _. ⊥) (λ trees. IsStore trees k) (λ trees. IsStore trees k) (λ _ db none. absurd none) (λ _ db is. is) first
-      (survives_weaker mid new (λ trees. trees ≡ mid.now.trees) (λ trees. IsStore trees k) (λ clean trees is. subst (λ t. IsStore t k) (sym is) (whole_trees (was_clean mid new (λ trees. trees ≡ mid.now.trees) second clean))) second)
+      (survives_weaker mid new (λ trees. trees ≡ mid.now.trees) (λ trees. IsStore trees k) (λ clean trees is. subst (λ t. IsStore t k) (sym is) (whole_trees (was_clean second clean))) second)
 
   pub founded_rests : Survives mid new (λ trees. trees ≡ mid.now.trees) → (HasCleanDisk new → Shows mid new mid.now mid.now false) → RestsAt new k
   founded_rests second shown clean up = record {
-    kept = subst (λ db. IsStoreDatabase db k) (sym (shown clean).committed_is) (built (was_clean mid new (λ trees. trees ≡ mid.now.trees) second clean));
+    kept = subst (λ db. IsStoreDatabase db k) (sym (shown clean).committed_is) (built (was_clean second clean));
     same = (shown clean).now_is ∙ sym (shown clean).committed_is;
     autocommit = (shown clean).mode;
   }
@@ -62,4 +62,4 @@ module _ (start mid new : State) (k : Kept) (first : Survives start mid (λ _. �
   pub founded_left : Survives mid new (λ trees. trees ≡ mid.now.trees) → (HasCleanDisk new → Shows mid new mid.now mid.now false) → (IsTrue new.is_open → (trees : Trees) → new.may_leave trees → trees ≡ new.committed.trees)
       → HasCleanDisk new → (trees : Trees) → new.may_leave trees → IsStore trees k
   founded_left second shown only clean trees may =
-      subst (λ t. IsStore t k) (sym (only (shown clean).is_open trees may ∙ ap (λ (db : Database). db.trees) (shown clean).committed_is)) (whole_trees (was_clean mid new (λ trees. trees ≡ mid.now.trees) second clean))
+      subst (λ t. IsStore t k) (sym (only (shown clean).is_open trees may ∙ ap (λ (db : Database). db.trees) (shown clean).committed_is)) (whole_trees (was_clean second clean))

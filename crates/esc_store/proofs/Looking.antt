@@ -16,12 +16,13 @@ use Rattle.esc_store.specs.Kept.{Kept}
 use Rattle.esc_store.specs.TypedRows.{IsBooks, IsRegistry}
 use Rattle.esc_store.specs.StoreTables.{IsStoreDatabase, HoldsTables}
 use Rattle.esc_store.specs.Standing.{ChangeOf, IsBegun, IsMade, IsUnderWay, IsLook, IsStoreRead, BeganIn, RestIn, HoldsIn, Follows}
-use Rattle.esc_store.proofs.Ends.{was_clean, begun_committed}
+use Rattle.esc_store.specs.StandingLaws.{was_clean}
+use Rattle.esc_store.proofs.Ends.{begun_committed}
 use Rattle.esc_store.proofs.Parts.{not_both}
 
 module _ {X E : Type 0} {old new : State} {P : Content → X → Type 0} {r : Result X E} (look : IsLook old new (Tells P) r) where
   clean_before : HasCleanDisk new → HasCleanDisk old
-  clean_before = was_clean old new (λ trees. ⊥) look.survives
+  clean_before = was_clean look.survives
 
   shown : (x : X) → r ≡ Ok x → HasCleanDisk new → Shows old new old.now old.committed old.in_transaction
   shown x is clean = (IfOk-at_ok _ is (look.said clean)).1.0

@@ -17,7 +17,7 @@ use Rattle.esc_store.specs.TypedRows.{IsBooks, IsRegistry}
 use Rattle.esc_store.specs.StoreTables.{IsStore, IsStoreDatabase}
 use Rattle.esc_store.specs.Opening.{IsSettled}
 use Rattle.esc_store.specs.FirstVersion.{IsFirstKept, IsFirstStore, IsFirstDatabase, IsOfFirstVersion, IsFirstAtRest, SeesFirst}
-use Rattle.esc_store.proofs.Ends.{was_clean}
+use Rattle.esc_store.specs.StandingLaws.{was_clean}
 use Rattle.esc_store.proofs.OpeningLemmas.{int_is}
 
 -- a database whose last commit is a version 1 store has its tables
@@ -62,7 +62,7 @@ sees_committed s k settled stored clean up = subst (λ (db : Database). IsFirstK
 pub tested : (old mid : State) (k : Kept) → Survives old mid (λ _. ⊥) → (HasCleanDisk mid → IsUnchanged old mid × IsOfFirstVersion old.now) → SeesFirst old k → HasCleanDisk mid → IsFirstDatabase mid.now k
 tested old mid k survives version sees clean =
     let it = version clean in
-    subst (λ db. IsFirstDatabase db k) (sym it.0.0.now_is) (record { schema = it.1.schema; kept = sees (was_clean old mid (λ _. ⊥) survives clean) it.0.0.was_open })
+    subst (λ db. IsFirstDatabase db k) (sym it.0.0.now_is) (record { schema = it.1.schema; kept = sees (was_clean survives clean) it.0.0.was_open })
 
 pub migrated_survives : (old mid new : State) (k : Kept) → Survives old mid (λ _. ⊥) → Survives mid new (λ trees. IsStore trees k) → Survives old new (λ trees. IsStore trees k)
 migrated_survives old mid new k = survives_then old mid new (λ _. ⊥) (λ trees. IsStore trees k) (λ trees. IsStore trees k) (λ _ db none. absurd none) (λ _ db is. is)

@@ -15,7 +15,7 @@ use Rattle.esc_store.specs.Kept.{Kept}
 use Rattle.esc_store.specs.StoreTables.{IsStore, IsStoreDatabase, IsOfVersion}
 use Rattle.esc_store.specs.Opening.{IsSettled, IsAsItWas}
 use Rattle.esc_store.specs.Standing.{IsStanding, RestsAt}
-use Rattle.esc_store.proofs.Ends.{was_clean}
+use Rattle.esc_store.specs.StandingLaws.{was_clean}
 
 -- a database whose last commit is a store has the tables
 pub tables_refused : (s : State) (has : Bool) (k : Kept) → (IsTrue s.is_open → (c : Content) → HasTables s.now.trees c → IsTrue has × HoldsContent s.now c) → s.now ≡ s.committed → has ≡ false → IsTrue s.is_open → IsStore s.committed.trees k → ⊥
@@ -56,7 +56,7 @@ as_it_was old new settled kept ended same = record {
 pub opened : (old new : State) (m : List MRow) (k : Kept) → Survives old new (λ trees. ⊥) → IsUnchanged old new → (IsStoreDatabase old.now k → m ≡ k.listed)
     → RestsAt old k → HasCleanDisk new → IsStanding new m None k
 opened old new m k survives unchanged told rests clean =
-    let was = rests (was_clean old new (λ trees. ⊥) survives clean) unchanged.0.was_open in
+    let was = rests (was_clean survives clean) unchanged.0.was_open in
     record {
       listed = told (subst (λ db. IsStoreDatabase db k) (sym was.same) was.kept);
       rests = λ still up. record {

@@ -5,6 +5,7 @@ use Rattle.std.specs.List.Sorted.{IsStrictlySortedBy}
 use Rattle.std.specs.Map.{lookup}
 use Rattle.std.specs.Ordering.{nat_cmp, ordering_then}
 use Rattle.std.specs.Cmp.Lexicographic.{slice_cmp}
+use Rattle.std.specs.List.{last_or}
 use Rattle.std.proofs.lemmas.Bool.{cases_Bool}
 use Rattle.std.proofs.lemmas.List.{map-append, take_more}
 use Rattle.sqlite_trees.specs.Tree.{IsAscending}
@@ -18,7 +19,6 @@ use Rattle.esc_apply.specs.Registry.{State}
 use Rattle.esc_tables.specs.KeyLaws.{keys_alike}
 use Rattle.esc_rows.specs.Content.{Content, object_at}
 use Rattle.esc_rows.specs.Changes.{ObjectEntry, by_entry, entry_at, is_entry_at, is_from, is_up_to, last_key, ListsFrom}
-use Rattle.esc_rows.proofs.Firsts.{last}
 use Rattle.esc_store.specs.Pages.{IsPage, last_text, is_on_page, entry_row, stored_row}
 use Rattle.esc_store.specs.TypedRows.{IsRegistry}
 use Rattle.esc_store.proofs.Gathering.{tests_alike, same_records, record_here}
@@ -48,18 +48,18 @@ order_is rows es up same =
 
 -- ---- the last one
 
-last_of_entries : (es : List Entry) → last_text es ≡ option_map (λ (t : Shown). t.1) (last (map entry_row es))
+last_of_entries : (es : List Entry) → last_text es ≡ option_map (λ (t : Shown). t.1) (last_or None (map entry_row es))
 last_of_entries [] = refl
 last_of_entries (e ∷ []) = refl
 last_of_entries (e ∷ f ∷ es) = last_of_entries (f ∷ es)
 
-last_of_rows : (rows : List ObjectEntry) → last_key rows ≡ option_map (λ (t : Shown). t.1) (last (map stored_row rows))
+last_of_rows : (rows : List ObjectEntry) → last_key rows ≡ option_map (λ (t : Shown). t.1) (last_or None (map stored_row rows))
 last_of_rows [] = refl
 last_of_rows (r ∷ []) = refl
 last_of_rows (r ∷ s ∷ rows) = last_of_rows (s ∷ rows)
 
 last_is : (rows : List ObjectEntry) (es : List Entry) → map entry_row es ≡ map stored_row rows → last_key rows ≡ last_text es
-last_is rows es same = last_of_rows rows ∙ ap (λ ts. option_map (λ (t : Shown). t.1) (last ts)) (sym same) ∙ sym (last_of_entries es)
+last_is rows es same = last_of_rows rows ∙ ap (λ ts. option_map (λ (t : Shown). t.1) (last_or None ts)) (sym same) ∙ sym (last_of_entries es)
 
 -- ---- what is found
 

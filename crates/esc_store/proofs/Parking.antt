@@ -20,8 +20,7 @@ use Rattle.esc_store.specs.declared.store.Store.{Store}
 use Rattle.esc_store.specs.Kept.{Kept, with_parked, with_moment, AreRisingTexts, AreParked}
 use Rattle.esc_store.specs.TypedRows.{IsBooks, IsRegistry}
 use Rattle.esc_store.specs.Standing.{ChangeOf, IsStep, IsStoreRead, RestIn, Follows}
-use Rattle.esc_store.specs.StandingLaws.{survives_same}
-use Rattle.esc_store.proofs.Ends.{was_clean}
+use Rattle.esc_store.specs.StandingLaws.{survives_same, was_clean}
 use Rattle.esc_store.proofs.Parts.{Turns, turning}
 use Rattle.esc_store.proofs.RowSteps.{Becoming}
 
@@ -55,7 +54,7 @@ pub was_free : {S X E : Type 0} (g : Ghosts S) (old new : Store S) (digest body 
 unfolding RestIn
 was_free g old new digest body {r} {x} is step clean listing before k made =
     let m = IfOk-at_ok _ is (step.made clean) in
-    let was = was_clean (state g old.conn) (state g new.conn) (λ trees. ⊥) step.survives clean in
+    let was = was_clean step.survives clean in
     let tables = (made.begun.on was m.0).2 in
     sym ((made.books was m.0).parked digest) ∙ (m.1 (content_in (state g old.conn).now.trees) tables).2
 
@@ -103,7 +102,7 @@ pub found_parked : {S X E : Type 0} {g : Ghosts S} {old new : Store S} {digest :
     → IsStoreRead g old new (λ c found. view found ≡ parked_at digest c.parked) r → HasCleanDisk (state g new.conn) → (listing : Option (List MRow)) (before k : Kept) → RestIn g old listing before k → view x ≡ k.parked digest
 unfolding RestIn
 found_parked {g = g} {old} {new} {digest} view {r} {x} is on read clean listing before k made =
-    let was = was_clean (state g old.conn) (state g new.conn) (λ trees. ⊥) read.look.survives clean in
+    let was = was_clean read.look.survives clean in
     let tables = (made.begun.on was on).2 in
     let s = IfOk-at_ok _ is (read.look.said clean) in
     s.0 (content_in (state g old.conn).now.trees) tables ∙ (made.books was on).parked digest

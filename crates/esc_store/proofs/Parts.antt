@@ -19,7 +19,8 @@ use Rattle.esc_store.specs.Kept.{Kept}
 use Rattle.esc_store.specs.TypedRows.{IsBooks, IsRegistry}
 use Rattle.esc_store.specs.StoreTables.{IsStoreDatabase, HoldsTables}
 use Rattle.esc_store.specs.Standing.{IsBegun, IsMade, IsUnderWay, IsGivenUp, Settles, IsStep, IsLook}
-use Rattle.esc_store.proofs.Ends.{was_clean, keeps_then, begun_committed}
+use Rattle.esc_store.specs.StandingLaws.{was_clean}
+use Rattle.esc_store.proofs.Ends.{keeps_then, begun_committed}
 
 pub not_both : (b : Bool) → b ≡ true → b ≡ false → ⊥
 not_both b is_on is_off = let e : true ≡ false = sym is_on ∙ is_off in cc
@@ -41,7 +42,7 @@ module _ (old : State) {mid new : State} (up : IsGivenUp mid new) where
   after survives = survives_then old mid new (λ trees. ⊥) (λ trees. ⊥) (λ trees. ⊥) (λ _ db none. none) (λ _ db none. none) survives up.survives
 
   keeps_after : (HasCleanDisk mid → KeepsCommit old mid) → HasCleanDisk new → KeepsCommit old new
-  keeps_after kept clean = keeps_then old mid new (kept (was_clean mid new (λ trees. ⊥) up.survives clean)) (up.kept clean)
+  keeps_after kept clean = keeps_then old mid new (kept (was_clean up.survives clean)) (up.kept clean)
 
 module _ {S : Type 0} {g : Ghosts S} {old : State} {before new : Store S} {X D E : Type 0} {outcome : Result X D} {result : Result X E}
     (settled : Settles g before new outcome result) where
@@ -101,7 +102,7 @@ module _ {X E : Type 0} {old new : State} {R : Content → Content → Type 0} {
   made_of x is clean = let m = IfOk-at_ok _ is (step.made clean) in record { was_on = m.0; turns = m.1; on = m.2; is_open = m.3 }
 
   clean_before : HasCleanDisk new → HasCleanDisk old
-  clean_before = was_clean old new (λ trees. ⊥) step.survives
+  clean_before = was_clean step.survives
 
   pub begun_on : (m : List MRow) (k : Kept) → IsBegun old m k → IsBegun new m k
   begun_on m k begun = elim r as (λ x. r ≡ x → IsBegun new m k) [

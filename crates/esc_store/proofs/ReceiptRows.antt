@@ -8,6 +8,7 @@ use Rattle.std.proofs.lemmas.List.Elements.{All-from_get_or}
 use Rattle.std.proofs.lemmas.List.Kept.{AllPairs-from_increasing, Contains-dedup_nat, Contains-from_dedup}
 use Rattle.std.proofs.lemmas.List.Sorted.{IsPermutation-sym, Contains-permutation}
 use Rattle.std.proofs.lemmas.Map.Keys.{IsStrictlyIncreasing-dedup}
+use Rattle.std.proofs.lemmas.Bool.{eqb-true, eq-eqb}
 use Rattle.esc_rows.specs.Rows.{ReceiptRow}
 use Rattle.esc_rows.specs.Content.{Content}
 use Rattle.esc_rows.specs.Changes.{is_of_verdict, ListsRows}
@@ -17,7 +18,7 @@ use Rattle.esc_store.specs.Decoded.{AreOnce}
 use Rattle.esc_store.specs.Kept.{Kept, IsRising, SaysHeld, AreHeldBy}
 use Rattle.esc_store.specs.ReplyValue.{ReceiptValue}
 use Rattle.esc_store.specs.TypedRows.{verdict_number, receipt_row, receipts_from, IsBooks}
-use Rattle.esc_store.specs.ListLaws.{first_or_later, later, any_first, any_later, any_split}
+use Rattle.esc_store.specs.ListLaws.{first_or_later, later, any_first, any_later, any_split, any_weaker}
 
 -- ---- each once
 
@@ -43,44 +44,58 @@ some_back xs n (k, within, is) =
     let one : slice_index_or xs k n ≡ n = cc in
     (k, inside, one)
 
+-- ---- the receipts of a verdict, by what a column of their rows says
+
+module _ {Y : Type 0} (column : ReceiptRow → Y) (value : ReceiptValue → Y) (shown : (n : ℕ) (r : ReceiptValue) → column (receipt_row n r) ≡ value r) (v : ℕ) (y : Y) where
+  -- the rows of the receipts of the verdict
+  abbrev rows_from : ℕ → List ReceiptValue → List ReceiptRow
+  rows_from n rs = filter (is_of_verdict v) (receipts_from n rs)
+
+  -- a receipt is of the verdict, and says this
+  abbrev Says : ReceiptValue → Type 0
+  Says r = (verdict_number r.verdict ≡ v) × (value r ≡ y)
+
+  pub said : (n : ℕ) (rs : List ReceiptValue) → Contains (map column (rows_from n rs)) y → Any Says rs
+  said n [] there = absurd (omega (arith, there.1))
+  said n (r ∷ rs) there = by_test (verdict_number r.verdict == v) refl there (said (suc n) rs)
+    where
+      by_test : (b : Bool) → (verdict_number r.verdict == v) ≡ b → Contains (map column (cond b (receipt_row n r ∷ rows_from (suc n) rs) (rows_from (suc n) rs))) y → (Contains (map column (rows_from (suc n) rs)) y → Any Says rs) → Any Says (r ∷ rs)
+      by_test true is there more = elim (first_or_later (column (receipt_row n r)) y (map column (rows_from (suc n) rs)) there) [
+        | inl here ↦ any_first Says r rs (eqb-true (verdict_number r.verdict) v is, sym (shown n r) ∙ here)
+        | inr behind ↦ any_later Says r rs (more behind)
+      ]
+      by_test false is there more = any_later Says r rs (more there)
+
+  pub named : (n : ℕ) (rs : List ReceiptValue) → Any Says rs → Contains (map column (rows_from n rs)) y
+  named n [] any = absurd (omega (arith, any.2))
+  named n (r ∷ rs) any = by_case (any_split Says r rs any) (named (suc n) rs)
+    where
+      kept : (b : Bool) → Contains (map column (rows_from (suc n) rs)) y → Contains (map column (cond b (receipt_row n r ∷ rows_from (suc n) rs) (rows_from (suc n) rs))) y
+      kept true there = later (column (receipt_row n r)) y (map column (rows_from (suc n) rs)) there
+      kept false there = there
+
+      here : (b : Bool) → b ≡ true → value r ≡ y → Contains (map column (cond b (receipt_row n r ∷ rows_from (suc n) rs) (rows_from (suc n) rs))) y
+      here true is same = (0, omega arith, shown n r ∙ same)
+      here false is same = absurd (true≢false (sym is))
+
+      by_case : Says r ⊎ Any Says rs → (Any Says rs → Contains (map column (rows_from (suc n) rs)) y) → Contains (map column (cond (verdict_number r.verdict == v) (receipt_row n r ∷ rows_from (suc n) rs) (rows_from (suc n) rs))) y
+      by_case (inl (is, same)) more = here (verdict_number r.verdict == v) (eq-eqb (verdict_number r.verdict) v is) same
+      by_case (inr there) more = kept (verdict_number r.verdict == v) (more there)
+
 -- ---- the receipts of the verdict A1
 
 abbrev row_in : ReceiptRow → Option ℕ
 row_in r = r.row
 
--- the receipts of the verdict, and the rows that they name
-abbrev a1_from : ℕ → List ReceiptValue → List ReceiptRow
-a1_from n rs = filter (is_of_verdict 1) (receipts_from n rs)
+abbrev row_of : ReceiptValue → Option ℕ
+row_of r = r.row
 
-abbrev rows_from : ℕ → List ReceiptValue → List (Option ℕ)
-rows_from n rs = map row_in (a1_from n rs)
-
-is_a1 : (v : Verdict) → (verdict_number v == 1) ≡ true → v ≡ A1
+is_a1 : (v : Verdict) → verdict_number v ≡ 1 → v ≡ A1
 is_a1 A1 is = refl
-is_a1 A2 is = absurd (true≢false (sym is))
-is_a1 (A3 n) is = absurd (true≢false (sym is))
-is_a1 A4 is = absurd (true≢false (sym is))
-is_a1 A5 is = absurd (true≢false (sym is))
-
-said : (row n : ℕ) (rs : List ReceiptValue) → Contains (rows_from n rs) (Some row) → Any (SaysHeld row) rs
-said row n [] there = absurd (omega (arith, there.1))
-said row n (r ∷ rs) there = by_test (verdict_number r.verdict == 1) refl there (said row (suc n) rs)
-  where
-    by_test : (b : Bool) → (verdict_number r.verdict == 1) ≡ b → Contains (map row_in (cond b (receipt_row n r ∷ a1_from (suc n) rs) (a1_from (suc n) rs))) (Some row) → (Contains (rows_from (suc n) rs) (Some row) → Any (SaysHeld row) rs) → Any (SaysHeld row) (r ∷ rs)
-    by_test true is there more = elim (first_or_later r.row (Some row) (rows_from (suc n) rs) there) [ inl here ↦ any_first (SaysHeld row) r rs (is_a1 r.verdict is, here) | inr behind ↦ any_later (SaysHeld row) r rs (more behind) ]
-    by_test false is there more = any_later (SaysHeld row) r rs (more there)
-
-named : (row n : ℕ) (rs : List ReceiptValue) → Any (SaysHeld row) rs → Contains (rows_from n rs) (Some row)
-named row n [] any = absurd (omega (arith, any.2))
-named row n (r ∷ rs) any = by_case (any_split (SaysHeld row) r rs any) (named row (suc n) rs)
-  where
-    kept : (b : Bool) → Contains (rows_from (suc n) rs) (Some row) → Contains (map row_in (cond b (receipt_row n r ∷ a1_from (suc n) rs) (a1_from (suc n) rs))) (Some row)
-    kept true there = later r.row (Some row) (rows_from (suc n) rs) there
-    kept false there = there
-
-    by_case : SaysHeld row r ⊎ Any (SaysHeld row) rs → (Any (SaysHeld row) rs → Contains (rows_from (suc n) rs) (Some row)) → Contains (map row_in (cond (verdict_number r.verdict == 1) (receipt_row n r ∷ a1_from (suc n) rs) (a1_from (suc n) rs))) (Some row)
-    by_case (inl (is, here)) more = subst (λ v. Contains (map row_in (cond (verdict_number v == 1) (receipt_row n r ∷ a1_from (suc n) rs) (a1_from (suc n) rs))) (Some row)) (sym is) (0, omega arith, here)
-    by_case (inr there) more = kept (verdict_number r.verdict == 1) (more there)
+is_a1 A2 is = absurd (omega (arith, is))
+is_a1 (A3 n) is = absurd (omega (arith, is))
+is_a1 A4 is = absurd (omega (arith, is))
+is_a1 A5 is = absurd (omega (arith, is))
 
 abbrev rows_named : List ReceiptRow → List (Option ℕ)
 rows_named rs = map row_in (filter (is_of_verdict 1) rs)
@@ -94,9 +109,11 @@ are_held_by k c numbers rows books lists once = record { rising = once.rising; e
     down : (row : ℕ) → Contains rows row → Any (SaysHeld row) k.receipts
     down row there =
         let moved = Contains-permutation (numbered numbers) (rows_named c.receipts) (Some row) (IsPermutation-sym (rows_named c.receipts) (numbered numbers) lists.same) (some_there numbers row ((once.each row).0 there)) in
-        said row 1 k.receipts (subst (λ rs. Contains (rows_named rs) (Some row)) books.receipts moved)
+        any_weaker (Says row_in row_of (λ n r. refl) 1 (Some row)) (SaysHeld row) (λ r it. (is_a1 r.verdict it.0, it.1)) k.receipts
+        (said row_in row_of (λ n r. refl) 1 (Some row) 1 k.receipts (subst (λ rs. Contains (rows_named rs) (Some row)) books.receipts moved))
 
     up : (row : ℕ) → Any (SaysHeld row) k.receipts → Contains rows row
     up row any =
-        let there = subst (λ rs. Contains (rows_named rs) (Some row)) (sym books.receipts) (named row 1 k.receipts any) in
+        let there = subst (λ rs. Contains (rows_named rs) (Some row)) (sym books.receipts) (named row_in row_of (λ n r. refl) 1 (Some row) 1 k.receipts
+        (any_weaker (SaysHeld row) (Says row_in row_of (λ n r. refl) 1 (Some row)) (λ r it. (ap verdict_number it.0, it.1)) k.receipts any)) in
         (once.each row).1 (some_back numbers row (Contains-permutation (rows_named c.receipts) (numbered numbers) (Some row) lists.same there))

@@ -30,12 +30,13 @@ use Rattle.esc_store.specs.ReplyValue.{ReceiptValue}
 use Rattle.esc_store.specs.TypedRows.{IsBooks, IsRegistry, receipt_row, receipts_from, steps_from}
 use Rattle.esc_store.specs.ChangeParts.{next_number, with_next_receipt, AddsNext, with_steps_from, ContinuesSteps}
 use Rattle.esc_store.specs.Standing.{IsStep, IsLook, RestIn}
-use Rattle.esc_store.proofs.Ends.{was_clean, keeps_then}
+use Rattle.esc_store.proofs.Ends.{keeps_then}
 use Rattle.esc_store.proofs.Parts.{Turns, turning}
 use Rattle.esc_store.proofs.Reading.{counted}
 use Rattle.sqlite_trees.specs.declared.store.Store.{Ghosts}
 use Rattle.sqlite.specs.Held.{state}
 use Rattle.esc_store.specs.declared.store.Store.{Store}
+use Rattle.esc_store.specs.StandingLaws.{was_clean}
 
 -- ---- receipts
 
@@ -60,13 +61,13 @@ pub step_next : {Y Z D E : Type 0} (old mid new : State) (r : Result ℕ D) (las
     → row ≡ receipt_row (last + 1) v → IsStep {X = Y} {E = E} mid new (AddsReceipt row) (Ok y) → IsStep {X = Z} {E = E} old new (AddsNext v) (Ok z)
 step_next old mid new r last v row y z on look is row_is step = record {
   survives = survives_then old mid new (λ trees. ⊥) (λ trees. ⊥) (λ trees. ⊥) (λ _ db none. none) (λ _ db none. none) look.survives step.survives;
-  kept = λ clean. keeps_then old mid new (look.kept (was_clean mid new (λ trees. ⊥) step.survives clean)) (step.kept clean);
+  kept = λ clean. keeps_then old mid new (look.kept (was_clean step.survives clean)) (step.kept clean);
   made = λ clean. let m = step.made clean in (on, adds clean m.1, m.2, m.3);
   failed = λ clean. tt;
 } where
   adds : HasCleanDisk new → AddsReceipt row mid.now new.now → AddsNext v old.now new.now
   adds clean added c h =
-      let s = IfOk-at_ok _ is (look.said (was_clean mid new (λ trees. ⊥) step.survives clean)) in
+      let s = IfOk-at_ok _ is (look.said (was_clean step.survives clean)) in
       let there : HoldsContent mid.now c = subst (λ db. HoldsContent db c) (sym s.1.0.now_is) h in
       let next : row ≡ receipt_row (next_number c) v = row_is ∙ ap (λ n. receipt_row (n + 1) v) (s.0 c h) in
       subst (λ (x : ReceiptRow). HoldsContent new.now (record c { receipts = c.receipts ++ x ∷ [] })) next
@@ -228,7 +229,7 @@ pub steps_more : {Y E : Type 0} {old mid new : State} (at : ℕ) (rows : List �
     → IsStep {X = Y} {E = E} old mid (ContinuesSteps at rows) (Ok y) → IsStep mid new (AddsStep s) done → IsStep old new (ContinuesSteps at (rows ++ (row ∷ []))) done
 steps_more {Y} {E} {old} {mid} {new} at rows row s {y} {done} s_is before step = record {
   survives = survives_then old mid new (λ trees. ⊥) (λ trees. ⊥) (λ trees. ⊥) (λ _ db none. none) (λ _ db none. none) before.survives step.survives;
-  kept = λ clean. keeps_then old mid new (before.kept (was_clean mid new (λ trees. ⊥) step.survives clean)) (step.kept clean);
+  kept = λ clean. keeps_then old mid new (before.kept (was_clean step.survives clean)) (step.kept clean);
   made = λ clean. made_of done clean (step.made clean);
   failed = step.failed;
 } where
@@ -248,7 +249,7 @@ steps_more {Y} {E} {old} {mid} {new} at rows row s {y} {done} s_is before step =
 
   made_of : (d : Result Y E) → HasCleanDisk new → OnOk d ((mid.in_transaction ≡ true) × AddsStep s mid.now new.now × (new.in_transaction ≡ true) × IsTrue new.is_open)
       → OnOk d ((old.in_transaction ≡ true) × ContinuesSteps at (rows ++ (row ∷ [])) old.now new.now × (new.in_transaction ≡ true) × IsTrue new.is_open)
-  made_of (Ok x) clean m = let b = before.made (was_clean mid new (λ trees. ⊥) step.survives clean) in (b.0, sets b.1 m.1, m.2, m.3)
+  made_of (Ok x) clean m = let b = before.made (was_clean step.survives clean) in (b.0, sets b.1 m.1, m.2, m.3)
   made_of (Err e) clean m = tt
 
 -- ---- the steps one by one

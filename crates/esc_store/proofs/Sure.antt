@@ -17,8 +17,8 @@ use Rattle.esc_store.specs.declared.store.Store.{Store}
 use Rattle.esc_store.specs.Kept.{Kept, AreCounts}
 use Rattle.esc_store.specs.StoreTables.{IsStoreDatabase}
 use Rattle.esc_store.specs.Standing.{IsAtRest, AreCountsOf, IsStanding, IsStoreRead, IsLook, IsAsBefore, IsTold, Stands, IsHonest}
-use Rattle.esc_store.specs.StandingLaws.{survives_same}
-use Rattle.esc_store.proofs.Ends.{was_clean, still_counted}
+use Rattle.esc_store.specs.StandingLaws.{survives_same, was_clean}
+use Rattle.esc_store.proofs.Ends.{still_counted}
 use Rattle.esc_store.proofs.Parts.{Settled, look_is}
 
 module _ {X E : Type 0} {old new : State} {P : Content → X → Type 0} {r : Result X E} (look : IsLook old new (Tells P) r) where
@@ -30,7 +30,7 @@ module _ {X E : Type 0} {old new : State} {P : Content → X → Type 0} {r : Re
     rested : HasCleanDisk new → IsTrue new.is_open → IsAtRest new k
     rested clean up =
         let kept = look.kept clean in
-        let was = stands.rests (was_clean old new (λ trees. ⊥) look.survives clean) (kept.was_open up) in
+        let was = stands.rests (was_clean look.survives clean) (kept.was_open up) in
         let held : IsStoreDatabase new.committed k = subst (λ db. IsStoreDatabase db k) (sym (kept.committed up)) was.kept in
         elim r as (λ y. r ≡ y → IsAtRest new k) [
           | Ok x ↦ λ is. let shown = (IfOk-at_ok _ is (look.said clean)).1.0 in
@@ -41,7 +41,7 @@ module _ {X E : Type 0} {old new : State} {P : Content → X → Type 0} {r : Re
   pub told : (m : List MRow) (counts : Option KindCounts) (k : Kept) (x : X) → r ≡ Ok x → HasCleanDisk new → IsStanding old m counts k → IsTold k (λ c. P c x)
   told m counts k x is clean stands =
       let s = IfOk-at_ok _ is (look.said clean) in
-      let was = stands.rests (was_clean old new (λ trees. ⊥) look.survives clean) s.1.0.was_open in
+      let was = stands.rests (was_clean look.survives clean) s.1.0.was_open in
       let kept = subst (λ db. IsStoreDatabase db k) (sym was.same) was.kept in
       record {
         content = content_in old.now.trees;

@@ -1,47 +1,66 @@
 -- Laws of lists of which this is an element, or of which one has a property.
-use Rattle.std.specs.Prelude.{◌≡◌, ◌⊎◌, zero, suc, List, [], ◌∷◌, ◌++◌}
+use Rattle.std.specs.Prelude.{◌≡◌, ◌⊎◌, List, [], ◌∷◌, ◌++◌}
 use Rattle.std.specs.List.{Any, Contains}
-use Rattle.std.proofs.Common.{inl, inr, refl, sym, subst, arith}
+use Rattle.std.proofs.Common.{inl, inr, sym, subst}
 use Rattle.std.proofs.lemmas.List.Elements.{
+  All-nil,
+  All-contains,
   Contains-append_left,
+  Contains-append_right,
+  Contains-append_cases,
   Contains-push,
   Contains-push_cases,
 }
 
-pub first_or_later : {X : Type 0} (x y : X) (xs : List X) → Contains (x ∷ xs) y
-    → (x ≡ y) ⊎ Contains xs y
-first_or_later x y xs (zero, within, is) = inl is
-first_or_later x y xs (suc k, within, is) = inr (k, omega (arith, within), is)
+module _ {X : Type 0} where
+  pub later : (x y : X) (xs : List X) → Contains xs y → Contains (x ∷ xs) y
+  later x y xs there = Contains-append_right (x ∷ []) xs y there
 
-pub later : {X : Type 0} (x y : X) (xs : List X) → Contains xs y → Contains (x ∷ xs) y
-later x y xs (k, within, is) = (suc k, omega (arith, within), is)
+  pub first_or_later : (x y : X) (xs : List X) → Contains (x ∷ xs) y → (x ≡ y) ⊎ Contains xs y
+  first_or_later x y xs there = by_place (Contains-append_cases (x ∷ []) xs y there)
+    where
+      by_first : Contains [] y ⊎ (x ≡ y) → x ≡ y
+      by_first (inl none) = absurd (All-contains (λ (z : X). ⊥) [] y (All-nil (λ (z : X). ⊥)) none)
+      by_first (inr same) = same
+
+      by_place : Contains (x ∷ []) y ⊎ Contains xs y → (x ≡ y) ⊎ Contains xs y
+      by_place (inl first) = inl (by_first (Contains-push_cases [] x y first))
+      by_place (inr behind) = inr behind
 
 module _ {X : Type 0} (P : X → Type 0) where
+  -- of this element
+  any_by : (xs : List X) (x : X) → Contains xs x → P x → Any P xs
+  any_by xs x there p = (there.0, x, there.1, there.2, p)
+
   pub any_first : (x : X) (xs : List X) → P x → Any P (x ∷ xs)
-  any_first x xs p = (0, x, omega arith, refl, p)
+  any_first x xs p =
+      any_by (x ∷ xs) x (Contains-append_left (x ∷ []) xs x (Contains-push [] x)) p
 
   pub any_later : (x : X) (xs : List X) → Any P xs → Any P (x ∷ xs)
-  any_later x xs (k, y, within, is, p) = (suc k, y, omega (arith, within), is, p)
+  any_later x xs (k, y, within, is, p) = any_by (x ∷ xs) y (later x y xs (k, within, is)) p
 
   pub any_split : (x : X) (xs : List X) → Any P (x ∷ xs) → P x ⊎ Any P xs
-  any_split x xs (zero, y, within, is, p) = inl (subst P (sym is) p)
-  any_split x xs (suc k, y, within, is, p) = inr (k, y, omega (arith, within), is, p)
+  any_split x xs (k, y, within, is, p) = by_place (first_or_later x y xs (k, within, is))
+    where
+      by_place : (x ≡ y) ⊎ Contains xs y → P x ⊎ Any P xs
+      by_place (inl same) = inl (subst P (sym same) p)
+      by_place (inr behind) = inr (any_by xs y behind p)
 
   -- the same with one more element at the end
   pub any_front : (xs : List X) (x : X) → Any P xs → Any P (xs ++ x ∷ [])
   any_front xs x (k, y, within, is, p) =
-      let there = Contains-append_left xs (x ∷ []) y (k, within, is) in
-      (there.0, y, there.1, there.2, p)
+      any_by (xs ++ x ∷ []) y (Contains-append_left xs (x ∷ []) y (k, within, is)) p
 
   pub any_last : (xs : List X) (x : X) → P x → Any P (xs ++ x ∷ [])
-  any_last xs x p = let there = Contains-push xs x in (there.0, x, there.1, there.2, p)
+  any_last xs x p = any_by (xs ++ x ∷ []) x (Contains-push xs x) p
 
   pub any_front_or_last : (xs : List X) (x : X) → Any P (xs ++ x ∷ []) → Any P xs ⊎ P x
   any_front_or_last xs x (k, y, within, is, p) =
-      elim (Contains-push_cases xs x y (k, within, is)) [
-        | inl there ↦ inl (there.0, y, there.1, there.2, p)
-        | inr same ↦ inr (subst P (sym same) p)
-      ]
+      by_place (Contains-push_cases xs x y (k, within, is))
+    where
+      by_place : Contains xs y ⊎ (x ≡ y) → Any P xs ⊎ P x
+      by_place (inl there) = inl (any_by xs y there p)
+      by_place (inr same) = inr (subst P (sym same) p)
 
   -- where each element that has one property has another
   pub any_weaker : (Q : X → Type 0) → ((x : X) → P x → Q x) → (xs : List X) → Any P xs → Any Q xs

@@ -1,8 +1,11 @@
 -- Laws of stores and of changes, from one call to the next.
-use Rattle.std.proofs.Common.{inl, refl, ◌∙◌, arith}
+use Rattle.std.specs.Prelude.{ℕ, ◌≤◌}
+use Rattle.std.proofs.Common.{inl, refl, subst, ◌∙◌, le_refl}
+use Rattle.std.proofs.Math.Arith.{le-zero}
 use Rattle.sqlite_trees.specs.declared.store.Store.{Ghosts}
 use Rattle.sqlite_trees.specs.Tree.{Trees}
-use Rattle.sqlite.specs.State.{State, Survives}
+use Rattle.sqlite_trees.specs.View.{doubt}
+use Rattle.sqlite.specs.State.{State, HasCleanDisk, Survives}
 use Rattle.sqlite.proofs.StateLemmas.{survives_then}
 use Rattle.esc_store.specs.declared.store.Store.{Store}
 use Rattle.esc_store.specs.Standing.{ChangeOf, IsHonest, IsAsBefore, GoesOn}
@@ -10,18 +13,24 @@ use Rattle.esc_store.specs.Standing.{ChangeOf, IsHonest, IsAsBefore, GoesOn}
 -- nothing was called
 pub survives_same : {s : State} {C : Trees → Type 0} → Survives s s C
 survives_same = record {
-  clean = omega arith;
+  clean = le_refl _;
   shield = λ h. h;
-  counts = omega arith;
+  counts = le_refl _;
   limit = refl;
   closes = λ _ up. inl up;
   crash = λ _ db may. inl may;
 }
 
+-- a disk that is clean after a call was clean before it
+pub was_clean : {old new : State} {C : Trees → Type 0} → Survives old new C → HasCleanDisk new
+    → HasCleanDisk old
+was_clean {old} survives clean =
+    le-zero (subst (λ (n : ℕ). doubt old.is_clean ≤ n) clean survives.clean)
+
 -- a store that is honest after a read was honest before it
 pub was_honest : {S : Type 0} {g : Ghosts S} {old new : Store S} → IsAsBefore g old new
     → IsHonest g new → IsHonest g old
-was_honest same clean = omega (arith, same.survives.clean, clean)
+was_honest same clean = was_clean same.survives clean
 
 -- as before, and then as before again
 pub as_before_then : {S : Type 0} {g : Ghosts S} {a b c : Store S} → IsAsBefore g a b

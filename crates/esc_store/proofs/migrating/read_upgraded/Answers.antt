@@ -5,19 +5,19 @@ use Rattle.esc_rows.specs.Entries.{listed_row}
 use Rattle.esc_rows.specs.Content.{content_in}
 use Rattle.esc_rows.specs.ResultLaws.{if_goes}
 use Rattle.esc_store.specs.StoreTables.{IsStoreDatabase}
-use Rattle.esc_store.proofs.Ends.{was_clean}
+use Rattle.esc_store.specs.StandingLaws.{was_clean}
 use Rattle.esc_store.proofs.Following.{on_ok}
 use Rattle.esc_store.proofs.migrating.read_upgraded.Goals as goal
 
 pub returns-clause-upgraded : goal.returns-clause-upgraded
 returns-clause-upgraded g c = on_ok c.kept_manifest.result _ (λ x is clean k first.
     let said = IfOk-at_ok _ c.in_ok-stored.was (c.all_listed.ensures.read.said clean) in
-    subst (λ db. IsStoreDatabase db k) (sym said.1.0.now_is) (c.in_ok-upgrade_here.ensures.upgraded (was_clean _ _ _ c.all_listed.ensures.read.survives clean) k first))
+    subst (λ db. IsStoreDatabase db k) (sym said.1.0.now_is) (c.in_ok-upgrade_here.ensures.upgraded (was_clean c.all_listed.ensures.read.survives clean) k first))
 
 pub returns-clause-manifest : goal.returns-clause-manifest
 returns-clause-manifest g c = if_goes c.kept_manifest.result _ _ c.kept_manifest.ensures.manifest (λ manifest is clean k first.
     let mid = state g.S.Store c.upgrade_here.new.conn in
-    let store : IsStoreDatabase mid.now k = c.in_ok-upgrade_here.ensures.upgraded (was_clean _ _ _ c.all_listed.ensures.read.survives clean) k first in
+    let store : IsStoreDatabase mid.now k = c.in_ok-upgrade_here.ensures.upgraded (was_clean c.all_listed.ensures.read.survives clean) k first in
     let said = IfOk-at_ok _ c.in_ok-stored.was (c.all_listed.ensures.read.said clean) in
     is k.listed (ap (map listed_row) c.as_slice.ensures.value
     ∙ (said.0 (content_in mid.now.trees) (record { schema_is = store.schema; store = store.kept.tables }) ∙ store.kept.books.listed)))

@@ -2,7 +2,7 @@ use Rattle.std.proofs.Common.{sym, subst}
 use Rattle.std.proofs.lemmas.Result.{IfOk-at_ok}
 use Rattle.sqlite.specs.Held.{state}
 use Rattle.esc_store.specs.FirstVersion.{IsFirstDatabase}
-use Rattle.esc_store.proofs.Ends.{was_clean}
+use Rattle.esc_store.specs.StandingLaws.{was_clean}
 use Rattle.esc_store.proofs.Following.{on_ok}
 use Rattle.esc_store.proofs.MigratingLemmas.{upgraded}
 use Rattle.esc_store.proofs.migrating.upgrade_here.Goals as goal
@@ -11,5 +11,5 @@ pub returns-clause-upgraded : goal.returns-clause-upgraded
 returns-clause-upgraded g c = on_ok c.upgrade.result _ (λ x is clean k first.
     let mid = state g.S.Store c.begin_in.new.conn in
     let new = state g.S.Store c.upgrade.new.conn in
-    let begun = c.in_ok-begin_in.ensures.begun (was_clean mid new (λ _. ⊥) c.upgrade.ensures.part.survives clean) in
+    let begun = c.in_ok-begin_in.ensures.begun (was_clean c.upgrade.ensures.part.survives clean) in
     upgraded mid.now new.now k (IfOk-at_ok _ is (c.upgrade.ensures.part.made clean)).0 (subst (λ db. IsFirstDatabase db k) (sym begun.0.now_is) first))

@@ -6,6 +6,7 @@ use Rattle.esc_tables.specs.Reading.{reading}
 use Rattle.esc_manifest.specs.declared.row.MRow.{MRow}
 use Rattle.esc_store.specs.ReplyValue.{ReceiptValue, ReplyValue, reply_alike}
 use Rattle.esc_store.specs.Standing.{IsHonest}
+use Rattle.esc_store.specs.ResultLaws.{each_err}
 use Rattle.esc_events.specs.ArrivalValue.{an_arrival}
 use Rattle.esc_events.specs.Events.{EventValue, union}
 use Rattle.esc_events.specs.Receipts.{reply_to}
@@ -15,7 +16,7 @@ use Rattle.esc_desk.specs.Serving.{DeskServes}
 use Rattle.esc_desk.proofs.ComingAgain.{left_again}
 use Rattle.esc_desk.proofs.CrashLemmas.{leaves_early, leaves_taken, leaves_again}
 use Rattle.esc_desk.proofs.CrashSteps.{adds_then, if_ok_each, if_then_on, on_ok_each, on_ok_where}
-use Rattle.esc_desk.proofs.CauseLemmas.{on_err_so, if_err_is, if_err_both, one_of_four, again_four, cause_by, cause_of, again_cause, crowded_of, no_place_of}
+use Rattle.esc_desk.proofs.CauseLemmas.{if_err_is, if_err_both, one_of_four, again_four, cause_by, cause_of, again_cause, crowded_of, no_place_of}
 use Rattle.esc_desk.proofs.StoreFacts.{still_serves}
 use Rattle.esc_desk.proofs.ReadLemmas.{if_ok_two}
 use Rattle.esc_desk.proofs.desk.Desk.arrive.Given as given
@@ -196,4 +197,4 @@ returns-in-None-clause-full g c = λ clean e served.
     (λ full. (never, subst (λ (rs : List ReceiptValue). 1_000_000_000 ≤ length rs) books.receipts (full clean serves.kept there))) cause) c.take_new.ensures.cause
 
 pub returns-in_err-reply-clause-lost : goal.returns-in_err-reply-clause-lost
-returns-in_err-reply-clause-lost g c = on_err_so c.from_residual.result _ (still_serves g.S.Store c.args.self.now _ c.in_err-reply.ensures.same refl)
+returns-in_err-reply-clause-lost g c = each_err c.from_residual.result _ (still_serves g.S.Store c.args.self.now _ c.in_err-reply.ensures.same refl)

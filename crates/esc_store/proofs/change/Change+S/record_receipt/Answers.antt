@@ -1,7 +1,7 @@
 use Rattle.std.proofs.Common.{◌∙◌, ◌+◌, ap, refl, arith}
 use Rattle.std.proofs.lemmas.Result.{IfOk-at_ok}
 use Rattle.esc_store.specs.ResultLaws.{if_ok}
-use Rattle.esc_store.proofs.Ends.{was_clean}
+use Rattle.esc_store.specs.StandingLaws.{was_clean}
 use Rattle.esc_store.proofs.RowSteps.{become_turns, books_receipt, registry_receipt, receipts_made}
 use Rattle.esc_store.proofs.Following.{stepped, goes_step, made_all, holds_all}
 use Rattle.esc_store.proofs.Looking.{if_err}
@@ -17,13 +17,13 @@ returns-clause-recorded g c = made_all (stepped c.add_next_here.ensures.manifest
 pub returns-clause-number : goal.returns-clause-number
 returns-clause-number g c = if_ok c.add_next_here.result _ (λ n is clean before k made.
     let on = (IfOk-at_ok _ is (c.add_next_here.ensures.step.made clean)).0 in
-    let kept = receipts_made _ _ _ before k (was_clean _ _ _ c.add_next_here.ensures.step.survives clean) on made in
+    let kept = receipts_made _ _ _ before k (was_clean c.add_next_here.ensures.step.survives clean) on made in
     IfOk-at_ok _ is c.add_next_here.ensures.number clean _ kept.0 ∙ ap (λ n. n + 1) kept.1)
 
 pub returns-clause-full : goal.returns-clause-full
 returns-clause-full g c = if_err c.add_next_here.result _ _ c.add_next_here.ensures.full (λ e full is clean before k made.
     let it = full is clean in
-    let kept = receipts_made _ _ _ before k (was_clean _ _ _ c.add_next_here.ensures.step.survives clean) it.0 made in
+    let kept = receipts_made _ _ _ before k (was_clean c.add_next_here.ensures.step.survives clean) it.0 made in
     omega (arith, it.1 _ kept.0, kept.1))
 
 pub returns-clause-holds : goal.returns-clause-holds

@@ -1,5 +1,5 @@
 use Rattle.std.proofs.Common.{◌∙◌, ◌+◌, ap}
-use Rattle.esc_store.proofs.Ends.{was_clean}
+use Rattle.esc_store.specs.StandingLaws.{was_clean}
 use Rattle.esc_store.proofs.RowSteps.{step_next, last_told}
 use Rattle.esc_store.proofs.store.Store.add_next_here.Goals as goal
 
@@ -11,5 +11,5 @@ returns-in-Ok-add_receipt_here-clause-step g c =
 pub returns-in-Ok-add_receipt_here-clause-number : goal.returns-in-Ok-add_receipt_here-clause-number
 returns-in-Ok-add_receipt_here-clause-number g c = λ clean b holds.
     let told = last_told _ _ c.last_here.result c.in-Ok-last_here.last c.last_here.ensures.read.look c.in-Ok-last_here.is
-    (was_clean _ _ (λ _. ⊥) c.add_receipt_here.ensures.step.survives clean) b holds in
+    (was_clean c.add_receipt_here.ensures.step.survives clean) b holds in
     ap (λ n. n + 1) (c.from.ensures ∙ told)

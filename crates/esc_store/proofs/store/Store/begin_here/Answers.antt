@@ -2,7 +2,8 @@ use Rattle.std.proofs.Common.{◌∙◌}
 use Rattle.std.proofs.lemmas.Result.{IfOk-at_ok}
 use Rattle.sqlite.proofs.StateLemmas.{survives_then}
 use Rattle.esc_store.specs.Standing.{Stands, BeganIn, RestIn, HoldsIn}
-use Rattle.esc_store.proofs.Ends.{ok_goes, err_goes, began, made, under_way, given_up, keeps_then, was_clean}
+use Rattle.esc_store.specs.StandingLaws.{was_clean}
+use Rattle.esc_store.proofs.Ends.{ok_goes, err_goes, began, made, under_way, given_up, keeps_then}
 use Rattle.esc_store.proofs.store.Store.begin_here.Goals as goal
 
 pub returns-clause-began : goal.returns-clause-began
@@ -25,6 +26,6 @@ unfolding Stands
 returns-clause-stands g c = err_goes c.settle.result _ _ c.settle.ensures.settled.err (λ p k stands.
     given_up _ _ _ _ _ k (λ trees. ⊥)
     (survives_then _ _ _ _ _ _ (λ _ db none. none) (λ _ db none. none) c.begin_in-begun.ensures.survives p.1.survives)
-    (λ clean. keeps_then _ _ _ (c.begin_in-begun.ensures.kept (was_clean _ _ _ p.1.survives clean)) (p.1.kept clean))
+    (λ clean. keeps_then _ _ _ (c.begin_in-begun.ensures.kept (was_clean p.1.survives clean)) (p.1.kept clean))
     p.1.ended p.1.settled (c.settle.ensures.manifest ∙ stands.listed) (λ clean up. (stands.rests clean up).kept)
     c.settle.ensures.counted stands.counted)

@@ -3,7 +3,8 @@ use Rattle.std.proofs.lemmas.Result.{IfOk-at_ok}
 use Rattle.sqlite.proofs.StateLemmas.{survives_then}
 use Rattle.esc_store.specs.StoreTables.{IsStore}
 use Rattle.esc_store.specs.Standing.{Stands, HoldsKept, BeganIn, RestIn, HoldsIn, LeavesOr, LeavesOnly}
-use Rattle.esc_store.proofs.Ends.{ok_goes, err_goes, at_err, committed, crash, left, given_up, keeps_then, was_clean, begun_committed}
+use Rattle.esc_store.specs.StandingLaws.{was_clean}
+use Rattle.esc_store.proofs.Ends.{ok_goes, err_goes, at_err, committed, crash, left, given_up, keeps_then, begun_committed}
 use Rattle.esc_store.proofs.store.Store.commit_here.Goals as goal
 
 pub returns-clause-committed : goal.returns-clause-committed
@@ -29,5 +30,5 @@ unfolding Stands BeganIn
 returns-clause-kept g c = err_goes c.settle.result _ _ c.settle.ensures.settled.err (λ p before begun.
     given_up _ _ _ _ _ before _
     (survives_then _ _ _ _ _ _ (λ _ db is. is) (λ _ db none. absurd none) c.commit_in-committed.ensures.survives p.1.survives)
-    (λ clean. keeps_then _ _ _ (at_err c.commit_in-committed.result _ p.0 (c.commit_in-committed.ensures.kept (was_clean _ _ _ p.1.survives clean))) (p.1.kept clean))
+    (λ clean. keeps_then _ _ _ (at_err c.commit_in-committed.result _ p.0 (c.commit_in-committed.ensures.kept (was_clean p.1.survives clean))) (p.1.kept clean))
     p.1.ended p.1.settled (c.settle.ensures.manifest ∙ begun.listed) (begun_committed _ _ before begun) c.settle.ensures.counted (λ clean. tt))
