@@ -1,9 +1,8 @@
 -- What is gathered is exactly what is found.
 use Rattle.std.proofs.Common.{◌≡◌, ◌≢◌, ◌⊎◌, inl, inr, ℕ, ℤ, Bool, true, false, cond, not, ◌&&◌, List, [], ◌∷◌, ◌++◌, Option, Some, None, is_some, refl, sym, ap, subst, ◌∙◌, arith}
-use Rattle.std.specs.Prelude.{◌↔◌, codes, ◌<ℤ◌, ◌==◌, eqb, int_lt}
+use Rattle.std.specs.Prelude.{◌↔◌, codes, ◌<ℤ◌, ◌==◌, int_lt}
 use Rattle.std.proofs.lemmas.Int.{ints}
-use Rattle.std.proofs.lemmas.Bool.{eq-eqb, and_parts}
-use Rattle.std.proofs.lemmas.Bool.Decides.{eqb_tells}
+use Rattle.std.proofs.lemmas.Bool.{and_parts, eqb-false, ne_eqb}
 use Rattle.std.specs.List.{Contains, IsDistinct, flat_map, list_any}
 use Rattle.std.specs.List.Sorted.{IsStrictlySortedBy}
 use Rattle.std.specs.Map.{keys_of}
@@ -126,29 +125,19 @@ found_links es k o l f link absent is =
 
 -- V2
 
-differ : (a b : ℕ) → (a == b) ≡ false → a ≢ b
-differ a b h = λ e. false_true (sym h ∙ eq-eqb a b e)
-
-differ_is : (a b : ℕ) → a ≢ b → (a == b) ≡ false
-differ_is a b h = pick (eqb_tells a b)
-  where
-    pick : ((eqb a b ≡ true) × (a ≡ b)) ⊎ ((eqb a b ≡ false) × (a ≢ b)) → (a == b) ≡ false
-    pick (inl same) = absurd (h same.1)
-    pick (inr apart) = apart.0
-
 counts_found : (es : List Entry) (counts : List (Kind × ℕ)) (f : FindingValue) → IsDistinct key_eq (keys_of es) → Contains (flat_map (count_findings (keys_of es)) counts) f → IsMiscounted (tables_of es) counts f
 counts_found es counts f apart h =
     let r = from_pieces (count_findings (keys_of es)) counts f h in
     let n = count_of (keys_of es) r.0.0 in
     let u = unless (n == r.0.1) (miscounted r.0.0 r.0.1 n) f r.2 in
-    (r.0.0, r.0.1, n, r.1, count_has es r.0.0 apart, differ n r.0.1 u.0, u.1)
+    (r.0.0, r.0.1, n, r.1, count_has es r.0.0 apart, eqb-false n r.0.1 u.0, u.1)
 
 found_counts : (es : List Entry) (counts : List (Kind × ℕ)) (f : FindingValue) → IsDistinct key_eq (keys_of es) → IsMiscounted (tables_of es) counts f → Contains (flat_map (count_findings (keys_of es)) counts) f
 found_counts es counts f apart (kind, declared, n, has, many, other, is) =
     let c = count_of (keys_of es) kind in
     let same : n ≡ c = count_is es kind n apart many in
     in_pieces (count_findings (keys_of es)) counts (kind, declared) f has
-    (give_unless (c == declared) (miscounted kind declared c) f (differ_is c declared (subst (λ (m : ℕ). m ≢ declared) same other)) (is ∙ ap (miscounted kind declared) same))
+    (give_unless (c == declared) (miscounted kind declared c) f (ne_eqb c declared (subst (λ (m : ℕ). m ≢ declared) same other)) (is ∙ ap (miscounted kind declared) same))
 
 -- V3 and V4
 
