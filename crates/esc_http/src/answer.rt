@@ -158,7 +158,7 @@ fn answer_arrival<S: Alter>(
     }
 }
 
-#[tactic(auto, using(crate::proofs::StoreFacts::was_honest))]
+#[tactic(auto, using(esc_store::specs::StandingLaws::was_honest))]
 fn answer_report<S: Alter>(alloc: Global, desk: &mut Desk<S>, what: Report) -> Option<Vec<u8>>
     ensures answers { IsAnswered S.Store desk.old desk.new (wants what)
         (text_or_memory (λ text. text.items) result) }

@@ -6,15 +6,15 @@ use Rattle.esc_check.specs.FindingValue.{FindingValue}
 use Rattle.esc_check.specs.Findings.{IsFinding}
 use Rattle.esc_check.specs.TableMap.{tables_of}
 use Rattle.esc_store.specs.Standing.{IsHonest}
+use Rattle.esc_store.specs.StandingLaws.{was_honest}
 use Rattle.esc_http.proofs.Listed.{listing}
-use Rattle.esc_http.proofs.StoreFacts.{was_honest}
 use Rattle.esc_http.proofs.telling.findings.Goals as goal
 
 pub returns-in-Ok-clause-found : goal.returns-in-Ok-clause-found
 returns-in-Ok-clause-found g c = λ clean e serves apart.
     let at_end : IsHonest g.S.Store c.verify_from.new.o.desk.now.store = search rules in
     let entries = listing g.S.Store c.args.desk.now.store e c.tables_are_listed.ensures serves apart in
-    let at_walk = was_honest g.S.Store c.in_ok-walk.walk.desk.now.store c.verify_from.new.o.desk.now.store c.in-Ok.ensures.follows.same at_end in
+    let at_walk = was_honest c.in-Ok.ensures.follows.same at_end in
     let lists = c.in_ok-walk.ensures.lists at_walk e serves apart entries.0 entries.1 entries.2 in
     let w = c.args.end.now.watermark in
     let fits : SFits w64 w = search rules in

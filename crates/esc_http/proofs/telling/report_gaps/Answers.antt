@@ -4,15 +4,16 @@ use Rattle.std.proofs.lemmas.Result.{IfOk-weaker}
 use Rattle.esc_manifest.specs.declared.row.MRow.{MRow}
 use Rattle.esc_chain.specs.Chain.{Rows}
 use Rattle.esc_chain.specs.Gap.{AreGapLinesAt}
+use Rattle.esc_store.specs.StandingLaws.{was_honest}
 use Rattle.esc_events.specs.Events.{union}
 use Rattle.esc_texts.specs.GapsText.{gaps_text}
-use Rattle.esc_http.proofs.StoreFacts.{was_honest, stays}
+use Rattle.esc_http.proofs.StoreFacts.{stays}
 use Rattle.esc_http.proofs.telling.report_gaps.Goals as goal
 
 pub returns-clause-text : goal.returns-clause-text
 returns-clause-text g c = λ clean e serves.
     let lines = c.in_ok-lines.lines.items in
-    let before = was_honest g.S.Store c.moment.new.self.store c.held.new.self.store c.in_ok-rows.ensures.stays.same clean in
+    let before = was_honest c.in_ok-rows.ensures.stays.same clean in
     let then = stays g.S.Store c.args.desk.now.store c.moment.new.self.store e c.in_ok-moment.ensures.stays.same serves in
     let there = stays g.S.Store c.moment.new.self.store c.held.new.self.store e c.in_ok-rows.ensures.stays.same then in
     let listed : c.manifest-manifest.result.now ≡ union e = c.manifest-manifest.ensures.manifest e there in

@@ -1,11 +1,12 @@
 use Rattle.std.proofs.Common.{ap, ◌∙◌}
+use Rattle.esc_store.specs.StandingLaws.{was_honest}
 use Rattle.esc_texts.specs.LinksText.{links_text}
-use Rattle.esc_http.proofs.StoreFacts.{was_honest, stays}
+use Rattle.esc_http.proofs.StoreFacts.{stays}
 use Rattle.esc_http.proofs.telling.report_links.Goals as goal
 
 pub returns-clause-text : goal.returns-clause-text
 returns-clause-text g c = λ clean e serves apart.
-    let before = was_honest g.S.Store c.end.new.self.store c.findings_at.new.desk.store c.in_ok-found.ensures.stays.same clean in
+    let before = was_honest c.in_ok-found.ensures.stays.same clean in
     let there = stays g.S.Store c.args.desk.now.store c.end.new.self.store e c.in_ok-end.ensures.stays.same serves in
     let found = c.in_ok-found.ensures.found clean e there apart in
     record {
