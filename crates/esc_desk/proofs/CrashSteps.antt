@@ -60,19 +60,7 @@ module _ {S : Type 0} (g : Ghosts S) where
   unfolding HoldsIn
   holds_when change tables h clean = h clean clean
 
-pub if_then_on : {X E : Type 0} (r : Result X E) (P : X → Type 0) (Q : Type 0) → ((x : X) → P x → Q) → IfOk r P → OnOk r Q
-if_then_on (Ok x) P Q f h = f x h
-if_then_on (Err e) P Q f h = tt
-
-pub if_ok_each : {X E : Type 0} (r : Result X E) (P : X → Type 0) → ((x : X) → P x) → IfOk r P
-if_ok_each (Ok x) P f = f x
-if_ok_each (Err e) P f = tt
-
-pub on_ok_each : {X E : Type 0} (r : Result X E) (P : Type 0) (Q : X → Type 0) → (P → (x : X) → Q x) → OnOk r P → IfOk r Q
-on_ok_each (Ok x) P Q f p = f p x
-on_ok_each (Err e) P Q f p = tt
-
--- the same, where P is so only under a premise that the conclusion gives
+-- what follows of a result's value, where P is so only under a premise that the conclusion gives
 pub on_ok_where : {X E : Type 0} (r : Result X E) (U P : Type 0) (A B C : Type 0) → (P → X → A → B → C) → (A → B → U) → (U → OnOk r P) → IfOk r (λ _. A → B → C)
 on_ok_where (Ok x) U P A B C f u p = λ a b. f (p (u a b)) x a b
 on_ok_where (Err e) U P A B C f u p = tt

@@ -22,7 +22,6 @@ use Rattle.std.proofs.Common.{
   subst,
   ◌∙◌,
   true≢false,
-  IfOk,
 }
 use Rattle.std.proofs.lemmas.Option.{slice_get-map}
 use Rattle.std.proofs.lemmas.List.{length-map}
@@ -58,11 +57,6 @@ use Rattle.esc_desk.specs.Reads.{last, AreHeldRows, AreParkedOf, SaysEnd, IsEndA
 pub read_stays : {S : Type 0} (g : Ghosts S) (old : Desk S) (store : Store S) → IsAsBefore g old.store store
     → Stays g old (record { store = store; known = old.known; reread = old.reread })
 read_stays g old store same = still_stays g old (record { store = store; known = old.known; reread = old.reread }) same refl
-
--- what is so of an answer for two reasons
-pub if_ok_two : {X E : Type 0} (r : Result X E) (P Q R : X → Type 0) → ((x : X) → P x → Q x → R x) → IfOk r P → IfOk r Q → IfOk r R
-if_ok_two (Ok x) P Q R h p q = h x p q
-if_ok_two (Err f) P Q R h p q = tt
 
 -- the last element of an image
 last_mapped : {X Y : Type 0} (f : X → Y) (xs : List X) → last (map f xs) ≡ option_map f (last xs)

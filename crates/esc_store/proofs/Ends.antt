@@ -1,6 +1,6 @@
 -- The beginning and the ends of a change.
 use Rattle.std.proofs.Common.{◌≡◌, inl, inr, true, false, List, Option, sym, ap, subst, ◌∙◌}
-use Rattle.std.specs.Prelude.{IsTrue, Result, Ok, Err, IfOk, OnOk, OnErr, IsErr}
+use Rattle.std.specs.Prelude.{IsTrue, Result, Ok, Err, OnErr, IsErr}
 use Rattle.std.proofs.lemmas.Bool.{cases_Bool}
 use Rattle.sqlite_trees.specs.Tree.{Trees}
 use Rattle.sqlite.specs.Effect.{Database}
@@ -17,14 +17,6 @@ use Rattle.esc_store.specs.Standing.{IsAtRest, RestsAt, AreCountsOf, IsStanding,
 use Rattle.esc_store.specs.StandingLaws.{was_clean}
 
 -- ---- results
-
-pub ok_goes : {X E : Type 0} (r : Result X E) (P : X → Type 0) (Q : Type 0) → IfOk r P → ((x : X) → P x → Q) → OnOk r Q
-ok_goes (Ok x) P Q h f = f x h
-ok_goes (Err e) P Q h f = tt
-
-pub err_goes : {X E : Type 0} (r : Result X E) (P Q : Type 0) → OnErr r P → (P → Q) → OnErr r Q
-err_goes (Ok x) P Q h f = tt
-err_goes (Err e) P Q h f = f h
 
 pub at_err : {X E : Type 0} (r : Result X E) (P : Type 0) → IsErr r → OnErr r P → P
 at_err (Ok x) P bad h = let no : ⊥ = cc in absurd no

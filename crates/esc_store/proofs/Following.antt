@@ -1,6 +1,6 @@
 -- What the calls of a change as a registry keep, and what they make.
 use Rattle.std.proofs.Common.{◌≡◌, List, Option, Some, refl, sym, subst, ◌∙◌}
-use Rattle.std.specs.Prelude.{Result, Ok, Err, OnOk}
+use Rattle.std.specs.Prelude.{Result, Ok, OnOk}
 use Rattle.std.specs.Option.{unwrap_or}
 use Rattle.sqlite_trees.specs.declared.store.Store.{Ghosts}
 use Rattle.sqlite.specs.Effect.{Database}
@@ -14,12 +14,8 @@ use Rattle.esc_store.specs.declared.store.Store.{Store}
 use Rattle.esc_store.specs.Kept.{Kept}
 use Rattle.esc_store.specs.TypedRows.{IsBooks, IsRegistry}
 use Rattle.esc_store.specs.Standing.{ChangeOf, IsBegun, IsMade, IsStep, BeganIn, RestIn, HoldsIn, GoesOn, Follows}
+use Rattle.esc_store.specs.ResultLaws.{if_ok}
 use Rattle.esc_store.proofs.Parts.{Turns, Settled, step_is, step_turns, begun_on, made_on, made_kept, under_way_on}
-
--- what follows from a result
-pub on_ok : {X E : Type 0} (r : Result X E) (P : Type 0) → ((x : X) → r ≡ Ok x → P) → OnOk r P
-on_ok (Ok x) P f = f x refl
-on_ok (Err e) P f = tt
 
 -- a part of a change, and what it makes of what the tables hold
 pub record Moves {S X E : Type 0} (g : Ghosts S) (old new : Store S) (R : Content → Content → Type 0) (result : Result X E) : Type 0 where
@@ -55,7 +51,7 @@ module _ {S : Type 0} {g : Ghosts S} {X E : Type 0} {old new : Store S} {R : Con
 
   pub made_all : {F : Kept → Kept} (listing : Option (List MRow)) → ((k : Kept) → (F k).listed ≡ k.listed) → ((k : Kept) (c c' : Content) → R c c' → IsBooks c k → IsBooks c' (F k))
       → OnOk r ((before k : Kept) → RestIn g old listing before k → RestIn g new listing before (F k))
-  made_all {F} listing same turn = on_ok r _ (λ x is before k made. made_then is listing (same k) (turn k) before made)
+  made_all {F} listing same turn = if_ok r _ (λ x is before k made. made_then is listing (same k) (turn k) before made)
 
   -- of a step that lists rows
   pub listed_step : {k k' : Kept} {x : X} → r ≡ Ok x → ((c c' : Content) → R c c' → IsBooks c k → IsBooks c' k') → (before : Kept)
@@ -69,7 +65,7 @@ module _ {S : Type 0} {g : Ghosts S} {X E : Type 0} {old new : Store S} {R : Con
   holds_step {s} {s'} {x} is turn goes = under_way_on move.step s s' x is turn goes
 
   pub holds_all : {F : Tables → Tables} → ((s : Tables) (c c' : Content) → R c c' → IsRegistry c s → IsRegistry c' (F s)) → OnOk r ((s : Tables) → HoldsIn g old s → HoldsIn g new (F s))
-  holds_all turn = on_ok r _ (λ x is s. holds_step is (turn s))
+  holds_all turn = if_ok r _ (λ x is s. holds_step is (turn s))
 
 module _ {S : Type 0} {g : Ghosts S} {X E : Type 0} {old : ChangeOf S} {new : Store S} {R : Content → Content → Type 0} {r : Result X E} (move : Moves g old.store.now new R r) where
   pub goes_step : GoesOn g old (record old { store = record old.store { now = new } })

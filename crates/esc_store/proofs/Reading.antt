@@ -1,6 +1,6 @@
 -- What the reads of a store answer.
 use Rattle.std.proofs.Common.{◌≡◌, ℕ, suc, ◌+◌, List, [], ◌∷◌, length, Option, refl, ap, ◌∙◌, arith}
-use Rattle.std.specs.Prelude.{Result, Ok, Err, IfOk, option_map}
+use Rattle.std.specs.Prelude.{option_map}
 use Rattle.sqlite_trees.specs.declared.store.Store.{Ghosts}
 use Rattle.esc_rows.specs.Changes.{last_number, receipt_of}
 use Rattle.esc_rows.specs.declared.receipt.Receipt.{Receipt}
@@ -10,10 +10,6 @@ use Rattle.esc_store.specs.Kept.{Kept}
 use Rattle.esc_store.specs.ReplyValue.{ReceiptValue, ReplyValue, reply_alike}
 use Rattle.esc_store.specs.TypedRows.{receipts_from}
 use Rattle.esc_store.specs.Standing.{IsTold, Stands}
-
-pub if_both : {X E : Type 0} (r : Result X E) (P Q R : X → Type 0) → IfOk r P → IfOk r Q → ((x : X) → P x → Q x → R x) → IfOk r R
-if_both (Ok x) P Q R p q f = f x p q
-if_both (Err e) P Q R p q f = tt
 
 pub stands_listed : {S : Type 0} (g : Ghosts S) (s : Store S) (k : Kept) → Stands g s k → s.manifest ≡ k.listed
 unfolding Stands

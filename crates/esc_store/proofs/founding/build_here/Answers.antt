@@ -3,12 +3,12 @@ use Rattle.std.proofs.lemmas.Result.{IfOk-at_ok}
 use Rattle.sqlite.specs.Effect.{Database}
 use Rattle.sqlite.specs.Held.{state}
 use Rattle.esc_store.specs.StandingLaws.{was_clean}
-use Rattle.esc_store.proofs.Following.{on_ok}
+use Rattle.esc_store.specs.ResultLaws.{if_ok}
 use Rattle.esc_store.proofs.FoundingLemmas.{made_fresh}
 use Rattle.esc_store.proofs.founding.build_here.Goals as goal
 
 pub returns-clause-built : goal.returns-clause-built
-returns-clause-built g c = on_ok c.build.result _ (λ x is m e blank clean.
+returns-clause-built g c = if_ok c.build.result _ (λ x is m e blank clean.
     let begun = c.in_ok-begin_in.ensures.begun (was_clean c.build.ensures.part.survives clean) in
     made_fresh (state g.S.Store c.begin_in.new.conn).now (state g.S.Store c.build.new.conn).now _ m e
     (ap (λ (db : Database). db.schema) begun.0.now_is ∙ blank) (IfOk-at_ok _ is (c.build.ensures.part.made clean)).0)

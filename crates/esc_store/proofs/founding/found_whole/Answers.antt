@@ -1,6 +1,6 @@
 use Rattle.std.proofs.lemmas.Result.{IfOk-at_ok}
 use Rattle.esc_store.specs.Kept.{fresh}
-use Rattle.esc_store.proofs.Following.{on_ok}
+use Rattle.esc_store.specs.ResultLaws.{if_ok}
 use Rattle.esc_store.proofs.FoundingLemmas.{founded_survives, founded_rests, founded_left}
 use Rattle.esc_store.proofs.founding.found_whole.Goals as goal
 
@@ -9,11 +9,11 @@ returns-clause-survives g c = λ m e blank.
     founded_survives _ _ _ (fresh m) c.build_here.ensures.survives (c.in_ok-build_here.ensures.built m e blank) c.commit_in.ensures.survives
 
 pub returns-clause-rests : goal.returns-clause-rests
-returns-clause-rests g c = on_ok c.commit_in.result _ (λ x is m e blank.
+returns-clause-rests g c = if_ok c.commit_in.result _ (λ x is m e blank.
     founded_rests _ _ _ (fresh m) c.build_here.ensures.survives (c.in_ok-build_here.ensures.built m e blank) c.commit_in.ensures.survives
     (λ clean. IfOk-at_ok _ is (c.commit_in.ensures.committed clean)))
 
 pub returns-clause-left : goal.returns-clause-left
-returns-clause-left g c = on_ok c.commit_in.result _ (λ x is m e blank.
+returns-clause-left g c = if_ok c.commit_in.result _ (λ x is m e blank.
     founded_left _ _ _ (fresh m) c.build_here.ensures.survives (c.in_ok-build_here.ensures.built m e blank) c.commit_in.ensures.survives
     (λ clean. IfOk-at_ok _ is (c.commit_in.ensures.committed clean)) c.commit_in.ensures.only)

@@ -6,11 +6,11 @@ use Rattle.esc_rows.specs.Content.{content_in}
 use Rattle.esc_rows.specs.ResultLaws.{if_goes}
 use Rattle.esc_store.specs.StoreTables.{IsStoreDatabase}
 use Rattle.esc_store.specs.StandingLaws.{was_clean}
-use Rattle.esc_store.proofs.Following.{on_ok}
+use Rattle.esc_store.specs.ResultLaws.{if_ok}
 use Rattle.esc_store.proofs.migrating.read_upgraded.Goals as goal
 
 pub returns-clause-upgraded : goal.returns-clause-upgraded
-returns-clause-upgraded g c = on_ok c.kept_manifest.result _ (λ x is clean k first.
+returns-clause-upgraded g c = if_ok c.kept_manifest.result _ (λ x is clean k first.
     let said = IfOk-at_ok _ c.in_ok-stored.was (c.all_listed.ensures.read.said clean) in
     subst (λ db. IsStoreDatabase db k) (sym said.1.0.now_is) (c.in_ok-upgrade_here.ensures.upgraded (was_clean c.all_listed.ensures.read.survives clean) k first))
 

@@ -3,12 +3,12 @@ use Rattle.std.proofs.lemmas.Result.{IfOk-at_ok}
 use Rattle.sqlite.specs.Held.{state}
 use Rattle.esc_store.specs.FirstVersion.{IsFirstDatabase}
 use Rattle.esc_store.specs.StandingLaws.{was_clean}
-use Rattle.esc_store.proofs.Following.{on_ok}
+use Rattle.esc_store.specs.ResultLaws.{if_ok}
 use Rattle.esc_store.proofs.MigratingLemmas.{upgraded}
 use Rattle.esc_store.proofs.migrating.upgrade_here.Goals as goal
 
 pub returns-clause-upgraded : goal.returns-clause-upgraded
-returns-clause-upgraded g c = on_ok c.upgrade.result _ (λ x is clean k first.
+returns-clause-upgraded g c = if_ok c.upgrade.result _ (λ x is clean k first.
     let mid = state g.S.Store c.begin_in.new.conn in
     let new = state g.S.Store c.upgrade.new.conn in
     let begun = c.in_ok-begin_in.ensures.begun (was_clean c.upgrade.ensures.part.survives clean) in

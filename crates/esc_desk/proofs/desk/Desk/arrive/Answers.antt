@@ -6,7 +6,7 @@ use Rattle.esc_tables.specs.Reading.{reading}
 use Rattle.esc_manifest.specs.declared.row.MRow.{MRow}
 use Rattle.esc_store.specs.ReplyValue.{ReceiptValue, ReplyValue, reply_alike}
 use Rattle.esc_store.specs.Standing.{IsHonest}
-use Rattle.esc_store.specs.ResultLaws.{each_err}
+use Rattle.esc_store.specs.ResultLaws.{each_err, if_both, if_ok, if_goes}
 use Rattle.esc_events.specs.ArrivalValue.{an_arrival}
 use Rattle.esc_events.specs.Events.{EventValue, union}
 use Rattle.esc_events.specs.Receipts.{reply_to}
@@ -15,10 +15,9 @@ use Rattle.esc_desk.specs.Crashes.{AddsStoreFor}
 use Rattle.esc_desk.specs.Serving.{DeskServes}
 use Rattle.esc_desk.proofs.ComingAgain.{left_again}
 use Rattle.esc_desk.proofs.CrashLemmas.{leaves_early, leaves_taken, leaves_again}
-use Rattle.esc_desk.proofs.CrashSteps.{adds_then, if_ok_each, if_then_on, on_ok_each, on_ok_where}
+use Rattle.esc_desk.proofs.CrashSteps.{adds_then, on_ok_where}
 use Rattle.esc_desk.proofs.CauseLemmas.{if_err_is, if_err_both, one_of_four, again_four, cause_by, cause_of, again_cause, crowded_of, no_place_of}
 use Rattle.esc_desk.proofs.StoreFacts.{still_serves}
-use Rattle.esc_desk.proofs.ReadLemmas.{if_ok_two}
 use Rattle.esc_desk.proofs.desk.Desk.arrive.Given as given
 use Rattle.esc_desk.proofs.desk.Desk.arrive.Goals as goal
 
@@ -99,24 +98,24 @@ returns-in-Some-clause-repeated g c = λ clean e served.
     let there = c.in_ok-reply.ensures.same.stands serves.kept serves.stands in
     let done = c.answer_again.ensures.answered clean e c.args.number.now serves.kept there serves.stands_for served.remembers (kept_reply g c clean e served) in
     let at = told g c clean e served in
-    if_ok_two c.answer_again.result _ _ _ (λ p same again r told.
+    if_both c.answer_again.result _ _ _ c.answer_again.ensures.same done (λ p same again r told.
     let one = same_Some _ _ (sym at ∙ told) in
-    (same ∙ one, λ other. again.rests (λ is. other (ap (λ (x : ReplyValue). x.verdict) (sym (same ∙ one)) ∙ is)))) c.answer_again.ensures.same done
+    (same ∙ one, λ other. again.rests (λ is. other (ap (λ (x : ReplyValue). x.verdict) (sym (same ∙ one)) ∙ is))))
 
 pub returns-in-None-clause-repeated : goal.returns-in-None-clause-repeated
 returns-in-None-clause-repeated g c = λ clean e served.
-    if_ok_each c.take_new.result _ (λ p r told. absurd (none-some _ (sym (untold g c clean e served) ∙ told)))
+    if_ok c.take_new.result _ (λ p ok r told. absurd (none-some _ (sym (untold g c clean e served) ∙ told)))
 
 pub returns-in-Some-clause-room : goal.returns-in-Some-clause-room
 returns-in-Some-clause-room g c = λ clean e served.
     let at = told g c clean e served in
-    if_ok_each c.answer_again.result _ (λ p none. absurd (none-some _ (sym none ∙ at)))
+    if_ok c.answer_again.result _ (λ p ok none. absurd (none-some _ (sym none ∙ at)))
 
 pub returns-in-None-clause-room : goal.returns-in-None-clause-room
 returns-in-None-clause-room g c = λ clean e served.
     let serves = served.serves in
     let few = c.take_new.ensures.room clean serves.kept (c.in_ok-reply.ensures.same.stands serves.kept serves.stands) in
-    on_ok_each c.take_new.result _ _ (λ room p none. subst (λ (rs : List ReceiptValue). length rs < 1_000_000_000) serves.stands_for.books.receipts room) few
+    if_goes c.take_new.result _ _ few (λ p room none. subst (λ (rs : List ReceiptValue). length rs < 1_000_000_000) serves.stands_for.books.receipts room)
 
 pub returns-in-Some-clause-place : goal.returns-in-Some-clause-place
 returns-in-Some-clause-place g c = λ clean e served.
@@ -133,8 +132,7 @@ returns-in-None-clause-place g c = λ clean e served.
     let serves = served.serves in
     let a = an_arrival c.args.number.now c.args.body.now in
     let place = c.take_new.ensures.place clean serves.kept (c.in_ok-reply.ensures.same.stands serves.kept serves.stands) in
-    on_ok_each c.take_new.result _ _
-    (λ free p apart full. free (subst (IsCrowded serves.kept) (sym c.digest-digest.ensures) (crowded_of e a serves.kept serves.stands_for.books apart full))) place
+    if_goes c.take_new.result _ _ place (λ p free apart full. free (subst (IsCrowded serves.kept) (sym c.digest-digest.ensures) (crowded_of e a serves.kept serves.stands_for.books apart full)))
 
 pub returns-in_err-reply-clause-crash : goal.returns-in_err-reply-clause-crash
 returns-in_err-reply-clause-crash g c = λ e doubtful served left.
@@ -175,7 +173,7 @@ returns-in-None-clause-crash g c = λ e doubtful served left.
     let there = c.in_ok-reply.ensures.same.stands serves.kept serves.stands in
     leaves_taken g.S.Store _ _ e doubtful a c.take_new.result left (λ clean. untold g c clean e served)
     (λ clean. adds_then c.in_ok-reply.ensures.same.survives (c.take_new.ensures.crash clean e serves.kept there stood served.remembers (no_reply g c clean e served)))
-    (λ clean. if_then_on c.take_new.result _ _ (λ p taken. taken.left) (c.take_new.ensures.answered clean e serves.kept there stood served.remembers (no_reply g c clean e served)))
+    (λ clean. if_goes c.take_new.result _ _ (c.take_new.ensures.answered clean e serves.kept there stood served.remembers (no_reply g c clean e served)) (λ p taken. taken.left))
 
 pub returns-in_err-reply-clause-full : goal.returns-in_err-reply-clause-full
 returns-in_err-reply-clause-full g c = λ clean e served.

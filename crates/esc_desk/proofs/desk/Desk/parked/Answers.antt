@@ -1,7 +1,8 @@
 use Rattle.std.proofs.Common.{subst, sym, ◌∙◌}
 use Rattle.esc_store.specs.Kept.{AreParked}
 use Rattle.esc_store.specs.StandingLaws.{was_honest}
-use Rattle.esc_desk.proofs.ReadLemmas.{if_ok_two, same_parked}
+use Rattle.esc_store.specs.ResultLaws.{if_both}
+use Rattle.esc_desk.proofs.ReadLemmas.{same_parked}
 use Rattle.esc_desk.proofs.desk.Desk.parked.Goals as goal
 
 pub returns-clause-bodies : goal.returns-clause-bodies
@@ -10,6 +11,5 @@ returns-clause-bodies g c = λ clean e serves.
     let before = was_honest c.parked_bodies.ensures.same clean in
     let there = c.in_ok-digests.ensures.same.stands k serves.stands in
     let digests = c.in_ok-digests.ensures.digests before k serves.stands in
-    if_ok_two c.parked_bodies.result _ _ _
+    if_both c.parked_bodies.result _ _ _ c.parked_bodies.ensures.digests (c.parked_bodies.ensures.each clean k there)
     (λ bodies are each. same_parked e k serves.stands_for bodies.items (record { digests = subst (AreParked k.parked) (sym (are ∙ c.deref.ensures.value)) digests; each = each }))
-    c.parked_bodies.ensures.digests (c.parked_bodies.ensures.each clean k there)

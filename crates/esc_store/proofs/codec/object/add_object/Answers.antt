@@ -1,11 +1,11 @@
 use Rattle.std.proofs.Common.{sym, ap, ◌∙◌, Some}
 use Rattle.std.proofs.lemmas.Result.{IfOk-at_ok}
 use Rattle.esc_rows.specs.Entries.{object_of}
-use Rattle.esc_store.proofs.Following.{on_ok}
+use Rattle.esc_store.specs.ResultLaws.{if_ok}
 use Rattle.esc_store.proofs.Gathering.{object_more}
 use Rattle.esc_store.proofs.codec.object.add_object.Goals as goal
 
 pub returns-clause-added : goal.returns-clause-added
-returns-clause-added c = on_ok c.add_new.result _ (λ x is rows all.
+returns-clause-added c = if_ok c.add_new.result _ (λ x is rows all.
     object_more rows _ _ (object_of c.args.stored.now) _ _ c.in_ok-key.ensures.kind (sym c.as_slice.ensures.value ∙ c.in_ok-key.ensures.text)
     (c.in_ok-object.ensures.object ∙ ap Some c.as_slice-2.ensures.value) (IfOk-at_ok _ is c.add_new.ensures.absent) (IfOk-at_ok _ is c.add_new.ensures.added) all)

@@ -1,13 +1,14 @@
+use Rattle.esc_store.specs.ResultLaws.{if_ok}
 use Rattle.esc_store.proofs.RowSteps.{become_turns}
 use Rattle.esc_store.proofs.Lists.{books_listed, registry_listed}
-use Rattle.esc_store.proofs.Following.{moved, on_ok, goes_step, listed_step, holds_all}
+use Rattle.esc_store.proofs.Following.{moved, goes_step, listed_step, holds_all}
 use Rattle.esc_store.proofs.listing.Change+S.list_row.Goals as goal
 
 pub returns-clause-goes_on : goal.returns-clause-goes_on
 returns-clause-goes_on g c = goes_step (moved c.settle.ensures c.insert_listed-done.ensures.part (become_turns _))
 
 pub returns-clause-listed : goal.returns-clause-listed
-returns-clause-listed g c = on_ok c.settle.result _ (λ x is before k r row_is.
+returns-clause-listed g c = if_ok c.settle.result _ (λ x is before k r row_is.
     listed_step (moved c.settle.ensures c.insert_listed-done.ensures.part (become_turns _)) is (books_listed k _ r row_is) before)
 
 pub returns-clause-holds : goal.returns-clause-holds

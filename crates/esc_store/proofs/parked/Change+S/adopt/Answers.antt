@@ -4,11 +4,11 @@ use Rattle.sqlite.specs.Held.{state}
 use Rattle.sqlite.specs.State.{HasCleanDisk}
 use Rattle.esc_store.specs.Kept.{with_body, with_parked}
 use Rattle.esc_store.specs.Standing.{Rest}
-use Rattle.esc_store.proofs.Following.{on_ok}
+use Rattle.esc_store.specs.ResultLaws.{if_ok}
 use Rattle.esc_store.proofs.parked.Change+S.adopt.Goals as goal
 
 pub returns-clause-adopted : goal.returns-clause-adopted
-returns-clause-adopted g c = on_ok c.unpark.result _ (λ x is clean before k free rest.
+returns-clause-adopted g c = if_ok c.unpark.result _ (λ x is clean before k free rest.
     let was : HasCleanDisk (state g.S.Store c.find_parked.new.self.store.now.conn) = omega (arith, c.in_ok-hold.ensures.goes_on.survives.clean, c.unpark.ensures.goes_on.survives.clean, clean) in
     let found = c.in_ok-found.ensures.found was before k rest in
     let held = c.in_ok-hold.ensures.held before k free (c.find_parked.ensures.follows.rest before k rest) in (

@@ -1,6 +1,5 @@
 use Rattle.std.specs.Prelude.{option_map}
 use Rattle.esc_store.specs.ResultLaws.{if_ok}
-use Rattle.esc_store.proofs.Following.{on_ok}
 use Rattle.esc_store.proofs.Sure.{read_settled}
 use Rattle.esc_store.proofs.Looking.{follows_look, holds_look}
 use Rattle.esc_store.proofs.Parking.{follows_same, found_parked}
@@ -17,4 +16,4 @@ returns-clause-found g c = if_ok c.settle.result _ (λ x is clean.
     found_parked (option_map (λ b. b.items)) is c.in-Ok.ensures.on (read_settled c.settle.ensures c.find_parked-found.ensures.read) clean _)
 
 pub returns-clause-holds : goal.returns-clause-holds
-returns-clause-holds g c = on_ok c.settle.result _ (λ x is. holds_look (read_settled c.settle.ensures c.find_parked-found.ensures.read) is)
+returns-clause-holds g c = if_ok c.settle.result _ (λ x is. holds_look (read_settled c.settle.ensures c.find_parked-found.ensures.read) is)

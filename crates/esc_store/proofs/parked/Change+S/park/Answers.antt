@@ -1,7 +1,8 @@
 use Rattle.std.proofs.Common.{refl}
+use Rattle.esc_store.specs.ResultLaws.{if_ok}
 use Rattle.esc_store.proofs.Parking.{park_turns, books_parked, registry_parked, was_free}
 use Rattle.esc_store.proofs.Parts.{step_is}
-use Rattle.esc_store.proofs.Following.{moved, on_ok, goes_step, made_all, holds_all}
+use Rattle.esc_store.proofs.Following.{moved, goes_step, made_all, holds_all}
 use Rattle.esc_store.proofs.parked.Change+S.park.Goals as goal
 
 pub returns-clause-goes_on : goal.returns-clause-goes_on
@@ -14,5 +15,5 @@ pub returns-clause-holds : goal.returns-clause-holds
 returns-clause-holds g c = holds_all (moved c.settle.ensures c.insert_parked-done.ensures.part (park_turns _ _)) (λ s. registry_parked s _ _)
 
 pub returns-clause-free : goal.returns-clause-free
-returns-clause-free g c = on_ok c.settle.result _ (λ x is clean.
+returns-clause-free g c = if_ok c.settle.result _ (λ x is clean.
     was_free _ _ c.settle.new.self _ _ is (step_is c.settle.ensures.settled c.insert_parked-done.ensures.part) clean _)

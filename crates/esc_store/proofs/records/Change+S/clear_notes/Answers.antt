@@ -1,10 +1,11 @@
+use Rattle.esc_store.specs.ResultLaws.{if_ok}
 use Rattle.esc_store.proofs.Registries.{undo_turns, books_no_undo, undo_gone}
-use Rattle.esc_store.proofs.Following.{moved, on_ok, follows_step, holds_step}
+use Rattle.esc_store.proofs.Following.{moved, follows_step, holds_step}
 use Rattle.esc_store.proofs.records.Change+S.clear_notes.Goals as goal
 
 pub returns-clause-follows : goal.returns-clause-follows
 returns-clause-follows g c = follows_step (moved c.settle.ensures c.clear_undo-done.ensures.part undo_turns) books_no_undo
 
 pub returns-clause-cleared : goal.returns-clause-cleared
-returns-clause-cleared g c = on_ok c.settle.result _ (λ x is s.
+returns-clause-cleared g c = if_ok c.settle.result _ (λ x is s.
     holds_step (moved c.settle.ensures c.clear_undo-done.ensures.part undo_turns) is (undo_gone s))

@@ -1,12 +1,13 @@
 use Rattle.std.proofs.Common.{Some}
+use Rattle.esc_store.specs.ResultLaws.{if_ok}
 use Rattle.esc_store.proofs.Registries.{put_turns, books_objects, set_registry, key_set, has_record}
-use Rattle.esc_store.proofs.Following.{moved, on_ok, follows_step, holds_step}
+use Rattle.esc_store.proofs.Following.{moved, follows_step, holds_step}
 use Rattle.esc_store.proofs.records.Change+S.put_record.Goals as goal
 
 pub returns-clause-follows : goal.returns-clause-follows
 returns-clause-follows g c = follows_step (moved c.settle.ensures c.put_object-done.ensures.part (put_turns _ _ _)) books_objects
 
 pub returns-clause-written : goal.returns-clause-written
-returns-clause-written g c = on_ok c.settle.result _ (λ x is s o bytes.
+returns-clause-written g c = if_ok c.settle.result _ (λ x is s o bytes.
     holds_step (moved c.settle.ensures c.put_object-done.ensures.part (put_turns _ _ _)) is
     (λ _ _ set. set_registry c.args.k.now (Some o) bytes (has_record o _ bytes) (key_set c.kind_number.ensures c.as_bytes.ensures.value c.k.view_is set)))

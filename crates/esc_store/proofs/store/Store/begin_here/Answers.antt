@@ -1,29 +1,31 @@
 use Rattle.std.proofs.Common.{◌∙◌}
 use Rattle.std.proofs.lemmas.Result.{IfOk-at_ok}
 use Rattle.sqlite.proofs.StateLemmas.{survives_then}
+use Rattle.esc_rows.specs.ResultLaws.{if_goes}
 use Rattle.esc_store.specs.Standing.{Stands, BeganIn, RestIn, HoldsIn}
 use Rattle.esc_store.specs.StandingLaws.{was_clean}
-use Rattle.esc_store.proofs.Ends.{ok_goes, err_goes, began, made, under_way, given_up, keeps_then}
+use Rattle.esc_store.proofs.Ends.{began, made, under_way, given_up, keeps_then}
 use Rattle.esc_store.proofs.store.Store.begin_here.Goals as goal
+use Rattle.esc_store.proofs.Looking.{if_err}
 
 pub returns-clause-began : goal.returns-clause-began
 unfolding Stands BeganIn
-returns-clause-began g c = ok_goes c.settle.result _ _ c.settle.ensures.settled.ok (λ x p k stands. rw p.1
+returns-clause-began g c = if_goes c.settle.result _ _ c.settle.ensures.settled.ok (λ x p k stands. rw p.1
     (began _ _ _ _ k c.begin_in-begun.ensures.survives (λ clean. (IfOk-at_ok _ p.0 (c.begin_in-begun.ensures.begun clean)).0) stands))
 
 pub returns-clause-rest : goal.returns-clause-rest
 unfolding Stands RestIn
-returns-clause-rest g c = ok_goes c.settle.result _ _ c.settle.ensures.settled.ok (λ x p k stands. rw p.1
+returns-clause-rest g c = if_goes c.settle.result _ _ c.settle.ensures.settled.ok (λ x p k stands. rw p.1
     (made _ _ _ _ k c.begin_in-begun.ensures.survives (λ clean. (IfOk-at_ok _ p.0 (c.begin_in-begun.ensures.begun clean)).0) stands))
 
 pub returns-clause-holds : goal.returns-clause-holds
 unfolding Stands HoldsIn
-returns-clause-holds g c = ok_goes c.settle.result _ _ c.settle.ensures.settled.ok (λ x p k stands. rw p.1
+returns-clause-holds g c = if_goes c.settle.result _ _ c.settle.ensures.settled.ok (λ x p k stands. rw p.1
     (under_way _ _ _ _ k c.begin_in-begun.ensures.survives (λ clean. (IfOk-at_ok _ p.0 (c.begin_in-begun.ensures.begun clean)).0) stands))
 
 pub returns-clause-stands : goal.returns-clause-stands
 unfolding Stands
-returns-clause-stands g c = err_goes c.settle.result _ _ c.settle.ensures.settled.err (λ p k stands.
+returns-clause-stands g c = if_err c.settle.result _ _ c.settle.ensures.settled.err (λ e p k stands.
     given_up _ _ _ _ _ k (λ trees. ⊥)
     (survives_then _ _ _ _ _ _ (λ _ db none. none) (λ _ db none. none) c.begin_in-begun.ensures.survives p.1.survives)
     (λ clean. keeps_then _ _ _ (c.begin_in-begun.ensures.kept (was_clean p.1.survives clean)) (p.1.kept clean))
