@@ -2,7 +2,7 @@
 use Rattle.std.proofs.Common.{◌≡◌, ◌≢◌, ◌⊎◌, inl, inr, ℕ, ℤ, Bool, true, false, cond, not, ◌&&◌, List, [], ◌∷◌, ◌++◌, Option, Some, None, is_some, refl, sym, ap, subst, ◌∙◌, arith}
 use Rattle.std.specs.Prelude.{◌↔◌, codes, ◌<ℤ◌, ◌==◌, int_lt}
 use Rattle.std.proofs.lemmas.Int.{ints}
-use Rattle.std.proofs.lemmas.Bool.{and_parts, eqb-false, ne_eqb}
+use Rattle.std.proofs.lemmas.Bool.{and_parts, eqb-false, ne_eqb, false≢true}
 use Rattle.std.specs.List.{Contains, IsDistinct, flat_map, list_any}
 use Rattle.std.specs.List.Sorted.{IsStrictlySortedBy}
 use Rattle.std.specs.Map.{keys_of}
@@ -30,9 +30,6 @@ use Rattle.esc_tables.specs.KeyLaws.{keys_alike, one_key}
 use Rattle.esc_check.proofs.Keys.{count_has, count_is}
 use Rattle.esc_check.proofs.Members.{nothing_in, here, only, from_pieces, in_pieces, from_chosen, in_chosen, from_any, any_from}
 
-false_true : false ≡ true → ⊥
-false_true q = cc
-
 lt_is : (a b : ℤ) → int_lt a b ≡ true → a <ℤ b
 lt_is a b h = grind (arith, ints)
 
@@ -58,10 +55,10 @@ give_unless b x f fails is =
 
 gone : {X : Type 0} (o : Option X) → not (is_some o) ≡ true → o ≡ None
 gone None h = refl
-gone (Some x) h = absurd (false_true h)
+gone (Some x) h = absurd (false≢true h)
 
 is_full : (b : ℕ) (bs : List ℕ) → (b ∷ bs) ≢ []
-is_full b bs = λ e. false_true (ap is_empty e)
+is_full b bs = λ e. false≢true (ap is_empty e)
 
 not_empty : (text : List ℕ) → text ≢ [] → is_empty text ≡ false
 not_empty [] some = absurd (some refl)
@@ -176,7 +173,7 @@ are_statuses k o s (r, has, table, is, some) =
     subst (λ (t : Option (List ℕ)). Contains (statuses_in t o.children) s) (sym table) (in_pieces (row_status r.table) o.children r s has (at_status r.table r s refl is some))
 
 unlisted : (k : Kind) (s : List ℕ) → is_status k s ≡ false → Contains (status_words k) s → ⊥
-unlisted k s h has = false_true (sym h ∙ any_from (λ (w : List ℕ). bytes_eq w s) (status_words k) s has ((bytes_eq-Decides s s).1 refl))
+unlisted k s h has = false≢true (sym h ∙ any_from (λ (w : List ℕ). bytes_eq w s) (status_words k) s has ((bytes_eq-Decides s s).1 refl))
 
 is_unlisted : (k : Kind) (s : List ℕ) → (Contains (status_words k) s → ⊥) → is_status k s ≡ false
 is_unlisted k s h = pick (is_status k s) refl
@@ -189,17 +186,17 @@ is_unlisted k s h = pick (is_status k s) refl
 
 domain_is : (k : Kind) → is_domain k ≡ true → k ≡ Domain
 domain_is Domain h = refl
-domain_is Registrar h = absurd (false_true h)
-domain_is Contact h = absurd (false_true h)
-domain_is Host h = absurd (false_true h)
-domain_is Idn h = absurd (false_true h)
-domain_is Nndn h = absurd (false_true h)
+domain_is Registrar h = absurd (false≢true h)
+domain_is Contact h = absurd (false≢true h)
+domain_is Host h = absurd (false≢true h)
+domain_is Idn h = absurd (false≢true h)
+domain_is Nndn h = absurd (false≢true h)
 
 ok_is : (s : List ℕ) → is_ok s ≡ true → s ≡ codes "ok"
 ok_is s h = (bytes_eq-Decides s (codes "ok")).0 h
 
 other_is : (s : List ℕ) → not (is_ok s) ≡ true → s ≢ codes "ok"
-other_is s h = λ e. false_true (sym (ap (λ (t : List ℕ). not (is_ok t)) e) ∙ h)
+other_is s h = λ e. false≢true (sym (ap (λ (t : List ℕ). not (is_ok t)) e) ∙ h)
 
 is_other : (s : List ℕ) → s ≢ codes "ok" → not (is_ok s) ≡ true
 is_other s h = pick (is_ok s) refl
@@ -250,12 +247,12 @@ found_statuses k o f (inr m) =
 -- V5, V6 and V7
 
 after_is : (d : Option ℤ) (w : ℤ) → is_after d w ≡ true → (m : ℤ) × (d ≡ Some m) × (w <ℤ m)
-after_is None w h = absurd (false_true h)
+after_is None w h = absurd (false≢true h)
 after_is (Some m) w h = (m, refl, lt_is w m h)
 
 before_is : (e d : Option ℤ) → is_before e d ≡ true → (m : ℤ) × (n : ℤ) × (e ≡ Some m) × (d ≡ Some n) × (m <ℤ n)
-before_is None d h = absurd (false_true h)
-before_is (Some m) None h = absurd (false_true h)
+before_is None d h = absurd (false≢true h)
+before_is (Some m) None h = absurd (false≢true h)
 before_is (Some m) (Some n) h = (m, n, refl, refl, lt_is m n h)
 
 moments_found : (w : ℤ) (k : KeyName) (o : ObjectValue) (f : FindingValue) → Contains (moment_findings w (printed w) k (created k o) (expires k o)) f → IsLate w k o f ⊎ IsEarly k o f
@@ -285,7 +282,7 @@ malformed_found : (k : KeyName) (field text : List ℕ) (f : FindingValue) → C
 malformed_found k field text f h =
     let g = given (is_malformed text) (malformed k field text) f h in
     let p = and_parts _ _ g.0 in
-    (λ e. false_true (sym (ap (λ (t : List ℕ). not (is_empty t)) e) ∙ p.0), gone (watermark_of text) p.1, g.1)
+    (λ e. false≢true (sym (ap (λ (t : List ℕ). not (is_empty t)) e) ∙ p.0), gone (watermark_of text) p.1, g.1)
 
 found_malformed : (k : KeyName) (field text : List ℕ) (f : FindingValue) → IsMalformed k field text f → Contains (malformed_findings k field text) f
 found_malformed k field text f (some, none, is) =

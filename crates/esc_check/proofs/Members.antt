@@ -2,6 +2,7 @@
 use Rattle.std.proofs.Common.{◌≡◌, ◌⊎◌, inl, inr, Bool, true, false, cond, ◌||◌, List, [], ◌∷◌, ◌++◌, map, filter, refl, sym, ap, subst, ◌∙◌, arith}
 use Rattle.std.specs.List.{Contains, flat_map, list_any}
 use Rattle.std.proofs.lemmas.List.Elements.{Contains-push, Contains-push_cases, Contains-append_left, Contains-append_right, Contains-append_cases}
+use Rattle.std.proofs.lemmas.Bool.{false≢true}
 
 pub nothing_in : {X : Type 0} (x : X) → Contains [] x → ⊥
 nothing_in x (k, lt, e) = omega arith
@@ -60,20 +61,14 @@ in_chosen p g [] x has passes = absurd (nothing_in x has)
 in_chosen {X} {A} p g (y ∷ xs) x has passes = pick (p y) refl (head_or_tail y xs x has) (in_chosen p g xs x)
   where
     pick : (b : Bool) → p y ≡ b → (y ≡ x) ⊎ Contains xs x → (Contains xs x → p x ≡ true → Contains (map g (filter p xs)) (g x)) → Contains (map g (cond b (y ∷ filter p xs) (filter p xs))) (g x)
-    pick false e (inl same) again = absurd (apart (sym e ∙ ap p same ∙ passes))
-      where
-        apart : false ≡ true → ⊥
-        apart q = cc
+    pick false e (inl same) again = absurd (false≢true (sym e ∙ ap p same ∙ passes))
     pick false e (inr rest) again = again rest passes
     pick true e (inl same) again = subst (λ (z : X). Contains (g y ∷ map g (filter p xs)) (g z)) same (here (g y) _)
     pick true e (inr rest) again = there (g y) _ (g x) (again rest passes)
 
 -- a test that some element passes
 pub from_any : {X : Type 0} (p : X → Bool) (xs : List X) → list_any p xs ≡ true → (x : X) × Contains xs x × (p x ≡ true)
-from_any p [] h = absurd (apart h)
-  where
-    apart : false ≡ true → ⊥
-    apart q = cc
+from_any p [] h = absurd (false≢true h)
 from_any {X} p (y ∷ xs) h = pick (p y) refl h (from_any p xs)
   where
     pick : (b : Bool) → p y ≡ b → (b || list_any p xs) ≡ true → (list_any p xs ≡ true → (x : X) × Contains xs x × (p x ≡ true)) → (x : X) × Contains (y ∷ xs) x × (p x ≡ true)
@@ -86,8 +81,5 @@ any_from {X} p (y ∷ xs) x has passes = pick (p y) refl (head_or_tail y xs x ha
   where
     pick : (b : Bool) → p y ≡ b → (y ≡ x) ⊎ Contains xs x → (Contains xs x → p x ≡ true → list_any p xs ≡ true) → (b || list_any p xs) ≡ true
     pick true e c again = refl
-    pick false e (inl same) again = absurd (apart (sym e ∙ ap p same ∙ passes))
-      where
-        apart : false ≡ true → ⊥
-        apart q = cc
+    pick false e (inl same) again = absurd (false≢true (sym e ∙ ap p same ∙ passes))
     pick false e (inr rest) again = again rest passes
