@@ -1,7 +1,7 @@
 -- The arrivals whose bodies count: all but early ones whose body no row listed.
 use Rattle.std.proofs.Common.{◌≡◌, inl, inr, ℕ, suc, Bool, true, false, cond, not, filter, List, [], ◌∷◌, ◌++◌, Option, Some, None, is_none, Result, refl, sym, ap, ◌∙◌, true≢false}
 use Rattle.std.proofs.lemmas.List.Elements.{filter-append}
-use Rattle.std.proofs.lemmas.Bool.{and_parts}
+use Rattle.std.proofs.lemmas.Bool.{and_parts, not-true, not_from_false}
 use Rattle.std.proofs.lemmas.Option.{same_Some, none-some}
 use Rattle.esc_tables.specs.DepositValue.{DepositValue}
 use Rattle.esc_manifest.specs.declared.row.MRow.{MRow}
@@ -23,14 +23,6 @@ no_row_is : (o : Option ℕ) → is_none o ≡ true → o ≡ None
 no_row_is None is = refl
 no_row_is (Some q) is = absurd (true≢false (sym is))
 
-not_true : (b : Bool) → b ≡ false → not b ≡ true
-not_true true is = absurd (true≢false is)
-not_true false is = refl
-
-not_false : (b : Bool) → not b ≡ true → b ≡ false
-not_false true is = absurd (true≢false (sym is))
-not_false false is = refl
-
 module _ (digest : List ℕ → List ℕ) (reads : List ℕ → Result DepositValue ℕ) where
   -- the body of an arrival is kept
   abbrev pub is_kept : Coming → Bool
@@ -41,10 +33,10 @@ module _ (digest : List ℕ → List ℕ) (reads : List ℕ → Result DepositVa
   counted_came e c there = passed_among is_kept (comings e) c there
 
   pub counted_kept : (e : List EventValue) (c : Coming) → Among (kept_arrivals digest reads e) c → is_lost digest reads c ≡ false
-  counted_kept e c there = not_false (is_lost digest reads c) (passed_test is_kept (comings e) c there)
+  counted_kept e c there = not-true (is_lost digest reads c) (passed_test is_kept (comings e) c there)
 
   pub came_counts : (e : List EventValue) (c : Coming) → Among (comings e) c → is_lost digest reads c ≡ false → Among (kept_arrivals digest reads e) c
-  came_counts e c there kept = among_passed is_kept (comings e) c there (not_true (is_lost digest reads c) kept)
+  came_counts e c there kept = among_passed is_kept (comings e) c there (not_from_false (is_lost digest reads c) kept)
 
   -- one more arrival counts
   pub kept_arrivals-arrived : (e : List EventValue) (a : ArrivalValue) → kept_arrivals digest reads (e ++ arrived a ∷ []) ≡ kept_arrivals digest reads e ++ coming (union e) a ∷ []

@@ -6,7 +6,7 @@ use Rattle.std.specs.Ordering.{nat_cmp, ordering_then}
 use Rattle.std.specs.Cmp.{IsTotalOrder}
 use Rattle.std.specs.Cmp.Lexicographic.{slice_cmp}
 use Rattle.std.specs.List.{list_any}
-use Rattle.std.proofs.lemmas.Bool.{cases_Bool}
+use Rattle.std.proofs.lemmas.Bool.{cases_Bool, and_parts}
 use Rattle.std.proofs.lemmas.Cmp.{nat_list_cmp_total, nat_list_eq_equiv, on_total}
 use Rattle.std.proofs.lemmas.Map.Text.{is_eq-slice_cmp}
 use Rattle.std.proofs.lemmas.Slice.Eq.{bytes_eq-Decides}
@@ -44,7 +44,7 @@ use Rattle.esc_rows.proofs.Sorts.{sort_same, then_equal}
 use Rattle.esc_rows.proofs.Firsts.{rises-sorted}
 use Rattle.esc_rows.proofs.NumberLemmas.{every}
 use Rattle.esc_rows.proofs.Statements.{asks, finds, cuts}
-use Rattle.esc_rows.proofs.ObjectLemmas.{differ_int, swapped, two_true, never, still}
+use Rattle.esc_rows.proofs.ObjectLemmas.{differ_int, swapped, never, still}
 
 -- the two are under one digest
 abbrev pub is_same_parked : ParkedRow → ParkedRow → Bool
@@ -57,7 +57,7 @@ clash_is a b = rw (same_blob a.digest b.digest, and_true (bytes_eq a.digest b.di
 pub parked_apart : (db : Database) (c : Content) → HoldsContent db c → AreApart is_same_parked c.parked
 parked_apart db c h =
     apart parked_number (stored_row Parked) is_same_parked (λ other row. agree rising (1 ∷ []) other (1 ∷ []) row && differ (rowid other) (rowid row)) clash_is (db.trees (tree_of Parked)) c.parked (h.store.rows.tables Parked) (h.store.ordered Parked)
-    (all_weaker _ _ (λ row h. two_true _ h) (db.trees (tree_of Parked)) (passes_unique Parked db.trees h.store.sound))
+    (all_weaker _ _ (λ row h. (and_parts _ true h).0) (db.trees (tree_of Parked)) (passes_unique Parked db.trees h.store.sound))
 
 -- ---- digests
 

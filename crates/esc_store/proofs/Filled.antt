@@ -30,7 +30,7 @@ use Rattle.esc_rows.specs.Changes.{ObjectEntry, ImageEntry, is_entry_at, entry_a
 use Rattle.esc_store.specs.Pages.{entry_row, stored_row, AreRowsOf}
 use Rattle.esc_store.specs.TypedRows.{kind_at, record_at, image_kept, IsRegistry}
 use Rattle.esc_store.specs.Filling.{after_filling, after_noting, no_image, image_now}
-use Rattle.esc_store.specs.Standing.{ChangeOf, Follows, IsHonest, store_in}
+use Rattle.esc_store.specs.Standing.{ChangeOf, Follows}
 use Rattle.esc_store.specs.StandingLaws.{goes_then}
 use Rattle.esc_store.proofs.Gathering.{tests_alike, record_here, image_here}
 use Rattle.esc_store.proofs.Parts.{Turns, turning}
@@ -225,9 +225,6 @@ module _ {es : List Entry} {rows : List ObjectEntry} (are : AreRowsOf es rows) {
 -- ---- one part after another
 pub follows_then : {S : Type 0} {g : Ghosts S} {a b c : ChangeOf S} → Follows g a b → Follows g b c → Follows g a c
 follows_then p q = record { goes_on = goes_then p.goes_on q.goes_on; rest = λ before k h. q.rest before k (p.rest before k h) }
-
-pub was_honest : {S : Type 0} {g : Ghosts S} {a b : ChangeOf S} → Follows g a b → IsHonest g (store_in b) → IsHonest g (store_in a)
-was_honest p clean = omega (arith, p.goes_on.survives.clean, clean)
 
 -- the key that is made of a row is its entry's
 pub row_key : (e : Entry) (r : ObjectEntry) (k : KeyName) → entry_row e ≡ stored_row r → r.kind ≡ kind_rank k.kind → r.key ≡ k.text → k ≡ e.0

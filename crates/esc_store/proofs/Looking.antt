@@ -3,6 +3,7 @@ use Rattle.std.proofs.Common.{◌≡◌, List, Option, true, refl, sym, subst, �
 use Rattle.std.specs.Prelude.{Result, Ok, Err, IfErr}
 use Rattle.std.specs.Option.{unwrap_or}
 use Rattle.std.proofs.lemmas.Result.{IfOk-at_ok, IfErr-at_err}
+use Rattle.std.proofs.lemmas.Bool.{both_ways}
 use Rattle.sqlite_trees.specs.declared.store.Store.{Ghosts}
 use Rattle.sqlite.specs.Effect.{Database}
 use Rattle.sqlite.specs.Held.{state}
@@ -18,7 +19,6 @@ use Rattle.esc_store.specs.StoreTables.{IsStoreDatabase, HoldsTables}
 use Rattle.esc_store.specs.Standing.{ChangeOf, IsBegun, IsMade, IsUnderWay, IsLook, IsStoreRead, BeganIn, RestIn, HoldsIn, Follows}
 use Rattle.esc_store.specs.StandingLaws.{was_clean}
 use Rattle.esc_store.proofs.Ends.{begun_committed}
-use Rattle.esc_store.proofs.Parts.{not_both}
 
 module _ {X E : Type 0} {old new : State} {P : Content → X → Type 0} {r : Result X E} (look : IsLook old new (Tells P) r) where
   clean_before : HasCleanDisk new → HasCleanDisk old
@@ -38,7 +38,7 @@ module _ {X E : Type 0} {old new : State} {P : Content → X → Type 0} {r : Re
     }
     | Err e ↦ λ is. record {
       listed = begun.listed;
-      on = λ clean on. absurd (not_both new.in_transaction on (IfErr-at_err _ is (look.failed clean)).0);
+      on = λ clean on. absurd (both_ways new.in_transaction (IfErr-at_err _ is (look.failed clean)).0 on);
       off = λ clean off up. let kept = look.kept clean in (
         subst (λ db. IsStoreDatabase db k) (sym (kept.committed up))
             (begun_committed old m k begun (clean_before clean) (kept.was_open up)),
@@ -52,7 +52,7 @@ module _ {X E : Type 0} {old new : State} {P : Content → X → Type 0} {r : Re
     books_of : HasCleanDisk new → new.in_transaction ≡ true → IsBooks (content_in new.now.trees) k
     books_of clean on = elim r as (λ y. r ≡ y → IsBooks (content_in new.now.trees) k) [
       | Ok x ↦ λ is. let it = shown x is clean in subst (λ (db : Database). IsBooks (content_in db.trees) k) (sym it.now_is) (made.books (clean_before clean) (sym it.mode ∙ on))
-      | Err e ↦ λ is. absurd (not_both new.in_transaction on (IfErr-at_err _ is (look.failed clean)).0)
+      | Err e ↦ λ is. absurd (both_ways new.in_transaction (IfErr-at_err _ is (look.failed clean)).0 on)
     ] refl
 
   pub under_way_seen : (s : Tables) (x : X) → r ≡ Ok x → HasCleanDisk new → IsUnderWay old s → IsUnderWay new s

@@ -1,7 +1,8 @@
 -- What a part of a change does to what the change has made.
-use Rattle.std.proofs.Common.{◌≡◌, Bool, true, false, List, refl, sym, subst, ◌∙◌}
+use Rattle.std.proofs.Common.{◌≡◌, true, List, refl, sym, subst}
 use Rattle.std.specs.Prelude.{IsTrue, Result, Ok, Err, IfOk, IfErr, OnErr, IsErr}
 use Rattle.std.proofs.lemmas.Result.{IfOk-at_ok, IfErr-at_err}
+use Rattle.std.proofs.lemmas.Bool.{both_ways}
 use Rattle.sqlite_trees.specs.declared.store.Store.{Ghosts}
 use Rattle.sqlite.specs.Effect.{Database}
 use Rattle.sqlite.specs.Held.{state}
@@ -21,9 +22,6 @@ use Rattle.esc_store.specs.StoreTables.{IsStoreDatabase, HoldsTables}
 use Rattle.esc_store.specs.Standing.{IsBegun, IsMade, IsUnderWay, IsGivenUp, Settles, IsStep, IsLook}
 use Rattle.esc_store.specs.StandingLaws.{was_clean}
 use Rattle.esc_store.proofs.Ends.{keeps_then, begun_committed}
-
-pub not_both : (b : Bool) → b ≡ true → b ≡ false → ⊥
-not_both b is_on is_off = let e : true ≡ false = sym is_on ∙ is_off in cc
 
 -- ---- from statements to steps
 
@@ -110,11 +108,11 @@ module _ {X E : Type 0} {old new : State} {R : Content → Content → Type 0} {
       listed = begun.listed;
       on = λ clean on. let it = made_of x is clean in let was = begun.on (clean_before clean) it.was_on in
           (it.is_open, subst (λ db. IsStoreDatabase db k) (sym ((step.kept clean).committed it.is_open)) was.1, (it.turns.by was.2).0);
-      off = λ clean off. absurd (not_both new.in_transaction (made_of x is clean).on off);
+      off = λ clean off. absurd (both_ways new.in_transaction off (made_of x is clean).on);
     }
     | Err e ↦ λ is. record {
       listed = begun.listed;
-      on = λ clean on. absurd (not_both new.in_transaction on (IfErr-at_err _ is (step.failed clean)).0);
+      on = λ clean on. absurd (both_ways new.in_transaction (IfErr-at_err _ is (step.failed clean)).0 on);
       off = λ clean off up. (
         subst (λ db. IsStoreDatabase db k) (sym ((step.kept clean).committed up))
             (begun_committed old m k begun (clean_before clean) ((step.kept clean).was_open up)),
@@ -137,7 +135,7 @@ module _ {X E : Type 0} {old new : State} {R : Content → Content → Type 0} {
     | Err e ↦ λ is. record {
       begun = begun_on m before made.begun;
       listed = made.listed;
-      books = λ clean on. absurd (not_both new.in_transaction on (IfErr-at_err _ is (step.failed clean)).0);
+      books = λ clean on. absurd (both_ways new.in_transaction (IfErr-at_err _ is (step.failed clean)).0 on);
     }
   ] refl
 

@@ -3,7 +3,8 @@ use Rattle.std.proofs.lemmas.Result.{on_ok_weaker}
 use Rattle.esc_apply.specs.declared.registry.Targets.{Targets}
 use Rattle.esc_apply.specs.Changes.{with_object, CanBePut}
 use Rattle.esc_rows.specs.Entries.{new_entry, new_image}
-use Rattle.esc_store.proofs.Filled.{was_honest, free_images}
+use Rattle.esc_store.specs.StandingLaws.{was_clean}
+use Rattle.esc_store.proofs.Filled.{free_images}
 use Rattle.esc_store.proofs.filling.Change+S.fill_at_once.Goals as goal
 
 pub returns-in_ok-note_rows-in-Free-clause-filled : goal.returns-in_ok-note_rows-in-Free-clause-filled
@@ -16,8 +17,8 @@ returns-in_ok-note_rows-in-Free-clause-filled g c = on_ok_weaker c.insert_rows.r
 pub returns-in_ok-note_rows-in-Any-clause-filled : goal.returns-in_ok-note_rows-in-Any-clause-filled
 returns-in_ok-note_rows-in-Any-clause-filled g c = on_ok_weaker c.write_rows.result (λ put honest s es are can held.
     let new = subst (λ (t : Targets). CanBePut t s c.args.step (map with_object es)) c.in-Any.is can in
-    let noting = was_honest c.write_rows.ensures.follows honest in
-    let found = c.in_ok-images-in-Any.ensures.images (was_honest c.note_rows-in-Any.ensures.follows noting) s held in
+    let noting = was_clean c.write_rows.ensures.follows.goes_on.survives honest in
+    let found = c.in_ok-images-in-Any.ensures.images (was_clean c.note_rows-in-Any.ensures.follows.goes_on.survives noting) s held in
     put s c.args.step es are new
     (c.in_ok-note_rows-in-Any.ensures.noted s (map new_entry c.args.rows.now) es (ap (map new_image) c.as_slice-in-Any.ensures.value ∙ found.0) are new found.1))
     c.write_rows.ensures.put

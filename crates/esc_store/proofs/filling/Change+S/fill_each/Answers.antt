@@ -4,7 +4,8 @@ use Rattle.esc_rows.specs.declared.object.NewObject.{NewObject}
 use Rattle.esc_rows.specs.Entries.{new_entry}
 use Rattle.esc_store.specs.Filling.{after_filling}
 use Rattle.esc_store.specs.Standing.{HoldsNow}
-use Rattle.esc_store.proofs.Filled.{follows_then, was_honest, filling_rows, filling_row, filling_last}
+use Rattle.esc_store.specs.StandingLaws.{was_clean}
+use Rattle.esc_store.proofs.Filled.{follows_then, filling_rows, filling_row, filling_last}
 use Rattle.esc_store.proofs.Parking.{follows_same}
 use Rattle.esc_store.proofs.filling.Change+S.fill_each.Goals as goal
 
@@ -24,7 +25,7 @@ loop-at-preserved g c = record {
       let next = drop_more c.args.rows.now c.loop-at.at c.index-rows-at.result c.loop-at-test.true ∙ ap (λ (r : NewObject). r ∷ left) (sym c.index-rows-at.is) in
       filling_row (HoldsNow g.S.Store c.loop-at.self) (HoldsNow g.S.Store c.fill_row.new.self) c.args.targets (after_filling s c.args.step es) c.args.step
       (new_entry c.index-rows-at.result) _ _ [] (ap (map new_entry) next)
-      (c.loop-at.invariant.filling (was_honest c.fill_row.ensures.follows honest) s es are can held) (c.in_ok-fill_row.ensures.filled honest);
+      (c.loop-at.invariant.filling (was_clean c.fill_row.ensures.follows.goes_on.survives honest) s es are can held) (c.in_ok-fill_row.ensures.filled honest);
 }
 
 pub returns-clause-filled : goal.returns-clause-filled

@@ -2,7 +2,8 @@ use Rattle.std.proofs.Common.{◌∙◌, [], refl}
 use Rattle.std.proofs.lemmas.Result.{on_ok_weaker}
 use Rattle.esc_store.specs.Filling.{after_filling}
 use Rattle.esc_store.specs.Standing.{HoldsNow}
-use Rattle.esc_store.proofs.Filled.{follows_then, was_honest, filling_first, filling_more, filling_all, filling_last}
+use Rattle.esc_store.specs.StandingLaws.{was_clean}
+use Rattle.esc_store.proofs.Filled.{follows_then, filling_first, filling_more, filling_all, filling_last}
 use Rattle.esc_store.proofs.Parking.{follows_same}
 use Rattle.esc_store.proofs.filling.Change+S.fill_records.Goals as goal
 
@@ -32,7 +33,7 @@ loop-key-preserved g c = record {
       filling_all (HoldsNow g.S.Store c.loop-key.self) (HoldsNow g.S.Store c.fill_rows.new.self) c.args.targets end c.args.step _ _ _ _
       c.as_slice.ensures.value c.clear.ensures.items
       (filling_more (HoldsNow g.S.Store c.loop-key.self) c.args.targets end c.args.step _ _ _ _ _ _
-      c.in_ok-push.ensures.items c.in-Some.ensures.steps c.in_ok-new_row.ensures.row (c.loop-key.invariant.filling (was_honest c.fill_rows.ensures.follows honest) s can held))
+      c.in_ok-push.ensures.items c.in-Some.ensures.steps c.in_ok-new_row.ensures.row (c.loop-key.invariant.filling (was_clean c.fill_rows.ensures.follows.goes_on.survives honest) s can held))
       (c.in_ok-fill_rows.ensures.filled honest);
 }
 
@@ -41,5 +42,5 @@ returns-clause-filled g c = on_ok_weaker c.fill_rows-2.result (λ put honest s c
     let end = after_filling s c.args.step c.args.objects.now.entries in
     filling_last (HoldsNow g.S.Store c.fill_rows-2.new.self) c.args.targets end c.args.step [] _ refl c.in-None.ensures.steps.0
     (filling_all (HoldsNow g.S.Store c.loop-key.self) (HoldsNow g.S.Store c.fill_rows-2.new.self) c.args.targets end c.args.step _ _ [] _
-    c.as_slice-2.ensures.value refl (c.loop-key.invariant.filling (was_honest c.fill_rows-2.ensures.follows honest) s can held) (put honest)))
+    c.as_slice-2.ensures.value refl (c.loop-key.invariant.filling (was_clean c.fill_rows-2.ensures.follows.goes_on.survives honest) s can held) (put honest)))
     c.fill_rows-2.ensures.filled

@@ -5,7 +5,8 @@ use Rattle.esc_apply.specs.Changes.{CanBePut}
 use Rattle.esc_apply.specs.Registry.{noted, written}
 use Rattle.esc_rows.specs.Entries.{new_entry}
 use Rattle.esc_store.specs.Standing.{HoldsNow}
-use Rattle.esc_store.proofs.Filled.{RowOf, row_key, follows_then, was_honest}
+use Rattle.esc_store.specs.StandingLaws.{was_clean}
+use Rattle.esc_store.proofs.Filled.{RowOf, row_key, follows_then}
 use Rattle.esc_store.proofs.filling.Change+S.fill_row.Goals as goal
 
 pub returns-clause-follows : goal.returns-clause-follows
@@ -19,5 +20,5 @@ returns-clause-filled g c = on_ok_weaker c.put_record.result (λ put honest s e 
     let here = subst (λ (k : KeyName). CanBePut c.args.targets s c.args.step ((k, Some e.1) ∷ [])) (sym is) can in
     subst (λ (k : KeyName). HoldsNow g.S.Store c.put_record.new.self (written (noted s c.args.step k (s.content k)) k (Some e.1))) is
     (put (noted s c.args.step key (s.content key)) e.1 bytes
-    (c.in_ok-note_before.ensures.noted (was_honest c.put_record.ensures.follows honest) s (Some e.1) here held)))
+    (c.in_ok-note_before.ensures.noted (was_clean c.put_record.ensures.follows.goes_on.survives honest) s (Some e.1) here held)))
     c.put_record.ensures.written

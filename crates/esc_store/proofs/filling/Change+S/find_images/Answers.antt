@@ -1,6 +1,7 @@
 use Rattle.std.proofs.Common.{◌∙◌, ℕ, List, Option, ap, arith}
 use Rattle.esc_store.specs.Filling.{image_now}
-use Rattle.esc_store.proofs.Filled.{follows_then, was_honest, images_more}
+use Rattle.esc_store.specs.StandingLaws.{was_clean}
+use Rattle.esc_store.proofs.Filled.{follows_then, images_more}
 use Rattle.esc_store.proofs.filling.Change+S.find_images.Goals as goal
 
 pub loop-at-preserved : goal.loop-at-preserved
@@ -10,7 +11,7 @@ loop-at-preserved g c = record {
   length = omega (arith, c.in_ok-push.ensures.len, c.loop-at.invariant.length);
   images = λ honest s held.
       let row = c.index-rows-at.result in
-      let before = c.loop-at.invariant.images (was_honest c.find_stored.ensures.follows honest) s held in
+      let before = c.loop-at.invariant.images (was_clean c.find_stored.ensures.follows.goes_on.survives honest) s held in
       let found = c.in_ok-record.ensures.found honest s before.1 in (
         images_more (image_now s) c.args.rows.now c.loop-at.at row _ _ _ c.loop-at-test.true c.index-rows-at.is c.in_ok-push.ensures.items
             (ap (λ (b : Option (List ℕ)). record { kind = row.kind; key = row.key.now; bytes = b }) found.0) before.0,

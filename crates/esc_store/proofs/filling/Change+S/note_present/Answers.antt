@@ -1,6 +1,7 @@
 use Rattle.std.proofs.Common.{◌∙◌, sym}
 use Rattle.std.proofs.lemmas.Result.{on_ok_weaker}
-use Rattle.esc_store.proofs.Filled.{follows_then, was_honest}
+use Rattle.esc_store.specs.StandingLaws.{was_clean}
+use Rattle.esc_store.proofs.Filled.{follows_then}
 use Rattle.esc_store.proofs.filling.Change+S.note_present.Goals as goal
 
 pub returns-clause-follows : goal.returns-clause-follows
@@ -8,6 +9,6 @@ returns-clause-follows g c = follows_then c.find_record.ensures.follows c.note_r
 
 pub returns-clause-noted : goal.returns-clause-noted
 returns-clause-noted g c = on_ok_weaker c.note_record.result (λ noted honest s held.
-    let found = c.in_ok-before.ensures.found (was_honest c.note_record.ensures.follows honest) s held in
+    let found = c.in_ok-before.ensures.found (was_clean c.note_record.ensures.follows.goes_on.survives honest) s held in
     noted s (s.content c.args.k.now) (sym found.0 ∙ sym c.as_deref.ensures.value) found.1 found.2)
     c.note_record.ensures.noted
