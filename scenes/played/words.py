@@ -44,6 +44,14 @@ PRINTED = (
     (1_709_424_000_123_456_789, '2024-03-03T00:00:00.123456789Z'),
     (9_214_646_399_999_999_999, '2261-12-31T23:59:59.999999999Z'),
 )
+# Words of a program of which one has a byte that is no UTF-8, and what `clap` says of it.
+NO_TEXTS = (
+    ('restore', ['report', '--store', 'a\udcff', 'status']),
+    ('restore', ['\udcc3']),
+    ('pack', ['manifest', 'n1', '\udcff']),
+    ('pack', ['\udc80bundle']),
+)
+INVALID = "error: invalid UTF-8 was detected in one or more arguments\n\nFor more information, try '--help'.\n"
 # A moment, and the one after it.
 FIFTH, SIXTH = '1970-01-01T00:00:00.000000005Z', '1970-01-01T00:00:00.000000006Z'
 # Places, in their order.
@@ -132,5 +140,11 @@ def kinds_in_their_order(stage):
             desk.check(f'walk {kind} 9', text_of([line, '1 walked']))
 
 
+def words_that_are_no_text(stage):
+    """Words of both programs that are no UTF-8."""
+    for program, words in NO_TEXTS:
+        stage.check(ascii(words), Wanted(2, '', INVALID), words, program=program)
+
+
 SCENES = (moments_that_are_read, texts_that_are_no_moments, moments_that_are_printed, places_in_their_order, types_and_ids,
-          kinds_in_their_order)
+          kinds_in_their_order, words_that_are_no_text)

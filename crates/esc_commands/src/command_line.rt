@@ -248,7 +248,7 @@ static PROGRAM: Program = Program {
 
 /// What the words ask for; the first of them is the program's name. A request for help or for the
 /// version is an `Err`, too.
-pub fn parse<'a>(alloc: Global, words: &'a [&'a str]) -> Result<Option<Invocation<'a>>, Error> {
+pub fn parse<'a>(alloc: Global, words: &'a [String]) -> Result<Option<Invocation<'a>>, Error> {
     let matches = PROGRAM.matches_of(alloc, words)?;
     Ok(invocation_of(&matches))
 }

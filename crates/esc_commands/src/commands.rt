@@ -3,7 +3,7 @@
 use crate::command_line::{DeskTask, Invocation, Task, parse};
 use crate::files::{read_text, stop_at};
 use crate::jobs::{Ended, Job, use_file};
-use crate::stop::{NO_MEMORY, Stop, print, tell_stop};
+use crate::stop::{Stop, print, tell_stop};
 use crate::store_file::{Closed, close, open_file, open_store_file};
 use clap::Error;
 use esc_console::{DONE, USAGE, tell_answer};
@@ -14,8 +14,8 @@ use std::alloc::{AllocError, Global};
 use std::io::Write;
 use std::net::{Net, TcpListener, TcpStream};
 
-/// Runs the program on the words after its name. Returns the status. Help and version are printed
-/// on standard output, and what is wrong with the words on standard error.
+/// Runs the program on its words, of which the first is its name. Returns the status. Help and
+/// version are printed on standard output, and what is wrong with the words on standard error.
 pub fn run_words<N, O, E>(
     rt: &HostRuntime,
     net: &N,
@@ -28,24 +28,11 @@ where
     O: Write,
     E: Write,
 {
-    let Ok(named) = with_name(rt.alloc(), words) else {
-        return tell_stop(rt, err, &NO_MEMORY);
-    };
-    match parse(rt.alloc(), &named) {
+    match parse(rt.alloc(), words) {
         Ok(Some(invocation)) => run(rt, net, invocation, out, err),
         Ok(None) => USAGE,
         Err(error) => tell_error(rt, &error, out, err),
     }
-}
-
-// The words with a name before them, as `clap` wants them.
-fn with_name<'a>(alloc: Global, words: &'a [String]) -> Result<Vec<&'a str>, AllocError> {
-    let mut named = Vec::new(alloc);
-    named.push("restore")?;
-    for word in words {
-        named.push(word.as_str())?;
-    }
-    Ok(named)
 }
 
 // Prints the help or the version that was asked for, or what is wrong with the words.

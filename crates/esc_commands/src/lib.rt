@@ -1,8 +1,8 @@
 //! The commands of the program, each over a store in a file.
 //!
-//! [`run_words`] is the whole program but for its process: it is given the words after the
-//! program's name and two streams to write to, does what the words ask for, and returns the exit
-//! status. So a test can run it as a user does.
+//! [`run_words`] is the whole program but for its process: it is given the words of the
+//! process, of which the first is the program's name, and two streams to write to, does what the
+//! words ask for, and returns the exit status.
 //!
 //! What goes in: words, a release manifest and bundles in files, or HTTP requests on a port. What
 //! comes out: a store in a file, which the next command opens again; on standard output counts of
@@ -27,7 +27,7 @@
 //! # Example
 //!
 //! ```text
-//! let words = ["report", "--store", "desk.db", "gaps"];   // as a list of `String`
+//! let words = ["restore", "report", "--store", "desk.db", "gaps"];   // as a list of `String`
 //! let status = run_words(rt, net, &words, &mut rt.stdout(), &mut rt.stderr());
 //! // 0, and the report is printed; 3 and `S3` on standard error, if there is no store desk.db
 //! ```
@@ -64,4 +64,4 @@ mod take;
 
 pub use commands::run_words;
 pub use serve::serve_streams;
-pub use stop::{NO_MEMORY, Stop, tell_no_text, tell_stop};
+pub use stop::{NO_MEMORY, Stop, tell_stop};

@@ -2,7 +2,7 @@
 
 use crate::files::or_stop;
 use esc_bundle::NoMemory;
-use esc_console::{OneLine, USAGE};
+use esc_console::OneLine;
 use esc_desk::SFault;
 use esc_manifest::MFault;
 use std::alloc::{AllocError, AllocFailed};
@@ -94,14 +94,6 @@ pub fn tell<E: Write>(
     let line = format!(in rt.alloc(); "{refusal} {}\n", OneLine(name))?;
     let _ = err.write_all(line.as_bytes());
     Ok(())
-}
-
-/// Prints that a word is no UTF-8, as `clap` does of such a word, and returns the status.
-pub fn tell_no_text<E: Write>(err: &mut E) -> u8 {
-    let _ = err.write_all(
-        b"error: invalid UTF-8 was detected in one or more arguments\n\nFor more information, try '--help'.\n",
-    );
-    USAGE
 }
 
 /// Prints what the program stops for, and returns its status. If there is no memory for the line,

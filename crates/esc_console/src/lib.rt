@@ -13,6 +13,7 @@
 //! | Module | Does |
 //! |---|---|
 //! | `table` | the table of a program's commands, of which `clap` is told |
+//! | `words` | the words of the process |
 //! | `answers` | prints what `clap` answers in place of a command: help, or what is wrong |
 //! | `files` | reads plain files up to a length, and lists the plain files of a folder |
 //! | `one_line` | a name or a path as a refusal prints it |
@@ -57,8 +58,10 @@ mod answers;
 mod files;
 mod one_line;
 mod table;
+mod words;
 
 pub use answers::{DONE, USAGE, tell_answer};
 pub use files::{Links, Listing, path_in, plain_files, read_front, read_whole};
 pub use one_line::OneLine;
 pub use table::{Argument, Form, Place, Program};
+pub use words::{given_words, tell_no_text};

@@ -39,7 +39,7 @@ mod files;
 mod stop;
 
 use command_line::run_words;
-use std::env;
+use esc_console::{given_words, tell_no_text};
 use std::process::ExitCode;
 use stop::{Stop, tell_stop};
 
@@ -49,27 +49,9 @@ fn main(rt: HostRuntime) -> ExitCode {
 
 // Runs the program on its words and its two streams.
 fn run(rt: &HostRuntime) -> u8 {
-    match given_words(rt) {
-        Ok(given) => run_words(rt, &given, &mut rt.stdout(), &mut rt.stderr()),
-        Err(stop) => tell_stop(rt, &mut rt.stderr(), &stop),
+    match given_words(rt, "pack") {
+        Ok(Some(given)) => run_words(rt, &given, &mut rt.stdout(), &mut rt.stderr()),
+        Ok(None) => tell_no_text(&mut rt.stderr()),
+        Err(_) => tell_stop(rt, &mut rt.stderr(), &Stop::NoMemory),
     }
-}
-
-// The words, of which the first is the program's name.
-fn given_words(rt: &HostRuntime) -> Result<Vec<String>, Stop> {
-    let mut given = Vec::new(rt.alloc());
-    given.push(String::from_str(rt.alloc(), "pack")?)?;
-    push_words(rt, &mut given)?;
-    Ok(given)
-}
-
-// Adds the words after the program's name.
-fn push_words(rt: &HostRuntime, given: &mut Vec<String>) -> Result<(), Stop> {
-    let Ok(all) = env::args(rt) else {
-        return Err(Stop::NoMemory);
-    };
-    for word in all.skip(1) {
-        given.push(word)?;
-    }
-    Ok(())
 }

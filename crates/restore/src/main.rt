@@ -32,9 +32,8 @@
 //! where it stops.
 #![tactic(auto)]
 
-use esc_commands::{NO_MEMORY, Stop, run_words, tell_no_text, tell_stop};
-use std::env;
-use std::io::ErrorKind;
+use esc_commands::{NO_MEMORY, run_words, tell_stop};
+use esc_console::{given_words, tell_no_text};
 use std::net::{Net, TcpListener, TcpStream};
 use std::process::ExitCode;
 
@@ -47,23 +46,9 @@ fn run<N>(rt: &HostRuntime, net: &N) -> u8
 where
     N: Net<Listener = TcpListener, Stream = TcpStream>,
 {
-    match given_words(rt) {
+    match given_words(rt, "restore") {
         Ok(Some(given)) => run_words(rt, net, &given, &mut rt.stdout(), &mut rt.stderr()),
         Ok(None) => tell_no_text(&mut rt.stderr()),
-        Err(stop) => tell_stop(rt, &mut rt.stderr(), &stop),
+        Err(_) => tell_stop(rt, &mut rt.stderr(), &NO_MEMORY),
     }
-}
-
-// The words after the program's name; none where one of them is no UTF-8.
-fn given_words(rt: &HostRuntime) -> Result<Option<Vec<String>>, Stop> {
-    let all = match env::args(rt) {
-        Ok(all) => all,
-        Err(error) if error.kind() == ErrorKind::OutOfMemory => return Err(NO_MEMORY),
-        Err(_) => return Ok(None),
-    };
-    let mut given = Vec::new(rt.alloc());
-    for word in all.skip(1) {
-        given.push(word)?;
-    }
-    Ok(Some(given))
 }
