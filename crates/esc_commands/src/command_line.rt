@@ -2,7 +2,7 @@
 
 use clap::builder::ValueParser;
 use clap::{ArgMatches, Error};
-use esc_console::{Argument, Form, Place, Program};
+use esc_console::{Argument, ArgumentForm, Program, Subcommand};
 use esc_envelope::Kind;
 use esc_http::Report;
 use std::alloc::Global;
@@ -131,106 +131,106 @@ static PROGRAM: Program = Program {
     details: DETAILS,
     shared: &[Argument {
         id: "store",
-        place: Place::Option,
+        form: ArgumentForm::Option,
         value_name: "FILE",
         values: ValueParser::String,
         help: "The store's file; beside it FILE-wal may stand, and belongs to it",
     }],
     commands: &[
-        Form {
+        Subcommand {
             name: "init",
             about: "Makes a store of a release manifest, and prints how many deposits it lists",
             details: None,
             arguments: &[Argument {
                 id: "manifest",
-                place: Place::Option,
+                form: ArgumentForm::Option,
                 value_name: "FILE",
                 values: ValueParser::String,
                 help: "The release manifest: CSV with a row for each listed deposit",
             }],
         },
-        Form {
+        Subcommand {
             name: "amend",
             about: "Lists the deposits of one more manifest, and prints how many are new",
             details: Some(AMENDMENTS),
             arguments: &[Argument {
                 id: "manifest",
-                place: Place::Option,
+                form: ArgumentForm::Option,
                 value_name: "FILE",
                 values: ValueParser::String,
                 help: "A further part of the release manifest, or all of it anew; listed deposits may stand in it again",
             }],
         },
-        Form {
+        Subcommand {
             name: "migrate",
             about: "Makes a store of version 1 one of this version",
             details: Some(MIGRATION),
             arguments: &[],
         },
-        Form {
+        Subcommand {
             name: "as-of",
             about: "Rebuilds the registry as it was at a moment, and prints where its chain ends then",
             details: Some(MOMENTS),
             arguments: &[Argument {
                 id: "moment",
-                place: Place::Word,
+                form: ArgumentForm::Word,
                 value_name: "MOMENT",
                 values: ValueParser::String,
                 help: "A watermark, as 2024-03-10T00:00:00Z, or `latest`",
             }],
         },
-        Form {
+        Subcommand {
             name: "take",
             about: "Takes every plain file of a folder in byte order of names, and prints a receipt for each",
             details: None,
             arguments: &[Argument {
                 id: "folder",
-                place: Place::Word,
+                form: ArgumentForm::Word,
                 value_name: "DIR",
                 values: ValueParser::String,
                 help: "The folder of bundles; each file's name is the number of its arrival",
             }],
         },
-        Form {
+        Subcommand {
             name: "serve",
             about: "Takes arrivals and gives reports over HTTP, one connection after the other",
             details: Some(ROUTES),
             arguments: &[
                 Argument {
                     id: "port",
-                    place: Place::Option,
+                    form: ArgumentForm::Option,
                     value_name: "P",
                     values: ValueParser::Signed(1, 65_535),
                     help: "The port of 127.0.0.1 to listen on",
                 },
                 Argument {
                     id: "count",
-                    place: Place::Option,
+                    form: ArgumentForm::Option,
                     value_name: "N",
                     values: ValueParser::Signed(1, 1_000_000),
                     help: "How many connections to serve, one request each, before it ends",
                 },
             ],
         },
-        Form {
+        Subcommand {
             name: "report",
             about: "Prints a report",
             details: Some(REPORTS_TOLD),
             arguments: &[Argument {
                 id: "report",
-                place: Place::Word,
+                form: ArgumentForm::Word,
                 value_name: "WHAT",
                 values: ValueParser::Names(&["status", "gaps", "links", "receipts", "parked"]),
                 help: "How far the desk has come, which deposits are missing, what breaks a rule, all receipts, or the bundles that no row lists",
             }],
         },
-        Form {
+        Subcommand {
             name: "export",
             about: "Prints all objects of a kind as CSV, a line for each cell",
             details: None,
             arguments: &[Argument {
                 id: "kind",
-                place: Place::Word,
+                form: ArgumentForm::Word,
                 value_name: "KIND",
                 values: ValueParser::Names(&[
                     "registrar",

@@ -1,7 +1,7 @@
 //! The commands, each over a store in a file.
 
 use crate::command_line::{DeskTask, Invocation, Task, parse};
-use crate::files::{read_text, stop_at};
+use crate::files::{read_manifest_text, stop_at};
 use crate::jobs::{Ended, Job, use_file};
 use crate::stop::{Stop, print, tell_stop};
 use crate::store_file::{Closed, close, open_file, open_store_file};
@@ -142,7 +142,7 @@ where
     O: Write,
     E: Write,
 {
-    let text = read_text(rt, manifest)?;
+    let text = read_manifest_text(rt, manifest)?;
     let _ = manifest_in(rt.alloc(), &text)?;
     use_store(rt, net, store, DeskTask::List { text: &text }, out, err)
 }
@@ -179,7 +179,7 @@ fn moment_named(alloc: Global, word: &str) -> Result<Option<i64>, Stop> {
 
 // The manifest in a file.
 fn manifest_of(rt: &HostRuntime, path: &str) -> Result<Manifest, Stop> {
-    let text = read_text(rt, path)?;
+    let text = read_manifest_text(rt, path)?;
     manifest_in(rt.alloc(), &text)
 }
 

@@ -44,7 +44,7 @@ pub fn check_access(rt: &HostRuntime, path: &str) -> Result<(), Stop> {
 
 /// The manifest in a plain file, or in one that a link leads to. Of a file that is too long only
 /// the first bytes are read, one more than a manifest has at most.
-pub fn read_text(rt: &HostRuntime, path: &str) -> Result<Vec<u8>, Stop> {
+pub fn read_manifest_text(rt: &HostRuntime, path: &str) -> Result<Vec<u8>, Stop> {
     let front = read_front(rt, path, Links::Followed, esc_manifest::MOST_BYTES as u64);
     or_stop(rt, path, front)
 }

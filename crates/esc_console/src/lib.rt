@@ -25,11 +25,11 @@
 //! static PROGRAM: Program = Program {
 //!     name: "pack",
 //!     // ..
-//!     commands: &[Form {
+//!     commands: &[Subcommand {
 //!         name: "manifest",
 //!         about: "Prints the release manifest of these bundles, in the order of places",
 //!         details: None,
-//!         arguments: &[Argument { id: "bundle", place: Place::Words, .. }],
+//!         arguments: &[Argument { id: "bundle", form: ArgumentForm::Words, .. }],
 //!     }],
 //! };
 //!
@@ -63,5 +63,5 @@ mod words;
 pub use answers::{DONE, USAGE, tell_answer};
 pub use files::{Links, Listing, path_in, plain_files, read_front, read_whole};
 pub use one_line::OneLine;
-pub use table::{Argument, Form, Place, Program};
+pub use table::{Argument, ArgumentForm, Program, Subcommand};
 pub use words::{given_words, tell_no_text};

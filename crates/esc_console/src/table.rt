@@ -14,11 +14,11 @@ pub struct Program {
     pub details: &'static str,
     /// The arguments of every command, before its own.
     pub shared: &'static [Argument],
-    pub commands: &'static [Form],
+    pub commands: &'static [Subcommand],
 }
 
-/// A command of a program.
-pub struct Form {
+/// A command of a program, with its help and its arguments.
+pub struct Subcommand {
     pub name: &'static str,
     pub about: &'static str,
     /// What its help ends with.
@@ -29,7 +29,7 @@ pub struct Form {
 /// An argument of a command. Each is required.
 pub struct Argument {
     pub id: &'static str,
-    pub place: Place,
+    pub form: ArgumentForm,
     pub value_name: &'static str,
     pub values: ValueParser<'static>,
     pub help: &'static str,
@@ -37,12 +37,12 @@ pub struct Argument {
 
 /// How the words give an argument.
 #[derive(Clone, Copy)]
-pub enum Place {
+pub enum ArgumentForm {
     /// An option, `--ID VALUE`.
     Option,
-    /// One word, known by its place.
+    /// One word, known by its position.
     Word,
-    /// All words from its place on, at least one.
+    /// All words from its position on, at least one.
     Words,
 }
 
@@ -70,7 +70,7 @@ impl Program {
     }
 }
 
-impl Form {
+impl Subcommand {
     fn command<'a>(&self, alloc: Global, shared: &[Argument]) -> Result<Command<'a>, AllocError> {
         let command = heading(alloc, self.name, self.about);
         let command = match self.details {
@@ -105,10 +105,10 @@ impl Argument {
             .required(true)
             .value_parser(self.values)
             .help(self.help);
-        match self.place {
-            Place::Option => arg.long(self.id),
-            Place::Word => arg,
-            Place::Words => arg.num_args(1..),
+        match self.form {
+            ArgumentForm::Option => arg.long(self.id),
+            ArgumentForm::Word => arg,
+            ArgumentForm::Words => arg.num_args(1..),
         }
     }
 }

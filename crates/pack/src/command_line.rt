@@ -6,7 +6,7 @@ use crate::files::{read_bundles, slices_of};
 use crate::stop::{Refusal, Stop, print, tell_stop};
 use clap::builder::ValueParser;
 use clap::{ArgMatches, Error};
-use esc_console::{Argument, DONE, Form, Place, Program, tell_answer};
+use esc_console::{Argument, ArgumentForm, DONE, Program, Subcommand, tell_answer};
 use esc_pack::{ReleaseFault, manifest_of_bundles};
 use std::io::Write;
 
@@ -69,53 +69,53 @@ static PROGRAM: Program = Program {
     details: DETAILS,
     shared: &[],
     commands: &[
-        Form {
+        Subcommand {
             name: "manifest",
             about: "Prints the release manifest of these bundles, in the order of places",
             details: None,
             arguments: &[Argument {
                 id: "bundle",
-                place: Place::Words,
+                form: ArgumentForm::Words,
                 value_name: "BUNDLE",
                 values: ValueParser::String,
                 help: "The files of the bundles, in any order",
             }],
         },
-        Form {
+        Subcommand {
             name: "bundle",
             about: "Writes the bundle of a folder's CSV files, whose tables a description declares",
             details: Some(DESCRIPTION),
             arguments: &[
                 Argument {
                     id: "envelope",
-                    place: Place::Option,
+                    form: ArgumentForm::Option,
                     value_name: "FILE",
                     values: ValueParser::String,
                     help: "The description of the tables",
                 },
                 Argument {
                     id: "folder",
-                    place: Place::Word,
+                    form: ArgumentForm::Word,
                     value_name: "DIR",
                     values: ValueParser::String,
                     help: "The folder of the files",
                 },
                 Argument {
                     id: "target",
-                    place: Place::Word,
+                    form: ArgumentForm::Word,
                     value_name: "OUT",
                     values: ValueParser::String,
                     help: "Where the bundle is written; nothing may be there",
                 },
             ],
         },
-        Form {
+        Subcommand {
             name: "describe",
             about: "Proposes a description of a folder's CSV files, by their names and their headings",
             details: Some(PROPOSAL),
             arguments: &[Argument {
                 id: "described",
-                place: Place::Word,
+                form: ArgumentForm::Word,
                 value_name: "DIR",
                 values: ValueParser::String,
                 help: "The folder of the files",
