@@ -1,8 +1,5 @@
-"""The crates of the repository, and copies of one in which `rt` works while it works in others.
-
-Two runs of `rt` in one tree wait for each other as soon as they share a crate below. In a copy they don't: what was built of the
-crates below is linked into it, and fits by its contents."""
-import os, subprocess
+"""The crates of the repository, and copies of some in which `rt ci` works, so that the tree is left as it is until that has ended."""
+import os, shutil
 
 TOP = os.path.dirname(os.path.dirname(os.path.abspath(__file__)))
 
@@ -22,23 +19,21 @@ def libraries():
     return below
 
 
-def linked(source, target):
-    """A folder whose files are links to those of another, or copies where a file system has no links to it."""
-    if subprocess.run(['cp', '-al', source, target], stderr=subprocess.DEVNULL).returncode:
-        subprocess.run(['cp', '-a', f'{source}/.', target], check=True)
+def copied_tree(tree, crates):
+    """Copies crates to a folder, without their wrong bodies and without what earlier runs kept. `rt ci` runs programs as another user, who must be
+    able to come this far."""
+    os.chmod(tree, 0o755)
+    shutil.copy(f'{TOP}/HANDLES', f'{tree}/HANDLES')
+    with open(f'{TOP}/crates.txt') as listed, open(f'{tree}/crates.txt', 'w') as file:
+        file.writelines(it for it in listed if it.partition(':')[0].split()[:1] in ([name] for name in crates))
+    for name in crates:
+        shutil.copytree(f'{TOP}/crates/{name}', f'{tree}/crates/{name}', symlinks=True,
+                        ignore=lambda folder, _: {'out', 'must-fail', 'plants'})
 
 
-def copied(crate, below, room):
-    """The folder of a copy of a crate, with what it keeps, beside links to the crates below it."""
-    lines = [it for it in open(f'{TOP}/crates.txt') if it.partition(':')[0].split()[:1] in ([name] for name in [*below, crate])]
-    with open(f'{room}/crates.txt', 'w') as file:
-        file.writelines(lines)
-    os.mkdir(f'{room}/crates')
-    for name in below:
-        os.mkdir(f'{room}/crates/{name}')
-        for part in ('src', 'specs', 'proofs'):
-            linked(f'{TOP}/crates/{name}/{part}', f'{room}/crates/{name}/{part}')
-        os.mkdir(f'{room}/crates/{name}/out')
-        linked(f'{TOP}/crates/{name}/out/rlib', f'{room}/crates/{name}/out/rlib')
-    subprocess.run(['cp', '-a', f'{TOP}/crates/{crate}', f'{room}/crates/{crate}'], check=True)
-    return f'{room}/crates/{crate}'
+def built_moved(tree, crates):
+    """Moves what was built of these crates in a copy of the tree to the tree."""
+    for name in crates:
+        if os.path.isdir(f'{tree}/crates/{name}/out'):
+            shutil.rmtree(f'{TOP}/crates/{name}/out', ignore_errors=True)
+            shutil.move(f'{tree}/crates/{name}/out', f'{TOP}/crates/{name}/out')

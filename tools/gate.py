@@ -8,9 +8,9 @@ to the tree, and the scenes are played on the programs there, as tools/scenes.py
 wrong body and on each scene, a table as in docs/GATE.md, and at last 'N passed, M failed', the sums of all three. The table has
 processor seconds for each crate's proof, tests and wrong bodies, as /proc shows them once a second (what lives shorter is in the sum
 alone); below it stand the whole gate's time, its processor minutes and the most memory that was in use beyond that at its start."""
-import os, re, resource, shutil, subprocess, sys, tempfile, threading, time
+import os, re, resource, subprocess, sys, tempfile, threading, time
 
-from crates import TOP, libraries
+from crates import TOP, built_moved, copied_tree, libraries
 from wrong_bodies import edits_of, tried
 
 TICK = os.sysconf('SC_CLK_TCK')
@@ -75,13 +75,6 @@ class Watch:
         lines.append(f'\n{(time.monotonic() - self.begun) / 60:.0f} minutes, {(spent.ru_utime + spent.ru_stime) / 60:.0f} processor minutes, '
                      f'{os.environ.get("RT_JOBS", "-")} lanes, {self.memory / 1_000_000:.1f} GB at most')
         return '\n'.join(lines)
-
-
-def copied_tree(tree):
-    """Copies the repository to a folder, without wrong bodies and without what earlier runs kept."""
-    for name in ('crates.txt', 'HANDLES'):
-        shutil.copy(f'{TOP}/{name}', f'{tree}/{name}')
-    shutil.copytree(f'{TOP}/crates', f'{tree}/crates', symlinks=True, ignore=lambda folder, _: {'out', 'must-fail', 'plants'})
 
 
 def has_tests(crate):
@@ -180,14 +173,9 @@ def proved(tree, bodies):
     return counted(['rt', 'ci', *sys.argv[1:]], tree, take_note)
 
 
-def moved(tree):
-    """Moves what was built to the tree, and gives the programs of the scenes that are not among it."""
-    missing = [it for it in PROGRAMS if not os.path.isfile(f'{tree}/{it}')]
-    for crate in libraries():
-        if os.path.isdir(f'{tree}/crates/{crate}/out'):
-            shutil.rmtree(f'{TOP}/crates/{crate}/out', ignore_errors=True)
-            shutil.move(f'{tree}/crates/{crate}/out', f'{TOP}/crates/{crate}/out')
-    return missing
+def missing_in(tree):
+    """The programs of the scenes that weren't built in a tree."""
+    return [it for it in PROGRAMS if not os.path.isfile(f'{tree}/{it}')]
 
 
 def played(missing):
@@ -203,13 +191,12 @@ def main():
         sys.exit(f'gate.py takes --anew alone: {" ".join(sys.argv[1:])}')
     watch, lanes = Watch(), int(os.environ.get('RT_JOBS') or os.cpu_count() or 1)
     with tempfile.TemporaryDirectory(prefix='gate-') as tree:
-        # `rt ci` runs programs as another user, who must be able to come this far.
-        os.chmod(tree, 0o755)
-        copied_tree(tree)
+        copied_tree(tree, libraries())
         bodies = WrongBodies(tree, lanes)
         passed, failed = proved(tree, bodies)
         refused, through = bodies.ended()
-        missing = moved(tree)
+        missing = missing_in(tree)
+        built_moved(tree, libraries())
     right, wrong = played(missing)
     passed, failed = passed + refused + right, failed + through + wrong
     print(f'{watch.table()}\n{passed} passed, {failed} failed', flush=True)

@@ -1,70 +1,47 @@
 #!/usr/bin/env python3
-"""prove.py [--jobs N] PROGRAM: proves and builds a program and the crates below it, as many side by side as it may.
+"""prove.py PROGRAM: proves and builds a program and the crates below it, as many side by side as the machine has room for.
 
-Each crate is proved once, as soon as those below it are, in a copy of its own, and what that made goes to its out/ folder. Where
-fewer crates can be proved than there are lanes, each gets its share of the lanes as jobs. A line on standard error says of each
-crate how long it took. What is built already is not proved again."""
-import argparse, concurrent.futures, os, shutil, subprocess, sys, tempfile, threading, time
+`rt ci` does it as in the gate, in a copy of the tree that has these crates alone. What it proves is kept beside the kit: a later run on
+this machine, of `./check` too, proves the same files over the same libraries no more. What was built is moved to the tree. A line on
+standard error says of each crate when it was proved; what `rt ci` said of a crate that isn't proved follows."""
+import os, re, subprocess, sys, tempfile, time
 
-from crates import TOP, copied, libraries
+from crates import TOP, built_moved, copied_tree, libraries
 
-
-def lanes():
-    """One for each processor, and at least 5 GB of free memory for each."""
-    with open('/proc/meminfo') as file:
-        free = next(int(it.split()[1]) for it in file if it.startswith('MemAvailable:'))
-    return max(1, min(os.cpu_count() or 1, free // 5_000_000))
+ENDED = re.compile(r'rt: (\w+) (proved|is kept|NOT PROVED)\b')
 
 
-arguments = argparse.ArgumentParser(description=__doc__.split('\n')[0])
-arguments.add_argument('--jobs', type=int, default=lanes(), help='lanes')
-arguments.add_argument('program')
-given = arguments.parse_args()
-below = libraries()
-wanted = [it for it in below if it == given.program or it in below[given.program]]
-begun, printing, ended = time.monotonic(), threading.Lock(), []
+def told(begun, crate, verdict, ended, count):
+    minutes, seconds = divmod(int(time.monotonic() - begun), 60)
+    said = {'proved': 'proved', 'is kept': 'proved before', 'NOT PROVED': 'NOT PROVED'}[verdict]
+    print(f'{minutes}:{seconds:02d} {said}: {crate} ({ended} of {count})', file=sys.stderr, flush=True)
 
 
-def chain(crate):
-    """The lines of the longest chain of crates from this one up: what waits longest is proved first."""
-    lines = sum(len(open(f'{at}/{name}', 'rb').readlines()) for part in ('src', 'specs', 'proofs')
-                for at, _, names in os.walk(f'{TOP}/crates/{crate}/{part}') for name in names)
-    return lines + max((chain(it) for it in wanted if crate in below[it]), default=0)
-
-
-def proved(crate, jobs):
-    words = ['run', '--jobs', str(jobs), '--', '--help'] if crate == given.program else ['lib', '--jobs', str(jobs)]
-    with tempfile.TemporaryDirectory(prefix='prove-') as room:
-        folder = copied(crate, below[crate], room)
-        ran = subprocess.run(['rt', *words], cwd=folder, stdin=subprocess.DEVNULL, stdout=subprocess.PIPE, stderr=subprocess.STDOUT)
-        if ran.returncode == 0:
-            out = f'{TOP}/crates/{crate}/out'
-            shutil.rmtree(out, ignore_errors=True)
-            shutil.move(f'{folder}/out', out)
-    with printing:
-        ended.append(crate)
-        minutes, seconds = divmod(int(time.monotonic() - begun), 60)
-        verdict = 'proved' if ran.returncode == 0 else 'NOT PROVED'
-        print(f'{minutes}:{seconds:02d} {verdict}: {crate} ({len(ended)} of {len(wanted)})', file=sys.stderr, flush=True)
-        if ran.returncode:
-            sys.stderr.write(ran.stdout.decode(errors='replace'))
+def proved(tree, count):
+    """Runs `rt ci` in a tree with so many crates, and says whether all of them passed."""
+    begun, ended, said = time.monotonic(), 0, []
+    with subprocess.Popen(['rt', 'ci'], cwd=tree, stdin=subprocess.DEVNULL, stdout=subprocess.PIPE, stderr=subprocess.STDOUT,
+                          text=True, errors='replace') as ran:
+        for line in ran.stdout:
+            said.append(line)
+            if found := ENDED.match(line):
+                ended += 1
+                told(begun, found[1], found[2], ended, count)
+    if ran.returncode:
+        sys.stderr.writelines(said)
     return ran.returncode == 0
 
 
 def main():
-    left, running, done = sorted(wanted, key=chain, reverse=True), {}, set()
-    with concurrent.futures.ThreadPoolExecutor(given.jobs) as pool:
-        while left or running:
-            ready = [it for it in left if done.issuperset(below[it])][:given.jobs - len(running)]
-            jobs = max(1, given.jobs // max(1, len(ready) + len(running)))
-            for crate in ready:
-                left.remove(crate)
-                running[pool.submit(proved, crate, jobs)] = crate
-            for it in concurrent.futures.wait(running, return_when=concurrent.futures.FIRST_COMPLETED).done:
-                done.add(running.pop(it))
-                if not it.result():
-                    left.clear()
-    return 0 if len(done) == len(wanted) and os.path.exists(f'{TOP}/crates/{given.program}/out/{given.program}') else 1
+    if len(sys.argv) != 2 or sys.argv[1] not in libraries():
+        sys.exit('prove.py takes the name of a program')
+    program = sys.argv[1]
+    crates = [*libraries()[program], program]
+    with tempfile.TemporaryDirectory(prefix='prove-') as tree:
+        copied_tree(tree, crates)
+        passed = proved(tree, len(crates))
+        built_moved(tree, crates)
+    return 0 if passed and os.path.exists(f'{TOP}/crates/{program}/out/{program}') else 1
 
 
 sys.exit(main())
