@@ -50,8 +50,6 @@
 //! what is found of one object, if these are the keys of the tables. `proofs/FindingLaws.antt`
 //! shows that it is the same set.
 //!
-//! `Lines` of `esc_csv`, in which the export is written, is re-exported for other reports.
-//!
 //! # Cost
 //!
 //! One walk over the objects, and one over their keys for each declared number; a look-up in the
@@ -78,7 +76,6 @@ mod stream;
 mod verification;
 mod walk;
 
-pub use esc_csv::Lines;
 pub use export::{export_from, export_rows};
 pub use finding::Finding;
 pub use stream::StreamFault;

@@ -60,6 +60,7 @@ pub use header::Header;
 pub use id::{LONGEST_ID, is_id};
 pub use kind::Kind;
 pub use laws::{declared_tables_have_their_forms, envelope_refusals_are_5_to_7};
+pub use members::MOST_RESEND;
 pub use moment::{
     END_OF_YEARS, printed_watermarks_are_read, watermark, watermark_text, watermarks_are_moments,
 };

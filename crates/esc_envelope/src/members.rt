@@ -25,6 +25,9 @@ use esc_bundle::NoMemory;
 use serde_json::Value;
 use std::alloc::Global;
 
+/// The greatest resend.
+pub const MOST_RESEND: u32 = 999_999;
+
 /// The text of a member that must be present.
 pub(crate) fn text_at<'a>(object: &'a Value, name: &str) -> Option<&'a str>
     ensures { option_map (λ t. t.now) result ≡ text_at name.now (view object.now) }
@@ -86,7 +89,7 @@ fn resend_from(value: &Value) -> Option<u32>
         return Some(0);
     }
     let times = value.as_u64()?;
-    if times <= 999_999 {
+    if times <= MOST_RESEND as u64 {
         Some(times as u32)
     } else {
         None

@@ -73,4 +73,4 @@ pub use laws::{accepted_texts_are_read_whole, faults_are_least, rows_without_fau
 pub use manifest::Manifest;
 pub use reading::{MOST_BYTES, read_manifest};
 pub use row::MRow;
-pub use rows::{MOST_RESEND, MOST_ROWS, from_rows};
+pub use rows::{MOST_ROWS, from_rows};

@@ -38,11 +38,8 @@ use crate::apart::{
 use crate::fault::MFault;
 use crate::manifest::Manifest;
 use crate::row::MRow;
-use esc_envelope::{DepositType, END_OF_YEARS, Place, is_id};
+use esc_envelope::{DepositType, END_OF_YEARS, MOST_RESEND, Place, is_id};
 use std::alloc::Global;
-
-/// The greatest resend.
-pub const MOST_RESEND: u32 = 999_999;
 
 /// The most rows of a manifest.
 pub const MOST_ROWS: usize = 4_096;
