@@ -33,6 +33,27 @@
 //! [`Desk::parked`], [`Desk::moment`], [`Desk::tables`], [`Desk::end`] and [`Desk::writes`].
 //! [`Desk::walk`] gives the objects of the tables one at a time.
 //!
+//! # Example
+//!
+//! ```text
+//! // `store` was made of the first manifest by `Store::create`, or is opened again by `Store::open`.
+//! let mut desk = Desk::open(store);
+//! let events = [
+//!     Event::Arrival(Arrival { number: number("n1")?, body }),
+//!     Event::Amend(text),          // a second part of the manifest
+//!     Event::AsOf(Some(moment)),   // nanoseconds since 1970-01-01T00:00:00Z
+//! ];
+//! for outcome in &desk.run_events(alloc, &events)? {
+//!     match outcome {
+//!         EventOutcome::Arrived(Outcome::Done(reply)) => ..  // reply.receipt, reply.verdict
+//!         EventOutcome::Amended(Ok(added)) => ..             // how many rows are new
+//!         EventOutcome::Moved(Ok(())) => ..
+//!         _ => ..                                            // refused, and nothing has changed
+//!     }
+//! }
+//! let tables = desk.tables(alloc)?;                          // the objects by key
+//! ```
+//!
 //! # What is promised
 //!
 //! For every list of accepted manifests, arrivals and moments, in any order among each other, with

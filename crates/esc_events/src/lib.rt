@@ -41,7 +41,15 @@
 //! that are parked for them. [`migrated_store_stands`] says that what a store of version 1 kept
 //! stands for its manifest and its arrivals as early ones.
 //!
-//! No code here runs. The contracts of the desk (`esc_desk`) are stated by these definitions.
+//! # Example
+//!
+//! No code here runs: the contracts of the desk (`esc_desk`) are stated by these definitions, and
+//! its bodies call a law where their proofs need it.
+//!
+//! ```text
+//! chain_after_an_event();  // from here on, that a planned move leaves the latest chain's tables
+//! let plan = plan_move(store, alloc, old, new, source)?;
+//! ```
 #![tactic(auto)]
 
 mod assessment;
