@@ -42,7 +42,7 @@ class Watch:
     def __init__(self):
         self.parts, self.seconds, self.memory = {}, {}, 0
         self.before, self.begun, self.ended = memory_in_use(), time.monotonic(), threading.Event()
-        self.thread = threading.Thread(target=self.run)
+        self.thread = threading.Thread(target=self.run, daemon=True)
         self.thread.start()
 
     def run(self):
@@ -93,7 +93,7 @@ class WrongBodies:
         self.tasks = {(it, part) for it in self.below for part in ('proof', 'tests') if part == 'proof' or has_tests(it)}
         self.proved, self.running, self.is_over, self.changed = set(), 0, False, threading.Condition()
         self.counts = []
-        self.threads = [threading.Thread(target=self.run) for _ in range(lanes)]
+        self.threads = [threading.Thread(target=self.run, daemon=True) for _ in range(lanes)]
         for thread in self.threads:
             thread.start()
 
@@ -152,10 +152,15 @@ def counted(words, folder, take_note=lambda line: None):
     """Runs a command in a folder, prints what it prints but its last line, and gives the numbers of that line. Each line is noted."""
     last = ''
     with subprocess.Popen(words, cwd=folder, stdin=subprocess.DEVNULL, stdout=subprocess.PIPE, stderr=subprocess.STDOUT) as ran:
-        for line in ran.stdout:
-            print(last, end='', flush=True)
-            last = line.decode(errors='replace')
-            take_note(last)
+        try:
+            for line in ran.stdout:
+                print(last, end='', flush=True)
+                last = line.decode(errors='replace')
+                take_note(last)
+        except BaseException:
+            # (It would be waited for, however long it runs.)
+            ran.terminate()
+            raise
     found = re.fullmatch(r'(\d+) passed, (\d+) failed\s*', last)
     if not found:
         print(last, end='', flush=True)

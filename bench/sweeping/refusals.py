@@ -8,13 +8,14 @@ LIMIT = 400
 
 
 class Sweep:
-    """A whole sweep: what was asked of it, the folder in which it works, and how many refusals have passed and failed."""
+    """A whole sweep: what was asked of it, the folder in which it works, how many parts it has had, and how many refusals have passed
+    and failed."""
 
     def __init__(self, top, given):
         self.top, self.given = top, given
         self.work = tempfile.mkdtemp(prefix='sweep-', dir='/dev/shm' if os.path.isdir('/dev/shm') else None)
         self.library = os.path.join(self.work, 'refuse.so')
-        self.passed, self.failed = 0, 0
+        self.parts, self.passed, self.failed = 0, 0, 0
         self.stores, self.port = 0, 30_000
 
     def build_library(self):
@@ -75,6 +76,7 @@ class Sweep:
         """Refuses calls, one after the other; `judge` says what is wrong with a refusal, or nothing."""
         if self.given.only not in name:
             return
+        self.parts += 1
         calls = self.count_of(tell)
         numbers, jobs = self.numbers(calls, is_whole), self.given.jobs
         wrong = sorted(it for job in [begin(judge, numbers[at::jobs]) for at in range(jobs)] for it in job())

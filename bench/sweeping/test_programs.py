@@ -4,9 +4,8 @@ import os, re, tempfile
 
 from played.bodies import bytes_of, manifest_text
 
-# What a test says that ran out of memory: the fault's name, as a crate, the kit or a response has it. One counts the refusals of 228
-# beginnings, and says that one is missing.
-OUT_OF_MEMORY = re.compile(r'out of memory|AllocError|AllocFailed|NoMemory|OutOfMemory|S2|left: 255|"227 beginnings"')
+# What a test says that ran out of memory: the fault's name, as a crate, the kit or a response has it.
+OUT_OF_MEMORY = re.compile(r'out of memory|AllocError|AllocFailed|NoMemory|OutOfMemory|S2')
 # The name of the program that has no tests, and is told what to do.
 HARNESS = 'desk_harness'
 # Its files are in memory. Where memory is refused to a file it is a disk that fails: S1, or the database's name for it.

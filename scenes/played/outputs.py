@@ -12,13 +12,18 @@ def limit_files():
     resource.setrlimit(resource.RLIMIT_FSIZE, (MOST_BYTES, MOST_BYTES))
 
 
-def check_narrow(stage, line, room, wanted):
-    """Runs the program where standard output is a file that ends after so many bytes more, and compares what it gives."""
+def run_narrow(stage, line, room):
+    """Runs the program where standard output is a file that ends after so many bytes more."""
     with tempfile.TemporaryFile(buffering=0) as out:
         out.seek(MOST_BYTES - room)
         got = stage.end(stage.begin(line.split(), out=out, prepare=limit_files))
         out.seek(MOST_BYTES - room)
-        stage.compare(line, wanted, Got(got.status, out.read(), got.err))
+        return Got(got.status, out.read(), got.err)
+
+
+def check_narrow(stage, line, room, wanted):
+    """Compares what a run gives whose standard output has room for so many bytes."""
+    stage.compare(line, wanted, run_narrow(stage, line, room))
 
 
 class NarrowPipe:

@@ -1,11 +1,13 @@
 """The desk on a socket."""
 import contextlib, socket, struct
 
-from played.outputs import check_narrow
+from played.outputs import check_narrow, run_narrow
 from scening.stage import SECONDS, Failed, Got, Wanted, difference, pieces_of
 from scening.steps import Copy, contents
 
 HOST = '127.0.0.1'
+# How many ports are tried.
+PORTS = 5
 CONTACT = contents('contact.bundle').decode()
 INIT = 'init --store a.db --manifest listed.csv'
 
@@ -50,6 +52,22 @@ def free_port():
         return listener.getsockname()[1]
 
 
+def is_taken(port, got):
+    """Whether a desk has ended because it couldn't listen on the port. (Where its standard error is no pipe, nothing is seen of that.)"""
+    return got.status == 3 and not got.out and got.err in (b'', f'E1 {HOST}:{port}\n'.encode())
+
+
+def at_free_port(play):
+    """The port, and what comes of a desk there: how its run ended, and what else `play` gives. Scenes are played side by side: where another
+    one took the port before the desk listened on it, it is another port."""
+    for _ in range(PORTS):
+        port = free_port()
+        got, *more = play(port)
+        if not is_taken(port, got):
+            break
+    return port, got, *more
+
+
 def first_line(child):
     """The first line of standard output, or what comes before its end."""
     line = b''
@@ -80,15 +98,24 @@ def responses_of(port, requests):
         return list(map(response_of, clients))
 
 
+def serving(store, port, count):
+    """The line of a run that serves so many connections, and what it prints once it listens."""
+    return f'serve --store {store} --port {port} --count {count}', f'listening {HOST}:{port}\n'
+
+
 def served(stage, store, count, ask, told='', **streams):
     """Serves so many connections from a store, and gives the responses, which are asked for at a port. Compares what is told of them."""
-    port = free_port()
-    line, listening = f'serve --store {store} --port {port} --count {count}', f'listening {HOST}:{port}\n'
-    child = stage.begin(line.split(), **streams)
-    said = first_line(child)
-    responses = ask(port) if said == listening.encode() else []
-    got = stage.end(child)
-    stage.compare(line, Wanted(0, listening, told), Got(got.status, said + got.out, got.err))
+    def play(port):
+        line, listening = serving(store, port, count)
+        child = stage.begin(line.split(), **streams)
+        said = first_line(child)
+        responses = ask(port) if said == listening.encode() else []
+        got = stage.end(child)
+        return Got(got.status, said + got.out, got.err), responses
+
+    port, got, responses = at_free_port(play)
+    line, listening = serving(store, port, count)
+    stage.compare(line, Wanted(0, listening, told), got)
     return responses
 
 
@@ -168,7 +195,8 @@ def taken_port(stage):
         # The store is opened first.
         check_narrow(stage, f'serve --store absent.db --port {port} --count 1', 9, Wanted(3, '', 'S3\n'))
     # If `listening` can't be printed, no client is waited for.
-    check_narrow(stage, f'serve --store a.db --port {free_port()} --count 1', 9, Wanted(3, 'listening', 'E1 -\n'))
+    port, got = at_free_port(lambda port: [run_narrow(stage, serving('a.db', port, 1)[0], 9)])
+    stage.compare(serving('a.db', port, 1)[0], Wanted(3, 'listening', 'E1 -\n'), got)
 
 
 SCENES = (connections, unwanted_body, broken_connections, taken_port)
