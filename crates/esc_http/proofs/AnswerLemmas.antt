@@ -1,34 +1,31 @@
 -- The response to a request, from its parts.
-use Rattle.std.proofs.Common.{◌≡◌, ℕ, ◌≤◌, ◌<◌, List, ◌++◌, length, take, drop, true, false, nat_le, refl, sym, ◌∙◌, ap, subst, inl, inr, Option, Some, None, IfSome, arith}
+use Rattle.std.proofs.Common.{◌≡◌, ℕ, ◌≤◌, ◌<◌, List, ◌∷◌, ◌++◌, length, take, drop, true, false, nat_le, refl, sym, ◌∙◌, ap, subst, inl, inr, Option, Some, None, IfSome, arith}
 use Rattle.std.proofs.lemmas.Bool.Decides.{nat_tests}
+use Rattle.std.specs.Global.{Vec}
 use Rattle.std.specs.Io.KnownBytes.{Consumes, prepend_known}
 use Rattle.sqlite_trees.specs.declared.store.Store.{Ghosts}
 use Rattle.httparse.specs.Grammar.{RequestHead}
 use Rattle.httparse.proofs.GrammarLemmas.{ReadsRequest-append}
-use Rattle.esc_store.specs.declared.fault.SFault.{SFault}
 use Rattle.esc_store.specs.declared.fault.SFault.TheVariants.{S2}
-use Rattle.esc_store.specs.Faults.{IsS1OrS2, IsS1OrS2OrS4OrS5}
-use Rattle.esc_desk.specs.declared.desk.Desk.{Desk}
+use Rattle.esc_store.specs.StandingLaws.{survives_same, was_clean}
 use Rattle.esc_events.specs.ArrivalValue.{ArrivalValue}
-use Rattle.esc_desk.specs.Calls.{After, ServesStill, IsCause}
+use Rattle.esc_events.specs.Events.{EventValue}
+use Rattle.esc_events.specs.Events.EventValue.{arrived}
+use Rattle.esc_desk.specs.declared.desk.Desk.{Desk}
+use Rattle.esc_desk.specs.Calls.{DeskLeaves, Stays}
+use Rattle.esc_desk.specs.Crashes.{CrashLeaves}
 use Rattle.esc_request.specs.declared.refusal.Refusal.TheVariants.{BadRequest}
 use Rattle.esc_http.specs.declared.request_plan.RequestPlan.{RequestPlan}
 use Rattle.esc_http.specs.declared.request_plan.RequestPlan.TheVariants.{Put}
 use Rattle.esc_request.specs.Head.{HasHead, HasNoHead}
 use Rattle.esc_http.specs.RequestPlans.{plan_of_head}
 use Rattle.esc_request.specs.Response.{out_of_memory}
-use Rattle.esc_http.specs.Response.{fault_response}
-use Rattle.esc_http.specs.Answering.{Request, refused, arrives, wants, with_body, Asks, IsAnswered, IsOrMemory, TellsFault, LosesArrival, text_or_memory}
+use Rattle.esc_http.specs.Answering.{Request, refused, arrives, wants, with_body, Asks, IsAnswered, IsOrMemory, LeavesStill, LosesArrival, text_or_memory}
 
 -- the text that was made, or the out-of-memory response
-pub text_is : {A : Type 0} (view : A → List ℕ) (expected : List ℕ) (o : Option A) → IfSome o (λ text. view text ≡ expected) → IsOrMemory expected (text_or_memory view o)
-text_is view expected None is = inr refl
-text_is view expected (Some text) is = inl is
-
--- why no report was made, or out of memory
-pub fault_told : {A : Type 0} (view : A → List ℕ) (fault : SFault) (o : Option A) → IsS1OrS2 fault → IfSome o (λ text. view text ≡ fault_response fault) → TellsFault (text_or_memory view o)
-fault_told view fault None cause is = record { fault = S2; cause = inr refl; told = refl }
-fault_told view fault (Some text) cause is = record { fault = fault; cause = cause; told = is }
+pub text_is : (expected : List ℕ) (o : Option (Vec ℕ)) → IfSome o (λ text. text.items ≡ expected) → IsOrMemory expected (text_or_memory o)
+text_is expected None is = inr refl
+text_is expected (Some text) is = inl is
 
 -- a head stays one, whatever follows
 longer : (front : List ℕ) (h : RequestHead) (rest more : List ℕ) → HasHead front h rest → HasHead (front ++ more) h (rest ++ more)
@@ -79,18 +76,39 @@ pub some_request : (o : Option (List ℕ)) (plan : RequestPlan) → (request : R
 some_request None plan = (refused BadRequest, tt)
 some_request (Some rest) plan = (with_body plan rest, refl)
 
--- why an arrival was lost, or out of memory
-pub loss_told : {S A : Type 0} (g : Ghosts S) (old new : Desk S) (a : ArrivalValue) (view : A → List ℕ) (fault : SFault) (o : Option A) → ServesStill g old new → IsS1OrS2OrS4OrS5 fault → After g old new (λ e. IsCause e a fault)
-    → IfSome o (λ text. view text ≡ fault_response fault) → LosesArrival g old new a (text_or_memory view o)
-loss_told g old new a view fault None kept one cause is = record { kept = kept; fault = S2; is_one = inr (inr (inr refl)); cause = λ clean e serves. tt; told = refl }
-loss_told g old new a view fault (Some text) kept one cause is = record { kept = kept; fault = fault; is_one = one; cause = cause; told = is }
+-- what a crash leaves is among what it leaves with one more event in doubt
+doubted : {S : Type 0} (g : Ghosts S) (desk : Desk S) (e doubtful : List EventValue) (x : EventValue) → DeskLeaves g desk e doubtful → DeskLeaves g desk e (x ∷ doubtful)
+unfolding CrashLeaves
+doubted g desk e doubtful x left = λ clean trees may. inr (left clean trees may)
+
+-- where nothing changed a crash leaves what it might leave before
+pub leaves_still : {S : Type 0} (g : Ghosts S) (old new : Desk S) → Stays g old new → LeavesStill g old new
+unfolding CrashLeaves
+leaves_still g old new stays e doubtful serves left clean trees may =
+    elim (stays.same.survives.crash clean trees may) [
+      | inl was ↦ left (was_clean stays.same.survives clean) trees was
+      | inr none ↦ absurd none
+    ]
 
 module _ {S : Type 0} (g : Ghosts S) (desk : Desk S) where
+  stays_itself : Stays g desk desk
+  stays_itself = record { same = record { manifest = refl; writes = refl; survives = survives_same; stands = λ k h. h }; serves = λ e served. served }
+
+  lost_by_memory : (a : ArrivalValue) → LosesArrival g desk desk a out_of_memory
+  lost_by_memory a = record {
+    kept = λ e serves. serves;
+    fault = S2;
+    is_one = inr (inr (inr refl));
+    cause = λ clean e serves. tt;
+    left = λ e doubtful serves left. doubted g desk e doubtful (arrived a) left;
+    told = inr refl;
+  }
+
   -- the out-of-memory response is one to any request
   pub memory_answers : (request : Request) → IsAnswered g desk desk request out_of_memory
   memory_answers (refused refusal) = (refl, inr refl)
-  memory_answers (arrives a) = inr (record { kept = λ e serves. serves; fault = S2; is_one = inr (inr (inr refl)); cause = λ clean e serves. tt; told = refl })
-  memory_answers (wants report) = (inl refl, inr (record { fault = S2; cause = inr refl; told = refl }))
+  memory_answers (arrives a) = inr (lost_by_memory a)
+  memory_answers (wants report) = (stays_itself, leaves_still g desk desk stays_itself, inr (record { fault = S2; cause = inr refl; told = inr refl }))
 
   -- so it does whatever the input is
   pub memory_answers_some : (o : Option (List ℕ)) (plan : RequestPlan) → (request : Request) × IfSome o (λ rest. request ≡ with_body plan rest) × IsAnswered g desk desk request out_of_memory

@@ -11,7 +11,11 @@ use Rattle.std.specs.Prelude.{
   Option,
   Some,
   None,
+  Result,
+  Ok,
+  Err,
 }
+use Rattle.std.specs.Global.{Vec}
 use Rattle.sqlite_trees.specs.declared.store.Store.{Ghosts}
 use Rattle.httparse.specs.Grammar.{RequestHead}
 use Rattle.esc_store.specs.declared.fault.SFault.{SFault}
@@ -19,8 +23,18 @@ use Rattle.esc_store.specs.Faults.{IsS1OrS2, IsS1OrS2OrS4OrS5}
 use Rattle.esc_store.specs.ReplyValue.{ReplyValue}
 use Rattle.esc_desk.specs.declared.desk.Desk.{Desk}
 use Rattle.esc_events.specs.ArrivalValue.{ArrivalValue, an_arrival}
-use Rattle.esc_desk.specs.Calls.{After, Over, ServesStill, Stays, HadRoom, HadPlace, IsCause}
-use Rattle.esc_events.specs.Events.{EventValue}
+use Rattle.esc_desk.specs.Calls.{
+  After,
+  Over,
+  CrashAfter,
+  DeskLeaves,
+  DeskLeavesTaken,
+  ServesStill,
+  Stays,
+  HadRoom,
+  HadPlace,
+  IsCause,
+}
 use Rattle.esc_desk.specs.Serving.{Answers}
 use Rattle.esc_request.specs.declared.reports.Report.{Report}
 use Rattle.esc_request.specs.declared.refusal.Refusal.{Refusal}
@@ -59,39 +73,52 @@ Asks input request =
 
 -- ---- answers
 
+-- the text of a response; where there is none, memory was refused
+abbrev pub text_or_memory : Option (Vec ℕ) → List ℕ
+text_or_memory None = out_of_memory
+text_or_memory (Some text) = text.items
+
 -- this text, or the out-of-memory response
 abbrev pub IsOrMemory : List ℕ → List ℕ → Type 0
 IsOrMemory expected text = (text ≡ expected) ⊎ (text ≡ out_of_memory)
 
--- no report was made: the store failed (S1), or memory was refused (S2)
+-- no report was made, by this fault, which the text gives: the store failed (S1), or memory was
+-- refused (S2)
 pub record TellsFault (text : List ℕ) : Type 0 where
   pub fault : SFault
   pub cause : IsS1OrS2 fault
-  pub told : text ≡ fault_response fault
+  pub told : IsOrMemory (fault_response fault) text
 
 module _ {S : Type 0} (g : Ghosts S) (old new : Desk S) where
-  -- the arrival was taken: the desk serves the events before and this one, and the text gives its
-  -- reply; it is a duplicate, or there was room for one more receipt, and a place to park its body
-  -- if it was to be parked
-  pub record TakesArrival (a : ArrivalValue) (e : List EventValue) (text : List ℕ) : Type 0 where
+  -- what a crash leaves after an arrival, by what came of it
+  abbrev pub LeavesAfter : ArrivalValue → Result ReplyValue SFault → Type 0
+  LeavesAfter a result = CrashAfter g old (λ e doubtful. DeskLeavesTaken g new e doubtful a result)
+
+  -- a crash leaves what it might leave before
+  abbrev pub LeavesStill : Type 0
+  LeavesStill = CrashAfter g old (λ e doubtful. DeskLeaves g new e doubtful)
+
+  -- the arrival was taken, with this reply, which the text gives: the desk serves the events before
+  -- and this one; it is a duplicate, or there was room for one more receipt, and a place to park
+  -- its body if it was to be parked
+  pub record TakesArrival (a : ArrivalValue) (text : List ℕ) : Type 0 where
     pub reply : ReplyValue
-    pub answers : Answers g new e a reply
-    pub room : HadRoom e a
-    pub place : HadPlace e a
+    pub answers : After g old new (λ e. Answers g new e a reply)
+    pub room : After g old new (λ e. HadRoom e a)
+    pub place : After g old new (λ e. HadPlace e a)
+    pub left : LeavesAfter a (Ok reply)
     pub told : IsOrMemory (reply_response reply) text
 
-  abbrev pub IsTaken : ArrivalValue → List ℕ → Type 0
-  IsTaken a text = After g old new (λ e. TakesArrival a e text)
-
-  -- the arrival was lost: the desk serves what it served, and the text is the fault. That is S4
-  -- only if the arrival is no duplicate and there is no room for its receipt, and S5 only if there
-  -- is no place to park its body
+  -- the arrival was lost by this fault, which the text gives: the desk serves what it served. The
+  -- fault is S4 only if the arrival is no duplicate and there is no room for its receipt, and S5
+  -- only if there is no place to park its body
   pub record LosesArrival (a : ArrivalValue) (text : List ℕ) : Type 0 where
     pub kept : ServesStill g old new
     pub fault : SFault
     pub is_one : IsS1OrS2OrS4OrS5 fault
     pub cause : After g old new (λ e. IsCause e a fault)
-    pub told : text ≡ fault_response fault
+    pub left : LeavesAfter a (Err fault)
+    pub told : IsOrMemory (fault_response fault) text
 
   -- the report was made, of what the store stands for
   pub record TellsReport (report : Report) (text : List ℕ) : Type 0 where
@@ -103,11 +130,6 @@ module _ {S : Type 0} (g : Ghosts S) (old new : Desk S) where
   -- that was taken
   abbrev pub IsAnswered : Request → List ℕ → Type 0
   IsAnswered (refused refusal) text = (new ≡ old) × IsOrMemory (refusal_response refusal) text
-  IsAnswered (arrives a) text = IsTaken a text ⊎ LosesArrival a text
-  IsAnswered (wants report) text = ((new ≡ old) ⊎ Stays g old new)
+  IsAnswered (arrives a) text = TakesArrival a text ⊎ LosesArrival a text
+  IsAnswered (wants report) text = Stays g old new × LeavesStill
       × (TellsReport report text ⊎ TellsFault text)
-
--- the text of a response; where there is none, memory was refused
-abbrev pub text_or_memory : {A : Type 0} → (A → List ℕ) → Option A → List ℕ
-text_or_memory view None = out_of_memory
-text_or_memory view (Some text) = view text

@@ -28,7 +28,7 @@ use Rattle.esc_http.specs.declared.request_plan.RequestPlan.TheVariants.{Refuse,
 use Rattle.esc_request.specs.BodyLength.{Line, body_length}
 use Rattle.esc_request.specs.Route.{Leads, arrival, tells, route_of}
 
--- the target up to its first question mark
+-- the target up to its first question mark (63)
 abbrev pub path_of : List ℕ → List ℕ
 path_of target = before_first (λ b. b == 63) target
 
@@ -50,6 +50,7 @@ plan_to_put method number lines =
 abbrev pub plan_to_get : List ℕ → Report → RequestPlan
 plan_to_get method report = if bytes_eq method (codes "GET") then Get report else Refuse GetOnly
 
+-- at a route, if the path has one
 abbrev pub plan_on : Option Leads → List ℕ → List Line → RequestPlan
 plan_on None method lines = Refuse NotFound
 plan_on (Some (arrival number)) method lines = plan_to_put method number lines

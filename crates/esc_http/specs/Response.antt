@@ -7,6 +7,8 @@ use Rattle.esc_store.specs.declared.reply.Verdict.TheVariants.{A1, A2, A3, A4, A
 use Rattle.esc_store.specs.ReplyValue.{ReplyValue}
 use Rattle.esc_request.specs.Response.{response, unavailable}
 use Rattle.esc_texts.specs.ReplyText.{reply_text}
+use Rattle.esc_http.specs.declared.serving.ServeFault.{ServeFault}
+use Rattle.esc_http.specs.declared.serving.ServeFault.TheVariants.{Read, Write}
 
 -- a fault of the desk; an open store never returns S3
 abbrev pub fault_response : SFault → List ℕ
@@ -27,3 +29,8 @@ reply_status A5 = codes "202 Accepted"
 -- the reply to an arrival
 abbrev pub reply_response : ReplyValue → List ℕ
 reply_response r = response (reply_status r.verdict) (codes "application/json") [] (reply_text r)
+
+-- why a request was not served to its end
+abbrev pub serve_fault_text : ServeFault → List ℕ
+serve_fault_text Read = codes "read fault"
+serve_fault_text Write = codes "write fault"

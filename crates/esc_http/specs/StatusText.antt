@@ -19,6 +19,7 @@ abbrev pub counts_text : Status → List ℕ
 counts_text s = number_line (codes "listed") s.listed ++ number_line (codes "held") s.held
     ++ number_line (codes "receipts") s.receipts ++ number_line (codes "chain") s.chain
 
+-- the line of a chain's end: its watermark, its type and its resend
 abbrev pub end_text : Place → ℕ → List ℕ
 end_text place resend = codes "end " ++ printed place.watermark ++ codes " " ++ type_name place.kind
     ++ codes " " ++ decimal resend ++ codes "\n"
@@ -32,5 +33,6 @@ end_line (Some end) = end_text end.0 end.1
 abbrev pub objects_text : List (Kind × ℕ) → List ℕ
 objects_text counts = flat_map (λ (c : Kind × ℕ). number_line (kind_name c.0) c.1) counts
 
+-- the report: the counts, the end of the chain, and the objects of each kind
 abbrev pub status_text : Status → List ℕ
 status_text s = counts_text s ++ end_line s.end ++ objects_text s.objects.entries

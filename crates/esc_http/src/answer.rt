@@ -9,7 +9,6 @@ ghost use Rattle.esc_desk.specs.Calls.{WasHonest};
 ghost use Rattle.esc_http.specs.declared.request_plan.RequestPlan.TheVariants.{Put};
 ghost use Rattle.esc_request.specs.Head.{ShowsHead};
 ghost use Rattle.esc_http.specs.RequestPlans.{plan_of_head};
-ghost use Rattle.esc_request.specs.Router.{rows};
 ghost use Rattle.esc_http.specs.Answering.{
   Request,
   arrives,
@@ -25,11 +24,10 @@ use crate::response::{fault_response, reply_response};
 use crate::telling::report;
 use esc_desk::{Desk, Number};
 use esc_request::{
-    Body, FoundHead, MOST_HEAD_BYTES, MOST_LINES, ReadFailed, Refusal, Report, Source, Target,
-    read_body, read_head, refusal_response, report_response, router,
+    Body, FoundHead, MOST_HEAD_BYTES, MOST_LINES, ReadFailed, Refusal, Report, Source, read_body,
+    read_head, refusal_response, report_response, router,
 };
 use httparse::spans::{EMPTY_HEADER_SPAN, HeaderSpan};
-use matchit::Router;
 use sqlite::Alter;
 use std::alloc::Global;
 
@@ -41,7 +39,7 @@ pub(crate) fn answer_input<S: Alter, R: Source>(
 ) -> Result<Option<Vec<u8>>, ReadFailed>
     ensures answers { IfOk result (λ text. (request : Request)
         × IfSome (R.remaining source.old) (λ input. Asks input request)
-        × IsAnswered S.Store desk.old desk.new request (text_or_memory (λ text. text.items) text)) }
+        × IsAnswered S.Store desk.old desk.new request (text_or_memory text)) }
     ensures honest { WasHonest S.Store desk.old desk.new }
     ensures same { OnErr result (desk.new ≡ desk.old) }
     ensures err { OnErr result (IsTrue (R.failed source.new)) }
@@ -73,41 +71,15 @@ fn answer_head<S: Alter, R: Source>(
         → (request : Request) × IfSome
         (prepend_known (drop found.now.spans.len bytes.now) (R.remaining source.old))
         (λ rest. request ≡ with_body (plan_of_head h) rest)
-        × IsAnswered S.Store desk.old desk.new request (text_or_memory (λ text. text.items) text)) }
+        × IsAnswered S.Store desk.old desk.new request (text_or_memory text)) }
     ensures honest { WasHonest S.Store desk.old desk.new }
     ensures same { OnErr result (desk.new ≡ desk.old) }
     ensures err { OnErr result (IsTrue (R.failed source.new)) }
 {
-    match router(alloc) {
-        Ok(router) => answer_routed(alloc, desk, source, bytes, lines, found, &router),
-        Err(_) => Ok(None),
-    }
-}
-
-// The same, with the router.
-fn answer_routed<S: Alter, R: Source>(
-    alloc: Global,
-    desk: &mut Desk<S>,
-    source: &mut R,
-    bytes: &[u8],
-    lines: &[HeaderSpan],
-    found: &FoundHead,
-    router: &Router<Target>,
-) -> Result<Option<Vec<u8>>, ReadFailed>
-    requires within { IsRequestWithin bytes.now lines.now found.now.spans }
-    requires head { ShowsHead bytes.now lines.now found.now.spans }
-    requires router_is { router.now ≡ rows }
-    ensures answers { IfOk result (λ text. (h : RequestHead)
-        → IsRequestAt bytes.now lines.now found.now.spans h
-        → (request : Request) × IfSome
-        (prepend_known (drop found.now.spans.len bytes.now) (R.remaining source.old))
-        (λ rest. request ≡ with_body (plan_of_head h) rest)
-        × IsAnswered S.Store desk.old desk.new request (text_or_memory (λ text. text.items) text)) }
-    ensures honest { WasHonest S.Store desk.old desk.new }
-    ensures same { OnErr result (desk.new ≡ desk.old) }
-    ensures err { OnErr result (IsTrue (R.failed source.new)) }
-{
-    match plan_of_head(router, bytes, lines, found) {
+    let Ok(router) = router(alloc) else {
+        return Ok(None);
+    };
+    match plan_of_head(&router, bytes, lines, found) {
         RequestPlan::Refuse(refusal) => Ok(refusal_response(alloc, refusal)),
         RequestPlan::Get(report) => Ok(answer_report(alloc, desk, report)),
         RequestPlan::Put(number, size) => {
@@ -130,7 +102,7 @@ fn answer_put<S: Alter, R: Source>(
     ensures answers { IfOk result (λ text. (request : Request)
         × IfSome (prepend_known front.now (R.remaining source.old))
         (λ rest. request ≡ with_body (Put number.now size) rest)
-        × IsAnswered S.Store desk.old desk.new request (text_or_memory (λ text. text.items) text)) }
+        × IsAnswered S.Store desk.old desk.new request (text_or_memory text)) }
     ensures honest { WasHonest S.Store desk.old desk.new }
     ensures same { OnErr result (desk.new ≡ desk.old) }
     ensures err { OnErr result (IsTrue (R.failed source.new)) }
@@ -149,7 +121,7 @@ fn answer_arrival<S: Alter>(
     body: &[u8],
 ) -> Option<Vec<u8>>
     ensures answers { IsAnswered S.Store desk.old desk.new
-        (arrives (an_arrival number.now body.now)) (text_or_memory (λ text. text.items) result) }
+        (arrives (an_arrival number.now body.now)) (text_or_memory result) }
     ensures honest { WasHonest S.Store desk.old desk.new }
 {
     match desk.arrive(alloc, number, body) {
@@ -161,7 +133,7 @@ fn answer_arrival<S: Alter>(
 #[tactic(auto, using(esc_store::specs::StandingLaws::was_honest))]
 fn answer_report<S: Alter>(alloc: Global, desk: &mut Desk<S>, what: Report) -> Option<Vec<u8>>
     ensures answers { IsAnswered S.Store desk.old desk.new (wants what)
-        (text_or_memory (λ text. text.items) result) }
+        (text_or_memory result) }
     ensures honest { WasHonest S.Store desk.old desk.new }
 {
     match report(alloc, desk, what) {

@@ -41,12 +41,15 @@
 //! # What is promised
 //!
 //! `specs/Answering.antt` says what request the bytes of an input make (`Asks`), and what the
-//! response to a request is (`IsAnswered`): its text, from the first byte to the last, and what the
-//! desk's store stands for then. That is the list of events that it stood for before, followed by
-//! the arrival if one was taken. Where a write or a flush failed (`ServeFault::Write`), a beginning
-//! of that text was written, perhaps all of it; where a read failed (`ServeFault::Read`) nothing
-//! was written and the desk is as it was. A clause on what the store stands for has the premise
-//! that the store was honest, as in `esc_desk`.
+//! response to a request is (`IsAnswered`): its text, from the first byte to the last, what the
+//! desk's store stands for then, and what a crash leaves of it. The store stands for the list of
+//! events that it stood for before, followed by the arrival if one was taken. A crash leaves after
+//! an arrival what it leaves after `Desk::arrive`, by the reply or the refusal that the text gives;
+//! after another request, what it might leave before. Where a write or a flush failed
+//! (`ServeFault::Write`), a beginning of that text was written, perhaps all of it; where a read
+//! failed (`ServeFault::Read`) nothing was written and the desk is as it was. A clause on what the
+//! store stands for has the premise that the store was honest, as in `esc_desk`; that the text is
+//! the response to a reply, a refusal or a report has none.
 //!
 //! The contract of [`serve_one`] speaks of readers and writers of std, whose contracts give their
 //! bytes, but not whether a call failed. [`serve_one`] is [`serve`] over these. [`serve`] takes a

@@ -1,6 +1,6 @@
 //! One request.
 
-ghost use Rattle.std.specs.Prelude.{◌≡◌, ℕ, List, Err, IfSome, IsTrue, OnOk, OnErr};
+ghost use Rattle.std.specs.Prelude.{◌≡◌, ℕ, List, Some, Err, IfSome, IsTrue, OnOk, OnErr};
 ghost use Rattle.std.specs.Io.KnownBytes.{Appends, Keeps};
 ghost use Rattle.esc_desk.specs.Calls.{WasHonest};
 ghost use Rattle.esc_http.specs.declared.serving.ServeFault.TheVariants.{
@@ -8,6 +8,7 @@ ghost use Rattle.esc_http.specs.declared.serving.ServeFault.TheVariants.{
   Write as writing,
 };
 ghost use Rattle.esc_http.specs.Answering.{Request, Asks, IsAnswered, text_or_memory};
+ghost use Rattle.esc_http.specs.Response.{serve_fault_text};
 ghost use Rattle.esc_request.specs.Sent.{AppendsBeginning};
 
 use crate::answer::answer_input;
@@ -15,6 +16,8 @@ use esc_desk::Desk;
 use esc_request::{ReadFailed, Sink, Source, WriteFailed, out_of_memory, send};
 use sqlite::Alter;
 use std::alloc::Global;
+use std::error::Error;
+use std::fmt;
 use std::io::{Read, Write};
 
 /// Why a request was not served to its end.
@@ -26,6 +29,19 @@ pub enum ServeFault {
     /// an arrival that was taken is kept.
     Write,
 }
+
+impl fmt::Display for ServeFault {
+    ghost output = { λ fault. Some (serve_fault_text fault) };
+
+    fn fmt<W: fmt::Write>(&self, f: &mut fmt::Formatter<W>) -> fmt::Result {
+        f.write_str(match *self {
+            ServeFault::Read => "read fault",
+            ServeFault::Write => "write fault",
+        })
+    }
+}
+
+impl Error for ServeFault {}
 
 impl From<ReadFailed> for ServeFault {
     ghost from_gives = { λ _ fault. fault ≡ reading };
@@ -46,7 +62,9 @@ impl From<WriteFailed> for ServeFault {
 /// Reads one request, and writes the response to it.
 ///
 /// Whatever is read, the response is that to some request; if the reader reports its bytes, it is
-/// the request that they make. At `Ok` the response was handed on (flushed).
+/// the request that they make. At `Ok` the response was handed on (flushed). A crash leaves what it
+/// might leave before, with an arrival that was taken; after `S1` or `S2` it may leave the arrival
+/// taken in.
 pub fn serve<S: Alter, R: Source, W: Sink>(
     alloc: Global,
     desk: &mut Desk<S>,
@@ -110,11 +128,11 @@ pub fn serve_one<S: Alter, R: Read, W: Write>(
 // Sends the response, or the preallocated out-of-memory response.
 fn send_answer<W: Sink>(sink: &mut W, text: &Option<Vec<u8>>) -> Result<(), WriteFailed>
     ensures ok { OnOk result (Appends (W.contents sink.old) (W.contents sink.new)
-        (text_or_memory (λ text. text.items) text.now)) }
+        (text_or_memory text.now)) }
     ensures flushed { OnOk result (IsTrue (W.flushed sink.new)) }
     ensures err { OnErr result
         (AppendsBeginning (W.contents sink.old) (W.contents sink.new)
-        (text_or_memory (λ text. text.items) text.now)) }
+        (text_or_memory text.now)) }
     ensures failed { OnErr result (IsTrue (W.failed sink.new)) }
 {
     match text {

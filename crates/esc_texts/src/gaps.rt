@@ -107,8 +107,7 @@ fn blocker_text(alloc: Global, blocker: &Option<Blocker>) -> Result<String, SFau
 {
     match blocker {
         Some(Blocker::NotHeld(place)) => place_text(alloc, place.place()),
-        Some(Blocker::NotListed(id)) => Ok(format!(in alloc; "unlisted {}", id.text())?),
-        Some(Blocker::NoEarlierFull) => Ok(String::from_str(alloc, "no earlier FULL")?),
+        Some(blocker) => Ok(format!(in alloc; "{blocker}")?),
         None => Ok(String::new(alloc)),
     }
 }

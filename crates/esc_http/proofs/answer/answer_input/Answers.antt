@@ -8,7 +8,7 @@ use Rattle.esc_http.proofs.answer.answer_input.Goals as goal
 pub returns-in-None-clause-answers : goal.returns-in-None-clause-answers
 returns-in-None-clause-answers g c =
     let none = rw c.in-None.is at c.in_ok-found.ensures.none in
-    (refused BadRequest, headless _ none, (refl, text_is _ _ c.refusal_response.result c.refusal_response.ensures.text))
+    (refused BadRequest, headless _ none, (refl, text_is _ c.refusal_response.result c.refusal_response.ensures.text))
 
 pub returns-in-Some-clause-answers : goal.returns-in-Some-clause-answers
 returns-in-Some-clause-answers g c =
