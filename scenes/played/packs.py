@@ -173,7 +173,7 @@ def descriptions_of_all_tables(stage):
     stage.check('describe files', Wanted(0, wanted, UNTOLD), program='pack')
 
 
-def paths_that_are_no_plain_files(stage):
+def paths_that_are_not_plain_files(stage):
     """A pipe, a link to it and a folder. Nobody writes the pipe, and it isn't waited for."""
     os.makedirs(stage.at('files/folder'))
     os.mkfifo(stage.at('files/pipe'))
@@ -186,4 +186,4 @@ def paths_that_are_no_plain_files(stage):
 
 
 SCENES = (bundles_of_files, bundles_of_descriptions, bundles_that_would_be_too_long, names_on_one_line, descriptions_of_all_tables,
-          paths_that_are_no_plain_files)
+          paths_that_are_not_plain_files)
