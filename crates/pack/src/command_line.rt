@@ -10,11 +10,11 @@ use esc_console::{Argument, ArgumentForm, DONE, Program, Subcommand, USAGE, tell
 use esc_pack::{ReleaseFault, manifest_of_bundles};
 use std::io::Write;
 
-/// What the program is asked to do.
+/// What the program is asked to do: the words live for `'a`, and what was matched of them for `'m`.
 #[derive(Clone, Copy)]
-enum Task<'a> {
+enum Task<'m, 'a> {
     /// Print the release manifest of the bundles at these paths.
-    Manifest { paths: &'a [&'a str] },
+    Manifest { paths: &'m [&'a str] },
     /// Write the bundle of a folder's files.
     Bundle(Bundling<'a>),
     /// Print the description that is proposed of a folder's files.
@@ -153,14 +153,17 @@ pub fn run_words<O: Write, E: Write>(
 }
 
 // What the matched words ask for. `clap` makes sure that there is a command with its arguments.
-fn task_of<'a>(matches: &'a ArgMatches<'a>) -> Option<Task<'a>> {
+fn task_of<'m, 'a>(matches: &'m ArgMatches<'a>) -> Option<Task<'m, 'a>> {
     let (name, given) = matches.subcommand()?;
     match name {
         "manifest" => {
             let paths = given.get_strs("bundle")?;
             Some(Task::Manifest { paths })
         }
-        "bundle" => bundle_task(given),
+        "bundle" => {
+            let bundling = bundling_of(given)?;
+            Some(Task::Bundle(bundling))
+        }
         "describe" => {
             let folder = given.get_str("folder")?;
             Some(Task::Describe { folder })
@@ -169,19 +172,19 @@ fn task_of<'a>(matches: &'a ArgMatches<'a>) -> Option<Task<'a>> {
     }
 }
 
-fn bundle_task<'a>(given: &ArgMatches<'a>) -> Option<Task<'a>> {
+fn bundling_of<'a>(given: &ArgMatches<'a>) -> Option<Bundling<'a>> {
     let envelope = given.get_str("envelope")?;
     let folder = given.get_str("folder")?;
     let target = given.get_str("target")?;
-    Some(Task::Bundle(Bundling {
+    Some(Bundling {
         envelope,
         folder,
         target,
-    }))
+    })
 }
 
 // Does what is asked for. Returns the status.
-fn run<O: Write, E: Write>(rt: &HostRuntime, task: Task<'_>, out: &mut O, err: &mut E) -> u8 {
+fn run<O: Write, E: Write>(rt: &HostRuntime, task: Task<'_, '_>, out: &mut O, err: &mut E) -> u8 {
     let done = match task {
         Task::Manifest { paths } => print_manifest(rt, paths, out),
         Task::Bundle(words) => write_bundle(rt, words),
