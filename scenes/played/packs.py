@@ -55,6 +55,33 @@ NAMES = (
     ('a\x7f\x85', r'a\u{7f}\u{85}'),
     ('a\\b \xe9', 'a\\b \xe9'),
 )
+# Each table that is known: what the names of its files begin with, its kind, and its own name, which is another one for a child table.
+TABLES = (
+    ('registrar', 'registrar', 'registrar'),
+    ('contact', 'contact', 'contact'),
+    ('contactPostal', 'contact', 'contactPostal'),
+    ('contactStatuses', 'contact', 'contactStatuses'),
+    ('contactTransfer', 'contact', 'contactTransfer'),
+    ('contactDisclose', 'contact', 'contactDisclose'),
+    ('host', 'host', 'host'),
+    ('hostAddresses', 'host', 'hostAddresses'),
+    ('hostStatuses', 'host', 'hostStatuses'),
+    ('domain', 'domain', 'domain'),
+    ('domainContacts', 'domain', 'domainContacts'),
+    ('domainNameServers', 'domain', 'domainNs'),
+    ('domainNameServersAddresses', 'domain', 'domainHostAttr'),
+    ('domainStatuses', 'domain', 'domainStatuses'),
+    ('domainTransfer', 'domain', 'domainTransfer'),
+    ('dnssec', 'domain', 'secDNS'),
+    ('idnLanguage', 'idn', 'idn'),
+    ('NNDN', 'nndn', 'nndn'),
+)
+# Those of deletes, each a parent table.
+DELETES = tuple((f'{stem}-delete', kind, name) for stem, kind, name in TABLES if name == kind)
+# A heading that has the key of each kind, and which of its fields that is.
+FIELDS = ['id', 'name', 'aName']
+KEYS = {'registrar': 'id', 'contact': 'id', 'host': 'name', 'domain': 'name', 'idn': 'id', 'nndn': 'aName'}
+UNTOLD = 'unknown id\nunknown type\nunknown watermark\n'
 # How long a bundle and each of its sections may be.
 MOST_BYTES = 16_777_216
 # A file of somewhat more than half as many bytes.
@@ -124,7 +151,29 @@ def names_on_one_line(stage):
             stage.check(f'manifest files/{name!r}', wanted, ['manifest', f'files/{name}'], program='pack')
 
 
-def paths_that_are_no_plain_files(stage):
+def files_of(stem):
+    """The names of two files of a table, in byte order."""
+    return [f'{stem}-1.csv', f'{stem}.csv']
+
+
+def proposed(tables, front=''):
+    """What is proposed for these tables; `front` is what the names of their sections begin with."""
+    return ',\n'.join(json.dumps({
+        'name': name, 'kind': kind, 'role': 'parent' if name == kind else 'child', 'key': KEYS[kind], 'file': f'{front}{name.lower()}.csv',
+        'heading': True, 'fields': FIELDS, 'from': files_of(stem)}, separators=(',', ':')) for stem, kind, name in tables)
+
+
+def descriptions_of_all_tables(stage):
+    """The description of files of all tables that are known, two of each, with a dash and a dot after what their names begin with."""
+    os.mkdir(stage.at('files'))
+    for name in (name for stem, _, _ in TABLES + DELETES for name in files_of(stem)):
+        stage.write(f'files/{name}', ','.join(FIELDS).encode())
+    front = '{"id":"ID","type":"FULL","watermark":"1970-01-01T00:00:00Z",\n'
+    wanted = f'{front}"contents":[{proposed(TABLES)}],\n"deletes":[{proposed(DELETES, "deleted-")}]}}\n'
+    stage.check('describe files', Wanted(0, wanted, UNTOLD), program='pack')
+
+
+def paths_that_are_not_plain_files(stage):
     """A pipe, a link to it and a folder. Nobody writes the pipe, and it isn't waited for."""
     os.makedirs(stage.at('files/folder'))
     os.mkfifo(stage.at('files/pipe'))
@@ -136,4 +185,5 @@ def paths_that_are_no_plain_files(stage):
     stage.check('describe files/pipe', Wanted(3, '', 'E1 files/pipe\n'), program='pack')
 
 
-SCENES = (bundles_of_files, bundles_of_descriptions, bundles_that_would_be_too_long, names_on_one_line, paths_that_are_no_plain_files)
+SCENES = (bundles_of_files, bundles_of_descriptions, bundles_that_would_be_too_long, names_on_one_line, descriptions_of_all_tables,
+          paths_that_are_not_plain_files)

@@ -1,5 +1,5 @@
 """The desk on a socket."""
-import contextlib, socket, struct
+import contextlib, os, resource, socket, struct, time
 
 from played.outputs import check_narrow, run_narrow
 from scening.stage import SECONDS, Failed, Got, Wanted, difference, pieces_of
@@ -199,4 +199,35 @@ def taken_port(stage):
     stage.compare(serving('a.db', port, 1)[0], Wanted(3, 'listening', 'E1 -\n'), got)
 
 
-SCENES = (connections, unwanted_body, broken_connections, taken_port)
+def open_files(child):
+    """The numbers of the files that a child has open."""
+    return {int(it) for it in os.listdir(f'/proc/{child.pid}/fd')}
+
+
+def accepted(child, before):
+    """The number of the connection that a child accepts. `before` are the files that it has open until then."""
+    for _ in range(100 * SECONDS):
+        if new := open_files(child) - before:
+            return min(new)
+        time.sleep(0.01)
+    raise Failed('no connection is accepted')
+
+
+def no_more_files(stage):
+    """Once no more files may be open no connection can be accepted, and none is waited for."""
+    set_up(stage)
+    port = free_port()
+    line, listening = f'serve --store a.db --port {port} --count 3', f'listening {HOST}:{port}\n'
+    child = stage.begin(line.split())
+    said, before = first_line(child), open_files(child)
+    with socket.create_connection((HOST, port), SECONDS) as client:
+        most = accepted(child, before)
+        resource.prlimit(child.pid, resource.RLIMIT_NOFILE, (most, most))
+        client.sendall(AROUND[0].encode())
+        client.shutdown(socket.SHUT_WR)
+        compare_responses((AROUND,), [response_of(client)])
+    got = stage.end(child)
+    stage.compare(line, Wanted(3, listening, f'E1 {HOST}:{port}\n'), Got(got.status, said + got.out, got.err))
+
+
+SCENES = (connections, unwanted_body, broken_connections, taken_port, no_more_files)

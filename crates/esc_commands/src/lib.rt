@@ -63,5 +63,4 @@ mod store_file;
 mod take;
 
 pub use commands::run_words;
-pub use serve::serve_streams;
 pub use stop::{NO_MEMORY, Stop, tell_stop};

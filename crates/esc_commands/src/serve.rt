@@ -7,7 +7,7 @@ use esc_console::DONE;
 use esc_desk::Desk;
 use esc_http::{ServeFault, serve_one};
 use sqlite::Alter;
-use std::io::{Error, Read, Write};
+use std::io::{Error, ErrorKind, Read, Write};
 use std::net::{Net, Shutdown, TcpListener, TcpStream};
 
 /// How many reads are spent at most on what a client still sends after its response: 32 MiB in all,
@@ -16,9 +16,19 @@ const READS_AFTER: usize = 2048;
 
 const BYTES_AT_ONCE: usize = 16_384;
 
-/// Listens on a port of 127.0.0.1, says so, and serves connections one after the other: one request
-/// each. A read or write that fails is reported, and the next connection is served; those of a
-/// client that was waited for too long fail too. Returns the status.
+/// What is reported of a connection from which no request can be read.
+const READ_FAULT: &[u8] = b"read fault\n";
+
+/// What is reported of one whose response can't be sent whole.
+const WRITE_FAULT: &[u8] = b"write fault\n";
+
+/// Linux's numbers of errors that a connection may have before it is accepted, and that have no
+/// `ErrorKind` of their own: ENONET, EPROTO, ENOPROTOOPT, EOPNOTSUPP and EHOSTDOWN.
+const UNNAMED_ERRORS: [i32; 5] = [64, 71, 92, 95, 112];
+
+/// Listens on a port of 127.0.0.1, says so, and serves so many connections one after the other: one
+/// request each. One that fails is reported, and the next is served; a client that was waited for
+/// too long fails too. Returns the status.
 pub fn serve_connections<N, S, O, E>(
     rt: &HostRuntime,
     net: &N,
@@ -46,26 +56,60 @@ where
     Ok(DONE)
 }
 
-// Serves the next connection. At `Err` there is none, since the listener failed.
+// Serves the next connection. One that failed before it was accepted is reported as one that can't
+// be read. At `Err` there is none, since the listener failed.
 fn serve_next<S: Alter, E: Write>(
     rt: &HostRuntime,
     desk: &mut Desk<S>,
     listener: &TcpListener,
     err: &mut E,
 ) -> Result<(), Error> {
-    let (stream, _address) = listener.accept()?;
-    let mut reader = Client::new(rt, &stream, Patience::for_request());
-    let mut writer = Client::new(rt, &stream, Patience::for_response());
-    if serve_streams(rt, desk, &mut reader, &mut writer, err) {
-        see_off(rt, &stream);
+    match listener.accept() {
+        Ok((stream, _address)) => serve_connection(rt, desk, &stream, err),
+        Err(error) if is_of_connection(&error) => tell_fault(err, READ_FAULT),
+        Err(error) => return Err(error),
     }
     Ok(())
+}
+
+// Whether an error of `accept` is one of the connection that was to be accepted: Linux reports there
+// what has happened to it. Each other one is the listener's, as where no file more may be open: the
+// next connection would fail the same way.
+fn is_of_connection(error: &Error) -> bool {
+    match error.kind() {
+        ErrorKind::ConnectionAborted
+        | ErrorKind::ConnectionReset
+        | ErrorKind::HostUnreachable
+        | ErrorKind::NetworkDown
+        | ErrorKind::NetworkUnreachable
+        | ErrorKind::PermissionDenied
+        | ErrorKind::TimedOut => true,
+        _ => error
+            .raw_os_error()
+            .is_some_and(|code| UNNAMED_ERRORS.contains(&code)),
+    }
+}
+
+// Serves one request over a connection. One that fails is reported.
+fn serve_connection<S: Alter, E: Write>(
+    rt: &HostRuntime,
+    desk: &mut Desk<S>,
+    stream: &TcpStream,
+    err: &mut E,
+) {
+    let mut reader = Client::new(rt, stream, Patience::for_request());
+    let mut writer = Client::new(rt, stream, Patience::for_response());
+    match serve_one(rt.alloc(), desk, &mut reader, &mut writer) {
+        Ok(()) => drain(rt, stream),
+        Err(ServeFault::Read) => tell_fault(err, READ_FAULT),
+        Err(ServeFault::Write) => tell_fault(err, WRITE_FAULT),
+    }
 }
 
 // Ends a connection whose response was sent. A client whose request was refused before its end may
 // still be sending. If nobody read that, it would find the connection broken and might miss its
 // response: so the rest is read and dropped, within limits.
-fn see_off(rt: &HostRuntime, stream: &TcpStream) {
+fn drain(rt: &HostRuntime, stream: &TcpStream) {
     if stream.shutdown(Shutdown::Write).is_err() {
         return;
     }
@@ -78,21 +122,7 @@ fn see_off(rt: &HostRuntime, stream: &TcpStream) {
     }
 }
 
-/// Serves one request over a reader and a writer. Returns whether the response was sent whole. A
-/// reader or a writer that fails is reported.
-pub fn serve_streams<S: Alter, R: Read, W: Write, E: Write>(
-    rt: &HostRuntime,
-    desk: &mut Desk<S>,
-    reader: &mut R,
-    writer: &mut W,
-    err: &mut E,
-) -> bool {
-    let line: &[u8] = match serve_one(rt.alloc(), desk, reader, writer) {
-        Ok(()) => return true,
-        Err(ServeFault::Read) => b"read fault\n",
-        Err(ServeFault::Write) => b"write fault\n",
-    };
+fn tell_fault<E: Write>(err: &mut E, fault: &[u8]) {
     // A failure of standard error is ignored: there is nowhere to report it.
-    let _ = err.write_all(line);
-    false
+    let _ = err.write_all(fault);
 }

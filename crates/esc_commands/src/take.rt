@@ -21,17 +21,37 @@ pub fn take_folder<S: Alter, O: Write, E: Write>(
 ) -> Result<u8, Stop> {
     let listing = or_stop(rt, folder, plain_files(rt, folder))?;
     print(rt, out, &receipts_heading(rt.alloc())?)?;
-    let mut status = DONE;
-    for _ in 0..listing.unnamed {
+    tell_unnamed(rt, err, listing.unnamed)?;
+    let are_held = take_files(rt, desk, folder, &listing.names, out, err)?;
+    if listing.unnamed == 0 && are_held {
+        Ok(DONE)
+    } else {
+        Ok(REFUSED)
+    }
+}
+
+// Reports so many names that are not UTF-8, and so no numbers.
+fn tell_unnamed<E: Write>(rt: &HostRuntime, err: &mut E, count: usize) -> Result<(), Stop> {
+    for _ in 0..count {
         tell(rt, err, "N1", "(a name that is no UTF-8)")?;
-        status = REFUSED;
     }
-    for name in &listing.names {
-        if !take_file(rt, desk, folder, name.as_str(), out, err)? {
-            status = REFUSED;
-        }
+    Ok(())
+}
+
+// Takes the files of these names, and says whether the deposits of all are held.
+fn take_files<S: Alter, O: Write, E: Write>(
+    rt: &HostRuntime,
+    desk: &mut Desk<S>,
+    folder: &str,
+    names: &[String],
+    out: &mut O,
+    err: &mut E,
+) -> Result<bool, Stop> {
+    let mut are_held = true;
+    for name in names {
+        are_held &= take_file(rt, desk, folder, name.as_str(), out, err)?;
     }
-    Ok(status)
+    Ok(are_held)
 }
 
 // Takes one file, and says whether its deposit is held. A name that is no number and a body that is

@@ -12,7 +12,7 @@ use std::io::{Error, ErrorKind, Read};
 pub enum Links {
     /// What it leads to is read.
     Followed,
-    /// It is no plain file.
+    /// It is not a plain file.
     Refused,
 }
 
@@ -21,7 +21,7 @@ pub enum Links {
 pub struct Listing {
     /// Their names, in byte order.
     pub names: Vec<String>,
-    /// How many names are no UTF-8.
+    /// How many names are not UTF-8.
     pub unnamed: usize,
 }
 
@@ -46,15 +46,16 @@ pub fn read_whole(
 /// in the length of what was read, and its end is not waited for. A pipe would be waited for until
 /// somebody writes it, and a device may have no end: so these are not opened.
 pub fn read_front(rt: &HostRuntime, path: &str, links: Links, most: u64) -> Result<Vec<u8>, Error> {
-    check_plain(match links {
-        Links::Followed => fs::metadata(rt, path),
-        Links::Refused => fs::symlink_metadata(rt, path),
-    })?;
+    let found = match links {
+        Links::Followed => fs::metadata(rt, path)?,
+        Links::Refused => fs::symlink_metadata(rt, path)?,
+    };
+    check_plain(&found)?;
     open_and_read(rt, path, most)
 }
 
-fn check_plain(found: Result<Metadata, Error>) -> Result<(), Error> {
-    if found?.is_file() {
+fn check_plain(found: &Metadata) -> Result<(), Error> {
+    if found.is_file() {
         Ok(())
     } else {
         Err(Error::from(ErrorKind::Unsupported))
@@ -64,13 +65,22 @@ fn check_plain(found: Result<Metadata, Error>) -> Result<(), Error> {
 // What was opened is looked at again: the path may have come to name something else.
 fn open_and_read(rt: &HostRuntime, path: &str, most: u64) -> Result<Vec<u8>, Error> {
     let file = File::open(rt, path)?;
-    check_plain(file.metadata())?;
-    let mut bytes = Vec::new(rt.alloc());
-    file.take(most.saturating_add(1)).read_to_end(&mut bytes)?;
+    let found = file.metadata()?;
+    check_plain(&found)?;
+    let limit = most.saturating_add(1);
+    let mut bytes = room_for(rt.alloc(), found.len().min(limit))?;
+    file.take(limit).read_to_end(&mut bytes)?;
     Ok(bytes)
 }
 
-/// The plain files of a folder. Folders, links, pipes and devices in it are passed over.
+// Room for a file of this length, so that it isn't moved while it grows: one byte more, since a
+// reader finds the end by a further read.
+fn room_for(alloc: Global, length: u64) -> Result<Vec<u8>, AllocError> {
+    Vec::with_capacity(alloc, (length as usize).saturating_add(1))
+}
+
+/// The plain files of a folder. Folders, links, pipes and devices in it are passed over, and so is
+/// a file that goes while the folder is listed.
 pub fn plain_files(rt: &HostRuntime, folder: &str) -> Result<Listing, Error>
     ensures rising { IfOk result (λ listing. IsSorted string_cmp listing.names.items) }
 {
@@ -98,16 +108,23 @@ impl Listing {
         }
     }
 
+    // A file that is gone again, as one that was renamed once its name was read, is passed over.
     fn add_plain(&mut self, alloc: Global, entry: &DirEntry) -> Result<(), Error> {
-        if entry.metadata()?.is_file() {
-            let name = String::from_str(alloc, entry.file_name())?;
-            self.names.push(name)?;
+        match entry.metadata() {
+            Ok(found) if found.is_file() => {
+                let name = String::from_str(alloc, entry.file_name())?;
+                self.names.push(name)?;
+                Ok(())
+            }
+            Ok(_) => Ok(()),
+            Err(error) if error.kind() == ErrorKind::NotFound => Ok(()),
+            Err(error) => Err(error),
         }
-        Ok(())
     }
 }
 
-/// The path of a file in a folder.
+/// The path of a file in a folder. The folder's own path may not be empty, as that of no folder is:
+/// the path would be that of a file in the root.
 pub fn path_in(alloc: Global, folder: &str, name: &str) -> Result<String, AllocError> {
     format!(in alloc; "{folder}/{name}")
 }

@@ -48,10 +48,11 @@
 //! # What the contracts mean
 //!
 //! By proof: that no call is unsafe and that each ends, whatever the words and files are; that
-//! [`read_whole`] gives no more bytes than it is asked for at most; and that [`tell_answer`] gives
-//! status 0 for help and for a version, and 2 for a mistake. No contract can say what a file holds
-//! or what is printed, so the texts and the order of names are tested on the built programs, by the
-//! scenes in `scenes/`.
+//! [`read_whole`] gives no more bytes than it is asked for at most (`bound`); that the names that
+//! [`plain_files`] gives are in byte order (`rising`); and that [`tell_answer`] gives status 0 for
+//! help and for a version (`asked`), and 2 for a mistake (`mistaken`). No contract can say what a
+//! file holds, which names a folder has, or what is printed, so these are tested on the built
+//! programs, by the scenes in `scenes/`.
 #![tactic(auto)]
 
 mod answers;
@@ -64,4 +65,4 @@ pub use answers::{DONE, USAGE, tell_answer};
 pub use files::{Links, Listing, path_in, plain_files, read_front, read_whole};
 pub use one_line::OneLine;
 pub use table::{Argument, ArgumentForm, Program, Subcommand};
-pub use words::{given_words, tell_no_text};
+pub use words::{given_words, tell_invalid_utf8};

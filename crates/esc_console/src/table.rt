@@ -63,8 +63,8 @@ impl Program {
             .after_help(self.details)
             .subcommand_required(true)
             .arg_required_else_help(true);
-        for form in self.commands {
-            command = command.subcommand(form.command(alloc, self.shared)?)?;
+        for subcommand in self.commands {
+            command = command.subcommand(subcommand.command(alloc, self.shared)?)?;
         }
         Ok(command)
     }

@@ -26,6 +26,29 @@
 //! deposits that no manifest can list (`Unlisted`, M1 to M13 at a row), such as two with one place
 //! and resend, or one id in two places.
 //!
+//! `describe_files` takes the files of a folder, each with its name and its bytes, and proposes a
+//! description for `bundle_of_files` where an agent sent none (`Proposal`): a text with each table
+//! that is known by the name of a file (`KnownTable`), whose fields are those of the file's first
+//! row; and the files that it doesn't name (`Unknown`), each with the reason (`Why`). What no file
+//! says it leaves to its reader: the id is `ID`, the type `FULL`, the watermark the beginning of
+//! 1970. It looks at the first row alone, and at that only of files whose names are known.
+//!
+//! ```text
+//! let contacts = FolderFile { name: "contact-1.csv", bytes: b"id,clID\nC1,R1\n" };
+//! let notes = FolderFile { name: "notes.txt", bytes: b"" };
+//! let proposal = describe_files(alloc, &[contacts, notes])?;
+//! // proposal.text:
+//! // {"id":"ID","type":"FULL","watermark":"1970-01-01T00:00:00Z",
+//! // "contents":[{"name":"contact","kind":"contact","role":"parent","key":"id",
+//! //     "file":"contact.csv","heading":true,"fields":["id","clID"],"from":["contact-1.csv"]}],
+//! // "deletes":[]}
+//! // proposal.unknown: "notes.txt", Why::Name
+//! ```
+//!
+//! `read_sources` says of a description which files have the rows of each table, and whether they
+//! begin with a heading (`Sources`): so a caller knows which bytes `bundle_of_files` is to be given.
+//! It gives `None` where the members `from` and `heading` of a table have another form.
+//!
 //! # What the contracts mean
 //!
 //! `specs/GivenRows.antt` says which rows files have, and `specs/Bundling.antt` what their bundle
@@ -37,6 +60,14 @@
 //! those rows, and `read_manifest` reads it as exactly those rows (`IsManifestOf`); a refusal
 //! applies to these bundles (`IsRefused`), or memory was refused, of which the contract says
 //! nothing more.
+//!
+//! `specs/KnownTables.antt` says which tables are known by names, `specs/TableFiles.antt` which
+//! files a description names (`sources_of`): `read_sources` gives just these.
+//! `specs/Describing.antt` says what a proposal is (`IsProposalOf`): its text is read as an envelope
+//! and, table by table, as the files that it names; each file of the folder is named in the table
+//! that its name stands for, with a heading, or is among the unknown ones; and that its name stands
+//! for no table is said of just such files. No clause says which fields are proposed, nor that the
+//! heading is the reason where it is said to be.
 #![tactic(auto)]
 
 mod bundle;

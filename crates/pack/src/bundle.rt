@@ -1,6 +1,6 @@
 //! `bundle --envelope FILE DIR OUT`: one bundle of an agent's files.
 
-use crate::files::{place_file, read_bundle, read_files, slices_of};
+use crate::files::{check_folder, place_file, read_file, read_files, slices_of};
 use crate::stop::{Refusal, Stop};
 use esc_bundle::Fault;
 use esc_console::path_in;
@@ -26,8 +26,9 @@ pub fn write_bundle(rt: &HostRuntime, words: Bundling<'_>) -> Result<(), Stop> {
 
 // The bundle of the files that the description declares.
 fn described_bundle(rt: &HostRuntime, words: Bundling<'_>) -> Result<Vec<u8>, Stop> {
-    let description = read_bundle(rt, words.envelope)?;
+    let description = read_file(rt, words.envelope)?;
     let sources = sources_of(rt, &description, words.envelope)?;
+    check_folder(rt, words.folder)?;
     bundle_of_sources(rt, words, &description, &sources)
 }
 

@@ -6,9 +6,20 @@ use crate::files::{read_bundles, slices_of};
 use crate::stop::{Refusal, Stop, print, tell_stop};
 use clap::builder::ValueParser;
 use clap::{ArgMatches, Error};
-use esc_console::{Argument, ArgumentForm, DONE, Program, Subcommand, tell_answer};
+use esc_console::{Argument, ArgumentForm, DONE, Program, Subcommand, USAGE, tell_answer};
 use esc_pack::{ReleaseFault, manifest_of_bundles};
 use std::io::Write;
+
+/// What the program is asked to do: the words live for `'a`, and what was matched of them for `'m`.
+#[derive(Clone, Copy)]
+enum Task<'m, 'a> {
+    /// Print the release manifest of the bundles at these paths.
+    Manifest { paths: &'m [&'a str] },
+    /// Write the bundle of a folder's files.
+    Bundle(Bundling<'a>),
+    /// Print the description that is proposed of a folder's files.
+    Describe { folder: &'a str },
+}
 
 /// The version of the program, and that of the stores that `restore` makes of what it writes.
 const VERSION: &str = "1 (store version 2)";
@@ -114,7 +125,7 @@ static PROGRAM: Program = Program {
             about: "Proposes a description of a folder's CSV files, by their names and their headings",
             details: Some(PROPOSAL),
             arguments: &[Argument {
-                id: "described",
+                id: "folder",
                 form: ArgumentForm::Word,
                 value_name: "DIR",
                 values: ValueParser::String,
@@ -131,42 +142,36 @@ pub fn run_words<O: Write, E: Write>(
     out: &mut O,
     err: &mut E,
 ) -> u8 {
-    let told = match PROGRAM.matches_of(rt.alloc(), words) {
-        Ok(matches) => answer(rt, &matches, err),
+    let matches = match PROGRAM.matches_of(rt.alloc(), words) {
+        Ok(matches) => matches,
         Err(error) => return tell_error(rt, &error, out, err),
     };
-    let printed = match told {
-        Ok(text) => print(rt, out, &text),
-        Err(stop) => Err(stop),
-    };
-    match printed {
-        Ok(()) => DONE,
-        Err(stop) => tell_stop(rt, err, &stop),
+    match task_of(&matches) {
+        Some(task) => run(rt, task, out, err),
+        None => USAGE,
     }
 }
 
-// What is printed for these words. `clap` has seen to it that there is a command with arguments.
-fn answer<E: Write>(
-    rt: &HostRuntime,
-    matches: &ArgMatches<'_>,
-    err: &mut E,
-) -> Result<Vec<u8>, Stop> {
-    let Some((_, given)) = matches.subcommand() else {
-        return Ok(Vec::new(rt.alloc()));
-    };
-    if let Some(words) = bundling_of(given) {
-        write_bundle(rt, words)?;
-    }
-    if let Some(folder) = given.get_str("described") {
-        return print_description(rt, folder, err);
-    }
-    match given.get_strs("bundle") {
-        Some(paths) => manifest(rt, paths),
-        None => Ok(Vec::new(rt.alloc())),
+// What the matched words ask for. `clap` makes sure that there is a command with its arguments.
+fn task_of<'m, 'a>(matches: &'m ArgMatches<'a>) -> Option<Task<'m, 'a>> {
+    let (name, given) = matches.subcommand()?;
+    match name {
+        "manifest" => {
+            let paths = given.get_strs("bundle")?;
+            Some(Task::Manifest { paths })
+        }
+        "bundle" => {
+            let bundling = bundling_of(given)?;
+            Some(Task::Bundle(bundling))
+        }
+        "describe" => {
+            let folder = given.get_str("folder")?;
+            Some(Task::Describe { folder })
+        }
+        _ => None,
     }
 }
 
-// The words of `bundle`, where it is that command.
 fn bundling_of<'a>(given: &ArgMatches<'a>) -> Option<Bundling<'a>> {
     let envelope = given.get_str("envelope")?;
     let folder = given.get_str("folder")?;
@@ -178,19 +183,40 @@ fn bundling_of<'a>(given: &ArgMatches<'a>) -> Option<Bundling<'a>> {
     })
 }
 
-// `describe DIR`: the description is printed, and what it can't tell goes to standard error.
-fn print_description<E: Write>(
-    rt: &HostRuntime,
-    folder: &str,
-    err: &mut E,
-) -> Result<Vec<u8>, Stop> {
-    let described = describe(rt, folder)?;
-    let _ = err.write_all(described.unknown.as_bytes());
-    Ok(described.text)
+// Does what is asked for. Returns the status.
+fn run<O: Write, E: Write>(rt: &HostRuntime, task: Task<'_, '_>, out: &mut O, err: &mut E) -> u8 {
+    let done = match task {
+        Task::Manifest { paths } => print_manifest(rt, paths, out),
+        Task::Bundle(words) => write_bundle(rt, words),
+        Task::Describe { folder } => print_description(rt, folder, out, err),
+    };
+    match done {
+        Ok(()) => DONE,
+        Err(stop) => tell_stop(rt, err, &stop),
+    }
 }
 
-// `manifest BUNDLE..`: the release manifest of the bundles at these paths.
-fn manifest(rt: &HostRuntime, paths: &[&str]) -> Result<Vec<u8>, Stop> {
+// `describe DIR`: the description is printed, and what it can't tell goes to standard error.
+fn print_description<O: Write, E: Write>(
+    rt: &HostRuntime,
+    folder: &str,
+    out: &mut O,
+    err: &mut E,
+) -> Result<(), Stop> {
+    let described = describe(rt, folder)?;
+    // A failure of standard error is ignored: there is nowhere to report it.
+    let _ = err.write_all(described.unknown.as_bytes());
+    print(rt, out, &described.text)
+}
+
+// `manifest BUNDLE..`: the release manifest is printed.
+fn print_manifest<O: Write>(rt: &HostRuntime, paths: &[&str], out: &mut O) -> Result<(), Stop> {
+    let text = manifest_at(rt, paths)?;
+    print(rt, out, &text)
+}
+
+// The release manifest of the bundles at these paths.
+fn manifest_at(rt: &HostRuntime, paths: &[&str]) -> Result<Vec<u8>, Stop> {
     let files = read_bundles(rt, paths)?;
     let bodies = slices_of(rt, &files)?;
     match manifest_of_bundles(rt.alloc(), &bodies) {

@@ -1,9 +1,9 @@
 //! `describe DIR`: a description of a folder's files.
 
-use crate::files::read_files;
+use crate::files::read_named;
 use crate::stop::{Refusal, Stop, or_stop};
 use esc_console::plain_files;
-use esc_pack::{BundleFault, FolderFile, Proposal, Unknown, describe_files};
+use esc_pack::{BundleFault, FolderFile, KnownTable, Proposal, Unknown, describe_files};
 
 /// What no file says, so that the description has placeholders for it.
 const UNTOLD: &str = "unknown id\nunknown type\nunknown watermark\n";
@@ -28,12 +28,45 @@ pub fn describe(rt: &HostRuntime, folder: &str) -> Result<Description, Stop> {
 
 // The description of the files of these names.
 fn proposal_of(rt: &HostRuntime, folder: &str, names: &[String]) -> Result<Proposal, Stop> {
-    let bodies = read_files(rt, folder, names)?;
+    let bodies = read_known(rt, folder, names)?;
     let files = named_files(rt, names, &bodies)?;
     match describe_files(rt.alloc(), &files) {
         Ok(proposal) => Ok(proposal),
         Err(BundleFault::NoMemory) => Err(Stop::NoMemory),
         Err(_) => Err(Stop::at(rt, Refusal::Undescribed, folder)),
+    }
+}
+
+// The bytes of the files by whose names a table is known, and none of each other one: whatever else
+// is in the folder needn't be readable, and may have any length.
+fn read_known(rt: &HostRuntime, folder: &str, names: &[String]) -> Result<Vec<Vec<u8>>, Stop> {
+    let mut bodies = Vec::new(rt.alloc());
+    for name in names {
+        bodies.push(bytes_if_known(rt, folder, name.as_str())?)?;
+    }
+    Ok(bodies)
+}
+
+fn bytes_if_known(rt: &HostRuntime, folder: &str, name: &str) -> Result<Vec<u8>, Stop> {
+    if is_known(name) {
+        read_named(rt, folder, name)
+    } else {
+        Ok(Vec::new(rt.alloc()))
+    }
+}
+
+// Whether a table is known by a file's name.
+fn is_known(name: &str) -> bool {
+    KnownTable::ALL
+        .iter()
+        .any(|table| begins_with(name, table.file_stem()))
+}
+
+// Whether a name begins with a stem, before a dash or a dot.
+fn begins_with(name: &str, stem: &str) -> bool {
+    match name.strip_prefix(stem) {
+        Some(rest) => rest.starts_with('-') || rest.starts_with('.'),
+        None => false,
     }
 }
 

@@ -10,7 +10,7 @@ use std::io::{Error, ErrorKind, Write};
 pub fn read_bundles(rt: &HostRuntime, paths: &[&str]) -> Result<Vec<Vec<u8>>, Stop> {
     let mut bundles = Vec::new(rt.alloc());
     for path in paths {
-        bundles.push(read_bundle(rt, path)?)?;
+        bundles.push(read_file(rt, path)?)?;
     }
     Ok(bundles)
 }
@@ -24,9 +24,10 @@ pub fn read_files(rt: &HostRuntime, folder: &str, names: &[String]) -> Result<Ve
     Ok(files)
 }
 
-fn read_named(rt: &HostRuntime, folder: &str, name: &str) -> Result<Vec<u8>, Stop> {
+/// The bytes of the file with this name in a folder.
+pub fn read_named(rt: &HostRuntime, folder: &str, name: &str) -> Result<Vec<u8>, Stop> {
     let path = path_in(rt.alloc(), folder, name)?;
-    read_bundle(rt, path.as_str())
+    read_file(rt, path.as_str())
 }
 
 /// The bytes of files, borrowed.
@@ -39,11 +40,21 @@ pub fn slices_of<'a>(rt: &HostRuntime, files: &'a [Vec<u8>]) -> Result<Vec<&'a [
 }
 
 /// The bytes of a plain file of at most 16,777,216 bytes.
-pub fn read_bundle(rt: &HostRuntime, path: &str) -> Result<Vec<u8>, Stop> {
+pub fn read_file(rt: &HostRuntime, path: &str) -> Result<Vec<u8>, Stop> {
     let bytes = read_whole(rt, path, Links::Followed, MOST_BYTES as u64);
     match or_stop(rt, path, bytes)? {
         Some(bytes) => Ok(bytes),
         None => Err(Stop::at(rt, Refusal::TooLarge, path)),
+    }
+}
+
+/// `E1` where there is no folder at a path. None is at an empty one, which with a name after it would
+/// be the path of a file in the root.
+pub fn check_folder(rt: &HostRuntime, path: &str) -> Result<(), Stop> {
+    if or_stop(rt, path, fs::metadata(rt, path))?.is_dir() {
+        Ok(())
+    } else {
+        Err(Stop::at(rt, Refusal::Unreadable, path))
     }
 }
 

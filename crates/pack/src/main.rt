@@ -9,13 +9,13 @@
 //!   files don't.
 //! - `pack --version`, `pack --help`.
 //!
-//! Refusals go to standard error, and no manifest is printed then: `E1 PATH` for a file that can't
-//! be read (`E1 -`: standard output can't be written), `E2 PATH` for one over 16,777,216 bytes,
-//! `U9 PATH` for a bundle that is no deposit (with `row 2` for a row of a file with another number
-//! of fields), `M10 row 2` for deposits that no manifest lists, `H1 PATH` for a file that doesn't
-//! begin with its heading, `H2 PATH` for rows that begin with a byte order mark, `H3 DIR` for a
-//! folder whose description doesn't read back, `S2` when out of memory. A control character in a
-//! path is escaped. The status is 0 where all went well; 1 for E2, U, M and H; 2 for other words; 3
+//! Refusals go to standard error, and no manifest is printed then: `E1 PATH` for a file or a folder
+//! that can't be read (`E1 -`: standard output can't be written), `E2 PATH` for a file over
+//! 16,777,216 bytes, `U9 PATH` for a bundle that is no deposit (with `row 2` for a row of a file
+//! with another number of fields), `M10 row 2` for deposits that no manifest lists, `H1 PATH` for a
+//! file that doesn't begin with its heading, `H2 PATH` for rows that begin with a byte order mark,
+//! `H3 DIR` for a folder whose description doesn't read back, `S2` when out of memory. A control
+//! character in a path is escaped. The status is 0 where all went well; 1 for E2, U, M and H; 2 for other words; 3
 //! for E1 and S2.
 //!
 //! | Module | Does |
@@ -39,7 +39,7 @@ mod files;
 mod stop;
 
 use command_line::run_words;
-use esc_console::{given_words, tell_no_text};
+use esc_console::{given_words, tell_invalid_utf8};
 use std::process::ExitCode;
 use stop::{Stop, tell_stop};
 
@@ -51,7 +51,7 @@ fn main(rt: HostRuntime) -> ExitCode {
 fn run(rt: &HostRuntime) -> u8 {
     match given_words(rt, "pack") {
         Ok(Some(given)) => run_words(rt, &given, &mut rt.stdout(), &mut rt.stderr()),
-        Ok(None) => tell_no_text(&mut rt.stderr()),
+        Ok(None) => tell_invalid_utf8(&mut rt.stderr()),
         Err(_) => tell_stop(rt, &mut rt.stderr(), &Stop::NoMemory),
     }
 }

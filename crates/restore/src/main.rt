@@ -33,7 +33,7 @@
 #![tactic(auto)]
 
 use esc_commands::{NO_MEMORY, run_words, tell_stop};
-use esc_console::{given_words, tell_no_text};
+use esc_console::{given_words, tell_invalid_utf8};
 use std::net::{Net, TcpListener, TcpStream};
 use std::process::ExitCode;
 
@@ -48,7 +48,7 @@ where
 {
     match given_words(rt, "restore") {
         Ok(Some(given)) => run_words(rt, net, &given, &mut rt.stdout(), &mut rt.stderr()),
-        Ok(None) => tell_no_text(&mut rt.stderr()),
+        Ok(None) => tell_invalid_utf8(&mut rt.stderr()),
         Err(_) => tell_stop(rt, &mut rt.stderr(), &NO_MEMORY),
     }
 }
