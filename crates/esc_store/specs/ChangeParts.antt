@@ -4,6 +4,7 @@ use Rattle.sqlite.specs.Effect.{Database}
 use Rattle.sqlite.specs.State.{State}
 use Rattle.esc_rows.specs.Content.{Content, HoldsContent}
 use Rattle.esc_rows.specs.Changes.{Becomes, last_number, steps_before}
+use Rattle.esc_store.specs.declared.books.TheConstants.{MOST_RECEIPTS}
 use Rattle.esc_store.specs.ReplyValue.{ReceiptValue}
 use Rattle.esc_store.specs.TypedRows.{receipt_row, steps_from}
 
@@ -21,7 +22,7 @@ AddsNext r = Becomes (with_next_receipt r)
 -- a transaction is on, and the store has 1,000,000,000 receipts
 abbrev pub IsFull : State → Type 0
 IsFull s = (s.in_transaction ≡ true)
-    × ((c : Content) → HoldsContent s.now c → 1_000_000_000 ≤ last_number c.receipts)
+    × ((c : Content) → HoldsContent s.now c → MOST_RECEIPTS ≤ last_number c.receipts)
 
 -- a content with these rows as the steps of the chain from this number on; those before it stay
 abbrev pub with_steps_from : ℕ → List ℕ → Content → Content

@@ -28,7 +28,7 @@ impl<S: Alter> Store<S> {
             (AddsNext receipt.now) result }
         ensures number { IfOk result (λ n. IsHonest S.Store self.new
             → Tells (λ c n. n ≡ next_number c) (state S.Store self.old.conn).now n) }
-        ensures room { IfOk result (λ n. n ≤ 1_000_000_000) }
+        ensures room { IfOk result (λ n. n ≤ MOST_RECEIPTS) }
         ensures full { IfErr result (λ fault. fault ≡ SFault.S4 → IsHonest S.Store self.new
             → IsFull (state S.Store self.old.conn)) }
         ensures cause { IfErr result IsS1OrS2OrS4 }

@@ -41,6 +41,7 @@ ghost use Rattle.esc_store.specs.Standing.{
   writes_of,
 };
 
+use crate::books::MOST_RECEIPTS;
 use crate::codec::small;
 use crate::codec::step::stored_steps;
 use crate::fault::SFault;
@@ -75,22 +76,24 @@ impl<'a, S: Alter> Change<'a, S> {
             → Rest S.Store self.old before k → n ≡ length k.receipts + 1) }
         ensures holds { OnOk result ((s : State) → HoldsNow S.Store self.old s
             → HoldsNow S.Store self.new s) }
-        ensures room { IfOk result (λ n. n ≤ 1_000_000_000) }
+        ensures room { IfOk result (λ n. n ≤ MOST_RECEIPTS) }
         ensures full { IfErr result (λ e. e ≡ SFault.S4 → IsHonest S.Store (store_in self.new)
             → (before k : Kept) → Rest S.Store self.old before k
-            → 1_000_000_000 ≤ length k.receipts) }
+            → MOST_RECEIPTS ≤ length k.receipts) }
         ensures cause { IfErr result IsS1OrS2OrS4 }
     {
         self.store.add_next_here(receipt)
     }
 
-    /// Stores the body of a listed row that has none yet. `S1`, `S2`.
+    /// Stores the body of a listed row. `S1`, also if the row has a body already; `S2`.
     pub fn hold(&mut self, row: usize, body: &[u8]) -> Result<(), SFault>
         ensures goes_on { GoesOn S.Store self.old self.new }
         ensures count { count_of self.new ≡ count_of self.old }
         ensures held { OnOk result ((before k : Kept) → k.bodies row ≡ None
             → Rest S.Store self.old before k
             → Rest S.Store self.new before (with_body k row body.now)) }
+        ensures free { OnOk result (IsHonest S.Store (store_in self.new) → (before k : Kept)
+            → Rest S.Store self.old before k → k.bodies row ≡ None) }
         ensures holds { OnOk result ((s : State) → HoldsNow S.Store self.old s
             → HoldsNow S.Store self.new s) }
         ensures cause { IfErr result IsS1OrS2 }
@@ -105,6 +108,8 @@ impl<'a, S: Alter> Change<'a, S> {
         ensures count { self.new.count ≡ self.old.count }
         ensures held { OnOk result ((before k : Kept) → Rest S.Store self.old before k
             → Rest S.Store self.new before (with_body k row body.now)) }
+        ensures free { OnOk result (IsHonest S.Store (store_in self.new) → (before k : Kept)
+            → Rest S.Store self.old before k → k.bodies row ≡ None) }
         ensures holds { OnOk result ((s : State) → HoldsNow S.Store self.old s
             → HoldsNow S.Store self.new s) }
         ensures cause { IfErr result IsS1OrS2 }

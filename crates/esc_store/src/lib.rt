@@ -87,5 +87,6 @@ pub use fault::SFault;
 pub use form::number;
 pub use numbers::{N1, Number};
 pub use parked::MOST_PARKED;
+pub use reads::MOST_ON_PAGE;
 pub use reply::{Receipt, Reply, Verdict};
 pub use store::Store;

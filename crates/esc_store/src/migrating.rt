@@ -38,6 +38,9 @@ use esc_rows::transaction::{begin_in, commit_in};
 use sqlite::{Alter, Connection, Error};
 use std::alloc::Global;
 
+/// The version of the stores that become those of this version.
+pub(crate) const FIRST_VERSION: i64 = 1;
+
 // Tests that the database has the tables of version 1. `S3` where it has not.
 fn test_first<S: Alter>(conn: &mut Connection<S>) -> Result<(), SFault>
     ensures survives { Survives (state S.Store conn.old) (state S.Store conn.new) (λ _. ⊥) }
@@ -55,7 +58,7 @@ fn test_first<S: Alter>(conn: &mut Connection<S>) -> Result<(), SFault>
     if !has_first_tables(conn) {
         return Err(SFault::S3);
     }
-    if find_version(conn)? != Some(1) {
+    if find_version(conn)? != Some(FIRST_VERSION) {
         return Err(SFault::S3);
     }
     Ok(())
