@@ -229,6 +229,10 @@ books_steps k front at rows at_is within c c' turn books = subst (λ x. IsBooks 
 pub registry_steps : (s : Tables) (at : ℕ) (rows : List ℕ) (c c' : Content) → Becoming (with_steps_from at rows) c c' → IsRegistry c s → IsRegistry c' s
 registry_steps s at rows c c' turn it = subst (λ x. IsRegistry x s) (sym turn.is) (record { objects = it.objects; images = it.images; recorded = it.recorded; noted = it.noted })
 
+-- a list of stored steps that is this one, numbered from a number that is this one
+pub numbered : (n m : ℕ) (ss ts : List ChainStep) (rows : List ℕ) → n ≡ m → ts ≡ ss → map step_row ss ≡ steps_from n rows → map step_row ts ≡ steps_from m rows
+numbered n m ss ts rows same list e = rw (list, sym same) e
+
 -- ---- one step more
 
 -- no step is past the front

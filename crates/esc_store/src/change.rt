@@ -8,7 +8,6 @@ ghost use Rattle.std.specs.Prelude.{
   ◌-◌,
   ◌^◌,
   ◌++◌,
-  ℕ,
   None,
   min,
   map,
@@ -20,9 +19,7 @@ ghost use Rattle.std.specs.Prelude.{
   IfErr,
 };
 ghost use Rattle.esc_apply.specs.Registry.{State};
-ghost use Rattle.esc_rows.specs.Entries.{step_row};
 ghost use Rattle.esc_store.specs.Faults.{IsS1OrS2, IsS1OrS2OrS4};
-ghost use Rattle.esc_store.specs.TypedRows.{steps_from};
 ghost use Rattle.esc_store.specs.Kept.{Kept, with_receipt, with_body, with_steps, with_registry};
 ghost use Rattle.esc_store.specs.Standing.{
   Stands,
@@ -50,7 +47,6 @@ use crate::store::Store;
 use esc_apply::Step;
 use esc_manifest::Manifest;
 use esc_rows::held::insert_held;
-use esc_rows::step::ChainStep;
 use sqlite::Alter;
 
 /// A change of a store: one transaction. `commit` makes all of it; where it is dropped, nothing has
@@ -147,24 +143,7 @@ impl<'a, S: Alter> Change<'a, S> {
     {
         let stored = stored_steps(self.store.alloc, front, steps)?;
         let from = small(front.saturating_add(1))?;
-        self.set_rows(from, stored.as_slice(), steps)
-    }
-
-    // Makes the rows of these steps those of the table of steps from this number on.
-    fn set_rows(&mut self, from: u32, stored: &[ChainStep], steps: &[Step]) -> Result<(), SFault>
-        requires { map step_row stored.now ≡ steps_from from (map (λ step. step.row) steps.now) }
-        ensures goes_on { GoesOn S.Store self.old self.new }
-        ensures count { self.new.count ≡ self.old.count }
-        ensures set { OnOk result ((before k : Kept) (front : ℕ) → from ≡ front + 1
-            → front ≤ length k.steps → Rest S.Store self.old before k
-            → Rest S.Store self.new before
-            (with_steps k (take front k.steps ++ map (λ step. step.row) steps.now))) }
-        ensures holds { OnOk result ((s : State) → HoldsNow S.Store self.old s
-            → HoldsNow S.Store self.new s) }
-        ensures cause { IfErr result IsS1OrS2 }
-    {
-        let _ = steps;
-        self.store.continue_steps_here(from, stored)
+        self.store.continue_steps_here(from, stored.as_slice())
     }
 
     /// Commits the whole change at once. At `Err` (`S1`, `S2`) nothing has changed, but a crash may
