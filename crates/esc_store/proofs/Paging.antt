@@ -1,5 +1,5 @@
 -- From rows of the table of objects to a page of them.
-use Rattle.std.proofs.Common.{◌≡◌, ℕ, ◌+◌, ◌<◌, ◌==◌, ◌&&◌, Bool, true, false, cond, List, [], ◌∷◌, ◌++◌, map, take, length, get_or, Option, None, Some, option_map, refl, sym, ap, subst, ◌∙◌, inl, inr, Ordering, Less}
+use Rattle.std.proofs.Common.{◌≡◌, ℕ, ◌+◌, ◌<◌, ◌≤◌, ◌==◌, ◌&&◌, Bool, true, false, cond, List, [], ◌∷◌, ◌++◌, map, filter, take, length, get_or, Option, None, Some, option_map, refl, sym, ap, subst, ◌∙◌, inl, inr, Ordering, Less, arith}
 use Rattle.std.specs.Prelude.{bytes_eq, find}
 use Rattle.std.specs.List.Sorted.{IsStrictlySortedBy}
 use Rattle.std.specs.Map.{lookup}
@@ -7,8 +7,9 @@ use Rattle.std.specs.Ordering.{nat_cmp, ordering_then}
 use Rattle.std.specs.Cmp.Lexicographic.{slice_cmp}
 use Rattle.std.specs.List.{last_or}
 use Rattle.std.proofs.lemmas.Bool.{cases_Bool}
-use Rattle.std.proofs.lemmas.List.{map-append, take_more}
+use Rattle.std.proofs.lemmas.List.{map-append, take_more, length-map, length-take}
 use Rattle.sqlite_trees.specs.Tree.{IsAscending}
+use Rattle.sqlite_keyed.specs.Lists.{sort_by}
 use Rattle.sqlite_keyed.proofs.ListLemmas.{ascending-map, ascending_from_map, all_map}
 use Rattle.esc_envelope.specs.declared.kind.Kind.{Kind}
 use Rattle.esc_envelope.specs.Kinds.{kind_rank}
@@ -18,7 +19,8 @@ use Rattle.esc_apply.specs.ObjectStreams.{Entry, InOrder}
 use Rattle.esc_apply.specs.Registry.{State}
 use Rattle.esc_tables.specs.KeyLaws.{keys_alike}
 use Rattle.esc_rows.specs.Content.{Content, object_at}
-use Rattle.esc_rows.specs.Changes.{ObjectEntry, by_entry, entry_at, is_entry_at, is_from, is_up_to, last_key, ListsFrom}
+use Rattle.esc_rows.specs.Changes.{ObjectEntry, object_entry, by_key, by_entry, entry_at, is_entry_at, is_from, is_kind_from, is_up_to, last_key, ListsFrom}
+use Rattle.esc_store.specs.declared.reads.TheConstants.{MOST_ON_PAGE}
 use Rattle.esc_store.specs.Pages.{IsPage, last_text, is_on_page, entry_row, stored_row}
 use Rattle.esc_store.specs.TypedRows.{IsRegistry}
 use Rattle.esc_store.proofs.Gathering.{tests_alike, same_records, record_here}
@@ -88,6 +90,15 @@ page_is s c kind from rows es it lists same = record { order = order_is rows es 
     each : (q : KeyName) → lookup (key_eq q) es ≡ cond (is_on_page kind from (last_text es) q) (s.content q) None
     each q = here q (is_on_page kind from (last_text es) q) (shown_alike q rows es same ∙ ap (option_map (λ bytes. Some bytes)) (lists.same (kind_rank q.kind) q.text
         ∙ ap (λ l. cond ((kind_rank kind == kind_rank q.kind) && is_from from q.text && is_up_to l q.text) (object_at (kind_rank q.kind) q.text c.objects) None) (last_is rows es same)))
+
+-- such a page has at most 256 entries
+pub page_short : (c : Content) (kind : Kind) (from : List ℕ) (rows : List ObjectEntry) (es : List Entry) → ListsFrom (kind_rank kind) from c rows → map entry_row es ≡ map stored_row rows → length es ≤ MOST_ON_PAGE
+page_short c kind from rows es lists same =
+    let all = sort_by by_key (filter (is_kind_from (kind_rank kind) from) c.objects) in
+    let taken = length-take 256 all in
+    let shown : length rows ≡ length (take 256 all) = ap length lists.first ∙ length-map (take 256 all) object_entry in
+    let here : length es ≡ length rows = sym (length-map es entry_row) ∙ (ap length same ∙ length-map rows stored_row) in
+    omega (arith, taken, shown, here)
 
 -- ---- one row more
 

@@ -1,6 +1,6 @@
 -- What parts do to rows, receipts, bodies and steps.
-use Rattle.std.proofs.Common.{◌≡◌, ℕ, zero, suc, take, get_or, ◌+◌, ◌<◌, ◌≤◌, ltb, Bool, true, false, filter, List, Option, [], ◌∷◌, ◌++◌, length, map, Some, refl, sym, ap, subst, ◌∙◌, arith}
-use Rattle.std.specs.Prelude.{IsTrue, Result, Ok, Err, OnOk, pos, ◌<ℤ◌, ℤ, ◌==◌, if◌then◌else◌, option_map}
+use Rattle.std.proofs.Common.{◌≡◌, ℕ, zero, suc, take, get_or, ◌+◌, ◌<◌, ◌≤◌, ltb, Bool, true, false, filter, List, Option, [], ◌∷◌, ◌++◌, length, map, None, Some, refl, sym, ap, subst, ◌∙◌, arith}
+use Rattle.std.specs.Prelude.{IsTrue, Result, Ok, Err, OnOk, pos, ◌<ℤ◌, ℤ, ◌==◌, if◌then◌else◌, option_map, is_some}
 use Rattle.std.specs.List.{AllByRecursion}
 use Rattle.std.proofs.lemmas.Int.{ints}
 use Rattle.std.proofs.lemmas.List.{append_assoc, append-nil, length-map, length-take-le, get_or-map, take_more}
@@ -159,6 +159,21 @@ books_held k h row body row_is body_is c c' turn books = subst (λ x. IsBooks x 
 pub registry_held : (s : Tables) (h : HeldRow) (c c' : Content) → Becoming (with_held_row h) c c' → IsRegistry c s → IsRegistry c' s
 registry_held s h c c' turn it = subst (λ x. IsRegistry x s) (sym turn.is) (record { objects = it.objects; images = it.images; recorded = it.recorded; noted = it.noted })
 
+none_in : {X Y : Type 0} (f : X → Y) (o : Option X) → is_some o ≡ false → option_map f o ≡ None
+none_in f None none = refl
+none_in f (Some x) none = absurd cc
+
+-- a row that is given a body had none before
+pub row_was_free : {S X E : Type 0} (g : Ghosts S) (old new : Store S) (h : HeldRow) {r : Result X E} {x : X} → r ≡ Ok x → IsStep (state g old.conn) (state g new.conn) (HoldsBody h) r → HasCleanDisk (state g new.conn)
+    → (listing : Option (List MRow)) (before k : Kept) → RestIn g old listing before k → k.bodies h.row ≡ None
+unfolding RestIn
+row_was_free g old new h {r} {x} is step clean listing before k made =
+    let m = IfOk-at_ok _ is (step.made clean) in
+    let was = was_clean step.survives clean in
+    let tables = (made.begun.on was m.0).2 in
+    let c = content_in (state g old.conn).now.trees in
+    sym ((made.books was m.0).held h.row) ∙ none_in (λ (x : HeldRow). x.body) (get_by held_number c.held (pos h.row)) (m.1 c tables).1
+
 -- ---- steps
 
 steps_push : (n : ℕ) (rows : List ℕ) (row m : ℕ) → length rows + n ≡ m → steps_from n (rows ++ (row ∷ [])) ≡ steps_from n rows ++ (record { pos = m; row = row } ∷ [])
@@ -213,6 +228,10 @@ books_steps k front at rows at_is within c c' turn books = subst (λ x. IsBooks 
 
 pub registry_steps : (s : Tables) (at : ℕ) (rows : List ℕ) (c c' : Content) → Becoming (with_steps_from at rows) c c' → IsRegistry c s → IsRegistry c' s
 registry_steps s at rows c c' turn it = subst (λ x. IsRegistry x s) (sym turn.is) (record { objects = it.objects; images = it.images; recorded = it.recorded; noted = it.noted })
+
+-- a list of stored steps that is this one, numbered from a number that is this one
+pub numbered : (n m : ℕ) (ss ts : List ChainStep) (rows : List ℕ) → n ≡ m → ts ≡ ss → map step_row ss ≡ steps_from n rows → map step_row ts ≡ steps_from m rows
+numbered n m ss ts rows same list e = rw (list, sym same) e
 
 -- ---- one step more
 

@@ -42,6 +42,7 @@ use Rattle.esc_manifest.specs.declared.row.MRow.{MRow}
 use Rattle.esc_manifest.specs.ManifestRows.{place_at, resend_at}
 use Rattle.esc_apply.specs.declared.front.Step.{Step}
 use Rattle.esc_apply.specs.Registry.{State, Content, empty, HasSize}
+use Rattle.esc_store.specs.declared.parked.TheConstants.{MOST_PARKED}
 use Rattle.esc_store.specs.declared.reply.Verdict.{Verdict}
 use Rattle.esc_store.specs.declared.reply.Verdict.TheVariants.{A1, A2, A3, A4, A5}
 use Rattle.esc_store.specs.ReplyValue.{ReceiptValue, ReplyValue, replies_from, reply_alike}
@@ -151,7 +152,7 @@ pub record AreParked (parked : List ℕ → Option (List ℕ)) (digests : List (
 pub record IsFull (parked : List ℕ → Option (List ℕ)) : Type 0 where
   pub digests : List (List ℕ)
   pub are : AreParked parked digests
-  pub many : 1_024 ≤ length digests
+  pub many : MOST_PARKED ≤ length digests
 
 -- a receipt has A1 of this row: it says that the row's deposit is held
 abbrev pub SaysHeld : ℕ → ReceiptValue → Type 0

@@ -36,14 +36,16 @@ use Rattle.esc_store.specs.StoreTables.{IsStore, IsStoreDatabase, HoldsTables}
 
 -- ---- a store
 
--- its connection, the rows that it lists, and how many objects were put or removed since it was
--- opened; a removal counts even if there was no object
+-- the connection of a store
 abbrev pub connection_of : {S : Type 0} → Store S → Held S
 connection_of store = store.conn
 
+-- the rows that a store lists
 abbrev pub rows_of : {S : Type 0} → Store S → List MRow
 rows_of store = store.manifest
 
+-- how many objects were put into a store or removed since it was opened; a removal counts even if
+-- there was no object
 abbrev pub writes_of : {S : Type 0} → Store S → ℕ
 writes_of store = store.writes
 
@@ -65,6 +67,7 @@ HoldsKept g conn k = RestsAt (state g conn) k
 abbrev pub AreCountsOf : Option KindCounts → Kept → Type 0
 AreCountsOf counts k = IfSome counts (λ c. AreCounts k.registry.content (counted c))
 
+-- a store of this manifest and these counts, over a connection in this state, stands for k
 pub record IsStanding (s : State) (manifest : List MRow) (counts : Option KindCounts) (k : Kept)
     : Type 0 where
   pub listed : manifest ≡ k.listed
@@ -120,6 +123,8 @@ pub record IsBegun (s : State) (manifest : List MRow) (k : Kept) : Type 0 where
 unfoldable pub BeganIn : {S : Type 0} → Ghosts S → Store S → Kept → Type 0
 BeganIn g store k = IsBegun (state g store.conn) store.manifest k
 
+-- a change of a store of `before`, over a connection in this state, lists these rows and has made k
+-- of its rows, receipts, bodies, parked bodies, moment and chain; nothing is committed of it
 pub record IsMade (s : State) (manifest rows : List MRow) (before k : Kept) : Type 0 where
   pub begun : IsBegun s manifest before
   pub listed : rows ≡ k.listed
@@ -132,6 +137,7 @@ unfoldable pub RestIn : {S : Type 0} → Ghosts S → Store S → Option (List M
 RestIn g store listing before k =
     IsMade (state g store.conn) store.manifest (unwrap_or listing store.manifest) before k
 
+-- a transaction is on, and sees the store's tables, which hold these objects and before-images
 pub record IsUnderWay (s : State) (tables : Tables) : Type 0 where
   pub is_open : IsTrue s.is_open
   pub in_transaction : s.in_transaction ≡ true
@@ -142,10 +148,11 @@ pub record IsUnderWay (s : State) (tables : Tables) : Type 0 where
 unfoldable pub HoldsIn : {S : Type 0} → Ghosts S → Store S → Tables → Type 0
 HoldsIn g store tables = HasCleanDisk (state g store.conn) → IsUnderWay (state g store.conn) tables
 
--- the store that a change is of, by what it holds now, and by the name of the reference to it
+-- the store that a change is of, by what it holds now
 abbrev pub store_in : {S L : Type 0} → Change S L → Store S
 store_in change = change.store.now
 
+-- the same store, by the name of the reference to it
 abbrev pub store_name : {S L : Type 0} → Change S L → GName
 store_name change = change.store.ghost_name
 

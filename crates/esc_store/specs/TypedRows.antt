@@ -37,6 +37,7 @@ listed_row n r = record {
   digest = r.digest;
 }
 
+-- the rows of a manifest, with indices from n on
 abbrev pub listed_from : ℕ → List MRow → List ListedRow
 listed_from n [] = []
 listed_from n (r ∷ rs) = listed_row n r ∷ listed_from (suc n) rs
@@ -57,6 +58,7 @@ fault_number (A3 n) = Some n
 fault_number A4 = None
 fault_number A5 = None
 
+-- a test as a number: 1 if it holds, else 0
 abbrev pub bit : Bool → ℕ
 bit b = if b then 1 else 0
 
@@ -73,6 +75,7 @@ receipt_row n r = record {
   orphans = r.orphans;
 }
 
+-- receipts, numbered from n on
 abbrev pub receipts_from : ℕ → List ReceiptValue → List ReceiptRow
 receipts_from n [] = []
 receipts_from n (r ∷ rs) = receipt_row n r ∷ receipts_from (suc n) rs

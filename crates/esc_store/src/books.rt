@@ -6,7 +6,7 @@ ghost use Rattle.esc_rows.specs.Entries.{step_row};
 ghost use Rattle.esc_rows.specs.Changes.{Tells};
 ghost use Rattle.esc_store.specs.Faults.{IsS1OrS2, IsS1OrS2OrS4};
 ghost use Rattle.esc_store.specs.TypedRows.{steps_from};
-ghost use Rattle.esc_store.specs.ChangeParts.{AddsNext, IsFull, next_number, ContinuesSteps};
+ghost use Rattle.esc_store.specs.ChangeParts.{AddsNext, HasMostReceipts, next_number, ContinuesSteps};
 ghost use Rattle.esc_store.specs.Standing.{IsStep, IsHonest};
 
 use crate::codec::receipt::stored_receipt;
@@ -28,19 +28,13 @@ impl<S: Alter> Store<S> {
             (AddsNext receipt.now) result }
         ensures number { IfOk result (λ n. IsHonest S.Store self.new
             → Tells (λ c n. n ≡ next_number c) (state S.Store self.old.conn).now n) }
-        ensures room { IfOk result (λ n. n ≤ 1_000_000_000) }
+        ensures room { IfOk result (λ n. n ≤ MOST_RECEIPTS) }
         ensures full { IfErr result (λ fault. fault ≡ SFault.S4 → IsHonest S.Store self.new
-            → IsFull (state S.Store self.old.conn)) }
+            → HasMostReceipts (state S.Store self.old.conn)) }
         ensures cause { IfErr result IsS1OrS2OrS4 }
     {
-        match self.goes_on() {
-            Ok(()) => {}
-            Err(fault) => return Err(fault),
-        }
-        let last = match self.last_here() {
-            Ok(last) => last,
-            Err(fault) => return Err(fault),
-        };
+        self.goes_on()?;
+        let last = self.last_here()?;
         if last >= MOST_RECEIPTS {
             self.give_up();
             return Err(SFault::S4);
@@ -52,10 +46,8 @@ impl<S: Alter> Store<S> {
                 return Err(fault);
             }
         };
-        match self.add_receipt_here(&stored) {
-            Ok(()) => Ok(u64::from(last) + 1),
-            Err(fault) => Err(fault),
-        }
+        self.add_receipt_here(&stored)?;
+        Ok(u64::from(last) + 1)
     }
 
     // Makes these the steps of the chain from this number on. Those before it stay as they are, and

@@ -8,7 +8,6 @@ ghost use Rattle.std.specs.Prelude.{
   ◌-◌,
   ◌^◌,
   ◌++◌,
-  ℕ,
   None,
   min,
   map,
@@ -20,9 +19,7 @@ ghost use Rattle.std.specs.Prelude.{
   IfErr,
 };
 ghost use Rattle.esc_apply.specs.Registry.{State};
-ghost use Rattle.esc_rows.specs.Entries.{step_row};
 ghost use Rattle.esc_store.specs.Faults.{IsS1OrS2, IsS1OrS2OrS4};
-ghost use Rattle.esc_store.specs.TypedRows.{steps_from};
 ghost use Rattle.esc_store.specs.Kept.{Kept, with_receipt, with_body, with_steps, with_registry};
 ghost use Rattle.esc_store.specs.Standing.{
   Stands,
@@ -41,6 +38,7 @@ ghost use Rattle.esc_store.specs.Standing.{
   writes_of,
 };
 
+use crate::books::MOST_RECEIPTS;
 use crate::codec::small;
 use crate::codec::step::stored_steps;
 use crate::fault::SFault;
@@ -49,7 +47,6 @@ use crate::store::Store;
 use esc_apply::Step;
 use esc_manifest::Manifest;
 use esc_rows::held::insert_held;
-use esc_rows::step::ChainStep;
 use sqlite::Alter;
 
 /// A change of a store: one transaction. `commit` makes all of it; where it is dropped, nothing has
@@ -75,22 +72,24 @@ impl<'a, S: Alter> Change<'a, S> {
             → Rest S.Store self.old before k → n ≡ length k.receipts + 1) }
         ensures holds { OnOk result ((s : State) → HoldsNow S.Store self.old s
             → HoldsNow S.Store self.new s) }
-        ensures room { IfOk result (λ n. n ≤ 1_000_000_000) }
+        ensures room { IfOk result (λ n. n ≤ MOST_RECEIPTS) }
         ensures full { IfErr result (λ e. e ≡ SFault.S4 → IsHonest S.Store (store_in self.new)
             → (before k : Kept) → Rest S.Store self.old before k
-            → 1_000_000_000 ≤ length k.receipts) }
+            → MOST_RECEIPTS ≤ length k.receipts) }
         ensures cause { IfErr result IsS1OrS2OrS4 }
     {
         self.store.add_next_here(receipt)
     }
 
-    /// Stores the body of a listed row that has none yet. `S1`, `S2`.
+    /// Stores the body of a listed row. `S1`, also if the row has a body already; `S2`.
     pub fn hold(&mut self, row: usize, body: &[u8]) -> Result<(), SFault>
         ensures goes_on { GoesOn S.Store self.old self.new }
         ensures count { count_of self.new ≡ count_of self.old }
         ensures held { OnOk result ((before k : Kept) → k.bodies row ≡ None
             → Rest S.Store self.old before k
             → Rest S.Store self.new before (with_body k row body.now)) }
+        ensures free { OnOk result (IsHonest S.Store (store_in self.new) → (before k : Kept)
+            → Rest S.Store self.old before k → k.bodies row ≡ None) }
         ensures holds { OnOk result ((s : State) → HoldsNow S.Store self.old s
             → HoldsNow S.Store self.new s) }
         ensures cause { IfErr result IsS1OrS2 }
@@ -105,6 +104,8 @@ impl<'a, S: Alter> Change<'a, S> {
         ensures count { self.new.count ≡ self.old.count }
         ensures held { OnOk result ((before k : Kept) → Rest S.Store self.old before k
             → Rest S.Store self.new before (with_body k row body.now)) }
+        ensures free { OnOk result (IsHonest S.Store (store_in self.new) → (before k : Kept)
+            → Rest S.Store self.old before k → k.bodies row ≡ None) }
         ensures holds { OnOk result ((s : State) → HoldsNow S.Store self.old s
             → HoldsNow S.Store self.new s) }
         ensures cause { IfErr result IsS1OrS2 }
@@ -142,24 +143,7 @@ impl<'a, S: Alter> Change<'a, S> {
     {
         let stored = stored_steps(self.store.alloc, front, steps)?;
         let from = small(front.saturating_add(1))?;
-        self.set_rows(from, stored.as_slice(), steps)
-    }
-
-    // Makes the rows of these steps those of the table of steps from this number on.
-    fn set_rows(&mut self, from: u32, stored: &[ChainStep], steps: &[Step]) -> Result<(), SFault>
-        requires { map step_row stored.now ≡ steps_from from (map (λ step. step.row) steps.now) }
-        ensures goes_on { GoesOn S.Store self.old self.new }
-        ensures count { self.new.count ≡ self.old.count }
-        ensures set { OnOk result ((before k : Kept) (front : ℕ) → from ≡ front + 1
-            → front ≤ length k.steps → Rest S.Store self.old before k
-            → Rest S.Store self.new before
-            (with_steps k (take front k.steps ++ map (λ step. step.row) steps.now))) }
-        ensures holds { OnOk result ((s : State) → HoldsNow S.Store self.old s
-            → HoldsNow S.Store self.new s) }
-        ensures cause { IfErr result IsS1OrS2 }
-    {
-        let _ = steps;
-        self.store.continue_steps_here(from, stored)
+        self.store.continue_steps_here(from, stored.as_slice())
     }
 
     /// Commits the whole change at once. At `Err` (`S1`, `S2`) nothing has changed, but a crash may

@@ -25,6 +25,8 @@
 //! | `listing` | a change: the rows that an amended manifest adds |
 //! | `statements` | a write or a read of the tables: one call of `esc_rows` each |
 //! | `codec` | what the tables keep, as their rows and bytes, and back |
+//! | `reply`, `fault` | a receipt, the reply of it and its verdict; why a call fails |
+//! | `numbers`, `form` | the number of an arrival, and the texts that are one |
 //!
 //! # An example
 //!
@@ -87,5 +89,6 @@ pub use fault::SFault;
 pub use form::number;
 pub use numbers::{N1, Number};
 pub use parked::MOST_PARKED;
+pub use reads::MOST_ON_PAGE;
 pub use reply::{Receipt, Reply, Verdict};
 pub use store::Store;

@@ -38,6 +38,9 @@ use esc_rows::transaction::{begin_in, commit_in};
 use sqlite::{Alter, Connection, Error};
 use std::alloc::Global;
 
+/// The version of the stores that become those of this version.
+pub(crate) const FIRST_VERSION: i64 = 1;
+
 // Tests that the database has the tables of version 1. `S3` where it has not.
 fn test_first<S: Alter>(conn: &mut Connection<S>) -> Result<(), SFault>
     ensures survives { Survives (state S.Store conn.old) (state S.Store conn.new) (λ _. ⊥) }
@@ -55,7 +58,7 @@ fn test_first<S: Alter>(conn: &mut Connection<S>) -> Result<(), SFault>
     if !has_first_tables(conn) {
         return Err(SFault::S3);
     }
-    if find_version(conn)? != Some(1) {
+    if find_version(conn)? != Some(FIRST_VERSION) {
         return Err(SFault::S3);
     }
     Ok(())
@@ -199,9 +202,6 @@ impl<S: Alter> Store<S> {
         ensures never { IfErr result (λ e. e.0 ≡ SFault.S3 → HasCleanDisk (state S.Store e.1)
             → IsTrue (state S.Store e.1).is_open → (k : Kept)
             → IsFirstStore (state S.Store connection).committed.trees k → ⊥) }
-        ensures neither { IfErr result (λ e. HasCleanDisk (state S.Store e.1)
-            → IsTrue (state S.Store e.1).is_open → (state S.Store e.1).committed
-            ≡ (state S.Store connection).committed) }
         ensures unchanged { IfErr result
             (λ e. IsAsItWas (state S.Store connection) (state S.Store e.1)) }
         ensures cause { IfErr result (λ e. IsS1ToS3 e.0) }

@@ -18,6 +18,9 @@ use esc_rows::open::has_tables;
 use sqlite::{Alter, Connection};
 use std::alloc::Global;
 
+/// The version of the stores that this crate makes and opens.
+pub(crate) const VERSION: i64 = 2;
+
 // Tests that the database has the tables of this version. `S3` where it has not.
 fn test_version<S: Alter>(conn: &mut Connection<S>) -> Result<(), SFault>
     ensures survives { Survives (state S.Store conn.old) (state S.Store conn.new) (λ _. ⊥) }
@@ -35,7 +38,7 @@ fn test_version<S: Alter>(conn: &mut Connection<S>) -> Result<(), SFault>
     if !has_tables(conn) {
         return Err(SFault::S3);
     }
-    if find_version(conn)? != Some(2) {
+    if find_version(conn)? != Some(VERSION) {
         return Err(SFault::S3);
     }
     Ok(())

@@ -128,16 +128,13 @@ impl<'a, S: Alter> Change<'a, S> {
             → HoldsNow S.Store self.new s) }
         ensures cause { IfErr result IsS1OrS2 }
     {
-        match self.store.goes_on() {
-            Ok(()) => {}
-            Err(fault) => return Err(fault),
-        }
+        self.store.goes_on()?;
         let found = find_parked(&mut self.store.conn, digest);
         self.store.settle(found)
     }
 
-    /// Moves the body that is parked under a SHA-256 to a listed row that has none yet: it is the
-    /// row's body then, and is parked no more. `S1`, also if none is parked under it; `S2`.
+    /// Moves the body that is parked under a SHA-256 to a listed row: it is the row's body then, and
+    /// is parked no more. `S1`, also if none is parked under it or the row has a body already; `S2`.
     #[tactic(auto, using(crate::specs::StandingLaws::goes_then))]
     pub fn adopt(&mut self, row: usize, digest: &[u8; 32]) -> Result<(), SFault>
         ensures goes_on { GoesOn S.Store self.old self.new }
@@ -146,6 +143,8 @@ impl<'a, S: Alter> Change<'a, S> {
             → (before k : Kept) → k.bodies row ≡ None → Rest S.Store self.old before k
             → (body : List ℕ) × (k.parked digest.now ≡ Some body)
             × Rest S.Store self.new before (with_parked (with_body k row body) digest.now None)) }
+        ensures free { OnOk result (IsHonest S.Store (store_in self.new) → (before k : Kept)
+            → Rest S.Store self.old before k → k.bodies row ≡ None) }
         ensures holds { OnOk result ((s : State) → HoldsNow S.Store self.old s
             → HoldsNow S.Store self.new s) }
         ensures cause { IfErr result IsS1OrS2 }

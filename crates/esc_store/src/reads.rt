@@ -1,6 +1,6 @@
 //! What a store returns of what it keeps.
 
-ghost use Rattle.std.specs.Prelude.{◌≡◌, length, IfOk, IfErr, option_map};
+ghost use Rattle.std.specs.Prelude.{◌≡◌, ◌≤◌, length, IfOk, IfErr, option_map};
 ghost use Rattle.esc_apply.specs.Registry.{IsEntriesOf};
 ghost use Rattle.esc_store.specs.Faults.{IsS1OrS2};
 ghost use Rattle.esc_store.specs.Kept.{
@@ -33,6 +33,9 @@ use esc_tables::{Key, Object};
 use sqlite::Alter;
 use std::alloc::Global;
 use std::collections::BTreeMap;
+
+/// The most objects of a page.
+pub const MOST_ON_PAGE: usize = 256;
 
 impl<S: Alter> Store<S> {
     /// The reply that was kept for an arrival with this number and a body of this SHA-256, if one
@@ -159,7 +162,7 @@ impl<S: Alter> Store<S> {
     }
 
     /// A page: the first objects of a kind whose keys are not below these bytes, in the order of
-    /// keys. It is empty only if there is no such object. `S1`, `S2`.
+    /// keys, at most 256. It is empty only if there is no such object. `S1`, `S2`.
     #[tactic(auto, using(crate::proofs::Sure::as_before))]
     pub fn objects_from(
         &mut self,
@@ -170,6 +173,8 @@ impl<S: Alter> Store<S> {
         ensures same { IsAsBefore S.Store self.old self.new }
         ensures page { IsHonest S.Store self.new → (k : Kept) → Stands S.Store self.old k
             → IfOk result (λ page. IsPage k.registry.content kind from.now page.items) }
+        ensures few { IsHonest S.Store self.new → (k : Kept) → Stands S.Store self.old k
+            → IfOk result (λ page. length page.items ≤ MOST_ON_PAGE) }
         ensures cause { IfErr result IsS1OrS2 }
     {
         let stored = self.page_here(alloc, kind_number(kind), from)?;

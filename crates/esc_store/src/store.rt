@@ -97,9 +97,6 @@ impl<S: Alter> Store<S> {
         ensures refused { IfErr result (λ e. HasCleanDisk (state S.Store e.1)
             → IsTrue (state S.Store e.1).is_open → (e.0 ≡ SFault.S3)
             → IsBlank (state S.Store connection).now → ⊥) }
-        ensures neither { IfErr result (λ e. HasCleanDisk (state S.Store e.1)
-            → IsTrue (state S.Store e.1).is_open → (state S.Store e.1).committed
-            ≡ (state S.Store connection).committed) }
         ensures unchanged { IfErr result
             (λ e. IsAsItWas (state S.Store connection) (state S.Store e.1)) }
         ensures cause { IfErr result (λ e. IsS1ToS3 e.0) }

@@ -1,10 +1,11 @@
 //! A manifest as its table keeps it, and back.
 
-ghost use Rattle.std.specs.Prelude.{◌≡◌, ◌⊎◌, ℕ, List, map, option_map, string_bytes, IfOk, IfErr};
+ghost use Rattle.std.specs.Prelude.{◌≡◌, ℕ, List, map, option_map, string_bytes, IfOk, IfErr};
 ghost use Rattle.esc_envelope.specs.declared.place.DepositType.{DepositType as deposit_type};
 ghost use Rattle.esc_envelope.specs.Place.{rank};
 ghost use Rattle.esc_manifest.specs.declared.row.MRow.{MRow as manifest_row};
 ghost use Rattle.esc_rows.specs.Entries.{listed_row as stored_row};
+ghost use Rattle.esc_store.specs.Faults.{IsS1OrS2};
 ghost use Rattle.esc_store.specs.TypedRows.{listed_row, listed_from};
 
 use crate::codec::small;
@@ -53,7 +54,7 @@ fn copy_of(alloc: Global, text: &Option<String>) -> Result<Option<String>, SFaul
 // A row of a manifest as its table keeps it.
 fn stored_listed(alloc: Global, number: usize, row: &MRow) -> Result<Listed, SFault>
     ensures row { IfOk result (λ l. stored_row l ≡ listed_row number row.now) }
-    ensures cause { IfErr result (λ fault. (fault ≡ SFault.S1) ⊎ (fault ≡ SFault.S2)) }
+    ensures cause { IfErr result IsS1OrS2 }
 {
     let header = &row.header;
     Ok(Listed {
@@ -70,7 +71,7 @@ fn stored_listed(alloc: Global, number: usize, row: &MRow) -> Result<Listed, SFa
 // The rows of a manifest as their table keeps them.
 pub(crate) fn stored_manifest(alloc: Global, rows: &[MRow]) -> Result<Vec<Listed>, SFault>
     ensures rows { IfOk result (λ stored. map stored_row stored.items ≡ listed_from 0 rows.now) }
-    ensures cause { IfErr result (λ fault. (fault ≡ SFault.S1) ⊎ (fault ≡ SFault.S2)) }
+    ensures cause { IfErr result IsS1OrS2 }
 {
     let mut stored = Vec::new(alloc);
     for at in 0..rows.len() {
@@ -106,7 +107,7 @@ fn accepted(alloc: Global, rows: Vec<MRow>) -> Result<Manifest, SFault>
 // A copy of a manifest.
 fn copied_manifest(alloc: Global, manifest: &Manifest) -> Result<Manifest, SFault>
     ensures same { IfOk result (λ copy. copy ≡ manifest.now) }
-    ensures cause { IfErr result (λ fault. (fault ≡ SFault.S1) ⊎ (fault ≡ SFault.S2)) }
+    ensures cause { IfErr result IsS1OrS2 }
 {
     let rows = copied_rows(alloc, manifest.rows())?;
     accepted(alloc, rows)
@@ -130,7 +131,7 @@ pub(crate) fn digest_of(bytes: &[u8]) -> Result<[u8; 32], SFault>
 fn manifest_row(alloc: Global, stored: &Listed) -> Result<MRow, SFault>
     ensures row { IfOk result (λ row. (n : ℕ) (r : manifest_row)
         → stored_row stored.now ≡ listed_row n r → row ≡ r) }
-    ensures cause { IfErr result (λ fault. (fault ≡ SFault.S1) ⊎ (fault ≡ SFault.S2)) }
+    ensures cause { IfErr result IsS1OrS2 }
 {
     let kind = type_of(stored.kind)?;
     let digest = digest_of(stored.digest.as_slice())?;
@@ -150,10 +151,11 @@ fn manifest_row(alloc: Global, stored: &Listed) -> Result<MRow, SFault>
     })
 }
 
+// The manifest's rows that all rows of the table keep.
 fn manifest_rows(alloc: Global, stored: &[Listed]) -> Result<Vec<MRow>, SFault>
     ensures rows { IfOk result (λ rows. (rs : List manifest_row)
         → map stored_row stored.now ≡ listed_from 0 rs → rows.items ≡ rs) }
-    ensures cause { IfErr result (λ fault. (fault ≡ SFault.S1) ⊎ (fault ≡ SFault.S2)) }
+    ensures cause { IfErr result IsS1OrS2 }
 {
     let mut rows = Vec::new(alloc);
     for at in 0..stored.len() {
@@ -167,7 +169,7 @@ fn manifest_rows(alloc: Global, stored: &[Listed]) -> Result<Vec<MRow>, SFault>
 pub(crate) fn kept_manifest(alloc: Global, stored: &[Listed]) -> Result<Manifest, SFault>
     ensures manifest { IfOk result (λ manifest. (rs : List manifest_row)
         → map stored_row stored.now ≡ listed_from 0 rs → manifest ≡ rs) }
-    ensures cause { IfErr result (λ fault. (fault ≡ SFault.S1) ⊎ (fault ≡ SFault.S2)) }
+    ensures cause { IfErr result IsS1OrS2 }
 {
     let rows = manifest_rows(alloc, stored)?;
     accepted(alloc, rows)
@@ -181,7 +183,7 @@ pub(crate) fn both_forms(
     ensures own { IfOk result (λ forms. forms.0 ≡ manifest.now) }
     ensures rows { IfOk result (λ forms. map stored_row forms.1.items
         ≡ listed_from 0 manifest.now) }
-    ensures cause { IfErr result (λ fault. (fault ≡ SFault.S1) ⊎ (fault ≡ SFault.S2)) }
+    ensures cause { IfErr result IsS1OrS2 }
 {
     let own = copied_manifest(alloc, manifest)?;
     let rows = stored_manifest(alloc, manifest.rows())?;

@@ -1,5 +1,7 @@
 use Rattle.std.proofs.Common.{refl}
-use Rattle.esc_store.proofs.RowSteps.{held_turns, books_held, registry_held}
+use Rattle.esc_store.specs.ResultLaws.{if_ok}
+use Rattle.esc_store.proofs.Parts.{step_is}
+use Rattle.esc_store.proofs.RowSteps.{held_turns, books_held, registry_held, row_was_free}
 use Rattle.esc_store.proofs.Following.{moved, goes_step, made_all, holds_all}
 use Rattle.esc_store.proofs.change.Change+S.hold_row.Goals as goal
 
@@ -11,3 +13,7 @@ returns-clause-held g c = made_all (moved c.settle.ensures c.insert_held-done.en
 
 pub returns-clause-holds : goal.returns-clause-holds
 returns-clause-holds g c = holds_all (moved c.settle.ensures c.insert_held-done.ensures.part (held_turns _)) (λ s. registry_held s _)
+
+pub returns-clause-free : goal.returns-clause-free
+returns-clause-free g c = if_ok c.settle.result _ (λ x is clean.
+    row_was_free _ _ c.settle.new.self _ is (step_is c.settle.ensures.settled c.insert_held-done.ensures.part) clean _)

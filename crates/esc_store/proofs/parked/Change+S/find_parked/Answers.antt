@@ -5,15 +5,15 @@ use Rattle.esc_store.proofs.Looking.{follows_look, holds_look}
 use Rattle.esc_store.proofs.Parking.{follows_same, found_parked}
 use Rattle.esc_store.proofs.parked.Change+S.find_parked.Goals as goal
 
-pub returns-in-Err-clause-follows : goal.returns-in-Err-clause-follows
-returns-in-Err-clause-follows g c = follows_same g.S.Store c.args.self.now
+pub returns-in_err-goes_on-clause-follows : goal.returns-in_err-goes_on-clause-follows
+returns-in_err-goes_on-clause-follows g c = follows_same g.S.Store c.args.self.now
 
 pub returns-clause-follows : goal.returns-clause-follows
 returns-clause-follows g c = follows_look (read_settled c.settle.ensures c.find_parked-found.ensures.read)
 
 pub returns-clause-found : goal.returns-clause-found
 returns-clause-found g c = if_ok c.settle.result _ (λ x is clean.
-    found_parked (option_map (λ b. b.items)) is c.in-Ok.ensures.on (read_settled c.settle.ensures c.find_parked-found.ensures.read) clean _)
+    found_parked (option_map (λ b. b.items)) is c.in_ok-goes_on.ensures.on (read_settled c.settle.ensures c.find_parked-found.ensures.read) clean _)
 
 pub returns-clause-holds : goal.returns-clause-holds
 returns-clause-holds g c = if_ok c.settle.result _ (λ x is. holds_look (read_settled c.settle.ensures c.find_parked-found.ensures.read) is)

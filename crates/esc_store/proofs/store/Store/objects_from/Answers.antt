@@ -3,7 +3,7 @@ use Rattle.sqlite_keyed.proofs.ListLemmas.{map-map}
 use Rattle.esc_rows.specs.Entries.{object_of}
 use Rattle.esc_rows.specs.ResultLaws.{if_goes}
 use Rattle.esc_store.specs.Pages.{stored_row}
-use Rattle.esc_store.proofs.Paging.{page_is}
+use Rattle.esc_store.proofs.Paging.{page_is, page_short}
 use Rattle.esc_store.proofs.Sure.{told_of}
 use Rattle.esc_store.proofs.store.Store.objects_from.Goals as goal
 
@@ -11,4 +11,10 @@ pub returns-clause-page : goal.returns-clause-page
 returns-clause-page g c = λ honest k stands. if_goes c.entries_of.result _ _ c.entries_of.ensures.entries (λ page same.
     let told = told_of c.in_ok-stored.ensures.read honest k stands in
     page_is k.registry told.content c.args.kind c.args.from.now (map object_of c.in_ok-stored.stored.items) page.items told.registry (rw (← c.kind_number.ensures) told.says)
+    (same ∙ ap (map (λ it. stored_row (object_of it))) c.as_slice.ensures.value ∙ sym (map-map stored_row object_of c.in_ok-stored.stored.items)))
+
+pub returns-clause-few : goal.returns-clause-few
+returns-clause-few g c = λ honest k stands. if_goes c.entries_of.result _ _ c.entries_of.ensures.entries (λ page same.
+    let told = told_of c.in_ok-stored.ensures.read honest k stands in
+    page_short told.content c.args.kind c.args.from.now (map object_of c.in_ok-stored.stored.items) page.items (rw (← c.kind_number.ensures) told.says)
     (same ∙ ap (map (λ it. stored_row (object_of it))) c.as_slice.ensures.value ∙ sym (map-map stored_row object_of c.in_ok-stored.stored.items)))

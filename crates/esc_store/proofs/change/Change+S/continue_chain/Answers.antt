@@ -1,0 +1,25 @@
+use Rattle.std.proofs.Common.{◌≡◌, ◌+◌, arith, refl, sym}
+use Rattle.esc_store.specs.ResultLaws.{if_ok}
+use Rattle.esc_store.proofs.RowSteps.{become_turns, books_steps, registry_steps, numbered}
+use Rattle.esc_store.proofs.Following.{stepped, goes_step, made_then, holds_all}
+use Rattle.esc_store.proofs.change.Change+S.continue_chain.Goals as goal
+
+pub returns-clause-goes_on : goal.returns-clause-goes_on
+returns-clause-goes_on g c =
+    let at : c.args.front + 1 ≡ c.in_ok-from.from = omega (arith, c.in_ok-from.ensures.number, c.saturating_add.ensures) in
+    let done = c.continue_steps_here.ensures in
+    goes_step (stepped done.manifest done.writes (done.step _ (numbered _ _ _ _ _ at c.as_slice.ensures.value c.in_ok-stored.ensures.rows)) (become_turns _))
+
+pub returns-clause-set : goal.returns-clause-set
+returns-clause-set g c = if_ok c.continue_steps_here.result _ (λ x is before k within rest.
+    let at : c.args.front + 1 ≡ c.in_ok-from.from = omega (arith, c.in_ok-from.ensures.number, c.saturating_add.ensures) in
+    let done = c.continue_steps_here.ensures in
+    made_then (stepped done.manifest done.writes (done.step _ (numbered _ _ _ _ _ at c.as_slice.ensures.value c.in_ok-stored.ensures.rows)) (become_turns _))
+    is _ refl (books_steps k c.args.front _ _ (sym at) within) before rest)
+
+pub returns-clause-holds : goal.returns-clause-holds
+returns-clause-holds g c =
+    let at : c.args.front + 1 ≡ c.in_ok-from.from = omega (arith, c.in_ok-from.ensures.number, c.saturating_add.ensures) in
+    let done = c.continue_steps_here.ensures in
+    holds_all (stepped done.manifest done.writes (done.step _ (numbered _ _ _ _ _ at c.as_slice.ensures.value c.in_ok-stored.ensures.rows)) (become_turns _))
+    (λ s. registry_steps s _ _)
