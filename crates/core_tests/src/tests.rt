@@ -2,6 +2,7 @@
 
 mod apply;
 mod asserts;
+mod bodies;
 mod bundles;
 mod chain;
 mod check;
@@ -11,5 +12,4 @@ mod packing;
 mod pairs;
 mod record;
 mod shown;
-mod tables;
 mod words;

@@ -1,318 +1,164 @@
-//! Moves between worked chains, over a registry in memory that may fail at one of its calls, and
-//! the objects of a map.
+//! Moves between worked chains, over a registry in memory that may fail at one of its calls.
 
 mod stopping;
 
 use super::asserts::assert_told;
+use super::bodies::{BODIES, D2, D2_BOTH, D2_RESENT, D3, D6, F1, F2, F5, I4};
 use super::shown::push_object;
-use super::tables::{A, C1, E, F, R1, Told, tables_of};
-use esc_apply::{MapObjects, MemRegistry, Objects, Registry, Step, Work, common_front, move_chain};
-use esc_bundle::NoMemory;
-use esc_envelope::{DepositType, Header, Kind, Place};
-use esc_tables::{Deposit, Key, Object};
+use esc_apply::{MemRegistry, Registry, Step, Work, common_front, move_chain};
+use esc_bundle::{Fault, NoMemory};
+use esc_envelope::Kind;
+use esc_tables::{Deposit, Key, read_deposit};
 use std::alloc::Global;
-use std::collections::BTreeMap;
-use std::process::Abort;
 use stopping::{Stopped, Stopping};
 
-/// A kind and a name.
-type Name = (Kind, &'static str);
-
-/// A body of the worked rows: its watermark, in days since F1, and what it has.
-#[derive(Clone, Copy)]
-struct Body {
-    day: i64,
-    kind: DepositType,
-    resend: u32,
-    deletes: &'static [Name],
-    contents: &'static [Told],
-}
-
-const F1: Body = Body {
-    day: 0,
-    kind: DepositType::Full,
-    resend: 0,
-    deletes: &[],
-    contents: &[R1, C1, A],
-};
-
-const D2: Body = Body {
-    day: 1,
-    kind: DepositType::Diff,
-    contents: &[B],
-    ..F1
-};
-
-const D2_RESENT: Body = Body {
-    resend: 1,
-    contents: &[B, C],
-    ..D2
-};
-
-// Deletes the domain a.example and has it with another registrar.
-const D2_BOTH: Body = Body {
-    deletes: &[(Kind::Domain, "A.EXAMPLE")],
-    contents: &[A_OF_R2],
-    ..D2
-};
-
-// A Full at the watermark of D2.
-const F2: Body = Body {
-    day: 1,
-    contents: &[R1, C1, Z],
-    ..F1
-};
-
-const D3: Body = Body {
-    day: 2,
-    deletes: &[(Kind::Domain, "a.example")],
-    contents: &[],
-    ..D2
-};
-
-const I4: Body = Body {
-    day: 3,
-    kind: DepositType::Incr,
-    contents: &[D],
-    ..F1
-};
-
-const F5: Body = Body {
-    day: 7,
-    contents: &[R1, C1, NS1, E],
-    ..F1
-};
-
-const D6: Body = Body {
-    day: 8,
-    deletes: &[(Kind::Host, "ns1.e.example")],
-    contents: &[F],
-    ..D2
-};
-
-const NS1: Told = (
-    Kind::Host,
-    "ns1.e.example",
-    &[("name", "ns1.e.example"), ("clID", "R1")],
-    &[],
-);
-
-const A_OF_R2: Told = (
-    Kind::Domain,
-    "a.example",
-    &[("name", "a.example"), ("clID", "R2")],
-    &[],
-);
-
-const B: Told = (
-    Kind::Domain,
-    "b.example",
-    &[("name", "b.example"), ("clID", "R1")],
-    &[],
-);
-
-const C: Told = (
-    Kind::Domain,
-    "c.example",
-    &[("name", "c.example"), ("clID", "R1")],
-    &[],
-);
-
-const D: Told = (
-    Kind::Domain,
-    "d.example",
-    &[("name", "d.example"), ("clID", "R1")],
-    &[],
-);
-
-const Z: Told = (
-    Kind::Domain,
-    "z.example",
-    &[("name", "z.example"), ("clID", "R1")],
-    &[],
-);
-
-/// The domains and hosts that bodies have.
-static NAMES: [Name; 8] = [
-    (Kind::Domain, "a.example"),
-    (Kind::Domain, "b.example"),
-    (Kind::Domain, "c.example"),
-    (Kind::Domain, "d.example"),
-    (Kind::Domain, "e.example"),
-    (Kind::Domain, "f.example"),
-    (Kind::Domain, "z.example"),
-    (Kind::Host, "ns1.e.example"),
-];
+/// The places of a chain's bodies in the list of all.
+type Chain = &'static [usize];
 
 /// The old chain, the new chain, and what is said of the move: how many writes the registry counts
-/// where it stops at the first call, at the second, and so on; and where it does not stop, the work
-/// (cleared, undone, applied, writes), the writes that the registry counts, and the objects, each
-/// with its registrar.
+/// where it stops at the first call, at the second, and so on; and where it does not stop, the
+/// work, the writes that the registry counts, and the domains.
 ///
 /// Back: for each step one call for what was noted, and one with a write for each of its keys; or
 /// one for all steps at once. Forward: for each step one call with its contents, and three for each
 /// key that is deleted, of which the last is a write.
-static MOVES: [(&[Body], &[Body], &str); 13] = [
-    (&[], &[], "(no, 0, 0, 0), 0 in all:"),
-    (&[], &[F1], "0 (no, 0, 1, 3), 3 in all: a.example=R1"),
-    (&[F1], &[F1], "(no, 0, 0, 0), 3 in all: a.example=R1"),
+static MOVES: [(Chain, Chain, &str); 9] = [
     (
         &[],
         &[F1, D2, D3],
-        "0 3 4 4 4 4 (no, 0, 3, 5), 5 in all: b.example=R1",
+        "0 3 4 4 4 4 Work { cleared: false, undone: 0, applied: 3, writes: 5 }, 5 in all
+domain name=b.example clID=R1 registrant=C1
+",
     ),
     (
         &[F1, D2, D3],
         &[F1, I4],
-        "5 5 6 6 7 (no, 2, 1, 3), 8 in all: a.example=R1 d.example=R1",
+        "5 5 6 6 7 Work { cleared: false, undone: 2, applied: 1, writes: 3 }, 8 in all
+domain name=a.example clID=R1 registrant=C1
+domain name=d.example clID=R1 registrant=C1
+",
     ),
     (
         &[F1, D2, D3],
         &[F1, D2_RESENT, D3],
-        "5 5 6 6 7 9 9 9 9 (no, 2, 2, 5), 10 in all: b.example=R1 c.example=R1",
+        "5 5 6 6 7 9 9 9 9 Work { cleared: false, undone: 2, applied: 2, writes: 5 }, 10 in all
+domain name=b.example clID=R1 registrant=C1
+domain name=c.example clID=R1 registrant=C1
+",
     ),
     (
         &[F1, D2, D3],
         &[F1, D2],
-        "5 5 (no, 1, 0, 1), 6 in all: a.example=R1 b.example=R1",
+        "5 5 Work { cleared: false, undone: 1, applied: 0, writes: 1 }, 6 in all
+domain name=a.example clID=R1 registrant=C1
+domain name=b.example clID=R1 registrant=C1
+",
+    ),
+    (
+        &[F1],
+        &[F1],
+        "Work { cleared: false, undone: 0, applied: 0, writes: 0 }, 3 in all
+domain name=a.example clID=R1 registrant=C1
+",
     ),
     // Contents come after deletes.
     (
         &[F1],
         &[F1, D2_BOTH],
-        "3 (no, 0, 1, 1), 4 in all: a.example=R2",
+        "3 Work { cleared: false, undone: 0, applied: 1, writes: 1 }, 4 in all
+domain name=a.example clID=R2 registrant=C1
+",
     ),
     (
         &[F1, D2],
         &[F2],
-        "4 4 (yes, 0, 1, 3), 7 in all: z.example=R1",
-    ),
-    (&[F1, D2, D3], &[], "5 (yes, 0, 0, 0), 5 in all:"),
-    (
-        &[],
-        &[F5],
-        "0 (no, 0, 1, 4), 4 in all: e.example=R1 ns1.e.example=R1",
+        "4 4 Work { cleared: true, undone: 0, applied: 1, writes: 3 }, 7 in all
+domain name=z.example clID=R1 registrant=C1
+",
     ),
     (
         &[F5],
         &[F5, D6],
-        "4 5 5 5 (no, 0, 1, 2), 6 in all: e.example=R1 f.example=R1",
+        "4 5 5 5 Work { cleared: false, undone: 0, applied: 1, writes: 2 }, 6 in all
+domain name=e.example clID=R1 registrant=C1
+  domainNs domainName=e.example hostName=ns1.e.example
+domain name=f.example clID=R1 registrant=C9
+",
     ),
     (
         &[F5, D6],
         &[F5],
-        "6 6 7 (no, 1, 0, 2), 8 in all: e.example=R1 ns1.e.example=R1",
+        "6 6 7 Work { cleared: false, undone: 1, applied: 0, writes: 2 }, 8 in all
+domain name=e.example clID=R1 registrant=C1
+  domainNs domainName=e.example hostName=ns1.e.example
+",
     ),
 ];
 
-fn place_of(body: &Body) -> Place {
-    Place {
-        watermark: body.day,
-        kind: body.kind,
+/// The names of all domains that bodies have.
+const NAMES: &str = "a.example b.example c.example d.example e.example f.example z.example";
+
+fn deposits_of(alloc: Global, chain: &[usize]) -> Result<Vec<Deposit>, Fault> {
+    let mut deposits = Vec::new(alloc);
+    for at in chain {
+        let body = BODIES.get(*at).copied().unwrap_or("");
+        deposits.push(read_deposit(alloc, body.as_bytes())?)?;
     }
+    Ok(deposits)
 }
 
-fn steps_of(alloc: Global, bodies: &[Body]) -> Result<Vec<Step>, NoMemory> {
+fn steps_of(alloc: Global, deposits: &[Deposit]) -> Result<Vec<Step>, NoMemory> {
     let mut steps = Vec::new(alloc);
-    for body in bodies {
+    for deposit in deposits {
+        let header = &deposit.header;
         steps.push(Step {
             row: 0,
-            place: place_of(body),
-            resend: body.resend,
+            place: header.place,
+            resend: header.resend,
         })?;
     }
     Ok(steps)
 }
 
-fn keys_of(alloc: Global, names: &[Name]) -> Result<Vec<Key>, NoMemory> {
-    let mut keys = Vec::new(alloc);
-    for (kind, name) in names {
-        keys.push(Key::named(alloc, *kind, name)?)?;
-    }
-    Ok(keys)
-}
-
-fn header_of(alloc: Global, body: &Body) -> Header {
-    Header {
-        id: String::new(alloc),
-        place: place_of(body),
-        prev: None,
-        resend: body.resend,
-    }
-}
-
-fn deposit_of(alloc: Global, body: &Body) -> Result<Deposit, NoMemory> {
-    let deletes = keys_of(alloc, body.deletes)?;
-    Ok(Deposit {
-        contents: tables_of(alloc, body.contents)?,
-        deletes,
-        header: header_of(alloc, body),
-        counts: BTreeMap::new(alloc),
-        orphans: 0,
-    })
-}
-
-// The deposits of these bodies from one on.
-fn deposits_of(alloc: Global, bodies: &[Body], first: usize) -> Result<Vec<Deposit>, NoMemory> {
-    let mut deposits = Vec::new(alloc);
-    for body in bodies.iter().skip(first) {
-        deposits.push(deposit_of(alloc, body)?)?;
-    }
-    Ok(deposits)
-}
-
-// A move between the chains of these steps, whose lengths are tested.
+// A move between the chains of these steps, whose lengths are tested. `deposits` are those of the
+// new steps.
 fn move_along(
-    rt: &impl Abort,
     alloc: Global,
     r: &mut Stopping,
-    steps: (&[Step], &[Step]),
+    old: &[Step],
+    new: &[Step],
     deposits: &[Deposit],
 ) -> Result<Work, Stopped> {
-    let (old, new) = steps;
-    assert!(rt; old.len() <= 4096 && new.len() <= 4096);
     let front = common_front(old, new);
-    assert_eq!(rt; Some(deposits.len()), new.len().checked_sub(front));
-    move_chain(alloc, r, old, new, deposits)
+    let late = deposits.get(front..).unwrap_or(&[]);
+    if old.len() > 4096 || new.len() > 4096 || new.len().checked_sub(front) != Some(late.len()) {
+        return Err(Stopped::NoMemory);
+    }
+    move_chain(alloc, r, old, new, late)
 }
 
-fn go(
-    rt: &impl Abort,
-    alloc: Global,
-    r: &mut Stopping,
-    old: &[Body],
-    new: &[Body],
-) -> Result<Work, Stopped> {
+fn go(alloc: Global, r: &mut Stopping, old: &[Deposit], new: &[Deposit]) -> Result<Work, Stopped> {
     let from = steps_of(alloc, old)?;
     let to = steps_of(alloc, new)?;
-    let deposits = deposits_of(alloc, new, common_front(&from, &to))?;
-    move_along(rt, alloc, r, (&from, &to), &deposits)
+    move_along(alloc, r, &from, &to, new)
 }
 
-fn push_work(text: &mut String, work: &Work, writes: u64) -> Result<(), NoMemory> {
-    let cleared = if work.cleared { "yes" } else { "no" };
-    let undone = work.undone;
-    let applied = work.applied;
-    let of_work = work.writes;
-    write!(
-        text,
-        "({cleared}, {undone}, {applied}, {of_work}), {writes} in all:"
-    )?;
-    Ok(())
-}
-
-fn push_sponsor(text: &mut String, name: &str, object: &Object) -> Result<(), NoMemory> {
-    if let Some((_, sponsor)) = object.parent.cell(1) {
-        write!(text, " {name}={sponsor}")?;
+fn push_domain(
+    text: &mut String,
+    alloc: Global,
+    r: &mut MemRegistry,
+    name: &str,
+) -> Result<(), NoMemory> {
+    let key = Key::named(alloc, Kind::Domain, name)?;
+    match r.get(alloc, &key)? {
+        Some(object) => push_object(text, &object),
+        None => Ok(()),
     }
-    Ok(())
 }
 
-fn push_objects(text: &mut String, alloc: Global, r: &mut MemRegistry) -> Result<(), NoMemory> {
-    for (kind, name) in &NAMES {
-        if let Some(object) = r.get(alloc, &Key::named(alloc, *kind, name)?)? {
-            push_sponsor(text, name, &object)?;
-        }
+fn push_domains(text: &mut String, alloc: Global, r: &mut MemRegistry) -> Result<(), NoMemory> {
+    for name in NAMES.split_whitespace() {
+        push_domain(text, alloc, r, name)?;
     }
     Ok(())
 }
@@ -327,8 +173,8 @@ fn push_run(
     let writes = r.writes();
     match moved {
         Ok(work) => {
-            push_work(text, &work, writes)?;
-            push_objects(text, alloc, &mut r.inner)?;
+            writeln!(text, "{work:?}, {writes} in all")?;
+            push_domains(text, alloc, &mut r.inner)?;
             Ok(true)
         }
         Err(Stopped::Here) => {
@@ -343,71 +189,49 @@ fn push_run(
 // whether it was whole.
 fn push_move(
     text: &mut String,
-    rt: &impl Abort,
     alloc: Global,
-    old: &[Body],
-    new: &[Body],
+    old: &[Deposit],
+    new: &[Deposit],
     calls: u32,
 ) -> Result<bool, NoMemory> {
     let mut r = Stopping {
         inner: MemRegistry::new(alloc),
         left: u32::MAX,
     };
-    if go(rt, alloc, &mut r, &[], old).is_err() {
+    if go(alloc, &mut r, &[], old).is_err() {
         return Err(NoMemory);
     }
     r.left = calls;
-    let moved = go(rt, alloc, &mut r, old, new);
+    let moved = go(alloc, &mut r, old, new);
     push_run(text, alloc, &mut r, moved)
 }
 
-fn move_told(
-    rt: &impl Abort,
+// The same for each number of calls, until the move is whole.
+fn push_moves(
+    text: &mut String,
     alloc: Global,
-    old: &[Body],
-    new: &[Body],
-) -> Result<String, NoMemory> {
-    let mut text = String::new(alloc);
+    old: &[Deposit],
+    new: &[Deposit],
+) -> Result<(), NoMemory> {
     for calls in 0u32..16 {
-        if push_move(&mut text, rt, alloc, old, new, calls)? {
+        if push_move(text, alloc, old, new, calls)? {
             break;
         }
     }
+    Ok(())
+}
+
+fn move_told(alloc: Global, old: &[usize], new: &[usize]) -> Result<String, Fault> {
+    let old = deposits_of(alloc, old)?;
+    let new = deposits_of(alloc, new)?;
+    let mut text = String::new(alloc);
+    push_moves(&mut text, alloc, &old, &new)?;
     Ok(text)
 }
 
 #[test]
 fn moves_and_faults_at_each_call(rt: HostRuntime) {
     for (old, new, told) in &MOVES {
-        assert_told(&rt, *told, move_told(&rt, rt.alloc(), old, new), told);
+        assert_told(&rt, *told, move_told(rt.alloc(), old, new), told);
     }
-}
-
-const OBJECTS: &str = "registrar id=R1
-contact id=C1 clID=R1
-domain name=a.example clID=R1 registrant=C1
-domain name=b.example clID=R1
-none
-none
-";
-
-fn push_next(text: &mut String, objects: &mut MapObjects) -> Result<(), NoMemory> {
-    match objects.next()? {
-        Some((_, object)) => push_object(text, &object),
-        None => Ok(text.push_str("none\n")?),
-    }
-}
-
-fn objects_told(alloc: Global) -> Result<String, NoMemory> {
-    let mut objects = MapObjects::new(tables_of(alloc, &[B, C1, A, R1])?);
-    let mut text = String::new(alloc);
-    for _ in 0..6 {
-        push_next(&mut text, &mut objects)?;
-    }
-    Ok(text)
-}
-
-#[test]
-fn objects_of_a_map_come_by_key(rt: HostRuntime) {
-    assert_told(&rt, "objects", objects_told(rt.alloc()), OBJECTS);
 }

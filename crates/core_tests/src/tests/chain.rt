@@ -12,34 +12,37 @@ use esc_envelope::{Place, watermark_text};
 use esc_manifest::{MFault, Manifest, read_manifest};
 use std::alloc::Global;
 
-/// Manifest B, a line with the first five fields of each row.
-const B: &str = "F1,FULL,2024-03-03T00:00:00Z,,
-D2,DIFF,2024-03-04T00:00:00Z,F1,
-D3,DIFF,2024-03-05T00:00:00Z,D2,
-I4,INCR,2024-03-06T00:00:00Z,D3,
-F5,FULL,2024-03-10T00:00:00Z,,
-D6,DIFF,2024-03-11T00:00:00Z,F5,
-D2,DIFF,2024-03-04T00:00:00Z,F1,1
+/// Manifest B.
+const B: &str = "id,type,watermark,prevId,resend,sha256
+F1,FULL,2024-03-03T00:00:00Z,,,0000000000000000000000000000000000000000000000000000000000000000
+D2,DIFF,2024-03-04T00:00:00Z,F1,,0000000000000000000000000000000000000000000000000000000000000001
+D3,DIFF,2024-03-05T00:00:00Z,D2,,0000000000000000000000000000000000000000000000000000000000000002
+I4,INCR,2024-03-06T00:00:00Z,D3,,0000000000000000000000000000000000000000000000000000000000000003
+F5,FULL,2024-03-10T00:00:00Z,,,0000000000000000000000000000000000000000000000000000000000000004
+D6,DIFF,2024-03-11T00:00:00Z,F5,,0000000000000000000000000000000000000000000000000000000000000005
+D2,DIFF,2024-03-04T00:00:00Z,F1,1,0000000000000000000000000000000000000000000000000000000000000006
 ";
 
 /// Manifest B with D3 at resend 1, whose prevId is not listed.
-const B_WITH_X9: &str = "F1,FULL,2024-03-03T00:00:00Z,,
-D2,DIFF,2024-03-04T00:00:00Z,F1,
-D3,DIFF,2024-03-05T00:00:00Z,D2,
-I4,INCR,2024-03-06T00:00:00Z,D3,
-F5,FULL,2024-03-10T00:00:00Z,,
-D6,DIFF,2024-03-11T00:00:00Z,F5,
-D2,DIFF,2024-03-04T00:00:00Z,F1,1
-D3,DIFF,2024-03-05T00:00:00Z,X9,1
+const B_WITH_X9: &str = "id,type,watermark,prevId,resend,sha256
+F1,FULL,2024-03-03T00:00:00Z,,,0000000000000000000000000000000000000000000000000000000000000000
+D2,DIFF,2024-03-04T00:00:00Z,F1,,0000000000000000000000000000000000000000000000000000000000000001
+D3,DIFF,2024-03-05T00:00:00Z,D2,,0000000000000000000000000000000000000000000000000000000000000002
+I4,INCR,2024-03-06T00:00:00Z,D3,,0000000000000000000000000000000000000000000000000000000000000003
+F5,FULL,2024-03-10T00:00:00Z,,,0000000000000000000000000000000000000000000000000000000000000004
+D6,DIFF,2024-03-11T00:00:00Z,F5,,0000000000000000000000000000000000000000000000000000000000000005
+D2,DIFF,2024-03-04T00:00:00Z,F1,1,0000000000000000000000000000000000000000000000000000000000000006
+D3,DIFF,2024-03-05T00:00:00Z,X9,1,0000000000000000000000000000000000000000000000000000000000000007
 ";
 
 /// Three types at one watermark, not in the order of places, and an Incremental without an earlier
 /// Full.
-const TIES: &str = "F2,FULL,2024-03-04T00:00:00Z,,
-D2,DIFF,2024-03-04T00:00:00Z,F1,
-F1,FULL,2024-03-03T00:00:00Z,,
-I2,INCR,2024-03-04T00:00:00Z,F2,
-I0,INCR,2024-03-02T00:00:00Z,F1,
+const TIES: &str = "id,type,watermark,prevId,resend,sha256
+F2,FULL,2024-03-04T00:00:00Z,,,0000000000000000000000000000000000000000000000000000000000000000
+D2,DIFF,2024-03-04T00:00:00Z,F1,,0000000000000000000000000000000000000000000000000000000000000001
+F1,FULL,2024-03-03T00:00:00Z,,,0000000000000000000000000000000000000000000000000000000000000002
+I2,INCR,2024-03-04T00:00:00Z,F2,,0000000000000000000000000000000000000000000000000000000000000003
+I0,INCR,2024-03-02T00:00:00Z,F1,,0000000000000000000000000000000000000000000000000000000000000004
 ";
 
 /// A manifest, the rows that are held, and what is said of them: the latest chain, and the lines of
@@ -180,15 +183,6 @@ unlisted
     ),
 ];
 
-// A manifest of these rows. A row's digest is its number.
-fn manifest_of(alloc: Global, rows: &str) -> Result<Manifest, MFault> {
-    let mut text = String::from_str(alloc, "id,type,watermark,prevId,resend,sha256\n")?;
-    for (row, fields) in rows.lines().enumerate() {
-        writeln!(text, "{fields},{row:064}")?;
-    }
-    read_manifest(alloc, text.as_bytes())
-}
-
 fn push_place(text: &mut String, alloc: Global, place: Place) -> Result<(), NoMemory> {
     if let Some(watermark) = watermark_text(alloc, place.watermark)? {
         let kind = place.kind.name();
@@ -197,7 +191,9 @@ fn push_place(text: &mut String, alloc: Global, place: Place) -> Result<(), NoMe
     Ok(())
 }
 
+// A comma, and a number if there is one.
 fn push_number(text: &mut String, number: Option<u32>) -> Result<(), NoMemory> {
+    text.push_str(",")?;
     if let Some(number) = number {
         write!(text, "{number}")?;
     }
@@ -213,16 +209,13 @@ fn push_line(
 ) -> Result<(), NoMemory> {
     let state = line.state;
     push_place(text, alloc, line.place)?;
-    text.push_str(",")?;
     push_number(text, used)?;
     write!(text, ",{state},")?;
     if let Some(blocker) = &line.blocker {
         write!(text, "{blocker}")?;
     }
-    text.push_str(",")?;
     push_number(text, line.awaited)?;
-    text.push_str("\n")?;
-    Ok(())
+    Ok(text.push_str("\n")?)
 }
 
 // The resend of the row that is used of a place.
@@ -233,45 +226,58 @@ fn used_resend(m: &Manifest, held: &Held, place: Place) -> Option<u32>
     Some(row.header.resend)
 }
 
-// What is said of held rows by the plain calls.
-fn plainly(alloc: Global, m: &Manifest, held: &Held) -> Result<String, NoMemory>
+// The latest chain, by the plain call or by the one that goes by a moment, without one.
+fn chain_of(alloc: Global, m: &Manifest, held: &Held, plain: bool) -> Result<Vec<usize>, NoMemory>
     requires { InRange m.now held.now }
 {
-    let chain = latest_chain(alloc, m, held)?;
+    if plain {
+        latest_chain(alloc, m, held)
+    } else {
+        latest_chain_at(alloc, m, held, None)
+    }
+}
+
+// The lines of gaps, by such calls.
+fn lines_of(alloc: Global, m: &Manifest, held: &Held, plain: bool) -> Result<Vec<GapLine>, NoMemory>
+    requires { InRange m.now held.now }
+{
+    if plain {
+        gaps(alloc, m, held)
+    } else {
+        gaps_at(alloc, m, held, None)
+    }
+}
+
+// What is said of held rows: by the plain calls, or by those that go by a moment and by look-ups.
+fn text_of(alloc: Global, m: &Manifest, held: &Held, plain: bool) -> Result<String, NoMemory>
+    requires { InRange m.now held.now }
+{
+    let chain = chain_of(alloc, m, held, plain)?;
     let mut text = format!(in alloc; "{chain:?}\n")?;
-    for line in &gaps(alloc, m, held)? {
-        push_line(&mut text, alloc, line, used_resend(m, held, line.place))?;
+    for line in &lines_of(alloc, m, held, plain)? {
+        let used = if plain {
+            used_resend(m, held, line.place)
+        } else {
+            line.used
+        };
+        push_line(&mut text, alloc, line, used)?;
     }
     Ok(text)
 }
 
-// The same by the calls that go by a moment, without one.
-fn at_no_moment(alloc: Global, m: &Manifest, held: &Held) -> Result<String, NoMemory>
-    requires { InRange m.now held.now }
-{
-    let chain = latest_chain_at(alloc, m, held, None)?;
-    let mut text = format!(in alloc; "{chain:?}\n")?;
-    for line in &gaps_at(alloc, m, held, None)? {
-        push_line(&mut text, alloc, line, line.used)?;
-    }
-    Ok(text)
-}
-
-fn held_told(alloc: Global, rows: &str, held: &[usize], plain: bool) -> Result<String, MFault> {
-    let m = manifest_of(alloc, rows)?;
+fn held_told(alloc: Global, text: &str, held: &[usize], plain: bool) -> Result<String, MFault> {
+    let m = read_manifest(alloc, text.as_bytes())?;
     match Held::from_rows(alloc, &m, held)? {
-        Some(held) if plain => Ok(plainly(alloc, &m, &held)?),
-        Some(held) => Ok(at_no_moment(alloc, &m, &held)?),
+        Some(held) => Ok(text_of(alloc, &m, &held, plain)?),
         None => Ok(String::new(alloc)),
     }
 }
 
 #[test]
 fn chains_and_gaps(rt: HostRuntime) {
-    for (rows, held, told) in &HELD {
+    for (text, held, told) in &HELD {
         for plain in [true, false] {
-            let found = held_told(rt.alloc(), rows, held, plain);
-            assert_told(&rt, (*held, plain), found, told);
+            assert_told(&rt, plain, held_told(rt.alloc(), text, held, plain), told);
         }
     }
 }
@@ -306,25 +312,25 @@ fn push_base(text: &mut String, alloc: Global, base: Base) -> Result<(), NoMemor
     Ok(())
 }
 
-fn bases_told(alloc: Global, rows: &str, plain: bool) -> Result<String, MFault> {
-    let m = manifest_of(alloc, rows)?;
-    let mut text = String::new(alloc);
+fn bases_told(alloc: Global, text: &str, plain: bool) -> Result<String, MFault> {
+    let m = read_manifest(alloc, text.as_bytes())?;
+    let mut told = String::new(alloc);
     for row in 0..m.rows().len() {
         let base = if plain {
             base_of(&m, row)
         } else {
             base_of_alone(alloc, &m, row)?
         };
-        push_base(&mut text, alloc, base)?;
+        push_base(&mut told, alloc, base)?;
     }
-    Ok(text)
+    Ok(told)
 }
 
 #[test]
 fn bases_of_rows(rt: HostRuntime) {
-    for (rows, told) in &BASES {
+    for (text, told) in &BASES {
         for plain in [true, false] {
-            assert_told(&rt, plain, bases_told(rt.alloc(), rows, plain), told);
+            assert_told(&rt, plain, bases_told(rt.alloc(), text, plain), told);
         }
     }
 }

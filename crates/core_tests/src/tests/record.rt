@@ -2,13 +2,16 @@
 
 use super::asserts::assert_told;
 use super::shown::push_object;
-use super::tables::{Cells, object_of};
 use esc_bundle::NoMemory;
 use esc_record::{read_record, to_record};
+use esc_tables::{Object, Row};
 use std::alloc::Global;
 
 const CONTACT: &[u8] =
     b"\x00\x00\x00\x01\x00\x00\x00\x07contact\x00\x00\x00\x02\x00\x00\x00\x02id\x00\x00\x00\x02C1\x00\x00\x00\x04clID\x00\x00\x00\x02R1";
+
+/// A row's table and its cells.
+type Cells = (&'static str, &'static [(&'static str, &'static str)]);
 
 /// Objects, each with its parent and children, its record, whether that is written, its length, and
 /// the rows that are read of it.
@@ -72,6 +75,22 @@ static OTHERS: [&[u8]; 11] = [
     b"\x00\x00\x00\x01\xff\xff\xff\xffidn\x00\x00\x00\x00",
 ];
 
+fn rows_of(alloc: Global, tables: &[Cells]) -> Result<Vec<Row>, NoMemory> {
+    let mut rows = Vec::new(alloc);
+    for (table, cells) in tables {
+        rows.push(Row::from_cells(alloc, table, cells)?)?;
+    }
+    Ok(rows)
+}
+
+fn object_of(alloc: Global, parent: &Cells, children: &[Cells]) -> Result<Object, NoMemory> {
+    let (table, cells) = parent;
+    Ok(Object {
+        parent: Row::from_cells(alloc, table, cells)?,
+        children: rows_of(alloc, children)?,
+    })
+}
+
 // Whether the record of an object's copy is this.
 fn is_record(
     alloc: Global,
@@ -79,8 +98,7 @@ fn is_record(
     children: &[Cells],
     record: &[u8],
 ) -> Result<bool, NoMemory> {
-    let (table, cells) = parent;
-    let object = object_of(alloc, table, cells, children)?;
+    let object = object_of(alloc, parent, children)?;
     Ok(to_record(alloc, &object.copy(alloc)?)?.as_deref() == Some(record))
 }
 

@@ -26,11 +26,11 @@ pub struct Stopping {
     pub left: u32,
 }
 
-// One call more, if it is not the one that fails. Those after it are let through.
-fn pass(left: &mut u32) -> Result<(), Stopped> {
-    let stops = *left == 0;
-    *left = left.wrapping_sub(1);
-    if stops { Err(Stopped::Here) } else { Ok(()) }
+// Whether the next call is the one that fails. Those after it are let through.
+fn stops(left: &mut u32) -> bool {
+    let calls = *left;
+    *left = calls.wrapping_sub(1);
+    calls == 0
 }
 
 impl Registry for Stopping {
@@ -52,22 +52,30 @@ impl Registry for Stopping {
     ghost follows = { λ a b. Unit {0} };
 
     fn get(&mut self, alloc: Global, k: &Key) -> Result<Option<Object>, Stopped> {
-        pass(&mut self.left)?;
+        if stops(&mut self.left) {
+            return Err(Stopped::Here);
+        }
         Ok(self.inner.get(alloc, k)?)
     }
 
     fn put(&mut self, alloc: Global, k: &Key, o: &Object) -> Result<(), Stopped> {
-        pass(&mut self.left)?;
+        if stops(&mut self.left) {
+            return Err(Stopped::Here);
+        }
         Ok(self.inner.put(alloc, k, o)?)
     }
 
     fn remove(&mut self, k: &Key) -> Result<(), Stopped> {
-        pass(&mut self.left)?;
+        if stops(&mut self.left) {
+            return Err(Stopped::Here);
+        }
         Ok(self.inner.remove(k)?)
     }
 
     fn clear(&mut self) -> Result<(), Stopped> {
-        pass(&mut self.left)?;
+        if stops(&mut self.left) {
+            return Err(Stopped::Here);
+        }
         Ok(self.inner.clear()?)
     }
 
@@ -78,7 +86,9 @@ impl Registry for Stopping {
         k: &Key,
         before: Option<&Object>,
     ) -> Result<(), Stopped> {
-        pass(&mut self.left)?;
+        if stops(&mut self.left) {
+            return Err(Stopped::Here);
+        }
         Ok(self.inner.put_undo(alloc, step, k, before)?)
     }
 
@@ -89,7 +99,9 @@ impl Registry for Stopping {
         targets: Targets,
         objects: &BTreeMap<Key, Object>,
     ) -> Result<(), Stopped> {
-        pass(&mut self.left)?;
+        if stops(&mut self.left) {
+            return Err(Stopped::Here);
+        }
         Ok(self.inner.put_all(alloc, step, targets, objects)?)
     }
 
@@ -98,7 +110,9 @@ impl Registry for Stopping {
         alloc: Global,
         step: u32,
     ) -> Result<Vec<(Key, Option<Object>)>, Stopped> {
-        pass(&mut self.left)?;
+        if stops(&mut self.left) {
+            return Err(Stopped::Here);
+        }
         Ok(self.inner.take_undo(alloc, step)?)
     }
 
