@@ -99,12 +99,18 @@ fn given<T: Drop>(report: Result<T, StreamFault<NoMemory>>) -> Result<T, NoMemor
 
 // What is found of a deposit's objects, of all at once or one at a time.
 fn findings(alloc: Global, deposit: Deposit, whole: bool) -> Result<Vec<Finding>, NoMemory> {
-    let watermark = deposit.header.place.watermark;
+    let Deposit {
+        header,
+        counts,
+        contents,
+        ..
+    } = deposit;
+    let watermark = header.place.watermark;
     if whole {
-        return verify(alloc, &deposit.contents, watermark, &deposit.counts);
+        return verify(alloc, &contents, watermark, &counts);
     }
-    let mut objects = MapObjects::new(deposit.contents);
-    given(verify_from(alloc, &mut objects, watermark, &deposit.counts))
+    let mut objects = MapObjects::new(contents);
+    given(verify_from(alloc, &mut objects, watermark, &counts))
 }
 
 fn found_told(alloc: Global, body: &str, whole: bool) -> Result<String, Fault> {
