@@ -1,13 +1,11 @@
 //! Chains, gaps, bases and used rows of small manifests: by the plain calls, and by those that go
-//! by a moment and by look-ups.
+//! by a moment and by look-ups. What those build on is shown by chains and blockers.
 
 ghost use Rattle.esc_chain.specs.Chain.{InRange};
 
 use super::asserts::assert_told;
 use esc_bundle::NoMemory;
-use esc_chain::{
-    Base, Blocker, GapLine, Held, base_of, gaps, gaps_at, latest_chain, latest_chain_at, used,
-};
+use esc_chain::{GapLine, Held, base_of, gaps, gaps_at, latest_chain, latest_chain_at, used};
 use esc_envelope::{Place, watermark_text};
 use esc_manifest::{MFault, Manifest, read_manifest};
 use std::alloc::Global;
@@ -52,12 +50,12 @@ static HELD: [(&str, &[usize], &str); 9] = [
         B,
         &[],
         "[]
-2024-03-03T00:00:00Z,FULL,,missing,,0
-2024-03-04T00:00:00Z,DIFF,,missing,,1
-2024-03-05T00:00:00Z,DIFF,,missing,,0
-2024-03-06T00:00:00Z,INCR,,missing,,0
-2024-03-10T00:00:00Z,FULL,,missing,,0
-2024-03-11T00:00:00Z,DIFF,,missing,,0
+2024-03-03T00:00:00Z,FULL,None,missing,Some(0),
+2024-03-04T00:00:00Z,DIFF,None,missing,Some(1),
+2024-03-05T00:00:00Z,DIFF,None,missing,Some(0),
+2024-03-06T00:00:00Z,INCR,None,missing,Some(0),
+2024-03-10T00:00:00Z,FULL,None,missing,Some(0),
+2024-03-11T00:00:00Z,DIFF,None,missing,Some(0),
 ",
     ),
     // Both are blocked by the first Full, not by one another.
@@ -65,48 +63,48 @@ static HELD: [(&str, &[usize], &str); 9] = [
         B,
         &[2, 1],
         "[]
-2024-03-03T00:00:00Z,FULL,,missing,,0
-2024-03-04T00:00:00Z,DIFF,0,blocked,2024-03-03T00:00:00Z FULL,1
-2024-03-05T00:00:00Z,DIFF,0,blocked,2024-03-03T00:00:00Z FULL,
-2024-03-06T00:00:00Z,INCR,,missing,,0
-2024-03-10T00:00:00Z,FULL,,missing,,0
-2024-03-11T00:00:00Z,DIFF,,missing,,0
+2024-03-03T00:00:00Z,FULL,None,missing,Some(0),
+2024-03-04T00:00:00Z,DIFF,Some(0),blocked,Some(1),2024-03-03T00:00:00Z FULL
+2024-03-05T00:00:00Z,DIFF,Some(0),blocked,None,2024-03-03T00:00:00Z FULL
+2024-03-06T00:00:00Z,INCR,None,missing,Some(0),
+2024-03-10T00:00:00Z,FULL,None,missing,Some(0),
+2024-03-11T00:00:00Z,DIFF,None,missing,Some(0),
 ",
     ),
     (
         B,
         &[0, 1, 2, 3],
         "[0, 3]
-2024-03-03T00:00:00Z,FULL,0,chain,,
-2024-03-04T00:00:00Z,DIFF,0,standing,,1
-2024-03-05T00:00:00Z,DIFF,0,standing,,
-2024-03-06T00:00:00Z,INCR,0,chain,,
-2024-03-10T00:00:00Z,FULL,,missing,,0
-2024-03-11T00:00:00Z,DIFF,,missing,,0
+2024-03-03T00:00:00Z,FULL,Some(0),chain,None,
+2024-03-04T00:00:00Z,DIFF,Some(0),standing,Some(1),
+2024-03-05T00:00:00Z,DIFF,Some(0),standing,None,
+2024-03-06T00:00:00Z,INCR,Some(0),chain,None,
+2024-03-10T00:00:00Z,FULL,None,missing,Some(0),
+2024-03-11T00:00:00Z,DIFF,None,missing,Some(0),
 ",
     ),
     (
         B,
         &[0, 1, 5],
         "[0, 1]
-2024-03-03T00:00:00Z,FULL,0,chain,,
-2024-03-04T00:00:00Z,DIFF,0,chain,,1
-2024-03-05T00:00:00Z,DIFF,,missing,,0
-2024-03-06T00:00:00Z,INCR,,missing,,0
-2024-03-10T00:00:00Z,FULL,,missing,,0
-2024-03-11T00:00:00Z,DIFF,0,blocked,2024-03-10T00:00:00Z FULL,
+2024-03-03T00:00:00Z,FULL,Some(0),chain,None,
+2024-03-04T00:00:00Z,DIFF,Some(0),chain,Some(1),
+2024-03-05T00:00:00Z,DIFF,None,missing,Some(0),
+2024-03-06T00:00:00Z,INCR,None,missing,Some(0),
+2024-03-10T00:00:00Z,FULL,None,missing,Some(0),
+2024-03-11T00:00:00Z,DIFF,Some(0),blocked,None,2024-03-10T00:00:00Z FULL
 ",
     ),
     (
         B,
         &[6, 2, 1, 0],
         "[0, 6, 2]
-2024-03-03T00:00:00Z,FULL,0,chain,,
-2024-03-04T00:00:00Z,DIFF,1,chain,,
-2024-03-05T00:00:00Z,DIFF,0,chain,,
-2024-03-06T00:00:00Z,INCR,,missing,,0
-2024-03-10T00:00:00Z,FULL,,missing,,0
-2024-03-11T00:00:00Z,DIFF,,missing,,0
+2024-03-03T00:00:00Z,FULL,Some(0),chain,None,
+2024-03-04T00:00:00Z,DIFF,Some(1),chain,None,
+2024-03-05T00:00:00Z,DIFF,Some(0),chain,None,
+2024-03-06T00:00:00Z,INCR,None,missing,Some(0),
+2024-03-10T00:00:00Z,FULL,None,missing,Some(0),
+2024-03-11T00:00:00Z,DIFF,None,missing,Some(0),
 ",
     ),
     // Of D2 the later revision alone is held, so the earlier one is not awaited.
@@ -114,71 +112,71 @@ static HELD: [(&str, &[usize], &str); 9] = [
         B,
         &[4, 5, 6],
         "[4, 5]
-2024-03-03T00:00:00Z,FULL,,missing,,0
-2024-03-04T00:00:00Z,DIFF,1,blocked,2024-03-03T00:00:00Z FULL,
-2024-03-05T00:00:00Z,DIFF,,missing,,0
-2024-03-06T00:00:00Z,INCR,,missing,,0
-2024-03-10T00:00:00Z,FULL,0,chain,,
-2024-03-11T00:00:00Z,DIFF,0,chain,,
+2024-03-03T00:00:00Z,FULL,None,missing,Some(0),
+2024-03-04T00:00:00Z,DIFF,Some(1),blocked,None,2024-03-03T00:00:00Z FULL
+2024-03-05T00:00:00Z,DIFF,None,missing,Some(0),
+2024-03-06T00:00:00Z,INCR,None,missing,Some(0),
+2024-03-10T00:00:00Z,FULL,Some(0),chain,None,
+2024-03-11T00:00:00Z,DIFF,Some(0),chain,None,
 ",
     ),
     (
         B_WITH_X9,
         &[0, 1, 2, 7],
         "[0, 1]
-2024-03-03T00:00:00Z,FULL,0,chain,,
-2024-03-04T00:00:00Z,DIFF,0,chain,,1
-2024-03-05T00:00:00Z,DIFF,1,blocked,unlisted X9,
-2024-03-06T00:00:00Z,INCR,,missing,,0
-2024-03-10T00:00:00Z,FULL,,missing,,0
-2024-03-11T00:00:00Z,DIFF,,missing,,0
+2024-03-03T00:00:00Z,FULL,Some(0),chain,None,
+2024-03-04T00:00:00Z,DIFF,Some(0),chain,Some(1),
+2024-03-05T00:00:00Z,DIFF,Some(1),blocked,None,unlisted X9
+2024-03-06T00:00:00Z,INCR,None,missing,Some(0),
+2024-03-10T00:00:00Z,FULL,None,missing,Some(0),
+2024-03-11T00:00:00Z,DIFF,None,missing,Some(0),
 ",
     ),
     (
         TIES,
         &[4, 1, 0],
         "[0]
-2024-03-02T00:00:00Z,INCR,0,blocked,no earlier FULL,
-2024-03-03T00:00:00Z,FULL,,missing,,0
-2024-03-04T00:00:00Z,DIFF,0,blocked,2024-03-03T00:00:00Z FULL,
-2024-03-04T00:00:00Z,INCR,,missing,,0
-2024-03-04T00:00:00Z,FULL,0,chain,,
+2024-03-02T00:00:00Z,INCR,Some(0),blocked,None,no earlier FULL
+2024-03-03T00:00:00Z,FULL,None,missing,Some(0),
+2024-03-04T00:00:00Z,DIFF,Some(0),blocked,None,2024-03-03T00:00:00Z FULL
+2024-03-04T00:00:00Z,INCR,None,missing,Some(0),
+2024-03-04T00:00:00Z,FULL,Some(0),chain,None,
 ",
     ),
     (
         TIES,
         &[1, 2, 3],
         "[2, 3]
-2024-03-02T00:00:00Z,INCR,,missing,,0
-2024-03-03T00:00:00Z,FULL,0,chain,,
-2024-03-04T00:00:00Z,DIFF,0,standing,,
-2024-03-04T00:00:00Z,INCR,0,chain,,
-2024-03-04T00:00:00Z,FULL,,missing,,0
+2024-03-02T00:00:00Z,INCR,None,missing,Some(0),
+2024-03-03T00:00:00Z,FULL,Some(0),chain,None,
+2024-03-04T00:00:00Z,DIFF,Some(0),standing,None,
+2024-03-04T00:00:00Z,INCR,Some(0),chain,None,
+2024-03-04T00:00:00Z,FULL,None,missing,Some(0),
 ",
     ),
 ];
 
-/// A manifest, and what each of its rows builds on.
+/// A manifest, and what each of its rows builds on. The watermarks are 2024-03-03, 04 and 10.
 static BASES: [(&str, &str); 2] = [
     (
         B_WITH_X9,
-        "nothing
-2024-03-03T00:00:00Z,FULL
-2024-03-04T00:00:00Z,DIFF
-2024-03-03T00:00:00Z,FULL
-nothing
-2024-03-10T00:00:00Z,FULL
-2024-03-03T00:00:00Z,FULL
-unlisted
+        "Whole
+At(Place { watermark: 1709424000000000000, kind: Full })
+At(Place { watermark: 1709510400000000000, kind: Diff })
+At(Place { watermark: 1709424000000000000, kind: Full })
+Whole
+At(Place { watermark: 1710028800000000000, kind: Full })
+At(Place { watermark: 1709424000000000000, kind: Full })
+Unlisted
 ",
     ),
     (
         TIES,
-        "nothing
-2024-03-03T00:00:00Z,FULL
-nothing
-2024-03-03T00:00:00Z,FULL
-unlisted
+        "Whole
+At(Place { watermark: 1709424000000000000, kind: Full })
+Whole
+At(Place { watermark: 1709424000000000000, kind: Full })
+Unlisted
 ",
     ),
 ];
@@ -191,16 +189,8 @@ fn push_place(text: &mut String, alloc: Global, place: Place) -> Result<(), NoMe
     Ok(())
 }
 
-// A comma, and a number if there is one.
-fn push_number(text: &mut String, number: Option<u32>) -> Result<(), NoMemory> {
-    text.push_str(",")?;
-    if let Some(number) = number {
-        write!(text, "{number}")?;
-    }
-    Ok(())
-}
-
-// What a line says, as the report on gaps has it, with this resend as the used one.
+// What a line says, with this resend as the used one: the place, the used resend, the state, the
+// awaited resend, and the blocker.
 fn push_line(
     text: &mut String,
     alloc: Global,
@@ -208,13 +198,12 @@ fn push_line(
     used: Option<u32>,
 ) -> Result<(), NoMemory> {
     let state = line.state;
+    let awaited = line.awaited;
     push_place(text, alloc, line.place)?;
-    push_number(text, used)?;
-    write!(text, ",{state},")?;
+    write!(text, ",{used:?},{state},{awaited:?},")?;
     if let Some(blocker) = &line.blocker {
         write!(text, "{blocker}")?;
     }
-    push_number(text, line.awaited)?;
     Ok(text.push_str("\n")?)
 }
 
@@ -282,46 +271,12 @@ fn chains_and_gaps(rt: HostRuntime) {
     }
 }
 
-// What blocks the one row that is held, as its base.
-fn base_in(lines: &[GapLine]) -> Base {
-    for line in lines {
-        match &line.blocker {
-            Some(Blocker::NotHeld(place)) => return Base::At(place.place()),
-            Some(_) => return Base::Unlisted,
-            None => continue,
-        }
-    }
-    Base::Whole
-}
-
-// What a row builds on, as the lines of gaps have it where no other row is held.
-fn base_of_alone(alloc: Global, m: &Manifest, row: usize) -> Result<Base, NoMemory> {
-    match Held::from_rows(alloc, m, &[row])? {
-        Some(held) => Ok(base_in(&gaps_at(alloc, m, &held, None)?)),
-        None => Ok(Base::Unlisted),
-    }
-}
-
-fn push_base(text: &mut String, alloc: Global, base: Base) -> Result<(), NoMemory> {
-    match base {
-        Base::Whole => text.push_str("nothing")?,
-        Base::At(place) => push_place(text, alloc, place)?,
-        Base::Unlisted => text.push_str("unlisted")?,
-    }
-    text.push_str("\n")?;
-    Ok(())
-}
-
-fn bases_told(alloc: Global, text: &str, plain: bool) -> Result<String, MFault> {
+fn bases_told(alloc: Global, text: &str) -> Result<String, MFault> {
     let m = read_manifest(alloc, text.as_bytes())?;
     let mut told = String::new(alloc);
     for row in 0..m.rows().len() {
-        let base = if plain {
-            base_of(&m, row)
-        } else {
-            base_of_alone(alloc, &m, row)?
-        };
-        push_base(&mut told, alloc, base)?;
+        let base = base_of(&m, row);
+        writeln!(told, "{base:?}")?;
     }
     Ok(told)
 }
@@ -329,8 +284,6 @@ fn bases_told(alloc: Global, text: &str, plain: bool) -> Result<String, MFault> 
 #[test]
 fn bases_of_rows(rt: HostRuntime) {
     for (text, told) in &BASES {
-        for plain in [true, false] {
-            assert_told(&rt, plain, bases_told(rt.alloc(), text, plain), told);
-        }
+        assert_told(&rt, *text, bases_told(rt.alloc(), text), told);
     }
 }

@@ -12,24 +12,32 @@ use std::alloc::Global;
 /// A body, and a line for each finding in what it has.
 static FOUND: [(&str, &str); 5] = [
     (EMPTY, ""),
-    (AFTER_BOTH, "V1,domain,a.example,clID,R2,registrar\n"),
+    (
+        AFTER_BOTH,
+        "Finding { code: 1, kind: Domain, key: \"a.example\", field: \"clID\", value: \"R2\", other: \"registrar\" }
+",
+    ),
     (
         AFTER_D6,
-        "V1,domain,e.example,hostName,ns1.e.example,host
-V1,domain,f.example,registrant,C9,contact
-V2,domain,,count,3,2
+        "Finding { code: 1, kind: Domain, key: \"e.example\", field: \"hostName\", value: \"ns1.e.example\", other: \"host\" }
+Finding { code: 1, kind: Domain, key: \"f.example\", field: \"registrant\", value: \"C9\", other: \"contact\" }
+Finding { code: 2, kind: Domain, key: \"\", field: \"count\", value: \"3\", other: \"2\" }
 ",
     ),
     (
         DATED,
-        "V3,domain,g.example,status,gone,
-V4,domain,g.example,status,ok,
-V5,domain,g.example,crDate,2024-03-04T00:00:00Z,2024-03-03T00:00:00Z
-V6,domain,g.example,exDate,2024-03-02T00:00:00Z,2024-03-04T00:00:00Z
-V7,domain,h.example,crDate,2024-03-04,
+        "Finding { code: 3, kind: Domain, key: \"g.example\", field: \"status\", value: \"gone\", other: \"\" }
+Finding { code: 4, kind: Domain, key: \"g.example\", field: \"status\", value: \"ok\", other: \"\" }
+Finding { code: 5, kind: Domain, key: \"g.example\", field: \"crDate\", value: \"2024-03-04T00:00:00Z\", other: \"2024-03-03T00:00:00Z\" }
+Finding { code: 6, kind: Domain, key: \"g.example\", field: \"exDate\", value: \"2024-03-02T00:00:00Z\", other: \"2024-03-04T00:00:00Z\" }
+Finding { code: 7, kind: Domain, key: \"h.example\", field: \"crDate\", value: \"2024-03-04\", other: \"\" }
 ",
     ),
-    (LATER, "V1,domain,b.example,idnTableId,I2,idn\n"),
+    (
+        LATER,
+        "Finding { code: 1, kind: Domain, key: \"b.example\", field: \"idnTableId\", value: \"I2\", other: \"idn\" }
+",
+    ),
 ];
 
 /// A body, a kind, and the export of its objects.
@@ -69,22 +77,11 @@ domain,e.example,domainStatuses,1,status,ok
     ),
 ];
 
-fn push_finding(text: &mut String, finding: &Finding) -> Result<(), NoMemory> {
-    let code = finding.code;
-    let kind = finding.kind.name();
-    let key = finding.key.as_str();
-    let field = finding.field.as_str();
-    let value = finding.value.as_str();
-    let other = finding.other.as_str();
-    writeln!(text, "V{code},{kind},{key},{field},{value},{other}")?;
-    Ok(())
-}
-
 // A line for each finding.
 fn shown(alloc: Global, found: &[Finding]) -> Result<String, NoMemory> {
     let mut text = String::new(alloc);
     for finding in found {
-        push_finding(&mut text, finding)?;
+        writeln!(text, "{finding:?}")?;
     }
     Ok(text)
 }
