@@ -1,7 +1,11 @@
 //! The tests, a module for each library or type, and how they compare.
 
+mod apply;
 mod asserts;
+mod bodies;
 mod bundles;
+mod chain;
+mod check;
 mod envelopes;
 mod lines;
 mod packing;
