@@ -61,7 +61,7 @@ fn first_named<'a>(known: &'a [KnownTable], name: &str) -> Option<&'a KnownTable
 }
 
 /// The known table that a file's name stands for, if any: the first whose stem it begins with.
-pub(crate) fn table_named(name: &str) -> Option<KnownTable>
+pub fn table_named(name: &str) -> Option<KnownTable>
     ensures { result ≡ table_named name.now }
 {
     let known = all_known();

@@ -85,7 +85,7 @@ mod written;
 
 pub use bundle::bundle_of_files;
 pub use bundle_fault::BundleFault;
-pub use describe::describe_files;
+pub use describe::{describe_files, table_named};
 pub use fault::ReleaseFault;
 pub use given::TableFiles;
 pub use known_table::KnownTable;

@@ -3,7 +3,7 @@
 use crate::files::read_named;
 use crate::stop::{Refusal, Stop, or_stop};
 use esc_console::plain_files;
-use esc_pack::{BundleFault, FolderFile, KnownTable, Proposal, Unknown, describe_files};
+use esc_pack::{BundleFault, FolderFile, Proposal, Unknown, describe_files, table_named};
 
 /// What no file says, so that the description has placeholders for it.
 const UNTOLD: &str = "unknown id\nunknown type\nunknown watermark\n";
@@ -48,25 +48,10 @@ fn read_known(rt: &HostRuntime, folder: &str, names: &[String]) -> Result<Vec<Ve
 }
 
 fn bytes_if_known(rt: &HostRuntime, folder: &str, name: &str) -> Result<Vec<u8>, Stop> {
-    if is_known(name) {
+    if table_named(name).is_some() {
         read_named(rt, folder, name)
     } else {
         Ok(Vec::new(rt.alloc()))
-    }
-}
-
-// Whether a table is known by a file's name.
-fn is_known(name: &str) -> bool {
-    KnownTable::ALL
-        .iter()
-        .any(|table| begins_with(name, table.file_stem()))
-}
-
-// Whether a name begins with a stem, before a dash or a dot.
-fn begins_with(name: &str, stem: &str) -> bool {
-    match name.strip_prefix(stem) {
-        Some(rest) => rest.starts_with('-') || rest.starts_with('.'),
-        None => false,
     }
 }
 
