@@ -56,6 +56,21 @@ module _ (k : Kept) (told : List ℕ) where
             by_either (inl old) = inr (old, of.1)
             by_either (inr last) = absurd (none r last of.1)
 
+    -- a row that was found lists the digest
+    pub found_already : (row : ℕ) → row_of k.listed digest ≡ Some row → Contains rows row → AreFound k told (digests ++ digest ∷ []) rows
+    found_already row lists there = record {
+      rising = found.rising;
+      each = λ r. (λ in_rows. more r ((found.each r).0 in_rows), λ is. back r is);
+    }
+      where
+        back : (r : ℕ) → IsOneOf k told (digests ++ digest ∷ []) r → Contains rows r
+        back r (inl said) = (found.each r).1 (inl said)
+        back r (inr of) = by_either (either r of.0)
+          where
+            by_either : IsOfDigests k digests r ⊎ (row_of k.listed digest ≡ Some r) → Contains rows r
+            by_either (inl old) = (found.each r).1 (inr (old, of.1))
+            by_either (inr last) = subst (Contains rows) (same_Some _ _ (sym lists ∙ last)) there
+
     -- a row lists the digest, and a body is held of it
     pub found_one_more : (row : ℕ) (after : List ℕ) → row_of k.listed digest ≡ Some row → IsSome (k.bodies row) → IsInserted rows row after
         → AreFound k told (digests ++ digest ∷ []) after

@@ -1,10 +1,11 @@
 -- Rows that rise, and one row more in its place.
-use Rattle.std.proofs.Common.{◌≡◌, ◌⊎◌, inl, inr, ℕ, zero, suc, ◌<◌, ◌≤◌, List, [], ◌∷◌, length, get_or, Err, refl, sym, subst, arith}
+use Rattle.std.proofs.Common.{◌≡◌, ◌⊎◌, inl, inr, ℕ, zero, suc, ◌<◌, ◌≤◌, true, List, [], ◌∷◌, length, get_or, Result, Ok, Err, is_ok, refl, sym, subst, true≢false, arith}
 use Rattle.std.specs.List.{Contains, insert}
-use Rattle.std.specs.List.Sorted.{IsBinarySearchResult}
+use Rattle.std.specs.List.Sorted.{IsBinarySearchResult, IsSearchInRange}
 use Rattle.std.specs.Ordering.{nat_cmp}
 use Rattle.std.proofs.lemmas.List.Sorted.{searched, IsPermutation-insert, IsPermutation-sym, All-permutation, Contains-permutation}
 use Rattle.std.proofs.lemmas.List.Elements.{All-cons, All-from_get_or}
+use Rattle.std.proofs.lemmas.Map.Lookups.{exact_unsigned}
 use Rattle.esc_store.specs.Kept.{IsRising}
 use Rattle.esc_store.specs.ListLaws.{first_or_later, later}
 use Rattle.esc_desk.specs.Knowing.{IsInserted}
@@ -28,6 +29,12 @@ rising_insert (x ∷ xs) (suc i) y up le below above = (
   rising_insert xs i y up.1 (omega (arith, le)) (λ k under. below (suc k) (omega (arith, under)))
       (λ k past within. above (suc k) (omega (arith, past)) (omega (arith, within))),
 )
+
+-- a row that a search finds is one of them
+pub found_there : (rows : List ℕ) (row : ℕ) (r : Result ℕ ℕ) → is_ok r ≡ true → IsSearchInRange r (length rows)
+    → IsBinarySearchResult (λ y. nat_cmp y row) rows r → Contains rows row
+found_there rows row (Ok i) found within at = (i, within, exact_unsigned _ _ (at row))
+found_there rows row (Err i) found within at = absurd (true≢false (sym found))
 
 -- ---- one element more
 

@@ -3,6 +3,7 @@ use Rattle.std.specs.Prelude.{
   ◌≡◌,
   ◌≢◌,
   ◌⊎◌,
+  ◌≤◌,
   ◌==◌,
   All,
   None,
@@ -23,6 +24,7 @@ use Rattle.esc_manifest.specs.declared.fault.MFault.TheVariants.{Refused as Refu
 use Rattle.esc_manifest.specs.declared.row.MRow.{MRow}
 use Rattle.esc_manifest.specs.Extension.{new_rows, extended, extension}
 use Rattle.esc_manifest.specs.Manifest.{manifest_of}
+use Rattle.esc_manifest.specs.RowFaults.{most_rows}
 use Rattle.esc_apply.specs.declared.moves.Work.{Work}
 use Rattle.esc_store.specs.Faults.{IsS1OrS2}
 use Rattle.esc_store.specs.Kept.{Kept}
@@ -66,9 +68,13 @@ IsAmendCause e text (M (RefusedRow code row)) = IsRefusedUnion (union e) text co
 IsAmendCause e text (M NoMemory) = ⊥
 IsAmendCause e text (OfStore fault) = IsS1OrS2 fault
 
+-- a refusal is M1 to M13, at a row of a manifest or, as row 0, at none
+abbrev pub IsRefusal : ℕ → ℕ → Type 0
+IsRefusal code row = (1 ≤ code) × (code ≤ 13) × (row ≤ most_rows)
+
 -- an amendment's text is refused, or it is lost by S1 or S2
 abbrev pub IsAmendFault : AmendFault → Type 0
-IsAmendFault (M (RefusedRow code row)) = Unit {0}
+IsAmendFault (M (RefusedRow code row)) = IsRefusal code row
 IsAmendFault (M NoMemory) = ⊥
 IsAmendFault (OfStore fault) = IsS1OrS2 fault
 

@@ -4,6 +4,7 @@ use Rattle.sha2.specs.Sha256.{sha256}
 use Rattle.sqlite_trees.specs.declared.store.Store.{Ghosts}
 use Rattle.esc_tables.specs.Reading.{reading}
 use Rattle.esc_apply.specs.declared.moves.Work.{Work}
+use Rattle.esc_store.specs.declared.books.TheConstants.{MOST_RECEIPTS}
 use Rattle.esc_store.specs.declared.fault.SFault.{SFault}
 use Rattle.esc_store.specs.declared.fault.SFault.TheVariants.{S1, S2, S3, S4, S5}
 use Rattle.esc_store.specs.declared.reply.Verdict.TheVariants.{A2}
@@ -112,7 +113,7 @@ RepeatsReply e a reply work = (r : ReplyValue) → reply_to sha256 reading e a �
 -- receipts
 abbrev pub HasNoRoom : List EventValue → ArrivalValue → Type 0
 HasNoRoom e a = (reply_to sha256 reading e a ≡ None)
-    × (1_000_000_000 ≤ length (receipts_of sha256 reading e))
+    × (MOST_RECEIPTS ≤ length (receipts_of sha256 reading e))
 
 -- the body of an arrival is to be parked: the arrival is no duplicate of an earlier one, or that
 -- one's verdict was A2; no row lists the body, and it isn't parked
@@ -139,7 +140,7 @@ IsCause e a S5 = WhereApart e (HasNoPlace e a)
 -- if an arrival is no duplicate, there was room for its receipt
 abbrev pub HadRoom : List EventValue → ArrivalValue → Type 0
 HadRoom e a = reply_to sha256 reading e a ≡ None
-    → length (receipts_of sha256 reading e) < 1_000_000_000
+    → length (receipts_of sha256 reading e) < MOST_RECEIPTS
 
 -- there was a place to park its body, if it was to be parked; said if no two different bodies have
 -- the same digest

@@ -1,6 +1,7 @@
 -- Why the store refuses an arrival.
 use Rattle.std.specs.Prelude.{◌≡◌, ◌⊎◌, ◌≤◌, ℕ, List, None, length}
 use Rattle.sqlite_trees.specs.declared.store.Store.{Ghosts}
+use Rattle.esc_store.specs.declared.books.TheConstants.{MOST_RECEIPTS}
 use Rattle.esc_store.specs.declared.fault.SFault.{SFault}
 use Rattle.esc_store.specs.declared.fault.SFault.TheVariants.{S4, S5}
 use Rattle.esc_store.specs.declared.store.Store.{Store}
@@ -24,13 +25,13 @@ module _ {S : Type 0} (g : Ghosts S) where
   abbrev pub IsStoreFault : Store S → Store S → SFault → Type 0
   IsStoreFault old new fault = IsS1OrS2 fault
       ⊎ ((fault ≡ S4) × (IsHonest g new → (k : Kept) → Stands g old k
-      → 1_000_000_000 ≤ length k.receipts))
+      → MOST_RECEIPTS ≤ length k.receipts))
 
   -- the same of a change
   abbrev pub IsChangeFault : ChangeOf S → ChangeOf S → SFault → Type 0
   IsChangeFault old new fault = IsS1OrS2 fault
       ⊎ ((fault ≡ S4) × (IsHonest g new.store.now → (before k : Kept) → Rest g old before k
-      → 1_000_000_000 ≤ length k.receipts))
+      → MOST_RECEIPTS ≤ length k.receipts))
 
   -- the same; or S5, where there was no place to park the body
   abbrev pub IsNoteFault : Store S → Store S → Parking → SFault → Type 0
@@ -60,15 +61,15 @@ module _ {S : Type 0} (g : Ghosts S) where
   -- ---- of an arrival that comes again with its reply A2
 
   -- S1 or S2; or S5, where there was no place to park the body with this digest
-  abbrev pub IsParkAgainFault : Store S → Store S → List ℕ → SFault → Type 0
-  IsParkAgainFault old new digest fault = ((fault ≡ S5)
+  abbrev pub IsParkLateFault : Store S → Store S → List ℕ → SFault → Type 0
+  IsParkLateFault old new digest fault = ((fault ≡ S5)
       × (IsHonest g new → (k : Kept) → Stands g old k
       → (k.parked digest ≡ None) × IsFull k.parked)) ⊎ IsS1OrS2 fault
 
   -- the same of a body of which this was found
   abbrev pub IsTakeAgainFault : Store S → Store S → Assessment → List ℕ → SFault → Type 0
   IsTakeAgainFault old new found digest fault =
-      ((found ≡ Unlisted) × IsParkAgainFault old new digest fault) ⊎ IsS1OrS2 fault
+      ((found ≡ Unlisted) × IsParkLateFault old new digest fault) ⊎ IsS1OrS2 fault
 
   -- the same of the arrival
   abbrev pub IsAgainFault : Store S → Store S → List ℕ → SFault → Type 0

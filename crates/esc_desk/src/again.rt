@@ -213,9 +213,9 @@ fn take_found<S: Alter>(
     // Read for the proof alone: it shows that the count is below 2^64.
     let _writes = store.writes();
     match found {
-        Assessment::Unlisted => park_again(store, alloc, digest, body),
+        Assessment::Unlisted => park_late(store, alloc, digest, body),
         Assessment::Unreadable(..) | Assessment::Differing(_) => Ok(NO_WORK),
-        Assessment::Holding(row, deposit) => hold_again(store, alloc, known, row, deposit, body),
+        Assessment::Holding(row, deposit) => hold_late(store, alloc, known, row, deposit, body),
     }
 }
 
@@ -223,7 +223,7 @@ ghost use Rattle.esc_desk.specs.Causes.{IsTakeAgainFault};
 
 // Parks a body that no row lists, unless it is parked.
 #[tactic(auto, using(esc_store::specs::StandingLaws::was_honest))]
-fn park_again<S: Alter>(
+fn park_late<S: Alter>(
     store: &mut Store<S>,
     alloc: Global,
     digest: &[u8; 32],
@@ -249,7 +249,7 @@ fn park_again<S: Alter>(
         → AddsStoreFor S.Store store.old.conn store.new.conn result
         (e ++ arrived (an_arrival n body.now) ∷ []) }
     ensures honest { IsHonest S.Store store.new → IsHonest S.Store store.old }
-    ensures cause { IfErr result (IsParkAgainFault S.Store store.old store.new digest.now) }
+    ensures cause { IfErr result (IsParkLateFault S.Store store.old store.new digest.now) }
 {
     books_after_a_lost_one_again();
     chain_after_an_event();
@@ -265,11 +265,11 @@ fn park_again<S: Alter>(
     }
 }
 
-ghost use Rattle.esc_desk.specs.Causes.{IsParkAgainFault};
+ghost use Rattle.esc_desk.specs.Causes.{IsParkLateFault};
 
 // Stores the body of a row, unless the row has one.
 #[tactic(auto, using(esc_store::specs::StandingLaws::was_honest))]
-fn hold_again<S: Alter>(
+fn hold_late<S: Alter>(
     store: &mut Store<S>,
     alloc: Global,
     known: &mut Known,
@@ -303,14 +303,14 @@ fn hold_again<S: Alter>(
         return Ok(NO_WORK);
     }
     insert_row(&mut known.held, row)?;
-    move_with(store, alloc, known, row, deposit, body)
+    hold_and_move(store, alloc, known, row, deposit, body)
 }
 
 // Stores the body of a row that has none yet, and moves the chain. `known` is what is known of the
 // store's rows with this one among them, and of its chain, which is updated; after an `Err` it has
 // no meaning.
 #[tactic(auto, using(esc_store::specs::StandingLaws::was_honest))]
-fn move_with<S: Alter>(
+fn hold_and_move<S: Alter>(
     store: &mut Store<S>,
     alloc: Global,
     known: &mut Known,

@@ -37,6 +37,7 @@ ghost use Rattle.esc_store.specs.Standing.{
   GoesOn,
   IsUncommitted,
   listed_by,
+  rows_of,
 };
 ghost use Rattle.esc_events.specs.declared.known.Known.{Known};
 ghost use Rattle.esc_events.specs.Amended.{with_all_adopted, with_all_dropped, amended_kept};
@@ -52,6 +53,7 @@ ghost use Rattle.esc_desk.specs.Amendments.{
   DeskLeavesAmended,
 };
 ghost use Rattle.esc_desk.specs.Calls.{
+  store_of,
   writes_of,
   After,
   OkAfter,
@@ -102,15 +104,19 @@ impl<S: Alter> Desk<S> {
     /// from now on. A body that is parked for a new row is held if it is the row's deposit, and is
     /// no longer parked in any case; replies that were given stay as they were. Returns how many
     /// rows are new, and the work of the chain's move. At `Err` nothing has changed: the refusal of
-    /// the text or of the union (M1 to M13; a text that is too long is M1, whatever memory there
-    /// is), `S1`, `S2`. A crash leaves an amendment that was taken in; after `S1` or `S2` it may
-    /// leave this one taken in.
+    /// the text or of its union with the rows in memory (M1 to M13, whatever the disk holds; a text
+    /// that is too long is M1, whatever memory there is), `S1`, `S2`. A crash leaves an amendment
+    /// that was taken in; after `S1` or `S2` it may leave this one taken in.
     pub fn amend(&mut self, alloc: Global, text: &[u8]) -> Result<(u32, Work), AmendFault>
         ensures amended { OkAfter S.Store self.old self.new result
             (λ e p. IsAmended S.Store self.new e text.now p.0 p.1) }
         ensures cause { After S.Store self.old self.new
             (λ e. IfErr result (IsAmendCause e text.now)) }
         ensures fault { IfErr result IsAmendFault }
+        ensures refused { (code row : ℕ) → result ≡ Err (AmendFault.M (MFault.Refused code row))
+            → IsRefusedUnion (rows_of (store_of self.old)) text.now code row }
+        ensures unchanged { (code row : ℕ)
+            → result ≡ Err (AmendFault.M (MFault.Refused code row)) → self.new ≡ self.old }
         ensures over_limit { most_bytes < length text.now
             → result ≡ Err (AmendFault.M (MFault.Refused 1 0)) }
         ensures counted { IfOk result
@@ -145,6 +151,8 @@ impl<S: Alter> Desk<S> {
         ensures united { IfOk result (IsUnionWith self.now.store.manifest text.now) }
         ensures refused { (code row : ℕ) → result ≡ Err (MFault.Refused code row)
             → IsRefusedUnion self.now.store.manifest text.now code row }
+        ensures numbers { (code row : ℕ) → result ≡ Err (MFault.Refused code row)
+            → IsRefusal code row }
         ensures over_limit { most_bytes < length text.now → result ≡ Err (MFault.Refused 1 0) }
     {
         let more = read_manifest(alloc, text)?;
@@ -184,7 +192,7 @@ impl<S: Alter> Desk<S> {
 ghost use Rattle.std.specs.Prelude.{Err};
 ghost use Rattle.esc_manifest.specs.declared.fault.MFault.TheVariants as MFault;
 ghost use Rattle.esc_manifest.specs.Manifest.{most_bytes};
-ghost use Rattle.esc_desk.specs.Amendments.{IsUnionWith, IsRefusedUnion};
+ghost use Rattle.esc_desk.specs.Amendments.{IsUnionWith, IsRefusal, IsRefusedUnion};
 
 // Lists the rows of a union. `known` is what is known of the store's rows, and is updated; after an
 // `Err` it has no meaning.

@@ -1,24 +1,15 @@
 //! What is found of a body by the listed rows.
 
-ghost use Rattle.std.specs.Prelude.{◌≡◌, ◌<◌, ℕ, length, Ok, IfOk, IfSome, string_bytes};
-ghost use Rattle.std.specs.Option.{option_map};
-ghost use Rattle.std.specs.Str.{bytes_eq};
+ghost use Rattle.std.specs.Prelude.{◌≡◌, ◌<◌, ℕ, length, Ok, IfOk, IfSome};
 ghost use Rattle.sha2.specs.Sha256.{sha256};
 ghost use Rattle.esc_tables.specs.DepositValue.{DepositValue};
 ghost use Rattle.esc_tables.specs.Reading.{reading};
 ghost use Rattle.esc_events.specs.declared.assessment.Assessment.TheVariants.{Holding};
-ghost use Rattle.esc_events.specs.Assessment.{
-  as_listed,
-  same_option,
-  same_place,
-  compared,
-  assessment,
-  held_row,
-};
+ghost use Rattle.esc_events.specs.Assessment.{as_listed, compared, assessment, held_row};
 
-use crate::reread::{Reread, read_again};
+use crate::reread::{Reread, deposit_of_body};
 use esc_bundle::{Fault, NoMemory};
-use esc_envelope::{DepositType, Header, Place};
+use esc_envelope::{DepositType, Header};
 use esc_events::Assessment;
 use esc_manifest::{MRow, Manifest};
 use esc_tables::Deposit;
@@ -42,7 +33,7 @@ pub(crate) fn find(
     let Some(row) = manifest.row_by_digest(digest) else {
         return Ok(Assessment::Unlisted);
     };
-    match read_again(alloc, last, body) {
+    match deposit_of_body(alloc, last, body) {
         Ok(deposit) => Ok(compare(manifest.rows(), row, deposit)),
         Err(Fault::Refused(number)) => Ok(Assessment::Unreadable(row, number)),
         Err(Fault::NoMemory) => Err(NoMemory),
@@ -67,33 +58,10 @@ pub(crate) fn compare(rows: &[MRow], row: usize, deposit: Deposit) -> Assessment
 fn is_as_listed(row: &Header, deposit: &Header) -> bool
     ensures { result ≡ as_listed row.now deposit.now }
 {
-    is_same(&row.id, &deposit.id)
-        && is_same_place(row.place, deposit.place)
+    row.id == deposit.id
+        && row.place == deposit.place
         && row.resend == deposit.resend
-        && (row.place.kind != DepositType::Diff || is_same_option(&row.prev, &deposit.prev))
-}
-
-fn is_same(a: &String, b: &String) -> bool
-    ensures { result ≡ bytes_eq (string_bytes a.now) (string_bytes b.now) }
-{
-    a.as_str() == b.as_str()
-}
-
-fn is_same_place(a: Place, b: Place) -> bool
-    ensures { result ≡ same_place a b }
-{
-    a.watermark == b.watermark && a.kind as u8 == b.kind as u8
-}
-
-fn is_same_option(a: &Option<String>, b: &Option<String>) -> bool
-    ensures { result ≡ same_option (option_map string_bytes a.now)
-        (option_map string_bytes b.now) }
-{
-    match (a, b) {
-        (None, None) => true,
-        (Some(a), Some(b)) => is_same(a, b),
-        _ => false,
-    }
+        && (row.place.kind != DepositType::Diff || row.prev == deposit.prev)
 }
 
 /// The row whose deposit the body is, if any.

@@ -52,7 +52,7 @@ ghost use Rattle.esc_desk.specs.Filled.{IsFilled};
 
 use esc_apply::{Step, Work, move_chain};
 use esc_events::{Parking, Plan};
-use esc_store::{Change, Receipt, SFault, Store};
+use esc_store::{Change, MOST_RECEIPTS, Receipt, SFault, Store};
 use esc_tables::Deposit;
 use sqlite::Alter;
 use std::alloc::Global;
@@ -75,7 +75,7 @@ pub(crate) fn note_receipt<S: Alter>(
         → Stands S.Store store.new (noted_by receipt.now parking body.now k)) }
     ensures numbered { IfOk result (λ n. IsHonest S.Store store.new → (k : Kept)
         → Stands S.Store store.old k → n ≡ length k.receipts + 1) }
-    ensures room { IfOk result (λ n. n ≤ 1_000_000_000) }
+    ensures room { IfOk result (λ n. n ≤ MOST_RECEIPTS) }
     ensures place { OnOk result (parking ≡ Crowded → ⊥) }
     ensures left { OnOk result ((k : Kept) → Stands S.Store store.old k
         → LeavesOnly S.Store store.new (noted_by receipt.now parking body.now k)) }
@@ -110,7 +110,7 @@ fn fill_note<S: Alter>(
     ensures numbered { IfOk result (λ n. IsHonest S.Store change.new.store.now
         → (before k : Kept)
         → Rest S.Store change.old before k → n ≡ length k.receipts + 1) }
-    ensures room { IfOk result (λ n. n ≤ 1_000_000_000) }
+    ensures room { IfOk result (λ n. n ≤ MOST_RECEIPTS) }
     ensures place { OnOk result (parking ≡ Crowded → ⊥) }
     ensures cause { IfErr result (IsNoteChangeFault S.Store change.old change.new parking) }
 {
@@ -152,7 +152,7 @@ pub(crate) fn hold_deposit<S: Alter>(
         (moved_by plan.now (held_by receipt.now row body.now k) c) }
     ensures numbered { IfOk result (λ p. IsHonest S.Store store.new → (k : Kept)
         → Stands S.Store store.old k → p.0 ≡ length k.receipts + 1) }
-    ensures room { IfOk result (λ p. p.0 ≤ 1_000_000_000) }
+    ensures room { IfOk result (λ p. p.0 ≤ MOST_RECEIPTS) }
     ensures worked { IfOk result (λ p. IsHonest S.Store store.new
         → (k : Kept) (c : List DepositValue) → IsMovedFrom k c plan.now
         → Stands S.Store store.old k → IsCostOfMove plan.now c p.1) }
@@ -191,7 +191,7 @@ fn fill_deposit<S: Alter>(
     ensures numbered { IfOk result (λ p. IsHonest S.Store change.new.store.now
         → (before k : Kept)
         → Rest S.Store change.old before k → p.0 ≡ length k.receipts + 1) }
-    ensures room { IfOk result (λ p. p.0 ≤ 1_000_000_000) }
+    ensures room { IfOk result (λ p. p.0 ≤ MOST_RECEIPTS) }
     ensures worked { IfOk result (λ p. IsHonest S.Store change.new.store.now
         → (k : Kept) (c : List DepositValue) → IsMovedFrom k c plan.now
         → HoldsNow S.Store change.old k.registry → IsCostOfMove plan.now c p.1) }
@@ -233,12 +233,15 @@ pub(crate) fn move_in<S: Alter>(
     Ok(work)
 }
 
-// How many steps of the same rows both chains begin with. The table of steps keeps rows, and
-// `common_front` compares places and resends, which tell rows of an accepted manifest alone.
+// How many steps of the same rows both chains begin with, up to the first pair of steps whose rows
+// differ. The table of steps keeps rows, and `common_front` compares places and resends, which tell
+// rows of an accepted manifest alone.
 fn same_rows(old: &[Step], new: &[Step]) -> usize
     ensures in_old { result ≤ length old.now }
     ensures in_new { result ≤ length new.now }
     ensures same { take result (rows_in old.now) ≡ take result (rows_in new.now) }
+    ensures longest { IfSome (slice_get old.now result)
+        (λ a. IfSome (slice_get new.now result) (λ b. a.row ≢ b.row)) }
 {
     for at in 0..old.len() {
         if at >= new.len() || old[at].row != new[at].row {
@@ -248,6 +251,7 @@ fn same_rows(old: &[Step], new: &[Step]) -> usize
     old.len()
 }
 
+ghost use Rattle.std.specs.Prelude.{◌≢◌, IfSome, slice_get};
 ghost use Rattle.esc_events.specs.Plans.{rows_in};
 
 // Moves the tables from one chain to the other.

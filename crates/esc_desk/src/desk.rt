@@ -57,7 +57,7 @@ use crate::knowing::known_of;
 use crate::reread::Reread;
 use esc_apply::Work;
 use esc_events::Known;
-use esc_store::{Number, Reply, SFault, Store};
+use esc_store::{MOST_RECEIPTS, Number, Reply, SFault, Store};
 use sha2::{Digest, Sha256};
 use sqlite::Alter;
 use std::alloc::Global;
@@ -176,7 +176,7 @@ impl<S: Alter> Desk<S> {
             → IfOk result (λ p. IsTakenIn S.Store self.new e
             (an_arrival number.now body.now) p.0 p.1) }
         ensures room { IsHonest S.Store self.new.store → (k : Kept)
-            → Stands S.Store self.old.store k → OnOk result (length k.receipts < 1_000_000_000) }
+            → Stands S.Store self.old.store k → OnOk result (length k.receipts < MOST_RECEIPTS) }
         ensures place { IsHonest S.Store self.new.store → (k : Kept)
             → Stands S.Store self.old.store k → OnOk result (IsCrowded k digest → ⊥) }
         ensures counted { IfOk result (λ p. self.new.store.writes

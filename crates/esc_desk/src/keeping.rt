@@ -59,7 +59,7 @@ use crate::reread::Reread;
 use esc_apply::{Work, read_deposits_mention_few};
 use esc_chain::latest_chain_at_rows_are_held;
 use esc_events::{Assessment, Known, Parking, chain_after_an_event};
-use esc_store::{Number, Receipt, Reply, SFault, Store};
+use esc_store::{MOST_RECEIPTS, Number, Receipt, Reply, SFault, Store};
 use esc_tables::Deposit;
 use sqlite::Alter;
 use std::alloc::Global;
@@ -85,7 +85,7 @@ pub(crate) fn take_in<S: Alter>(
         → IfOk result (λ p. IsTaken S.Store store.new e (an_arrival number.now body.now)
         known.new p.0 p.1) }
     ensures room { IsHonest S.Store store.new → (k : Kept) → Stands S.Store store.old k
-        → OnOk result (length k.receipts < 1_000_000_000) }
+        → OnOk result (length k.receipts < MOST_RECEIPTS) }
     ensures place { IsHonest S.Store store.new → (k : Kept) → Stands S.Store store.old k
         → OnOk result (IsCrowded k digest → ⊥) }
     ensures counted { IfOk result (λ p. store.new.writes
@@ -132,7 +132,7 @@ fn keep<S: Alter>(
         → IsKept S.Store store.new e (an_arrival n body.now) known.new p.1) }
     ensures numbered { IfOk result (λ p. IsHonest S.Store store.new → (k : Kept)
         → Stands S.Store store.old k → p.0 ≡ length k.receipts + 1) }
-    ensures room { IfOk result (λ p. p.0 ≤ 1_000_000_000) }
+    ensures room { IfOk result (λ p. p.0 ≤ MOST_RECEIPTS) }
     ensures place { IsHonest S.Store store.new → (k : Kept) → Stands S.Store store.old k
         → found ≡ Unlisted → OnOk result (IsCrowded k receipt.now.digest → ⊥) }
     ensures crash { IsHonest S.Store store.new
@@ -149,7 +149,7 @@ fn keep<S: Alter>(
         receipt.now.digest) }
 {
     match found {
-        Assessment::Unlisted => keep_parked(store, alloc, receipt, known, body),
+        Assessment::Unlisted => keep_parked(store, alloc, receipt, body),
         Assessment::Unreadable(..) | Assessment::Differing(_) => {
             let number = note_receipt(store, receipt, Parking::Needless, body)?;
             Ok((number, NO_WORK))
@@ -166,25 +166,25 @@ fn keep_parked<S: Alter>(
     store: &mut Store<S>,
     alloc: Global,
     receipt: &Receipt<'_>,
-    known: &mut Known,
     body: &[u8],
 ) -> Result<(u64, Work), SFault>
     ensures manifest { store.new.manifest ≡ store.old.manifest }
     ensures lost { OnErr result ((k : Kept) → Stands S.Store store.old k
         → Stands S.Store store.new k) }
     ensures kept { IfOk result (λ p. IsHonest S.Store store.new
-        → (e : List EventValue) (n : List ℕ) (k : Kept) → Stands S.Store store.old k
-        → IsNew e (an_arrival n body.now) k Unlisted known.old receipt.now
-        → IsKept S.Store store.new e (an_arrival n body.now) known.new p.1) }
+        → (e : List EventValue) (n : List ℕ) (k : Kept) (known : Known)
+        → Stands S.Store store.old k
+        → IsNew e (an_arrival n body.now) k Unlisted known receipt.now
+        → IsKept S.Store store.new e (an_arrival n body.now) known p.1) }
     ensures numbered { IfOk result (λ p. IsHonest S.Store store.new → (k : Kept)
         → Stands S.Store store.old k → p.0 ≡ length k.receipts + 1) }
-    ensures room { IfOk result (λ p. p.0 ≤ 1_000_000_000) }
+    ensures room { IfOk result (λ p. p.0 ≤ MOST_RECEIPTS) }
     ensures place { IsHonest S.Store store.new → (k : Kept) → Stands S.Store store.old k
         → OnOk result (IsCrowded k receipt.now.digest → ⊥) }
     ensures crash { IsHonest S.Store store.new
-        → (e : List EventValue) (n : List ℕ) (k : Kept)
+        → (e : List EventValue) (n : List ℕ) (k : Kept) (known : Known)
         → Stands S.Store store.old k
-        → IsNew e (an_arrival n body.now) k Unlisted known.old receipt.now
+        → IsNew e (an_arrival n body.now) k Unlisted known receipt.now
         → AddsStoreFor S.Store store.old.conn store.new.conn result
         (e ++ arrived (an_arrival n body.now) ∷ []) }
     ensures counted { IfOk result (λ p. store.new.writes
@@ -193,7 +193,6 @@ fn keep_parked<S: Alter>(
     ensures honest { IsHonest S.Store store.new → IsHonest S.Store store.old }
     ensures cause { IfErr result (IsParkFault S.Store store.old store.new receipt.now.digest) }
 {
-    let _ = known;
     let parking = parking_of(store, alloc, &receipt.digest)?;
     let number = note_receipt(store, receipt, parking, body)?;
     Ok((number, NO_WORK))
@@ -222,7 +221,7 @@ fn keep_held<S: Alter>(
         → IsKept S.Store store.new e (an_arrival n body.now) known.new p.1) }
     ensures numbered { IfOk result (λ p. IsHonest S.Store store.new → (k : Kept)
         → Stands S.Store store.old k → p.0 ≡ length k.receipts + 1) }
-    ensures room { IfOk result (λ p. p.0 ≤ 1_000_000_000) }
+    ensures room { IfOk result (λ p. p.0 ≤ MOST_RECEIPTS) }
     ensures crash { IsHonest S.Store store.new
         → (e : List EventValue) (n : List ℕ) (k : Kept)
         → Stands S.Store store.old k
@@ -270,7 +269,7 @@ fn keep_deposit<S: Alter>(
         → IsKept S.Store store.new e (an_arrival n body.now) known.new p.1) }
     ensures numbered { IfOk result (λ p. IsHonest S.Store store.new → (k : Kept)
         → Stands S.Store store.old k → p.0 ≡ length k.receipts + 1) }
-    ensures room { IfOk result (λ p. p.0 ≤ 1_000_000_000) }
+    ensures room { IfOk result (λ p. p.0 ≤ MOST_RECEIPTS) }
     ensures crash { IsHonest S.Store store.new
         → (e : List EventValue) (n : List ℕ) (k : Kept) (before : Known)
         → Stands S.Store store.old k → k.bodies row ≡ None

@@ -31,8 +31,8 @@ pub(crate) fn known_of<S: Alter>(store: &mut Store<S>, alloc: Global) -> Result<
     Ok(Known { held, told, chain })
 }
 
-/// The rows that have a body, and those that a receipt says are held: for each receipt with `A2` or
-/// `A5` whose digest a row lists now, the body of that row is read.
+/// The rows that have a body, and those that a receipt says are held. Of each row that has a body
+/// and isn't one of the latter the body is read, once.
 pub(crate) fn known_rows<S: Alter>(
     store: &mut Store<S>,
     alloc: Global,
@@ -70,7 +70,8 @@ pub(crate) fn held_of<S: Alter>(
     Ok(rows)
 }
 
-// Inserts the row that lists a digest among rows in ascending order, if that row has a body.
+// Inserts the row that lists a digest among rows in ascending order, if that row has a body. The
+// body of a row that is one of them already isn't read: many receipts may have one digest.
 fn insert_held<S: Alter>(
     store: &mut Store<S>,
     alloc: Global,
@@ -87,6 +88,9 @@ fn insert_held<S: Alter>(
     let Some(row) = store.manifest().row_by_digest(digest) else {
         return Ok(());
     };
+    if rows.binary_search(&row).is_ok() {
+        return Ok(());
+    }
     if store.body_of(alloc, row)?.is_some() {
         insert_row(rows, row)?;
     }

@@ -44,7 +44,7 @@ pub fn new_store_stands_for_its_manifest()
 
 /// What a store keeps that stands for a manifest and then arrivals, said without events: the
 /// manifest's rows, the receipts of the distinct arrivals, the latest chain of the rows that any
-/// arrival holds, and its tables. Premise: no two different bodies that came have the same digest.
+/// arrival holds, and its tables. Premise: no two different bodies that count have the same digest.
 pub fn stands_for_manifest_and_arrivals()
     ensures left { AreLeftByArrivals }
     ensures rows { (m : List MRow) (l : List ArrivalValue) → union (manifest_then m l) ≡ m }
@@ -53,7 +53,7 @@ pub fn stands_for_manifest_and_arrivals()
 {}
 
 /// A store that stands for a list of events has the tables of the latest chain of the held rows, up
-/// to the moment that is set. Premise: no two different bodies that came have the same digest.
+/// to the moment that is set. Premise: no two different bodies that count have the same digest.
 pub fn tables_are_of_events()
     ensures { TablesAreOfEvents }
 {}
@@ -61,8 +61,8 @@ pub fn tables_are_of_events()
 /// Two lists of events by which the same rows are listed in the same order, the same are held and
 /// the same moment is set leave the same bodies, chain, tables and before-images, in whatever
 /// order, however often and under whatever numbers the deposits came. (`same_rows_same_tables` is
-/// of rows that are listed in different orders.) Premise: no two different bodies of the two lists
-/// have the same digest.
+/// of rows that are listed in different orders.) Premise: no two different bodies that count by the
+/// two lists have the same digest.
 pub fn same_held_same_kept()
     ensures { SameHeldSameKept }
 {
@@ -72,7 +72,7 @@ pub fn same_held_same_kept()
 /// Two lists of events by which the same rows are listed and held and the same moment is set leave
 /// the same rows along the chain, tables and before-images, in whatever order the rows were listed,
 /// and in whatever order, however often and under whatever numbers the deposits came. Premise: no
-/// two different bodies of the two lists have the same digest.
+/// two different bodies that count by the two lists have the same digest.
 pub fn same_rows_same_tables()
     ensures { SameRowsSameTables }
 {

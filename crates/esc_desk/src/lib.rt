@@ -96,8 +96,9 @@
 //! back what was written to it. What a store is said to keep holds while its connection is open; a
 //! call of the disk that fails may close it. The definitions go by digests: what is said of the
 //! bodies that are held and parked, and so of chains, tables and works, is said where no two
-//! different bodies that came have the same digest (`WhereApart`). What is said of replies, listed
-//! rows and the moment holds without that.
+//! different bodies that count have the same digest (`WhereApart`): all bodies that came, but those
+//! that a store of version 1 lost. What is said of replies, listed rows and the moment holds
+//! without that.
 //!
 //! # Cost
 //!
@@ -108,8 +109,9 @@
 //! chain's steps only the bodies past the front that both chains have in common are parsed
 //! again. Each [`Desk::held`] and [`Desk::status`] asks the store which rows are held; so do a
 //! desk's first event that may change the store, and the next one after such an event failed.
-//! Receipts with `A1` say so, and for each receipt with `A2` or `A5` whose digest a row lists
-//! now, the body of that row is read.
+//! Receipts with `A1` say so. A row that has a body, and that no such receipt names, lists the
+//! digest of a receipt with `A2` or `A5`: its body is read, once, however many receipts have that
+//! digest.
 //!
 //! [`Desk::end`] reads the body of the chain's last step, and parses its envelope alone, no row.
 //!

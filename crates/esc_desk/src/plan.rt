@@ -85,7 +85,7 @@ fn step_of(rows: &[MRow], row: usize) -> Step
 
 /// Plans the move from the steps `old`, those of the chain that the store keeps, to the steps
 /// `new`, whose deposits the source gives. `S1` if `old` has more steps than a manifest may have
-/// rows.
+/// rows, or if the body of a new step past the common front is missing or isn't a deposit; `S2`.
 pub(crate) fn plan_move<S: Alter>(
     store: &mut Store<S>,
     alloc: Global,

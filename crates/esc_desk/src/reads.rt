@@ -18,7 +18,7 @@ ghost use Rattle.esc_tables.specs.Reading.{reading};
 ghost use Rattle.esc_apply.specs.declared.front.Step.{Step};
 ghost use Rattle.esc_store.specs.Faults.{IsS1OrS2};
 ghost use Rattle.esc_store.specs.Kept.{Kept};
-ghost use Rattle.esc_store.specs.Standing.{Stands, IsHonest, IsAsBefore};
+ghost use Rattle.esc_store.specs.Standing.{Stands, IsHonest, IsAsBefore, rows_of};
 ghost use Rattle.esc_desk.specs.Calls.{store_of, writes_of, OkOver, Stays};
 ghost use Rattle.esc_events.specs.Events.{EventValue, union, moment_of};
 ghost use Rattle.esc_events.specs.Parks.{IsParkedBody};
@@ -49,9 +49,10 @@ use std::alloc::Global;
 use std::collections::BTreeMap;
 
 impl<S: Alter> Desk<S> {
-    /// The rows that are listed: those of the first manifest and of each amendment. Doesn't
-    /// allocate.
+    /// The rows that are listed: those of the first manifest and of each amendment, as the desk's
+    /// store has them in memory. Doesn't allocate.
     pub fn manifest(&self) -> &Manifest
+        ensures rows { result.now ≡ rows_of (store_of self.now) }
         ensures manifest { (e : List EventValue)
             → Serves S.Store (store_of self.now) e → result.now ≡ union e }
     {
@@ -77,8 +78,8 @@ impl<S: Alter> Desk<S> {
         self.store.receipts(alloc)
     }
 
-    /// The listed rows that have a body, as indices from 0 in ascending order. For each receipt
-    /// with `A2` or `A5` whose digest a row lists now, the body of that row is read. `S1`, `S2`.
+    /// The listed rows that have a body, as indices from 0 in ascending order. Of each of them that
+    /// no receipt with `A1` names the body is read, once. `S1`, `S2`.
     #[tactic(auto, using(crate::proofs::ReadLemmas::read_stays))]
     pub fn held(&mut self, alloc: Global) -> Result<Vec<usize>, SFault>
         ensures stays { Stays S.Store self.old self.new }
@@ -145,8 +146,8 @@ impl<S: Alter> Desk<S> {
         }
     }
 
-    /// The desk's counts, and the end of its latest chain. Reads what [`Desk::held`] reads, and the
-    /// kind of each object. `S1`, `S2`.
+    /// The desk's counts, and the end of its latest chain. Reads what [`Desk::held`] reads and, the
+    /// first time after a change, the kind of each object. `S1`, `S2`.
     #[tactic(auto, using(crate::proofs::ReadLemmas::read_stays, esc_store::specs::StandingLaws::as_before_then))]
     pub fn status(&mut self, alloc: Global) -> Result<Status, SFault>
         ensures stays { Stays S.Store self.old self.new }

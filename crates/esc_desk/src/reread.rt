@@ -1,5 +1,4 @@
-//! The deposit that a body is, where it needn't be read: the one that was read last, if it came
-//! again.
+//! Remembers the deposit that was read last, so that a body that comes again isn't parsed again.
 
 ghost use Rattle.std.specs.Prelude.{◌≡◌, ℕ, true, Ok, Err, IfOk, IfErr, IfSome};
 ghost use Rattle.esc_tables.specs.Reading.{reading};
@@ -9,7 +8,7 @@ use esc_tables::{Deposit, read_deposit};
 use std::alloc::Global;
 use std::marker::Model;
 
-/// The longest body that is remembered, in bytes: what a desk holds in memory grows little by it.
+/// The longest body that is remembered, in bytes, so that a desk needs little more memory.
 const LONGEST: usize = 65_536;
 
 /// A body and the deposit that it is. Contracts see the body.
@@ -68,9 +67,13 @@ fn is_same(a: &[u8], b: &[u8]) -> bool
     a == b
 }
 
-/// The deposit of a body, as `read_deposit` returns it. It is `last`, and isn't read, where the
-/// body is that one's.
-pub(crate) fn read_again(alloc: Global, last: Option<Reread>, body: &[u8]) -> Result<Deposit, Fault>
+/// The deposit of a body, as `read_deposit` returns it. The body isn't parsed where it is that of
+/// `last`.
+pub(crate) fn deposit_of_body(
+    alloc: Global,
+    last: Option<Reread>,
+    body: &[u8],
+) -> Result<Deposit, Fault>
     ensures read { IfOk result (λ d. reading body.now ≡ Ok d) }
     ensures refused { IfErr result (λ e. (n : ℕ) → e ≡ Fault.Refused n
         → reading body.now ≡ Err n) }

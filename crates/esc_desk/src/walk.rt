@@ -3,12 +3,15 @@
 ghost use Rattle.std.specs.Prelude.{
   ◌≡◌,
   ◌<◌,
+  ◌-◌,
+  ◌^◌,
   ◌++◌,
   ◌∷◌,
   [],
   List,
   Some,
   None,
+  false,
   is_some,
   IfOk,
   IfErr,
@@ -59,10 +62,19 @@ pub struct Walk<'a, S: Alter, P = Pages> {
 
 impl<S: Alter> Desk<S> {
     ghost use Rattle.esc_desk.specs.contracts.desk.Desk.{the_row};
-    ghost use Rattle.esc_desk.specs.Walking.{AreToCome, ListsPages, ListsTables, desk_of, lent_as};
+    ghost use Rattle.esc_desk.specs.Walking.{
+      AreToCome,
+      HasFailed,
+      ListsPages,
+      ListsTables,
+      desk_of,
+      lent_as,
+      most_left,
+    };
 
     /// The objects of the latest chain's tables, those of one kind or (`None`) of all, one at a
-    /// time by key. No more than a page of 256 is held in memory. `S1`, `S2`.
+    /// time by key. No more than a page of 256 is held in memory. A new walk hasn't failed, and
+    /// returns 2^64 - 1 objects at most, more than the tables have. `S1`, `S2`.
     pub fn walk(&mut self, alloc: Global, kind: Option<Kind>) -> Result<Walk<'_, S>, SFault>
         ensures* refused { sem 𝓛 (RestsIfErr (the_row S.row S.Store) self.entry
             (λ walk. lent_as walk) result (Rests S.Store self.old)) }
@@ -70,6 +82,8 @@ impl<S: Alter> Desk<S> {
         ensures rests { IfOk result (λ walk. Rests S.Store self.old (desk_of walk)) }
         ensures lists { IfOk result (λ walk. Over S.Store self.old (desk_of walk)
             (λ e. ListsTables S.Store walk kind e)) }
+        ensures unfailed { IfOk result (λ walk. HasFailed walk → ⊥) }
+        ensures most { IfOk result (λ walk. most_left walk ≡ 2 ^ 64 - 1) }
         ensures cause { IfErr result IsS1OrS2 }
     {
         let pages = self.first_page(alloc, kind)?;
@@ -82,9 +96,12 @@ impl<S: Alter> Desk<S> {
         ensures rests { Rests S.Store self.old self.new }
         ensures lists { OkOver S.Store self.old self.new result
             (λ e pages. ListsPages S.Store self.new.store pages kind e) }
+        ensures unfailed { IfOk result (λ pages. pages.has_failed ≡ false) }
+        ensures most { IfOk result (λ pages. pages.left ≡ 2 ^ 64 - 1) }
         ensures cause { IfErr result IsS1OrS2 }
     {
         latest_chain_at_is_one();
+        // Read for the proof alone: it shows that the rows are those of an accepted manifest.
         let _rows = self.store.manifest().rows();
         let mut pages = first_place(alloc, kind);
         self.fill(&mut pages)?;
@@ -144,6 +161,8 @@ fn first_place(alloc: Global, kind: Option<Kind>) -> Pages
     ensures kind { result.kind ≡ Some (first_kind kind) }
     ensures from { result.from.items ≡ [] }
     ensures alone { result.alone ≡ is_some kind }
+    ensures most { result.left ≡ 2 ^ 64 - 1 }
+    ensures unfailed { result.has_failed ≡ false }
 {
     Pages {
         alloc,

@@ -11,10 +11,10 @@ use Rattle.esc_desk.proofs.CrashLemmas.{leaves_with_nothing}
 use Rattle.esc_desk.proofs.again.take_found.Goals as goal
 
 pub returns-in-Unlisted-clause-taken : goal.returns-in-Unlisted-clause-taken
-returns-in-Unlisted-clause-taken g c = IfOk-weaker c.park_again.result _ _ (λ work made. λ clean e n k reply stood knows is.
+returns-in-Unlisted-clause-taken g c = IfOk-weaker c.park_late.result _ _ (λ work made. λ clean e n k reply stood knows is.
     let a = an_arrival n c.args.body.now in
-    subst (λ (f : Assessment). IsTakenAgain g.S.Store c.args.store.now c.park_again.new.store e a k f c.args.known.now work) (sym c.in-Unlisted.is)
-    (made clean e n k reply c.args.known.now stood knows (subst (λ (f : Assessment). IsAgain e a k f reply) c.in-Unlisted.is is))) c.park_again.ensures.taken
+    subst (λ (f : Assessment). IsTakenAgain g.S.Store c.args.store.now c.park_late.new.store e a k f c.args.known.now work) (sym c.in-Unlisted.is)
+    (made clean e n k reply c.args.known.now stood knows (subst (λ (f : Assessment). IsAgain e a k f reply) c.in-Unlisted.is is))) c.park_late.ensures.taken
 
 pub returns-in-Unreadable-clause-taken : goal.returns-in-Unreadable-clause-taken
 returns-in-Unreadable-clause-taken g c = λ clean e n k reply stood knows is.
@@ -28,7 +28,7 @@ unfolding AddsStoreFor
 returns-in-Unreadable-clause-crash g c = λ clean e n k reply stood knows is. survives_same
 
 pub returns-in-Holding-clause-taken : goal.returns-in-Holding-clause-taken
-returns-in-Holding-clause-taken g c = IfOk-weaker c.hold_again.result _ _ (λ work made. λ clean e n k reply stood knows is.
+returns-in-Holding-clause-taken g c = IfOk-weaker c.hold_late.result _ _ (λ work made. λ clean e n k reply stood knows is.
     let a = an_arrival n c.args.body.now in
-    subst (λ (f : Assessment). IsTakenAgain g.S.Store c.args.store.now c.hold_again.new.store e a k f c.hold_again.new.known work) (sym c.in-Holding.is)
-    (made clean e n k reply stood knows (subst (λ (f : Assessment). IsAgain e a k f reply) c.in-Holding.is is))) c.hold_again.ensures.taken
+    subst (λ (f : Assessment). IsTakenAgain g.S.Store c.args.store.now c.hold_late.new.store e a k f c.hold_late.new.known work) (sym c.in-Holding.is)
+    (made clean e n k reply stood knows (subst (λ (f : Assessment). IsAgain e a k f reply) c.in-Holding.is is))) c.hold_late.ensures.taken

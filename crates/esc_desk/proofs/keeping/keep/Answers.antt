@@ -31,7 +31,12 @@ returns-in_err-number-in-Unreadable-clause-crash g c = λ clean e n k stood is.
 
 pub returns-in-Unlisted-clause-kept : goal.returns-in-Unlisted-clause-kept
 returns-in-Unlisted-clause-kept g c = IfOk-weaker c.keep_parked.result _ _ (λ p made. λ clean e n k stood is.
-    made clean e n k stood (subst (λ (f : Assessment). IsNew e (an_arrival n c.args.body.now) k f c.args.known.now c.args.receipt.now) c.in-Unlisted.is is)) c.keep_parked.ensures.kept
+    made clean e n k c.args.known.now stood (subst (λ (f : Assessment). IsNew e (an_arrival n c.args.body.now) k f c.args.known.now c.args.receipt.now) c.in-Unlisted.is is)) c.keep_parked.ensures.kept
+
+pub returns-in-Unlisted-clause-crash : goal.returns-in-Unlisted-clause-crash
+returns-in-Unlisted-clause-crash g c = λ clean e n k stood is.
+    c.keep_parked.ensures.crash clean e n k c.args.known.now stood
+    (subst (λ (f : Assessment). IsNew e (an_arrival n c.args.body.now) k f c.args.known.now c.args.receipt.now) c.in-Unlisted.is is)
 
 pub returns-in_ok-number-in-Unreadable-clause-kept : goal.returns-in_ok-number-in-Unreadable-clause-kept
 returns-in_ok-number-in-Unreadable-clause-kept g c = λ clean e n k stood is.

@@ -12,22 +12,21 @@ use Rattle.esc_desk.proofs.keeping.keep_parked.Goals as goal
 
 pub returns-in_err-parking-clause-crash : goal.returns-in_err-parking-clause-crash
 unfolding AddsStoreFor
-returns-in_err-parking-clause-crash g c = λ clean e n k stood is. adds_none c.in_err-parking.ensures.same.survives
+returns-in_err-parking-clause-crash g c = λ clean e n k known stood is. adds_none c.in_err-parking.ensures.same.survives
 
 pub returns-in_err-number-clause-crash : goal.returns-in_err-number-clause-crash
 unfolding AddsStoreFor
-returns-in_err-number-clause-crash g c = λ clean e n k stood is.
+returns-in_err-number-clause-crash g c = λ clean e n k known stood is.
     let there = c.in_ok-parking.ensures.same.stands k stood in
     let digest = ap (λ (r : ReceiptValue). r.digest) c.receipt.view_is in
     let at = subst (λ (d : List ℕ). IsParking k.parked d c.in_ok-parking.parking) digest (c.in_ok-parking.ensures.parking (c.in_err-number.ensures.honest clean) k stood) in
     adds_then c.in_ok-parking.ensures.same.survives (adds_as (λ h. not_full_by c.in_err-number.field-0.0 (search rules) h)
-    (adds_parked e (an_arrival n c.args.body.now) k c.args.known.now c.args.receipt.now is g.S.Store _ _ _
+    (adds_parked e (an_arrival n c.args.body.now) k known c.args.receipt.now is g.S.Store _ _ _
     c.in_ok-parking.parking at c.in_err-number.ensures.crowded (c.in_err-number.ensures.crash k there)))
 
 pub returns-clause-kept : goal.returns-clause-kept
-returns-clause-kept g c = λ clean e n k stood is.
+returns-clause-kept g c = λ clean e n k known stood is.
     let a = an_arrival n c.args.body.now in
-    let known = c.args.known.now in
     let receipt = c.args.receipt.now in
     let parking = c.in_ok-parking.parking in
     let there = c.in_ok-parking.ensures.same.stands k stood in
@@ -38,12 +37,12 @@ returns-clause-kept g c = λ clean e n k stood is.
 
 pub returns-clause-crash : goal.returns-clause-crash
 unfolding AddsStoreFor
-returns-clause-crash g c = λ clean e n k stood is.
+returns-clause-crash g c = λ clean e n k known stood is.
     let there = c.in_ok-parking.ensures.same.stands k stood in
     let digest = ap (λ (r : ReceiptValue). r.digest) c.receipt.view_is in
     let at = subst (λ (d : List ℕ). IsParking k.parked d c.in_ok-parking.parking) digest (c.in_ok-parking.ensures.parking (c.in_ok-number.ensures.honest clean) k stood) in
     adds_then c.in_ok-parking.ensures.same.survives (adds_as (λ h. tt)
-    (adds_parked e (an_arrival n c.args.body.now) k c.args.known.now c.args.receipt.now is g.S.Store _ _ _
+    (adds_parked e (an_arrival n c.args.body.now) k known c.args.receipt.now is g.S.Store _ _ _
     c.in_ok-parking.parking at c.in_ok-number.ensures.crowded (c.in_ok-number.ensures.crash k there)))
 
 pub returns-in_err-number-clause-cause : goal.returns-in_err-number-clause-cause

@@ -27,6 +27,12 @@ returns-in-Err-Refused-clause-cause g c = λ clean e served.
     let refused = c.union_with.ensures.refused c.in-Err-Refused.code c.in-Err-Refused.row (c.in-Err-Refused.is ∙ ap (λ (f : MFault). Err f) is) in
     rw is (subst (λ (m : List MRow). IsRefusedUnion m c.args.text.now c.in-Err-Refused.code c.in-Err-Refused.row) first refused)
 
+pub returns-in-Err-Refused-clause-fault : goal.returns-in-Err-Refused-clause-fault
+returns-in-Err-Refused-clause-fault g c =
+    let is = c.in-Err-Refused.field-0-is in
+    let numbers = c.union_with.ensures.numbers c.in-Err-Refused.code c.in-Err-Refused.row (c.in-Err-Refused.is ∙ ap (λ (f : MFault). Err f) is) in
+    rw is numbers
+
 pub returns-then-added-eq0-clause-amended : goal.returns-then-added-eq0-clause-amended
 returns-then-added-eq0-clause-amended g c = λ clean e served.
     let serves = served.serves in

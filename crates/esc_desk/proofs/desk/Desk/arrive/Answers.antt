@@ -4,6 +4,7 @@ use Rattle.std.proofs.lemmas.Option.{same_Some, none-some}
 use Rattle.sha2.specs.Sha256.{sha256}
 use Rattle.esc_tables.specs.Reading.{reading}
 use Rattle.esc_manifest.specs.declared.row.MRow.{MRow}
+use Rattle.esc_store.specs.declared.books.TheConstants.{MOST_RECEIPTS}
 use Rattle.esc_store.specs.ReplyValue.{ReceiptValue, ReplyValue, reply_alike}
 use Rattle.esc_store.specs.Standing.{IsHonest}
 use Rattle.esc_store.specs.ResultLaws.{each_err, if_both, if_ok, if_goes}
@@ -115,7 +116,7 @@ pub returns-in-None-clause-room : goal.returns-in-None-clause-room
 returns-in-None-clause-room g c = λ clean e served.
     let serves = served.serves in
     let few = c.take_new.ensures.room clean serves.kept (c.in_ok-reply.ensures.same.stands serves.kept serves.stands) in
-    if_goes c.take_new.result _ _ few (λ p room none. subst (λ (rs : List ReceiptValue). length rs < 1_000_000_000) serves.stands_for.books.receipts room)
+    if_goes c.take_new.result _ _ few (λ p room none. subst (λ (rs : List ReceiptValue). length rs < MOST_RECEIPTS) serves.stands_for.books.receipts room)
 
 pub returns-in-Some-clause-place : goal.returns-in-Some-clause-place
 returns-in-Some-clause-place g c = λ clean e served.
@@ -192,7 +193,7 @@ returns-in-None-clause-full g c = λ clean e served.
     let never = untold g c clean e served in
     IfErr-weaker c.take_new.result _ _ (λ f cause. cause_of e a f _ _
     (λ crowded. no_place_of e a serves.kept books (λ r told. absurd (none-some _ (sym never ∙ told))) (subst (IsCrowded serves.kept) c.digest-digest.ensures (crowded clean serves.kept there)))
-    (λ full. (never, subst (λ (rs : List ReceiptValue). 1_000_000_000 ≤ length rs) books.receipts (full clean serves.kept there))) cause) c.take_new.ensures.cause
+    (λ full. (never, subst (λ (rs : List ReceiptValue). MOST_RECEIPTS ≤ length rs) books.receipts (full clean serves.kept there))) cause) c.take_new.ensures.cause
 
 pub returns-in_err-reply-clause-lost : goal.returns-in_err-reply-clause-lost
 returns-in_err-reply-clause-lost g c = each_err c.from_residual.result _ (still_serves g.S.Store c.args.self.now _ c.in_err-reply.ensures.same refl)

@@ -10,7 +10,7 @@ use Rattle.esc_desk.specs.Crashes.{AddsStoreFor}
 use Rattle.esc_desk.proofs.ComingAgain.{nothing_listed, nothing_taken}
 use Rattle.esc_desk.proofs.CrashLemmas.{leaves_with_nothing, leaves_with_only}
 use Rattle.esc_desk.proofs.KnownRows.{contained, no_body, held_more}
-use Rattle.esc_desk.proofs.again.hold_again.Goals as goal
+use Rattle.esc_desk.proofs.again.hold_late.Goals as goal
 
 pub returns-then-contains-clause-taken : goal.returns-then-contains-clause-taken
 returns-then-contains-clause-taken g c = λ clean e n k reply stood knows is.
@@ -33,7 +33,7 @@ unfolding AddsStoreFor
 returns-in_err-insert_row-clause-crash g c = λ clean e n k reply stood knows is. survives_same
 
 pub returns-clause-taken : goal.returns-clause-taken
-returns-clause-taken g c = IfOk-weaker c.move_with.result _ _ (λ work made. λ clean e n k reply stood knows is.
+returns-clause-taken g c = IfOk-weaker c.hold_and_move.result _ _ (λ work made. λ clean e n k reply stood knows is.
     let a = an_arrival n c.args.body.now in
     let row = c.args.row in
     let known = c.args.known.now in
@@ -49,7 +49,7 @@ returns-clause-taken g c = IfOk-weaker c.move_with.result _ _ (λ work made. λ 
       leaves = leaves_with_only g.S.Store _ _ e a done.left;
       left = λ missing. done.left;
     })
-    c.move_with.ensures.held
+    c.hold_and_move.ensures.held
 
 pub returns-clause-crash : goal.returns-clause-crash
 returns-clause-crash g c = λ clean e n k reply stood knows is.
@@ -58,4 +58,4 @@ returns-clause-crash g c = λ clean e n k reply stood knows is.
     let other = ap (list_any (λ q. nat_eq q row)) (sym c.deref.ensures.value) ∙ sym c.if-contains.ensures.value in
     let none = no_body k.bodies known.held.items knows.held row other in
     let held = held_more k.bodies row c.args.body.now known.held.items c.insert_row.new.rows.items knows.held (c.in_ok-insert_row.ensures knows.held.rising) in
-    c.move_with.ensures.crash clean e n k reply stood none is (record { held = held; told = knows.told; chain = knows.chain })
+    c.hold_and_move.ensures.crash clean e n k reply stood none is (record { held = held; told = knows.told; chain = knows.chain })

@@ -21,8 +21,8 @@ use Rattle.esc_desk.proofs.ComingAgain.{again_source, again_move, again_idle}
 use Rattle.esc_desk.proofs.Working.{both_ok}
 use Rattle.esc_desk.proofs.CrashLemmas.{leaves_for}
 use Rattle.esc_desk.proofs.CrashSteps.{adds_for, adds_none, adds_then}
-use Rattle.esc_desk.proofs.again.move_with.Given as given
-use Rattle.esc_desk.proofs.again.move_with.Goals as goal
+use Rattle.esc_desk.proofs.again.hold_and_move.Given as given
+use Rattle.esc_desk.proofs.again.hold_and_move.Goals as goal
 
 pub returns-in_err-moment-clause-crash : goal.returns-in_err-moment-clause-crash
 unfolding AddsStoreFor

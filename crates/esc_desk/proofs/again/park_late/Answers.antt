@@ -10,7 +10,7 @@ use Rattle.esc_desk.specs.Crashes.{AddsStore, AddsStoreFor}
 use Rattle.esc_desk.proofs.ComingAgain.{nothing_parked, nothing_taken, parked_stands, parked_taken}
 use Rattle.esc_desk.proofs.CrashLemmas.{leaves_for, leaves_with_nothing}
 use Rattle.esc_desk.proofs.CrashSteps.{adds_as, adds_for, adds_none, adds_then, not_full_by, not_full_of}
-use Rattle.esc_desk.proofs.again.park_again.Goals as goal
+use Rattle.esc_desk.proofs.again.park_late.Goals as goal
 
 pub returns-in_err-parking_of-clause-crash : goal.returns-in_err-parking_of-clause-crash
 unfolding AddsStoreFor
