@@ -26,7 +26,7 @@
 //!   that is set (`IsChainOf`), and the tables are those of its deposits.
 //!
 //! `StandsFor` says all of this of what a store keeps. Which body is held or parked under a digest
-//! is fixed only if no two different bodies that came have the same digest (`IsApart`). In any case
+//! is fixed only if no two different bodies that count have the same digest (`IsApart`). In any case
 //! each body that is held did come and is the row's deposit, each that is parked did come (`came`,
 //! `waits`), and a receipt accounts for it (`held_told`, `parked_told`).
 //!
