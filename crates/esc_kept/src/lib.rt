@@ -50,8 +50,9 @@
 //! 3. `desk_of_files` and `open_desk_at`: where that is what the files hold, the desk serves the
 //!    events so far, or them and one of those in doubt, and no event is in doubt any more
 //!    (`ServesOneOf`). Where they hold a store of a list of events (`HoldsStoreFor`), as files do
-//!    that were closed, it serves this list, and none is in doubt. `reopen_desk`: the desk serves
-//!    what it served before, and none is in doubt.
+//!    that were closed, it serves this list, and none is in doubt. What is opened has the nine
+//!    tables and version 2 (`HoldsVersion`). `reopen_desk`: the desk serves what it served before,
+//!    and none is in doubt.
 //!
 //! From there on `Desk::arrive` promises that a duplicate of an earlier arrival has the first one's
 //! reply. So an arrival that was answered before the crash has the same reply after it, and one in
