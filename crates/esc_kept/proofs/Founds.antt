@@ -1,33 +1,39 @@
 -- What files hold is what their store may leave, and what the next open finds.
-use Rattle.std.proofs.Common.{◌≡◌, inl, inr, List, [], ◌∷◌, ◌++◌, IsTrue, refl, sym, ap, subst, subst₂, ◌∙◌, arith}
-use Rattle.std.proofs.Math.Logic.{∥∥₁_map}
+use Rattle.std.proofs.Common.{◌≡◌, inl, inr, List, [], ◌∷◌, ◌++◌, IsTrue, Result, Ok, Err, IfOk, MatchResult, refl, sym, ap, subst, subst₂, ◌∙◌, arith}
+use Rattle.std.proofs.Math.Logic.{∥∥₁_elim, ∥∥₁_map}
+use Rattle.std.specs.Result.{IsErrAnd}
 use Rattle.sqlite_disk.specs.declared.Disk.{Ghosts}
+use Rattle.sqlite_disk.specs.declared.Files.{Files}
 use Rattle.sqlite_wal.specs.Files.{outcomes}
 use Rattle.sqlite_wal.specs.Reads.{AreClean}
 use Rattle.sqlite_wal.specs.Recovery.{Image}
 use Rattle.sqlite_pool.proofs.StateLemmas.{clean_is, may_leave_is}
 use Rattle.sqlite_trees.specs.Tree.{Trees}
+use Rattle.sqlite_trees.specs.Props.{Trees-set}
 use Rattle.sqlite_trees.specs.View.{IsClean, IsQuiet}
 use Rattle.sqlite_trees.proofs.Doubt.{no_doubt}
 use Rattle.sqlite_store.specs.declared.store.FileStore.{FileStore}
 use Rattle.sqlite_store.specs.FileStore.{view, faults, recovers, is_shielded, files}
 use Rattle.sqlite_trees.specs.declared.store.Store as store
 use Rattle.sqlite.specs.Held.{Held, state, AreDatabases}
-use Rattle.sqlite.specs.State.{State, HasCleanDisk, Survives}
-use Rattle.sqlite.specs.Files.{over_files, HoldsDatabase}
+use Rattle.sqlite.specs.State.{State, HasCleanDisk, Survives, IsLive, Opens}
+use Rattle.sqlite.specs.Files.{over_files, image_of, HoldsDatabase}
+use Rattle.sqlite.specs.Closing.{IsCopied}
 use Rattle.sqlite.proofs.Theorems.{opens_again}
+use Rattle.esc_store.specs.declared.store.Store.{Store}
 use Rattle.esc_store.specs.Kept.{Kept}
-use Rattle.esc_store.specs.StoreTables.{IsStore}
-use Rattle.esc_store.specs.Standing.{HoldsKept, LeavesOr}
+use Rattle.esc_store.specs.StoreTables.{IsStore, IsOfVersion}
+use Rattle.esc_store.specs.Standing.{HoldsKept, LeavesOr, Stands}
 use Rattle.esc_rows.specs.Schema.{no_schema}
 use Rattle.sqlite.specs.Effect.{Database}
 use Rattle.sqlite_catalog.specs.Listing.{IsSound}
 use Rattle.esc_kept.specs.Blank.{LeavesBlankOr}
 use Rattle.esc_events.specs.Events.{EventValue}
 use Rattle.esc_desk.specs.declared.desk.Desk.{Desk}
-use Rattle.esc_desk.specs.Serving.{DeskServes}
+use Rattle.esc_desk.specs.Calls.{DeskLeaves}
+use Rattle.esc_desk.specs.Serving.{Serves, DeskServes}
 use Rattle.esc_desk.specs.Crashes.{CrashLeaves, IsStoreForOneOf, IsStoreFor}
-use Rattle.esc_kept.specs.FileImages.{HoldsOneOf, IsOneOf, ServesOneOf}
+use Rattle.esc_kept.specs.FileImages.{HoldsStoreFor, HoldsVersion, HoldsOneOf, IsOneOf, ServesOneOf}
 
 -- whatever a crash leaves of the files of a store is one of those that it may leave of the store
 pub images_of : {D : Type 0} (g : Ghosts D) (conn : Held (FileStore D g)) (it : FileStore D g) (e doubtful : List EventValue) (log db : D) → (log, db) ≡ files it
@@ -66,6 +72,39 @@ pick trees e [] it = (e, refl, it)
 pick trees e (y ∷ doubtful) (inl it) = (e ++ y ∷ [], inl refl, it)
 pick trees e (y ∷ doubtful) (inr more) = let found = pick trees e doubtful more in (found.0, inr found.1, found.2)
 
-pub serves_one : {S : Type 0} (g : store.Ghosts S) (desk : Desk S) (image : Image) (e doubtful : List EventValue) → ((trees : Trees) → HoldsDatabase image trees → (x : List EventValue) → IsStoreFor trees x → DeskServes g desk x)
-    → HoldsOneOf image e doubtful → ServesOneOf g desk e doubtful
-serves_one g desk image e doubtful serves holds = ∥∥₁_map holds (λ it. let found = pick it.0 e doubtful it.2 in (found.0, found.1, serves it.0 it.1 found.0 found.2))
+-- what two files hold is what a connection over them has committed
+pub held_store : (committed : Trees) (image : Image) → ((trees : Trees) → HoldsDatabase image trees → committed ≡ trees) → (e : List EventValue) → HoldsStoreFor image e → IsStoreFor committed e
+held_store committed image holds e it = subst (λ t. IsStoreFor t e) (sym (∥∥₁_elim it.1 (Trees-set _ _) (holds it.0))) it.2
+
+-- the version of a connection that was just opened is that of the files
+pub of_version : {S : Type 0} (g : store.Ghosts S) (conn : Held S) (image : Image) → ((trees : Trees) → HoldsDatabase image trees → (state g conn).committed.trees ≡ trees)
+    → Opens (state g conn) → IsLive (state g conn) → IsOfVersion (state g conn).now → HoldsVersion image
+of_version g conn image holds opens live version = λ trees held. ((state g conn).committed, ∥∥₁_elim held (Trees-set _ _) (holds trees), (live opens.is_open).1, subst IsOfVersion opens.clean version)
+
+-- a desk over what two files hold serves one of the lists, where it serves each list whose store was committed
+pub serves_one : {S : Type 0} (g : store.Ghosts S) (desk : Desk S) (committed : Trees) (image : Image) → ((trees : Trees) → HoldsDatabase image trees → committed ≡ trees)
+    → ((x : List EventValue) → IsStoreFor committed x → DeskServes g desk x × DeskLeaves g desk x []) → (e doubtful : List EventValue) → HoldsOneOf image e doubtful → ServesOneOf g desk e doubtful
+serves_one g desk committed image holds serves e doubtful one = ∥∥₁_map one (λ it.
+    let found = pick it.0 e doubtful it.2 in
+    let both = serves found.0 (subst (λ t. IsStoreFor t found.0) (sym (holds it.0 it.1)) found.2) in
+    (found.0, found.1, both.0, both.1))
+
+-- the files that a close gave back hold the store of the events that it served
+pub closed_store : {D : Type 0} {g : Ghosts D} (conn : Held (FileStore D g)) (files : Files D) (old : Store (FileStore D g)) → IsCopied conn files
+    → ((k : Kept) → Stands over_files old k → HoldsKept over_files conn k) → (e : List EventValue) → Serves over_files old e → HoldsStoreFor (image_of g files) e
+closed_store conn files old copied holds e was = (
+  (state over_files conn).committed.trees,
+  copied.seen.both,
+  record {
+    kept = was.kept;
+    store = kept_trees over_files conn was.kept (holds was.kept was.stands) copied.was_clean copied.was_open;
+    stands_for = was.stands_for;
+  },
+)
+
+-- of each value something holds: of the value that is told, where the error alone is changed
+pub if_told : {T E D : Type 0} (from : Result T E) (to : Result T D) (F : E → D → Type 0) → MatchResult from (λ x. to ≡ Ok x) (λ e. IsErrAnd to (F e)) → (P : T → Type 0)
+    → ((x : T) → from ≡ Ok x → P x) → IfOk to P
+if_told (Ok x) to F cases P holds = subst (λ r. IfOk r P) (sym cases) (holds x refl)
+if_told (Err e) (Ok x) F cases P holds = absurd cases
+if_told (Err e) (Err d) F cases P holds = tt

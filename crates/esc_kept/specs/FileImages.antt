@@ -3,11 +3,23 @@ use Rattle.std.specs.Prelude.{◌≡◌, ◌⊎◌, List, [], ◌∷◌, ◌++�
 use Rattle.sqlite_wal.specs.Recovery.{Image}
 use Rattle.sqlite_trees.specs.declared.store.Store.{Ghosts}
 use Rattle.sqlite_trees.specs.Tree.{Trees}
+use Rattle.sqlite.specs.Effect.{Database, IsDatabase}
 use Rattle.sqlite.specs.Files.{HoldsDatabase}
+use Rattle.esc_store.specs.StoreTables.{IsOfVersion}
 use Rattle.esc_desk.specs.declared.desk.Desk.{Desk}
 use Rattle.esc_events.specs.Events.{EventValue}
+use Rattle.esc_desk.specs.Calls.{DeskLeaves}
 use Rattle.esc_desk.specs.Serving.{DeskServes}
-use Rattle.esc_desk.specs.Crashes.{IsStoreForOneOf}
+use Rattle.esc_desk.specs.Crashes.{IsStoreFor, IsStoreForOneOf}
+
+-- the two files hold a store of these events
+abbrev pub HoldsStoreFor : Image → List EventValue → Type 0
+HoldsStoreFor image e = (trees : Trees) × ∥ HoldsDatabase image trees ∥₁ × IsStoreFor trees e
+
+-- the database that the two files hold, if they do, has the nine tables, and its version is 2
+abbrev pub HoldsVersion : Image → Type 0
+HoldsVersion image = (trees : Trees) → ∥ HoldsDatabase image trees ∥₁
+    → (db : Database) × (db.trees ≡ trees) × IsDatabase db × IsOfVersion db
 
 -- the two files hold a store of these events, or of them and one of those in doubt
 abbrev pub HoldsOneOf : Image → List EventValue → List EventValue → Type 0
@@ -19,8 +31,8 @@ abbrev pub IsOneOf : List EventValue → List EventValue → List EventValue →
 IsOneOf x e [] = x ≡ e
 IsOneOf x e (y ∷ doubtful) = (x ≡ e ++ y ∷ []) ⊎ IsOneOf x e doubtful
 
--- a desk serves these events, or them and one of those in doubt
+-- a desk serves these events, or them and one of those in doubt, and none is in doubt any more
 abbrev pub ServesOneOf : {S : Type 0} → Ghosts S → Desk S → List EventValue → List EventValue
     → Type 0
 ServesOneOf g desk e doubtful = ∥ ((x : List EventValue) × IsOneOf x e doubtful
-    × DeskServes g desk x) ∥₁
+    × DeskServes g desk x × DeskLeaves g desk x []) ∥₁

@@ -4,14 +4,17 @@ ghost use Rattle.std.specs.Prelude.{List, [], IsTrue, IfOk, IfErr};
 ghost use Rattle.sqlite_wal.specs.Files.{outcomes, image_at};
 ghost use Rattle.sqlite_wal.specs.Reads.{AreClean};
 ghost use Rattle.sqlite_wal.specs.Recovery.{Image};
-ghost use Rattle.sqlite_trees.specs.Tree.{Trees};
-ghost use Rattle.sqlite.specs.Files.{over_files, image_of, HoldsDatabase};
-ghost use Rattle.esc_store.specs.Faults.{IsS1ToS3};
+ghost use Rattle.sqlite.specs.Files.{over_files, image_of};
+ghost use Rattle.esc_store.specs.Faults.{IsS1OrS2, IsS1ToS3};
 ghost use Rattle.esc_desk.specs.Calls.{After, DeskLeaves, IsHonestDesk};
 ghost use Rattle.esc_events.specs.Events.{EventValue};
 ghost use Rattle.esc_desk.specs.Serving.{DeskServes};
-ghost use Rattle.esc_desk.specs.Crashes.{IsStoreFor};
-ghost use Rattle.esc_kept.specs.FileImages.{HoldsOneOf, ServesOneOf};
+ghost use Rattle.esc_kept.specs.FileImages.{
+  HoldsStoreFor,
+  HoldsVersion,
+  HoldsOneOf,
+  ServesOneOf,
+};
 
 use crate::opening::open_desk;
 use esc_desk::{Desk, SFault};
@@ -40,28 +43,27 @@ pub fn desk_of_files<D: Disk + Drop>(
 ) -> Result<Desk<FileStore<D>>, SFault>
     requires log { IsTrue (D.Disk.is_usable files.log) }
     requires db { IsTrue (D.Disk.is_usable files.db) }
+    ensures honest { IfOk result (λ desk. IsHonestDesk over_files desk
+        → AreClean D.Disk files.log files.db) }
     ensures serves { IfOk result (λ desk. IsHonestDesk over_files desk
-        → (trees : Trees) → HoldsDatabase (image_of D.Disk files) trees
-        → (e : List EventValue) → IsStoreFor trees e
+        → (e : List EventValue) → HoldsStoreFor (image_of D.Disk files) e
         → DeskServes over_files desk e) }
     ensures left { IfOk result (λ desk. IsHonestDesk over_files desk
-        → (trees : Trees) → HoldsDatabase (image_of D.Disk files) trees
-        → (e : List EventValue) → IsStoreFor trees e
+        → (e : List EventValue) → HoldsStoreFor (image_of D.Disk files) e
         → DeskLeaves over_files desk e []) }
     ensures found { IfOk result (λ desk. IsHonestDesk over_files desk
         → (e doubtful : List EventValue)
         → HoldsOneOf (image_of D.Disk files) e doubtful
         → ServesOneOf over_files desk e doubtful) }
+    ensures version { IfOk result (λ desk. IsHonestDesk over_files desk
+        → HoldsVersion (image_of D.Disk files)) }
     ensures cause { IfErr result IsS1ToS3 }
 {
     let connection = match Connection::open_files(alloc, files, options) {
         Ok(connection) => connection,
         Err((error, _)) => return Err(fault_of(error)),
     };
-    match open_desk(alloc, connection) {
-        Ok(desk) => Ok(desk),
-        Err((fault, _)) => Err(fault),
-    }
+    open_desk(alloc, connection).map_err(|(fault, _)| fault)
 }
 
 /// The desk over the store of the files at a path. `start` says in the contract what they hold.
@@ -72,28 +74,29 @@ pub fn open_desk_at<S: Start>(
     start: S,
 ) -> Result<Desk<FileStore<FileFrom<S>>>, SFault>
     ensures serves { IfOk result (λ desk. IsHonestDesk over_files desk
-        → (trees : Trees) → HoldsDatabase (image_at S.Start) trees
-        → (e : List EventValue) → IsStoreFor trees e
+        → (e : List EventValue) → HoldsStoreFor (image_at S.Start) e
         → DeskServes over_files desk e) }
+    ensures left { IfOk result (λ desk. IsHonestDesk over_files desk
+        → (e : List EventValue) → HoldsStoreFor (image_at S.Start) e
+        → DeskLeaves over_files desk e []) }
     ensures found { IfOk result (λ desk. IsHonestDesk over_files desk
         → (e doubtful : List EventValue)
         → HoldsOneOf (image_at S.Start) e doubtful
         → ServesOneOf over_files desk e doubtful) }
+    ensures version { IfOk result (λ desk. IsHonestDesk over_files desk
+        → HoldsVersion (image_at S.Start)) }
     ensures cause { IfErr result IsS1ToS3 }
 {
     let connection = match Connection::open_from(rt, path, false, start) {
         Ok(connection) => connection,
         Err((error, _)) => return Err(fault_of(error)),
     };
-    match open_desk(rt.alloc(), connection) {
-        Ok(desk) => Ok(desk),
-        Err((fault, _)) => Err(fault),
-    }
+    open_desk(rt.alloc(), connection).map_err(|(fault, _)| fault)
 }
 
 /// The desk over the files of another, which is closed first: what is still in the log is copied
-/// into the database. It serves what the other served. `S1`, `S2`, or `S3` where what is read back
-/// is no store.
+/// into the database. It serves what the other served, and no event is in doubt any more. `S1`,
+/// `S2`, or `S3` where what is read back is no store.
 pub fn reopen_desk<D: Disk + Drop>(
     alloc: Global,
     desk: Desk<FileStore<D>>,
@@ -101,28 +104,22 @@ pub fn reopen_desk<D: Disk + Drop>(
 ) -> Result<Desk<FileStore<D>>, SFault>
     ensures serves { IfOk result (λ again. After over_files desk again
         (λ e. DeskServes over_files again e)) }
+    ensures left { IfOk result (λ again. After over_files desk again
+        (λ e. DeskLeaves over_files again e [])) }
     ensures cause { IfErr result IsS1ToS3 }
 {
-    let files = match desk.into_store().into_connection().close_files() {
-        Ok(files) => files,
+    match desk.into_store().into_connection().close_files() {
+        Ok(files) => desk_of_files(alloc, files, options),
         Err((error, store)) => {
             drop(store.close());
-            return Err(fault_of(error));
+            Err(fault_of(error))
         }
-    };
-    let connection = match Connection::open_files(alloc, files, options) {
-        Ok(connection) => connection,
-        Err((error, _)) => return Err(fault_of(error)),
-    };
-    match open_desk(alloc, connection) {
-        Ok(desk) => Ok(desk),
-        Err((fault, _)) => Err(fault),
     }
 }
 
 // The desk's fault for an error of `sqlite`.
 fn fault_of(error: Error) -> SFault
-    ensures { IsS1ToS3 result }
+    ensures { IsS1OrS2 result }
 {
     SFault::from(error)
 }

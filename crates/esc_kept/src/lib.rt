@@ -42,13 +42,17 @@
 //! of those in doubt; the contracts of `Desk::run_events`, `Desk::arrive`, `Desk::amend` and
 //! `Desk::as_of` carry it from call to call, and those here carry it on:
 //!
-//! 1. `new_desk` begins it: the manifest alone, none in doubt. A crash while the store is made
-//!    leaves a database without tables, or the new store.
+//! 1. `new_desk` begins it: the desk serves the manifest alone, and no event is in doubt. A crash
+//!    while the store is made leaves a database without tables, or the new store. A desk is given
+//!    only where the database had no table, index or view, and `S3` only where it has one.
 //! 2. `files_of`: each pair of files that a crash may leave holds a store of the events so far, or
-//!    of them and one of those in doubt (`HoldsOneOf`).
+//!    of them and one of those in doubt (`HoldsOneOf`). That it writes nothing, no clause says.
 //! 3. `desk_of_files` and `open_desk_at`: where that is what the files hold, the desk serves the
-//!    events so far, or them and one of those in doubt (`ServesOneOf`). After `desk_of_files` none
-//!    is in doubt any more. `reopen_desk`: the desk serves what it served before.
+//!    events so far, or them and one of those in doubt, and no event is in doubt any more
+//!    (`ServesOneOf`). Where they hold a store of a list of events (`HoldsStoreFor`), as files do
+//!    that were closed, it serves this list, and none is in doubt. What is opened has the nine
+//!    tables and version 2 (`HoldsVersion`). `reopen_desk`: the desk serves what it served before,
+//!    and none is in doubt.
 //!
 //! From there on `Desk::arrive` promises that a duplicate of an earlier arrival has the first one's
 //! reply. So an arrival that was answered before the crash has the same reply after it, and one in

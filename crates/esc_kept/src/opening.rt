@@ -1,11 +1,12 @@
 //! The desk over a connection's database.
 
-ghost use Rattle.std.specs.Prelude.{◌≡◌, List, [], ◌∷◌, IsTrue, IfOk, IfErr, MatchResult};
+ghost use Rattle.std.specs.Prelude.{◌≡◌, List, [], ◌∷◌, IsTrue, IfOk, IfErr, OnOk, MatchResult};
 ghost use Rattle.sqlite.specs.Held.{state};
 ghost use Rattle.sqlite.specs.State.{HasCleanDisk};
 ghost use Rattle.esc_store.specs.Faults.{IsS1ToS3};
 ghost use Rattle.esc_store.specs.Kept.{fresh};
 ghost use Rattle.esc_store.specs.Opening.{IsAsItWas};
+ghost use Rattle.esc_store.specs.StoreTables.{IsBlank, IsOfVersion};
 ghost use Rattle.esc_desk.specs.Calls.{DeskLeaves, IsHonestDesk};
 ghost use Rattle.esc_events.specs.Events.{EventValue};
 ghost use Rattle.esc_events.specs.Events.EventValue.{listed};
@@ -27,6 +28,10 @@ pub fn new_desk<S: Alter>(
     connection: Connection<S>,
     manifest: &Manifest,
 ) -> Result<Desk<S>, (SFault, Connection<S>)>
+    ensures serves { IfOk result (λ desk. DeskServes S.Store desk (listed manifest.now ∷ [])) }
+    ensures blank { OnOk result (IsBlank (state S.Store connection).now) }
+    ensures refused { IfErr result (λ e. e.0 ≡ SFault.S3 → HasCleanDisk (state S.Store e.1)
+        → IsTrue (state S.Store e.1).is_open → IsBlank (state S.Store connection).now → ⊥) }
     ensures crash { MatchResult result
         (λ desk. DeskLeavesBlankOr S.Store connection desk (fresh manifest.now))
         (λ e. LeavesBlankOr S.Store connection e.1 (fresh manifest.now)) }
@@ -37,7 +42,7 @@ pub fn new_desk<S: Alter>(
 {
     new_store_stands_for_its_manifest();
     match Store::create(alloc, connection, manifest) {
-        Ok(store) => Ok(Desk::open(store)),
+        Ok(made) => Ok(Desk::open(made)),
         Err(e) => Err(e),
     }
 }
@@ -57,6 +62,8 @@ pub fn open_desk<S: Alter>(
     ensures left { IfOk result (λ desk. (e : List EventValue)
         → IsStoreFor (state S.Store connection).committed.trees e
         → DeskLeaves S.Store desk e []) }
+    ensures version { IfOk result (λ desk. IsHonestDesk S.Store desk
+        → IsOfVersion (state S.Store connection).now) }
     ensures never { IfErr result (λ e. e.0 ≡ SFault.S3 → HasCleanDisk (state S.Store e.1)
         → IsTrue (state S.Store e.1).is_open → (events : List EventValue)
         → IsStoreFor (state S.Store connection).committed.trees events → ⊥) }

@@ -1,21 +1,29 @@
-use Rattle.std.proofs.Common.{sym, subst}
+use Rattle.std.proofs.lemmas.Result.{IfOk-at_ok}
 use Rattle.sqlite.specs.Files.{over_files, image_of}
-use Rattle.esc_desk.specs.Crashes.{IsStoreFor}
-use Rattle.esc_kept.proofs.Founds.{serves_one}
+use Rattle.esc_kept.proofs.Founds.{held_store, of_version, serves_one, if_told}
 use Rattle.esc_kept.proofs.files.desk_of_files.Goals as goal
 
-pub returns-in-Ok-open_desk-clause-serves : goal.returns-in-Ok-open_desk-clause-serves
-returns-in-Ok-open_desk-clause-serves g c = λ honest trees holds e it.
-    let clean = c.in-Ok-open_desk.ensures.honest honest in
-    c.in-Ok-open_desk.ensures.serves honest e (subst (λ t. IsStoreFor t e) (sym ((c.in-Ok.ensures.found clean).holds trees holds)) it)
+pub returns-clause-honest : goal.returns-clause-honest
+returns-clause-honest g c = if_told c.open_desk.result c.map_err.result _ c.map_err.ensures.cases _ (λ desk is honest.
+    (c.in-Ok.ensures.found (IfOk-at_ok _ is c.open_desk.ensures.honest honest)).honest)
 
-pub returns-in-Ok-open_desk-clause-left : goal.returns-in-Ok-open_desk-clause-left
-returns-in-Ok-open_desk-clause-left g c = λ honest trees holds e it.
-    let clean = c.in-Ok-open_desk.ensures.honest honest in
-    c.in-Ok-open_desk.ensures.left e (subst (λ t. IsStoreFor t e) (sym ((c.in-Ok.ensures.found clean).holds trees holds)) it)
+pub returns-clause-serves : goal.returns-clause-serves
+returns-clause-serves g c = if_told c.open_desk.result c.map_err.result _ c.map_err.ensures.cases _ (λ desk is honest e it.
+    let found = c.in-Ok.ensures.found (IfOk-at_ok _ is c.open_desk.ensures.honest honest) in
+    IfOk-at_ok _ is c.open_desk.ensures.serves honest e (held_store _ (image_of g.D.Disk c.args.files) found.holds e it))
 
-pub returns-in-Ok-open_desk-clause-found : goal.returns-in-Ok-open_desk-clause-found
-returns-in-Ok-open_desk-clause-found g c = λ honest e doubtful one.
-    let clean = c.in-Ok-open_desk.ensures.honest honest in
-    serves_one over_files c.in-Ok-open_desk.desk (image_of g.D.Disk c.args.files) e doubtful
-    (λ trees holds x it. c.in-Ok-open_desk.ensures.serves honest x (subst (λ t. IsStoreFor t x) (sym ((c.in-Ok.ensures.found clean).holds trees holds)) it)) one
+pub returns-clause-left : goal.returns-clause-left
+returns-clause-left g c = if_told c.open_desk.result c.map_err.result _ c.map_err.ensures.cases _ (λ desk is honest e it.
+    let found = c.in-Ok.ensures.found (IfOk-at_ok _ is c.open_desk.ensures.honest honest) in
+    IfOk-at_ok _ is c.open_desk.ensures.left e (held_store _ (image_of g.D.Disk c.args.files) found.holds e it))
+
+pub returns-clause-found : goal.returns-clause-found
+returns-clause-found g c = if_told c.open_desk.result c.map_err.result _ c.map_err.ensures.cases _ (λ desk is honest.
+    let found = c.in-Ok.ensures.found (IfOk-at_ok _ is c.open_desk.ensures.honest honest) in
+    serves_one over_files desk _ (image_of g.D.Disk c.args.files) found.holds (λ x it. (IfOk-at_ok _ is c.open_desk.ensures.serves honest x it, IfOk-at_ok _ is c.open_desk.ensures.left x it)))
+
+pub returns-clause-version : goal.returns-clause-version
+returns-clause-version g c = if_told c.open_desk.result c.map_err.result _ c.map_err.ensures.cases _ (λ desk is honest.
+    let clean = IfOk-at_ok _ is c.open_desk.ensures.honest honest in
+    let opened = c.in-Ok.ensures.opened clean in
+    of_version over_files c.in-Ok.connection (image_of g.D.Disk c.args.files) (c.in-Ok.ensures.found clean).holds opened.0 opened.1 (IfOk-at_ok _ is c.open_desk.ensures.version honest))

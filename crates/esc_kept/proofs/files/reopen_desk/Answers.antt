@@ -1,18 +1,15 @@
-use Rattle.std.proofs.Common.{sym, subst}
-use Rattle.sqlite.specs.Files.{over_files}
-use Rattle.sqlite.proofs.Callers.{finds_again}
-use Rattle.esc_store.specs.StoreTables.{IsStore}
-use Rattle.esc_kept.proofs.Founds.{kept_trees}
+use Rattle.std.proofs.Common.{inr}
+use Rattle.esc_store.specs.ResultLaws.{if_both}
+use Rattle.esc_kept.proofs.Founds.{closed_store}
 use Rattle.esc_kept.proofs.files.reopen_desk.Goals as goal
 
-pub returns-in-Ok-open_desk : goal.returns-in-Ok-open_desk
-returns-in-Ok-open_desk g c = record {
-  serves = λ honest e served.
-      let was = c.into_store.ensures.serves e served in
-      let found = c.in-Ok-open_files.ensures.found (c.in-Ok-open_desk.ensures.honest honest) in
-      let copied = c.in-Ok.ensures.copied found.honest in
-      let same = finds_again c.into_connection.result c.in-Ok-open_files.connection c.in-Ok.files c.in-Ok.ensures.copied found in
-      let stored = kept_trees over_files c.into_connection.result was.kept (c.into_connection.ensures.holds was.kept was.stands) copied.was_clean copied.was_open in
-      c.in-Ok-open_desk.ensures.serves honest e (record { kept = was.kept; store = subst (λ t. IsStore t was.kept) (sym same) stored; stands_for = was.stands_for });
-  cause = tt;
-}
+pub returns-in-Ok-clause-serves : goal.returns-in-Ok-clause-serves
+returns-in-Ok-clause-serves g c = if_both c.desk_of_files.result _ _ _ c.desk_of_files.ensures.honest c.desk_of_files.ensures.serves (λ again clean serves honest e served.
+    serves honest e (closed_store c.into_connection.result c.in-Ok.files c.into_store.result (c.in-Ok.ensures.copied (clean honest)) c.into_connection.ensures.holds e (c.into_store.ensures.serves e served)))
+
+pub returns-in-Ok-clause-left : goal.returns-in-Ok-clause-left
+returns-in-Ok-clause-left g c = if_both c.desk_of_files.result _ _ _ c.desk_of_files.ensures.honest c.desk_of_files.ensures.left (λ again clean left honest e served.
+    left honest e (closed_store c.into_connection.result c.in-Ok.files c.into_store.result (c.in-Ok.ensures.copied (clean honest)) c.into_connection.ensures.holds e (c.into_store.ensures.serves e served)))
+
+pub returns-in-Err-clause-cause : goal.returns-in-Err-clause-cause
+returns-in-Err-clause-cause g c = inr c.fault_of.ensures

@@ -17,5 +17,8 @@ returns-in-Ok-clause-serves g c = λ honest e it.
 pub returns-in-Ok-clause-left : goal.returns-in-Ok-clause-left
 returns-in-Ok-clause-left g c = λ e it. c.open-in-Ok.ensures.left e it.kept (c.in-Ok.ensures.left it.kept it.store) it.stands_for
 
+pub returns-in-Ok-clause-version : goal.returns-in-Ok-clause-version
+returns-in-Ok-clause-version g c = λ honest. c.in-Ok.ensures.version (subst (λ s. IsHonest g.S.Store s) c.open-in-Ok.ensures.same honest)
+
 pub returns-in-Err-clause-never : goal.returns-in-Err-clause-never
 returns-in-Err-clause-never g c = λ is clean up events it. c.in-Err.ensures.never is clean up it.kept it.store
