@@ -1,5 +1,5 @@
 """The crates of the repository, and copies of some in which `rt ci` works, so that the tree is left as it is until that has ended."""
-import os, shutil
+import fcntl, os, shutil, sys
 
 TOP = os.path.dirname(os.path.dirname(os.path.abspath(__file__)))
 
@@ -17,6 +17,19 @@ def libraries():
         own = [it for it in rest if it in listed]
         below[name] = [it for it in below if it in own or any(it in below[lower] for lower in own)]
     return below
+
+
+def locked():
+    """The lock of this tree, held until the process ends; what it starts doesn't inherit it. Two runs would take each other's out/ folders away."""
+    lock = open(f'{TOP}/.lock', 'a+')
+    try:
+        fcntl.flock(lock, fcntl.LOCK_EX | fcntl.LOCK_NB)
+    except BlockingIOError:
+        lock.seek(0)
+        sys.exit(f'another run works in this tree: {lock.read().strip()}')
+    lock.truncate(0)
+    print(f'{os.path.basename(sys.argv[0])}, process {os.getpid()}', file=lock, flush=True)
+    return lock
 
 
 def copied_tree(tree, crates):

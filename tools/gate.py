@@ -10,7 +10,7 @@ processor seconds for each crate's proof, tests and wrong bodies, as /proc shows
 alone); below it stand the whole gate's time, its processor minutes and the most memory that was in use beyond that at its start."""
 import os, re, resource, subprocess, sys, tempfile, threading, time
 
-from crates import TOP, built_moved, copied_tree, libraries
+from crates import TOP, built_moved, copied_tree, libraries, locked
 from wrong_bodies import edits_of, tried
 
 TICK = os.sysconf('SC_CLK_TCK')
@@ -208,4 +208,5 @@ def main():
     return 1 if failed else 0
 
 
-sys.exit(main())
+with locked():
+    sys.exit(main())

@@ -6,7 +6,7 @@ this machine, of `./check` too, proves the same files over the same libraries no
 standard error says of each crate when it was proved; what `rt ci` said of a crate that isn't proved follows."""
 import os, re, subprocess, sys, tempfile, time
 
-from crates import TOP, built_moved, copied_tree, libraries
+from crates import TOP, built_moved, copied_tree, libraries, locked
 
 ENDED = re.compile(r'rt: (\w+) (proved|is kept|NOT PROVED)\b')
 
@@ -44,4 +44,5 @@ def main():
     return 0 if passed and os.path.exists(f'{TOP}/crates/{program}/out/{program}') else 1
 
 
-sys.exit(main())
+with locked():
+    sys.exit(main())
