@@ -15,8 +15,8 @@
 //! with another number of fields), `M10 row 2` for deposits that no manifest lists, `H1 PATH` for a
 //! file that doesn't begin with its heading, `H2 PATH` for rows that begin with a byte order mark,
 //! `H3 DIR` for a folder whose description doesn't read back, `S2` when out of memory. A control
-//! character in a path is escaped. The status is 0 where all went well; 1 for E2, U, M and H; 2 for other words; 3
-//! for E1 and S2.
+//! character in a path is escaped. The status is 0 where all went well; 1 for E2, U, M and H; 2 for
+//! other words; 3 for E1 and S2.
 //!
 //! | Module | Does |
 //! |---|---|

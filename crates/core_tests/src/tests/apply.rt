@@ -12,7 +12,7 @@ use esc_tables::{Deposit, Key, read_deposit};
 use std::alloc::Global;
 use stopping::{Stopped, Stopping};
 
-/// The places of a chain's bodies in the list of all.
+/// The indices of a chain's bodies in the list of all.
 type Chain = &'static [usize];
 
 /// The old chain, the new chain, and what is said of the move: how many writes the registry counts
