@@ -16,12 +16,6 @@ const READS_AFTER: usize = 2048;
 
 const BYTES_AT_ONCE: usize = 16_384;
 
-/// What is reported of a connection from which no request can be read.
-const READ_FAULT: &[u8] = b"read fault\n";
-
-/// What is reported of one whose response can't be sent whole.
-const WRITE_FAULT: &[u8] = b"write fault\n";
-
 /// Linux's numbers of errors that a connection may have before it is accepted, and that have no
 /// `ErrorKind` of their own: ENONET, EPROTO, ENOPROTOOPT, EOPNOTSUPP and EHOSTDOWN.
 const UNNAMED_ERRORS: [i32; 5] = [64, 71, 92, 95, 112];
@@ -66,7 +60,7 @@ fn serve_next<S: Alter, E: Write>(
 ) -> Result<(), Error> {
     match listener.accept() {
         Ok((stream, _address)) => serve_connection(rt, desk, &stream, err),
-        Err(error) if is_of_connection(&error) => tell_fault(err, READ_FAULT),
+        Err(error) if is_of_connection(&error) => tell_fault(err, &ServeFault::Read),
         Err(error) => return Err(error),
     }
     Ok(())
@@ -101,8 +95,7 @@ fn serve_connection<S: Alter, E: Write>(
     let mut writer = Client::new(rt, stream, Patience::for_response());
     match serve_one(rt.alloc(), desk, &mut reader, &mut writer) {
         Ok(()) => drain(rt, stream),
-        Err(ServeFault::Read) => tell_fault(err, READ_FAULT),
-        Err(ServeFault::Write) => tell_fault(err, WRITE_FAULT),
+        Err(fault) => tell_fault(err, &fault),
     }
 }
 
@@ -122,7 +115,7 @@ fn drain(rt: &HostRuntime, stream: &TcpStream) {
     }
 }
 
-fn tell_fault<E: Write>(err: &mut E, fault: &[u8]) {
+fn tell_fault<E: Write>(err: &mut E, fault: &ServeFault) {
     // A failure of standard error is ignored: there is nowhere to report it.
-    let _ = err.write_all(fault);
+    let _ = writeln!(err, "{fault}");
 }
