@@ -139,7 +139,7 @@ class First:
 
 
 def write_store(store, rows):
-    """Makes a store of version 1 by the words of its format. The rows come in another order than their keys: any history may."""
+    """Makes a store of version 1 from the texts of its tables. The rows come in another order than their keys: any history may."""
     with contextlib.closing(sqlite3.connect(store)) as database:
         for table, columns in TABLES.items():
             database.execute(f'CREATE TABLE {table} ({columns})')

@@ -1,5 +1,5 @@
 #!/usr/bin/env python3
-"""plain_store.py [--restore PROGRAM] [--keep FOLDER]: that a store by the format's words alone is a store.
+"""plain_store.py [--restore PROGRAM] [--keep FOLDER]: that a store made from the texts of the tables alone is a store.
 
 Makes a store of the first sample's manifest with the C library (python's sqlite3) and with nothing of the program: the nine
 tables as the format words them, the version and the manifest's rows. Then it runs each command on it and on a store that
@@ -46,7 +46,7 @@ def listed(row, record):
 
 
 def plain_store(name, order):
-    """Makes a store by the format's words, its tables made in this order."""
+    """Makes a store from the texts of the tables, made in this order."""
     store = os.path.join(work, name)
     db = sqlite3.connect(store)
     for table in order:

@@ -19,11 +19,29 @@ PARTS = ('proof', 'tests', 'edits')
 PROGRAMS = tuple(f'crates/{it}/out/{it}' for it in ('restore', 'desk_harness', 'pack'))
 
 
-def memory_in_use():
-    """In kilobytes."""
+def memory():
+    """All memory, and what of it is free, in kilobytes."""
     with open('/proc/meminfo') as file:
         found = dict(re.findall(r'(MemTotal|MemAvailable): +(\d+)', file.read()))
-    return int(found['MemTotal']) - int(found['MemAvailable'])
+    return int(found['MemTotal']), int(found['MemAvailable'])
+
+
+def memory_in_use():
+    """In kilobytes."""
+    total, free = memory()
+    return total - free
+
+
+def lanes():
+    """How many checks run side by side: RT_JOBS of them, or one for each processor, with at least 5 GB of free memory for each, since the
+    largest take up to 6 and most up to 3. `rt ci` sees RT_JOBS too. Where it isn't set, that gives a proof the processors that no other proof
+    waits for, as memory allows."""
+    given = os.environ.get('RT_JOBS')
+    if not given:
+        return max(1, min(len(os.sched_getaffinity(0)), memory()[1] // 5_000_000))
+    if not re.fullmatch('[1-9][0-9]*', given):
+        sys.exit(f'check: RT_JOBS is no number of lanes: {given}')
+    return int(given)
 
 
 def part_of(pid):
@@ -39,8 +57,8 @@ def part_of(pid):
 class Watch:
     """Looks once a second at the processes and the memory until it is stopped."""
 
-    def __init__(self):
-        self.parts, self.seconds, self.memory = {}, {}, 0
+    def __init__(self, lanes):
+        self.lanes, self.parts, self.seconds, self.memory = lanes, {}, {}, 0
         self.before, self.begun, self.ended = memory_in_use(), time.monotonic(), threading.Event()
         self.thread = threading.Thread(target=self.run, daemon=True)
         self.thread.start()
@@ -73,7 +91,7 @@ class Watch:
         lines += [f'| `{crate}` | ' + ' | '.join(f'{sums.get((crate, part), 0):.0f}' for part in PARTS) + ' |' for crate in libraries()]
         spent = resource.getrusage(resource.RUSAGE_CHILDREN)
         lines.append(f'\n{(time.monotonic() - self.begun) / 60:.0f} minutes, {(spent.ru_utime + spent.ru_stime) / 60:.0f} processor minutes, '
-                     f'{os.environ.get("RT_JOBS", "-")} lanes, {self.memory / 1_000_000:.1f} GB at most')
+                     f'{self.lanes} lanes, {self.memory / 1_000_000:.1f} GB at most')
         return '\n'.join(lines)
 
 
@@ -194,10 +212,12 @@ def played(missing):
 def main():
     if sys.argv[1:] not in ([], ['--anew']):
         sys.exit(f'gate.py takes --anew alone: {" ".join(sys.argv[1:])}')
-    watch, lanes = Watch(), int(os.environ.get('RT_JOBS') or os.cpu_count() or 1)
+    count = lanes()
+    print(f'check: lanes: {count}', flush=True)
+    watch = Watch(count)
     with tempfile.TemporaryDirectory(prefix='gate-') as tree:
         copied_tree(tree, libraries())
-        bodies = WrongBodies(tree, lanes)
+        bodies = WrongBodies(tree, count)
         passed, failed = proved(tree, bodies)
         refused, through = bodies.ended()
         missing = missing_in(tree)

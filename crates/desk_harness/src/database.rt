@@ -148,7 +148,7 @@ fn build_here<S: Alter + Drop>(connection: &mut Connection<S>) -> Result<(), Err
     build(connection, &[])
 }
 
-// Makes the tables of a store, where no transaction was begun.
+// Makes the tables of a store in the transaction that was begun; tells the error where none was.
 fn tell_build<S: Alter + Drop>(
     text: &mut String,
     connection: &mut Connection<S>,

@@ -27,6 +27,10 @@ use std::alloc::Global;
 /// had before the step. A registry that holds the tables and before-images of a chain holds
 /// afterwards those of the chain without its last step. Returns the number of writes: one for each
 /// of these before-images, which are those of the keys that the step's deposit mentions.
+///
+/// # Errors
+///
+/// The registry's error; out of memory is one of these. Nothing is said then of what it holds.
 pub fn undo_step<R: Registry>(alloc: Global, r: &mut R, pos: u32) -> Result<u64, R::Error>
     ensures follows { R.follows r.old r.new }
     ensures cause { IfErr result R.fails }

@@ -42,6 +42,10 @@ use std::collections::{BTreeMap, BTreeSet};
 /// before. A registry that holds the tables and before-images of the earlier steps holds afterwards
 /// those of the earlier steps and this one. Returns the number of writes: one for each key that the
 /// deposit mentions.
+///
+/// # Errors
+///
+/// The registry's error; out of memory is one of these. Nothing is said then of what it holds.
 pub fn apply_step<R: Registry>(
     alloc: Global,
     r: &mut R,

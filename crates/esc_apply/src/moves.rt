@@ -50,6 +50,10 @@ pub struct Work {
 /// A registry that holds the tables and before-images of the old steps' deposits holds afterwards
 /// those of the first of these deposits, as many as the chains have in common, followed by
 /// `deposits`. Returns what the move cost; the registry's count has grown by its writes.
+///
+/// # Errors
+///
+/// The registry's error; out of memory is one of these. Nothing is said then of what it holds.
 pub fn move_chain<R: Registry>(
     alloc: Global,
     r: &mut R,

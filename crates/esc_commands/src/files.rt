@@ -1,4 +1,4 @@
-//! Files and folders.
+//! Reads manifests and bodies, and says what stops a command at a path.
 
 use crate::stop::{NO_MEMORY, Stop};
 use esc_console::{Links, read_front, read_whole};

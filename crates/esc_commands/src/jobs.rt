@@ -64,7 +64,7 @@ where
     close(use_connection(rt, net, connection, job, out, err))
 }
 
-// Does a job with a connection.
+// For any store: each use of a `FileStore` as a store costs the prover seconds.
 fn use_connection<N, S, O, E>(
     rt: &HostRuntime,
     net: &N,
@@ -103,7 +103,6 @@ fn silent<S: Alter>(alloc: Global, made: Used<S, ()>) -> Used<S, Ended> {
     }
 }
 
-// Does a task with the desk of the store that a connection has.
 fn open_and_use<N, S, O, E>(
     rt: &HostRuntime,
     net: &N,
@@ -133,7 +132,6 @@ where
     }
 }
 
-// Does a task with a desk.
 fn use_desk<N, S, O, E>(
     rt: &HostRuntime,
     net: &N,

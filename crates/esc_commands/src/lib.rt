@@ -35,11 +35,12 @@
 //! # Order of refusals
 //!
 //! The first of these that fails is reported: the words (status 2), the moment (`E3`, status 1),
-//! the manifest (`M1` to `M13`, status 1, or `E1` where it can't be read), the store (`S1` to `S5`,
-//! or `E1` where its file can't be read and written), the union of an amendment with the listed
-//! rows (`M1`, `M10` to `M13`), the folder or the port (`E1`), then file by file (`N1`, `E1`, `E2`,
-//! and the verdict of the receipt, status 1). `S1` to `S5` and `E1` stop a command with status 3;
-//! what was answered before stays. A report is printed once the store is closed.
+//! the manifest (`M1` to `M13`, status 1, or `E1` where it can't be read), the store as it is
+//! opened (`S1` to `S3`, or `E1` where its file can't be read and written), the union of an
+//! amendment with the listed rows (`M1`, `M10` to `M13`), the folder or the port (`E1`), then file
+//! by file (`N1`, `E1`, `E2`, `S4`, `S5`, and the verdict of the receipt, status 1). `S1` and `S2`
+//! may come at any point once the store is opened. `S1` to `S5` and `E1` stop a command with status
+//! 3; what was answered before stays. A report is printed once the store is closed.
 //!
 //! # What is promised
 //!

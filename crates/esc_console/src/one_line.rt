@@ -4,7 +4,7 @@ use std::fmt;
 
 /// A name or a path on one line, so that no name can look like a second refusal. If it has control
 /// characters, such as a line end, these are escaped as Rust writes them (`\n`, `\u{1b}`), and so
-/// are its backslashes.
+/// are its backslashes. An empty one is printed as `(an empty path)`.
 #[derive(Clone, Copy)]
 pub struct OneLine<'a>(pub &'a str);
 

@@ -7,31 +7,43 @@ use std::convert::AsStr;
 
 /// A program, with its commands.
 pub struct Program {
+    /// The word that it is called by, also in its help.
     pub name: &'static str,
+    /// What `--version` prints after the name.
     pub version: &'static str,
+    /// What it is for, the first line of its help.
     pub about: &'static str,
     /// What its help ends with.
     pub details: &'static str,
     /// The arguments of every command, before its own.
     pub shared: &'static [Argument],
+    /// Its commands, in the order in which its help lists them.
     pub commands: &'static [Subcommand],
 }
 
 /// A command of a program, with its help and its arguments.
 pub struct Subcommand {
+    /// The word that it is called by.
     pub name: &'static str,
+    /// What it does, the first line of its help.
     pub about: &'static str,
-    /// What its help ends with.
+    /// What its help ends with, if it has more to say.
     pub details: Option<&'static str>,
+    /// Its own arguments, after the shared ones.
     pub arguments: &'static [Argument],
 }
 
 /// An argument of a command. Each is required.
 pub struct Argument {
+    /// The name by which its value is asked for; of an option also its word, after `--`.
     pub id: &'static str,
+    /// Whether it is an option, one word or all words.
     pub form: ArgumentForm,
+    /// How the help writes its value, as `FILE`.
     pub value_name: &'static str,
+    /// What values it takes.
     pub values: ValueParser<'static>,
+    /// Its line in the help.
     pub help: &'static str,
 }
 

@@ -43,7 +43,7 @@ impl Lines {
         }
     }
 
-    /// Adds a line with these fields.
+    /// Adds a line with these fields. `NoMemory` out of memory, and then at each later call.
     pub fn write(&mut self, fields: &[&[u8]]) -> Result<(), NoMemory>
         ensures { OnOk result (self.new ≡ self.old ++ line_text (map (λ f. f.now) fields.now)) }
     {

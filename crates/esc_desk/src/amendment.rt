@@ -103,10 +103,14 @@ impl<S: Alter> Desk<S> {
     /// Takes in an amendment, the text of a manifest: its rows that aren't listed yet are listed
     /// from now on. A body that is parked for a new row is held if it is the row's deposit, and is
     /// no longer parked in any case; replies that were given stay as they were. Returns how many
-    /// rows are new, and the work of the chain's move. At `Err` nothing has changed: the refusal of
-    /// the text or of its union with the rows in memory (M1 to M13, whatever the disk holds; a text
-    /// that is too long is M1, whatever memory there is), `S1`, `S2`. A crash leaves an amendment
-    /// that was taken in; after `S1` or `S2` it may leave this one taken in.
+    /// rows are new, and the work of the chain's move. A crash leaves an amendment that was taken
+    /// in; after `S1` or `S2` it may leave this one taken in.
+    ///
+    /// # Errors
+    ///
+    /// Nothing has changed. `M`: the text, or its union with the rows in memory, is refused (M1 to
+    /// M13). That doesn't depend on the disk, and a text of more than 4,194,304 bytes is M1 also
+    /// where memory is short. `Store`: `S1`, `S2`.
     pub fn amend(&mut self, alloc: Global, text: &[u8]) -> Result<(u32, Work), AmendFault>
         ensures amended { OkAfter S.Store self.old self.new result
             (λ e p. IsAmended S.Store self.new e text.now p.0 p.1) }
@@ -234,7 +238,6 @@ fn list_in<S: Alter>(
     work
 }
 
-// Appends rows.
 fn append_rows(rows: &mut Vec<usize>, more: &[usize]) -> Result<(), NoMemory>
     ensures { OnOk result (rows.new.items ≡ rows.old.items ++ more.now) }
 {

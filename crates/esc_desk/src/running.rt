@@ -111,7 +111,6 @@ impl<S: Alter> Desk<S> {
         Ok(outcomes)
     }
 
-    // Takes one event.
     fn take_event(&mut self, alloc: Global, event: &Event<'_>) -> EventOutcome
         ensures taken { After S.Store self.old self.new
             (λ e. Takes S.Store self.new e event.now result) }
@@ -138,7 +137,6 @@ impl<S: Alter> Desk<S> {
         }
     }
 
-    // Takes one arrival.
     fn take(&mut self, alloc: Global, arrival: &Arrival<'_>) -> Outcome
         ensures taken { After S.Store self.old self.new
             (λ e. Takes S.Store self.new e (as_event arrival.now) (as_outcome result)) }

@@ -3,7 +3,8 @@
 /// The type of a deposit, in the order that types have at equal watermarks (RFC 8909, section 2).
 #[derive(Clone, Copy, Debug, PartialEq, Eq, PartialOrd, Ord)]
 pub enum DepositType {
-    /// A Differential: what happened since the last deposit of any type.
+    /// A Differential: what happened since the deposit that its `prevId` names (RFC 8909: since the
+    /// last deposit of any type).
     Diff,
     /// An Incremental: what happened since the last Full.
     Incr,

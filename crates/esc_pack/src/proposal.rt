@@ -6,7 +6,9 @@ use std::marker::Model;
 /// A file of a folder.
 #[derive(Drop)]
 pub struct FolderFile<'a> {
+    /// Its name in the folder, without a path.
     pub name: &'a str,
+    /// All that is in it.
     pub bytes: &'a [u8],
 }
 
@@ -42,7 +44,9 @@ impl fmt::Display for Why {
 /// A file that a description doesn't name.
 #[derive(Debug, Drop)]
 pub struct Unknown {
+    /// Its name in the folder.
     pub name: String,
+    /// The first of the reasons that applies.
     pub why: Why,
 }
 
@@ -58,7 +62,9 @@ impl Model for Unknown {
 /// The text of a description, and the files that it doesn't name.
 #[derive(Debug, Drop)]
 pub struct Proposal {
+    /// The description, in JSON.
     pub text: Vec<u8>,
+    /// The files of the folder that it doesn't name, in their order.
     pub unknown: Vec<Unknown>,
 }
 

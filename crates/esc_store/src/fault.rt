@@ -18,8 +18,8 @@ pub enum SFault {
     S1,
     /// Out of memory, here or in the database.
     S2,
-    /// `create`: the database isn't empty. `open`: it is no store of this version. `migrate`: it is
-    /// no store of version 1.
+    /// `create`: the database has a table, an index or a view. `open`: it is no store of this
+    /// version. `migrate`: it is no store of version 1.
     S3,
     /// The store has 1,000,000,000 receipts, so there is no room for one more.
     S4,

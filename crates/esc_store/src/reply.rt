@@ -30,6 +30,7 @@ pub struct Reply {
     pub receipt: u64,
     /// The number under which the sender sent it.
     pub number: String,
+    /// What the body was found to be, by the rows that were listed when it came.
     pub verdict: Verdict,
     /// The id of the row that listed the body when it came, if one did.
     pub id: Option<String>,
@@ -59,7 +60,7 @@ impl Model for Reply {
 }
 
 impl Reply {
-    /// An equal reply.
+    /// An equal reply. `NoMemory` out of memory.
     pub fn copy(&self, alloc: Global) -> Result<Reply, NoMemory>
         ensures same { IfOk result (λ r. r ≡ self.now) }
     {
@@ -83,13 +84,17 @@ impl Reply {
 /// What a store keeps of an arrival.
 #[derive(Debug, Drop)]
 pub struct Receipt<'a> {
+    /// The number under which the sender sent the body.
     pub number: &'a str,
     /// The SHA-256 of the body.
     pub digest: [u8; 32],
+    /// What the body was found to be, by the rows that were listed when it came.
     pub verdict: Verdict,
-    /// The index, from 0, of the manifest's row that lists the digest.
+    /// The index, from 0, of the row that listed the digest when the body came, if one did.
     pub row: Option<usize>,
+    /// Whether an earlier receipt has `A1` of the same row. With `A1` alone.
     pub again: Option<bool>,
+    /// The number of orphans, child rows without a parent row. With `A1` alone.
     pub orphans: Option<u64>,
 }
 

@@ -55,7 +55,7 @@ impl Key {
         Ok(Key { kind, text })
     }
 
-    /// An equal key.
+    /// An equal key. `NoMemory` out of memory.
     pub fn copy(&self, alloc: Global) -> Result<Key, NoMemory>
         ensures { IfOk result (λ k. k ≡ self.now) }
     {

@@ -130,7 +130,8 @@ impl Row {
         Row { heading, texts }
     }
 
-    /// A row of a table with these cells, each a field's name and its text.
+    /// A row of a table with these cells, each a field's name and its text. `NoMemory` out of
+    /// memory.
     pub fn from_cells(alloc: Global, table: &str, cells: &[(&str, &str)]) -> Result<Row, NoMemory>
         ensures { IfOk result (λ row. row
             ≡ record { table = table.now; cells = map (λ c. (c.0.now, c.1.now)) cells.now }) }
@@ -167,7 +168,7 @@ impl Row {
         Some((field, text))
     }
 
-    /// An equal row.
+    /// An equal row. `NoMemory` out of memory.
     pub fn copy(&self) -> Result<Row, NoMemory>
         ensures { IfOk result (λ r. r ≡ self.now) }
     {
@@ -206,7 +207,7 @@ fn copy_rows(alloc: Global, rows: &[Row]) -> Result<Vec<Row>, NoMemory>
 }
 
 impl Object {
-    /// An equal object.
+    /// An equal object. `NoMemory` out of memory.
     pub fn copy(&self, alloc: Global) -> Result<Object, NoMemory>
         ensures { IfOk result (λ o. o ≡ self.now) }
     {

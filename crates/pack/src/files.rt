@@ -1,4 +1,4 @@
-//! Files.
+//! Reads bundles and an agent's files, and writes a bundle in one step.
 
 use crate::stop::{Refusal, Stop, or_stop};
 use esc_bundle::MOST_BYTES;
