@@ -126,7 +126,7 @@ fn line_of(
             awaited: greatest,
         });
     };
-    let stop = ways.stops.get(row).copied().unwrap_or(None);
+    let stop = ways.stops[row];
     let state = state_by(ways.chain.contains(&row), stop);
     let resend = resend_of(m.rows(), row);
     let blocker = blocker_if(alloc, m, &ways.bases, stop)?;
