@@ -18,6 +18,7 @@ use Rattle.std.specs.Prelude.{
   take,
   slice_index,
   if◌then◌else◌,
+  unwrap_or,
   Option,
   Some,
   None,
@@ -139,3 +140,7 @@ watermark_text_of (pos n) =
     then Some (moment_text (day_of (n / 86_400_000_000_000)) (clock_of (n % 86_400_000_000_000))
     (fraction None (n % 1_000_000_000)))
     else None
+
+-- a watermark as it is printed; nothing outside the years 1970 to 2261
+abbrev pub printed : ℤ → List ℕ
+printed w = unwrap_or (watermark_text_of w) []
