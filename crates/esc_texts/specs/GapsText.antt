@@ -1,5 +1,5 @@
 -- The report of gaps (this project's profile).
-use Rattle.std.specs.Prelude.{ℕ, List, [], ◌∷◌, ◌++◌, map, codes, option_map, option_and_then}
+use Rattle.std.specs.Prelude.{ℕ, List, [], ◌∷◌, ◌++◌, map, codes, option_map}
 use Rattle.std.specs.Fmt.{decimal}
 use Rattle.esc_envelope.specs.Members.{type_name}
 use Rattle.esc_envelope.specs.Watermark.{printed}
@@ -18,7 +18,7 @@ abbrev pub gap_line : GapLine → Line
 gap_line l =
     printed l.place.watermark ∷ type_name l.place.kind ∷ or_empty (option_map decimal l.used)
     ∷ state_text l.state
-    ∷ or_empty (option_and_then blocker_text l.blocker) ∷ or_empty (option_map decimal l.awaited)
+    ∷ or_empty (option_map blocker_text l.blocker) ∷ or_empty (option_map decimal l.awaited)
     ∷ []
 
 -- the lines of places
