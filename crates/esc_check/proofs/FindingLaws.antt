@@ -14,7 +14,7 @@ use Rattle.std.proofs.lemmas.Map.Views.{Contains-from_lookup, lookup-from_Contai
 use Rattle.esc_bundle.specs.ElementLaws.{nothing_in, first_in, only}
 use Rattle.esc_envelope.specs.declared.kind.Kind.{Kind}
 use Rattle.esc_envelope.specs.declared.kind.Kind.TheVariants.{Registrar, Contact, Host, Domain, Idn, Nndn}
-use Rattle.esc_envelope.specs.Watermark.{watermark_of, printed}
+use Rattle.esc_envelope.specs.Watermark.{printed, watermark_of}
 use Rattle.esc_tables.specs.KeyName.{KeyName, key_cmp, key_eq}
 use Rattle.esc_tables.specs.ObjectValue.{RowValue, ObjectValue}
 use Rattle.esc_check.specs.declared.field.LinkField.{LinkField}

@@ -18,7 +18,6 @@ use Rattle.std.specs.Prelude.{
   take,
   slice_index,
   if◌then◌else◌,
-  unwrap_or,
   Option,
   Some,
   None,
@@ -29,6 +28,7 @@ use Rattle.std.specs.Prelude.{
   ◌≤ℤ◌,
 }
 use Rattle.std.specs.Char.{is_ascii_digit}
+use Rattle.std.specs.Option.{unwrap_or}
 use Rattle.jiff_core.specs.Calendar.{days_in_month, days_in_year}
 use Rattle.jiff_fmt.specs.Reader.{fraction_value}
 use Rattle.jiff_fmt.specs.Text.{fraction}
