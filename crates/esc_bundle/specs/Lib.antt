@@ -5,4 +5,5 @@ pub mod Frame
 pub mod Writing
 pub mod Codes
 pub mod ListLaws
+pub mod ElementLaws
 pub mod TestLaws

@@ -37,8 +37,9 @@
 //! the crates above reason about bundles by these. The laws in `src/laws.rt` are about the
 //! definitions alone: the functions give what the relations say; each text is a bundle of one list
 //! of sections or has one fault, and never both; and no bundle is a proper beginning of another.
-//! `specs/TestLaws.antt` and `specs/ListLaws.antt` have lemmas that the crates above cite: on
-//! sequences of steps that may fail, on lists, and on digits.
+//! `specs/TestLaws.antt`, `specs/ListLaws.antt` and `specs/ElementLaws.antt` have lemmas that the
+//! crates above cite: on sequences of steps that may fail, on lists and their elements, and on
+//! digits.
 #![tactic(auto)]
 
 mod fault;

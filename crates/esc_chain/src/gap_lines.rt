@@ -20,7 +20,7 @@ use crate::bases::bases;
 use crate::gap::{Blocker, GapLine, Id, ListedPlace, State};
 use crate::predecessors::links;
 use crate::revision::{in_order, resend_of, used_rows};
-use crate::stops::stops_of;
+use crate::stops::{stop_at, stops_of};
 use crate::unheld::{over, unheld_resends};
 use crate::{Base, Held, latest_chain_at};
 use esc_bundle::NoMemory;
@@ -126,7 +126,7 @@ fn line_of(
             awaited: greatest,
         });
     };
-    let stop = ways.stops.get(row).copied().unwrap_or(None);
+    let stop = stop_at(&ways.stops, row);
     let state = state_by(ways.chain.contains(&row), stop);
     let resend = resend_of(m.rows(), row);
     let blocker = blocker_if(alloc, m, &ways.bases, stop)?;

@@ -11,16 +11,17 @@ use Rattle.std.proofs.lemmas.Slice.Eq.{bytes_eq-Decides}
 use Rattle.std.proofs.lemmas.List.Elements.{Contains-append_left, Contains-append_right, Contains-append_cases}
 use Rattle.std.proofs.lemmas.Map.Keys.{IsDistinct-from_sorted}
 use Rattle.std.proofs.lemmas.Map.Views.{Contains-from_lookup, lookup-from_Contains}
+use Rattle.esc_bundle.specs.ElementLaws.{nothing_in, first_in, only}
 use Rattle.esc_envelope.specs.declared.kind.Kind.{Kind}
 use Rattle.esc_envelope.specs.declared.kind.Kind.TheVariants.{Registrar, Contact, Host, Domain, Idn, Nndn}
-use Rattle.esc_envelope.specs.Watermark.{watermark_of}
+use Rattle.esc_envelope.specs.Watermark.{printed, watermark_of}
 use Rattle.esc_tables.specs.KeyName.{KeyName, key_cmp, key_eq}
 use Rattle.esc_tables.specs.ObjectValue.{RowValue, ObjectValue}
 use Rattle.esc_check.specs.declared.field.LinkField.{LinkField}
 use Rattle.esc_check.specs.Export.{is_in}
 use Rattle.esc_check.specs.Fields.{cell, field_name, is_domain, parent_fields, child_field, status_table, created, expires}
 use Rattle.esc_check.specs.FindingValue.{FindingValue}
-use Rattle.esc_check.specs.Findings.{IsMissing, IsMiscounted, IsUnknown, IsMixed, IsLate, IsEarly, IsMalformed, IsOfDates, IsOwn, IsFinding, missing_target, miscounted, unknown_status, mixed_status, printed, late, early, malformed}
+use Rattle.esc_check.specs.Findings.{IsMissing, IsMiscounted, IsUnknown, IsMixed, IsLate, IsEarly, IsMalformed, IsOfDates, IsOwn, IsFinding, missing_target, miscounted, unknown_status, mixed_status, late, early, malformed}
 use Rattle.esc_check.specs.Gathered.{is_empty, text_links, field_links, row_links, child_links, links_of, is_present, link_findings, count_of, count_findings, row_status, statuses_in, statuses_of, is_status, is_ok, is_mixed, one_unknown, status_findings, is_after, is_before, is_malformed, late_findings, early_findings, malformed_findings, moment_findings, form_findings, own_findings, object_findings}
 use Rattle.esc_check.specs.LinkValue.{LinkValue, link_to}
 use Rattle.esc_check.specs.Links.{LinksBy, IsLinkOf}
@@ -28,7 +29,7 @@ use Rattle.esc_check.specs.Statuses.{status_words, IsStatusOf}
 use Rattle.esc_check.specs.TableMap.{Entry, tables_of}
 use Rattle.esc_tables.specs.KeyLaws.{keys_alike, one_key}
 use Rattle.esc_check.proofs.Keys.{count_has, count_is}
-use Rattle.esc_check.proofs.Members.{nothing_in, here, only, from_pieces, in_pieces, from_chosen, in_chosen, from_any, any_from}
+use Rattle.esc_check.proofs.Members.{from_pieces, in_pieces, from_chosen, in_chosen, from_any, any_from}
 
 lt_is : (a b : ℤ) → int_lt a b ≡ true → a <ℤ b
 lt_is a b h = grind (arith, ints)
@@ -43,7 +44,7 @@ given false x f h = absurd (nothing_in f h)
 
 give : (b : Bool) (x f : FindingValue) → b ≡ true → f ≡ x → Contains (cond b (x ∷ []) []) f
 give b x f holds is =
-    subst (λ (d : Bool). Contains (cond d (x ∷ []) []) f) (sym holds) (subst (λ (g : FindingValue). Contains (x ∷ []) g) (sym is) (here x []))
+    subst (λ (d : Bool). Contains (cond d (x ∷ []) []) f) (sym holds) (subst (λ (g : FindingValue). Contains (x ∷ []) g) (sym is) (first_in x []))
 
 unless : (b : Bool) (x f : FindingValue) → Contains (cond b [] (x ∷ [])) f → (b ≡ false) × (f ≡ x)
 unless false x f h = (refl, sym (only x f h))
@@ -51,7 +52,7 @@ unless true x f h = absurd (nothing_in f h)
 
 give_unless : (b : Bool) (x f : FindingValue) → b ≡ false → f ≡ x → Contains (cond b [] (x ∷ [])) f
 give_unless b x f fails is =
-    subst (λ (d : Bool). Contains (cond d [] (x ∷ [])) f) (sym fails) (subst (λ (g : FindingValue). Contains (x ∷ []) g) (sym is) (here x []))
+    subst (λ (d : Bool). Contains (cond d [] (x ∷ [])) f) (sym fails) (subst (λ (g : FindingValue). Contains (x ∷ []) g) (sym is) (first_in x []))
 
 gone : {X : Type 0} (o : Option X) → not (is_some o) ≡ true → o ≡ None
 gone None h = refl
@@ -72,7 +73,7 @@ names k g (b ∷ bs) l h = (is_full b bs, sym (only (link_to k g (b ∷ bs)) l h
 
 named : (k : KeyName) (g : LinkField) (text : List ℕ) (l : LinkValue) → text ≢ [] → l ≡ link_to k g text → Contains (text_links k g text) l
 named k g [] l some is = absurd (some refl)
-named k g (b ∷ bs) l some is = subst (λ (m : LinkValue). Contains (link_to k g (b ∷ bs) ∷ []) m) (sym is) (here (link_to k g (b ∷ bs)) [])
+named k g (b ∷ bs) l some is = subst (λ (m : LinkValue). Contains (link_to k g (b ∷ bs) ∷ []) m) (sym is) (first_in (link_to k g (b ∷ bs)) [])
 
 row_names : (k : KeyName) (r : RowValue) (o : Option LinkField) (l : LinkValue) → Contains (row_links k r o) l → (g : LinkField) × (o ≡ Some g) × LinksBy k r g l
 row_names k r None l h = absurd (nothing_in l h)
@@ -155,7 +156,7 @@ at_status table r s same is some =
     let among : is_in table r ≡ true = (bytes_eq-Decides r.table table).1 same in
     let full : is_empty c ≡ false = not_empty c (λ e. some (sym is ∙ e)) in
     subst (λ (b : Bool). Contains (cond b (cond (is_empty c) [] (c ∷ [])) []) s) (sym among)
-    (subst (λ (b : Bool). Contains (cond b [] (c ∷ [])) s) (sym full) (subst (λ (x : List ℕ). Contains (c ∷ []) x) is (here c [])))
+    (subst (λ (b : Bool). Contains (cond b [] (c ∷ [])) s) (sym full) (subst (λ (x : List ℕ). Contains (c ∷ []) x) is (first_in c [])))
 
 in_table : (table : Option (List ℕ)) (rows : List RowValue) (s : List ℕ) → Contains (statuses_in table rows) s
     → (r : RowValue) × Contains rows r × (table ≡ Some r.table) × (cell (codes "status") r ≡ s) × (s ≢ [])

@@ -14,22 +14,23 @@ use Rattle.std.specs.declared.cmp.Ordering.TheVariants.{Less, Equal, Greater}
 use Rattle.std.proofs.lemmas.Cmp.{nat_list_cmp_total, tied_itself}
 use Rattle.std.proofs.lemmas.Map.Keys.{IsDistinct-from_sorted}
 use Rattle.std.proofs.lemmas.Map.Lookups.{exact_unsigned, exact_bytes}
+use Rattle.esc_bundle.specs.ElementLaws.{first_in, later}
 use Rattle.esc_envelope.specs.declared.kind.Kind.{Kind}
 use Rattle.esc_envelope.specs.declared.kind.Kind.TheVariants.{Registrar, Contact, Host, Idn}
 use Rattle.esc_envelope.specs.Kinds.{kind_name, kind_rank}
+use Rattle.esc_envelope.specs.Watermark.{printed}
 use Rattle.esc_tables.specs.KeyName.{KeyName, key_cmp, key_eq}
 use Rattle.esc_tables.specs.ObjectValue.{ObjectValue}
 use Rattle.esc_check.specs.declared.field.LinkField.{LinkField}
 use Rattle.esc_check.specs.declared.field.LinkField.TheVariants.{ClId, Registrant, IdnTableId, ContactId, HostName}
 use Rattle.esc_check.specs.Fields.{field_name, field_target, created}
 use Rattle.esc_check.specs.FindingValue.{FindingValue, finding_cmp, listing_cmp}
-use Rattle.esc_check.specs.Findings.{IsFinding, IsOwn, printed}
+use Rattle.esc_check.specs.Findings.{IsFinding, IsOwn}
 use Rattle.esc_check.specs.Gathered.{count_of}
 use Rattle.esc_check.specs.LinkValue.{LinkValue}
 use Rattle.esc_check.specs.Links.{IsLinkOf}
 use Rattle.esc_check.specs.TableMap.{Entry, tables_of}
 use Rattle.esc_check.proofs.Keys.{count_is}
-use Rattle.esc_check.proofs.Members.{here, there}
 use Rattle.esc_envelope.specs.KindLaws.{one_kind}
 
 -- orders
@@ -70,14 +71,14 @@ in_listing f g tell less =
 all_listed : (f : FindingValue) (gs : List FindingValue) → ((g : FindingValue) → Contains gs g → finding_cmp f g ≡ Less → listing_cmp f g ≡ Less)
     → AllByRecursion (λ g. finding_cmp f g ≡ Less) gs → AllByRecursion (λ g. listing_cmp f g ≡ Less) gs
 all_listed f [] each h = tt
-all_listed f (g ∷ gs) each h = (each g (here g gs) h.0, all_listed f gs (λ k has. each k (there g gs k has)) h.1)
+all_listed f (g ∷ gs) each h = (each g (first_in g gs) h.0, all_listed f gs (λ k has. each k (later g k gs has)) h.1)
 
 listed : (fs : List FindingValue) → ((f g : FindingValue) → Contains fs f → Contains fs g → finding_cmp f g ≡ Less → listing_cmp f g ≡ Less) → IsStrictlySortedBy finding_cmp fs
     → IsStrictlySortedBy listing_cmp fs
 unfolding IsStrictlySortedBy
 listed [] each h = tt
 listed (f ∷ fs) each h =
-    (all_listed f fs (λ g has. each f g (here f fs) (there f fs g has)) h.0, listed fs (λ g k one other. each g k (there f fs g one) (there f fs k other)) h.1)
+    (all_listed f fs (λ g has. each f g (first_in f fs) (later f g fs has)) h.0, listed fs (λ g k one other. each g k (later f g fs one) (later f k fs other)) h.1)
 
 -- what else a finding reports follows from its code, kind, key and field
 
@@ -117,7 +118,7 @@ module _ (es : List Entry) (w : ℤ) where
   own_told : (k : KeyName) (o : ObjectValue) (f : FindingValue) → tables_of es k ≡ Some o → IsOwn w k o f → Tells f
   own_told k o f at (inl (inl (s, has, other, is))) = subst Tells (sym is) refl
   own_told k o f at (inl (inr (domain, ok, more, is))) = subst Tells (sym is) refl
-  own_told k o f at (inr (inl (inl (d, creation, later, is)))) = subst Tells (sym is) refl
+  own_told k o f at (inr (inl (inl (d, creation, past, is)))) = subst Tells (sym is) refl
   own_told k o f at (inr (inl (inr (e, d, expiry, creation, sooner, is)))) =
       subst Tells (sym is) (sym (ap (λ (x : Option ObjectValue). option_map_or (created k) x []) at))
   own_told k o f at (inr (inr (inl (some, none, is)))) = subst Tells (sym is) refl

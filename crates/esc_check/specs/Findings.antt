@@ -2,12 +2,11 @@
 -- relations over a map.
 use Rattle.std.specs.Prelude.{◌≡◌, ◌≢◌, ◌⊎◌, ℕ, ℤ, ◌<ℤ◌, List, [], Some, None, codes}
 use Rattle.std.specs.List.{Contains}
-use Rattle.std.specs.Option.{unwrap_or}
 use Rattle.std.specs.Fmt.{decimal}
 use Rattle.esc_envelope.specs.declared.kind.Kind.{Kind}
 use Rattle.esc_envelope.specs.declared.kind.Kind.TheVariants.{Domain}
 use Rattle.esc_envelope.specs.Kinds.{kind_name}
-use Rattle.esc_envelope.specs.Watermark.{watermark_of, watermark_text_of}
+use Rattle.esc_envelope.specs.Watermark.{printed, watermark_of}
 use Rattle.esc_tables.specs.KeyName.{KeyName}
 use Rattle.esc_tables.specs.ObjectValue.{ObjectValue}
 use Rattle.esc_check.specs.Fields.{field_name, created, expires}
@@ -81,10 +80,6 @@ mixed_status k = record {
 abbrev pub IsMixed : KeyName → ObjectValue → FindingValue → Type 0
 IsMixed k o f = (k.kind ≡ Domain) × IsStatusOf k o (codes "ok")
     × ((s : List ℕ) × IsStatusOf k o s × (s ≢ codes "ok")) × (f ≡ mixed_status k)
-
--- a watermark as it is printed; nothing outside the years 1970 to 2261
-abbrev pub printed : ℤ → List ℕ
-printed w = unwrap_or (watermark_text_of w) []
 
 -- V5, as it is reported of an object's date of creation and the watermark
 abbrev pub late : KeyName → List ℕ → List ℕ → FindingValue

@@ -30,7 +30,8 @@
 //! `HeaderValue` and a `Table` as a `TableValue`, records of texts as bytes, numbers and lists.
 //!
 //! A watermark is a moment in UTC, in nanoseconds since 1970-01-01T00:00:00Z, of the years 1970 to
-//! 2261. `watermark` reads its text and doesn't allocate, `watermark_text` prints it.
+//! 2261. `watermark` reads its text and doesn't allocate, `watermark_text` prints it, and so does
+//! `moment_text` where it is known to be of these years.
 //! `specs/Moment.antt` says what the text of a moment is and which moment it means, by the calendar
 //! of `jiff`. Two functions with empty bodies state the laws: the texts that are read are exactly
 //! those of moments; every moment of these years has a text; and what is printed is read back.
@@ -62,7 +63,8 @@ pub use kind::Kind;
 pub use laws::{declared_tables_have_their_forms, envelope_refusals_are_5_to_7};
 pub use members::MOST_RESEND;
 pub use moment::{
-    END_OF_YEARS, printed_watermarks_are_read, watermark, watermark_text, watermarks_are_moments,
+    END_OF_YEARS, moment_text, printed_watermarks_are_read, watermark, watermark_text,
+    watermarks_are_moments,
 };
 pub use place::{DepositType, Place};
 pub use table::Table;

@@ -102,9 +102,21 @@ fn civil_at(watermark: i64) -> DateTime
     }
 }
 
-/// The text of a moment, given in nanoseconds since 1970-01-01T00:00:00Z; `None` outside the years
-/// 1970 to 2261. A fraction is written only if it isn't zero, and without trailing zeros. Where the
-/// result is `None` nothing is allocated.
+/// The text of a moment of the years 1970 to 2261, given in nanoseconds since
+/// 1970-01-01T00:00:00Z. A fraction is written only if it isn't zero, and without trailing zeros.
+/// It is read back as the same moment.
+pub fn moment_text(alloc: Global, watermark: i64) -> Result<String, NoMemory>
+    requires { IsInYears watermark }
+    ensures text { IfOk result (λ text. watermark_text_of watermark ≡ Some (string_bytes text)) }
+    ensures read { IfOk result (λ text. watermark_of (string_bytes text) ≡ Some watermark) }
+{
+    let civil = civil_at(watermark);
+    let text = format!(in alloc; "{civil}Z")?;
+    Ok(text)
+}
+
+/// The text of a moment, as `moment_text` writes it; `None` outside the years 1970 to 2261. Where
+/// the result is `None` nothing is allocated.
 pub fn watermark_text(alloc: Global, watermark: i64) -> Result<Option<String>, NoMemory>
     ensures text { IfOk result (λ o. option_map string_bytes o ≡ watermark_text_of watermark) }
     ensures outside { (IsInYears watermark → ⊥) → result ≡ Ok None }
@@ -112,8 +124,7 @@ pub fn watermark_text(alloc: Global, watermark: i64) -> Result<Option<String>, N
     if watermark < 0 || watermark >= END_OF_YEARS {
         return Ok(None);
     }
-    let civil = civil_at(watermark);
-    let text = format!(in alloc; "{civil}Z")?;
+    let text = moment_text(alloc, watermark)?;
     Ok(Some(text))
 }
 

@@ -4,11 +4,11 @@ use Rattle.std.specs.BTreeSet.{BTreeSet, contains, Updates}
 use Rattle.std.specs.Ordering.{is_eq}
 use Rattle.std.specs.declared.cmp.Ordering.{Ordering}
 use Rattle.std.proofs.lemmas.Bool.{cases_Bool, cases_lt}
+use Rattle.std.proofs.lemmas.List.{get_or_read}
 use Rattle.esc_manifest.specs.declared.row.MRow.{MRow}
-use Rattle.esc_manifest.specs.ManifestRows.{row_at}
+use Rattle.esc_manifest.specs.ManifestRows.{no_row, row_at}
 use Rattle.esc_manifest.specs.RowFaults.{first_against_earlier}
 use Rattle.esc_manifest.proofs.AcceptedRows.{no_earlier}
-use Rattle.esc_manifest.proofs.Least.{read_row}
 
 -- no row so far contradicts an earlier one, and the set has the keys of the rows so far
 pub record AreApart {K : Type 0} (cmp : K → K → Ordering) (key : MRow → K) (against : MRow → MRow → Bool) (rows : List MRow) (i : ℕ) (s : BTreeSet K) : Type 0 where
@@ -27,7 +27,7 @@ pub one_more : {K : Type 0} (cmp : K → K → Ordering) (key : MRow → K) (aga
 one_more {K} cmp key against one_key own rows i row own_key s n inside is key_is new updates known = record { apart = apart; has = has }
   where
     at : row ≡ row_at rows i
-    at = read_row rows i row inside is
+    at = get_or_read rows i row inside is no_row
 
     here : (q : ℕ) → q < i → against (row_at rows q) (row_at rows i) ≡ false
     here q before = elim (cases_Bool (against (row_at rows q) (row_at rows i))) [

@@ -6,6 +6,7 @@ use Rattle.std.specs.List.{list_all}
 use Rattle.std.specs.Map.{update}
 use Rattle.std.specs.Str.{bytes_eq}
 use Rattle.std.proofs.lemmas.Bool.{cases_Bool, cases_lt}
+use Rattle.std.proofs.lemmas.List.{get_or_read}
 use Rattle.std.proofs.lemmas.List.Folds.{list_all_at}
 use Rattle.std.proofs.lemmas.Slice.Eq.{bytes_eq-Decides}
 use denote.Ref.{Bor}
@@ -18,7 +19,6 @@ use Rattle.esc_manifest.specs.RowFaults.{is_some_id, is_diff, moved_id, follows_
 use Rattle.esc_manifest.specs.ManifestRows.{no_row, row_at, id_at, place_at}
 use Rattle.esc_manifest.proofs.AcceptedRows.{no_earlier, against_none}
 use Rattle.esc_manifest.proofs.RowTests.{not_moved_id}
-use Rattle.esc_manifest.proofs.Least.{read_row}
 
 -- the map has the places of the rows so far
 abbrev pub HaveOwnPlaces : List MRow → ℕ → BTreeMap (Bor (List ℕ)) Place → Type 0
@@ -49,7 +49,7 @@ place_put m i row key p s n inside is own here alone put known r lt = elim (case
 ]
   where
     at : row ≡ row_at m i
-    at = read_row m i row inside is
+    at = get_or_read m i row inside is no_row
 
 -- ---- what such a map says
 

@@ -1,11 +1,11 @@
 -- A release manifest as a text (this project's profile).
-use Rattle.std.specs.Prelude.{◌≡◌, ℕ, ℤ, List, [], ◌∷◌, ◌++◌, map}
+use Rattle.std.specs.Prelude.{◌≡◌, ℕ, List, [], ◌∷◌, ◌++◌, map}
 use Rattle.std.specs.Prelude.{◌==◌, if◌then◌else◌, Some, unwrap_or, codes}
 use Rattle.std.specs.Fmt.{decimal}
 use Rattle.hex.specs.Hex.{encode_lower}
 use Rattle.esc_csv.specs.Lines.{Line, line_text, text_of}
 use Rattle.esc_envelope.specs.Members.{type_name}
-use Rattle.esc_envelope.specs.Watermark.{watermark_text_of}
+use Rattle.esc_envelope.specs.Watermark.{printed}
 use Rattle.esc_manifest.specs.Fields.{moment_of, digest_of}
 use Rattle.esc_manifest.specs.declared.row.MRow.{MRow}
 
@@ -15,10 +15,6 @@ heading =
     codes "id" ∷ codes "type" ∷ codes "watermark" ∷ codes "prevId"
     ∷ codes "resend" ∷ codes "sha256" ∷ []
 
--- the text of a moment
-abbrev pub moment_field : ℤ → List ℕ
-moment_field w = unwrap_or (watermark_text_of w) []
-
 -- nothing for 0, else the digits
 abbrev pub resend_field : ℕ → List ℕ
 resend_field n = if n == 0 then [] else decimal n
@@ -26,7 +22,7 @@ resend_field n = if n == 0 then [] else decimal n
 -- the six fields of a row
 abbrev pub row_line : MRow → Line
 row_line r =
-    r.header.id ∷ type_name r.header.place.kind ∷ moment_field r.header.place.watermark
+    r.header.id ∷ type_name r.header.place.kind ∷ printed r.header.place.watermark
     ∷ unwrap_or r.header.prev [] ∷ resend_field r.header.resend ∷ encode_lower r.digest ∷ []
 
 abbrev pub rows_text : List MRow → List ℕ
@@ -38,5 +34,5 @@ manifest_text m = line_text heading ++ rows_text m
 
 -- watermark and digest of a row are read from the fields that they are written in
 pub record IsLegible (r : MRow) : Type 0 where
-  pub moment : moment_of (moment_field r.header.place.watermark) ≡ Some r.header.place.watermark
+  pub moment : moment_of (printed r.header.place.watermark) ≡ Some r.header.place.watermark
   pub digest : digest_of (encode_lower r.digest) ≡ Some r.digest

@@ -12,21 +12,17 @@ ghost use Rattle.esc_pack.specs.Written.{manifest_text, IsLegible};
 
 use esc_bundle::NoMemory;
 use esc_csv::Lines;
-use esc_envelope::{printed_watermarks_are_read, watermark_text};
+use esc_envelope::moment_text;
 use esc_manifest::{MRow, Manifest};
 use std::alloc::Global;
 
-// A moment as text.
+// A moment as text, which a manifest's reader reads as that moment.
 fn moment_field(alloc: Global, watermark: i64) -> Result<String, NoMemory>
     requires { IsInYears watermark }
     ensures text { IfOk result (λ text. watermark_text_of watermark ≡ Some (string_bytes text)) }
     ensures read { IfOk result (λ text. moment_of (string_bytes text) ≡ Some watermark) }
 {
-    printed_watermarks_are_read();
-    match watermark_text(alloc, watermark)? {
-        Some(text) => Ok(text),
-        None => unreachable!(),
-    }
+    moment_text(alloc, watermark)
 }
 
 // A resend as text: nothing for 0.

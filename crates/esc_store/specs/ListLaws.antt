@@ -3,29 +3,12 @@ use Rattle.std.specs.Prelude.{◌≡◌, ◌⊎◌, List, [], ◌∷◌, ◌++�
 use Rattle.std.specs.List.{Any, Contains}
 use Rattle.std.proofs.Common.{inl, inr, sym, subst}
 use Rattle.std.proofs.lemmas.List.Elements.{
-  All-nil,
-  All-contains,
   Contains-append_left,
-  Contains-append_right,
-  Contains-append_cases,
   Contains-push,
   Contains-push_cases,
 }
-
-module _ {X : Type 0} where
-  pub later : (x y : X) (xs : List X) → Contains xs y → Contains (x ∷ xs) y
-  later x y xs there = Contains-append_right (x ∷ []) xs y there
-
-  pub first_or_later : (x y : X) (xs : List X) → Contains (x ∷ xs) y → (x ≡ y) ⊎ Contains xs y
-  first_or_later x y xs there = by_place (Contains-append_cases (x ∷ []) xs y there)
-    where
-      by_first : Contains [] y ⊎ (x ≡ y) → x ≡ y
-      by_first (inl none) = absurd (All-contains (λ (z : X). ⊥) [] y (All-nil (λ (z : X). ⊥)) none)
-      by_first (inr same) = same
-
-      by_place : Contains (x ∷ []) y ⊎ Contains xs y → (x ≡ y) ⊎ Contains xs y
-      by_place (inl first) = inl (by_first (Contains-push_cases [] x y first))
-      by_place (inr behind) = inr behind
+use Rattle.esc_bundle.specs.ElementLaws.{first_in}
+pub use Rattle.esc_bundle.specs.ElementLaws.{later, first_or_later}
 
 module _ {X : Type 0} (P : X → Type 0) where
   -- of this element
@@ -33,8 +16,7 @@ module _ {X : Type 0} (P : X → Type 0) where
   any_by xs x there p = (there.0, x, there.1, there.2, p)
 
   pub any_first : (x : X) (xs : List X) → P x → Any P (x ∷ xs)
-  any_first x xs p =
-      any_by (x ∷ xs) x (Contains-append_left (x ∷ []) xs x (Contains-push [] x)) p
+  any_first x xs p = any_by (x ∷ xs) x (first_in x xs) p
 
   pub any_later : (x : X) (xs : List X) → Any P xs → Any P (x ∷ xs)
   any_later x xs (k, y, within, is, p) = any_by (x ∷ xs) y (later x y xs (k, within, is)) p

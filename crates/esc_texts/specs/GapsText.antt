@@ -1,12 +1,12 @@
 -- The report of gaps (this project's profile).
-use Rattle.std.specs.Prelude.{ℕ, List, [], ◌∷◌, ◌++◌, map, codes, option_map, option_and_then}
+use Rattle.std.specs.Prelude.{ℕ, List, [], ◌∷◌, ◌++◌, map, codes, option_map}
 use Rattle.std.specs.Fmt.{decimal}
 use Rattle.esc_envelope.specs.Members.{type_name}
+use Rattle.esc_envelope.specs.Watermark.{printed}
 use Rattle.esc_chain.specs.declared.gap.GapLine.{GapLine}
 use Rattle.esc_chain.specs.GapTexts.{state_text, blocker_text}
 use Rattle.esc_csv.specs.Lines.{Line, line_text, text_of}
 use Rattle.esc_texts.specs.ReceiptsText.{or_empty}
-use Rattle.esc_texts.specs.Words.{printed}
 
 -- the first line
 abbrev pub heading : Line
@@ -18,7 +18,7 @@ abbrev pub gap_line : GapLine → Line
 gap_line l =
     printed l.place.watermark ∷ type_name l.place.kind ∷ or_empty (option_map decimal l.used)
     ∷ state_text l.state
-    ∷ or_empty (option_and_then blocker_text l.blocker) ∷ or_empty (option_map decimal l.awaited)
+    ∷ or_empty (option_map blocker_text l.blocker) ∷ or_empty (option_map decimal l.awaited)
     ∷ []
 
 -- the lines of places

@@ -9,20 +9,20 @@ ghost use Rattle.std.specs.Prelude.{
   IfErr,
   OnOk,
   string_bytes,
-  option_and_then,
+  option_map,
 };
+ghost use Rattle.esc_envelope.specs.Watermark.{printed};
 ghost use Rattle.esc_chain.specs.GapTexts.{state_text, blocker_text};
-ghost use Rattle.esc_chain.specs.PlaceText.{place_text};
 ghost use Rattle.esc_csv.specs.Lines.{line_text};
 ghost use Rattle.esc_store.specs.Faults.{IsS1OrS2};
 ghost use Rattle.esc_texts.specs.GapsText.{heading, gap_line, gap_lines_text, gaps_text};
 ghost use Rattle.esc_texts.specs.ReceiptsText.{or_empty};
-ghost use Rattle.esc_texts.specs.Words.{printed};
 
 use crate::receipts::resend_text;
+use esc_bundle::NoMemory;
 use esc_chain::{Blocker, GapLine, State};
 use esc_csv::Lines;
-use esc_envelope::{Place, watermark_text};
+use esc_envelope::watermark_text;
 use esc_store::SFault;
 use std::alloc::{AllocError, Global};
 
@@ -100,27 +100,14 @@ fn state_text(alloc: Global, state: State) -> Result<String, AllocError>
     format!(in alloc; "{state}")
 }
 
-fn blocker_text(alloc: Global, blocker: &Option<Blocker>) -> Result<String, SFault>
-    ensures text { IfOk result (λ text. string_bytes text
-        ≡ or_empty (option_and_then blocker_text blocker.now)) }
-    ensures cause { IfErr result IsS1OrS2 }
+fn blocker_text(alloc: Global, blocker: &Option<Blocker>) -> Result<String, NoMemory>
+    ensures { IfOk result (λ text. string_bytes text
+        ≡ or_empty (option_map blocker_text blocker.now)) }
 {
     match blocker {
-        Some(Blocker::NotHeld(place)) => place_text(alloc, place.place()),
         Some(blocker) => Ok(format!(in alloc; "{blocker}")?),
         None => Ok(String::new(alloc)),
     }
-}
-
-fn place_text(alloc: Global, place: Place) -> Result<String, SFault>
-    ensures text { IfOk result (λ text. string_bytes text ≡ or_empty (place_text place)) }
-    ensures cause { IfErr result IsS1OrS2 }
-{
-    let Some(watermark) = watermark_text(alloc, place.watermark)? else {
-        return Err(SFault::S1);
-    };
-    let kind = place.kind.name();
-    Ok(format!(in alloc; "{watermark} {kind}")?)
 }
 
 fn write_fields<'x>(

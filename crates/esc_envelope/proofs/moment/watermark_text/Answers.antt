@@ -1,8 +1,7 @@
-use Rattle.std.proofs.Common.{◌∙◌, refl, sym, ap, List, ℕ, arith, FitsSigned, w64}
+use Rattle.std.proofs.Common.{refl, sym, arith, FitsSigned, w64}
 use Rattle.std.proofs.lemmas.Int.{to_z-of_z, ints}
 use Rattle.esc_envelope.specs.Watermark.{IsInYears}
-use Rattle.esc_envelope.proofs.MomentReads.{some_of}
-use Rattle.esc_envelope.proofs.Shown.{shown, not_shown}
+use Rattle.esc_envelope.proofs.Shown.{not_shown}
 use Rattle.esc_envelope.proofs.moment.watermark_text.Goals as goal
 use Rattle.esc_envelope.proofs.moment.watermark_text.Goals.{then-watermark-lt0-via-then-watermark-lt0, then-watermark-lt0-via-else-watermark-lt0+then-watermark-ge-END_OF_YEARS}
 
@@ -20,9 +19,9 @@ returns c =
     let fits : FitsSigned w64 c.args.watermark = c.ranges.watermark in
     let low = simp to_z-of_z at c.if-watermark-lt0.false in
     let high = simp to_z-of_z at c.if-watermark-ge-END_OF_YEARS.false in
-    let value = simp to_z-of_z at c.civil_at-civil.ensures in
+    let text = simp to_z-of_z at c.in_ok-text.ensures.text in
     let years : IsInYears c.args.watermark = (omega (arith, ints, low), omega (arith, ints, high)) in
     record {
-      text = ap (λ (l : List ℕ). some_of l) c.in_ok-text.ensures.ok ∙ sym (shown c.civil_at-civil.result c.args.watermark value years);
+      text = sym text;
       outside = λ never. absurd (never years);
     }
