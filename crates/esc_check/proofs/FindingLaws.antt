@@ -13,19 +13,20 @@ use Rattle.std.proofs.lemmas.Map.Keys.{IsDistinct-from_sorted}
 use Rattle.std.proofs.lemmas.Map.Views.{Contains-from_lookup, lookup-from_Contains}
 use Rattle.esc_envelope.specs.declared.kind.Kind.{Kind}
 use Rattle.esc_envelope.specs.declared.kind.Kind.TheVariants.{Registrar, Contact, Host, Domain, Idn, Nndn}
-use Rattle.esc_envelope.specs.Watermark.{watermark_of}
+use Rattle.esc_envelope.specs.Watermark.{printed, watermark_of}
 use Rattle.esc_tables.specs.KeyName.{KeyName, key_cmp, key_eq}
 use Rattle.esc_tables.specs.ObjectValue.{RowValue, ObjectValue}
+use Rattle.esc_apply.specs.ObjectStreams.{Entry}
 use Rattle.esc_check.specs.declared.field.LinkField.{LinkField}
 use Rattle.esc_check.specs.Export.{is_in}
 use Rattle.esc_check.specs.Fields.{cell, field_name, is_domain, parent_fields, child_field, status_table, created, expires}
 use Rattle.esc_check.specs.FindingValue.{FindingValue}
-use Rattle.esc_check.specs.Findings.{IsMissing, IsMiscounted, IsUnknown, IsMixed, IsLate, IsEarly, IsMalformed, IsOfDates, IsOwn, IsFinding, missing_target, miscounted, unknown_status, mixed_status, printed, late, early, malformed}
+use Rattle.esc_check.specs.Findings.{IsMissing, IsMiscounted, IsUnknown, IsMixed, IsLate, IsEarly, IsMalformed, IsOfDates, IsOwn, IsFinding, missing_target, miscounted, unknown_status, mixed_status, late, early, malformed}
 use Rattle.esc_check.specs.Gathered.{is_empty, text_links, field_links, row_links, child_links, links_of, is_present, link_findings, count_of, count_findings, row_status, statuses_in, statuses_of, is_status, is_ok, is_mixed, one_unknown, status_findings, is_after, is_before, is_malformed, late_findings, early_findings, malformed_findings, moment_findings, form_findings, own_findings, object_findings}
 use Rattle.esc_check.specs.LinkValue.{LinkValue, link_to}
 use Rattle.esc_check.specs.Links.{LinksBy, IsLinkOf}
 use Rattle.esc_check.specs.Statuses.{status_words, IsStatusOf}
-use Rattle.esc_check.specs.TableMap.{Entry, tables_of}
+use Rattle.esc_check.specs.TableMap.{tables_of}
 use Rattle.esc_tables.specs.KeyLaws.{keys_alike, one_key}
 use Rattle.esc_check.proofs.Keys.{count_has, count_is}
 use Rattle.esc_check.proofs.Members.{nothing_in, here, only, from_pieces, in_pieces, from_chosen, in_chosen, from_any, any_from}

@@ -1,8 +1,8 @@
 //! The dates of an object (V5 to V7).
 
 ghost use Rattle.std.specs.Prelude.{◌≡◌, ◌++◌, OnOk, IfOk, string_bytes};
+ghost use Rattle.esc_envelope.specs.Watermark.{printed};
 ghost use Rattle.esc_check.specs.Fields.{created, expires};
-ghost use Rattle.esc_check.specs.Findings.{printed};
 ghost use Rattle.esc_check.specs.Gathered.{
   is_after,
   is_before,

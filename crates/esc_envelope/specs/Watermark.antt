@@ -28,6 +28,7 @@ use Rattle.std.specs.Prelude.{
   ◌≤ℤ◌,
 }
 use Rattle.std.specs.Char.{is_ascii_digit}
+use Rattle.std.specs.Option.{unwrap_or}
 use Rattle.jiff_core.specs.Calendar.{days_in_month, days_in_year}
 use Rattle.jiff_fmt.specs.Reader.{fraction_value}
 use Rattle.jiff_fmt.specs.Text.{fraction}
@@ -139,3 +140,7 @@ watermark_text_of (pos n) =
     then Some (moment_text (day_of (n / 86_400_000_000_000)) (clock_of (n % 86_400_000_000_000))
     (fraction None (n % 1_000_000_000)))
     else None
+
+-- a watermark as it is printed; nothing outside the years 1970 to 2261
+abbrev pub printed : ℤ → List ℕ
+printed w = unwrap_or (watermark_text_of w) []

@@ -6,7 +6,7 @@ use Rattle.esc_envelope.specs.declared.kind.Kind.{Kind}
 use Rattle.esc_envelope.specs.declared.place.Place.{Place}
 use Rattle.esc_envelope.specs.Kinds.{kind_name}
 use Rattle.esc_envelope.specs.Members.{type_name}
-use Rattle.esc_texts.specs.Words.{printed}
+use Rattle.esc_envelope.specs.Watermark.{printed}
 use Rattle.esc_desk.specs.declared.status.Status.{Status}
 
 -- a name and a number

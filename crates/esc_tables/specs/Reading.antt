@@ -21,6 +21,7 @@ use Rattle.std.specs.Cmp.Lexicographic.{slice_cmp}
 use Rattle.std.specs.Ordering.{nat_cmp, is_lt}
 use Rattle.esc_bundle.specs.Bundle.{Named}
 use Rattle.esc_bundle.specs.Frame.{frame}
+use Rattle.esc_bundle.specs.Tests.{◌>>=◌, check}
 use Rattle.esc_envelope.specs.EnvelopeValue.{TableValue, EnvelopeValue}
 use Rattle.esc_envelope.specs.Envelope.{envelope_of}
 use Rattle.esc_tables.specs.DepositValue.{DepositValue}
@@ -36,16 +37,6 @@ use Rattle.esc_tables.specs.TableRow.{
   keyed,
 }
 use Rattle.esc_tables.specs.Objects.{objects_of, orphans_of}
-
-infixl 10 ◌>>=◌
--- the next step, applied to the value of the one before it, or the fault of that one
-abbrev pub ◌>>=◌ : {A B : Type 0} → Result A ℕ → (A → Result B ℕ) → Result B ℕ
-(Ok x) >>= next = next x
-(Err n) >>= next = Err n
-
--- the fault n, unless the test passes
-abbrev pub check : Bool → ℕ → Result (Unit {0}) ℕ
-check b n = if b then Ok tt else Err n
 
 -- the most rows of a bundle
 abbrev pub most_rows : ℕ

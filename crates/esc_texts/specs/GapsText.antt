@@ -2,11 +2,11 @@
 use Rattle.std.specs.Prelude.{ℕ, List, [], ◌∷◌, ◌++◌, map, codes, option_map, option_and_then}
 use Rattle.std.specs.Fmt.{decimal}
 use Rattle.esc_envelope.specs.Members.{type_name}
+use Rattle.esc_envelope.specs.Watermark.{printed}
 use Rattle.esc_chain.specs.declared.gap.GapLine.{GapLine}
 use Rattle.esc_chain.specs.GapTexts.{state_text, blocker_text}
 use Rattle.esc_csv.specs.Lines.{Line, line_text, text_of}
 use Rattle.esc_texts.specs.ReceiptsText.{or_empty}
-use Rattle.esc_texts.specs.Words.{printed}
 
 -- the first line
 abbrev pub heading : Line

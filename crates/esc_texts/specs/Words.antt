@@ -1,8 +1,6 @@
--- The words of replies and places (this project's profile).
-use Rattle.std.specs.Prelude.{ℕ, ℤ, Bool, true, false, List, [], ◌++◌, codes, Option, Some, None}
+-- The words of replies (this project's profile).
+use Rattle.std.specs.Prelude.{ℕ, Bool, true, false, List, ◌++◌, codes, Option, Some, None}
 use Rattle.std.specs.Fmt.{decimal}
-use Rattle.std.specs.Option.{unwrap_or}
-use Rattle.esc_envelope.specs.Watermark.{watermark_text_of}
 use Rattle.esc_store.specs.declared.reply.Verdict.{Verdict}
 use Rattle.esc_store.specs.declared.reply.Verdict.TheVariants.{A1, A2, A3, A4, A5}
 
@@ -25,7 +23,3 @@ fault_of A2 = None
 fault_of (A3 n) = Some (codes "U" ++ decimal n)
 fault_of A4 = None
 fault_of A5 = None
-
--- a watermark as it is printed
-abbrev pub printed : ℤ → List ℕ
-printed w = unwrap_or (watermark_text_of w) []

@@ -11,13 +11,13 @@ ghost use Rattle.std.specs.Prelude.{
   string_bytes,
   option_and_then,
 };
+ghost use Rattle.esc_envelope.specs.Watermark.{printed};
 ghost use Rattle.esc_chain.specs.GapTexts.{state_text, blocker_text};
 ghost use Rattle.esc_chain.specs.PlaceText.{place_text};
 ghost use Rattle.esc_csv.specs.Lines.{line_text};
 ghost use Rattle.esc_store.specs.Faults.{IsS1OrS2};
 ghost use Rattle.esc_texts.specs.GapsText.{heading, gap_line, gap_lines_text, gaps_text};
 ghost use Rattle.esc_texts.specs.ReceiptsText.{or_empty};
-ghost use Rattle.esc_texts.specs.Words.{printed};
 
 use crate::receipts::resend_text;
 use esc_chain::{Blocker, GapLine, State};

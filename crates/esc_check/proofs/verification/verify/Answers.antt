@@ -1,6 +1,6 @@
 use Rattle.std.proofs.Common.{◌≡◌, ◌∙◌, ap, w64, to_z, of_z}
 use Rattle.std.proofs.lemmas.Int.{to_z-of_z}
-use Rattle.esc_check.specs.Findings.{printed}
+use Rattle.esc_envelope.specs.Watermark.{printed}
 use Rattle.esc_check.proofs.FindingLaws.{verified}
 use Rattle.esc_check.proofs.ListingLaws.{in_order}
 use Rattle.esc_check.proofs.verification.verify.Goals as goal

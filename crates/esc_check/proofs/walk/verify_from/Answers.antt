@@ -1,6 +1,6 @@
 use Rattle.std.proofs.Common.{◌≡◌, [], ap, subst, ◌∙◌, w64, to_z, of_z}
 use Rattle.std.proofs.lemmas.Int.{to_z-of_z}
-use Rattle.esc_check.specs.Findings.{printed}
+use Rattle.esc_envelope.specs.Watermark.{printed}
 use Rattle.esc_check.specs.Gathered.{Leads}
 use Rattle.esc_check.proofs.walk.verify_from.Goals as goal
 
