@@ -17,6 +17,7 @@ use Rattle.esc_envelope.specs.declared.kind.Kind.TheVariants.{Registrar, Contact
 use Rattle.esc_envelope.specs.Watermark.{printed, watermark_of}
 use Rattle.esc_tables.specs.KeyName.{KeyName, key_cmp, key_eq}
 use Rattle.esc_tables.specs.ObjectValue.{RowValue, ObjectValue}
+use Rattle.esc_apply.specs.ObjectStreams.{Entry}
 use Rattle.esc_check.specs.declared.field.LinkField.{LinkField}
 use Rattle.esc_check.specs.Export.{is_in}
 use Rattle.esc_check.specs.Fields.{cell, field_name, is_domain, parent_fields, child_field, status_table, created, expires}
@@ -26,7 +27,7 @@ use Rattle.esc_check.specs.Gathered.{is_empty, text_links, field_links, row_link
 use Rattle.esc_check.specs.LinkValue.{LinkValue, link_to}
 use Rattle.esc_check.specs.Links.{LinksBy, IsLinkOf}
 use Rattle.esc_check.specs.Statuses.{status_words, IsStatusOf}
-use Rattle.esc_check.specs.TableMap.{Entry, tables_of}
+use Rattle.esc_check.specs.TableMap.{tables_of}
 use Rattle.esc_tables.specs.KeyLaws.{keys_alike, one_key}
 use Rattle.esc_check.proofs.Keys.{count_has, count_is}
 use Rattle.esc_check.proofs.Members.{from_pieces, in_pieces, from_chosen, in_chosen, from_any, any_from}

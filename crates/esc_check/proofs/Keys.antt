@@ -13,8 +13,9 @@ use Rattle.esc_envelope.specs.declared.kind.Kind.{Kind}
 use Rattle.esc_envelope.specs.Kinds.{kind_rank, is_kind}
 use Rattle.esc_tables.specs.KeyLaws.{keys_alike, one_key}
 use Rattle.esc_tables.specs.KeyName.{KeyName, key_eq}
+use Rattle.esc_apply.specs.ObjectStreams.{Entry}
 use Rattle.esc_check.specs.Gathered.{count_of}
-use Rattle.esc_check.specs.TableMap.{Entry, tables_of, AreKeysOf, HasCount}
+use Rattle.esc_check.specs.TableMap.{tables_of, AreKeysOf, HasCount}
 use Rattle.esc_check.proofs.Members.{from_chosen, in_chosen}
 use Rattle.esc_envelope.specs.KindLaws.{one_kind}
 

@@ -21,6 +21,7 @@ use Rattle.esc_envelope.specs.Kinds.{kind_name, kind_rank}
 use Rattle.esc_envelope.specs.Watermark.{printed}
 use Rattle.esc_tables.specs.KeyName.{KeyName, key_cmp, key_eq}
 use Rattle.esc_tables.specs.ObjectValue.{ObjectValue}
+use Rattle.esc_apply.specs.ObjectStreams.{Entry}
 use Rattle.esc_check.specs.declared.field.LinkField.{LinkField}
 use Rattle.esc_check.specs.declared.field.LinkField.TheVariants.{ClId, Registrant, IdnTableId, ContactId, HostName}
 use Rattle.esc_check.specs.Fields.{field_name, field_target, created}
@@ -29,7 +30,7 @@ use Rattle.esc_check.specs.Findings.{IsFinding, IsOwn}
 use Rattle.esc_check.specs.Gathered.{count_of}
 use Rattle.esc_check.specs.LinkValue.{LinkValue}
 use Rattle.esc_check.specs.Links.{IsLinkOf}
-use Rattle.esc_check.specs.TableMap.{Entry, tables_of}
+use Rattle.esc_check.specs.TableMap.{tables_of}
 use Rattle.esc_check.proofs.Keys.{count_is}
 use Rattle.esc_envelope.specs.KindLaws.{one_kind}
 

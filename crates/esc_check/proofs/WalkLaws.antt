@@ -13,7 +13,7 @@ use Rattle.std.proofs.lemmas.List.{map-append}
 use Rattle.std.proofs.lemmas.List.Elements.{filter-append, Contains-append_left, Contains-append_right, Contains-append_cases}
 use Rattle.std.proofs.lemmas.Map.Keys.{IsDistinct-from_sorted}
 use Rattle.std.proofs.lemmas.Map.Made.{is_some-lookup}
-use Rattle.esc_apply.specs.ObjectStreams.{InOrder}
+use Rattle.esc_apply.specs.ObjectStreams.{Entry, InOrder}
 use Rattle.esc_envelope.specs.declared.kind.Kind.{Kind}
 use Rattle.esc_envelope.specs.Watermark.{printed}
 use Rattle.esc_tables.specs.KeyName.{KeyName, key_cmp, key_eq}
@@ -23,7 +23,7 @@ use Rattle.esc_check.specs.FindingValue.{FindingValue}
 use Rattle.esc_check.specs.Findings.{IsFinding, missing_target}
 use Rattle.esc_check.specs.Gathered.{links_of, is_present, link_findings, count_findings, own_findings, object_findings, all_links, Leads}
 use Rattle.esc_check.specs.LinkValue.{LinkValue}
-use Rattle.esc_check.specs.TableMap.{Entry, tables_of}
+use Rattle.esc_check.specs.TableMap.{tables_of}
 use Rattle.esc_check.proofs.FindingLaws.{to_findings, from_findings}
 use Rattle.esc_tables.specs.KeyLaws.{keys_total}
 use Rattle.esc_check.proofs.Members.{from_pieces, in_pieces, from_chosen, in_chosen}

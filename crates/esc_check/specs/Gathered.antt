@@ -34,6 +34,7 @@ use Rattle.esc_envelope.specs.Kinds.{is_kind}
 use Rattle.esc_envelope.specs.Watermark.{watermark_of}
 use Rattle.esc_tables.specs.KeyName.{KeyName, key_cmp, key_eq}
 use Rattle.esc_tables.specs.ObjectValue.{RowValue, ObjectValue}
+use Rattle.esc_apply.specs.ObjectStreams.{Entry}
 use Rattle.esc_check.specs.declared.field.LinkField.{LinkField}
 use Rattle.esc_check.specs.declared.walk.Gathering.{Gathering}
 use Rattle.esc_check.specs.Export.{is_in}
@@ -59,7 +60,6 @@ use Rattle.esc_check.specs.Findings.{
 }
 use Rattle.esc_check.specs.LinkValue.{LinkValue, link_to}
 use Rattle.esc_check.specs.Statuses.{status_words}
-use Rattle.esc_check.specs.TableMap.{Entry}
 
 -- whether a text is empty
 abbrev pub is_empty : List ℕ → Bool

@@ -1,28 +1,21 @@
 -- The tables of a registry as a map from keys to objects.
-use Rattle.std.specs.Prelude.{◌≡◌, ◌↔◌, ℕ, List, length, Option, IsSome}
+use Rattle.std.specs.Prelude.{◌≡◌, ◌↔◌, ℕ, List, length, IsSome}
 use Rattle.std.specs.List.{Contains, IsDistinct}
 use Rattle.std.specs.Map.{lookup}
 use Rattle.esc_envelope.specs.declared.kind.Kind.{Kind}
 use Rattle.esc_tables.specs.KeyName.{KeyName, key_eq}
-use Rattle.esc_tables.specs.ObjectValue.{ObjectValue}
-
--- for each key its object, or none
-abbrev pub Tables : Type 0
-Tables = KeyName → Option ObjectValue
-
--- an object with its key
-abbrev pub Entry : Type 0
-Entry = KeyName × ObjectValue
+use Rattle.esc_apply.specs.ObjectStreams.{Entry}
+use Rattle.esc_apply.specs.Registry.{Content}
 
 -- the map that these entries make
-abbrev pub tables_of : List Entry → Tables
+abbrev pub tables_of : List Entry → Content
 tables_of es q = lookup (key_eq q) es
 
 -- these are the keys of all objects of a kind, each once
-pub record AreKeysOf (t : Tables) (kind : Kind) (keys : List KeyName) : Type 0 where
+pub record AreKeysOf (t : Content) (kind : Kind) (keys : List KeyName) : Type 0 where
   pub once : IsDistinct key_eq keys
   pub each : (q : KeyName) → Contains keys q ↔ ((q.kind ≡ kind) × IsSome (t q))
 
 -- n objects are of a kind
-abbrev pub HasCount : Tables → Kind → ℕ → Type 0
+abbrev pub HasCount : Content → Kind → ℕ → Type 0
 HasCount t kind n = (keys : List KeyName) × AreKeysOf t kind keys × (length keys ≡ n)

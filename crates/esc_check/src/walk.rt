@@ -4,12 +4,12 @@ ghost use Rattle.std.specs.Prelude.{◌↔◌, ℕ, ℤ, [], ◌∷◌, List, If
 ghost use Rattle.std.specs.List.{Contains};
 ghost use Rattle.std.specs.List.Sorted.{IsStrictlySortedBy};
 ghost use Rattle.esc_envelope.specs.Watermark.{printed};
-ghost use Rattle.esc_apply.specs.ObjectStreams.{InOrder};
+ghost use Rattle.esc_apply.specs.ObjectStreams.{Entry, InOrder};
 ghost use Rattle.esc_check.specs.FindingValue.{FindingValue, listing_cmp};
 ghost use Rattle.esc_check.specs.Findings.{IsFinding};
 ghost use Rattle.esc_check.specs.Gathered.{Leads};
 ghost use Rattle.esc_check.specs.ObjectReports.{IfSource, OfSource};
-ghost use Rattle.esc_check.specs.TableMap.{Entry, tables_of};
+ghost use Rattle.esc_check.specs.TableMap.{tables_of};
 
 use crate::count::check_met;
 use crate::date::{Limit, limit_at};

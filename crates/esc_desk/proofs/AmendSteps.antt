@@ -9,11 +9,11 @@ use Rattle.esc_manifest.specs.Accepted.{IsAccepted}
 use Rattle.esc_manifest.specs.Extension.{new_rows, extended}
 use Rattle.esc_chain.specs.Laws.{LatestChainsAtAreHeldRows}
 use Rattle.esc_apply.specs.declared.moves.Work.{Work}
-use Rattle.esc_store.specs.Kept.{Kept, AreHeld, AreHeldBy}
+use Rattle.esc_store.specs.Kept.{Kept, AreHeld, AreHeldBy, with_listed}
 use Rattle.esc_store.specs.ReplyValue.{ReceiptValue}
 use Rattle.esc_events.specs.declared.known.Known.{Known}
 use Rattle.esc_events.specs.declared.plan.Plan.{Plan}
-use Rattle.esc_events.specs.Amended.{judged, adopted_rows, amended_bodies, with_listed, amended_kept}
+use Rattle.esc_events.specs.Amended.{judged, adopted_rows, amended_bodies, amended_kept}
 use Rattle.esc_events.specs.Events.{EventValue, union}
 use Rattle.esc_events.specs.Events.EventValue.{listed}
 use Rattle.esc_events.specs.Known.{IsKnown}

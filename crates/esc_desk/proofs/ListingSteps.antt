@@ -4,8 +4,8 @@ use Rattle.std.proofs.lemmas.List.Elements.{All-head, All-tail}
 use Rattle.std.proofs.lemmas.Bool.{eqb-true, false_from_ne_true}
 use Rattle.esc_manifest.specs.declared.row.MRow.{MRow}
 use Rattle.esc_manifest.specs.ManifestRows.{row_at}
-use Rattle.esc_store.specs.Kept.{Kept, body_put, with_body, with_parked}
-use Rattle.esc_events.specs.Amended.{with_listed, with_adopted, with_all_adopted, with_all_dropped, adopted_rows, dropped_rows, amended_kept}
+use Rattle.esc_store.specs.Kept.{Kept, body_put, with_body, with_listed, with_parked}
+use Rattle.esc_events.specs.Amended.{with_adopted, with_all_adopted, with_all_dropped, adopted_rows, dropped_rows, amended_kept}
 use Rattle.esc_desk.specs.declared.judging.Judged.{Judged}
 use Rattle.esc_desk.specs.Amendments.{AreApartRows, IsAmendmentOf}
 

@@ -73,7 +73,7 @@ use esc_apply::{Work, read_deposits_mention_few};
 use esc_bundle::NoMemory;
 use esc_chain::latest_chain_at_rows_are_held;
 use esc_events::{Known, Plan};
-use esc_manifest::{MFault, MRow, Manifest, read_manifest};
+use esc_manifest::{MFault, MRow, Manifest, copy_rows, read_manifest};
 use esc_store::{Change, SFault, Store};
 use sqlite::Alter;
 use std::alloc::Global;
@@ -318,22 +318,11 @@ fn fill_listing<S: Alter>(
         ≡ saturated (saturated change.old.count + work.writes)) }
     ensures cause { IfErr result IsS1OrS2 }
 {
-    let rows = copies_of(alloc, union.rows())?;
+    let rows = copy_rows(alloc, union.rows())?;
     change.list(union)?;
     adopt_rows(change, &rows, &judged.adopted)?;
     drop_rows(change, &rows, &judged.dropped)?;
     move_in(change, alloc, plan)
-}
-
-// Rows equal to these.
-fn copies_of(alloc: Global, rows: &[MRow]) -> Result<Vec<MRow>, NoMemory>
-    ensures { IfOk result (λ copies. copies.items ≡ rows.now) }
-{
-    let mut copies = Vec::new(alloc);
-    for row in rows {
-        copies.push(row.copy(alloc)?)?;
-    }
-    Ok(copies)
 }
 
 // Holds, for each of these rows, the body that is parked under its digest.

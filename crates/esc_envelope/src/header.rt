@@ -1,6 +1,6 @@
 //! What a deposit says of itself.
 
-ghost use Rattle.std.specs.Prelude.{◌≡◌, IfOk};
+ghost use Rattle.std.specs.Prelude.{◌≡◌, IfOk, option_map};
 
 use crate::place::Place;
 use esc_bundle::NoMemory;
@@ -35,20 +35,45 @@ impl Model for Header {
 }
 
 impl Header {
-    /// An equal header.
-    pub fn copy(&self, alloc: Global) -> Result<Header, NoMemory>
-        ensures { IfOk result (λ h. h ≡ self.now) }
+    /// The header of these values; its texts are copies. The values are not tested: a header that
+    /// was read has an id and a `prevId` of the form of ids.
+    pub fn new(
+        alloc: Global,
+        id: &str,
+        place: Place,
+        prev: Option<&str>,
+        resend: u32,
+    ) -> Result<Header, NoMemory>
+        ensures { IfOk result (λ h. h ≡ record {
+          id = id.now;
+          place = place;
+          prev = option_map (λ t. t.now) prev.entry;
+          resend = resend;
+        }) }
     {
-        let id = String::from_str(alloc, self.id.as_str())?;
-        let prev = match &self.prev {
-            Some(prev) => Some(String::from_str(alloc, prev.as_str())?),
+        let id = String::from_str(alloc, id)?;
+        let prev = match prev {
+            Some(prev) => Some(String::from_str(alloc, prev)?),
             None => None,
         };
         Ok(Header {
             id,
-            place: self.place,
+            place,
             prev,
-            resend: self.resend,
+            resend,
         })
+    }
+
+    /// An equal header.
+    pub fn copy(&self, alloc: Global) -> Result<Header, NoMemory>
+        ensures { IfOk result (λ h. h ≡ self.now) }
+    {
+        Header::new(
+            alloc,
+            self.id.as_str(),
+            self.place,
+            self.prev.as_deref(),
+            self.resend,
+        )
     }
 }

@@ -38,6 +38,10 @@
 //!
 //! A `Place` is a watermark and a type, ordered by watermark and then `DIFF < INCR < FULL`.
 //!
+//! An envelope may have members that this crate ignores. `text_at`, `array_in` and `array_of` read
+//! members of JSON data by the forms that the envelope's own have (`specs/Members.antt`), so that
+//! others can read more of them.
+//!
 //! Reading takes time n log n in the length of the text: names of tables are looked up in a set,
 //! and only the fields of one table, at most 64, are compared in pairs.
 #![tactic(auto)]
@@ -61,7 +65,7 @@ pub use header::Header;
 pub use id::{LONGEST_ID, is_id};
 pub use kind::Kind;
 pub use laws::{declared_tables_have_their_forms, envelope_refusals_are_5_to_7};
-pub use members::MOST_RESEND;
+pub use members::{MOST_RESEND, text_at};
 pub use moment::{
     END_OF_YEARS, moment_text, printed_watermarks_are_read, watermark, watermark_text,
     watermarks_are_moments,
@@ -69,4 +73,4 @@ pub use moment::{
 pub use place::{DepositType, Place};
 pub use table::Table;
 pub use tables::LONGEST_TABLE_NAME;
-pub use texts::MOST_FIELDS;
+pub use texts::{MOST_FIELDS, array_in, array_of};

@@ -1,7 +1,7 @@
 //! The members of an envelope outside its tables: each function returns what one definition on JSON
 //! data gives.
 
-ghost use Rattle.std.specs.Prelude.{◌≡◌, IfOk, option_map, string_bytes};
+ghost use Rattle.std.specs.Prelude.{◌≡◌, IfOk, option_map};
 ghost use Rattle.serde_json.specs.View.{view};
 ghost use Rattle.esc_envelope.specs.Members.{
   text_at,
@@ -28,8 +28,9 @@ use std::alloc::Global;
 /// The greatest resend.
 pub const MOST_RESEND: u32 = 999_999;
 
-/// The text of a member that must be present.
-pub(crate) fn text_at<'a>(object: &'a Value, name: &str) -> Option<&'a str>
+/// The text of a member of a JSON object; `None` if the member is missing or no text. Doesn't
+/// allocate.
+pub fn text_at<'a>(object: &'a Value, name: &str) -> Option<&'a str>
     ensures { option_map (λ t. t.now) result ≡ text_at name.now (view object.now) }
 {
     object.get(name)?.as_str()
@@ -131,16 +132,6 @@ fn told_in(envelope: &Value) -> Option<Told<'_>>
     })
 }
 
-fn copy_prev(alloc: Global, prev: Option<&str>) -> Result<Option<String>, NoMemory>
-    ensures { IfOk result (λ o. option_map string_bytes o
-        ≡ option_map (λ t. t.now) prev.entry) }
-{
-    match prev {
-        Some(prev) => Ok(Some(String::from_str(alloc, prev)?)),
-        None => Ok(None),
-    }
-}
-
 /// The header, or `None` if one of its members is not of its form.
 pub(crate) fn header_in(alloc: Global, envelope: &Value) -> Result<Option<Header>, NoMemory>
     ensures { IfOk result (λ o. o ≡ header_of (view envelope.now)) }
@@ -148,12 +139,6 @@ pub(crate) fn header_in(alloc: Global, envelope: &Value) -> Result<Option<Header
     let Some(told) = told_in(envelope) else {
         return Ok(None);
     };
-    let id = String::from_str(alloc, told.id)?;
-    let prev = copy_prev(alloc, told.prev)?;
-    Ok(Some(Header {
-        id,
-        place: told.place,
-        prev,
-        resend: told.resend,
-    }))
+    let header = Header::new(alloc, told.id, told.place, told.prev, told.resend)?;
+    Ok(Some(header))
 }

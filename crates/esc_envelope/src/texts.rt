@@ -1,17 +1,6 @@
 //! Lists of texts.
 
-ghost use Rattle.std.specs.Prelude.{
-  ◌≡◌,
-  IfOk,
-  OnOk,
-  ◌++◌,
-  ◌∷◌,
-  [],
-  map,
-  option_map,
-  position,
-  string_bytes,
-};
+ghost use Rattle.std.specs.Prelude.{◌≡◌, IfOk, map, option_map, position, string_bytes};
 ghost use Rattle.std.specs.List.{list_any};
 ghost use Rattle.std.specs.Str.{bytes_eq};
 ghost use Rattle.serde_json.specs.View.{view};
@@ -26,15 +15,16 @@ use std::alloc::Global;
 /// The most fields of a table.
 pub const MOST_FIELDS: usize = 64;
 
-/// The values of an array, in order; `None` if the value is no array.
-pub(crate) fn array_in(value: &Value) -> Option<&[Value]>
+/// The values of a JSON array, in order; `None` if the value is no array. Doesn't allocate.
+pub fn array_in(value: &Value) -> Option<&[Value]>
     ensures { option_map (λ values. map view values.now) result ≡ array_in (view value.now) }
 {
     Some(value.as_array()?.as_slice())
 }
 
-/// The values of a member that is an array, none if the member is missing.
-pub(crate) fn array_of<'a>(envelope: &'a Value, name: &str) -> Option<&'a [Value]>
+/// The values of a member that is a JSON array, in order, and no values if the member is missing;
+/// `None` if it is no array. Doesn't allocate.
+pub fn array_of<'a>(envelope: &'a Value, name: &str) -> Option<&'a [Value]>
     ensures { option_map (λ values. map view values.now) result
         ≡ array_of name.now (view envelope.now) }
 {
@@ -75,15 +65,6 @@ fn field_in(value: &Value) -> Option<&str>
     if is_id(text) { Some(text) } else { None }
 }
 
-fn push_copy(alloc: Global, texts: &mut Vec<String>, text: &str) -> Result<(), NoMemory>
-    ensures { OnOk result (map string_bytes texts.new.items
-        ≡ map string_bytes texts.old.items ++ text.now ∷ []) }
-{
-    let copy = String::from_str(alloc, text)?;
-    texts.push(copy)?;
-    Ok(())
-}
-
 fn all_fields(alloc: Global, values: &[Value]) -> Result<Option<Vec<String>>, NoMemory>
     ensures { IfOk result (λ o. option_map (λ v. map string_bytes v.items) o
         ≡ all_of field_of (map view values.now)) }
@@ -93,7 +74,7 @@ fn all_fields(alloc: Global, values: &[Value]) -> Result<Option<Vec<String>>, No
         let Some(field) = field_in(value) else {
             return Ok(None);
         };
-        push_copy(alloc, &mut fields, field)?;
+        fields.push(String::from_str(alloc, field)?)?;
     }
     Ok(Some(fields))
 }

@@ -11,7 +11,7 @@ use Rattle.esc_manifest.specs.ManifestRows.{row_at}
 use Rattle.esc_manifest.specs.Accepted.{IsAccepted}
 use Rattle.esc_manifest.specs.Extension.{new_rows, extended}
 use Rattle.esc_store.specs.ReplyValue.{ReceiptValue, reply_alike}
-use Rattle.esc_store.specs.Kept.{Kept, SaysHeld, TellsUnlisted, with_moment}
+use Rattle.esc_store.specs.Kept.{Kept, SaysHeld, TellsUnlisted, with_listed, with_moment}
 use Rattle.esc_store.specs.ListLaws.{any_weaker}
 use Rattle.esc_events.specs.ArrivalValue.{ArrivalValue}
 use Rattle.esc_events.specs.Events.{EventValue, Coming, union, comings}
@@ -19,7 +19,7 @@ use Rattle.esc_events.specs.Events.EventValue.{listed, moved}
 use Rattle.esc_events.specs.Assessment.{found, row_of}
 use Rattle.esc_events.specs.Receipts.{holds_row, distinct, receipts_after, receipts_of, reply_to}
 use Rattle.esc_events.specs.Stands.{AreBooks, IsApart, TellsOf, CameFor, holds_by, kept_arrivals, held_body, parked_body}
-use Rattle.esc_events.specs.Amended.{judged, amended_bodies, still_parked, with_listed, amended_kept}
+use Rattle.esc_events.specs.Amended.{judged, amended_bodies, still_parked, amended_kept}
 use Rattle.esc_events.proofs.AmendingLemmas.{row_is, row_has, row_held, same_at, listed_still, holds_same, judged_at, judged_some}
 use Rattle.esc_events.proofs.AmendingLemmas.{reply_same, rows_short, receipts_below}
 use Rattle.esc_events.proofs.AmendingEvents.{came_under, holds_as, receipts_as, apart_as, held_as, parked_as, came_as, waits_as, held_is, parked_is}

@@ -23,7 +23,7 @@ use Rattle.esc_tables.specs.Reading.{reading}
 use Rattle.esc_manifest.specs.declared.row.MRow.{MRow}
 use Rattle.esc_manifest.specs.Extension.{extended}
 use Rattle.esc_manifest.specs.ManifestRows.{row_at}
-use Rattle.esc_store.specs.Kept.{Kept, with_body, with_parked}
+use Rattle.esc_store.specs.Kept.{Kept, with_body, with_listed, with_parked}
 use Rattle.esc_events.specs.Assessment.{found, row_of}
 use Rattle.esc_events.specs.Receipts.{holds_row}
 
@@ -69,10 +69,6 @@ module _ (n : List MRow) (parked : List ℕ → Option (List ℕ)) where
   -- the parked bodies that no row lists
   abbrev pub still_parked : List ℕ → Option (List ℕ)
   still_parked d = if is_some (row_of n d) then None else parked d
-
--- what is kept, with these rows listed
-abbrev pub with_listed : Kept → List MRow → Kept
-with_listed k listed = record k { listed = listed }
 
 -- what is kept, with the body that is parked under a digest, if any, held for this row and no
 -- longer parked

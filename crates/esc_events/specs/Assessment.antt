@@ -3,8 +3,6 @@
 use Rattle.std.specs.Prelude.{
   ℕ,
   Bool,
-  true,
-  false,
   ◌&&◌,
   ◌||◌,
   ◌==◌,
@@ -20,15 +18,12 @@ use Rattle.std.specs.Prelude.{
   Err,
 }
 use Rattle.std.specs.Str.{bytes_eq}
-use Rattle.std.specs.Ordering.{int_eq}
-use Rattle.esc_envelope.specs.declared.place.DepositType.{DepositType}
-use Rattle.esc_envelope.specs.declared.place.DepositType.TheVariants.{Diff, Incr, Full}
-use Rattle.esc_envelope.specs.declared.place.Place.{Place}
-use Rattle.esc_envelope.specs.Place.{rank}
 use Rattle.esc_envelope.specs.HeaderValue.{HeaderValue}
 use Rattle.esc_tables.specs.DepositValue.{DepositValue}
 use Rattle.esc_manifest.specs.declared.row.MRow.{MRow}
+use Rattle.esc_manifest.specs.Extension.{same_prev}
 use Rattle.esc_manifest.specs.ManifestRows.{row_at}
+use Rattle.esc_manifest.specs.RowFaults.{is_diff, same_place}
 use Rattle.esc_events.specs.declared.assessment.Assessment.{Assessment}
 use Rattle.esc_events.specs.declared.assessment.Assessment.TheVariants.{
   Unlisted,
@@ -37,27 +32,12 @@ use Rattle.esc_events.specs.declared.assessment.Assessment.TheVariants.{
   Holding,
 }
 
--- the same watermark and the same type
-abbrev pub same_place : Place → Place → Bool
-same_place a b = int_eq a.watermark b.watermark && (rank a.kind == rank b.kind)
-
-abbrev pub same_option : Option (List ℕ) → Option (List ℕ) → Bool
-same_option None None = true
-same_option None (Some b) = false
-same_option (Some a) None = false
-same_option (Some a) (Some b) = bytes_eq a b
-
-abbrev pub is_differential : DepositType → Bool
-is_differential Diff = true
-is_differential Incr = false
-is_differential Full = false
-
 -- id, place and resend are the row's, and of a Differential the previous id too
 abbrev pub as_listed : HeaderValue → HeaderValue → Bool
 as_listed row d = bytes_eq row.id d.id
     && (same_place row.place d.place
     && ((row.resend == d.resend)
-    && (not (is_differential row.place.kind) || same_option row.prev d.prev)))
+    && (not (is_diff row.place.kind) || same_prev row.prev d.prev)))
 
 -- the first row with this digest, if any
 abbrev pub row_of : List MRow → List ℕ → Option ℕ

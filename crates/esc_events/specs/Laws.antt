@@ -20,6 +20,7 @@ use Rattle.esc_tables.specs.Reading.{reading}
 use Rattle.esc_manifest.specs.declared.row.MRow.{MRow}
 use Rattle.esc_manifest.specs.Accepted.{IsAccepted}
 use Rattle.esc_manifest.specs.Extension.{extended}
+use Rattle.esc_manifest.specs.RowFaults.{most_rows}
 use Rattle.esc_chain.specs.Laws.{LatestChainsAtAreHeldRows}
 use Rattle.esc_apply.specs.declared.moves.Work.{Work}
 use Rattle.esc_store.specs.declared.reply.Verdict.TheVariants.{A2}
@@ -193,6 +194,6 @@ MovedStands = LatestChainsAtAreHeldRows → (e : List EventValue) (x : EventValu
 abbrev pub MoveIsWork : Type 0
 MoveIsWork = LatestChainsAtAreHeldRows → MentionsFew → (e : List EventValue) (x : EventValue)
     (k l : Kept) (more : List MRow) (rows : List ℕ) (bodies : ℕ → Option (List ℕ)) (plan : Plan)
-    → IsMove e x k l more rows bodies plan → length plan.old.items ≤ 4096
-    → length plan.new.items ≤ 4096 → (work : Work)
+    → IsMove e x k l more rows bodies plan → length plan.old.items ≤ most_rows
+    → length plan.new.items ≤ most_rows → (work : Work)
     → IsCostOfMove plan (deposits_of reading k.bodies k.steps) work → IsWorkOf e x work

@@ -2,7 +2,7 @@
 use Rattle.std.specs.Prelude.{◌≡◌, ◌≤◌, false, ℕ, Ok, List, [], ◌∷◌, ◌++◌, map, drop}
 use Rattle.sha2.specs.Sha256.{sha256}
 use Rattle.esc_tables.specs.DepositValue.{DepositValue}
-use Rattle.esc_tables.specs.Reading.{reading}
+use Rattle.esc_tables.specs.Reading.{most_rows, reading}
 use Rattle.esc_apply.specs.declared.moves.Work.{Work}
 use Rattle.esc_apply.specs.Front.{common_front}
 use Rattle.esc_apply.specs.Moves.{cost}
@@ -48,6 +48,7 @@ module _ (e : List EventValue) (x : EventValue) where
   abbrev pub IsIdle : Work → Type 0
   IsIdle work = WhereApart (e ++ x ∷ []) (AddsNoRow → work ≡ no_work)
 
--- each deposit that is read mentions at most 100,000 keys
+-- each deposit that is read mentions no more keys than a bundle may have rows, 100,000
 abbrev pub MentionsFew : Type 0
-MentionsFew = (body : List ℕ) (d : DepositValue) → reading body ≡ Ok d → mention_count d ≤ 100_000
+MentionsFew = (body : List ℕ) (d : DepositValue) → reading body ≡ Ok d
+    → mention_count d ≤ most_rows

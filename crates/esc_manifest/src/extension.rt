@@ -32,7 +32,7 @@ ghost use Rattle.esc_manifest.specs.Extension.{
 
 use crate::fault::MFault;
 use crate::manifest::Manifest;
-use crate::row::MRow;
+use crate::row::{MRow, copy_rows};
 use crate::rows::{
     follows_any_later, follows_later, is_same_place, moves_id, repeats_digest, repeats_revision,
     rows_fault,
@@ -67,22 +67,11 @@ fn is_listed(rows: &[MRow], row: &MRow) -> bool
     rows.iter().any(|q| is_same_row(q, row))
 }
 
-// Copies of these rows.
-fn copied(alloc: Global, rows: &[MRow]) -> Result<Vec<MRow>, NoMemory>
-    ensures { IfOk result (λ copies. copies.items ≡ rows.now) }
-{
-    let mut copies = Vec::new(alloc);
-    for row in rows {
-        copies.push(row.copy(alloc)?)?;
-    }
-    Ok(copies)
-}
-
 // The rows, and after them those of `more` that aren't listed yet.
 fn union_of(alloc: Global, rows: &[MRow], more: &[MRow]) -> Result<Vec<MRow>, NoMemory>
     ensures { IfOk result (λ union. union.items ≡ extended rows.now more.now) }
 {
-    let mut union = copied(alloc, rows)?;
+    let mut union = copy_rows(alloc, rows)?;
     for row in more {
         if is_listed(rows, row) {
             continue;

@@ -72,5 +72,5 @@ pub use fault::MFault;
 pub use laws::{accepted_texts_are_read_whole, faults_are_least, rows_without_fault_are_accepted};
 pub use manifest::Manifest;
 pub use reading::{MOST_BYTES, read_manifest};
-pub use row::MRow;
+pub use row::{MRow, copy_rows};
 pub use rows::{MOST_ROWS, from_rows};

@@ -14,16 +14,16 @@ use Rattle.esc_bundle.specs.ListLaws.{digits_model}
 use Rattle.esc_envelope.specs.declared.place.DepositType.{DepositType}
 use Rattle.esc_envelope.specs.declared.place.DepositType.TheVariants.{Diff, Incr, Full}
 use Rattle.esc_envelope.specs.Id.{is_id}
-use Rattle.esc_envelope.specs.Members.{type_name}
+use Rattle.esc_envelope.specs.Members.{if_id, id_if_any, type_name, type_named}
 use Rattle.esc_manifest.specs.declared.row.MRow.{MRow}
-use Rattle.esc_manifest.specs.Fields.{id_of, type_of, prev_of, resend_of, row_of}
+use Rattle.esc_manifest.specs.Fields.{resend_of, row_of}
 use Rattle.esc_manifest.specs.Manifest.{lacks_id, lacks_type, lacks_watermark, lacks_resend, lacks_digest, is_diff_alone}
 use Rattle.esc_pack.specs.Written.{resend_field, row_line, IsLegible}
 
-id_read : (id : List ℕ) → IsTrue (is_id id) → id_of id ≡ Some id
+id_read : (id : List ℕ) → IsTrue (is_id id) → if_id id ≡ Some id
 id_read id good = rw good refl
 
-type_read : (kind : DepositType) → type_of (type_name kind) ≡ Some kind
+type_read : (kind : DepositType) → type_named (type_name kind) ≡ Some kind
 type_read Diff = refl
 type_read Incr = refl
 type_read Full = refl
@@ -36,7 +36,7 @@ id_there id good = grind (arith, nat_tests)
 abbrev HasIdOrNone : Option (List ℕ) → Type 0
 HasIdOrNone prev = IfSome prev (λ id. IsTrue (is_id id))
 
-prev_read : (prev : Option (List ℕ)) → HasIdOrNone prev → prev_of (unwrap_or prev []) ≡ Some prev
+prev_read : (prev : Option (List ℕ)) → HasIdOrNone prev → id_if_any (unwrap_or prev []) ≡ Some prev
 prev_read None good = refl
 prev_read (Some id) good = rw (id_there id good, id_read id good) refl
 

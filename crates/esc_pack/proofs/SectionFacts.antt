@@ -17,11 +17,12 @@ use Rattle.esc_csv.specs.Lines.{Line, text_of}
 use Rattle.esc_csv.specs.Records.{records_of, IsUnmarked}
 use Rattle.esc_bundle.specs.Bundle.{Named}
 use Rattle.esc_bundle.specs.Frame.{frame}
+use Rattle.esc_bundle.specs.Tests.{◌>>=◌, check}
 use Rattle.esc_envelope.specs.EnvelopeValue.{TableValue, EnvelopeValue}
 use Rattle.esc_envelope.specs.Envelope.{envelope_of}
 use Rattle.esc_tables.specs.DepositValue.{DepositValue}
 use Rattle.esc_tables.specs.TableRow.{bytes_named, table_rows, in_table, rows_in, are_filed}
-use Rattle.esc_tables.specs.Reading.{◌>>=◌, check, check_rows, tables_of, deposit_of, deposit_in, sections_deposit, reading}
+use Rattle.esc_tables.specs.Reading.{check_rows, tables_of, deposit_of, deposit_in, sections_deposit, reading}
 use Rattle.esc_pack.specs.GivenRows.{GivenTable, given_rows, file_rows, has_width, IsReadBack}
 use Rattle.esc_pack.specs.Bundling.{section_of, sections_of}
 

@@ -1,22 +1,9 @@
 //! Where the rows of declared tables are: the members `from` and `heading` of a declaration.
 
-ghost use Rattle.std.specs.Prelude.{
-  ◌≡◌,
-  ◌++◌,
-  ◌∷◌,
-  [],
-  IfOk,
-  OnOk,
-  Some,
-  map,
-  option_map,
-  string_bytes,
-  codes,
-};
+ghost use Rattle.std.specs.Prelude.{◌≡◌, IfOk, map, option_map, string_bytes, codes};
 ghost use Rattle.serde_json.specs.Find.{get, as_str};
 ghost use Rattle.serde_json.specs.View.{view};
 ghost use Rattle.esc_envelope.specs.Envelope.{json_of};
-ghost use Rattle.esc_envelope.specs.Members.{array_in, array_of, text_at};
 ghost use Rattle.esc_envelope.specs.DeclaredTables.{all_of};
 ghost use Rattle.esc_pack.specs.TableFiles.{
   heading_from,
@@ -29,6 +16,7 @@ ghost use Rattle.esc_pack.specs.TableFiles.{
 };
 
 use esc_bundle::NoMemory;
+use esc_envelope::{array_in, array_of, text_at};
 use serde_json::Value;
 use std::alloc::Global;
 use std::marker::Model;
@@ -78,33 +66,6 @@ fn heading_in(table: &Value) -> Option<bool>
     }
 }
 
-// The values of an array in order.
-fn array_in(value: &Value) -> Option<&[Value]>
-    ensures { option_map (λ values. map view values.now) result ≡ array_in (view value.now) }
-{
-    Some(value.as_array()?.as_slice())
-}
-
-// The values of a member that is an array or missing.
-fn array_of<'a>(envelope: &'a Value, name: &str) -> Option<&'a [Value]>
-    ensures { option_map (λ values. map view values.now) result
-        ≡ array_of name.now (view envelope.now) }
-{
-    match envelope.get(name) {
-        None => Some(&[]),
-        Some(value) => array_in(value),
-    }
-}
-
-fn push_copy(alloc: Global, texts: &mut Vec<String>, text: &str) -> Result<(), NoMemory>
-    ensures { OnOk result (map string_bytes texts.new.items
-        ≡ map string_bytes texts.old.items ++ text.now ∷ []) }
-{
-    let copy = String::from_str(alloc, text)?;
-    texts.push(copy)?;
-    Ok(())
-}
-
 fn all_texts(alloc: Global, values: &[Value]) -> Result<Option<Vec<String>>, NoMemory>
     ensures { IfOk result (λ o. option_map (λ v. map string_bytes v.items) o
         ≡ all_of as_str (map view values.now)) }
@@ -114,7 +75,7 @@ fn all_texts(alloc: Global, values: &[Value]) -> Result<Option<Vec<String>>, NoM
         let Some(text) = value.as_str() else {
             return Ok(None);
         };
-        push_copy(alloc, &mut texts, text)?;
+        texts.push(String::from_str(alloc, text)?)?;
     }
     Ok(Some(texts))
 }
@@ -129,13 +90,6 @@ fn texts_in(alloc: Global, value: &Value) -> Result<Option<Vec<String>>, NoMemor
     }
 }
 
-// The text of a member that must be there.
-fn text_at<'a>(object: &'a Value, name: &str) -> Option<&'a str>
-    ensures { option_map (λ t. t.now) result ≡ text_at name.now (view object.now) }
-{
-    object.get(name)?.as_str()
-}
-
 fn only_file(alloc: Global, table: &Value) -> Result<Option<Vec<String>>, NoMemory>
     ensures { IfOk result (λ o. option_map (λ v. map string_bytes v.items) o
         ≡ only_file (view table.now)) }
@@ -144,7 +98,7 @@ fn only_file(alloc: Global, table: &Value) -> Result<Option<Vec<String>>, NoMemo
         return Ok(None);
     };
     let mut names = Vec::new(alloc);
-    push_copy(alloc, &mut names, name)?;
+    names.push(String::from_str(alloc, name)?)?;
     Ok(Some(names))
 }
 

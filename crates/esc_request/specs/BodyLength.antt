@@ -17,6 +17,7 @@ use Rattle.std.specs.List.{list_any, list_all, filter}
 use Rattle.std.specs.Char.{is_ascii_digit}
 use Rattle.std.specs.Str.{str_eq_ignore_ascii_case}
 use Rattle.std.specs.Str.Parse.{digits_value}
+use Rattle.esc_bundle.specs.Bundle.{limit}
 use Rattle.esc_request.specs.declared.length.BodyLength.{BodyLength}
 use Rattle.esc_request.specs.declared.length.BodyLength.TheVariants.{
   Bytes,
@@ -37,10 +38,10 @@ is_named name line = str_eq_ignore_ascii_case line.0 name
 abbrev pub is_numeral : List ℕ → Bool
 is_numeral text = nat_lt 0 (length text) && list_all is_ascii_digit text
 
--- the length that a value states: a numeral up to 16,777,216
+-- the length that a value states: a numeral up to the limit of a bundle, 16,777,216
 abbrev pub length_of_value : List ℕ → BodyLength
 length_of_value text =
-    if is_numeral text then (if nat_le (digits_value 10 text) 16777216 then Bytes
+    if is_numeral text then (if nat_le (digits_value 10 text) limit then Bytes
     (digits_value 10 text) else TooLong) else Malformed
 
 -- the values of lines: none, one, or more

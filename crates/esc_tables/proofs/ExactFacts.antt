@@ -7,12 +7,13 @@ use Rattle.std.proofs.lemmas.Bool.Decides.{nat_tests}
 use Rattle.esc_bundle.specs.Bundle.{Named, IsBundle}
 use Rattle.esc_bundle.specs.Reading.{IsFault}
 use Rattle.esc_bundle.specs.Frame.{frame}
+use Rattle.esc_bundle.specs.Tests.{◌>>=◌, check}
 use Rattle.esc_envelope.specs.EnvelopeValue.{EnvelopeValue}
 use Rattle.esc_envelope.specs.Envelope.{envelope_of}
 use Rattle.esc_tables.specs.DepositValue.{DepositValue}
 use Rattle.esc_tables.specs.TableRow.{TableRow, are_filed, is_whole, has_key}
 use Rattle.esc_tables.specs.Objects.{objects_of}
-use Rattle.esc_tables.specs.Reading.{tables_of, check_rows, check, deposit_of, deposit_in, sections_deposit, reading, most_rows, parent_rows, child_rows, ◌>>=◌}
+use Rattle.esc_tables.specs.Reading.{tables_of, check_rows, deposit_of, deposit_in, sections_deposit, reading, most_rows, parent_rows, child_rows}
 use Rattle.esc_tables.specs.DepositOf.{all_rows, Makes, IsDepositOf, Stands, IsLeast, IsRefusedAt, IsRefused}
 use Rattle.esc_tables.proofs.ObjectFacts.{same_objects, objects_found, objects_sorted}
 use Rattle.esc_tables.proofs.DepositFacts.{made_of, told_8, told_rows, told_deposit, same_reading, no_frame, no_envelope}

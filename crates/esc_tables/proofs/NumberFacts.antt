@@ -5,9 +5,10 @@ use Rattle.std.specs.List.{list_all}
 use Rattle.esc_bundle.specs.Bundle.{Named}
 use Rattle.esc_bundle.specs.Frame.{frame}
 use Rattle.esc_bundle.specs.Reading.{IsFault}
+use Rattle.esc_bundle.specs.Tests.{◌>>=◌, check}
 use Rattle.esc_envelope.specs.Envelope.{envelope_of}
 use Rattle.esc_envelope.specs.EnvelopeValue.{EnvelopeValue}
-use Rattle.esc_tables.specs.Reading.{◌>>=◌, check, tables_of, check_rows, deposit_in, sections_deposit, reading, sections_envelope, bundled_envelope, most_rows}
+use Rattle.esc_tables.specs.Reading.{tables_of, check_rows, deposit_in, sections_deposit, reading, sections_envelope, bundled_envelope, most_rows}
 use Rattle.esc_tables.specs.TableRow.{TableRow, are_filed, is_whole, has_key}
 use Rattle.esc_tables.specs.DepositOf.{all_rows}
 

@@ -10,11 +10,12 @@ use Rattle.std.proofs.Math.Bool.{and_assoc}
 use Rattle.csv.specs.Machine.{next_record}
 use Rattle.csv.specs.Reading.{strip_bom, records_from}
 use Rattle.esc_bundle.specs.Bundle.{Named}
+use Rattle.esc_bundle.specs.Tests.{◌>>=◌, check}
 use Rattle.esc_csv.specs.Records.{records_of}
 use Rattle.esc_envelope.specs.EnvelopeValue.{TableValue}
 use Rattle.esc_tables.specs.declared.survey.Survey.{Survey}
 use Rattle.esc_tables.specs.TableRow.{TableRow, bytes_named, in_table, table_rows, is_whole, has_key}
-use Rattle.esc_tables.specs.Reading.{check_rows, check, ◌>>=◌}
+use Rattle.esc_tables.specs.Reading.{check_rows}
 use Rattle.esc_tables.specs.Survey.{noted, unseen, is_right, verdict}
 
 -- a file without a byte has no row

@@ -21,8 +21,10 @@ use Rattle.std.specs.Cmp.Lexicographic.{slice_cmp}
 use Rattle.std.specs.Ordering.{nat_cmp, is_lt}
 use Rattle.esc_bundle.specs.Bundle.{Named}
 use Rattle.esc_bundle.specs.Frame.{frame}
+use Rattle.esc_bundle.specs.Tests.{◌>>=◌, check}
 use Rattle.esc_envelope.specs.EnvelopeValue.{TableValue, EnvelopeValue}
 use Rattle.esc_envelope.specs.Envelope.{envelope_of}
+use Rattle.esc_tables.specs.declared.survey.TheConstants.{MOST_ROWS}
 use Rattle.esc_tables.specs.DepositValue.{DepositValue}
 use Rattle.esc_tables.specs.KeyName.{KeyName}
 use Rattle.esc_tables.specs.ObjectValue.{RowValue}
@@ -37,19 +39,9 @@ use Rattle.esc_tables.specs.TableRow.{
 }
 use Rattle.esc_tables.specs.Objects.{objects_of, orphans_of}
 
-infixl 10 ◌>>=◌
--- the next step, applied to the value of the one before it, or the fault of that one
-abbrev pub ◌>>=◌ : {A B : Type 0} → Result A ℕ → (A → Result B ℕ) → Result B ℕ
-(Ok x) >>= next = next x
-(Err n) >>= next = Err n
-
--- the fault n, unless the test passes
-abbrev pub check : Bool → ℕ → Result (Unit {0}) ℕ
-check b n = if b then Ok tt else Err n
-
 -- the most rows of a bundle
 abbrev pub most_rows : ℕ
-most_rows = 100_000
+most_rows = MOST_ROWS
 
 -- all tables that an envelope declares
 abbrev pub tables_of : EnvelopeValue → List TableValue

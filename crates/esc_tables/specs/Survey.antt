@@ -17,9 +17,10 @@ use Rattle.std.specs.Prelude.{
 use Rattle.std.specs.List.{list_all, fold}
 use Rattle.esc_bundle.specs.declared.fault.Fault.{Fault}
 use Rattle.esc_bundle.specs.declared.fault.Fault.TheVariants.{Refused}
+use Rattle.esc_bundle.specs.Tests.{◌>>=◌, check}
 use Rattle.esc_tables.specs.declared.survey.Survey.{Survey}
 use Rattle.esc_tables.specs.TableRow.{TableRow, is_whole, has_key}
-use Rattle.esc_tables.specs.Reading.{most_rows, check, ◌>>=◌}
+use Rattle.esc_tables.specs.Reading.{most_rows}
 
 -- what was seen of the rows, with one more
 abbrev pub noted : Survey → TableRow → Survey

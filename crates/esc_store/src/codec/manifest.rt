@@ -81,18 +81,6 @@ pub(crate) fn stored_manifest(alloc: Global, rows: &[MRow]) -> Result<Vec<Listed
     Ok(stored)
 }
 
-// Copies of these rows.
-fn copied_rows(alloc: Global, rows: &[MRow]) -> Result<Vec<MRow>, SFault>
-    ensures rows { IfOk result (λ copies. copies.items ≡ rows.now) }
-    ensures cause { IfErr result (λ fault. fault ≡ SFault.S2) }
-{
-    let mut copies = Vec::new(alloc);
-    for row in rows {
-        copies.push(row.copy(alloc)?)?;
-    }
-    Ok(copies)
-}
-
 // The manifest of these rows. `S1` if they aren't those of an accepted one.
 fn accepted(alloc: Global, rows: Vec<MRow>) -> Result<Manifest, SFault>
     ensures rows { IfOk result (λ manifest. manifest ≡ rows.items) }
@@ -102,15 +90,6 @@ fn accepted(alloc: Global, rows: Vec<MRow>) -> Result<Manifest, SFault>
         Ok(manifest) => Ok(manifest),
         Err(_) => Err(SFault::S1),
     }
-}
-
-// A copy of a manifest.
-fn copied_manifest(alloc: Global, manifest: &Manifest) -> Result<Manifest, SFault>
-    ensures same { IfOk result (λ copy. copy ≡ manifest.now) }
-    ensures cause { IfErr result IsS1OrS2 }
-{
-    let rows = copied_rows(alloc, manifest.rows())?;
-    accepted(alloc, rows)
 }
 
 // The digest that these bytes are. `S1` if they don't have the length of a digest.
@@ -185,7 +164,7 @@ pub(crate) fn both_forms(
         ≡ listed_from 0 manifest.now) }
     ensures cause { IfErr result IsS1OrS2 }
 {
-    let own = copied_manifest(alloc, manifest)?;
+    let own = manifest.copy(alloc)?;
     let rows = stored_manifest(alloc, manifest.rows())?;
     Ok((own, rows))
 }

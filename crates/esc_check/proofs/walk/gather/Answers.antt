@@ -1,6 +1,6 @@
 use Rattle.std.proofs.Common.{List, subst, string_bytes}
+use Rattle.esc_apply.specs.ObjectStreams.{Entry}
 use Rattle.esc_check.specs.Gathered.{Leads}
-use Rattle.esc_check.specs.TableMap.{Entry}
 use Rattle.esc_check.proofs.Steps.{came}
 use Rattle.esc_check.proofs.walk.gather.Goals as goal
 

@@ -1,6 +1,6 @@
 use Rattle.std.proofs.Common.{List, string_bytes}
+use Rattle.esc_apply.specs.ObjectStreams.{Entry}
 use Rattle.esc_check.specs.Gathered.{Leads}
-use Rattle.esc_check.specs.TableMap.{Entry}
 use Rattle.esc_check.proofs.walk.gather.Given as goal
 
 abbrev pub invariant-loop-gathered : goal.invariant-loop-gathered

@@ -1,9 +1,9 @@
 use Rattle.std.proofs.Common.{List, ℕ, ap₂, sym, subst, ◌≡◌, ◌∙◌, arith}
 use Rattle.std.proofs.lemmas.Result.{on_ok_weaker}
 use Rattle.esc_manifest.specs.declared.row.MRow.{MRow}
-use Rattle.esc_store.specs.Kept.{Kept}
+use Rattle.esc_store.specs.Kept.{Kept, with_listed}
 use Rattle.esc_store.specs.Standing.{IsHonest}
-use Rattle.esc_events.specs.Amended.{with_listed, with_all_adopted, with_all_dropped, amended_kept}
+use Rattle.esc_events.specs.Amended.{with_all_adopted, with_all_dropped, amended_kept}
 use Rattle.esc_events.specs.Plans.{moved_by}
 use Rattle.esc_events.proofs.AmendingKept.{adopted_stay, dropped_stay}
 use Rattle.esc_desk.specs.Amendments.{AreApartRows}
