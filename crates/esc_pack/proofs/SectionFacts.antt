@@ -1,6 +1,6 @@
 -- The sections of tables, and what is read of them.
 use Rattle.std.proofs.Common.{◌≡◌, ◌≢◌, ◌∙◌, ℕ, zero, suc, ◌+◌, ◌<◌, ◌≤◌, false, ◌++◌, get_or, Result, Err, Option, Bor, refl, sym, ap, subst, arith, inl, inr}
-use Rattle.std.specs.Prelude.{Bool, true, List, [], ◌∷◌, length, map, take, drop, Ok, Some, All, AllPairs, nat_lt, ◌&&◌, ◌==◌}
+use Rattle.std.specs.Prelude.{Bool, true, List, [], ◌∷◌, length, map, take, drop, Ok, Some, All, AllPairs, nat_lt, ◌==◌}
 use Rattle.std.specs.List.{zip, list_all, flat_map, find}
 use Rattle.std.specs.Str.{bytes_eq}
 use Rattle.std.proofs.lemmas.Bool.Decides.{nat_tests}
