@@ -1,7 +1,7 @@
 use Rattle.std.proofs.Common.{◌∙◌, ap, sym, map, string_bytes}
 use Rattle.serde_json.specs.View.{view}
 use Rattle.esc_envelope.specs.DeclaredTables.{field_of}
-use Rattle.esc_envelope.proofs.Gather.{next, fails, ended}
+use Rattle.esc_envelope.specs.GatherLaws.{next, fails, ended}
 use Rattle.esc_envelope.proofs.texts.all_fields.Goals as goal
 
 pub returns-in_default : goal.returns-in_default
