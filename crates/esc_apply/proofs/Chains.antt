@@ -1,23 +1,18 @@
 -- A registry that holds a chain of deposits, one step further and one step back.
-use Rattle.std.proofs.Common.{◌≡◌, ℕ, zero, suc, ◌+◌, ◌<◌, ◌≤◌, Bool, true, false, cond, eqb, List, [], ◌∷◌, ◌++◌, length, reverse, slice_get, take, drop, sum_by, Option, Some, None, is_some, refl, sym, ap, ap₂, subst, ◌∙◌, arith, append_assoc, length-append, length-take}
+use Rattle.std.proofs.Common.{◌≡◌, ℕ, zero, suc, ◌+◌, ◌<◌, ◌≤◌, Bool, true, false, cond, eqb, List, [], ◌∷◌, ◌++◌, length, reverse, slice_get, take, drop, sum_by, Some, None, is_some, refl, sym, ap, ap₂, subst, ◌∙◌, arith, append_assoc, length-append, length-take}
 use Rattle.std.specs.List.{find}
 use Rattle.std.specs.Option.{option_and_then, unwrap_or}
 use Rattle.std.proofs.lemmas.List.{reverse-append}
 use Rattle.std.proofs.lemmas.List.Sums.{sum_by_push, sum_by-cons}
+use Rattle.std.proofs.lemmas.Bool.{eq-eqb}
 use Rattle.std.proofs.lemmas.Bool.Decides.{nat_tests}
 use Rattle.esc_tables.specs.KeyName.{KeyName}
-use Rattle.esc_tables.specs.ObjectValue.{ObjectValue}
 use Rattle.esc_tables.specs.DepositValue.{DepositValue}
 use Rattle.esc_apply.specs.Tables.{mentions, says, tables, mention_count}
 use Rattle.esc_apply.specs.Registry.{State, nothing, with_step, stepped, restored, saturated, HasSize}
+use Rattle.esc_apply.specs.ChangeLaws.{Noted}
 use Rattle.esc_apply.specs.Images.{image_of, before_images, chain_state}
 use Rattle.esc_apply.proofs.Mentions.{count_mentions}
-use Rattle.esc_apply.proofs.Runs.{itself}
--- the desk's proofs still name it here
-pub use Rattle.esc_apply.specs.ChainLaws.{empty-chain}
-
-abbrev Noted : Type 0
-Noted = Option (Option ObjectValue)
 
 -- the last deposit decides what it mentions
 tables-push : (c : List DepositValue) (d : DepositValue) (q : KeyName) → tables (c ++ d ∷ []) q ≡ cond (mentions q d) (says q d) (tables c q)
@@ -77,7 +72,7 @@ restored-stepped : (s : State) (j : ℕ) (d : DepositValue) → s.undo j ≡ not
 restored-stepped s j d none = λ i. record { content = λ q. content q i; undo = λ k q. undo k q i }
   where
     content : (q : KeyName) → unwrap_or (cond {A = Noted} (eqb j j) (cond (mentions q d) (Some (s.content q)) None) (s.undo j q)) (cond (mentions q d) (says q d) (s.content q)) ≡ s.content q
-    content q = ap (λ t. unwrap_or (cond {A = Noted} t (cond (mentions q d) (Some (s.content q)) None) (s.undo j q)) (cond (mentions q d) (says q d) (s.content q))) (itself j) ∙ by_mention (mentions q d)
+    content q = ap (λ t. unwrap_or (cond {A = Noted} t (cond (mentions q d) (Some (s.content q)) None) (s.undo j q)) (cond (mentions q d) (says q d) (s.content q))) (eq-eqb j j refl) ∙ by_mention (mentions q d)
       where
         by_mention : (b : Bool) → unwrap_or (cond {A = Noted} b (Some (s.content q)) None) (cond b (says q d) (s.content q)) ≡ s.content q
         by_mention true = refl
@@ -99,8 +94,8 @@ size_last : (c : List DepositValue) (d : DepositValue) (n : ℕ) → HasSize ((c
 size_last c d n (es, are, len) = sym len ∙ count_mentions d es are.once (λ q. ap is_some (are.each q ∙ images-push [] c d (length c) q) ∙ by_mention q (mentions q d))
   where
     by_mention : (q : KeyName) (b : Bool) → is_some (cond {A = Noted} (eqb (length c) (length c)) (cond b (Some (tables c q)) None) (image_at [] c (length c) q)) ≡ b
-    by_mention q true = ap (λ t. is_some (cond {A = Noted} t (Some (tables c q)) (image_at [] c (length c) q))) (itself (length c))
-    by_mention q false = ap (λ t. is_some (cond {A = Noted} t None (image_at [] c (length c) q))) (itself (length c))
+    by_mention q true = ap (λ t. is_some (cond {A = Noted} t (Some (tables c q)) (image_at [] c (length c) q))) (eq-eqb (length c) (length c) refl)
+    by_mention q false = ap (λ t. is_some (cond {A = Noted} t None (image_at [] c (length c) q))) (eq-eqb (length c) (length c) refl)
 
 -- ---- forward
 -- the next step of a chain, where that is step j

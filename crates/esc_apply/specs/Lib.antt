@@ -1,4 +1,5 @@
 pub mod ChainLaws
+pub mod ChangeLaws
 pub mod Changes
 pub mod Front
 pub mod Images

@@ -4,9 +4,8 @@ use Rattle.std.specs.Prelude.{nat_eq, nat_lt, not, ◌||◌, ◌==◌, slice_ind
 use Rattle.std.specs.List.{list_all, list_any, flat_map, starts_with}
 use Rattle.std.specs.Char.{is_ascii_digit}
 use Rattle.std.specs.Fmt.{decimal}
-use Rattle.std.specs.Str.{bytes_eq}
 use Rattle.std.specs.Str.Parse.{digits_value}
-use Rattle.std.proofs.lemmas.Bool.{cases_lt, cases_Bool, and_parts, or_parts}
+use Rattle.std.proofs.lemmas.Bool.{cases_lt, cases_Bool, and_parts, or_parts, false_from_ne_true}
 use Rattle.std.proofs.lemmas.Bool.Decides.{nat_tests, Decides-eqb}
 use Rattle.std.proofs.lemmas.Slice.Eq.{bytes_eq-Decides, starts_is}
 use Rattle.std.proofs.lemmas.Fmt.{digits_decimal, digits_value-decimal, decimal_nonempty, first_decimal, decimal_digit}
@@ -128,9 +127,6 @@ first_of_all : (before : List Named) (s : Named) (more : List Named) → length 
 first_of_all [] s more none h = h
 first_of_all (b ∷ before) s more none h = absurd (omega arith)
 
-names_differ : (a b : List ℕ) → a ≢ b → bytes_eq a b ≡ false
-names_differ a b other = elim (cases_Bool (bytes_eq a b)) [ inl same ↦ absurd (other ((bytes_eq-Decides a b).0 same)) | inr h ↦ h ]
-
 -- each section may come after those before it
 pub may_follow : (before : List Named) (s : Named) (more : List Named) → AreSections (before ++ (s ∷ more)) → MayFollow before s
 may_follow before s more all =
@@ -142,7 +138,8 @@ may_follow before s more all =
       new = list_any_none _ before (λ k d lt.
           let earlier : get_or (before ++ (s ∷ more)) k d ≡ get_or before k d = get_or_append_left before (s ∷ more) d k lt in
           let here : get_or (before ++ (s ∷ more)) at d ≡ s = get_or_at before s more d at refl in
-          names_differ _ _ (rw (earlier, here) at (all.distinct k at d lt in_range)));
+          let differ : (get_or before k d).name ≢ s.name = rw (earlier, here) at (all.distinct k at d lt in_range) in
+          false_from_ne_true _ (λ same. differ ((bytes_eq-Decides (get_or before k d).name s.name).0 same)));
       room = omega (arith, all.few, length-append before (s ∷ more));
       small = rw is_s at (all.small at s in_range);
       first = λ none. first_of_all before s more none all.first;

@@ -27,7 +27,7 @@ use Rattle.esc_check.specs.TableMap.{tables_of}
 use Rattle.esc_check.proofs.FindingLaws.{to_findings, from_findings}
 use Rattle.esc_tables.specs.KeyLaws.{keys_total}
 use Rattle.esc_check.proofs.Members.{from_pieces, in_pieces, from_chosen, in_chosen}
-use Rattle.esc_check.proofs.Writing.{front_added}
+use Rattle.esc_check.specs.WritingLaws.{front_added}
 
 -- keys that come in order are put after the others
 

@@ -1,5 +1,5 @@
 -- A text is written piece by piece.
-use Rattle.std.proofs.Common.{◌≡◌, ℕ, ◌+◌, ◌<◌, List, [], ◌∷◌, ◌++◌, length, get_or, take, drop, map, true, false, Some, slice_get, refl, sym, ap, ◌∙◌, append_assoc}
+use Rattle.std.proofs.Common.{◌≡◌, ℕ, ◌+◌, ◌<◌, List, [], ◌∷◌, ◌++◌, length, get_or, take, drop, map, true, false, Some, slice_get, refl, sym, ap, ◌∙◌}
 use Rattle.std.specs.Prelude.{count_by}
 use Rattle.std.proofs.lemmas.List.{drop_more, take_more}
 use Rattle.std.proofs.lemmas.List.Concat.{flat_map-append}
@@ -12,11 +12,6 @@ use Rattle.esc_tables.specs.ObjectValue.{RowValue, ObjectValue}
 use Rattle.esc_csv.specs.Lines.{Line, line_text, text_of}
 use Rattle.esc_check.proofs.Cells.{Cell, cells_from}
 use Rattle.esc_check.specs.Export.{cell_line, row_lines, is_in, number_behind, child_lines, object_lines, export_lines}
-
--- the front of what is left has been added
-pub front_added : {A : Type 0} (old new whole both a b : List A) → both ≡ a ++ b → old ++ both ≡ whole → new ≡ old ++ a → new ++ b ≡ whole
-front_added old new whole both a b parts known wrote =
-    ap (λ l. l ++ b) wrote ∙ append_assoc old a b ∙ ap (λ l. old ++ l) (sym parts) ∙ known
 
 pub text_of-append : (a b : List Line) → text_of (a ++ b) ≡ text_of a ++ text_of b
 text_of-append a b = flat_map-append line_text a b

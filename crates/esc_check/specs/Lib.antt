@@ -10,3 +10,4 @@ pub mod Links
 pub mod Statuses
 pub mod ObjectReports
 pub mod TableMap
+pub mod WritingLaws

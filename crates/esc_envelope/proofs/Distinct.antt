@@ -53,9 +53,6 @@ place_map v text xs = rw (place_len v text xs, length-map xs v) refl
 
 -- ---- texts seen so far
 
-same_text : (x y : List ℕ) → bytes_eq x y ≡ true → x ≡ y
-same_text x y e = (bytes_eq-Decides x y).0 e
-
 joined : (a b : Bool) → cond a true b ≡ (b || a)
 joined true true = refl
 joined true false = refl
@@ -82,7 +79,7 @@ never_distinct [] x rest again = absurd cc
 never_distinct (y ∷ ys) x rest again =
     elim (or_cases (bytes_eq y x) (is_among x ys) again) [
       | inl same ↦
-          let e = same_text y x same in
+          let e = (bytes_eq-Decides y x).0 same in
           let twice : is_among y (ys ++ (x ∷ rest)) ≡ true = list_any-append (λ other. bytes_eq other y) ys (x ∷ rest) ∙ ap (λ (b : Bool). is_among y ys || (b || is_among y rest)) ((bytes_eq-Decides x y).1 (sym e)) ∙ or-true (is_among y ys) in
           rw twice refl
       | inr later ↦ rw (never_distinct ys x rest later) (and-false (not (is_among y (ys ++ (x ∷ rest)))))

@@ -3,9 +3,7 @@ pub mod CountLoop
 pub mod Declared
 pub mod Distinct
 pub mod Fractions
-pub mod Gather
 pub mod JsonLists
-pub mod JsonTexts
 pub mod KindOrder
 pub mod LeastFault
 pub mod MomentReads

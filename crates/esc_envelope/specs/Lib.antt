@@ -1,8 +1,10 @@
 pub mod Envelope
 pub mod EnvelopeFaults
 pub mod EnvelopeValue
+pub mod GatherLaws
 pub mod HeaderValue
 pub mod Id
+pub mod JsonLaws
 pub mod KindLaws
 pub mod Kinds
 pub mod Members

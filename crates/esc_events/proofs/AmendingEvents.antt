@@ -14,7 +14,7 @@ use Rattle.esc_events.specs.Assessment.{row_of}
 use Rattle.esc_events.specs.Receipts.{distinct, receipts_after, receipts_of}
 use Rattle.esc_events.specs.Stands.{Among, IsApart, CameFor, CameWith, body_of, holds_by, has_digest, is_lost, kept_arrivals, held_body, parked_body}
 use Rattle.esc_events.specs.Amended.{judged, amended_bodies, still_parked}
-use Rattle.esc_events.proofs.AmendingLemmas.{find_same, find_never, holds_same, beyond_held, listed_still, unlisted_before, judged_first}
+use Rattle.esc_events.proofs.AmendingLemmas.{find_never, holds_same, beyond_held, listed_still, unlisted_before, judged_first}
 use Rattle.esc_events.proofs.EventLemmas.{union-listed, comings-listed}
 
 module _ (digest : List ℕ → List ℕ) where
@@ -86,7 +86,8 @@ module _ (digest : List ℕ → List ℕ) where
       where
         old : r < length m → held_body digest reading e r ≡ held_body digest reading f r
         old lt =
-            ap body_of (sym (find_same (holds_by digest reading n r) (holds_by digest reading m r) (kept_arrivals digest reading e) (holds_same digest reading x ok okn r lt))) ∙ sym (after r)
+            let same : holds_by digest reading n r ≡ holds_by digest reading m r = λ i c. holds_same digest reading x ok okn r lt c i in
+            ap (λ (p : Coming → Bool). body_of (find p (kept_arrivals digest reading e))) (sym same) ∙ sym (after r)
 
         inside : length m ≤ r → r < length n → judged n r (parked_body digest reading e (row_at n r).digest) ≡ held_body digest reading f r
         inside new lt =

@@ -66,10 +66,6 @@ row_found m r (Some q) (Ok d) is = by_test _ is
 
 -- ---- searches
 
-pub find_same : {X : Type 0} (p q : X → Bool) (xs : List X) → ((x : X) → p x ≡ q x) → find p xs ≡ find q xs
-find_same p q [] same = refl
-find_same p q (x ∷ xs) same = ap (λ b. cond b (Some x) (find p xs)) (same x) ∙ ap (λ o. cond (q x) (Some x) o) (find_same p q xs same)
-
 pub find_never : (p : Coming → Bool) (l : List Coming) → ((c : Coming) → Among l c → p c ≡ true → ⊥) → find p l ≡ None
 find_never p [] never = refl
 find_never p (c ∷ l) never = by_test (p c) refl (find_never p l (λ b among. never b (inr among)))

@@ -14,19 +14,21 @@ use Rattle.esc_csv.specs.Lines.{text_of}
 use Rattle.esc_store.specs.declared.store.Store.{Store}
 use Rattle.esc_events.specs.Events.{EventValue}
 use Rattle.esc_events.specs.LatestTables.{AreEntries}
+use Rattle.esc_desk.specs.Laws.{TablesAreOfEvents}
 use Rattle.esc_desk.specs.Serving.{Serves}
 use Rattle.esc_events.specs.Stands.{IsApart, deposits_of, held_body}
-use Rattle.esc_events.proofs.Moving.{chain_of}
 
 -- the tables of any deposits have a listing by key
 abbrev pub AreListed : Type 0
 AreListed = (ds : List DepositValue) → (es : List Entry) × InOrder es × IsEntriesOf (tables ds) es
 
 -- so have those of what a store stands for
-pub listing : {S : Type 0} (g : Ghosts S) (store : Store S) (e : List EventValue) → AreListed → Serves g store e → IsApart sha256 reading e → (es : List Entry) × AreEntries e es × InOrder es
-listing g store e listed serves apart =
+pub listing : {S : Type 0} (g : Ghosts S) (store : Store S) (e : List EventValue) → AreListed → TablesAreOfEvents
+    → Serves g store e → IsApart sha256 reading e → (es : List Entry) × AreEntries e es × InOrder es
+listing g store e listed of_events serves apart =
     let entries = listed (deposits_of reading (held_body sha256 reading e) serves.kept.steps) in
-    (entries.0, record { chain = serves.kept.steps; latest = chain_of e serves.kept serves.stands_for apart; objects = entries.2 }, entries.1)
+    let latest = (of_events e serves.kept serves.stands_for apart).latest in
+    (entries.0, record { chain = serves.kept.steps; latest = latest; objects = entries.2 }, entries.1)
 
 filter_again : {X : Type 0} (p : X → Bool) (xs : List X) → filter p (filter p xs) ≡ filter p xs
 filter_again p [] = refl

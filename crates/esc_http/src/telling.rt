@@ -12,7 +12,7 @@ use crate::status::status_text;
 use esc_apply::tables_are_listed;
 use esc_chain::{Held, gaps_at};
 use esc_check::{Finding, StreamFault, export_from, verify_from};
-use esc_desk::{Desk, End, SFault};
+use esc_desk::{Desk, End, SFault, tables_are_of_events};
 use esc_envelope::Kind;
 use esc_request::Report;
 use esc_texts::{gaps_text, links_text, parked_text, receipts_text};
@@ -89,6 +89,7 @@ fn findings_at<S: Alter>(
     ensures cause { IfErr result IsS1OrS2 }
 {
     tables_are_listed();
+    tables_are_of_events();
     match end {
         Some(end) => findings(alloc, desk, end),
         None => Ok(Vec::new(alloc)),
@@ -104,6 +105,7 @@ fn findings<S: Alter>(alloc: Global, desk: &mut Desk<S>, end: &End) -> Result<Ve
     ensures cause { IfErr result IsS1OrS2 }
 {
     tables_are_listed();
+    tables_are_of_events();
     let mut walk = desk.walk(alloc, None)?;
     match verify_from(alloc, &mut walk, end.watermark, &end.counts) {
         Ok(found) => Ok(found),
@@ -151,6 +153,7 @@ fn report_export<S: Alter>(alloc: Global, desk: &mut Desk<S>, kind: Kind) -> Res
     ensures cause { IfErr result IsS1OrS2 }
 {
     tables_are_listed();
+    tables_are_of_events();
     let mut walk = desk.walk(alloc, Some(kind))?;
     match export_from(alloc, &mut walk, kind) {
         Ok(text) => Ok(text),

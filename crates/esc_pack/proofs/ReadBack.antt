@@ -13,7 +13,7 @@ use Rattle.esc_manifest.specs.ManifestRows.{no_row, row_at}
 use Rattle.esc_manifest.specs.RowFaults.{most_rows, rows_fault}
 use Rattle.esc_manifest.specs.Fields.{row_of}
 use Rattle.esc_manifest.specs.Manifest.{most_bytes, has_other_length, lacks_id, lacks_type, lacks_watermark, is_diff_alone, lacks_resend, lacks_digest, records_fault, text_fault, manifest_of}
-use Rattle.esc_manifest.proofs.Positions.{no_first}
+use Rattle.esc_manifest.specs.PositionLaws.{no_first}
 use Rattle.esc_pack.specs.Written.{heading, row_line, rows_text, manifest_text, IsLegible}
 use Rattle.esc_pack.proofs.RowFields.{Reads, row_reads, not_alone}
 

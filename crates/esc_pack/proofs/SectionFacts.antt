@@ -1,12 +1,12 @@
 -- The sections of tables, and what is read of them.
-use Rattle.std.proofs.Common.{◌≡◌, ◌≢◌, ◌∙◌, ℕ, zero, suc, ◌+◌, ◌<◌, ◌≤◌, false, ◌++◌, get_or, Result, Err, Option, Bor, refl, sym, ap, subst, arith, inl, inr}
-use Rattle.std.specs.Prelude.{Bool, true, List, [], ◌∷◌, length, map, take, drop, Ok, Some, All, AllPairs, nat_lt, ◌&&◌, ◌==◌}
+use Rattle.std.proofs.Common.{◌≡◌, ◌≢◌, ◌∙◌, ℕ, zero, suc, ◌+◌, ◌<◌, ◌≤◌, false, ◌++◌, get_or, Result, Err, Option, Bor, refl, sym, ap, subst, arith}
+use Rattle.std.specs.Prelude.{Bool, true, List, [], ◌∷◌, length, map, take, drop, Ok, Some, All, AllPairs, nat_lt, ◌==◌}
 use Rattle.std.specs.List.{zip, list_all, flat_map, find}
 use Rattle.std.specs.Str.{bytes_eq}
 use Rattle.std.proofs.lemmas.Bool.Decides.{nat_tests}
 use Rattle.std.proofs.lemmas.Grind.{flat_map-append}
 use Rattle.std.proofs.lemmas.List.{take_more, append_assoc, append-nil, length-take, length-map, get_or-map}
-use Rattle.std.proofs.lemmas.Bool.{cases_Bool, and_parts}
+use Rattle.std.proofs.lemmas.Bool.{and_parts, false_from_ne_true}
 use Rattle.std.proofs.lemmas.Slice.Eq.{bytes_eq-Decides}
 use Rattle.std.specs.Option.{option_map_or}
 use Rattle.std.proofs.lemmas.List.Elements.{All-push}
@@ -163,9 +163,6 @@ find_first test (x ∷ xs) (suc k) d lt hit others =
     let later = find_first test xs k d (omega arith) hit (λ j l. others (suc j) (omega arith)) in
     rw (others 0 (omega arith)) later
 
-differ : (xs ys : List ℕ) → xs ≢ ys → bytes_eq xs ys ≡ false
-differ xs ys other = elim (cases_Bool (bytes_eq xs ys)) [ inl e ↦ absurd (other ((bytes_eq-Decides xs ys).0 e)) | inr e ↦ e ]
-
 -- the section of a table is found by its name
 named_bytes : (ps : List (TableValue × GivenTable)) → AllPairs (λ s t. s.name ≢ t.name) (map section_of ps)
     → All (λ p. bytes_named (map section_of ps) p.0.file ≡ text_of (given_rows p.1)) ps
@@ -179,7 +176,9 @@ named_bytes ps distinct k d lt =
     let inside : k < length sections = omega (arith, length-map ps section_of, lt) in
     let hit : has_name (get_or sections k none) ≡ true = ap has_name (at k lt) ∙ (bytes_eq-Decides name name).1 refl in
     let others : (j : ℕ) → j < k → has_name (get_or sections j none) ≡ false =
-    λ j l. differ _ name (subst (λ (s : Named). (get_or sections j none).name ≢ s.name) (at k lt) (distinct j k none l inside)) in
+    λ j l.
+    let differ = subst (λ (s : Named). (get_or sections j none).name ≢ s.name) (at k lt) (distinct j k none l inside) in
+    false_from_ne_true _ (λ same. differ ((bytes_eq-Decides (get_or sections j none).name name).0 same)) in
     let found = find_first has_name sections k none inside hit others in
     ap (λ (o : Option Named). option_map_or (λ s. s.bytes) o []) found ∙ ap (λ (s : Named). s.bytes) (at k lt)
 

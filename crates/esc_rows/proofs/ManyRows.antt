@@ -24,6 +24,7 @@ use Rattle.sqlite.specs.Rowids.TheVariants.{Chosen}
 use Rattle.sqlite_keyed.specs.Keyed.{IsKeyedBy}
 use Rattle.sqlite_keyed.proofs.KeyedLemmas.{above_all, IsKeyedBy-insert_by}
 use Rattle.sqlite_keyed.proofs.ListLemmas.{slice_get-filter}
+use Rattle.sqlite_keyed.proofs.SliceLemmas.{is_some-map}
 use Rattle.esc_rows.specs.StoreTable.{StoreTable, RowOf, schema_table, place_of, row_number, row_columns}
 use Rattle.esc_rows.specs.Content.{Content, HoldsContent, rows_of, with_rows}
 use Rattle.esc_rows.proofs.Compiled.{IsWrite, rows_terms}
@@ -117,10 +118,6 @@ one_alone [] ys few some = refl
 one_alone (x ∷ xs) [] few some = absurd cc
 one_alone (x ∷ xs) (y ∷ ys) few some = absurd (omega (arith, few, length-append xs (y ∷ ys)))
 
-pub some_of : {A B : Type 0} (f : A → B) (o : Option A) → is_some (option_map f o) ≡ is_some o
-some_of f None = refl
-some_of f (Some a) = refl
-
 -- of one new row, whether it is found
 pub of_one : {E V : Type 0} (b : Bool) (e : E) (f : E → V) (o : Option V) → option_or (option_map f (cond b (Some e) None)) o ≡ cond b (Some (f e)) o
 of_one true e f o = refl
@@ -144,7 +141,7 @@ module _ {X E V : Type 0} (make : ℕ → E → X) (p : X → Bool) (t : E → B
       none : is_some (option_map shown (find t es)) ≡ true → find p xs ≡ None
       none some =
           let new : is_some (slice_get (filter p (made make n es)) 0) ≡ true =
-          ap is_some (slice_get-filter p (made make n es)) ∙ sym (some_of out (find p (made make n es))) ∙ ap is_some (found_made n es) ∙ some in
+          ap is_some (slice_get-filter p (made make n es)) ∙ sym (is_some-map out (find p (made make n es))) ∙ ap is_some (found_made n es) ∙ some in
           sym (slice_get-filter p xs) ∙ one_alone (filter p xs) (filter p (made make n es)) (subst (λ l. length l ≤ 1) (filter-append p xs (made make n es)) few) new
 
       go : (o m : Option X) (v : Option V) → option_map out m ≡ v → (is_some v ≡ true → o ≡ None) → option_map out (option_or o m) ≡ option_or v (option_map out o)

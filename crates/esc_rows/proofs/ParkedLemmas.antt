@@ -61,21 +61,18 @@ parked_apart db c h =
 
 -- ---- digests
 
-same_digest : (a b : List ℕ) → bytes_eq a b ≡ true → a ≡ b
-same_digest a b h = (bytes_eq-Decides a b).0 h
-
 one_parked : (digest : List ℕ) (ps : List ParkedRow) → AreApart is_same_parked ps → length (filter (is_parked_at digest) ps) ≤ 1
-one_parked digest ps = at_most_one_apart is_same_parked (is_parked_at digest) (λ a b x y. rw (same_digest a.digest digest x, same_digest b.digest digest y) (nat_list_eq_equiv.refl digest)) ps
+one_parked digest ps = at_most_one_apart is_same_parked (is_parked_at digest) (λ a b x y. rw ((bytes_eq-Decides a.digest digest).0 x, (bytes_eq-Decides b.digest digest).0 y) (nat_list_eq_equiv.refl digest)) ps
 
 -- at one digest the tests are one
 test_same : (digest d : List ℕ) (p : ParkedRow) → bytes_eq digest d ≡ true → is_parked_at d p ≡ is_parked_at digest p
-test_same digest d p h = rw (same_digest digest d h) refl
+test_same digest d p h = rw ((bytes_eq-Decides digest d).0 h) refl
 
 -- at two digests they never both hold
 tests_apart : (digest d : List ℕ) (p : ParkedRow) → bytes_eq digest d ≡ false → is_parked_at d p ≡ true → is_parked_at digest p ≡ false
 tests_apart digest d p other here = elim (cases_Bool (is_parked_at digest p)) [
   | inl there ↦
-      let same : digest ≡ d = sym (same_digest p.digest digest there) ∙ same_digest p.digest d here in
+      let same : digest ≡ d = sym ((bytes_eq-Decides p.digest digest).0 there) ∙ (bytes_eq-Decides p.digest d).0 here in
       let e : true ≡ false = sym (nat_list_eq_equiv.refl d) ∙ subst (λ x. bytes_eq x d ≡ false) same other in
       absurd cc
   | inr apart ↦ apart
@@ -169,7 +166,7 @@ found_any d (p ∷ ps) = rw (nat_list_eq_equiv.symm d p.digest) (elim (cases_Boo
 pub lists_parked : (db : Database) (c : Content) (found : List (List ℕ)) → HoldsContent db c → found ≡ map digest_of (sort_by by_digest c.parked) → ListsParked c found
 lists_parked db c found h is = subst (ListsParked c) (sym is) (record {
   rising = ascending-map (λ a b. slice_cmp nat_cmp a b ≡ Less) digest_of (sort_by by_digest c.parked) (rises-sorted by_digest total c.parked (unlike c.parked (parked_apart db c h)));
-  each = λ d. (λ has. sym (there d) ∙ list_any-from_Contains nat_list_eq_equiv d _ has, λ some. Contains-from_any same_digest d _ (there d ∙ some));
+  each = λ d. (λ has. sym (there d) ∙ list_any-from_Contains nat_list_eq_equiv d _ has, λ some. Contains-from_any (λ a b. (bytes_eq-Decides a b).0) d _ (there d ∙ some));
 }) where
   there : (d : List ℕ) → list_any (bytes_eq d) (map digest_of (sort_by by_digest c.parked)) ≡ is_some (parked_at d c.parked)
   there d =

@@ -22,8 +22,8 @@ use Rattle.esc_apply.specs.Registry.{Content as Objects}
 use Rattle.esc_tables.specs.KeyLaws.{keys_alike}
 use Rattle.esc_rows.specs.Rows.{ObjectRow}
 use Rattle.esc_rows.specs.Content.{Content, is_object_at, object_at}
-use Rattle.esc_rows.specs.Changes.{ListsKinds}
-use Rattle.esc_store.specs.Decoded.{times, tallies, HaveOwnKeys}
+use Rattle.esc_rows.specs.Changes.{HaveOwnKeys, ListsKinds}
+use Rattle.esc_store.specs.Decoded.{times, tallies}
 use Rattle.esc_store.specs.Kept.{of_kind, AreCounts}
 use Rattle.esc_store.specs.TypedRows.{record_at, IsRegistry}
 use Rattle.esc_store.proofs.Gathering.{record_here}
@@ -181,17 +181,17 @@ each_is c s kind q it = there s.content kind q c.objects ∙ by_row (find (is_ob
   by_row (Some o) found = refl
   by_row None found = sym (in_kind (kind_rank q.kind == kind_rank kind) (s.content q) (nothing (s.content q) (sym (record_here s.content q) ∙ (sym (it.objects (kind_rank q.kind) q.text) ∙ ap (option_map (λ (o : ObjectRow). o.bytes)) found)) (it.recorded q)))
 
-has_size : (c : Content) (s : State) (kind : Kind) (numbers : List ℕ) → IsRegistry c s → ListsKinds c numbers → HaveOwnKeys c.objects → HasSize (of_kind kind s.content) (times kind numbers)
-has_size c s kind numbers it lists up = (
+has_size : (c : Content) (s : State) (kind : Kind) (numbers : List ℕ) → IsRegistry c s → ListsKinds c numbers → HasSize (of_kind kind s.content) (times kind numbers)
+has_size c s kind numbers it lists = (
   entries_in s.content kind c.objects,
-  record { once = once_each s.content kind c.objects up; each = λ q. each_is c s kind q it },
+  record { once = once_each s.content kind c.objects lists.own; each = λ q. each_is c s kind q it },
   size s.content kind c.objects (all_weaker _ _ (λ o some. is_kept c s kind o it some) c.objects (found_itself c.objects)) ∙ sym (lists.counts (kind_rank kind)),
 )
 
-pub are_counts : (c : Content) (s : State) (numbers : List ℕ) (counts : List (Kind × ℕ)) → IsRegistry c s → ListsKinds c numbers → HaveOwnKeys c.objects → counts ≡ tallies numbers → AreCounts s.content counts
-are_counts c s numbers counts it lists up is = subst (AreCounts s.content) (sym is) (record {
+pub are_counts : (c : Content) (s : State) (numbers : List ℕ) (counts : List (Kind × ℕ)) → IsRegistry c s → ListsKinds c numbers → counts ≡ tallies numbers → AreCounts s.content counts
+are_counts c s numbers counts it lists is = subst (AreCounts s.content) (sym is) (record {
   kinds = refl;
   each = All-from_recursion (λ (n : Kind × ℕ). HasSize (of_kind n.0 s.content) n.1) (tallies numbers) (sized Registrar, (sized Contact, (sized Host, (sized Domain, (sized Idn, (sized Nndn, tt))))));
 }) where
   sized : (kind : Kind) → HasSize (of_kind kind s.content) (times kind numbers)
-  sized kind = has_size c s kind numbers it lists up
+  sized kind = has_size c s kind numbers it lists

@@ -21,7 +21,7 @@ use Rattle.esc_apply.specs.ObjectStreams.{Entry}
 use Rattle.esc_apply.specs.Registry.{State, written}
 use Rattle.esc_apply.specs.declared.registry.Targets.{Targets}
 use Rattle.esc_apply.specs.Changes.{with_object, changed_by, AreNew, CanBePut}
-use Rattle.esc_apply.proofs.Runs.{content-changed_by, undo-new, written_by-noted, Fills, fills_more, fills_last, Returns, returns_last}
+use Rattle.esc_apply.specs.ChangeLaws.{content-changed_by, undo-new, written_by-noted, Fills, fills_more, fills_last, Returns, returns_last}
 use Rattle.esc_rows.specs.Content.{Content, content_in, object_at, image_at}
 use Rattle.esc_rows.specs.declared.object.NewObject.{NewObject}
 use Rattle.esc_rows.specs.declared.undo.NewImage.{NewImage}

@@ -17,7 +17,7 @@ use Rattle.esc_rows.specs.Content.{Content}
 use Rattle.esc_rows.specs.Changes.{ObjectEntry, ImageEntry, ListsObjects, ListsImages, is_entry_at, is_image_entry_at}
 use Rattle.esc_store.specs.Decoded.{AreObjectsOf, AreImagesOf, AreNotes}
 use Rattle.esc_store.specs.TypedRows.{record_at, image_kept, IsRegistry}
-use Rattle.esc_store.proofs.Registries.{kind_back, same_tests, one_object}
+use Rattle.esc_store.proofs.Registries.{kind_back, same_tests, AreAlone, one_object}
 
 -- ---- one row more
 
@@ -65,26 +65,26 @@ no_record : {X : Type 0} (o : Option X) → None ≡ option_map (λ x. Some x) o
 no_record None e some = let never : ⊥ = cc in never
 no_record (Some x) e some = let never : ⊥ = cc in never
 
-pub same_records : (a b : Option ObjectValue) → option_map record_of a ≡ option_map (λ bytes. Some bytes) (option_and_then record_of b) → IfSome b (λ o. IsSome (record_of o)) → a ≡ b
-same_records None None e has = refl
-same_records None (Some y) e has = absurd (no_record (record_of y) e has)
-same_records (Some x) None e has = absurd cc
-same_records (Some x) (Some y) e has = by_record (record_of y) refl e where
+pub same_records : AreAlone → (a b : Option ObjectValue) → option_map record_of a ≡ option_map (λ bytes. Some bytes) (option_and_then record_of b) → IfSome b (λ o. IsSome (record_of o)) → a ≡ b
+same_records alone None None e has = refl
+same_records alone None (Some y) e has = absurd (no_record (record_of y) e has)
+same_records alone (Some x) None e has = absurd cc
+same_records alone (Some x) (Some y) e has = by_record (record_of y) refl e where
   some_same : (p q : Option (List ℕ)) → Some p ≡ Some q → p ≡ q
   some_same p q h = cc
 
   by_record : (o : Option (List ℕ)) → record_of y ≡ o → Some (record_of x) ≡ option_map (λ bytes. Some bytes) o → Some x ≡ Some y
   by_record None is e = absurd cc
-  by_record (Some bytes) is e = one_object x bytes (Some y) (some_same (record_of x) (Some bytes) e) (sym is)
+  by_record (Some bytes) is e = one_object alone x bytes (Some y) (some_same (record_of x) (Some bytes) e) (sym is)
 
 -- the record at a key's own number and bytes
 pub record_here : (f : Objects) (q : KeyName) → record_at f (kind_rank q.kind) q.text ≡ option_and_then record_of (f q)
 record_here f q = ap (λ o. option_and_then record_of (option_and_then (λ (kind : Kind). f (record { kind = kind; text = q.text })) o)) (kind_back q.kind)
 
-pub tables_are : (s : State) (c : Content) (rows : List ObjectEntry) (es : List (KeyName × ObjectValue)) → IsRegistry c s → ListsObjects c rows → IsDistinct key_eq (keys_of es) → AreObjectsOf rows es → IsEntriesOf s.content es
-tables_are s c rows es it lists once each = record {
+pub tables_are : AreAlone → (s : State) (c : Content) (rows : List ObjectEntry) (es : List (KeyName × ObjectValue)) → IsRegistry c s → ListsObjects c rows → IsDistinct key_eq (keys_of es) → AreObjectsOf rows es → IsEntriesOf s.content es
+tables_are alone s c rows es it lists once each = record {
   once = once;
-  each = λ q. same_records (lookup (key_eq q) es) (s.content q) (each q ∙ ap (option_map (λ bytes. Some bytes)) (lists.same (kind_rank q.kind) q.text ∙ (it.objects (kind_rank q.kind) q.text ∙ record_here s.content q))) (it.recorded q);
+  each = λ q. same_records alone (lookup (key_eq q) es) (s.content q) (each q ∙ ap (option_map (λ bytes. Some bytes)) (lists.same (kind_rank q.kind) q.text ∙ (it.objects (kind_rank q.kind) q.text ∙ record_here s.content q))) (it.recorded q);
 }
 
 -- ---- before-images
@@ -94,11 +94,11 @@ pub image_more : (rows : List ImageEntry) (es more : List (KeyName × Option Obj
 image_more rows es more r k before kinds texts is new added all =
     one_more (λ q e. is_image_entry_at (kind_rank q.kind) q.text e) (λ (e : ImageEntry). e.bytes) (option_map record_of) (option_map (λ bytes. Some bytes)) rows es more r k before all new added (λ q. tests_alike k q r.kind r.key kinds texts) is
 
-same_images : (a b : Option (Option ObjectValue)) → option_map (option_map record_of) a ≡ option_map (option_map (λ bytes. Some bytes)) (option_map (λ o. option_and_then record_of o) b) → ((o : ObjectValue) → b ≡ Some (Some o) → IsSome (record_of o)) → a ≡ b
-same_images None None e has = refl
-same_images None (Some y) e has = absurd cc
-same_images (Some x) None e has = absurd cc
-same_images (Some x) (Some y) e has = ap Some (same_records x y (inner _ _ e) (recorded y (λ o is. has o (ap Some is)))) where
+same_images : AreAlone → (a b : Option (Option ObjectValue)) → option_map (option_map record_of) a ≡ option_map (option_map (λ bytes. Some bytes)) (option_map (λ o. option_and_then record_of o) b) → ((o : ObjectValue) → b ≡ Some (Some o) → IsSome (record_of o)) → a ≡ b
+same_images alone None None e has = refl
+same_images alone None (Some y) e has = absurd cc
+same_images alone (Some x) None e has = absurd cc
+same_images alone (Some x) (Some y) e has = ap Some (same_records alone x y (inner _ _ e) (recorded y (λ o is. has o (ap Some is)))) where
   inner : (p q : Option (Option (List ℕ))) → Some p ≡ Some q → p ≡ q
   inner p q h = cc
 
@@ -113,8 +113,8 @@ image_here f q = ap (λ o. option_map (λ x. option_and_then record_of x) (optio
 pub notes_are : (s : State) (step : ℕ) (c : Content) (rows : List ImageEntry) → IsRegistry c s → ListsImages step c rows → AreNotes step s rows
 notes_are s step c rows it lists = record { each = λ n text. lists.same n text ∙ it.images step n text; recorded = λ q o is. it.noted step q o is }
 
-pub images_are : (s : State) (step : ℕ) (rows : List ImageEntry) (es : List (KeyName × Option ObjectValue)) → AreNotes step s rows → IsDistinct key_eq (keys_of es) → AreImagesOf rows es → IsEntriesOf (s.undo step) es
-images_are s step rows es notes once each = record {
+pub images_are : AreAlone → (s : State) (step : ℕ) (rows : List ImageEntry) (es : List (KeyName × Option ObjectValue)) → AreNotes step s rows → IsDistinct key_eq (keys_of es) → AreImagesOf rows es → IsEntriesOf (s.undo step) es
+images_are alone s step rows es notes once each = record {
   once = once;
-  each = λ q. same_images (lookup (key_eq q) es) (s.undo step q) (each q ∙ ap (option_map (option_map (λ bytes. Some bytes))) (notes.each (kind_rank q.kind) q.text ∙ image_here (s.undo step) q)) (λ o is. notes.recorded q o is);
+  each = λ q. same_images alone (lookup (key_eq q) es) (s.undo step q) (each q ∙ ap (option_map (option_map (λ bytes. Some bytes))) (notes.each (kind_rank q.kind) q.text ∙ image_here (s.undo step) q)) (λ o is. notes.recorded q o is);
 }

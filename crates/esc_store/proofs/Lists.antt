@@ -1,37 +1,32 @@
 -- What a part of a change does that lists rows.
-use Rattle.std.proofs.Common.{◌≡◌, ℕ, suc, ◌+◌, ◌≤◌, List, [], ◌∷◌, ◌++◌, length, Option, Some, refl, sym, subst, ◌∙◌, arith}
-use Rattle.std.specs.Prelude.{pos, ◌<ℤ◌}
-use Rattle.std.specs.List.{AllByRecursion}
+use Rattle.std.proofs.Common.{◌≡◌, ℕ, suc, ◌+◌, List, [], ◌∷◌, ◌++◌, length, Option, Some, refl, sym, ap, subst, arith}
+use Rattle.std.specs.Prelude.{pos}
 use Rattle.std.specs.Option.{unwrap_or}
 use Rattle.std.proofs.lemmas.Int.{ints}
 use Rattle.sqlite_keyed.specs.Keyed.{insert_by}
+use Rattle.sqlite_keyed.proofs.KeyedLemmas.{Less-from_lt}
 use Rattle.esc_manifest.specs.declared.row.MRow.{MRow}
 use Rattle.esc_apply.specs.Registry.{State as Tables}
 use Rattle.esc_rows.specs.Rows.{ListedRow, listed_number}
 use Rattle.esc_rows.specs.Content.{Content}
 use Rattle.esc_rows.specs.Changes.{with_listed_row}
-use Rattle.esc_rows.proofs.NumberLemmas.{insert_last}
 use Rattle.esc_store.specs.Kept.{Kept, with_listed}
 use Rattle.esc_store.specs.TypedRows.{IsBooks, IsRegistry, listed_row, listed_from}
 use Rattle.sqlite_trees.specs.declared.store.Store.{Ghosts}
 use Rattle.esc_store.specs.declared.store.Store.{Store}
 use Rattle.esc_store.specs.Standing.{ChangeOf, RestIn, IsUncommitted, GoesOn}
 use Rattle.esc_store.specs.StandingLaws.{survives_same}
-use Rattle.esc_store.proofs.Manifests.{listed_push}
 use Rattle.esc_store.proofs.RowSteps.{Becoming}
 
--- rows are below one that comes after them
-all_below : (n m : ℕ) (rs : List MRow) → length rs + n ≤ m → AllByRecursion (λ (x : ListedRow). listed_number x <ℤ pos m) (listed_from n rs)
-all_below n m [] h = tt
-all_below n m (r ∷ rs) h = (omega (arith, ints, h), all_below (suc n) m rs (omega (arith, h)))
-
 -- the next row, put in its place
-listed_put : (rs : List MRow) (r : MRow) → insert_by listed_number (listed_from 0 rs) (listed_row (length rs) r) ≡ listed_from 0 (rs ++ r ∷ [])
-listed_put rs r = insert_last listed_number (listed_from 0 rs) (listed_row (length rs) r) (all_below 0 (length rs) rs (omega arith)) ∙ sym (listed_push 0 rs r (length rs) (omega arith))
+listed_put : (n m : ℕ) (rs : List MRow) (r : MRow) → length rs + n ≡ m → insert_by listed_number (listed_from n rs) (listed_row m r) ≡ listed_from n (rs ++ r ∷ [])
+listed_put n m [] r is = let e : m ≡ n = omega (arith, is) in rw e refl
+listed_put n m (x ∷ rs) r is =
+    rw (Less-from_lt (pos n) (pos m) (omega (arith, ints, is))) (ap (λ l. listed_row n x ∷ l) (listed_put (suc n) m rs r (omega (arith, is))))
 
 pub books_listed : (k : Kept) (row : ListedRow) (r : MRow) → row ≡ listed_row (length k.listed) r → (c c' : Content) → Becoming (with_listed_row row) c c' → IsBooks c k → IsBooks c' (with_listed k (k.listed ++ r ∷ []))
 books_listed k row r row_is c c' turn books = subst (λ x. IsBooks x (with_listed k (k.listed ++ r ∷ []))) (sym turn.is) (record {
-  listed = rw (row_is, books.listed) (listed_put k.listed r);
+  listed = rw (row_is, books.listed) (listed_put 0 (length k.listed) k.listed r (omega arith));
   receipts = books.receipts;
   held = books.held;
   parked = books.parked;

@@ -24,6 +24,7 @@ use Rattle.esc_store.specs.declared.reads.TheConstants.{MOST_ON_PAGE}
 use Rattle.esc_store.specs.Pages.{IsPage, last_text, is_on_page, entry_row, stored_row}
 use Rattle.esc_store.specs.TypedRows.{IsRegistry}
 use Rattle.esc_store.proofs.Gathering.{tests_alike, same_records, record_here}
+use Rattle.esc_store.proofs.Registries.{AreAlone}
 
 abbrev Shown : Type 0
 Shown = ℕ × List ℕ × Option (List ℕ)
@@ -80,12 +81,12 @@ shown_alike : (q : KeyName) (rows : List ObjectEntry) (es : List Entry) → map 
 shown_alike q rows es same = entries_show q es ∙ ap (λ ts. record_in (find (is_shown_at q) ts)) same ∙ sym (rows_show q rows)
 
 -- rows that the table has from a key on are a page of what the store keeps
-pub page_is : (s : State) (c : Content) (kind : Kind) (from : List ℕ) (rows : List ObjectEntry) (es : List Entry) → IsRegistry c s → ListsFrom (kind_rank kind) from c rows → map entry_row es ≡ map stored_row rows → IsPage s.content kind from es
-page_is s c kind from rows es it lists same = record { order = order_is rows es lists.ascending same; each = each }
+pub page_is : AreAlone → (s : State) (c : Content) (kind : Kind) (from : List ℕ) (rows : List ObjectEntry) (es : List Entry) → IsRegistry c s → ListsFrom (kind_rank kind) from c rows → map entry_row es ≡ map stored_row rows → IsPage s.content kind from es
+page_is alone s c kind from rows es it lists same = record { order = order_is rows es lists.ascending same; each = each }
   where
     here : (q : KeyName) (b : Bool) → option_map record_of (lookup (key_eq q) es) ≡ option_map (λ bytes. Some bytes) (cond b (object_at (kind_rank q.kind) q.text c.objects) None) → lookup (key_eq q) es ≡ cond b (s.content q) None
-    here q true is = same_records (lookup (key_eq q) es) (s.content q) (is ∙ ap (option_map (λ bytes. Some bytes)) (it.objects (kind_rank q.kind) q.text ∙ record_here s.content q)) (it.recorded q)
-    here q false is = same_records (lookup (key_eq q) es) None is tt
+    here q true is = same_records alone (lookup (key_eq q) es) (s.content q) (is ∙ ap (option_map (λ bytes. Some bytes)) (it.objects (kind_rank q.kind) q.text ∙ record_here s.content q)) (it.recorded q)
+    here q false is = same_records alone (lookup (key_eq q) es) None is tt
 
     each : (q : KeyName) → lookup (key_eq q) es ≡ cond (is_on_page kind from (last_text es) q) (s.content q) None
     each q = here q (is_on_page kind from (last_text es) q) (shown_alike q rows es same ∙ ap (option_map (λ bytes. Some bytes)) (lists.same (kind_rank q.kind) q.text

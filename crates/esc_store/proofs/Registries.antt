@@ -13,7 +13,6 @@ use Rattle.esc_envelope.specs.KindLaws.{one_kind}
 use Rattle.esc_tables.specs.KeyName.{KeyName, key_eq}
 use Rattle.esc_tables.specs.ObjectValue.{ObjectValue}
 use Rattle.esc_record.specs.Record.{record_of}
-use Rattle.esc_record.proofs.Objects.{alone}
 use Rattle.std.proofs.lemmas.List.{append-nil}
 use Rattle.std.proofs.lemmas.Option.{same_Some}
 use Rattle.esc_apply.specs.Registry.{State, Befores, empty, nothing, with_key, written, noted, taken}
@@ -262,7 +261,11 @@ record_found s {q} {k} {kind} {key} {found} kinds keys same is =
     subst (λ (p : KeyName). found ≡ option_and_then record_of (s.content p)) same
     (is ∙ (ap (λ n. record_at s.content n key) kinds ∙ (ap (λ t. record_at s.content (kind_rank q.kind) t) keys ∙ ap (λ o. option_and_then record_of (option_and_then (λ (kind : Kind). s.content (record { kind = kind; text = q.text })) o)) (kind_back q.kind))))
 
+-- no record begins another: the law `no_record_begins_another`
+abbrev pub AreAlone : Type 0
+AreAlone = (o p : ObjectValue) (bytes more : List ℕ) → record_of o ≡ Some bytes → record_of p ≡ Some (bytes ++ more) → (more ≡ []) × (o ≡ p)
+
 -- of one record there is one object
-pub one_object : (x : ObjectValue) (bytes : List ℕ) (o : Option ObjectValue) → record_of x ≡ Some bytes → Some bytes ≡ option_and_then record_of o → Some x ≡ o
-one_object x bytes None h is = let no : Some bytes ≡ None = is in absurd cc
-one_object x bytes (Some y) h is = ap Some (alone x y bytes [] h (sym is ∙ ap Some (sym (append-nil bytes)))).1
+pub one_object : AreAlone → (x : ObjectValue) (bytes : List ℕ) (o : Option ObjectValue) → record_of x ≡ Some bytes → Some bytes ≡ option_and_then record_of o → Some x ≡ o
+one_object alone x bytes None h is = let no : Some bytes ≡ None = is in absurd cc
+one_object alone x bytes (Some y) h is = ap Some (alone x y bytes [] h (sym is ∙ ap Some (sym (append-nil bytes)))).1

@@ -4,6 +4,7 @@ use Rattle.std.specs.Prelude.{IsTrue, Result, Ok, Err, OnOk, pos, ◌<ℤ◌, �
 use Rattle.std.specs.List.{AllByRecursion}
 use Rattle.std.proofs.lemmas.Int.{ints}
 use Rattle.std.proofs.lemmas.List.{append_assoc, append-nil, length-map, length-take-le, get_or-map, take_more}
+use Rattle.std.proofs.lemmas.List.Elements.{filter_passes, recursion_from_All}
 use Rattle.esc_manifest.specs.declared.row.MRow.{MRow}
 use Rattle.esc_rows.specs.declared.step.ChainStep.{ChainStep}
 use Rattle.esc_apply.specs.declared.front.Step.{Step}
@@ -13,11 +14,12 @@ use Rattle.sqlite.specs.State.{State, HasCleanDisk}
 use Rattle.sqlite.proofs.StateLemmas.{survives_then}
 use Rattle.sqlite_keyed.specs.Keyed.{IsKeyedBy, get_by, insert_by}
 use Rattle.sqlite_keyed.proofs.KeyedLemmas.{same_int, lt_from_Less}
+use Rattle.sqlite_keyed.proofs.ListLemmas.{all-append, all_weaker}
 use Rattle.std.specs.Ordering.{int_cmp, int_eq, match_ordering}
 use Rattle.std.specs.declared.cmp.Ordering.{Ordering}
 use Rattle.std.specs.declared.cmp.Ordering.TheVariants.{Less, Equal, Greater}
 use Rattle.std.proofs.lemmas.Cmp.{int_ranked}
-use Rattle.std.proofs.lemmas.Bool.{lt-ltb, le-ltb}
+use Rattle.std.proofs.lemmas.Bool.{lt-ltb, le-ltb, ltb-true}
 use Rattle.std.proofs.lemmas.Bool.Decides.{nat_tests}
 use Rattle.std.proofs.lemmas.Result.{IfOk-at_ok}
 use Rattle.esc_rows.specs.StoreTable.{Receipts}
@@ -42,10 +44,6 @@ use Rattle.esc_store.specs.StandingLaws.{was_clean}
 
 less_pos : (a b : ℕ) → pos a <ℤ pos b → a < b
 less_pos a b h = omega (arith, ints)
-
-all_below : (n m : ℕ) (rs : List ReceiptRow) → n < m → AllByRecursion (λ (x : ReceiptRow). x.receipt < n) rs → AllByRecursion (λ (x : ReceiptRow). x.receipt < m) rs
-all_below n m [] lt all = tt
-all_below n m (r ∷ rs) lt all = (let h = all.0 in omega arith, all_below n m rs lt all.1)
 
 below_next : (rs : List ReceiptRow) (n : ℕ) → IsKeyedBy receipt_number rs → last_number rs + 1 ≡ n → AllByRecursion (λ (x : ReceiptRow). x.receipt < n) rs
 below_next [] n keyed is = tt
@@ -176,10 +174,6 @@ row_was_free g old new h {r} {x} is step clean listing before k made =
 
 -- ---- steps
 
-steps_push : (n : ℕ) (rows : List ℕ) (row m : ℕ) → length rows + n ≡ m → steps_from n (rows ++ (row ∷ [])) ≡ steps_from n rows ++ (record { pos = m; row = row } ∷ [])
-steps_push n [] row m is = let e : n ≡ m = omega (arith, is) in rw e refl
-steps_push n (x ∷ rows) row m is = ap (λ l. record { pos = n; row = x } ∷ l) (steps_push (suc n) rows row m (omega (arith, is)))
-
 steps_append : (n m : ℕ) (front rows : List ℕ) → length front + n ≡ m → steps_from n (front ++ rows) ≡ steps_from n front ++ steps_from m rows
 steps_append n m [] rows is = let e : n ≡ m = omega (arith, is) in rw e refl
 steps_append n m (x ∷ front) rows is = ap (λ l. record { pos = n; row = x } ∷ l) (steps_append (suc n) m front rows (omega (arith, is)))
@@ -200,18 +194,12 @@ front_before n (suc front) at [] is = refl
 front_before n (suc front) at (row ∷ rows) is =
     rw (lt-ltb n at (omega (arith, is))) (ap (λ l. record { pos = n; row = row } ∷ l) (front_before (suc n) front at rows (omega (arith, is))))
 
-every_append : {X : Type 0} (P : X → Type 0) (xs ys : List X) → AllByRecursion P xs → AllByRecursion P ys → AllByRecursion P (xs ++ ys)
-every_append P [] ys here there = there
-every_append P (x ∷ xs) ys here there = (here.0, every_append P xs ys here.1 there)
-
 kept_below : (at m : ℕ) (ss : List StepRow) → at ≤ m → AllByRecursion (λ (x : StepRow). x.pos < m) (filter (λ (s : StepRow). ltb s.pos at) ss)
-kept_below at m [] h = tt
-kept_below at m (s ∷ ss) h = by_test (ltb s.pos at) refl (kept_below at m ss h)
-  where
-    by_test : (b : Bool) → ltb s.pos at ≡ b → AllByRecursion (λ (x : StepRow). x.pos < m) (filter (λ (s : StepRow). ltb s.pos at) ss)
-        → AllByRecursion (λ (x : StepRow). x.pos < m) (if b then s ∷ filter (λ (s : StepRow). ltb s.pos at) ss else filter (λ (s : StepRow). ltb s.pos at) ss)
-    by_test true is others = (grind (arith, nat_tests, is, h), others)
-    by_test false is others = others
+kept_below at m ss h =
+    let before : StepRow → Bool = λ s. ltb s.pos at in
+    let passes : StepRow → Type 0 = λ s. before s ≡ true in
+    all_weaker passes (λ (x : StepRow). x.pos < m) (λ s is. omega (arith, ltb-true s.pos at is, h)) (filter before ss)
+    (recursion_from_All passes (filter before ss) (filter_passes before ss))
 
 pub books_steps : (k : Kept) (front at : ℕ) (rows : List ℕ) → at ≡ front + 1 → front ≤ length k.steps → (c c' : Content) → Becoming (with_steps_from at rows) c c' → IsBooks c k → IsBooks c' (with_steps k (take front k.steps ++ rows))
 books_steps k front at rows at_is within c c' turn books = subst (λ x. IsBooks x (with_steps k (take front k.steps ++ rows))) (sym turn.is) (record {
@@ -260,10 +248,10 @@ steps_more {Y} {E} {old} {mid} {new} at rows row s {y} {done} s_is before step =
       let front = (steps_before at c).steps in
       let number : s.pos ≡ length rows + at = ap (λ (x : StepRow). x.pos) s_is in
       let all : AllByRecursion below (front ++ steps_from at rows) =
-      every_append below front (steps_from at rows) (kept_below at s.pos c.steps (omega (arith, number))) (steps_below at s.pos rows (omega (arith, number))) in
+      all-append below front (steps_from at rows) (kept_below at s.pos c.steps (omega (arith, number))) (steps_below at s.pos rows (omega (arith, number))) in
       let there = second (with_steps_from at rows c) (first c h) all in
       let e : (front ++ steps_from at rows) ++ (s ∷ []) ≡ front ++ steps_from at (rows ++ (row ∷ [])) =
-      append_assoc front (steps_from at rows) (s ∷ []) ∙ ap (λ (l : List StepRow). front ++ l) (ap (λ x. steps_from at rows ++ (x ∷ [])) s_is ∙ sym (steps_push at rows row (length rows + at) refl)) in
+      append_assoc front (steps_from at rows) (s ∷ []) ∙ ap (λ (l : List StepRow). front ++ l) (ap (λ x. steps_from at rows ++ (x ∷ [])) s_is ∙ sym (steps_append at (length rows + at) rows (row ∷ []) refl)) in
       subst (λ (ss : List StepRow). HoldsContent new.now (record c { steps = ss })) e there
 
   made_of : (d : Result Y E) → HasCleanDisk new → OnOk d ((mid.in_transaction ≡ true) × AddsStep s mid.now new.now × (new.in_transaction ≡ true) × IsTrue new.is_open)
@@ -296,7 +284,7 @@ same_length n ss rows e = sym (length-map ss step_row) ∙ (ap length e ∙ step
 steps_pushed : (n : ℕ) (ss : List StepRow) (rows : List ℕ) (i : ℕ) (s : StepRow) → ss ≡ steps_from n (take i rows) → i < length rows → s ≡ record { pos = i + n; row = get_or rows i 0 } → ss ++ (s ∷ []) ≡ steps_from n (take (i + 1) rows)
 steps_pushed n ss rows i s e lt is =
     let size : length (take i rows) + n ≡ i + n = let k = length-take-le i rows (omega arith) in omega arith in
-    ap (λ l. l ++ (s ∷ [])) e ∙ (ap (λ x. steps_from n (take i rows) ++ (x ∷ [])) is ∙ (sym (steps_push n (take i rows) (get_or rows i 0) (i + n) size) ∙ ap (steps_from n) (sym (take_more rows i 0 lt))))
+    ap (λ l. l ++ (s ∷ [])) e ∙ (ap (λ x. steps_from n (take i rows) ++ (x ∷ [])) is ∙ (sym (steps_append n (i + n) (take i rows) (get_or rows i 0 ∷ []) size) ∙ ap (steps_from n) (sym (take_more rows i 0 lt))))
 
 pub steps_stored : (first : ℕ) (ss : List StepRow) (steps : List Step) (i n row : ℕ) (d : Step) → ss ≡ steps_from first (take i (map (λ (s : Step). s.row) steps)) → i < length steps → n ≡ i + first → row ≡ (get_or steps i d).row
     → ss ++ (record { pos = n; row = row } ∷ []) ≡ steps_from first (take (i + 1) (map (λ (s : Step). s.row) steps))

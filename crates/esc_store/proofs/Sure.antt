@@ -1,16 +1,15 @@
 -- Reads of a store's tables.
 use Rattle.std.proofs.Common.{◌≡◌, List, Option, Some, refl, sym, subst, ◌∙◌}
-use Rattle.std.specs.Prelude.{IsTrue, Result, Ok, Err, IfOk}
+use Rattle.std.specs.Prelude.{IsTrue, Result, Ok, Err}
 use Rattle.std.proofs.lemmas.Result.{IfOk-at_ok, IfErr-at_err}
 use Rattle.sqlite_trees.specs.declared.store.Store.{Ghosts}
 use Rattle.sqlite.specs.Held.{Held, state}
-use Rattle.sqlite.specs.State.{State, HasCleanDisk, IsUnchanged}
+use Rattle.sqlite.specs.State.{State, HasCleanDisk}
 use Rattle.esc_manifest.specs.declared.row.MRow.{MRow}
 use Rattle.esc_rows.specs.Content.{Content, content_in}
 use Rattle.esc_rows.specs.Changes.{Tells}
 use Rattle.esc_rows.specs.Part.{IsRead}
-use Rattle.esc_rows.proofs.ObjectLemmas.{content_apart}
-use Rattle.esc_store.specs.Decoded.{HaveOwnKeys, counted}
+use Rattle.esc_store.specs.Decoded.{counted}
 use Rattle.esc_store.specs.declared.counts.KindCounts.{KindCounts}
 use Rattle.esc_store.specs.declared.fault.SFault.{SFault}
 use Rattle.esc_store.specs.declared.store.Store.{Store}
@@ -88,18 +87,3 @@ unread = record { manifest = refl; writes = refl; survives = survives_same; stan
 pub told_at : {S X E : Type 0} {g : Ghosts S} {old new : Store S} {P : Content → X → Type 0} (r : Result X E) (x : X) → r ≡ Ok x
     → IsStoreRead g old new P r → IsHonest g new → (k : Kept) → Stands g old k → IsTold k (λ c. P c x)
 told_at {S} {X} {E} {g} {old} {new} {P} r x is it = told_of {E = E} (subst (IsStoreRead g old new P) is it)
-
--- the objects of a store's tables have keys of their own
-pub read_keyed : {S X E : Type 0} {g : Ghosts S} {old new : Store S} {P : Content → X → Type 0} {r : Result X E} → IsStoreRead g old new P r
-    → IsStoreRead g old new (λ c x. P c x × HaveOwnKeys c.objects) r
-read_keyed {S} {X} {E} {g} {old} {new} {P} {r} it = record {
-  manifest = it.manifest;
-  writes = it.writes;
-  counted = it.counted;
-  look =
-      record { survives = it.look.survives; kept = it.look.kept; said = λ clean. said_keyed r (it.look.said clean); failed = it.look.failed };
-} where
-  said_keyed : (y : Result X E) → IfOk y (λ x. Tells P (state g old.conn).now x × IsUnchanged (state g old.conn) (state g new.conn))
-      → IfOk y (λ x. Tells (λ c x. P c x × HaveOwnKeys c.objects) (state g old.conn).now x × IsUnchanged (state g old.conn) (state g new.conn))
-  said_keyed (Ok x) said = (λ c holds. (said.0 c holds, content_apart (state g old.conn).now c holds), said.1)
-  said_keyed (Err e) said = tt

@@ -3,7 +3,6 @@ use Rattle.std.specs.Prelude.{
   ◌≡◌,
   ◌==◌,
   ℕ,
-  false,
   List,
   [],
   ◌∷◌,
@@ -18,7 +17,6 @@ use Rattle.std.specs.Prelude.{
 }
 use Rattle.std.specs.List.{Contains, Any}
 use Rattle.std.specs.Map.{lookup}
-use Rattle.sqlite_trees.specs.Tree.{IsAscending}
 use Rattle.esc_envelope.specs.declared.kind.Kind.{Kind}
 use Rattle.esc_envelope.specs.declared.kind.Kind.TheVariants.{
   Registrar,
@@ -33,8 +31,6 @@ use Rattle.esc_tables.specs.KeyName.{KeyName, key_eq}
 use Rattle.esc_tables.specs.ObjectValue.{ObjectValue}
 use Rattle.esc_record.specs.Record.{record_of}
 use Rattle.esc_apply.specs.Registry.{State}
-use Rattle.esc_rows.specs.Rows.{ObjectRow}
-use Rattle.esc_rows.specs.Content.{is_object_at}
 use Rattle.esc_rows.specs.Changes.{ObjectEntry, ImageEntry, entry_at, image_entry_at}
 use Rattle.esc_store.specs.declared.counts.KindCounts.{KindCounts}
 use Rattle.esc_store.specs.Kept.{IsRising}
@@ -58,10 +54,6 @@ pub record AreNotes (step : ℕ) (s : State) (rows : List ImageEntry) : Type 0 w
   pub each : (n : ℕ) (text : List ℕ) → image_entry_at n text rows ≡ image_kept (s.undo step) n text
   pub recorded : (q : KeyName) (o : ObjectValue) → s.undo step q ≡ Some (Some o)
       → IsSome (record_of o)
-
--- no two objects have the same key
-abbrev pub HaveOwnKeys : List ObjectRow → Type 0
-HaveOwnKeys = IsAscending (λ a b. is_object_at b.kind b.key a ≡ false)
 
 -- the numbers of a list, in ascending order, each once
 pub record AreOnce (numbers rows : List ℕ) : Type 0 where

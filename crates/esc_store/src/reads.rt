@@ -29,6 +29,7 @@ use crate::reply::{Reply, Verdict};
 use crate::store::Store;
 use esc_apply::Step;
 use esc_envelope::Kind;
+use esc_record::no_record_begins_another;
 use esc_tables::{Key, Object};
 use sqlite::Alter;
 use std::alloc::Global;
@@ -157,6 +158,7 @@ impl<S: Alter> Store<S> {
             → IfOk result (λ tables. IsEntriesOf k.registry.content tables.entries) }
         ensures cause { IfErr result IsS1OrS2 }
     {
+        no_record_begins_another();
         let stored = self.objects_here(alloc)?;
         objects_of(alloc, stored.as_slice())
     }
@@ -177,6 +179,7 @@ impl<S: Alter> Store<S> {
             → IfOk result (λ page. length page.items ≤ MOST_ON_PAGE) }
         ensures cause { IfErr result IsS1OrS2 }
     {
+        no_record_begins_another();
         let stored = self.page_here(alloc, kind_number(kind), from)?;
         entries_of(alloc, stored.as_slice())
     }

@@ -4,6 +4,7 @@ use crate::change::Change;
 use crate::codec::object::{images_of, object_in, record_bytes};
 use crate::fault::SFault;
 use esc_apply::{Registry, Targets};
+use esc_record::no_record_begins_another;
 use esc_tables::{Key, Object};
 use sqlite::Alter;
 use std::alloc::Global;
@@ -86,6 +87,7 @@ impl<'a, S: Alter> Registry for Change<'a, S> {
         alloc: Global,
         step: u32,
     ) -> Result<Vec<(Key, Option<Object>)>, SFault> {
+        no_record_begins_another();
         let found = self.find_notes(alloc, step)?;
         let noted = images_of(alloc, found.as_slice())?;
         self.forget_records(step)?;

@@ -1,5 +1,5 @@
 -- Texts that are written piece by piece.
-use Rattle.std.proofs.Common.{◌≡◌, ℕ, ◌+◌, ◌<◌, List, ◌∷◌, ◌++◌, length, get_or, drop, sym, ap, ◌∙◌, append_assoc}
+use Rattle.std.proofs.Common.{◌≡◌, ℕ, ◌+◌, ◌<◌, List, ◌∷◌, ◌++◌, length, get_or, drop, sym, ap, ◌∙◌}
 use Rattle.std.proofs.lemmas.List.{drop_more}
 use Rattle.esc_store.specs.ReplyValue.{ReplyValue}
 use Rattle.esc_check.specs.FindingValue.{FindingValue}
@@ -10,11 +10,6 @@ use Rattle.esc_events.specs.declared.parked.ParkedBody.{ParkedBody}
 use Rattle.esc_texts.specs.LinksText.{finding_line, findings_text}
 use Rattle.esc_texts.specs.ParkedText.{parked_line, parked_lines}
 use Rattle.esc_texts.specs.ReceiptsText.{receipt_line, replies_text}
-
--- the first piece of what was left has been written
-pub written : (old new whole left piece rest : List ℕ) → left ≡ piece ++ rest → old ++ left ≡ whole → new ≡ old ++ piece → new ++ rest ≡ whole
-written old new whole left piece rest parts known wrote =
-    ap (λ (text : List ℕ). text ++ rest) wrote ∙ append_assoc old piece rest ∙ ap (λ (text : List ℕ). old ++ text) (sym parts) ∙ known
 
 -- the line of the first reply that is left
 pub replies_more : (replies : List ReplyValue) (i : ℕ) (reply : ReplyValue) → i < length replies → reply ≡ get_or replies i reply

@@ -31,7 +31,7 @@ ghost use Rattle.esc_store.specs.Pages.{entry_row, stored_row};
 
 use crate::fault::SFault;
 use esc_envelope::Kind;
-use esc_record::{read_record, to_record};
+use esc_record::{no_record_begins_another, read_record, to_record};
 use esc_rows::object::StoredObject;
 use esc_rows::undo::StoredImage;
 use esc_tables::{Key, Object};
@@ -112,6 +112,7 @@ pub(crate) fn object_in(alloc: Global, found: Option<Vec<u8>>) -> Result<Option<
         ≡ option_and_then record_of o → IfSome o (λ x. IsSome (record_of x)) → object ≡ o) }
     ensures cause { IfErr result IsS1OrS2 }
 {
+    no_record_begins_another();
     match found {
         Some(record) => Ok(Some(record_object(alloc, record.as_slice())?)),
         None => Ok(None),

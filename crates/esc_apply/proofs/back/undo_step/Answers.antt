@@ -4,7 +4,8 @@ use Rattle.esc_apply.specs.Images.{chain_state}
 use Rattle.esc_apply.proofs.Counts.{all_counted}
 use Rattle.std.proofs.lemmas.List.{nil_from_length}
 use Rattle.esc_apply.proofs.Chains.{undone_last}
-use Rattle.esc_apply.proofs.Runs.{returns_first, returns_last}
+use Rattle.esc_apply.specs.ChangeLaws.{returns_last}
+use Rattle.esc_apply.proofs.Runs.{returns_first}
 use Rattle.esc_apply.proofs.back.undo_step.Goals as goal
 
 pub loop-entry-init : goal.loop-entry-init

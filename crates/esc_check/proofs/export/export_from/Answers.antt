@@ -2,7 +2,8 @@ use Rattle.std.proofs.Common.{List, ◌++◌, sym, ap, ◌∙◌, append-nil}
 use Rattle.esc_check.specs.Export.{export_lines}
 use Rattle.esc_csv.specs.Lines.{text_of}
 use Rattle.esc_check.proofs.Steps.{came}
-use Rattle.esc_check.proofs.Writing.{front_added, object_more, object_passed}
+use Rattle.esc_check.specs.WritingLaws.{front_added}
+use Rattle.esc_check.proofs.Writing.{object_more, object_passed}
 use Rattle.esc_check.proofs.export.export_from.Goals as goal
 
 pub loop-lines-preserved-then-not-is_of : goal.loop-lines-preserved-then-not-is_of

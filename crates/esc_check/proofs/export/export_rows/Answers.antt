@@ -1,5 +1,6 @@
 use Rattle.std.proofs.Common.{List, ◌++◌, sym, ap, ◌∙◌}
-use Rattle.esc_check.proofs.Writing.{front_added, object_more, object_passed}
+use Rattle.esc_check.specs.WritingLaws.{front_added}
+use Rattle.esc_check.proofs.Writing.{object_more, object_passed}
 use Rattle.esc_check.proofs.export.export_rows.Goals as goal
 
 pub loop-key-preserved-then-not-is_of : goal.loop-key-preserved-then-not-is_of

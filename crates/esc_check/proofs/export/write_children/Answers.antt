@@ -4,7 +4,8 @@ use Rattle.std.proofs.lemmas.List.{drop_all}
 use Rattle.esc_tables.specs.ObjectValue.{RowValue}
 use Rattle.esc_csv.specs.Lines.{text_of}
 use Rattle.esc_check.specs.Export.{row_lines, is_in, number_behind, child_lines}
-use Rattle.esc_check.proofs.Writing.{front_added, children_more, children_end, counted, numbered}
+use Rattle.esc_check.specs.WritingLaws.{front_added}
+use Rattle.esc_check.proofs.Writing.{children_more, children_end, counted, numbered}
 use Rattle.esc_check.proofs.export.write_children.Goals as goal
 
 pub loop-index-preserved : goal.loop-index-preserved

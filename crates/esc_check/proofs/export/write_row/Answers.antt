@@ -3,7 +3,8 @@ use Rattle.std.specs.Fmt.{decimal}
 use Rattle.esc_envelope.specs.Kinds.{kind_name}
 use Rattle.esc_csv.specs.Lines.{line_text}
 use Rattle.esc_check.proofs.Cells.{Cell, cell_within}
-use Rattle.esc_check.proofs.Writing.{front_added, cells_more}
+use Rattle.esc_check.specs.WritingLaws.{front_added}
+use Rattle.esc_check.proofs.Writing.{cells_more}
 use Rattle.esc_check.proofs.export.write_row.Goals.{in-Some+in_ok-write_cell, in_default}
 use Rattle.esc_check.proofs.export.write_row.Goals as goal
 

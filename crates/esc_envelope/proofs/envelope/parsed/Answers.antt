@@ -1,5 +1,5 @@
 use Rattle.serde_json.specs.View.{view}
-use Rattle.esc_envelope.proofs.JsonTexts.{is_json, is_no_json}
+use Rattle.esc_envelope.specs.JsonLaws.{is_json, is_no_json}
 use Rattle.esc_envelope.proofs.envelope.parsed.Goals as goal
 
 pub returns-in-Ok-clause-json : goal.returns-in-Ok-clause-json

@@ -1,7 +1,7 @@
 use Rattle.std.proofs.Common.{◌∙◌, ap, sym}
 use Rattle.serde_json.specs.View.{view}
 use Rattle.esc_envelope.specs.DeclaredTables.{table_of}
-use Rattle.esc_envelope.proofs.Gather.{next, fails, ended}
+use Rattle.esc_envelope.specs.GatherLaws.{next, fails, ended}
 use Rattle.esc_envelope.proofs.tables.tables_in.Goals as goal
 
 pub returns-in_default : goal.returns-in_default

@@ -2,7 +2,7 @@ use Rattle.std.proofs.Common.{◌∙◌, ◌++◌, ◌∷◌, [], ℕ, List, ap,
 use Rattle.std.proofs.lemmas.List.{map_push}
 use Rattle.serde_json.specs.View.{view}
 use Rattle.esc_envelope.specs.DeclaredTables.{field_of}
-use Rattle.esc_envelope.proofs.Gather.{next, fails, ended}
+use Rattle.esc_envelope.specs.GatherLaws.{next, fails, ended}
 use Rattle.esc_envelope.proofs.texts.all_fields.Goals as goal
 
 pub returns-in_default : goal.returns-in_default

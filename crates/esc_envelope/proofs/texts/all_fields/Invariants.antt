@@ -1,7 +1,7 @@
 use Rattle.std.proofs.Common.{map, string_bytes}
 use Rattle.serde_json.specs.View.{view}
 use Rattle.esc_envelope.specs.DeclaredTables.{field_of}
-use Rattle.esc_envelope.proofs.Gather.{IsGathered}
+use Rattle.esc_envelope.specs.GatherLaws.{IsGathered}
 use Rattle.esc_envelope.proofs.texts.all_fields.Given as goal
 
 abbrev pub invariant-loop-value : goal.invariant-loop-value

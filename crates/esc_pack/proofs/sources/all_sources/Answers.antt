@@ -1,7 +1,7 @@
 use Rattle.std.proofs.Common.{◌∙◌, ap, sym}
 use Rattle.serde_json.specs.View.{view}
 use Rattle.esc_pack.specs.TableFiles.{source_of}
-use Rattle.esc_envelope.proofs.Gather.{next, fails, ended}
+use Rattle.esc_envelope.specs.GatherLaws.{next, fails, ended}
 use Rattle.esc_pack.proofs.sources.all_sources.Goals as goal
 
 pub returns-in_default : goal.returns-in_default

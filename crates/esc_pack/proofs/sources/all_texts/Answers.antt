@@ -2,7 +2,7 @@ use Rattle.std.proofs.Common.{◌∙◌, ◌++◌, ◌∷◌, [], ℕ, List, ap,
 use Rattle.std.proofs.lemmas.List.{map_push}
 use Rattle.serde_json.specs.View.{view}
 use Rattle.serde_json.specs.Find.{as_str}
-use Rattle.esc_envelope.proofs.Gather.{next, fails, ended}
+use Rattle.esc_envelope.specs.GatherLaws.{next, fails, ended}
 use Rattle.esc_pack.proofs.sources.all_texts.Goals as goal
 
 pub returns-in_default : goal.returns-in_default

@@ -1,6 +1,6 @@
 use Rattle.std.proofs.Common.{sym}
 use Rattle.serde_json.specs.View.{view}
-use Rattle.esc_envelope.proofs.JsonTexts.{is_json, is_no_json}
+use Rattle.esc_envelope.specs.JsonLaws.{is_json, is_no_json}
 use Rattle.esc_pack.proofs.sources.parsed.Goals as goal
 
 pub returns-in-Ok : goal.returns-in-Ok

@@ -2,7 +2,7 @@ use Rattle.std.proofs.Common.{sym, ap, ◌∙◌}
 use Rattle.std.specs.Result.{result_ok}
 use Rattle.hex.specs.Hex.{encode_lower}
 use Rattle.hex.proofs.HexLemmas.{decode_sized-encode_lower}
-use Rattle.esc_manifest.proofs.FieldTexts.{digest_is}
+use Rattle.esc_manifest.specs.DigestLaws.{digest_is}
 use Rattle.esc_pack.proofs.written.digest_field.Goals as goal
 
 pub returns-clause-read : goal.returns-clause-read

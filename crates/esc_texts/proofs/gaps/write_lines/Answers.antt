@@ -1,12 +1,13 @@
 use Rattle.std.proofs.Common.{List, ◌++◌, sym, ap, ◌∙◌, append-nil}
 use Rattle.std.proofs.lemmas.List.{drop_all}
 use Rattle.esc_texts.specs.GapsText.{gap_lines_text}
-use Rattle.esc_texts.proofs.Pieces.{written, gap_lines_more}
+use Rattle.esc_check.specs.WritingLaws.{front_added}
+use Rattle.esc_texts.proofs.Pieces.{gap_lines_more}
 use Rattle.esc_texts.proofs.gaps.write_lines.Goals as goal
 
 pub loop-gap-preserved : goal.loop-gap-preserved
 loop-gap-preserved c =
-    written _ _ _ _ _ _ (gap_lines_more c.args.gaps.now c.loop-gap.gap-index c.gap-item.result c.loop-gap-test.true c.gap-item.is) c.loop-gap.invariant c.in_ok-write_line.ensures.written
+    front_added _ _ _ _ _ _ (gap_lines_more c.args.gaps.now c.loop-gap.gap-index c.gap-item.result c.loop-gap-test.true c.gap-item.is) c.loop-gap.invariant c.in_ok-write_line.ensures.written
 
 pub returns-clause-written : goal.returns-clause-written
 returns-clause-written c =

@@ -1,12 +1,13 @@
 use Rattle.std.proofs.Common.{List, ◌++◌, sym, ap, ◌∙◌, append-nil}
 use Rattle.std.proofs.lemmas.List.{drop_all}
 use Rattle.esc_texts.specs.ParkedText.{parked_lines}
-use Rattle.esc_texts.proofs.Pieces.{written, bodies_more}
+use Rattle.esc_check.specs.WritingLaws.{front_added}
+use Rattle.esc_texts.proofs.Pieces.{bodies_more}
 use Rattle.esc_texts.proofs.parked.write_bodies.Goals as goal
 
 pub loop-body-preserved : goal.loop-body-preserved
 loop-body-preserved c =
-    written _ _ _ _ _ _ (bodies_more c.args.bodies.now c.loop-body.body-index _ c.loop-body-test.true) c.loop-body.invariant c.in_ok-write_body.ensures
+    front_added _ _ _ _ _ _ (bodies_more c.args.bodies.now c.loop-body.body-index _ c.loop-body-test.true) c.loop-body.invariant c.in_ok-write_body.ensures
 
 pub returns : goal.returns
 returns c =

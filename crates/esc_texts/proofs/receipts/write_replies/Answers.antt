@@ -1,12 +1,13 @@
 use Rattle.std.proofs.Common.{List, ◌++◌, sym, ap, ◌∙◌, append-nil}
 use Rattle.std.proofs.lemmas.List.{drop_all}
 use Rattle.esc_texts.specs.ReceiptsText.{replies_text}
-use Rattle.esc_texts.proofs.Pieces.{written, replies_more}
+use Rattle.esc_check.specs.WritingLaws.{front_added}
+use Rattle.esc_texts.proofs.Pieces.{replies_more}
 use Rattle.esc_texts.proofs.receipts.write_replies.Goals as goal
 
 pub loop-reply-preserved : goal.loop-reply-preserved
 loop-reply-preserved c =
-    written _ _ _ _ _ _ (replies_more c.args.replies.now c.loop-reply.reply-index c.reply-item.result c.loop-reply-test.true c.reply-item.is) c.loop-reply.invariant c.in_ok-write_reply.ensures
+    front_added _ _ _ _ _ _ (replies_more c.args.replies.now c.loop-reply.reply-index c.reply-item.result c.loop-reply-test.true c.reply-item.is) c.loop-reply.invariant c.in_ok-write_reply.ensures
 
 pub returns : goal.returns
 returns c =

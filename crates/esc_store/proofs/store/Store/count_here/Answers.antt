@@ -1,13 +1,13 @@
 use Rattle.std.proofs.Common.{◌∙◌, ap}
 use Rattle.esc_store.specs.Decoded.{tallies}
 use Rattle.esc_store.proofs.Counting.{are_counts}
-use Rattle.esc_store.proofs.Sure.{told_of, read_keyed, remembered}
+use Rattle.esc_store.proofs.Sure.{told_of, remembered}
 use Rattle.esc_store.proofs.store.Store.count_here.Goals as goal
 
 pub returns-clause-counts : goal.returns-clause-counts
 returns-clause-counts g c = λ honest k stands.
-    let told = told_of (read_keyed c.in_ok-kinds.ensures.read) honest k stands in
-    are_counts told.content k.registry _ _ told.registry told.says.0 told.says.1 (c.counts_of-counts.ensures ∙ ap tallies c.as_slice.ensures.value)
+    let told = told_of c.in_ok-kinds.ensures.read honest k stands in
+    are_counts told.content k.registry _ _ told.registry told.says (c.counts_of-counts.ensures ∙ ap tallies c.as_slice.ensures.value)
 
 pub returns-clause-same : goal.returns-clause-same
 returns-clause-same g c = remembered c.in_ok-kinds.ensures.read (returns-clause-counts g c)

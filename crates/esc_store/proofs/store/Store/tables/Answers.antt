@@ -9,4 +9,4 @@ use Rattle.esc_store.proofs.store.Store.tables.Goals as goal
 pub returns-clause-objects : goal.returns-clause-objects
 returns-clause-objects g c = λ honest k stands. if_both c.objects_of.result _ _ _ c.objects_of.ensures.once c.objects_of.ensures.each (λ tables once each.
     let told = told_of c.in_ok-stored.ensures.read honest k stands in
-    tables_are k.registry told.content _ tables.entries told.registry told.says once (subst (λ rows. AreObjectsOf (map object_of rows) tables.entries) c.as_slice.ensures.value each))
+    tables_are c.no_record_begins_another.ensures k.registry told.content _ tables.entries told.registry told.says once (subst (λ rows. AreObjectsOf (map object_of rows) tables.entries) c.as_slice.ensures.value each))
