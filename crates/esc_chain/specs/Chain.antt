@@ -43,7 +43,8 @@ IsHeld h r = IsTrue (set.contains h r)
 abbrev pub InRange : List MRow → Rows → Type 0
 InRange m h = (r : ℕ) → IsHeld h r → r < length m
 
--- a list of no more rows than a manifest may have, each of them held, a row of the manifest, and in the list once
+-- a list of no more rows than a manifest may have, each of them held, a row of the manifest, and in
+-- the list once
 pub record AreHeldRows (m : List MRow) (h : Rows) (c : List ℕ) : Type 0 where
   pub few : length c ≤ most_rows
   pub held : (k : ℕ) → k < length c → IsHeld h (slice_index c k)
