@@ -100,29 +100,29 @@ content-changed_by s j es once q =
 first_note : (s : State) (j : ℕ) (e : Change) (es : List Change) (q : KeyName)
     → AllByRecursion (λ y. key_eq e.0 y ≡ false) (keys_of es)
     → cond {A = Noted} (is_some (lookup (key_eq q) es)) (Some ((changed s j e.0 e.1).content q))
-        ((changed s j e.0 e.1).undo j q)
+    ((changed s j e.0 e.1).undo j q)
     ≡ cond {A = Noted} (is_some (cond {A = Noted} (key_eq q e.0) (Some e.1) (lookup (key_eq q) es)))
-        (Some (s.content q)) (s.undo j q)
+    (Some (s.content q)) (s.undo j q)
 first_note s j e es q apart =
     by_test (key_eq e.0 q) refl
     ∙ ap (λ t. cond {A = Noted} (is_some (cond {A = Noted} t (Some e.1) (lookup (key_eq q) es)))
-        (Some (s.content q)) (s.undo j q)) (keys_alike.symm e.0 q)
+    (Some (s.content q)) (s.undo j q)) (keys_alike.symm e.0 q)
   where
     by_test : (t : Bool) → key_eq e.0 q ≡ t
         → cond {A = Noted} (is_some (lookup (key_eq q) es)) (Some (cond t e.1 (s.content q)))
-            (cond {A = Noted} (eqb j j) (cond {A = Noted} t (Some (s.content e.0)) (s.undo j q))
-                (s.undo j q))
+        (cond {A = Noted} (eqb j j) (cond {A = Noted} t (Some (s.content e.0)) (s.undo j q))
+        (s.undo j q))
         ≡ cond {A = Noted} (is_some (cond {A = Noted} t (Some e.1) (lookup (key_eq q) es)))
-            (Some (s.content q)) (s.undo j q)
+        (Some (s.content q)) (s.undo j q)
     by_test true same =
         ap (λ (o : Noted). cond {A = Noted} (is_some o) (Some e.1)
-            (cond {A = Noted} (eqb j j) (Some (s.content e.0)) (s.undo j q)))
-            (found_once e es q apart same)
+        (cond {A = Noted} (eqb j j) (Some (s.content e.0)) (s.undo j q)))
+        (found_once e es q apart same)
         ∙ ap (λ b. cond {A = Noted} b (Some (s.content e.0)) (s.undo j q)) (eq-eqb j j refl)
         ∙ ap (λ (k : KeyName). Some (s.content k)) (one_key e.0 q same)
     by_test false other =
         ap (λ b. cond {A = Noted} (is_some (lookup (key_eq q) es)) (Some (s.content q))
-            (cond {A = Noted} b (s.undo j q) (s.undo j q))) (eq-eqb j j refl)
+        (cond {A = Noted} b (s.undo j q) (s.undo j q))) (eq-eqb j j refl)
 
 pub undo-changed_by : (s : State) (j : ℕ) (es : List Change) → IsDistinct key_eq (keys_of es)
     → (q : KeyName) → (changed_by s j es).undo j q
@@ -138,7 +138,7 @@ undo-changed_by_other s j i [] differs q = refl
 undo-changed_by_other s j i (e ∷ es) differs q =
     undo-changed_by_other (changed s j e.0 e.1) j i es differs q
     ∙ ap (λ b. cond {A = Noted} b (with_key (s.undo j) e.0 (Some (s.content e.0)) q) (s.undo i q))
-        differs
+    differs
 
 -- changes note what was at each of their keys
 pub undo-new : (s : State) (j : ℕ) (es : List Change) → IsDistinct key_eq (keys_of es)
@@ -151,7 +151,7 @@ undo-new s j es once i q = by_step (eqb j i) refl
     by_step false e = undo-changed_by_other s j i es e q
     by_step true e =
         subst (λ (n : ℕ). (changed_by s j es).undo n q
-            ≡ cond {A = Noted} (is_some (lookup (key_eq q) es)) (Some (s.content q)) (s.undo n q))
+        ≡ cond {A = Noted} (is_some (lookup (key_eq q) es)) (Some (s.content q)) (s.undo n q))
         (eqb-true j i e) (undo-changed_by s j es once q)
 
 -- ---- changes that can be made
@@ -168,7 +168,7 @@ still_fresh : (s : State) (j : ℕ) (e : Change) (y : KeyName) → key_eq e.0 y 
     → s.undo j y ≡ None → (changed s j e.0 e.1).undo j y ≡ None
 still_fresh s j e y differs fresh =
     ap (λ b. cond {A = Noted} b (with_key (s.undo j) e.0 (Some (s.content e.0)) y) (s.undo j y))
-        (eq-eqb j j refl)
+    (eq-eqb j j refl)
     ∙ ap (λ b. cond {A = Noted} b (Some (s.content e.0)) (s.undo j y)) differs ∙ fresh
 
 pub new_rest : (s : State) (j : ℕ) (e : Change) (es : List Change) → AreNew s j (e ∷ es)
@@ -201,7 +201,7 @@ once_first [] fs once = tt
 once_first (e ∷ es) fs once =
     IsDistinct-cons key_eq e.0 (keys_of es)
     (all_first (λ y. key_eq e.0 y ≡ false) es fs
-        (IsDistinct-head key_eq e.0 (keys_of (es ++ fs)) once))
+    (IsDistinct-head key_eq e.0 (keys_of (es ++ fs)) once))
     (once_first es fs (IsDistinct-tail key_eq e.0 (keys_of (es ++ fs)) once))
 
 pub new_first : (s : State) (j : ℕ) (es fs : List Change) → AreNew s j (es ++ fs) → AreNew s j es

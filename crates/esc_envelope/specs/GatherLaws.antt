@@ -48,13 +48,13 @@ module _ {A X B : Type 0} (f : X → Option B) (v : A → X) (xs : List A) where
   first : (front : List B) (i : ℕ) (d : A) (o : Option B) → i < length xs
       → f (v (get_or xs i d)) ≡ o
       → after_front front
-          (o >>= (λ y. all_of f (map v (drop (i + 1) xs)) >>= (λ more. Some (y ∷ more))))
+      (o >>= (λ y. all_of f (map v (drop (i + 1) xs)) >>= (λ more. Some (y ∷ more))))
       ≡ after_front front (all_of f (map v (drop i xs)))
   unfolding all_of
   first front i d o inside told =
       ap (λ (p : Option B). after_front front
-          (p >>= (λ y. all_of f (map v (drop (i + 1) xs)) >>= (λ more. Some (y ∷ more)))))
-          (sym told)
+      (p >>= (λ y. all_of f (map v (drop (i + 1) xs)) >>= (λ more. Some (y ∷ more)))))
+      (sym told)
       ∙ ap (λ (l : List A). after_front front (all_of f (map v l))) (sym (drop_more xs i d inside))
 
   pub next : (i : ℕ) (d : A) (y : B) (made more : List B) → i < length xs

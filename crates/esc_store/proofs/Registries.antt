@@ -29,11 +29,7 @@ use Rattle.esc_store.proofs.Parts.{Turns, turning}
 
 pub kind_back : (kind : Kind) → kind_at (kind_rank kind) ≡ Some kind
 kind_back Registrar = refl
-kind_back Contact = refl
-kind_back Host = refl
-kind_back Domain = refl
-kind_back Idn = refl
-kind_back Nndn = refl
+kind_back _ = refl
 
 some_kind : (a b : Kind) → Some a ≡ Some b → a ≡ b
 some_kind a b h = cc
