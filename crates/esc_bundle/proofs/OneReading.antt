@@ -4,6 +4,7 @@ use Rattle.std.specs.Prelude.{nat_eq, nat_lt, not, ◌||◌, ◌==◌, slice_ind
 use Rattle.std.specs.List.{list_all, list_any, flat_map, starts_with}
 use Rattle.std.specs.Char.{is_ascii_digit}
 use Rattle.std.specs.Fmt.{decimal}
+use Rattle.std.specs.Str.{bytes_eq}
 use Rattle.std.specs.Str.Parse.{digits_value}
 use Rattle.std.proofs.lemmas.Bool.{cases_lt, cases_Bool, and_parts, or_parts, false_from_ne_true}
 use Rattle.std.proofs.lemmas.Bool.Decides.{nat_tests, Decides-eqb}
@@ -139,7 +140,8 @@ may_follow before s more all =
           let earlier : get_or (before ++ (s ∷ more)) k d ≡ get_or before k d = get_or_append_left before (s ∷ more) d k lt in
           let here : get_or (before ++ (s ∷ more)) at d ≡ s = get_or_at before s more d at refl in
           let differ : (get_or before k d).name ≢ s.name = rw (earlier, here) at (all.distinct k at d lt in_range) in
-          false_from_ne_true _ (λ same. differ ((bytes_eq-Decides (get_or before k d).name s.name).0 same)));
+          let test = bytes_eq-Decides (get_or before k d).name s.name in
+          false_from_ne_true (bytes_eq (get_or before k d).name s.name) (λ same. differ (test.0 same)));
       room = omega (arith, all.few, length-append before (s ∷ more));
       small = rw is_s at (all.small at s in_range);
       first = λ none. first_of_all before s more none all.first;

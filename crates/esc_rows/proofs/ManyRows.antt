@@ -23,7 +23,7 @@ use Rattle.sqlite.specs.Edit.{numbered, next_rowid, put_all}
 use Rattle.sqlite.specs.Rowids.TheVariants.{Chosen}
 use Rattle.sqlite_keyed.specs.Keyed.{IsKeyedBy}
 use Rattle.sqlite_keyed.proofs.KeyedLemmas.{above_all, IsKeyedBy-insert_by}
-use Rattle.sqlite_keyed.proofs.ListLemmas.{slice_get-filter}
+use Rattle.sqlite_keyed.proofs.ListLemmas.{map-map, map_same, slice_get-filter}
 use Rattle.sqlite_keyed.proofs.SliceLemmas.{is_some-map}
 use Rattle.esc_rows.specs.StoreTable.{StoreTable, RowOf, schema_table, place_of, row_number, row_columns}
 use Rattle.esc_rows.specs.Content.{Content, HoldsContent, rows_of, with_rows}
@@ -58,8 +58,7 @@ module _ {E : Type 0} (one : ℕ → List Term) (width step : ℕ) (head : Row) 
 
 -- what the columns make of each row
 each_same : {E : Type 0} (f : Row → Row) (g : E → Row) → ((e : E) → f (g e) ≡ g e) → (es : List E) → map f (map g es) ≡ map g es
-each_same f g same [] = refl
-each_same f g same (e ∷ es) = ap₂ (λ (r : Row) (rs : List Row). r ∷ rs) (same e) (each_same f g same es)
+each_same f g same es = map-map f g es ∙ map_same (λ e. f (g e)) g same es
 
 -- one more than the last number, or 1 if there is none
 abbrev pub next_id : {X : Type 0} → (X → ℕ) → List X → ℕ

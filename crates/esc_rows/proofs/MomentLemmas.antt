@@ -43,9 +43,8 @@ sets_moment old new watermark count ran c h =
 
 -- of rows that all have one number there is one at most
 pub one_moment : (ms : List MomentRow) → IsKeyedBy moment_number ms → length ms ≤ 1
-one_moment [] up = omega arith
-one_moment (m ∷ []) up = omega arith
 one_moment (m ∷ n ∷ ms) up = absurd (let low : pos 1 <ℤ pos 1 = up.0.0 in omega (arith, ints))
+one_moment _ up = omega arith
 
 pub finds_moment : (old new : State) (rows : List Row) (c : Content) → HoldsContent old.now c → Shown find_moment_text [] old new rows → ShowsMoment c rows
 finds_moment old new rows c h shown =
@@ -60,6 +59,5 @@ moment_is c rows found shows is = go c.moment found (is ∙ ap (λ l. option_map
   where
     go : (ms : List MomentRow) (o : Option ℤ) → option_map Int o ≡ option_map first_of (slice_get (map shown_moment ms) 0) → o ≡ moment_of ms
     go [] None h = refl
-    go [] (Some w) h = let no : ⊥ = cc in absurd no
-    go (m ∷ ms) None h = let no : ⊥ = cc in absurd no
     go (m ∷ ms) (Some w) h = let e : w ≡ m.watermark = cc in ap Some e
+    go _ _ h = let no : ⊥ = cc in absurd no

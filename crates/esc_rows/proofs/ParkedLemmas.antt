@@ -62,7 +62,9 @@ parked_apart db c h =
 -- ---- digests
 
 one_parked : (digest : List ℕ) (ps : List ParkedRow) → AreApart is_same_parked ps → length (filter (is_parked_at digest) ps) ≤ 1
-one_parked digest ps = at_most_one_apart is_same_parked (is_parked_at digest) (λ a b x y. rw ((bytes_eq-Decides a.digest digest).0 x, (bytes_eq-Decides b.digest digest).0 y) (nat_list_eq_equiv.refl digest)) ps
+one_parked digest ps =
+    at_most_one_apart is_same_parked (is_parked_at digest)
+    (λ a b x y. rw ((bytes_eq-Decides a.digest digest).0 x, (bytes_eq-Decides b.digest digest).0 y) (nat_list_eq_equiv.refl digest)) ps
 
 -- at one digest the tests are one
 test_same : (digest d : List ℕ) (p : ParkedRow) → bytes_eq digest d ≡ true → is_parked_at d p ≡ is_parked_at digest p

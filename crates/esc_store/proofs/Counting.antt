@@ -35,8 +35,7 @@ name kind o = record { kind = kind; text = o.key }
 -- with an object, if there is one and it is of the kind
 abbrev picked : KeyName → Bool → Option ObjectValue → List (KeyName × ObjectValue) → List (KeyName × ObjectValue)
 picked q true (Some x) es = (q, x) ∷ es
-picked q true None es = es
-picked q false o es = es
+picked q _ o es = es
 
 -- the objects of a kind at the keys of these rows
 abbrev entries_in : Objects → Kind → List ObjectRow → List (KeyName × ObjectValue)
@@ -130,8 +129,7 @@ apart_from f kind a (b ∷ os) of all = go (b.kind == kind_rank kind) (f (name k
 
   go : (t : Bool) (x : Option ObjectValue) → (b.kind == kind_rank kind) ≡ t → AllByRecursion (λ y. key_eq (name kind a) y ≡ false) (keys_of (entries_in f kind os)) → AllByRecursion (λ y. key_eq (name kind a) y ≡ false) (keys_of (picked (name kind b) t x (entries_in f kind os)))
   go true (Some x) also more = (other also, more)
-  go true None also more = more
-  go false x also more = more
+  go _ x also more = more
 
 once_each : (f : Objects) (kind : Kind) (os : List ObjectRow) → HaveOwnKeys os → IsDistinct key_eq (keys_of (entries_in f kind os))
 unfolding IsDistinct
@@ -139,8 +137,7 @@ once_each f kind [] up = tt
 once_each f kind (o ∷ os) up = go (o.kind == kind_rank kind) (f (name kind o)) refl (once_each f kind os up.1) where
   go : (t : Bool) (x : Option ObjectValue) → (o.kind == kind_rank kind) ≡ t → IsDistinct key_eq (keys_of (entries_in f kind os)) → IsDistinct key_eq (keys_of (picked (name kind o) t x (entries_in f kind os)))
   go true (Some x) of more = (apart_from f kind o os of up.0, more)
-  go true None of more = more
-  go false x of more = more
+  go _ x of more = more
 
 -- ---- the rows of a kind
 

@@ -85,14 +85,13 @@ rows_found (e ∷ es) (r ∷ rows) are q = by_test (key_eq q e.0) (row_test e r 
 -- no row is of a kind that there isn't
 no_row : (es : List Entry) (rows : List ObjectEntry) → AreRowsOf es rows → (n : ℕ) (text : List ℕ) → kind_at n ≡ None → entry_at n text rows ≡ None
 no_row [] [] are n text none = refl
-no_row [] (r ∷ rows) are n text none = let no = are.same in absurd cc
-no_row (e ∷ es) [] are n text none = let no = are.same in absurd cc
 no_row (e ∷ es) (r ∷ rows) are n text none =
     let (same, others) = other_rows e es r rows are in
     let kinds : kind_rank e.0.kind ≡ r.kind = ap (λ (t : RowOf). t.0) same in
     let texts : e.0.text ≡ r.key = ap (λ (t : RowOf). t.1) same in
     let off : is_entry_at n text r ≡ false = rw (← kinds, ← texts) (no_kind e.0 n text none) in
     rw off (no_row es rows others n text none)
+no_row _ _ are n text none = let no = are.same in absurd cc
 
 -- ---- what the two statements turn a store's content into
 pub record GainsAll (rows : List ObjectEntry) (c c' : Content) : Type 0 where
@@ -134,14 +133,13 @@ images_more f rows at r images now image lt is more same before =
 -- where no key has an object
 pub free_images : (s : State) (es : List Entry) (rows : List ObjectEntry) → AreRowsOf es rows → AllByRecursion (λ k. s.content k ≡ None) (keys_of (map with_object es)) → map no_image rows ≡ map (image_now s) rows
 free_images s [] [] are free = refl
-free_images s [] (r ∷ rows) are free = let no = are.same in absurd cc
-free_images s (e ∷ es) [] are free = let no = are.same in absurd cc
 free_images s (e ∷ es) (r ∷ rows) are free =
     let (same, others) = other_rows e es r rows are in
     let kinds : kind_rank e.0.kind ≡ r.kind = ap (λ (t : RowOf). t.0) same in
     let texts : e.0.text ≡ r.key = ap (λ (t : RowOf). t.1) same in
     let none : record_at s.content r.kind r.key ≡ None = rw (← kinds, ← texts) (record_here s.content e.0 ∙ ap (option_and_then record_of) free.0) in
     ap₂ (λ (b : Option (List ℕ)) (l : List ImageEntry). record { kind = r.kind; key = r.key; bytes = b } ∷ l) (sym none) (free_images s es rows others free.1)
+free_images s _ _ are free = let no = are.same in absurd cc
 
 -- ---- and into tables and before-images
 -- at each key of the tables, if so at those of a kind and at those of none
@@ -200,8 +198,7 @@ module _ {es : List Entry} {rows : List ObjectEntry} (are : AreRowsOf es rows) {
   } where
     branch : (a b : Bool) (v : Option (List ℕ)) (x : Option (Option (List ℕ))) → cond a (option_or (cond b (Some v) None) x) x ≡ cond (a && b) (Some v) x
     branch true true v x = refl
-    branch true false v x = refl
-    branch false b v x = refl
+    branch _ b v x = refl
 
     gained : (p n : ℕ) (text : List ℕ) (x : Option (Option (List ℕ))) → (if step == p then option_or (image_entry_at n text images) x else x) ≡ (if (step == p) && has_entry n text rows then Some (record_at s.content n text) else x)
     gained p n text x = ap (λ o. if step == p then option_or o x else x) (ap (image_entry_at n text) is ∙ images_found s rows n text) ∙ branch (step == p) (has_entry n text rows) (record_at s.content n text) x

@@ -52,14 +52,12 @@ order_is rows es up same =
 -- ---- the last one
 
 last_of_entries : (es : List Entry) → last_text es ≡ option_map (λ (t : Shown). t.1) (last_or None (map entry_row es))
-last_of_entries [] = refl
-last_of_entries (e ∷ []) = refl
 last_of_entries (e ∷ f ∷ es) = last_of_entries (f ∷ es)
+last_of_entries _ = refl
 
 last_of_rows : (rows : List ObjectEntry) → last_key rows ≡ option_map (λ (t : Shown). t.1) (last_or None (map stored_row rows))
-last_of_rows [] = refl
-last_of_rows (r ∷ []) = refl
 last_of_rows (r ∷ s ∷ rows) = last_of_rows (s ∷ rows)
+last_of_rows _ = refl
 
 last_is : (rows : List ObjectEntry) (es : List Entry) → map entry_row es ≡ map stored_row rows → last_key rows ≡ last_text es
 last_is rows es same = last_of_rows rows ∙ ap (λ ts. option_map (λ (t : Shown). t.1) (last_or None ts)) (sym same) ∙ sym (last_of_entries es)

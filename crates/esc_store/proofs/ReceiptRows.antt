@@ -13,7 +13,7 @@ use Rattle.esc_rows.specs.Rows.{ReceiptRow}
 use Rattle.esc_rows.specs.Content.{Content}
 use Rattle.esc_rows.specs.Changes.{is_of_verdict, ListsRows}
 use Rattle.esc_store.specs.declared.reply.Verdict.{Verdict}
-use Rattle.esc_store.specs.declared.reply.Verdict.TheVariants.{A1, A2, A3, A4, A5}
+use Rattle.esc_store.specs.declared.reply.Verdict.TheVariants.{A1}
 use Rattle.esc_store.specs.Decoded.{AreOnce}
 use Rattle.esc_store.specs.Kept.{Kept, IsRising, SaysHeld, AreHeldBy}
 use Rattle.esc_store.specs.ReplyValue.{ReceiptValue}
@@ -92,10 +92,7 @@ row_of r = r.row
 
 is_a1 : (v : Verdict) → verdict_number v ≡ 1 → v ≡ A1
 is_a1 A1 is = refl
-is_a1 A2 is = absurd (omega (arith, is))
-is_a1 (A3 n) is = absurd (omega (arith, is))
-is_a1 A4 is = absurd (omega (arith, is))
-is_a1 A5 is = absurd (omega (arith, is))
+is_a1 _ is = absurd (omega (arith, is))
 
 abbrev rows_named : List ReceiptRow → List (Option ℕ)
 rows_named rs = map row_in (filter (is_of_verdict 1) rs)

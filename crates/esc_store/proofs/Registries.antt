@@ -1,5 +1,5 @@
 -- What the statements on objects and before-images do to tables and before-images by keys.
-use Rattle.std.proofs.Common.{◌≡◌, inl, inr, ℕ, Bool, true, false, List, [], Option, None, Some, refl, sym, ap, subst, ◌∙◌, arith}
+use Rattle.std.proofs.Common.{◌≡◌, inl, inr, ℕ, Bool, true, false, List, [], ◌++◌, Option, None, Some, refl, sym, ap, subst, ◌∙◌, arith}
 use Rattle.std.specs.Prelude.{◌==◌, if◌then◌else◌, bytes_eq, option_map, IsSome, IfSome}
 use Rattle.std.specs.Option.{option_and_then}
 use Rattle.std.proofs.lemmas.Bool.{cases_Bool, eqb-true, and_parts}
@@ -29,11 +29,7 @@ use Rattle.esc_store.proofs.Parts.{Turns, turning}
 
 pub kind_back : (kind : Kind) → kind_at (kind_rank kind) ≡ Some kind
 kind_back Registrar = refl
-kind_back Contact = refl
-kind_back Host = refl
-kind_back Domain = refl
-kind_back Idn = refl
-kind_back Nndn = refl
+kind_back _ = refl
 
 some_kind : (a b : Kind) → Some a ≡ Some b → a ≡ b
 some_kind a b h = cc

@@ -7,7 +7,7 @@ use Rattle.esc_rows.specs.Rows.{ReceiptRow}
 use Rattle.esc_rows.specs.Content.{Content}
 use Rattle.esc_rows.specs.Changes.{verdict_digests}
 use Rattle.esc_store.specs.declared.reply.Verdict.{Verdict}
-use Rattle.esc_store.specs.declared.reply.Verdict.TheVariants.{A1, A2, A3, A4, A5}
+use Rattle.esc_store.specs.declared.reply.Verdict.TheVariants.{A2, A5}
 use Rattle.esc_store.specs.Decoded.{IsOfVerdict, AreOfVerdict}
 use Rattle.esc_store.specs.Kept.{Kept, is_unlisted, TellsUnlisted, AreUnlisted}
 use Rattle.esc_store.specs.ReplyValue.{ReceiptValue}
@@ -31,25 +31,17 @@ are_of_verdict v k c digests books is d =
 -- ---- of both
 
 is_either : (w : Verdict) → is_unlisted w ≡ true → (verdict_number w ≡ 2) ⊎ (verdict_number w ≡ 5)
-is_either A1 is = absurd (true≢false (sym is))
 is_either A2 is = inl refl
-is_either (A3 n) is = absurd (true≢false (sym is))
-is_either A4 is = absurd (true≢false (sym is))
 is_either A5 is = inr refl
+is_either _ is = absurd (true≢false (sym is))
 
 is_second : (w : Verdict) → verdict_number w ≡ 2 → is_unlisted w ≡ true
-is_second A1 is = absurd (omega (arith, is))
 is_second A2 is = refl
-is_second (A3 n) is = absurd (omega (arith, is))
-is_second A4 is = absurd (omega (arith, is))
-is_second A5 is = refl
+is_second _ is = absurd (omega (arith, is))
 
 is_fifth : (w : Verdict) → verdict_number w ≡ 5 → is_unlisted w ≡ true
-is_fifth A1 is = absurd (omega (arith, is))
-is_fifth A2 is = refl
-is_fifth (A3 n) is = absurd (omega (arith, is))
-is_fifth A4 is = absurd (omega (arith, is))
 is_fifth A5 is = refl
+is_fifth _ is = absurd (omega (arith, is))
 
 module _ (rs : List ReceiptValue) (firsts seconds : List (List ℕ)) (first : AreOfVerdict 2 rs firsts) (second : AreOfVerdict 5 rs seconds) (d : List ℕ) where
   told : Contains (firsts ++ seconds) d → Any (TellsUnlisted d) rs
