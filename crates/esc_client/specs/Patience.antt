@@ -1,5 +1,5 @@
 -- How long a client is waited for (this project's profile).
-use Rattle.std.specs.Prelude.{ℕ, ◌≡◌, ◌+◌, ◌-◌, ◌*◌, ◌/◌, ◌≤◌, min}
+use Rattle.std.specs.Prelude.{ℕ, ◌≡◌, ◌+◌, ◌-◌, ◌*◌, ◌/◌, ◌^◌, ◌≤◌, min}
 use Rattle.std.specs.Duration.{as_nanos}
 use Rattle.esc_client.specs.declared.patience.Patience.{Patience}
 
@@ -35,6 +35,10 @@ IsOver patience = granted patience ≤ waited patience
 -- the nanoseconds that the next wait may last
 abbrev pub next_wait : Patience → ℕ
 next_wait patience = min (pause patience) (granted patience - waited patience)
+
+-- so many bytes more have come or gone, counted up to 2^64 - 1
+abbrev pub HasMoved : ℕ → Patience → Patience → Type 0
+HasMoved bytes old new = moved new ≡ min (moved old + bytes) (2 ^ 64 - 1)
 
 -- no byte has come or gone, and the client has not been waited for
 abbrev pub IsNew : Patience → Type 0

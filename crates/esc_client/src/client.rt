@@ -1,10 +1,10 @@
 //! A client's connection.
 
-ghost use Rattle.std.specs.Prelude.{◌≡◌, None, IsErr, IfOk};
+ghost use Rattle.std.specs.Prelude.{◌≡◌, None, IsErr, IfOk, OnOk};
 ghost use Rattle.std.specs.Duration.{as_nanos};
 ghost use Rattle.std.specs.Io.{ReadsAtMost, WritesAtMost};
 ghost use Rattle.std.specs.Io.KnownBytes.{ReadConsumes, WriteAppends};
-ghost use Rattle.esc_client.specs.Patience.{IsOver, next_wait};
+ghost use Rattle.esc_client.specs.Patience.{IsOver, HasMoved, next_wait};
 
 use crate::patience::Patience;
 use std::io::{Error, ErrorKind, Read, Result, Write};
@@ -60,7 +60,10 @@ impl<'a, C: Clock, S: Timed + Drop> Client<'a, C, S> {
     }
 
     // Counts a wait that began at `begun`, with the bytes that came or went in it.
-    fn count(&mut self, begun: Instant, moved: &Result<usize>) -> Result<()> {
+    fn count(&mut self, begun: Instant, moved: &Result<usize>) -> Result<()>
+        ensures { OnOk result
+            (IfOk moved.now (λ bytes. HasMoved bytes self.old.patience self.new.patience)) }
+    {
         let bytes = match moved {
             Ok(bytes) => *bytes,
             Err(_) => 0,
@@ -76,6 +79,8 @@ impl<C: Clock, S: Read + Timed + Drop> Read for Client<'_, C, S> {
         ensures bound { ReadsAtMost result buf.new }
         ensures bytes { ReadConsumes None None result buf.new }
         ensures over { IsOver self.old.patience → IsErr result }
+        ensures moved { IfOk result
+            (λ bytes. HasMoved bytes self.old.patience self.new.patience) }
     {
         self.stream.limit_reads(self.next_wait()?)?;
         let begun = Instant::now(self.clock)?;
@@ -90,6 +95,8 @@ impl<C: Clock, S: Write + Timed + Drop> Write for Client<'_, C, S> {
         ensures bound { WritesAtMost result buf.now }
         ensures bytes { WriteAppends None None result buf.now }
         ensures over { IsOver self.old.patience → IsErr result }
+        ensures moved { IfOk result
+            (λ bytes. HasMoved bytes self.old.patience self.new.patience) }
     {
         self.stream.limit_writes(self.next_wait()?)?;
         let begun = Instant::now(self.clock)?;

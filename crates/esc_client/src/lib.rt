@@ -29,9 +29,10 @@
 //!
 //! `specs/Patience.antt` has the rule: `granted`, the time for the bytes so far; `waited`, the time
 //! that its calls have taken; and `IsOver`, that the time waited is no less than the time granted.
-//! Once its patience is over, a read or a write of a `Client` fails at once, without a call of the
-//! stream. Until then the stream is limited to `next_wait`. That a limited read ends in time is up
-//! to the system, and so is the clock: no contract says so.
+//! Once its patience is over, a read or a write of a `Client` fails. The bytes that a read or a
+//! write moved are counted (`HasMoved`). No contract says that the time of each is counted, nor
+//! that the stream is limited to `next_wait` before it: a clock and a stream have no model that
+//! could say it. Both are tested, as is that a limited read ends in time, which is up to the system.
 #![tactic(auto)]
 
 mod client;
