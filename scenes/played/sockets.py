@@ -186,6 +186,28 @@ def broken_connections(stage):
             compare_responses((AROUND, AROUND), served(stage, 'a.db', 4, responses_around_broken, told, **streams))
 
 
+# For how many seconds a client that sends nothing more is waited for.
+GRANTED = 10
+
+
+def responses_beside_silent(port):
+    """The response to a request, while a client that came before sends the beginning of one and then nothing more."""
+    with socket.create_connection((HOST, port), SECONDS) as silent:
+        silent.sendall(AROUND[0][:8].encode())
+        begun = time.monotonic()
+        responses = responses_of(port, AROUND[:1])
+        waited = time.monotonic() - begun
+    if waited < GRANTED - 1:
+        raise Failed(f'the silent client was waited for {waited:.1f} seconds')
+    return responses
+
+
+def silent_client(stage):
+    """A client that sends nothing more is given up in time, and the next one is served."""
+    set_up(stage)
+    compare_responses((AROUND,), served(stage, 'a.db', 2, responses_beside_silent, 'read fault\n'))
+
+
 def taken_port(stage):
     """A port that is taken."""
     set_up(stage)
@@ -230,4 +252,4 @@ def no_more_files(stage):
     stage.compare(line, Wanted(3, listening, f'E1 {HOST}:{port}\n'), Got(got.status, said + got.out, got.err))
 
 
-SCENES = (connections, unwanted_body, broken_connections, taken_port, no_more_files)
+SCENES = (connections, unwanted_body, broken_connections, silent_client, taken_port, no_more_files)
