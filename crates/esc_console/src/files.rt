@@ -6,6 +6,7 @@ ghost use Rattle.std.specs.List.Sorted.{IsSorted};
 use std::alloc::{AllocError, Global};
 use std::fs::{self, DirEntry, File, Metadata};
 use std::io::{Error, ErrorKind, Read};
+use std::os::unix::fs::MetadataExt;
 
 /// What is made of a link at a path.
 #[derive(Clone, Copy)]
@@ -50,25 +51,31 @@ pub fn read_front(rt: &HostRuntime, path: &str, links: Links, most: u64) -> Resu
         Links::Followed => fs::metadata(rt, path)?,
         Links::Refused => fs::symlink_metadata(rt, path)?,
     };
-    check_plain(&found)?;
-    open_and_read(rt, path, most)
+    check(found.is_file())?;
+    open_and_read(rt, path, &found, most)
 }
 
-fn check_plain(found: &Metadata) -> Result<(), Error> {
-    if found.is_file() {
+fn check(is_readable: bool) -> Result<(), Error> {
+    if is_readable {
         Ok(())
     } else {
         Err(Error::from(ErrorKind::Unsupported))
     }
 }
 
-// What was opened is looked at again: the path may have come to name something else.
-fn open_and_read(rt: &HostRuntime, path: &str, most: u64) -> Result<Vec<u8>, Error> {
+// What was opened is looked at again: the path may have come to name something else than what was
+// found there, such as a link.
+fn open_and_read(
+    rt: &HostRuntime,
+    path: &str,
+    found: &Metadata,
+    most: u64,
+) -> Result<Vec<u8>, Error> {
     let file = File::open(rt, path)?;
-    let found = file.metadata()?;
-    check_plain(&found)?;
+    let opened = file.metadata()?;
+    check(opened.is_file() && opened.dev() == found.dev() && opened.ino() == found.ino())?;
     let limit = most.saturating_add(1);
-    let mut bytes = room_for(rt.alloc(), found.len().min(limit))?;
+    let mut bytes = room_for(rt.alloc(), opened.len().min(limit))?;
     file.take(limit).read_to_end(&mut bytes)?;
     Ok(bytes)
 }
