@@ -7,6 +7,7 @@ use esc_flaky::{FailingReader, FailingWriter};
 use esc_http::{ServeFault, serve_one};
 use sqlite::Alter;
 use std::alloc::Global;
+use std::fmt::Write;
 use std::fs;
 use std::test::Fail;
 
@@ -64,16 +65,22 @@ fn served<S: Alter>(
     Ok((fault, writer.into_text()))
 }
 
+/// Whether the response went out whole, or why it didn't.
+pub fn tell_served(text: &mut String, fault: Option<ServeFault>) -> Result<(), Fail> {
+    match fault {
+        None => text.push_str("served")?,
+        Some(fault) => write!(text, "{fault}")?,
+    }
+    Ok(())
+}
+
 fn tell_response(
     text: &mut String,
     fault: Option<ServeFault>,
     response: &[u8],
 ) -> Result<(), Fail> {
-    text.push_str(match fault {
-        None => "served\nx",
-        Some(ServeFault::Read) => "read fault\nx",
-        Some(ServeFault::Write) => "write fault\nx",
-    })?;
+    tell_served(text, fault)?;
+    text.push_str("\nx")?;
     tell_bytes(text, response)?;
     text.push_str("\n")?;
     Ok(())

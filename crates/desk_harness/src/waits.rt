@@ -1,10 +1,11 @@
 //! Clients that are waited for, by a clock that moves only while one is.
 
+use crate::requests::tell_served;
 use crate::streams::split;
 use esc_client::{Client, Patience, Timed};
 use esc_desk::Desk;
 use esc_flaky::FailingWriter;
-use esc_http::{ServeFault, serve_one};
+use esc_http::serve_one;
 use sqlite::Alter;
 use std::alloc::Global;
 use std::cell::Cell;
@@ -114,15 +115,6 @@ fn client_of<'a>(hands: &'a Hands, words: &str, rest: &'a [u8]) -> Result<Slow<'
     })
 }
 
-fn tell_fault(text: &mut String, fault: Option<ServeFault>) -> Result<(), Fail> {
-    text.push_str(match fault {
-        None => "served",
-        Some(ServeFault::Read) => "read fault",
-        Some(ServeFault::Write) => "write fault",
-    })?;
-    Ok(())
-}
-
 // Serves a request that comes slowly: what came of it, and how many bytes the response has.
 fn tell_slow<S: Alter + Drop>(
     alloc: Global,
@@ -137,7 +129,7 @@ fn tell_slow<S: Alter + Drop>(
     if writer.wants_memory() {
         return Err(Fail::new("a writer: OutOfMemory"));
     }
-    tell_fault(text, fault)?;
+    tell_served(text, fault)?;
     write!(text, ", {} bytes", writer.into_text().len())?;
     Ok(())
 }
@@ -153,7 +145,7 @@ fn tell_taken<S: Alter + Drop>(
     let mut request = client.rest;
     let mut writer = Client::new(hands, client, Patience::for_response());
     let fault = serve_one(alloc, desk, &mut request, &mut writer).err();
-    tell_fault(text, fault)
+    tell_served(text, fault)
 }
 
 // Reads what a client sends after it has its response, byte by byte, until that fails.
