@@ -156,6 +156,11 @@ def files_of(stem):
     return [f'{stem}-1.csv', f'{stem}.csv']
 
 
+def others_of(stem):
+    """The names of files that begin with the stem of a table of deletes, and with no dash or dot after it."""
+    return [stem, f'{stem}d.csv', f'{stem}s-1.csv']
+
+
 def proposed(tables, front=''):
     """What is proposed for these tables; `front` is what the names of their sections begin with."""
     return ',\n'.join(json.dumps({
@@ -164,13 +169,17 @@ def proposed(tables, front=''):
 
 
 def descriptions_of_all_tables(stage):
-    """The description of files of all tables that are known, two of each, with a dash and a dot after what their names begin with."""
+    """The description of files of all tables that are known, and of none whose names are close to those of deletes.
+
+    There are two of each table, with a dash and a dot after what their names begin with."""
     os.mkdir(stage.at('files'))
-    for name in (name for stem, _, _ in TABLES + DELETES for name in files_of(stem)):
+    others = sorted(name for stem, _, _ in DELETES for name in others_of(stem))
+    for name in (*others, *(name for stem, _, _ in TABLES + DELETES for name in files_of(stem))):
         stage.write(f'files/{name}', ','.join(FIELDS).encode())
     front = '{"id":"ID","type":"FULL","watermark":"1970-01-01T00:00:00Z",\n'
     wanted = f'{front}"contents":[{proposed(TABLES)}],\n"deletes":[{proposed(DELETES, "deleted-")}]}}\n'
-    stage.check('describe files', Wanted(0, wanted, UNTOLD), program='pack')
+    unknown = ''.join(f'unknown file "{name}": no table is known by its name\n' for name in others)
+    stage.check('describe files', Wanted(0, wanted, UNTOLD + unknown), program='pack')
 
 
 def paths_that_are_not_plain_files(stage):

@@ -2,10 +2,12 @@
 -- files (the CSV model of RFC 9022, and this project's profile).
 use Rattle.std.specs.Prelude.{
   ◌≡◌,
+  ◌+◌,
   ℕ,
   List,
   length,
   take,
+  drop,
   Bool,
   true,
   false,
@@ -15,6 +17,8 @@ use Rattle.std.specs.Prelude.{
   not,
   nat_lt,
   slice_index,
+  nat_eq,
+  codes,
   if◌then◌else◌,
   Option,
   Some,
@@ -22,7 +26,7 @@ use Rattle.std.specs.Prelude.{
   is_some,
   Ok,
 }
-use Rattle.std.specs.List.{list_all, list_any, find, zip}
+use Rattle.std.specs.List.{list_all, list_any, find, zip, starts_with}
 use Rattle.std.specs.Str.{bytes_eq}
 use Rattle.esc_envelope.specs.EnvelopeValue.{TableValue, EnvelopeValue}
 use Rattle.esc_envelope.specs.Envelope.{envelope_of}
@@ -48,13 +52,16 @@ pub record ProposalValue : Type 0 where
   pub text : List ℕ
   pub unknown : List UnknownValue
 
--- whether a name begins with a stem and a dash or a dot after it
+-- whether a name begins with a stem and a dash or a dot after it that `delete` doesn't follow: else
+-- it is a name of deletes (domain-delete-1.csv), or close to one (domain-deleted-1.csv)
 abbrev pub is_file_of : List ℕ → List ℕ → Bool
 is_file_of stem name = nat_lt (length stem) (length name)
     && (bytes_eq (take (length stem) name) stem
-    && ((slice_index name (length stem) == 45) || (slice_index name (length stem) == 46)))
+    && (((slice_index name (length stem) == 45) || (slice_index name (length stem) == 46))
+    && not (starts_with nat_eq (drop (length stem + 1) name) (codes "delete"))))
 
--- the table that a file's name stands for: the first known one whose stem it begins with
+-- the table that a file's name stands for: the first known one that it is a file of by its stem (no
+-- name is a file of two)
 abbrev pub table_named : List ℕ → Option KnownTable
 table_named name = find (λ k. is_file_of (file_stem k) name) known_tables
 

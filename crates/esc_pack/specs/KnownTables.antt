@@ -31,8 +31,7 @@ use Rattle.esc_pack.specs.declared.known_table.KnownTable.TheVariants.{
   Nndn,
 }
 
--- all of them; those of deletes come first, since the names of their files begin with the stem of
--- another table and a dash, too (domain-delete-1.csv)
+-- all of them; a file's name stands for one at most
 unfoldable pub known_tables : List KnownTable
 known_tables =
     RegistrarDeletes ∷ ContactDeletes ∷ HostDeletes ∷ DomainDeletes ∷ IdnLanguageDeletes ∷

@@ -35,16 +35,17 @@ use crate::sources::{Source, Sources, read_sources};
 use esc_envelope::{Envelope, Table, read_envelope};
 use std::alloc::Global;
 
-// Whether a name begins with a stem and a dash or a dot after it.
+// Whether a name begins with a stem and a dash or a dot after it that `delete` doesn't follow.
 fn is_file_of(stem: &[u8], name: &[u8]) -> bool
     ensures { result ≡ is_file_of stem.now name.now }
 {
     stem.len() < name.len()
         && &name[..stem.len()] == stem
         && (name[stem.len()] == b'-' || name[stem.len()] == b'.')
+        && !name[stem.len() + 1..].starts_with(b"delete")
 }
 
-// All known tables, those of deletes first.
+// All known tables.
 #[tactic(auto, unfolding(crate::specs::KnownTables::known_tables))]
 fn all_known() -> [KnownTable; 24]
     ensures { result ≡ known_tables }
@@ -60,7 +61,8 @@ fn first_named<'a>(known: &'a [KnownTable], name: &str) -> Option<&'a KnownTable
     known.iter().find(|table| is_file_of(table.file_stem().as_bytes(), name.as_bytes()))
 }
 
-/// The known table that a file's name stands for, if any: the first whose stem it begins with.
+/// The known table that a file's name stands for, if any: the one whose stem it begins with, with a
+/// dash or a dot after it that `delete` doesn't follow.
 pub fn table_named(name: &str) -> Option<KnownTable>
     ensures { result ≡ table_named name.now }
 {

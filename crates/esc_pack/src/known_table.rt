@@ -36,8 +36,7 @@ impl KnownTable {
     ghost use Rattle.std.specs.Prelude.{◌≡◌};
     ghost use Rattle.esc_pack.specs.KnownTables.{file_stem, table_name, table_kind, is_of_deletes};
 
-    /// All of them. Those of deletes come first, since the names of their files begin with the stem
-    /// of another table and a dash, too: `domain-delete-1.csv`.
+    /// All of them. A file's name stands for one at most.
     pub const ALL: [KnownTable; 24] = [
         KnownTable::RegistrarDeletes,
         KnownTable::ContactDeletes,

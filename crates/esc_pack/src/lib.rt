@@ -29,7 +29,9 @@
 //! `describe_files` takes the files of a folder, each with its name and its bytes, and proposes a
 //! description for `bundle_of_files` where an agent sent none (`Proposal`): a text with each table
 //! that is known by the name of a file (`KnownTable`), whose fields are those of the file's first
-//! row; and the files that it doesn't name (`Unknown`), each with the reason (`Why`). What no file
+//! row; and the files that it doesn't name (`Unknown`), each with the reason (`Why`). A name begins
+//! with the stem of its table, and a dash or a dot that `delete` doesn't follow: so
+//! `domain-delete-1.csv` is a file of deletes, and `domain-deletes-1.csv` is unknown. What no file
 //! says it leaves to its reader: the id is `ID`, the type `FULL`, the watermark the beginning of
 //! 1970. It looks at the first row alone, and at that only of files whose names are known.
 //!

@@ -60,13 +60,14 @@ which is dropped:
 ";
 
 const PROPOSAL: &str = "\
-A file is known by the stem that its name begins with, with a dash or a dot after it, as in
-domain.csv and domain-20240303.csv: domain, domainContacts, domainNameServers,
-domainNameServersAddresses, domainStatuses, domainTransfer, dnssec, host, hostAddresses,
-hostStatuses, contact, contactPostal, contactStatuses, contactTransfer, contactDisclose, registrar,
-idnLanguage, NNDN; and of objects that are no longer there domain-delete, host-delete,
-contact-delete, registrar-delete, idnLanguage-delete, NNDN-delete. Its first row has to be the names
-of the fields, with the key among them. Files of one table with one heading are joined.
+A file is known by the stem that its name begins with, with a dash or a dot after it that delete
+doesn't follow, as in domain.csv and domain-20240303.csv (domain-deletes.csv is unknown): domain,
+domainContacts, domainNameServers, domainNameServersAddresses, domainStatuses, domainTransfer,
+dnssec, host, hostAddresses, hostStatuses, contact, contactPostal, contactStatuses, contactTransfer,
+contactDisclose, registrar, idnLanguage, NNDN; and of objects that are no longer there
+domain-delete, host-delete, contact-delete, registrar-delete, idnLanguage-delete, NNDN-delete. Its
+first row has to be the names of the fields, with the key among them. Files of one table with one
+heading are joined.
 
 What can't be told is said on standard error, a line each that begins with unknown: always the id,
 the type and the watermark, for which the description has ID, FULL and 1970-01-01T00:00:00Z, and
