@@ -23,7 +23,11 @@ GIVEN = (
     (True, (b'',), 'H1 files/0.csv'),
     (True, (b'id,clID\nC1,R1\nC2\n',), 'U9 files/0.csv row 2'),
     (False, (b'C1,R1\n', b'C2,R1,\n'), 'U9 files/1.csv row 1'),
-    (False, (b'C1,\xff\n',), 'U9 out'),
+    # A field that is no UTF-8, in the first row and in a later one, in a row with another number of fields, and in a heading.
+    (False, (b'C1,\xff\n',), 'U9 files/0.csv row 1'),
+    (True, (b'id,clID\nC1,R1\n', b'id,clID\nC2,R1\n\n\xc4,R1\nC4\n'), 'U9 files/1.csv row 2'),
+    (False, (b'C1,R1\nC2,\xff,\n',), 'U9 files/0.csv row 2'),
+    (True, (b'id,cl\xcfD\nC1,R1\n',), 'H1 files/0.csv'),
     (False, (b',R1\n',), 'U10 out'),
 )
 HEADER = b'{"id":"F1","type":"FULL","watermark":"2024-03-03T00:00:00Z"}'

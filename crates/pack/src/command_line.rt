@@ -41,10 +41,11 @@ Without a description, one is proposed by the names of the files and their headi
     pack describe files > envelope.json
 
 Refusals go to standard error: E1 PATH (can't be read or written), E2 PATH (over 16,777,216 bytes),
-U1 to U11 with the path (the bundle is no deposit), M1, M7 and M10 to M13 with the row (no manifest
-lists these deposits; rows count from 1, in the order of places), H1 PATH (another heading than the
-declared fields), H2 PATH (rows that begin with a byte order mark), H3 PATH (no description of the
-folder), S2 (no memory).
+U1 to U11 with the path (the bundle is no deposit), U9 PATH row 12 (a row of this file has another
+number of fields than declared, or a field that is no UTF-8; rows count from 1, after a heading),
+M1, M7 and M10 to M13 with the row (no manifest lists these deposits; rows count from 1, in the
+order of places), H1 PATH (another heading than the declared fields), H2 PATH (rows that begin with
+a byte order mark), H3 PATH (no description of the folder), S2 (no memory).
 Status: 0 done; 1 refused by E2, U, M or H; 2 other words; 3 stopped by E1 or S2.
 ";
 

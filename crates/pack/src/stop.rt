@@ -23,7 +23,7 @@ pub enum Refusal {
     Unread(u8),
     /// It begins with another row than the names of the declared fields.
     Heading,
-    /// This row has another number of fields than declared.
+    /// This row has another number of fields than declared, or one that is no UTF-8.
     Row(usize),
     /// The rows of a table, of which it is the first file, begin with a byte order mark.
     Marked,
