@@ -31,6 +31,8 @@ GIVEN = (
     (False, (b',R1\n',), 'U10 out'),
 )
 HEADER = b'{"id":"F1","type":"FULL","watermark":"2024-03-03T00:00:00Z"}'
+# One more table of the sample, from its declaration's front to its section's name.
+MORE = b'},{"name":"more","kind":"contact","role":"child","key":"id","fields":["id","clID"],"file":"c.csv"'
 # Descriptions, files, and what follows the description in their bundle, or the refusal.
 DESCRIBED = (
     # The description of the sample as it is.
@@ -41,8 +43,7 @@ DESCRIBED = (
     (b'{"id":"F1","type":"FULL"}', {}, 'U6 envelope.json'),
     # A section whose name has a capital, and one that occurs twice.
     (ENVELOPE.replace(b'c.csv', b'C.csv'), {'C.csv': b'C1,R1\n'}, 'U2 out'),
-    (ENVELOPE.replace(b'}]}', b'},{"name":"more","kind":"contact","role":"child","key":"id","fields":["id","clID"],"file":"c.csv"}]}'),
-     {'c.csv': b'C1,R1\n'}, 'U3 out'),
+    (ENVELOPE.replace(b'}]}', MORE + b',"from":["d.csv"]}]}'), {'c.csv': b'C1,R1\n', 'd.csv': b'C1,R1\n'}, 'U3 out'),
     # Sections whose names have all forms, and whose rows look like lines of a bundle.
     (envelope_of(FILES),
      {'a': b'end\n', 'b.csv': b'c.csv 1\r\nx', 'c-d': b'"\n"\n', 'e_f': b'"\n\n"\n', '0': b'\0\n', '1.2': b'\xc3\xa9\n',
@@ -50,6 +51,22 @@ DESCRIBED = (
      b'a 4\nend\n\nb.csv 10\nc.csv 1\nx\n\nc-d 4\n"\n"\n\ne_f 5\n"\n\n"\n\n0 2\n\0\n\n1.2 3\n\xc3\xa9\n\n'
      b'zzzzzzzzzzzzzzzzzzzzzzzzzzzzzzzz 6\nC1,R1\n\nend 16\nescrow-bundle 1\n\ng 11\n0123456789\n\nend\n'),
 )
+# Names of the files of a table, of which one is a path, or is there twice. All of them lead to a file but the empty one and the folders.
+OUTSIDE = (
+    ('',),
+    ('.',),
+    ('..',),
+    ('../envelope.json',),
+    ('./c.csv',),
+    ('/c.csv',),
+    ('a/c.csv',),
+    ('a/../c.csv',),
+    ('c.csv', 'a/c.csv'),
+    ('c.csv', 'c.csv'),
+    ('c.csv', 'd.csv', 'c.csv'),
+)
+# Names of files that look like these.
+INSIDE = ('...', '..c.csv', '.c', 'c.', '~', '\\c.csv')
 # Names of files, and how they are printed: on one line. Control characters are escaped as Rust writes them, and so are the backslashes of
 # a name that has one.
 NAMES = (
@@ -133,6 +150,25 @@ def bundles_of_descriptions(stage):
         check_bundle(stage, f'{description}', description, files, wanted)
 
 
+def names_of_files_in_the_folder(stage):
+    """The names of a table's files: those of files in DIR, each there once.
+
+    Where the description has a fault as an envelope, too, it is refused for that."""
+    os.makedirs(stage.at('files/a'))
+    files = {name: b'C1,R1\n' for name in ('c.csv', 'd.csv', 'a/c.csv', *INSIDE)}
+    for names in OUTSIDE:
+        check_bundle(stage, f'the files {names}', description_of(False, names), files, 'U7 envelope.json')
+    for name in INSIDE:
+        check_bundle(stage, f'the file {name!r}', description_of(False, [name]), files, b'c.csv 6\nC1,R1\n\nend\n')
+    # Without `from`, by `file`; in two tables, of which the second has the sample's file by either member.
+    two = ENVELOPE.replace(b'}]}', MORE + b'}]}')
+    for description in (ENVELOPE.replace(b'c.csv', b'a/c.csv'), two, two.replace(b'}]}', b',"from":["c.csv"]}]}'),
+                        two.replace(b'},{', b',"from":["c.csv"]},{').replace(b'}]}', b',"from":["d.csv","c.csv"]}]}')):
+        check_bundle(stage, f'{description}', description, files, 'U7 envelope.json')
+    nameless = description_of(False, ['../envelope.json']).replace(b'"id":"F1"', b'"id":1')
+    check_bundle(stage, 'an envelope without an id', nameless, files, 'U6 envelope.json')
+
+
 def bundles_that_would_be_too_long(stage):
     """A description, or the rows of two files, for which a bundle has no place."""
     os.mkdir(stage.at('files'))
@@ -189,5 +225,5 @@ def paths_that_are_not_plain_files(stage):
     stage.check('describe files/pipe', Wanted(3, '', 'E1 files/pipe\n'), program='pack')
 
 
-SCENES = (bundles_of_files, bundles_of_descriptions, bundles_that_would_be_too_long, names_on_one_line, descriptions_of_all_tables,
-          paths_that_are_not_plain_files)
+SCENES = (bundles_of_files, bundles_of_descriptions, names_of_files_in_the_folder, bundles_that_would_be_too_long, names_on_one_line,
+          descriptions_of_all_tables, paths_that_are_not_plain_files)

@@ -53,7 +53,7 @@ const DESCRIPTION: &str = "\
 The description is the bundle's envelope, with two more members that a table may have: \"from\", an
 array of the names of its files in DIR, whose rows follow each other (without it the one that
 \"file\" names); and \"heading\", true where each of them begins with a row of the fields' names,
-which is dropped:
+which is dropped. A name has no slash, and is there once in a description:
 
     {\"id\":\"F1\",\"type\":\"FULL\",\"watermark\":\"2024-03-03T00:00:00Z\",\"contents\":[
     {\"name\":\"contact\",\"kind\":\"contact\",\"role\":\"parent\",\"key\":\"id\",\"fields\":[\"id\",\"clID\"],
