@@ -1,7 +1,7 @@
 """Bundles that `pack` makes of an agent's files and of their description, and what it refuses."""
 import json, os
 
-from played.bundles import ENVELOPE, FILES, FIRST_LINE, envelope_of, section
+from played.bundles import ENVELOPE, FILES, FIRST_LINE, bundle_of, envelope_of, section
 from played.rows import compare
 from scening.stage import Wanted, case
 
@@ -51,6 +51,28 @@ DESCRIBED = (
      b'a 4\nend\n\nb.csv 10\nc.csv 1\nx\n\nc-d 4\n"\n"\n\ne_f 5\n"\n\n"\n\n0 2\n\0\n\n1.2 3\n\xc3\xa9\n\n'
      b'zzzzzzzzzzzzzzzzzzzzzzzzzzzzzzzz 6\nC1,R1\n\nend 16\nescrow-bundle 1\n\ng 11\n0123456789\n\nend\n'),
 )
+# What is said of the bundles n1, n2 and so on, and what each says of itself: its id, type, day and prevId, and its resend. Rows are in the order
+# of days, on one day in that of DIFF and FULL, and at one place in that of resends.
+UNLISTED = (
+    # Without a prevId. It is the first row, and M7 is less than M10.
+    ('M7 n2 row 1', (('F1', 'FULL', 3, None, 0), ('D2', 'DIFF', 2, None, 0))),
+    ('M7 n1 row 1', (('D1', 'DIFF', 3, None, 0), ('D1', 'DIFF', 3, None, 0))),
+    # One place and resend. At one place and resend the rows are in the order of the words.
+    ('M10 n3 row 3 against n1', (('F5', 'FULL', 5, None, 0), ('F3', 'FULL', 3, None, 0), ('X5', 'FULL', 5, None, 0))),
+    ('M10 n3 row 3 against n1', (('F1', 'FULL', 3, None, 1), ('F1', 'FULL', 3, None, 0), ('F1', 'FULL', 3, None, 1))),
+    ('M10 n4 row 4 against n2', (('F1', 'FULL', 4, None, 1), ('F1', 'FULL', 4, None, 2), ('F1', 'FULL', 3, None, 2), ('F1', 'FULL', 4, None, 2))),
+    # One id in two places.
+    ('M11 n1 row 2 against n2', (('F1', 'FULL', 4, None, 0), ('F1', 'FULL', 3, None, 0))),
+    ('M11 n1 row 3 against n3', (('F1', 'FULL', 5, None, 0), ('F2', 'FULL', 4, None, 0), ('F1', 'FULL', 3, None, 0))),
+    ('M11 n1 row 3 against n2', (('F1', 'FULL', 3, None, 1), ('F1', 'INCR', 3, None, 0), ('F1', 'INCR', 3, None, 1))),
+    # A base that isn't earlier: a later one, one of the same day, and the Differential itself.
+    ('M12 n1 row 1 against n2', (('D2', 'DIFF', 3, 'F3', 0), ('F3', 'FULL', 4, None, 0))),
+    ('M12 n2 row 1 against n1', (('F1', 'FULL', 3, None, 0), ('D2', 'DIFF', 3, 'F1', 0))),
+    ('M12 n3 row 2 against n1', (('F4', 'FULL', 4, None, 1), ('F1', 'FULL', 2, None, 0), ('D3', 'DIFF', 3, 'F4', 0))),
+    ('M12 n1 row 1', (('D1', 'DIFF', 3, 'D1', 0),)),
+)
+# How many rows a manifest has at most.
+MOST_ROWS = 4_096
 # Names of the files of a table, of which one is a path, or is there twice. All of them lead to a file but the empty one and the folders.
 OUTSIDE = (
     ('',),
@@ -189,6 +211,28 @@ def names_on_one_line(stage):
         with case(f'{name!r}, as a bundle'):
             wanted = Wanted(1, '', f'U1 files/{told}\n')
             stage.check(f'manifest files/{name!r}', wanted, ['manifest', f'files/{name}'], program='pack')
+        with case(f'{name!r}, as a bundle that is listed twice'):
+            stage.write(f'files/{name}', bundle_of(HEADER))
+            wanted = Wanted(1, '', f'M10 files/{told} row 2 against files/{told}\n')
+            stage.check(f'manifest files/{name!r} files/{name!r}', wanted, ['manifest', *[f'files/{name}'] * 2], program='pack')
+
+
+def deposit_of(name, kind, day, prev, resend):
+    """A bundle without tables."""
+    header = {'id': name, 'type': kind, 'watermark': f'2024-03-{day:02}T00:00:00Z', 'prevId': prev, 'resend': resend}
+    return bundle_of(json.dumps(header).encode())
+
+
+def bundles_that_no_manifest_lists(stage):
+    """The bundles whose rows contradict each other, and more than a manifest has rows."""
+    for told, deposits in UNLISTED:
+        names = [f'n{at}' for at in range(1, len(deposits) + 1)]
+        for name, deposit in zip(names, deposits):
+            stage.write(name, deposit_of(*deposit))
+        with case(f'{deposits}'):
+            stage.check(f'manifest {" ".join(names)}', Wanted(1, '', f'{told}\n'), program='pack')
+    with case('one bundle too many'):
+        stage.check('manifest n1 n1 ..', Wanted(1, '', 'M1 row 0\n'), ['manifest', *['n1'] * (MOST_ROWS + 1)], program='pack')
 
 
 def files_of(stem):
@@ -226,4 +270,4 @@ def paths_that_are_not_plain_files(stage):
 
 
 SCENES = (bundles_of_files, bundles_of_descriptions, names_of_files_in_the_folder, bundles_that_would_be_too_long, names_on_one_line,
-          descriptions_of_all_tables, paths_that_are_not_plain_files)
+          bundles_that_no_manifest_lists, descriptions_of_all_tables, paths_that_are_not_plain_files)
