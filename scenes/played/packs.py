@@ -1,7 +1,7 @@
 """Bundles that `pack` makes of an agent's files and of their description, and what it refuses."""
 import json, os
 
-from played.bundles import ENVELOPE, FILES, FIRST_LINE, envelope_of, section
+from played.bundles import ENVELOPE, FILES, FIRST_LINE, bundle_of, envelope_of, section
 from played.rows import compare
 from scening.stage import Wanted, case
 
@@ -23,10 +23,16 @@ GIVEN = (
     (True, (b'',), 'H1 files/0.csv'),
     (True, (b'id,clID\nC1,R1\nC2\n',), 'U9 files/0.csv row 2'),
     (False, (b'C1,R1\n', b'C2,R1,\n'), 'U9 files/1.csv row 1'),
-    (False, (b'C1,\xff\n',), 'U9 out'),
+    # A field that is no UTF-8, in the first row and in a later one, in a row with another number of fields, and in a heading.
+    (False, (b'C1,\xff\n',), 'U9 files/0.csv row 1'),
+    (True, (b'id,clID\nC1,R1\n', b'id,clID\nC2,R1\n\n\xc4,R1\nC4\n'), 'U9 files/1.csv row 2'),
+    (False, (b'C1,R1\nC2,\xff,\n',), 'U9 files/0.csv row 2'),
+    (True, (b'id,cl\xcfD\nC1,R1\n',), 'H1 files/0.csv'),
     (False, (b',R1\n',), 'U10 out'),
 )
 HEADER = b'{"id":"F1","type":"FULL","watermark":"2024-03-03T00:00:00Z"}'
+# One more table of the sample, from its declaration's front to its section's name.
+MORE = b'},{"name":"more","kind":"contact","role":"child","key":"id","fields":["id","clID"],"file":"c.csv"'
 # Descriptions, files, and what follows the description in their bundle, or the refusal.
 DESCRIBED = (
     # The description of the sample as it is.
@@ -37,8 +43,7 @@ DESCRIBED = (
     (b'{"id":"F1","type":"FULL"}', {}, 'U6 envelope.json'),
     # A section whose name has a capital, and one that occurs twice.
     (ENVELOPE.replace(b'c.csv', b'C.csv'), {'C.csv': b'C1,R1\n'}, 'U2 out'),
-    (ENVELOPE.replace(b'}]}', b'},{"name":"more","kind":"contact","role":"child","key":"id","fields":["id","clID"],"file":"c.csv"}]}'),
-     {'c.csv': b'C1,R1\n'}, 'U3 out'),
+    (ENVELOPE.replace(b'}]}', MORE + b',"from":["d.csv"]}]}'), {'c.csv': b'C1,R1\n', 'd.csv': b'C1,R1\n'}, 'U3 out'),
     # Sections whose names have all forms, and whose rows look like lines of a bundle.
     (envelope_of(FILES),
      {'a': b'end\n', 'b.csv': b'c.csv 1\r\nx', 'c-d': b'"\n"\n', 'e_f': b'"\n\n"\n', '0': b'\0\n', '1.2': b'\xc3\xa9\n',
@@ -46,6 +51,44 @@ DESCRIBED = (
      b'a 4\nend\n\nb.csv 10\nc.csv 1\nx\n\nc-d 4\n"\n"\n\ne_f 5\n"\n\n"\n\n0 2\n\0\n\n1.2 3\n\xc3\xa9\n\n'
      b'zzzzzzzzzzzzzzzzzzzzzzzzzzzzzzzz 6\nC1,R1\n\nend 16\nescrow-bundle 1\n\ng 11\n0123456789\n\nend\n'),
 )
+# What is said of the bundles n1, n2 and so on, and what each says of itself: its id, type, day and prevId, and its resend. Rows are in the order
+# of days, on one day in that of DIFF and FULL, and at one place in that of resends.
+UNLISTED = (
+    # Without a prevId. It is the first row, and M7 is less than M10.
+    ('M7 n2 row 1', (('F1', 'FULL', 3, None, 0), ('D2', 'DIFF', 2, None, 0))),
+    ('M7 n1 row 1', (('D1', 'DIFF', 3, None, 0), ('D1', 'DIFF', 3, None, 0))),
+    # One place and resend. At one place and resend the rows are in the order of the words.
+    ('M10 n3 row 3 against n1', (('F5', 'FULL', 5, None, 0), ('F3', 'FULL', 3, None, 0), ('X5', 'FULL', 5, None, 0))),
+    ('M10 n3 row 3 against n1', (('F1', 'FULL', 3, None, 1), ('F1', 'FULL', 3, None, 0), ('F1', 'FULL', 3, None, 1))),
+    ('M10 n4 row 4 against n2', (('F1', 'FULL', 4, None, 1), ('F1', 'FULL', 4, None, 2), ('F1', 'FULL', 3, None, 2), ('F1', 'FULL', 4, None, 2))),
+    # One id in two places.
+    ('M11 n1 row 2 against n2', (('F1', 'FULL', 4, None, 0), ('F1', 'FULL', 3, None, 0))),
+    ('M11 n1 row 3 against n3', (('F1', 'FULL', 5, None, 0), ('F2', 'FULL', 4, None, 0), ('F1', 'FULL', 3, None, 0))),
+    ('M11 n1 row 3 against n2', (('F1', 'FULL', 3, None, 1), ('F1', 'INCR', 3, None, 0), ('F1', 'INCR', 3, None, 1))),
+    # A base that isn't earlier: a later one, one of the same day, and the Differential itself.
+    ('M12 n1 row 1 against n2', (('D2', 'DIFF', 3, 'F3', 0), ('F3', 'FULL', 4, None, 0))),
+    ('M12 n2 row 1 against n1', (('F1', 'FULL', 3, None, 0), ('D2', 'DIFF', 3, 'F1', 0))),
+    ('M12 n3 row 2 against n1', (('F4', 'FULL', 4, None, 1), ('F1', 'FULL', 2, None, 0), ('D3', 'DIFF', 3, 'F4', 0))),
+    ('M12 n1 row 1', (('D1', 'DIFF', 3, 'D1', 0),)),
+)
+# How many rows a manifest has at most.
+MOST_ROWS = 4_096
+# Names of the files of a table, of which one is a path, or is there twice. All of them lead to a file but the empty one and the folders.
+OUTSIDE = (
+    ('',),
+    ('.',),
+    ('..',),
+    ('../envelope.json',),
+    ('./c.csv',),
+    ('/c.csv',),
+    ('a/c.csv',),
+    ('a/../c.csv',),
+    ('c.csv', 'a/c.csv'),
+    ('c.csv', 'c.csv'),
+    ('c.csv', 'd.csv', 'c.csv'),
+)
+# Names of files that look like these.
+INSIDE = ('...', '..c.csv', '.c', 'c.', '~', '\\c.csv')
 # Names of files, and how they are printed: on one line. Control characters are escaped as Rust writes them, and so are the backslashes of
 # a name that has one.
 NAMES = (
@@ -129,6 +172,25 @@ def bundles_of_descriptions(stage):
         check_bundle(stage, f'{description}', description, files, wanted)
 
 
+def names_of_files_in_the_folder(stage):
+    """The names of a table's files: those of files in DIR, each there once.
+
+    Where the description has a fault as an envelope, too, it is refused for that."""
+    os.makedirs(stage.at('files/a'))
+    files = {name: b'C1,R1\n' for name in ('c.csv', 'd.csv', 'a/c.csv', *INSIDE)}
+    for names in OUTSIDE:
+        check_bundle(stage, f'the files {names}', description_of(False, names), files, 'U7 envelope.json')
+    for name in INSIDE:
+        check_bundle(stage, f'the file {name!r}', description_of(False, [name]), files, b'c.csv 6\nC1,R1\n\nend\n')
+    # Without `from`, by `file`; in two tables, of which the second has the sample's file by either member.
+    two = ENVELOPE.replace(b'}]}', MORE + b'}]}')
+    for description in (ENVELOPE.replace(b'c.csv', b'a/c.csv'), two, two.replace(b'}]}', b',"from":["c.csv"]}]}'),
+                        two.replace(b'},{', b',"from":["c.csv"]},{').replace(b'}]}', b',"from":["d.csv","c.csv"]}]}')):
+        check_bundle(stage, f'{description}', description, files, 'U7 envelope.json')
+    nameless = description_of(False, ['../envelope.json']).replace(b'"id":"F1"', b'"id":1')
+    check_bundle(stage, 'an envelope without an id', nameless, files, 'U6 envelope.json')
+
+
 def bundles_that_would_be_too_long(stage):
     """A description, or the rows of two files, for which a bundle has no place."""
     os.mkdir(stage.at('files'))
@@ -149,6 +211,28 @@ def names_on_one_line(stage):
         with case(f'{name!r}, as a bundle'):
             wanted = Wanted(1, '', f'U1 files/{told}\n')
             stage.check(f'manifest files/{name!r}', wanted, ['manifest', f'files/{name}'], program='pack')
+        with case(f'{name!r}, as a bundle that is listed twice'):
+            stage.write(f'files/{name}', bundle_of(HEADER))
+            wanted = Wanted(1, '', f'M10 files/{told} row 2 against files/{told}\n')
+            stage.check(f'manifest files/{name!r} files/{name!r}', wanted, ['manifest', *[f'files/{name}'] * 2], program='pack')
+
+
+def deposit_of(name, kind, day, prev, resend):
+    """A bundle without tables."""
+    header = {'id': name, 'type': kind, 'watermark': f'2024-03-{day:02}T00:00:00Z', 'prevId': prev, 'resend': resend}
+    return bundle_of(json.dumps(header).encode())
+
+
+def bundles_that_no_manifest_lists(stage):
+    """The bundles whose rows contradict each other, and more than a manifest has rows."""
+    for told, deposits in UNLISTED:
+        names = [f'n{at}' for at in range(1, len(deposits) + 1)]
+        for name, deposit in zip(names, deposits):
+            stage.write(name, deposit_of(*deposit))
+        with case(f'{deposits}'):
+            stage.check(f'manifest {" ".join(names)}', Wanted(1, '', f'{told}\n'), program='pack')
+    with case('one bundle too many'):
+        stage.check('manifest n1 n1 ..', Wanted(1, '', 'M1 row 0\n'), ['manifest', *['n1'] * (MOST_ROWS + 1)], program='pack')
 
 
 def files_of(stem):
@@ -194,5 +278,5 @@ def paths_that_are_not_plain_files(stage):
     stage.check('describe files/pipe', Wanted(3, '', 'E1 files/pipe\n'), program='pack')
 
 
-SCENES = (bundles_of_files, bundles_of_descriptions, bundles_that_would_be_too_long, names_on_one_line, descriptions_of_all_tables,
-          paths_that_are_not_plain_files)
+SCENES = (bundles_of_files, bundles_of_descriptions, names_of_files_in_the_folder, bundles_that_would_be_too_long, names_on_one_line,
+          bundles_that_no_manifest_lists, descriptions_of_all_tables, paths_that_are_not_plain_files)

@@ -15,7 +15,7 @@ use std::fmt;
 #[derive(Clone, Copy, Debug, PartialEq, Eq)]
 pub enum BundleFault {
     /// The refusal with this number: 5 to 7 for U5 to U7 of the description, 1 to 4 for U1 to U4 of
-    /// the frame, 8 to 11 for U8 to U11 of the rows.
+    /// the frame, 8, 10 and 11 for U8, U10 and U11 of the rows.
     Refused {
         code: u8,
     },
@@ -26,7 +26,7 @@ pub enum BundleFault {
         table: usize,
         file: usize,
     },
-    /// A row has another number of fields than its table declares.
+    /// U9: a row has another number of fields than its table declares, or one that is no UTF-8.
     Row {
         table: usize,
         file: usize,

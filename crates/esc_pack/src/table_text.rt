@@ -54,7 +54,7 @@ fn write_record(alloc: Global, lines: &mut Lines, line: &Record) -> Result<(), N
     lines.write(&fields)
 }
 
-// Writes the rows that are left, each of which has so many fields.
+// Writes the rows that are left, each of which has so many fields, all of them UTF-8.
 fn write_rows(
     alloc: Global,
     lines: &mut Lines,
@@ -72,6 +72,9 @@ fn write_rows(
     while rows.next(&mut record)? {
         row = row.saturating_add(1);
         if record.len() != width {
+            return Err(BundleFault::Row { table, file, row });
+        }
+        if !record.is_text() {
             return Err(BundleFault::Row { table, file, row });
         }
         write_record(alloc, lines, &record)?;

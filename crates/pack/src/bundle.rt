@@ -6,6 +6,7 @@ use esc_bundle::Fault;
 use esc_console::path_in;
 use esc_envelope::read_envelope;
 use esc_pack::{BundleFault, Source, Sources, TableFiles, bundle_of_files, read_sources};
+use std::collections::BTreeSet;
 
 /// U7: a declaration has another form.
 const WRONG_TABLE: u8 = 7;
@@ -34,10 +35,14 @@ fn described_bundle(rt: &HostRuntime, words: Bundling<'_>) -> Result<Vec<u8>, St
 
 // The sources of the tables that a description declares, contents before deletes.
 fn sources_of(rt: &HostRuntime, description: &[u8], path: &str) -> Result<Vec<Source>, Stop> {
-    match read_sources(rt.alloc(), description)? {
-        Some(found) => in_order(found),
-        None => Err(undeclared(rt, description, path)),
+    let Some(found) = read_sources(rt.alloc(), description)? else {
+        return Err(undeclared(rt, description, path));
+    };
+    let sources = in_order(found)?;
+    if !have_own_files(rt, &sources)? {
+        return Err(undeclared(rt, description, path));
     }
+    Ok(sources)
 }
 
 fn in_order(found: Sources) -> Result<Vec<Source>, Stop> {
@@ -49,8 +54,35 @@ fn in_order(found: Sources) -> Result<Vec<Source>, Stop> {
     Ok(contents)
 }
 
-// The refusal of a description whose sources can't be read: what it is refused for as an envelope,
-// or U7.
+// Whether the names in the sources are those of files in a folder, each there once: so no name
+// leads out of it, and no file is read and held twice.
+fn have_own_files(rt: &HostRuntime, sources: &[Source]) -> Result<bool, Stop> {
+    let mut names = BTreeSet::new(rt.alloc());
+    for source in sources {
+        for file in &source.files {
+            let name = file.as_str();
+            if !is_file_name(name) {
+                return Ok(false);
+            }
+            if !names.insert(name)? {
+                return Ok(false);
+            }
+        }
+    }
+    Ok(true)
+}
+
+// Whether a name can be that of a file in a folder: it isn't empty, leads to no other folder, and
+// isn't the folder or the one above.
+fn is_file_name(name: &str) -> bool {
+    match name {
+        "" | "." | ".." => false,
+        _ => !name.as_bytes().contains(&b'/'),
+    }
+}
+
+// The refusal of a description whose sources can't be read, or don't have their own files: what it
+// is refused for as an envelope, or U7.
 fn undeclared(rt: &HostRuntime, description: &[u8], path: &str) -> Stop {
     match read_envelope(rt.alloc(), description) {
         Ok(_) => Stop::at(rt, Refusal::Unread(WRONG_TABLE), path),

@@ -2,12 +2,11 @@
 
 use crate::bundle::{Bundling, write_bundle};
 use crate::describe::describe;
-use crate::files::{read_bundles, slices_of};
-use crate::stop::{Refusal, Stop, print, tell_stop};
+use crate::manifest::manifest_at;
+use crate::stop::{Stop, print, tell_stop};
 use clap::builder::ValueParser;
 use clap::{ArgMatches, Error};
 use esc_console::{Argument, ArgumentForm, DONE, Program, Subcommand, USAGE, tell_answer};
-use esc_pack::{ReleaseFault, manifest_of_bundles};
 use std::io::Write;
 
 /// What the program is asked to do: the words live for `'a`, and what was matched of them for `'m`.
@@ -41,10 +40,12 @@ Without a description, one is proposed by the names of the files and their headi
     pack describe files > envelope.json
 
 Refusals go to standard error: E1 PATH (can't be read or written), E2 PATH (over 16,777,216 bytes),
-U1 to U11 with the path (the bundle is no deposit), M1, M7 and M10 to M13 with the row (no manifest
-lists these deposits; rows count from 1, in the order of places), H1 PATH (another heading than the
-declared fields), H2 PATH (rows that begin with a byte order mark), H3 PATH (no description of the
-folder), S2 (no memory).
+U1 to U11 with the path (the bundle is no deposit), U9 PATH row 12 (a row of this file has another
+number of fields than declared, or a field that is no UTF-8; rows count from 1, after a heading),
+M10 PATH row 2 against OTHER (no manifest lists these deposits, by M7 or M10 to M13: the row of the
+bundle PATH contradicts that of OTHER, where it is about two; rows count from 1, in the order of
+places), M1 row 0 (they are too many), H1 PATH (another heading than the declared fields), H2 PATH
+(rows that begin with a byte order mark), H3 PATH (no description of the folder), S2 (no memory).
 Status: 0 done; 1 refused by E2, U, M or H; 2 other words; 3 stopped by E1 or S2.
 ";
 
@@ -52,7 +53,7 @@ const DESCRIPTION: &str = "\
 The description is the bundle's envelope, with two more members that a table may have: \"from\", an
 array of the names of its files in DIR, whose rows follow each other (without it the one that
 \"file\" names); and \"heading\", true where each of them begins with a row of the fields' names,
-which is dropped:
+which is dropped. A name has no slash, and is there once in a description:
 
     {\"id\":\"F1\",\"type\":\"FULL\",\"watermark\":\"2024-03-03T00:00:00Z\",\"contents\":[
     {\"name\":\"contact\",\"kind\":\"contact\",\"role\":\"parent\",\"key\":\"id\",\"fields\":[\"id\",\"clID\"],
@@ -214,28 +215,6 @@ fn print_description<O: Write, E: Write>(
 fn print_manifest<O: Write>(rt: &HostRuntime, paths: &[&str], out: &mut O) -> Result<(), Stop> {
     let text = manifest_at(rt, paths)?;
     print(rt, out, &text)
-}
-
-// The release manifest of the bundles at these paths.
-fn manifest_at(rt: &HostRuntime, paths: &[&str]) -> Result<Vec<u8>, Stop> {
-    let files = read_bundles(rt, paths)?;
-    let bodies = slices_of(rt, &files)?;
-    match manifest_of_bundles(rt.alloc(), &bodies) {
-        Ok(text) => Ok(text),
-        Err(fault) => Err(stop_of(rt, paths, &fault)),
-    }
-}
-
-// A fault, with the path of the bundle that has it.
-fn stop_of(rt: &HostRuntime, paths: &[&str], fault: &ReleaseFault) -> Stop {
-    match *fault {
-        ReleaseFault::Unread { bundle, code } => {
-            let path = paths.get(bundle).copied().unwrap_or("");
-            Stop::at(rt, Refusal::Unread(code), path)
-        }
-        ReleaseFault::Unlisted { code, row } => Stop::Unlisted { code, row },
-        ReleaseFault::NoMemory => Stop::NoMemory,
-    }
 }
 
 // Tells the help or the version that was asked for, or what is wrong with the words.

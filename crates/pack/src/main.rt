@@ -12,15 +12,16 @@
 //! Refusals go to standard error, and no manifest is printed then: `E1 PATH` for a file or a folder
 //! that can't be read (`E1 -`: standard output can't be written), `E2 PATH` for a file over
 //! 16,777,216 bytes, `U9 PATH` for a bundle that is no deposit (with `row 2` for a row of a file
-//! with another number of fields), `M10 row 2` for deposits that no manifest can list, `H1 PATH`
-//! for a file that doesn't begin with its heading, `H2 PATH` for rows that begin with a byte order
-//! mark, `H3 DIR` for a folder whose description doesn't read back, `S2` when out of memory. A
-//! control character in a path is escaped. The status is 0 where all went well; 1 for E2, U, M and
-//! H; 2 for other words; 3 for E1 and S2.
+//! with another number of fields, or with one that is no UTF-8), `M10 PATH row 2 against OTHER` for
+//! deposits that no manifest can list, `H1 PATH` for a file that doesn't begin with its heading,
+//! `H2 PATH` for rows that begin with a byte order mark, `H3 DIR` for a folder whose description
+//! doesn't read back, `S2` when out of memory. A control character in a path is escaped. The status
+//! is 0 where all went well; 1 for E2, U, M and H; 2 for other words; 3 for E1 and S2.
 //!
 //! | Module | Does |
 //! |---|---|
 //! | `command_line` | the table of the commands and its texts; from the words to the status |
+//! | `manifest` | `manifest`: the manifest of bundles, or the bundles that none can list |
 //! | `bundle` | `bundle`: a description and the files of a folder, as one bundle |
 //! | `describe` | `describe`: the description of a folder |
 //! | `files` | reads bundles and files, and writes a bundle in one step |
@@ -36,6 +37,7 @@ mod bundle;
 mod command_line;
 mod describe;
 mod files;
+mod manifest;
 mod stop;
 
 use command_line::run_words;

@@ -23,7 +23,7 @@ pub enum Refusal {
     Unread(u8),
     /// It begins with another row than the names of the declared fields.
     Heading,
-    /// This row has another number of fields than declared.
+    /// This row has another number of fields than declared, or one that is no UTF-8.
     Row(usize),
     /// The rows of a table, of which it is the first file, begin with a byte order mark.
     Marked,
@@ -31,13 +31,27 @@ pub enum Refusal {
     Undescribed,
 }
 
+/// The paths of the bundles that a refusal of their rows is about.
+#[derive(Drop)]
+pub struct RowPaths {
+    /// The bundle whose row is refused.
+    pub bundle: String,
+    /// The one whose row it contradicts, if the refusal is about two.
+    pub other: Option<String>,
+}
+
 /// What the program stops for.
 #[derive(Drop)]
 pub enum Stop {
     /// What is at this path is refused; standard output is `-`.
     At { refusal: Refusal, path: String },
-    /// No manifest lists the deposits, by the refusal of this number at this row.
-    Unlisted { code: u8, row: u32 },
+    /// No manifest lists the deposits, by the refusal of this number at this row. Row 0 is the
+    /// whole, which has no paths.
+    Unlisted {
+        code: u8,
+        row: u32,
+        paths: Option<RowPaths>,
+    },
     /// Memory was refused.
     NoMemory,
 }
@@ -76,9 +90,28 @@ impl fmt::Display for Stop {
     fn fmt<W: fmt::Write>(&self, f: &mut fmt::Formatter<W>) -> fmt::Result {
         match self {
             Stop::At { refusal, path } => fmt_at(f, *refusal, OneLine(path.as_str())),
-            Stop::Unlisted { code, row } => write!(f, "M{code} row {row}"),
+            Stop::Unlisted { code, row, paths } => fmt_unlisted(f, *code, *row, paths),
             Stop::NoMemory => f.write_str("S2"),
         }
+    }
+}
+
+fn fmt_unlisted<W: fmt::Write>(
+    f: &mut fmt::Formatter<W>,
+    code: u8,
+    row: u32,
+    paths: &Option<RowPaths>,
+) -> fmt::Result {
+    let Some(RowPaths { bundle, other }) = paths else {
+        return write!(f, "M{code} row {row}");
+    };
+    let path = OneLine(bundle.as_str());
+    match other {
+        Some(other) => {
+            let other = OneLine(other.as_str());
+            write!(f, "M{code} {path} row {row} against {other}")
+        }
+        None => write!(f, "M{code} {path} row {row}"),
     }
 }
 
