@@ -44,7 +44,10 @@ pub struct RowPaths {
 #[derive(Drop)]
 pub enum Stop {
     /// What is at this path is refused; standard output is `-`.
-    At { refusal: Refusal, path: String },
+    At {
+        refusal: Refusal,
+        path: String,
+    },
     /// No manifest lists the deposits, by the refusal of this number at this row. Row 0 is the
     /// whole, which has no paths.
     Unlisted {
