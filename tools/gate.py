@@ -34,8 +34,8 @@ def memory_in_use():
 
 def lanes():
     """How many checks run side by side: RT_JOBS of them, or one for each processor, with at least 5 GB of free memory for each, since the
-    largest take up to 6 and most up to 3. `rt ci` sees RT_JOBS too. Where it isn't set, that gives a proof the processors that no other proof
-    waits for, as memory allows."""
+    largest take up to 6 and most up to 3. `rt ci` reads RT_JOBS too. Where it isn't set, that starts no proof for which memory might not
+    suffice, by its own estimate, and lets two processes work at one while nothing else could run."""
     given = os.environ.get('RT_JOBS')
     if not given:
         return max(1, min(len(os.sched_getaffinity(0)), memory()[1] // 5_000_000))
