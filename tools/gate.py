@@ -44,11 +44,25 @@ def lanes():
     return int(given)
 
 
+def stat_of(pid):
+    """What the system tells of a process, from its state on: its parent is second."""
+    with open(f'/proc/{pid}/stat') as file:
+        return file.read().rpartition(')')[2].split()
+
+
+def is_own(pid):
+    """Whether a process was started by this one, or by one that was."""
+    own, at = os.getpid(), int(pid)
+    while at not in (0, own):
+        at = int(stat_of(at)[1])
+    return at == own
+
+
 def part_of(pid):
     """The crate that a process of the gate works on, and at which part of it; None of another process."""
     with open(f'/proc/{pid}/cmdline') as file:
         words = file.read().split('\0')
-    if '--crate-name' not in words:
+    if '--crate-name' not in words or not is_own(pid):
         return None
     crate, folder = words[words.index('--crate-name') + 1], os.readlink(f'/proc/{pid}/cwd')
     return crate, 'edits' if '/wrong-bodies-' in folder else 'tests' if '--test' in words else 'proof'
@@ -73,8 +87,7 @@ class Watch:
                     pass  # it ended meanwhile
 
     def look(self, pid):
-        with open(f'/proc/{pid}/stat') as file:
-            stat = file.read().rpartition(')')[2].split()
+        stat = stat_of(pid)
         key = pid, stat[19]
         if key not in self.parts:
             self.parts[key] = part_of(pid)
@@ -228,5 +241,6 @@ def main():
     return 1 if failed else 0
 
 
-with locked():
-    sys.exit(main())
+if __name__ == '__main__':
+    with locked():
+        sys.exit(main())
