@@ -32,7 +32,8 @@
 //! Once its patience is over, a read or a write of a `Client` fails. The bytes that a read or a
 //! write moved are counted (`HasMoved`). No contract says that the time of each is counted, nor
 //! that the stream is limited to `next_wait` before it: a clock and a stream have no model that
-//! could say it. Both are tested, as is that a limited read ends in time, which is up to the system.
+//! could say it. Both are tested, and so is that a limited read ends in time, which is up to the
+//! system.
 #![tactic(auto)]
 
 mod client;

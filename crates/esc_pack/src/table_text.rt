@@ -71,10 +71,7 @@ fn write_rows(
     let mut row: usize = 0;
     while rows.next(&mut record)? {
         row = row.saturating_add(1);
-        if record.len() != width {
-            return Err(BundleFault::Row { table, file, row });
-        }
-        if !record.is_text() {
+        if record.len() != width || !record.is_text() {
             return Err(BundleFault::Row { table, file, row });
         }
         write_record(alloc, lines, &record)?;
