@@ -3,7 +3,8 @@ from dataclasses import dataclass
 
 from played.bodies import bytes_of, manifest_text
 from played.clients import (
-    RequestDesk, Wire, export, gaps, get, held, links, new_desk, not_held, parked, parked_bodies, put, receipts, refusal, status)
+    RequestDesk, Wire, export, gaps, get, held, links, moment, new_desk, not_held, parked, parked_bodies, put, receipts, refusal,
+    status)
 from played.stories import NOON, check
 from scening.stage import Failed
 from scening.steps import FirstScript, Manifest
@@ -83,17 +84,20 @@ MOMENTS = (
                        '2024-03-05T00:00:00Z,DIFF,0,standing,,', '2024-03-06T00:00:00Z,INCR,,missing,,0',
                        '2024-03-10T00:00:00Z,FULL,0,standing,,', '2024-03-11T00:00:00Z,DIFF,,missing,,0')),
     asks('/status', status(7, 5, 5, 2, '2024-03-04T00:00:00Z DIFF 1', 1, 1, 0, 3, 0, 0)),
+    asks('/moment', moment(NOON)),
     Moment('latest'),
     asks('/gaps', gaps('2024-03-03T00:00:00Z,FULL,0,standing,,', '2024-03-04T00:00:00Z,DIFF,1,standing,,',
                        '2024-03-05T00:00:00Z,DIFF,0,standing,,', '2024-03-06T00:00:00Z,INCR,,missing,,0',
                        '2024-03-10T00:00:00Z,FULL,0,chain,,', '2024-03-11T00:00:00Z,DIFF,,missing,,0')),
     asks('/status', status(7, 5, 5, 1, '2024-03-10T00:00:00Z FULL 0', 1, 1, 1, 1, 0, 0)),
+    asks('/moment', moment('latest')),
     Moment(BEFORE_ALL),
     asks('/gaps', gaps('2024-03-03T00:00:00Z,FULL,0,standing,,', '2024-03-04T00:00:00Z,DIFF,1,standing,,',
                        '2024-03-05T00:00:00Z,DIFF,0,standing,,', '2024-03-06T00:00:00Z,INCR,,missing,,0',
                        '2024-03-10T00:00:00Z,FULL,0,standing,,', '2024-03-11T00:00:00Z,DIFF,,missing,,0')),
     asks('/status', status(7, 5, 5, 0, 'none', 0, 0, 0, 0, 0, 0)),
     asks('/links', links()),
+    asks('/moment', moment(BEFORE_ALL)),
 )
 
 # A moment before all of them takes each step back, and every place in which a chain ends is `standing`.

@@ -77,6 +77,10 @@ def parked_bodies(*rows):
     return table('sha256,bytes', *rows)
 
 
+def moment(word):
+    return response('200 OK', 'text/plain', lines(word))
+
+
 def status(listed, held, receipts, chain, end, *objects):
     """The status of a desk: how many rows it lists and holds, its receipts, the steps of its chain, where that ends, and the objects."""
     kinds = zip(('registrar', 'contact', 'host', 'domain', 'idn', 'nndn'), objects, strict=True)

@@ -3,7 +3,7 @@ again has the response of a desk that nothing happened to."""
 from dataclasses import dataclass
 
 from played.clients import (
-    AMPLE, HELD, READ_FAULT, RECEIPTS, SAMPLE, WRITE_FAULT, RequestDesk, Wire, export, gaps, get, lines, links, list_sample, new_desk,
+    AMPLE, HELD, READ_FAULT, RECEIPTS, SAMPLE, WRITE_FAULT, RequestDesk, Wire, export, gaps, get, lines, links, list_sample, moment, new_desk,
     parked, parked_bodies, receipts, refusal, status)
 from played.stories import check
 from scening.stage import Failed
@@ -36,6 +36,7 @@ ROUTES = (
     Route(get('/export/nndn'), export()),
     Route(get('/links'), links('V1,contact,C1,clID,R1,registrar')),
     Route(get('/parked'), parked_bodies('ba7816bf8f01cfea414140de5dae2223b00361a396177a9cb410ff61f20015ad,3')),
+    Route(get('/moment'), moment('latest')),
     Route(get('/status'), status(1, 1, 2, 1, '2024-03-03T00:00:00Z FULL 0', 0, 1, 0, 0, 0, 0)),
 )
 

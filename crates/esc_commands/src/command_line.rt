@@ -79,7 +79,7 @@ by S or E1.
 
 const ROUTES: &str = "\
 A connection carries one request. PUT /arrivals/NUMBER takes its body as an arrival, and needs its Content-Length; GET /status,
-/gaps, /links, /receipts, /parked and /export/KIND give the reports. Example:
+/gaps, /links, /receipts, /parked, /moment and /export/KIND give the reports. Example:
 
     restore serve --store desk.db --port 8080 --count 1000
     curl -T deposits/n1 http://127.0.0.1:8080/arrivals/n1
@@ -122,6 +122,7 @@ links     what breaks a rule in the tables: links to absent objects, counts, sta
 receipts  a line for each distinct arrival, with its verdict: A1 held, A3 unreadable, A4 differs, A5 not listed when it came,
           and kept; A2 not listed when it came, and not kept (of a store that was migrated)
 parked    the SHA-256 and the length of each bundle that was taken and that no row lists
+moment    the moment that is set by as-of, as a watermark, or latest
 ";
 
 static PROGRAM: Program = Program {
@@ -220,8 +221,10 @@ static PROGRAM: Program = Program {
                 id: "report",
                 form: ArgumentForm::Word,
                 value_name: "WHAT",
-                values: ValueParser::Names(&["status", "gaps", "links", "receipts", "parked"]),
-                help: "How far the desk has come, which deposits are missing, what breaks a rule, all receipts, or the bundles that no row lists",
+                values: ValueParser::Names(&[
+                    "status", "gaps", "links", "receipts", "parked", "moment",
+                ]),
+                help: "How far the desk has come, which deposits are missing, what breaks a rule, all receipts, the bundles that no row lists, or the moment that is set",
             }],
         },
         Subcommand {
@@ -307,6 +310,7 @@ fn report_named(name: &str) -> Option<Report> {
         "links" => Some(Report::Links),
         "receipts" => Some(Report::Receipts),
         "parked" => Some(Report::Parked),
+        "moment" => Some(Report::Moment),
         _ => None,
     }
 }

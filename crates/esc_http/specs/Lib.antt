@@ -1,4 +1,5 @@
 pub mod Answering
+pub mod MomentText
 pub mod RequestPlans
 pub mod Reports
 pub mod Response

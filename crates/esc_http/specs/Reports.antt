@@ -32,12 +32,14 @@ use Rattle.esc_request.specs.declared.reports.Report.TheVariants.{
   Links,
   Receipts,
   Parked,
+  Moment,
   Export,
 }
 use Rattle.esc_texts.specs.GapsText.{gaps_text}
 use Rattle.esc_texts.specs.LinksText.{links_text}
 use Rattle.esc_texts.specs.ParkedText.{parked_text}
 use Rattle.esc_texts.specs.ReceiptsText.{receipts_text}
+use Rattle.esc_http.specs.MomentText.{moment_line}
 use Rattle.esc_http.specs.StatusText.{status_text}
 
 -- the findings in these tables, by what the end of their chain says, each once and in order;
@@ -97,4 +99,5 @@ module _ (e : List EventValue) where
   IsReport Links text = WhereApart e (IsLinksText text)
   IsReport Receipts text = text ≡ receipts_text (replies_of e)
   IsReport Parked text = WhereApart e (IsParkedText text)
+  IsReport Moment text = text ≡ moment_line (moment_of e)
   IsReport (Export kind) text = WhereApart e (IsExport kind text)

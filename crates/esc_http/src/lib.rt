@@ -16,8 +16,9 @@
 //! | that many bytes follow the head; else nothing arrived | 400 |
 //! | the desk takes the arrival, or makes the report | 503 with the refusal |
 //!
-//! The routes are `/arrivals/{number}`, `/status`, `/gaps`, `/links`, `/receipts`, `/parked` and
-//! `/export/{kind}`. The refusal is `S1` or `S2`, and of an arrival also `S4` or `S5`.
+//! The routes are `/arrivals/{number}`, `/status`, `/gaps`, `/links`, `/receipts`, `/parked`,
+//! `/moment` and `/export/{kind}`. The refusal is `S1` or `S2`, and of an arrival also `S4` or
+//! `S5`.
 //!
 //! The response to an arrival that was taken is its reply as JSON, with 200 if the deposit is held,
 //! 202 if its body is parked, and 422 for another verdict; that to a report is 200 and its text.
@@ -65,6 +66,7 @@
 #![tactic(auto)]
 
 mod answer;
+mod moment;
 mod request_plan;
 mod response;
 mod serving;

@@ -8,6 +8,7 @@ ghost use Rattle.esc_request.specs.declared.reports.Report.TheVariants as what;
 ghost use Rattle.esc_http.specs.Reports.{IsReport};
 ghost use Rattle.esc_http.specs.Walked.{AreFoundAt, walk_fault};
 
+use crate::moment::moment_line;
 use crate::status::status_text;
 use esc_apply::tables_are_listed;
 use esc_chain::{Held, gaps_at};
@@ -36,6 +37,7 @@ pub fn report<S: Alter>(
         Report::Links => report_links(alloc, desk),
         Report::Receipts => report_receipts(alloc, desk),
         Report::Parked => report_parked(alloc, desk),
+        Report::Moment => report_moment(alloc, desk),
         Report::Export(kind) => report_export(alloc, desk, kind),
     }
 }
@@ -143,6 +145,16 @@ fn report_parked<S: Alter>(alloc: Global, desk: &mut Desk<S>) -> Result<Vec<u8>,
 {
     let bodies = desk.parked(alloc)?;
     Ok(parked_text(alloc, &bodies)?)
+}
+
+fn report_moment<S: Alter>(alloc: Global, desk: &mut Desk<S>) -> Result<Vec<u8>, SFault>
+    ensures stays { Stays S.Store desk.old desk.new }
+    ensures text { OkOver S.Store desk.old desk.new result
+        (λ e text. IsReport e what.Moment text.items) }
+    ensures cause { IfErr result IsS1OrS2 }
+{
+    let moment = desk.moment()?;
+    Ok(moment_line(alloc, moment)?.into_bytes())
 }
 
 #[tactic(auto, using(crate::proofs::StoreFacts::walked))]

@@ -192,7 +192,7 @@ Begins p x = found_in (step x rows) (x ∷ p) p ≡ route_of (x ∷ p)
 second_byte : (z : ℕ) (q : List ℕ) → found_in (step 47 rows) (47 ∷ z ∷ q) (z ∷ q) ≡ route_of (47 ∷ z ∷ q)
 second_byte z q =
     ap (option_and_then (λ (r : RouteOf Target). way_to r.value (47 ∷ z ∷ q))) (by_byte (step 47 rows) z q refl refl)
-    ∙ letter 97 z (Goes q) to_arrival (λ a. letter 101 z (Goes q) to_export (λ e. letter 103 z (Goes q) to_gaps (λ g. letter 108 z (Goes q) to_links (λ l. letter 112 z (Goes q) to_parked (λ p. letter 114 z (Goes q) to_receipts (λ r. letter 115 z (Goes q) to_status (λ s. nowhere_else a e g l p r s)))))))
+    ∙ letter 97 z (Goes q) to_arrival (λ a. letter 101 z (Goes q) to_export (λ e. letter 103 z (Goes q) to_gaps (λ g. letter 108 z (Goes q) to_links (λ l. letter 109 z (Goes q) to_moment (λ m. letter 112 z (Goes q) to_parked (λ p. letter 114 z (Goes q) to_receipts (λ r. letter 115 z (Goes q) to_status (λ s. nowhere_else a e g l m p r s))))))))
   where
     to_arrival : Goes q 97
     to_arrival =
@@ -210,6 +210,9 @@ second_byte z q =
     to_links : Goes q 108
     to_links = fixed_leads (codes "inks") (fixed (codes "/links") (Tells report.Links)).1 q (47 ∷ 108 ∷ q) refl
 
+    to_moment : Goes q 109
+    to_moment = fixed_leads (codes "oment") (fixed (codes "/moment") (Tells report.Moment)).1 q (47 ∷ 109 ∷ q) refl
+
     to_parked : Goes q 112
     to_parked = fixed_leads (codes "arked") (fixed (codes "/parked") (Tells report.Parked)).1 q (47 ∷ 112 ∷ q) refl
 
@@ -219,8 +222,8 @@ second_byte z q =
     to_status : Goes q 115
     to_status = fixed_leads (codes "tatus") (fixed (codes "/status") (Tells report.Status)).1 q (47 ∷ 115 ∷ q) refl
 
-    nowhere_else : (97 == z) ≡ false → (101 == z) ≡ false → (103 == z) ≡ false → (108 == z) ≡ false → (112 == z) ≡ false → (114 == z) ≡ false → (115 == z) ≡ false → Goes q z
-    nowhere_else a e g l p r s = rw (a, e, g, l, p, r, s) (ap (option_and_then (λ (r : RouteOf Target). way_to r.value (47 ∷ z ∷ q))) (nowhere 0 q))
+    nowhere_else : (97 == z) ≡ false → (101 == z) ≡ false → (103 == z) ≡ false → (108 == z) ≡ false → (109 == z) ≡ false → (112 == z) ≡ false → (114 == z) ≡ false → (115 == z) ≡ false → Goes q z
+    nowhere_else a e g l m p r s = rw (a, e, g, l, m, p, r, s) (ap (option_and_then (λ (r : RouteOf Target). way_to r.value (47 ∷ z ∷ q))) (nowhere 0 q))
 
 -- the route that the router finds is that of the path
 pub leads : (path : List ℕ) → found_in rows path path ≡ route_of path

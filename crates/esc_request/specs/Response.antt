@@ -19,6 +19,7 @@ use Rattle.esc_request.specs.declared.reports.Report.TheVariants.{
   Links,
   Receipts,
   Parked,
+  Moment,
   Export,
 }
 
@@ -72,6 +73,7 @@ report_media Gaps = codes "text/csv"
 report_media Links = codes "text/csv"
 report_media Receipts = codes "text/csv"
 report_media Parked = codes "text/csv"
+report_media Moment = codes "text/plain"
 report_media (Export kind) = codes "text/csv"
 
 -- the response with a report

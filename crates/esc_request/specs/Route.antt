@@ -29,6 +29,7 @@ use Rattle.esc_request.specs.declared.reports.Report.TheVariants.{
   Links,
   Receipts,
   Parked,
+  Moment,
   Export,
 }
 use Rattle.esc_request.specs.declared.route.Target.{Target}
@@ -59,8 +60,8 @@ segment_after front path = option_and_then if_segment (strip front path)
 abbrev pub export_named : List ℕ → Option Leads
 export_named name = option_map (λ kind. tells (Export kind)) (kind_named name)
 
--- where a path leads: /status, /gaps, /links, /receipts, /parked, /arrivals/ and a number, /export/
--- and a kind; nothing is decoded
+-- where a path leads: /status, /gaps, /links, /receipts, /parked, /moment, /arrivals/ and a number,
+-- /export/ and a kind; nothing is decoded
 abbrev pub route_of : List ℕ → Option Leads
 route_of path =
     if bytes_eq (codes "/status") path then Some (tells Status)
@@ -68,9 +69,10 @@ route_of path =
     else (if bytes_eq (codes "/links") path then Some (tells Links)
     else (if bytes_eq (codes "/receipts") path then Some (tells Receipts)
     else (if bytes_eq (codes "/parked") path then Some (tells Parked)
+    else (if bytes_eq (codes "/moment") path then Some (tells Moment)
     else (if starts_with nat_eq path (codes "/arrivals/") then option_map arrival
     (segment_after (codes "/arrivals/") path)
-    else option_and_then export_named (segment_after (codes "/export/") path))))))
+    else option_and_then export_named (segment_after (codes "/export/") path)))))))
 
 -- where a path leads, by the target that the router has for it
 abbrev pub way_to : Target → List ℕ → Option Leads

@@ -29,6 +29,7 @@ rows =
     ∷ ending (codes "/export/") (codes "/export/{kind}") (9, 13) Export
     ∷ fixed (codes "/gaps") (Tells report.Gaps)
     ∷ fixed (codes "/links") (Tells report.Links)
+    ∷ fixed (codes "/moment") (Tells report.Moment)
     ∷ fixed (codes "/parked") (Tells report.Parked)
     ∷ fixed (codes "/receipts") (Tells report.Receipts)
     ∷ fixed (codes "/status") (Tells report.Status)

@@ -11,6 +11,8 @@ pub enum Report {
     Receipts,
     /// The bodies that no row lists.
     Parked,
+    /// The moment that is set.
+    Moment,
     /// All objects of a kind.
     Export(Kind),
 }

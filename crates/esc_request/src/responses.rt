@@ -77,7 +77,7 @@ fn report_media(report: Report) -> &'static str
     ensures { result.now ≡ report_media report }
 {
     match report {
-        Report::Status => "text/plain",
+        Report::Status | Report::Moment => "text/plain",
         Report::Gaps | Report::Links | Report::Receipts | Report::Parked | Report::Export(_) =>
             "text/csv",
     }

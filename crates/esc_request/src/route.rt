@@ -46,6 +46,7 @@ fn add_routes(router: &mut Router<Target>) -> Result<(), InsertError>
     router.insert("/links", Target::Tells(Report::Links))?;
     router.insert("/receipts", Target::Tells(Report::Receipts))?;
     router.insert("/parked", Target::Tells(Report::Parked))?;
+    router.insert("/moment", Target::Tells(Report::Moment))?;
     router.insert("/export/{kind}", Target::Export)?;
     Ok(())
 }

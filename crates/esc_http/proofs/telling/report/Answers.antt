@@ -9,6 +9,9 @@ returns-in-Receipts-clause-text g c = rw c.in-Receipts.is c.report_receipts.ensu
 pub returns-in-Parked-clause-text : goal.returns-in-Parked-clause-text
 returns-in-Parked-clause-text g c = rw c.in-Parked.is c.report_parked.ensures.text
 
+pub returns-in-Moment-clause-text : goal.returns-in-Moment-clause-text
+returns-in-Moment-clause-text g c = rw c.in-Moment.is c.report_moment.ensures.text
+
 pub returns-in-Export-clause-text : goal.returns-in-Export-clause-text
 returns-in-Export-clause-text g c = rw c.in-Export.is c.report_export.ensures.text
 

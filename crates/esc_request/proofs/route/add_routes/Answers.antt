@@ -5,6 +5,7 @@ use Rattle.esc_request.proofs.route.add_routes.Goals as goal
 pub returns : goal.returns
 unfolding matchit_on_literals
 returns c = rw (
+  c.in_ok-insert-8.ensures.1,
   c.in_ok-insert-7.ensures.1,
   c.in_ok-insert-6.ensures.1,
   c.in_ok-insert-5.ensures.1,
