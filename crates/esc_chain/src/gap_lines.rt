@@ -33,11 +33,11 @@ use std::collections::{BTreeMap, BTreeSet};
 /// what blocks it, and which revision of it is awaited (this project's profile).
 ///
 /// Takes time n log n in the number of rows. The one error is out of memory.
-pub fn gaps(alloc: Global, m: &Manifest, h: &Held) -> Result<Vec<GapLine>, NoMemory>
-    requires { InRange m.now h.now }
-    ensures { IfOk result (λ lines. AreGapLines m.now h.now lines.items) }
+pub fn gaps(alloc: Global, manifest: &Manifest, held: &Held) -> Result<Vec<GapLine>, NoMemory>
+    requires { InRange manifest.now held.now }
+    ensures { IfOk result (λ lines. AreGapLines manifest.now held.now lines.items) }
 {
-    gaps_at(alloc, m, h, None)
+    gaps_at(alloc, manifest, held, None)
 }
 
 /// The lines as of a moment, in nanoseconds since 1970-01-01T00:00:00Z, if there is one: the latest
@@ -47,19 +47,19 @@ pub fn gaps(alloc: Global, m: &Manifest, h: &Held) -> Result<Vec<GapLine>, NoMem
 /// Takes time n log n in the number of rows. The one error is out of memory.
 pub fn gaps_at(
     alloc: Global,
-    m: &Manifest,
-    h: &Held,
+    manifest: &Manifest,
+    held: &Held,
     moment: Option<i64>,
 ) -> Result<Vec<GapLine>, NoMemory>
-    requires { InRange m.now h.now }
-    ensures { IfOk result (λ lines. AreGapLinesAt m.now h.now moment lines.items) }
+    requires { InRange manifest.now held.now }
+    ensures { IfOk result (λ lines. AreGapLinesAt manifest.now held.now moment lines.items) }
 {
-    let ways = ways_of(alloc, m, h, moment)?;
-    let unheld = unheld_resends(alloc, m, h)?;
+    let ways = ways_of(alloc, manifest, held, moment)?;
+    let unheld = unheld_resends(alloc, manifest, held)?;
     let mut lines = Vec::new(alloc);
     for (place, greatest) in unheld.iter() {
         let used = ways.used.get(place).copied();
-        let line = line_of(alloc, m, &ways, *place, used, *greatest)?;
+        let line = line_of(alloc, manifest, &ways, *place, used, *greatest)?;
         lines.push(line)?;
     }
     Ok(lines)
@@ -78,16 +78,21 @@ pub(crate) struct Ways {
     chain: BTreeSet<usize>,
 }
 
-fn ways_of(alloc: Global, m: &Manifest, h: &Held, moment: Option<i64>) -> Result<Ways, NoMemory>
-    requires { InRange m.now h.now }
-    ensures { IfOk result (AreWays ⟦<Place as Ord>⟧.cmp m.now h.now moment) }
+fn ways_of(
+    alloc: Global,
+    manifest: &Manifest,
+    held: &Held,
+    moment: Option<i64>,
+) -> Result<Ways, NoMemory>
+    requires { InRange manifest.now held.now }
+    ensures { IfOk result (AreWays ⟦<Place as Ord>⟧.cmp manifest.now held.now moment) }
 {
-    let used = used_rows(alloc, m, h)?;
+    let used = used_rows(alloc, manifest, held)?;
     let order = in_order(alloc, &used)?;
-    let bases = bases(alloc, m)?;
+    let bases = bases(alloc, manifest)?;
     let links = links(alloc, &bases, &used)?;
     let stops = stops_of(alloc, &links, &order)?;
-    let chain = latest_chain_at(alloc, m, h, moment)?;
+    let chain = latest_chain_at(alloc, manifest, held, moment)?;
     let chain = set_of(alloc, &chain)?;
     Ok(Ways {
         used,
@@ -107,15 +112,15 @@ fn set_of(alloc: Global, rows: &[usize]) -> Result<BTreeSet<usize>, NoMemory>
 // that aren't held, if any.
 fn line_of(
     alloc: Global,
-    m: &Manifest,
+    manifest: &Manifest,
     ways: &Ways,
     place: Place,
     used: Option<usize>,
     greatest: Option<u32>,
 ) -> Result<GapLine, NoMemory>
-    requires used { IsRowIn m.now ways.now used }
-    requires bases { AreBases m.now (length m.now) ways.now.bases.items }
-    ensures { IfOk result (λ line. line ≡ line_by m.now ways.now place used greatest) }
+    requires used { IsRowIn manifest.now ways.now used }
+    requires bases { AreBases manifest.now (length manifest.now) ways.now.bases.items }
+    ensures { IfOk result (λ line. line ≡ line_by manifest.now ways.now place used greatest) }
 {
     let Some(row) = used else {
         return Ok(GapLine {
@@ -128,8 +133,8 @@ fn line_of(
     };
     let stop = stop_at(&ways.stops, row);
     let state = state_by(ways.chain.contains(&row), stop);
-    let resend = resend_of(m.rows(), row);
-    let blocker = blocker_if(alloc, m, &ways.bases, stop)?;
+    let resend = resend_of(manifest.rows(), row);
+    let blocker = blocker_if(alloc, manifest, &ways.bases, stop)?;
     Ok(GapLine {
         place,
         used: Some(resend),
@@ -152,17 +157,18 @@ fn state_by(in_chain: bool, stop: Option<usize>) -> State
 // The blocker, if the way back from a used row stops at a row.
 fn blocker_if(
     alloc: Global,
-    m: &Manifest,
+    manifest: &Manifest,
     bases: &[Base],
     stop: Option<usize>,
 ) -> Result<Option<Blocker>, NoMemory>
-    requires row { IfSome stop (λ s. s < length m.now) }
-    requires bases { AreBases m.now (length m.now) bases.now }
-    ensures { IfOk result (λ blocker. blocker ≡ option_map (blocker_of m.now bases.now) stop) }
+    requires row { IfSome stop (λ s. s < length manifest.now) }
+    requires bases { AreBases manifest.now (length manifest.now) bases.now }
+    ensures { IfOk result
+        (λ blocker. blocker ≡ option_map (blocker_of manifest.now bases.now) stop) }
 {
     match stop {
         Some(row) => {
-            let header = &m.rows()[row].header;
+            let header = &manifest.rows()[row].header;
             Ok(Some(blocker_by(alloc, header, bases[row])?))
         }
         None => Ok(None),

@@ -26,14 +26,14 @@ use std::alloc::Global;
 /// profile).
 ///
 /// Takes time n log n in the number of rows. The one error is out of memory.
-pub fn latest_chain(alloc: Global, m: &Manifest, h: &Held) -> Result<Vec<usize>, NoMemory>
-    requires { InRange m.now h.now }
-    ensures latest { IfOk result (λ c. IsLatestChain m.now h.now c.items) }
-    ensures rows { IfOk result (λ c. AreHeldRows m.now h.now c.items) }
+pub fn latest_chain(alloc: Global, manifest: &Manifest, held: &Held) -> Result<Vec<usize>, NoMemory>
+    requires { InRange manifest.now held.now }
+    ensures latest { IfOk result (λ c. IsLatestChain manifest.now held.now c.items) }
+    ensures rows { IfOk result (λ c. AreHeldRows manifest.now held.now c.items) }
 {
-    let used = used_rows(alloc, m, h)?;
+    let used = used_rows(alloc, manifest, held)?;
     let order = in_order(alloc, &used)?;
-    let bases = bases(alloc, m)?;
+    let bases = bases(alloc, manifest)?;
     let links = links(alloc, &bases, &used)?;
     let mut chain = Vec::new(alloc);
     let Some(end) = last_with_way(alloc, &links, &order)? else {
@@ -59,46 +59,51 @@ pub fn latest_chain(alloc: Global, m: &Manifest, h: &Held) -> Result<Vec<usize>,
 /// Takes time n log n in the number of rows. The one error is out of memory.
 pub fn latest_chain_at(
     alloc: Global,
-    m: &Manifest,
-    h: &Held,
+    manifest: &Manifest,
+    held: &Held,
     moment: Option<i64>,
 ) -> Result<Vec<usize>, NoMemory>
-    requires { InRange m.now h.now }
-    ensures latest { IfOk result (λ c. IsLatestChainAt m.now h.now moment c.items) }
-    ensures rows { IfOk result (λ c. AreHeldRows m.now h.now c.items) }
+    requires { InRange manifest.now held.now }
+    ensures latest { IfOk result (λ c. IsLatestChainAt manifest.now held.now moment c.items) }
+    ensures rows { IfOk result (λ c. AreHeldRows manifest.now held.now c.items) }
 {
     if moment.is_none() {
-        return latest_chain(alloc, m, h);
+        return latest_chain(alloc, manifest, held);
     }
-    let until = rows_until(alloc, m, h, moment)?;
-    latest_chain(alloc, m, &until)
+    let until = rows_until(alloc, manifest, held, moment)?;
+    latest_chain(alloc, manifest, &until)
 }
 
 // The held rows with a watermark not later than a moment. Each base has an earlier watermark, so
 // the chains of these rows are the chains of the held rows that end by the moment.
-fn rows_until(alloc: Global, m: &Manifest, h: &Held, moment: Option<i64>) -> Result<Held, NoMemory>
-    requires { InRange m.now h.now }
-    ensures rows { IfOk result (AreUntil m.now h.now moment) }
-    ensures in_range { IfOk result (InRange m.now) }
-    ensures accepted { IsAccepted m.now }
+fn rows_until(
+    alloc: Global,
+    manifest: &Manifest,
+    held: &Held,
+    moment: Option<i64>,
+) -> Result<Held, NoMemory>
+    requires { InRange manifest.now held.now }
+    ensures rows { IfOk result (AreUntil manifest.now held.now moment) }
+    ensures in_range { IfOk result (InRange manifest.now) }
+    ensures accepted { IsAccepted manifest.now }
 {
-    let rows = m.rows();
+    let rows = manifest.rows();
     let mut until = Held::new(alloc);
     for row in 0..rows.len() {
-        if !is_until(rows, h, row, moment) {
+        if !is_until(rows, held, row, moment) {
             continue;
         }
-        until.insert(m, row)?;
+        until.insert(manifest, row)?;
     }
     Ok(until)
 }
 
 // Whether a row is held and its watermark isn't later than a moment.
-fn is_until(rows: &[MRow], h: &Held, row: usize, moment: Option<i64>) -> bool
+fn is_until(rows: &[MRow], held: &Held, row: usize, moment: Option<i64>) -> bool
     requires { row < length rows.now }
-    ensures { IsTrue result ↔ (IsHeld h.now row × IsBy moment (watermark_at rows.now row)) }
+    ensures { IsTrue result ↔ (IsHeld held.now row × IsBy moment (watermark_at rows.now row)) }
 {
-    if !h.contains(row) {
+    if !held.contains(row) {
         return false;
     }
     let header = &rows[row].header;

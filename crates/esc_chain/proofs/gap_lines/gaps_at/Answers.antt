@@ -22,8 +22,8 @@ IsEntry m h e = IsUnheldEntry m h e.0 (length m) (Some e.1)
 
 pub loop-place-init : goal.loop-place-init
 loop-place-init c =
-    let m = c.args.m.now in
-    let h = c.args.h.now in
+    let m = c.args.manifest.now in
+    let h = c.args.held.now in
     let unheld = c.in_ok-unheld.unheld in
     let left = c.into_iter-place-iterator.result in
     let all : left ≡ unheld.entries = search rules in
@@ -38,21 +38,21 @@ loop-place-init c =
     }
 
 -- the used row of the place of the turn
-used_here : (c : After-copied-used) → IsUsedAt c.args.m.now c.args.h.now c.in-Some.place.now c.copied-used.result
+used_here : (c : After-copied-used) → IsUsedAt c.args.manifest.now c.args.held.now c.in-Some.place.now c.copied-used.result
 used_here c =
     let p = c.in-Some.place.now in
     let found : c.copied-used.result ≡ get place_cmp c.in_ok-ways.ways.used p = c.copied-used.ensures ∙ c.get.ensures.value in
-    subst (IsUsedAt c.args.m.now c.args.h.now p) (sym found) (c.in_ok-ways.ensures.used p)
+    subst (IsUsedAt c.args.manifest.now c.args.held.now p) (sym found) (c.in_ok-ways.ensures.used p)
 
 pub line_of-requires-clause-used : goal.line_of-requires-clause-used
 line_of-requires-clause-used c =
     let used = used_here (goal.at.line_of-requires-clause-used c).After-copied-used in
-    row_in c.args.m.now c.args.h.now c.args.moment c.in_ok-ways.ways c.in-Some.place.now _ c.requires c.in_ok-ways.ensures used
+    row_in c.args.manifest.now c.args.held.now c.args.moment c.in_ok-ways.ways c.in-Some.place.now _ c.requires c.in_ok-ways.ensures used
 
 pub loop-place-preserved : goal.loop-place-preserved
 loop-place-preserved c =
-    let m = c.args.m.now in
-    let h = c.args.h.now in
+    let m = c.args.manifest.now in
+    let h = c.args.held.now in
     let ways = c.in_ok-ways.ways in
     let p = c.in-Some.place.now in
     let a = c.in-Some.greatest.now in
@@ -85,7 +85,7 @@ returns c =
     sym (append-nil _)
     ∙ ap (λ (l : List (Place × Option ℕ)). places_of lines ++ keys_of l) (sym c.in-None.ensures.steps.0)
     ∙ c.loop-place.invariant.in_order ∙ ap keys_of all in
-    let listed = keys_all c.args.m.now c.args.h.now unheld c.iter-place-items.ensures.ordered c.in_ok-unheld.ensures in
+    let listed = keys_all c.args.manifest.now c.args.held.now unheld c.iter-place-items.ensures.ordered c.in_ok-unheld.ensures in
     record {
       told = c.loop-place.invariant.told c.args.moment c.in_ok-ways.ensures;
       all = λ p at. subst (λ (ps : List Place). Contains ps p) (sym places) (listed p at);

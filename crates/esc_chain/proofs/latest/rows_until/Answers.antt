@@ -6,7 +6,7 @@ use Rattle.esc_chain.proofs.Moments.{IsUntilBelow, until_none, until_skip, until
 use Rattle.esc_chain.proofs.latest.rows_until.Goals as goal
 
 pub loop-row-init : goal.loop-row-init
-loop-row-init c = until_none c.args.m.now c.args.h.now c.args.moment c.new-until.result c.new-until.ensures.empty
+loop-row-init c = until_none c.args.manifest.now c.args.held.now c.args.moment c.new-until.result c.new-until.ensures.empty
 
 -- what holds of a row that is held and not later than the moment
 abbrev IsOf : Rows → Option ℤ → ℕ → List MRow → Type 0
@@ -14,17 +14,17 @@ IsOf h t row m = IsHeld h row × IsBy t (watermark_at m row)
 
 pub loop-row-preserved-then-not-is_until : goal.loop-row-preserved-then-not-is_until
 loop-row-preserved-then-not-is_until c =
-    let h = c.args.h.now in
+    let h = c.args.held.now in
     let t = c.args.moment in
     let row = c.loop-row.row in
     let never : IsOf h t row c.rows-rows.result.now → ⊥ = λ at. let e = c.if-not-is_until.ensures.1 at in cc in
-    until_skip c.args.m.now h t row c.loop-row.until
+    until_skip c.args.manifest.now h t row c.loop-row.until
     (subst (λ (x : List MRow). IsOf h t row x → ⊥) c.rows-rows.ensures.rows never) c.loop-row.invariant
 
 pub loop-row-preserved : goal.loop-row-preserved
 loop-row-preserved c =
-    let m = c.args.m.now in
-    let h = c.args.h.now in
+    let m = c.args.manifest.now in
+    let h = c.args.held.now in
     let t = c.args.moment in
     let row = c.loop-row.row in
     let count : length c.rows-rows.result.now ≡ length m = ap length c.rows-rows.ensures.rows in
@@ -35,8 +35,8 @@ loop-row-preserved c =
 
 pub returns-clause-rows : goal.returns-clause-rows
 returns-clause-rows c =
-    let m = c.args.m.now in
-    let h = c.args.h.now in
+    let m = c.args.manifest.now in
+    let h = c.args.held.now in
     let t = c.args.moment in
     let count : length c.rows-rows.result.now ≡ length m = ap length c.rows-rows.ensures.rows in
     let all : c.loop-row.row ≡ length m = omega arith in

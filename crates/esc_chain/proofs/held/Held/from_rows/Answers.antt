@@ -1,15 +1,11 @@
-use Rattle.std.proofs.Common.{◌≡◌, ℕ, ◌+◌, ◌<◌, List, get_or, take, ap, sym, ◌∙◌}
-use Rattle.std.specs.Cmp.{nat_cmp_total}
+use Rattle.std.proofs.Common.{get_or, ap, ◌∙◌}
 use Rattle.std.specs.FinSet as set
-use Rattle.std.specs.FinSet.{nat_cmp-IsAntisymmetric}
-use Rattle.std.specs.Ordering.{nat_cmp}
-use Rattle.std.proofs.lemmas.List.{take_more}
 use Rattle.esc_chain.specs.Chain.{Rows}
 use Rattle.esc_chain.proofs.HeldRows.{one_more_row}
 use Rattle.esc_chain.proofs.held.Held.from_rows.Goals as goal
 
 pub loop-row-init : goal.loop-row-init
-loop-row-init c = record { rows = c.new-held.ensures.empty; in_range = c.new-held.ensures.in_range c.args.m.now }
+loop-row-init c = record { rows = c.new-held.ensures.empty; in_range = c.new-held.ensures.in_range c.args.manifest.now }
 
 pub loop-row-preserved : goal.loop-row-preserved
 loop-row-preserved c =

@@ -7,5 +7,5 @@ use Rattle.esc_chain.proofs.held.Held.from_rows.Given as goal
 abbrev pub invariant-loop-row : goal.invariant-loop-row
 invariant-loop-row l = record {
   rows : l.held ≡ set.from_list (take l.row-index l.rows);
-  in_range : InRange l.m l.held;
+  in_range : InRange l.manifest l.held;
 }
