@@ -31,22 +31,23 @@ use std::alloc::Global;
 /// # Errors
 ///
 /// The registry's error; out of memory is one of these. Nothing is said then of what it holds.
-pub fn undo_step<R: Registry>(alloc: Global, r: &mut R, pos: u32) -> Result<u64, R::Error>
-    ensures follows { R.follows r.old r.new }
+pub fn undo_step<R: Registry>(alloc: Global, registry: &mut R, pos: u32) -> Result<u64, R::Error>
+    ensures follows { R.follows registry.old registry.new }
     ensures cause { IfErr result R.fails }
-    ensures counted { IfOk result (λ n. R.count r.new ≡ saturated (R.count r.old + n)) }
-    ensures undone { IfOk result (λ n. R.is_honest r.new → (c : List DepositValue)
-        (d : DepositValue) → length c + 1 ≡ pos → R.holds r.old (chain_state (c ++ d ∷ []))
-        → R.holds r.new (chain_state c) × (n ≡ mention_count d)) }
-    ensures restored { IfOk result (λ n. R.is_honest r.new → (s : State) → R.holds r.old s
-        → HasSize (s.undo pos) n × R.holds r.new (restored s pos)) }
+    ensures counted { IfOk result
+        (λ n. R.count registry.new ≡ saturated (R.count registry.old + n)) }
+    ensures undone { IfOk result (λ n. R.is_honest registry.new → (c : List DepositValue)
+        (d : DepositValue) → length c + 1 ≡ pos → R.holds registry.old (chain_state (c ++ d ∷ []))
+        → R.holds registry.new (chain_state c) × (n ≡ mention_count d)) }
+    ensures restored { IfOk result (λ n. R.is_honest registry.new → (s : State)
+        → R.holds registry.old s → HasSize (s.undo pos) n × R.holds registry.new (restored s pos)) }
 {
-    let befores = r.take_undo(alloc, pos)?;
+    let befores = registry.take_undo(alloc, pos)?;
     for entry in &befores {
         let (key, before) = entry;
         match before {
-            Some(object) => r.put(alloc, key, object)?,
-            None => r.remove(key)?,
+            Some(object) => registry.put(alloc, key, object)?,
+            None => registry.remove(key)?,
         }
     }
     Ok(befores.len() as u64)
@@ -55,24 +56,25 @@ pub fn undo_step<R: Registry>(alloc: Global, r: &mut R, pos: u32) -> Result<u64,
 /// Takes the last steps of a chain back, so that the first `front` of its `steps` steps stay.
 /// Returns the number of writes (at most 2^64 - 1).
 pub(crate) fn undo_to<R: Registry>(
-    r: &mut R,
+    registry: &mut R,
     alloc: Global,
     steps: u32,
     front: u32,
 ) -> Result<u64, R::Error>
     requires { front ≤ steps }
-    ensures follows { R.follows r.old r.new }
+    ensures follows { R.follows registry.old registry.new }
     ensures cause { IfErr result R.fails }
-    ensures counted { IfOk result (λ n. R.count r.new ≡ saturated (R.count r.old + n)) }
-    ensures undone { IfOk result (λ n. R.is_honest r.new → (c : List DepositValue)
-        → length c ≡ steps → R.holds r.old (chain_state c)
-        → R.holds r.new (chain_state (take front c))
+    ensures counted { IfOk result
+        (λ n. R.count registry.new ≡ saturated (R.count registry.old + n)) }
+    ensures undone { IfOk result (λ n. R.is_honest registry.new → (c : List DepositValue)
+        → length c ≡ steps → R.holds registry.old (chain_state c)
+        → R.holds registry.new (chain_state (take front c))
         × (n ≡ saturated (sum_by mention_count (drop front c)))) }
 {
     let mut writes: u64 = 0;
     let mut left = steps;
     while left > front {
-        writes = writes.saturating_add(undo_step(alloc, r, left)?);
+        writes = writes.saturating_add(undo_step(alloc, registry, left)?);
         left -= 1;
     }
     Ok(writes)

@@ -48,95 +48,105 @@ use std::collections::{BTreeMap, BTreeSet};
 /// The registry's error; out of memory is one of these. Nothing is said then of what it holds.
 pub fn apply_step<R: Registry>(
     alloc: Global,
-    r: &mut R,
+    registry: &mut R,
     pos: u32,
-    d: &Deposit,
+    deposit: &Deposit,
 ) -> Result<u64, R::Error>
-    ensures follows { R.follows r.old r.new }
+    ensures follows { R.follows registry.old registry.new }
     ensures cause { IfErr result R.fails }
-    ensures number { IfOk result (λ n. n ≡ mention_count d.now) }
-    ensures counted { OnOk result (R.count r.new
-        ≡ saturated (R.count r.old + mention_count d.now)) }
-    ensures applied { OnOk result (R.is_honest r.new → (c : List DepositValue)
-        → length c + 1 ≡ pos → R.holds r.old (chain_state c)
-        → R.holds r.new (chain_state (c ++ d.now ∷ []))) }
-    ensures stepped { OnOk result (R.is_honest r.new → (s : State) → R.holds r.old s
-        → s.undo pos ≡ nothing → R.holds r.new (stepped s pos d.now)) }
+    ensures number { IfOk result (λ n. n ≡ mention_count deposit.now) }
+    ensures counted { OnOk result (R.count registry.new
+        ≡ saturated (R.count registry.old + mention_count deposit.now)) }
+    ensures applied { OnOk result (R.is_honest registry.new → (c : List DepositValue)
+        → length c + 1 ≡ pos → R.holds registry.old (chain_state c)
+        → R.holds registry.new (chain_state (c ++ deposit.now ∷ []))) }
+    ensures stepped { OnOk result (R.is_honest registry.new → (s : State) → R.holds registry.old s
+        → s.undo pos ≡ nothing → R.holds registry.new (stepped s pos deposit.now)) }
 {
-    let deletes = plain_deletes(alloc, deletes_of(d), &d.contents)?;
-    r.put_all(alloc, pos, Targets::Any, &d.contents)?;
-    remove_deletes(r, alloc, pos, &deletes)?;
-    Ok((d.contents.len() + deletes.len()) as u64)
+    let deletes = plain_deletes(alloc, deletes_of(deposit), &deposit.contents)?;
+    registry.put_all(alloc, pos, Targets::Any, &deposit.contents)?;
+    remove_deletes(registry, alloc, pos, &deletes)?;
+    Ok((deposit.contents.len() + deletes.len()) as u64)
 }
 
 /// Applies deposits after a chain of `steps` steps. Returns the number of writes, which is at most
 /// 2^64 - 1.
 pub(crate) fn apply_all<R: Registry>(
-    r: &mut R,
+    registry: &mut R,
     alloc: Global,
     steps: u32,
     deposits: &[Deposit],
 ) -> Result<u64, R::Error>
     requires few { steps + length deposits.now < 2 ^ 32 }
-    ensures follows { R.follows r.old r.new }
+    ensures follows { R.follows registry.old registry.new }
     ensures cause { IfErr result R.fails }
     ensures number { IfOk result (λ n. n ≡ saturated (sum_by mention_count deposits.now)) }
     ensures counted { OnOk result
-        (R.count r.new ≡ saturated (R.count r.old + sum_by mention_count deposits.now)) }
-    ensures applied { OnOk result (R.is_honest r.new → (c : List DepositValue)
+        (R.count registry.new
+        ≡ saturated (R.count registry.old + sum_by mention_count deposits.now)) }
+    ensures applied { OnOk result (R.is_honest registry.new → (c : List DepositValue)
         → length c ≡ steps
-        → R.holds r.old (chain_state c)
-        → R.holds r.new (chain_state (c ++ deposits.now))) }
+        → R.holds registry.old (chain_state c)
+        → R.holds registry.new (chain_state (c ++ deposits.now))) }
 {
     let mut pos = steps;
     let mut writes: u64 = 0;
-    for d in deposits {
+    for deposit in deposits {
         pos += 1;
-        writes = writes.saturating_add(apply_next(alloc, r, pos, d)?);
+        writes = writes.saturating_add(apply_next(alloc, registry, pos, deposit)?);
     }
     Ok(writes)
 }
 
 // Applies a deposit as step `pos` of a chain.
-fn apply_next<R: Registry>(alloc: Global, r: &mut R, pos: u32, d: &Deposit) -> Result<u64, R::Error>
-    ensures follows { R.follows r.old r.new }
+fn apply_next<R: Registry>(
+    alloc: Global,
+    registry: &mut R,
+    pos: u32,
+    deposit: &Deposit,
+) -> Result<u64, R::Error>
+    ensures follows { R.follows registry.old registry.new }
     ensures cause { IfErr result R.fails }
-    ensures number { IfOk result (λ n. n ≡ mention_count d.now) }
-    ensures counted { OnOk result (R.count r.new
-        ≡ saturated (R.count r.old + mention_count d.now)) }
-    ensures applied { OnOk result (R.is_honest r.new → (c : List DepositValue)
-        → length c + 1 ≡ pos → R.holds r.old (chain_state c)
-        → R.holds r.new (chain_state (c ++ d.now ∷ []))) }
+    ensures number { IfOk result (λ n. n ≡ mention_count deposit.now) }
+    ensures counted { OnOk result (R.count registry.new
+        ≡ saturated (R.count registry.old + mention_count deposit.now)) }
+    ensures applied { OnOk result (R.is_honest registry.new → (c : List DepositValue)
+        → length c + 1 ≡ pos → R.holds registry.old (chain_state c)
+        → R.holds registry.new (chain_state (c ++ deposit.now ∷ []))) }
 {
     if pos == 1 {
-        apply_first(alloc, r, d)
+        apply_first(alloc, registry, deposit)
     } else {
-        apply_step(alloc, r, pos, d)
+        apply_step(alloc, registry, pos, deposit)
     }
 }
 
 // Applies a deposit as the first step of a chain. No key has an object then.
-fn apply_first<R: Registry>(alloc: Global, r: &mut R, d: &Deposit) -> Result<u64, R::Error>
-    ensures follows { R.follows r.old r.new }
+fn apply_first<R: Registry>(
+    alloc: Global,
+    registry: &mut R,
+    deposit: &Deposit,
+) -> Result<u64, R::Error>
+    ensures follows { R.follows registry.old registry.new }
     ensures cause { IfErr result R.fails }
-    ensures number { IfOk result (λ n. n ≡ mention_count d.now) }
-    ensures counted { OnOk result (R.count r.new
-        ≡ saturated (R.count r.old + mention_count d.now)) }
-    ensures applied { OnOk result (R.is_honest r.new → R.holds r.old (chain_state [])
-        → R.holds r.new (chain_state (d.now ∷ []))) }
+    ensures number { IfOk result (λ n. n ≡ mention_count deposit.now) }
+    ensures counted { OnOk result (R.count registry.new
+        ≡ saturated (R.count registry.old + mention_count deposit.now)) }
+    ensures applied { OnOk result (R.is_honest registry.new → R.holds registry.old (chain_state [])
+        → R.holds registry.new (chain_state (deposit.now ∷ []))) }
 {
-    let deletes = plain_deletes(alloc, deletes_of(d), &d.contents)?;
-    r.put_all(alloc, 1, Targets::Free, &d.contents)?;
-    remove_deletes(r, alloc, 1, &deletes)?;
-    Ok((deletes.len() + d.contents.len()) as u64)
+    let deletes = plain_deletes(alloc, deletes_of(deposit), &deposit.contents)?;
+    registry.put_all(alloc, 1, Targets::Free, &deposit.contents)?;
+    remove_deletes(registry, alloc, 1, &deletes)?;
+    Ok((deletes.len() + deposit.contents.len()) as u64)
 }
 
-fn deletes_of(d: &Deposit) -> &[Key]
-    ensures { result.now ≡ deletes_of d.now }
+fn deletes_of(deposit: &Deposit) -> &[Key]
+    ensures { result.now ≡ deletes_of deposit.now }
 {
-    match d.header.place.kind {
+    match deposit.header.place.kind {
         DepositType::Full => &[],
-        DepositType::Incr | DepositType::Diff => &d.deletes,
+        DepositType::Incr | DepositType::Diff => &deposit.deletes,
     }
 }
 
@@ -162,46 +172,51 @@ fn plain_deletes(
 }
 
 fn remove_deletes<R: Registry>(
-    r: &mut R,
+    registry: &mut R,
     alloc: Global,
     pos: u32,
     deletes: &BTreeSet<Key>,
 ) -> Result<(), R::Error>
-    ensures follows { R.follows r.old r.new }
+    ensures follows { R.follows registry.old registry.new }
     ensures cause { IfErr result R.fails }
     ensures counted { OnOk result
-        (R.count r.new ≡ saturated (R.count r.old + length deletes.now.keys)) }
-    ensures removed { OnOk result (R.is_honest r.new → (s : State) → R.holds r.old s
+        (R.count registry.new ≡ saturated (R.count registry.old + length deletes.now.keys)) }
+    ensures removed { OnOk result (R.is_honest registry.new → (s : State) → R.holds registry.old s
         → AreNew s pos (map without deletes.now.keys)
-        → R.holds r.new (changed_by s pos (map without deletes.now.keys))) }
+        → R.holds registry.new (changed_by s pos (map without deletes.now.keys))) }
 {
     for key in deletes.iter() {
-        remove_noted(r, alloc, pos, key)?;
+        remove_noted(registry, alloc, pos, key)?;
     }
     Ok(())
 }
 
 // Notes what is at a key, and removes it.
-fn remove_noted<R: Registry>(r: &mut R, alloc: Global, pos: u32, key: &Key) -> Result<(), R::Error>
-    ensures follows { R.follows r.old r.new }
+fn remove_noted<R: Registry>(
+    registry: &mut R,
+    alloc: Global,
+    pos: u32,
+    key: &Key,
+) -> Result<(), R::Error>
+    ensures follows { R.follows registry.old registry.new }
     ensures cause { IfErr result R.fails }
-    ensures counted { OnOk result (R.count r.new ≡ saturated (R.count r.old + 1)) }
-    ensures changed { OnOk result (R.is_honest r.new → (s : State) → R.holds r.old s
-        → s.undo pos key.now ≡ None → R.holds r.new (changed s pos key.now None)) }
+    ensures counted { OnOk result (R.count registry.new ≡ saturated (R.count registry.old + 1)) }
+    ensures changed { OnOk result (R.is_honest registry.new → (s : State) → R.holds registry.old s
+        → s.undo pos key.now ≡ None → R.holds registry.new (changed s pos key.now None)) }
 {
-    note(r, alloc, pos, key)?;
-    r.remove(key)
+    note(registry, alloc, pos, key)?;
+    registry.remove(key)
 }
 
 // Notes what is at a key.
-fn note<R: Registry>(r: &mut R, alloc: Global, pos: u32, key: &Key) -> Result<(), R::Error>
-    ensures follows { R.follows r.old r.new }
+fn note<R: Registry>(registry: &mut R, alloc: Global, pos: u32, key: &Key) -> Result<(), R::Error>
+    ensures follows { R.follows registry.old registry.new }
     ensures cause { IfErr result R.fails }
-    ensures counted { OnOk result (R.count r.new ≡ R.count r.old) }
-    ensures noted { OnOk result (R.is_honest r.new → (s : State) → R.holds r.old s
+    ensures counted { OnOk result (R.count registry.new ≡ R.count registry.old) }
+    ensures noted { OnOk result (R.is_honest registry.new → (s : State) → R.holds registry.old s
         → s.undo pos key.now ≡ None
-        → R.holds r.new (noted s pos key.now (s.content key.now))) }
+        → R.holds registry.new (noted s pos key.now (s.content key.now))) }
 {
-    let before = r.get(alloc, key)?;
-    r.put_undo(alloc, pos, key, before.as_ref())
+    let before = registry.get(alloc, key)?;
+    registry.put_undo(alloc, pos, key, before.as_ref())
 }

@@ -56,7 +56,7 @@ pub struct Work {
 /// The registry's error; out of memory is one of these. Nothing is said then of what it holds.
 pub fn move_chain<R: Registry>(
     alloc: Global,
-    r: &mut R,
+    registry: &mut R,
     old: &[Step],
     new: &[Step],
     deposits: &[Deposit],
@@ -64,43 +64,50 @@ pub fn move_chain<R: Registry>(
     requires few_old { length old.now ≤ 4096 }
     requires few_new { length new.now ≤ 4096 }
     requires deposits { length deposits.now ≡ length new.now - common_front old.now new.now }
-    ensures follows { R.follows r.old r.new }
+    ensures follows { R.follows registry.old registry.new }
     ensures cause { IfErr result R.fails }
-    ensures counted { IfOk result (λ work. R.count r.new
-        ≡ saturated (R.count r.old + work.writes)) }
-    ensures moved { OnOk result (R.is_honest r.new → (c : List DepositValue)
-        → length c ≡ length old.now → R.holds r.old (chain_state c)
-        → R.holds r.new (chain_state (take (common_front old.now new.now) c ++ deposits.now))) }
-    ensures cost { IfOk result (λ work. R.is_honest r.new → (c : List DepositValue)
-        → length c ≡ length old.now → R.holds r.old (chain_state c)
+    ensures counted { IfOk result (λ work. R.count registry.new
+        ≡ saturated (R.count registry.old + work.writes)) }
+    ensures moved { OnOk result (R.is_honest registry.new → (c : List DepositValue)
+        → length c ≡ length old.now → R.holds registry.old (chain_state c)
+        → R.holds registry.new
+        (chain_state (take (common_front old.now new.now) c ++ deposits.now))) }
+    ensures cost { IfOk result (λ work. R.is_honest registry.new → (c : List DepositValue)
+        → length c ≡ length old.now → R.holds registry.old (chain_state c)
         → sum_by mention_count (c ++ deposits.now) < 2 ^ 64
         → work ≡ cost c old.now new.now deposits.now) }
 {
     let steps = old.len() as u32;
     let front = common_front(old, new) as u32;
-    let undone = go_back(r, alloc, steps, front)?;
-    let applied = apply_all(r, alloc, front, deposits)?;
+    let undone = go_back(registry, alloc, steps, front)?;
+    let applied = apply_all(registry, alloc, front, deposits)?;
     let writes = undone.saturating_add(applied);
     Ok(work_of(steps, front, deposits.len() as u32, writes))
 }
 
 // Takes a chain back so that its first `front` steps stay: all at once if none stays.
-fn go_back<R: Registry>(r: &mut R, alloc: Global, steps: u32, front: u32) -> Result<u64, R::Error>
+fn go_back<R: Registry>(
+    registry: &mut R,
+    alloc: Global,
+    steps: u32,
+    front: u32,
+) -> Result<u64, R::Error>
     requires { front ≤ steps }
-    ensures follows { R.follows r.old r.new }
+    ensures follows { R.follows registry.old registry.new }
     ensures cause { IfErr result R.fails }
-    ensures counted { IfOk result (λ n. R.count r.new ≡ saturated (R.count r.old + n)) }
-    ensures gone { IfOk result (λ n. R.is_honest r.new → (c : List DepositValue)
+    ensures counted { IfOk result
+        (λ n. R.count registry.new ≡ saturated (R.count registry.old + n)) }
+    ensures gone { IfOk result (λ n. R.is_honest registry.new → (c : List DepositValue)
         → length c ≡ steps
-        → R.holds r.old (chain_state c)
-        → R.holds r.new (chain_state (take front c))
+        → R.holds registry.old (chain_state c)
+        → R.holds registry.new (chain_state (take front c))
         × (n ≡ saturated (sum_by mention_count (undone_of c front)))) }
 {
     if is_cleared(steps, front) {
-        r.clear()?;
+        registry.clear()?;
         return Ok(0);
     }
-    undo_to(r, alloc, steps, front)
+    undo_to(registry, alloc, steps, front)
 }
 
 fn is_cleared(steps: u32, front: u32) -> bool

@@ -23,12 +23,12 @@ returns-clause-counted g c =
     let none : length (drop c.loop-entry.entry-index c.deref-entry-items.result.now) ≡ 0 = omega (arith, length-drop c.loop-entry.entry-index c.deref-entry-items.result.now) in
     let same = ap length c.deref-entry-items.ensures.value in
     let all : length c.deref-entry-items.result.now ≡ c.len.result = omega (arith, same, c.in_ok-befores.befores.ok) in
-    all_counted (count c.loop-entry.r) c.len.result _ (count c.args.r.now) (g.met.R.Registry.bounded c.loop-entry.r) none
-    (c.loop-entry.invariant.counted ∙ ap (λ n. saturated (count c.args.r.now + n)) all)
+    all_counted (count c.loop-entry.registry) c.len.result _ (count c.args.registry.now) (g.met.R.Registry.bounded c.loop-entry.registry) none
+    (c.loop-entry.invariant.counted ∙ ap (λ n. saturated (count c.args.registry.now + n)) all)
 
 pub returns-clause-undone : goal.returns-clause-undone
 returns-clause-undone g c = λ honest k d at held.
-    let held_now = g.R.Registry.holds c.loop-entry.r in
+    let held_now = g.R.Registry.holds c.loop-entry.registry in
     let s = chain_state (k ++ d ∷ []) in
     let items = c.deref-entry-items.result.now in
     let back = c.loop-entry.invariant.returns honest s held in

@@ -8,7 +8,7 @@ invariant-loop-entry g l =
     let registry = g.R.Registry in
     let left = drop l.entry-index l.entry-items in
     record {
-      follows : registry.follows l.fn.r l.r;
-      counted : saturated (registry.count l.r + length left) ≡ saturated (registry.count l.fn.r + length l.entry-items);
-      returns : registry.is_honest l.r → (s : State) → registry.holds l.fn.r s → IsEntriesOf (s.undo l.pos) l.entry-items × Returns (registry.holds l.r) (restored s l.pos) left;
+      follows : registry.follows l.fn.registry l.registry;
+      counted : saturated (registry.count l.registry + length left) ≡ saturated (registry.count l.fn.registry + length l.entry-items);
+      returns : registry.is_honest l.registry → (s : State) → registry.holds l.fn.registry s → IsEntriesOf (s.undo l.pos) l.entry-items × Returns (registry.holds l.registry) (restored s l.pos) left;
     }

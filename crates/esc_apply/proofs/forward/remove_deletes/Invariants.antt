@@ -10,7 +10,7 @@ invariant-loop-key g l =
     let registry = g.R.Registry in
     let all = map without l.deletes.keys in
     record {
-      follows : registry.follows l.fn.r l.r;
-      counted : saturated (registry.count l.r + length l.key-iterator) ≡ saturated (registry.count l.fn.r + length l.deletes.keys);
-      leads : registry.is_honest l.r → (s : State) → registry.holds l.fn.r s → AreNew s l.pos all → Leads (registry.holds l.r) (changed_by s l.pos all) l.pos (map without l.key-iterator);
+      follows : registry.follows l.fn.registry l.registry;
+      counted : saturated (registry.count l.registry + length l.key-iterator) ≡ saturated (registry.count l.fn.registry + length l.deletes.keys);
+      leads : registry.is_honest l.registry → (s : State) → registry.holds l.fn.registry s → AreNew s l.pos all → Leads (registry.holds l.registry) (changed_by s l.pos all) l.pos (map without l.key-iterator);
     }

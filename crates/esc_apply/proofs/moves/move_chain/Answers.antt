@@ -28,7 +28,7 @@ returns-clause-moved g c = λ honest k len held.
     let front = c.common_front-front.result in
     let back = c.in_ok-undone.ensures.gone (g.met.R.Registry.was_honest _ _ c.in_ok-applied.ensures.follows honest) k len held in
     let moved = c.in_ok-applied.ensures.applied honest (take front k) (length_front k front _ len c.common_front-front.ensures.longest.common.in_old) back.0 in
-    subst (λ (f : ℕ). g.R.Registry.holds c.apply_all.new.r (chain_state (take f k ++ c.args.deposits.now))) c.common_front-front.ensures.front moved
+    subst (λ (f : ℕ). g.R.Registry.holds c.apply_all.new.registry (chain_state (take f k ++ c.args.deposits.now))) c.common_front-front.ensures.front moved
 
 pub returns-clause-cost : goal.returns-clause-cost
 returns-clause-cost g c = λ honest k len held room.
