@@ -100,15 +100,15 @@ fn push_rows(bytes: &mut Vec<u8>, rows: &[Row]) -> Result<bool, NoMemory>
     Ok(true)
 }
 
-fn push_object(bytes: &mut Vec<u8>, o: &Object) -> Result<bool, NoMemory>
-    ensures { Pushes (is_small_object o.now) (object_bytes o.now) bytes.old.items bytes.new.items
-        result }
+fn push_object(bytes: &mut Vec<u8>, object: &Object) -> Result<bool, NoMemory>
+    ensures { Pushes (is_small_object object.now) (object_bytes object.now) bytes.old.items
+        bytes.new.items result }
 {
-    let children = o.children.as_slice();
+    let children = object.children.as_slice();
     if !push_number(bytes, children.len() + 1)? {
         return Ok(false);
     }
-    if !push_row(bytes, &o.parent)? {
+    if !push_row(bytes, &object.parent)? {
         return Ok(false);
     }
     push_rows(bytes, children)
@@ -117,11 +117,11 @@ fn push_object(bytes: &mut Vec<u8>, o: &Object) -> Result<bool, NoMemory>
 /// The record of an object, or `None` if a length or a count doesn't fit four bytes (this project's
 /// profile).
 #[tactic(auto, unfolding(crate::specs::Record::record_of))]
-pub fn to_record(alloc: Global, o: &Object) -> Result<Option<Vec<u8>>, NoMemory>
-    ensures { IfOk result (λ bytes. option_map (λ b. b.items) bytes ≡ record_of o.now) }
+pub fn to_record(alloc: Global, object: &Object) -> Result<Option<Vec<u8>>, NoMemory>
+    ensures { IfOk result (λ bytes. option_map (λ b. b.items) bytes ≡ record_of object.now) }
 {
     let mut bytes = Vec::with_capacity(alloc, USUAL_LENGTH)?;
-    if push_object(&mut bytes, o)? {
+    if push_object(&mut bytes, object)? {
         Ok(Some(bytes))
     } else {
         Ok(None)
