@@ -1,32 +1,14 @@
 -- Rows that one statement adds: what its parameters give, how SQLite numbers them, and what is found after.
-use Rattle.std.proofs.Common.{◌≡◌, inl, inr, ◌≤◌, ℕ, suc, ◌+◌, ◌/◌, ℤ, pos, ◌<ℤ◌, ◌+ℤ◌, Bool, true, false, cond, List, [], ◌∷◌}
-use Rattle.std.proofs.Common.{◌++◌, map, filter, length, take, drop, slice_get, Option, Some, None, option_map, Ok, refl, sym, ap, ap₂, subst, ◌∙◌, arith}
-use Rattle.std.specs.Prelude.{find, fold, is_some}
-use Rattle.std.specs.List.{AllByRecursion, flat_map}
-use Rattle.std.specs.Option.{option_or}
-use Rattle.std.proofs.lemmas.Bool.{cases_Bool}
+use Rattle.esc_rows.proofs.Common.{◌≡◌, inl, inr, ◌≤◌, ℕ, suc, ◌+◌, ◌/◌, ℤ, pos, ◌<ℤ◌, ◌+ℤ◌, Bool, true, false, cond, List, [], ◌∷◌, ◌++◌, map, filter, length, take, slice_get, Option, Some, None, option_map, Ok, refl, sym, ap, ap₂, subst}
+use Rattle.esc_rows.proofs.Common.{◌∙◌, arith, find, fold, is_some, AllByRecursion, flat_map, option_or, cases_Bool, Null, Int, Row, column, Term, eval_all, value_rows, stamped, Values, Insert, State, Executes, cast_row, put_row, Chosen}
+use Rattle.esc_rows.proofs.Common.{IsKeyedBy, IsKeyedBy-insert_by, map-map, map_same, slice_get-filter, is_some-map, StoreTable, RowOf, schema_table, place_of, row_number, row_columns, Content, HoldsContent, rows_of, with_rows}
+use Rattle.std.proofs.Common.{drop}
 use Rattle.std.proofs.lemmas.List.{append-nil, append_assoc, length-append}
 use Rattle.std.proofs.lemmas.List.Folds.{find-append}
 use Rattle.std.proofs.lemmas.List.Elements.{filter-append}
 use Rattle.std.proofs.Math.Seq.{take-append_seam, drop-append_seam}
-use Rattle.sqlite_value.specs.declared.value.Value.TheVariants.{Null, Int}
-use Rattle.sqlite_value.specs.Order.{Row, column}
-use Rattle.sqlite.specs.Term.{Term, eval_all}
-use Rattle.sqlite.specs.Effect.{value_rows}
-use Rattle.sqlite.specs.Rows.{stamped}
-use Rattle.sqlite.specs.Source.TheVariants.{Values}
-use Rattle.sqlite.specs.Command.TheVariants.{Insert}
-use Rattle.sqlite.specs.State.{State, Executes}
-use Rattle.sqlite_rules.specs.Cast.{cast_row}
-use Rattle.sqlite.specs.Tree.{put_row}
 use Rattle.sqlite.specs.Edit.{numbered, next_rowid, put_all}
-use Rattle.sqlite.specs.Rowids.TheVariants.{Chosen}
-use Rattle.sqlite_keyed.specs.Keyed.{IsKeyedBy}
-use Rattle.sqlite_keyed.proofs.KeyedLemmas.{above_all, IsKeyedBy-insert_by}
-use Rattle.sqlite_keyed.proofs.ListLemmas.{map-map, map_same, slice_get-filter}
-use Rattle.sqlite_keyed.proofs.SliceLemmas.{is_some-map}
-use Rattle.esc_rows.specs.StoreTable.{StoreTable, RowOf, schema_table, place_of, row_number, row_columns}
-use Rattle.esc_rows.specs.Content.{Content, HoldsContent, rows_of, with_rows}
+use Rattle.sqlite_keyed.proofs.KeyedLemmas.{above_all}
 use Rattle.esc_rows.proofs.Compiled.{IsWrite, rows_terms}
 use Rattle.esc_rows.proofs.Forms.{uncounted}
 use Rattle.esc_rows.proofs.Statements.{leaves}

@@ -1,19 +1,8 @@
 -- What the statements on the moment do.
-use Rattle.std.proofs.Common.{◌≡◌, ℕ, ℤ, pos, ◌≤◌, ◌<ℤ◌, false, true, List, [], ◌∷◌, map, filter, length, slice_get, Option, Some, None, option_map, Ok, refl, sym, ap, subst, ◌∙◌, arith}
-use Rattle.std.proofs.lemmas.Int.{ints}
-use Rattle.sqlite_value.specs.declared.value.Value.TheVariants.{Int}
-use Rattle.sqlite_value.specs.Order.{Row}
-use Rattle.sqlite.specs.Term.{col}
-use Rattle.sqlite.specs.Query.{Output}
-use Rattle.sqlite.specs.State.{State, Executes, Shown}
-use Rattle.sqlite_keyed.specs.Keyed.{IsKeyedBy, insert_by, has_key}
-use Rattle.esc_rows.specs.Schema.{moment_tree}
-use Rattle.esc_rows.specs.Texts.{clear_moment_text, insert_moment_text, find_moment_text}
+use Rattle.esc_rows.proofs.Common.{◌≡◌, ℕ, ℤ, pos, ◌≤◌, ◌<ℤ◌, false, true, List, [], ◌∷◌, map, filter, length, slice_get, Option, Some, None, option_map, Ok, refl, sym, ap, subst, ◌∙◌, arith, ints, Int, Row, col, Output, State, Executes}
+use Rattle.esc_rows.proofs.Common.{Shown, IsKeyedBy, insert_by, has_key, moment_tree, clear_moment_text, insert_moment_text, find_moment_text, Moment, stored_row, Content, HoldsContent, Becomes, first_of}
 use Rattle.esc_rows.specs.Rows.{MomentRow, moment_number, moment_columns}
-use Rattle.esc_rows.specs.StoreTable.{Moment, stored_row}
-use Rattle.esc_rows.specs.Content.{Content, HoldsContent, moment_of}
-use Rattle.esc_rows.specs.Changes.{Becomes}
-use Rattle.esc_rows.specs.Entries.{first_of}
+use Rattle.esc_rows.specs.Content.{moment_of}
 use Rattle.esc_rows.specs.Parked.{without_moment, moment_row, SetsMoment, shown_moment, ShowsMoment}
 use Rattle.esc_rows.proofs.Compiled.{moment_terms, clear_moment_is, insert_moment_is, find_moment_is}
 use Rattle.esc_rows.proofs.Scan.{no_limit, in_order, short_rises}

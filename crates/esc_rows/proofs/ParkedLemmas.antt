@@ -1,39 +1,14 @@
 -- What the statements on parked bodies do.
-use Rattle.std.proofs.Common.{◌≡◌, inl, inr, ℕ, pos, ◌≤◌, ◌&&◌, ◌||◌, Bool, true, false, not, cond, List, [], ◌∷◌}
-use Rattle.std.proofs.Common.{◌++◌, map, filter, length, Option, None, option_map, Ok, refl, sym, ap, subst, ◌∙◌, int_eq, is_eq, Less, Equal}
-use Rattle.std.specs.Prelude.{bytes_eq, is_some}
-use Rattle.std.specs.Ordering.{nat_cmp, ordering_then}
-use Rattle.std.specs.Cmp.{IsTotalOrder}
-use Rattle.std.specs.Cmp.Lexicographic.{slice_cmp}
-use Rattle.std.specs.List.{list_any}
-use Rattle.std.proofs.lemmas.Bool.{cases_Bool, and_parts}
-use Rattle.std.proofs.lemmas.Cmp.{nat_list_cmp_total, nat_list_eq_equiv, on_total}
-use Rattle.std.proofs.lemmas.Map.Text.{is_eq-slice_cmp}
-use Rattle.std.proofs.lemmas.Slice.Eq.{bytes_eq-Decides}
-use Rattle.std.proofs.lemmas.List.Sorted.{list_any-IsPermutation}
+use Rattle.esc_rows.proofs.Common.{◌≡◌, inl, inr, ℕ, pos, ◌≤◌, ◌&&◌, ◌||◌, Bool, true, false, not, cond, List, [], ◌∷◌, ◌++◌, map, filter, length, Option, None, option_map, Ok, refl, sym, ap, subst, ◌∙◌, int_eq, is_eq, Less, Equal}
+use Rattle.esc_rows.proofs.Common.{bytes_eq, is_some, nat_cmp, ordering_then, IsTotalOrder, slice_cmp, list_any, cases_Bool, and_parts, nat_list_cmp_total, nat_list_eq_equiv, on_total, is_eq-slice_cmp, bytes_eq-Decides}
+use Rattle.esc_rows.proofs.Common.{list_any-IsPermutation, Key, Blob, Row, value_cmp, value_cmp-Blob, differ, agree, Binary, IsAscending, rowid, Term, col, Output, output_cmp, State, Executes, Shown, Database, sort_by, delete_where}
+use Rattle.esc_rows.proofs.Common.{AreApart, all_weaker, ascending_weaker, ascending-map, IsPermutation-sort_by, rising, parked_tree, insert_parked_text, find_parked_text, parked_digests_text, delete_parked_text, Parked, tree_of}
+use Rattle.esc_rows.proofs.Common.{stored_row, Content, HoldsContent, by_digest, shown_digest, digest_of}
 use Rattle.std.proofs.lemmas.Map.Views.{Contains-from_any, list_any-from_Contains}
-use Rattle.sqlite_value.specs.declared.keys.Key.{Key}
-use Rattle.sqlite_value.specs.declared.value.Value.TheVariants.{Blob}
 use Rattle.sqlite_value.specs.Keys.{first_key}
-use Rattle.sqlite_value.specs.Order.{Row, value_cmp}
-use Rattle.sqlite_value.proofs.OrderLemmas.{value_cmp-Blob}
-use Rattle.sqlite_schema.specs.Rules.{differ, agree}
-use Rattle.sqlite.specs.Collation.TheVariants.{Binary}
-use Rattle.sqlite.specs.Tree.{IsAscending, rowid}
-use Rattle.sqlite.specs.Term.{Term, col}
-use Rattle.sqlite.specs.Query.{Output, output_cmp}
-use Rattle.sqlite.specs.State.{State, Executes, Shown}
-use Rattle.sqlite.specs.Effect.{Database}
-use Rattle.sqlite_keyed.specs.Lists.{sort_by, delete_where}
-use Rattle.sqlite_keyed.specs.Rules.{AreApart}
-use Rattle.sqlite_keyed.proofs.ListLemmas.{all_weaker, ascending_weaker, ascending-map}
-use Rattle.sqlite_keyed.proofs.SortLemmas.{IsPermutation-sort_by}
-use Rattle.esc_rows.specs.Schema.{rising, parked_tree}
-use Rattle.esc_rows.specs.Texts.{insert_parked_text, find_parked_text, parked_digests_text, delete_parked_text}
 use Rattle.esc_rows.specs.Rows.{ParkedRow, parked_number}
-use Rattle.esc_rows.specs.StoreTable.{Parked, tree_of, stored_row}
-use Rattle.esc_rows.specs.Content.{Content, HoldsContent, parked_at, is_parked_at}
-use Rattle.esc_rows.specs.Parked.{PutsParked, RemovesParked, by_digest, ListsParked, shown_parked, ShowsParked, shown_digest, digest_of, ShowsDigests}
+use Rattle.esc_rows.specs.Content.{parked_at, is_parked_at}
+use Rattle.esc_rows.specs.Parked.{PutsParked, RemovesParked, ListsParked, shown_parked, ShowsParked, ShowsDigests}
 use Rattle.esc_rows.proofs.Compiled.{parked_tests, parked_terms, insert_parked_is, find_parked_is, parked_digests_is, delete_parked_is}
 use Rattle.esc_rows.proofs.Frame.{passes_unique}
 use Rattle.esc_rows.proofs.Scan.{scan, no_limit, is_match, put_in_order, same_blob, and_true}

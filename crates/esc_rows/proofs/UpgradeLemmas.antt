@@ -1,25 +1,9 @@
 -- How a store of version 1 becomes one of version 2.
-use Rattle.std.proofs.Common.{◌≡◌, ◌<◌, ℕ, pos, true, List, [], ◌∷◌, map, Ok, refl, sym, ap, ◌∙◌, arith}
-use Rattle.sqlite_value.specs.declared.value.Value.TheVariants.{Null, Int}
-use Rattle.sqlite_value.proofs.OrderLemmas.{value_cmp-Int}
-use Rattle.sqlite_value.specs.Order.{Row}
-use Rattle.sqlite.specs.Command.TheVariants.{Update}
-use Rattle.sqlite.specs.Query.{Output}
-use Rattle.sqlite.specs.Program.{overlay}
-use Rattle.sqlite.specs.Rowids.TheVariants.{Given}
-use Rattle.sqlite.specs.Tree.{Trees}
-use Rattle.sqlite.specs.Edit.{edit_of, edited}
-use Rattle.sqlite.specs.Effect.{Database}
-use Rattle.sqlite.specs.Listing.{understood}
-use Rattle.sqlite.specs.State.{State, mode_of, Executes}
-use Rattle.sqlite.proofs.Callers.{statement_of, runs_as}
-use Rattle.sqlite_rules.specs.Calls.{ids_of}
-use Rattle.esc_rows.specs.Schema.{store_schema, info_tree, info_table}
-use Rattle.esc_rows.specs.Texts.{raise_version_text}
-use Rattle.esc_rows.specs.Rows.{info_row, first_info_row}
-use Rattle.esc_rows.specs.StoreTable.{StoreTable, Parked, Moment, place_of, tree_of, stored_row}
-use Rattle.esc_rows.specs.Content.{Content, rows_of}
-use Rattle.esc_rows.specs.FirstVersion.{HoldsFirst, IsTableAdded, AddsTable, IsToBeRaised, RaisesVersion}
+use Rattle.esc_rows.proofs.Common.{◌≡◌, ◌<◌, ℕ, pos, true, List, [], ◌∷◌, map, Ok, refl, sym, ap, ◌∙◌, arith, Null, Int, value_cmp-Int, Row, Update, Output, overlay, Given, Trees, edit_of, edited, Database, understood, State, mode_of}
+use Rattle.esc_rows.proofs.Common.{Executes, statement_of, runs_as, ids_of, store_schema, info_tree, info_table, raise_version_text, info_row, StoreTable, Parked, Moment, place_of, tree_of, stored_row, Content, rows_of, HoldsFirst}
+use Rattle.esc_rows.proofs.Common.{IsTableAdded, AddsTable}
+use Rattle.esc_rows.specs.Rows.{first_info_row}
+use Rattle.esc_rows.specs.FirstVersion.{IsToBeRaised, RaisesVersion}
 use Rattle.esc_rows.proofs.Compiled.{program_of, version_sets, raise_version_is}
 use Rattle.esc_rows.proofs.Scan.{scan, no_limit, scanned, in_order}
 use Rattle.esc_rows.proofs.Forms.{uncounted, updated}

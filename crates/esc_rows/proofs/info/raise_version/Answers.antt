@@ -1,4 +1,4 @@
-use Rattle.std.proofs.Common.{refl}
+use Rattle.esc_rows.proofs.Common.{refl}
 use Rattle.esc_rows.proofs.PartLemmas.{makes}
 use Rattle.esc_rows.proofs.Compiled.{raise_version_is}
 use Rattle.esc_rows.proofs.UpgradeLemmas.{raises}

@@ -1,4 +1,4 @@
-use Rattle.std.proofs.Common.{refl}
+use Rattle.esc_rows.proofs.Common.{refl}
 use Rattle.esc_rows.proofs.PartLemmas.{tells}
 use Rattle.esc_rows.proofs.Compiled.{find_moment_is}
 use Rattle.esc_rows.proofs.MomentLemmas.{finds_moment}

@@ -1,4 +1,4 @@
-use Rattle.std.proofs.Common.{refl}
+use Rattle.esc_rows.proofs.Common.{refl}
 use Rattle.esc_rows.proofs.PartLemmas.{makes}
 use Rattle.esc_rows.proofs.Compiled.{clear_moment_is}
 use Rattle.esc_rows.proofs.MomentLemmas.{clears_moment}

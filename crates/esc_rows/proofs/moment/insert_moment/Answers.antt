@@ -1,4 +1,5 @@
-use Rattle.std.proofs.Common.{rules, w64}
+use Rattle.esc_rows.proofs.Common.{rules}
+use Rattle.std.proofs.Common.{w64}
 use Rattle.std.proofs.lemmas.Int.{to_z-of_z}
 use Rattle.esc_rows.proofs.PartLemmas.{makes}
 use Rattle.esc_rows.proofs.Compiled.{insert_moment_is}

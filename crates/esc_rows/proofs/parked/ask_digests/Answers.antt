@@ -1,4 +1,4 @@
-use Rattle.std.proofs.Common.{refl}
+use Rattle.esc_rows.proofs.Common.{refl}
 use Rattle.esc_rows.proofs.PartLemmas.{tells}
 use Rattle.esc_rows.proofs.Compiled.{parked_digests_is}
 use Rattle.esc_rows.proofs.ParkedLemmas.{shows_digests}

@@ -1,4 +1,4 @@
-use Rattle.std.proofs.Common.{rules}
+use Rattle.esc_rows.proofs.Common.{rules}
 use Rattle.esc_rows.proofs.PartLemmas.{makes}
 use Rattle.esc_rows.proofs.Compiled.{insert_parked_is}
 use Rattle.esc_rows.proofs.ParkedLemmas.{puts_parked}

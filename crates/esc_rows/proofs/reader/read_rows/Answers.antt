@@ -1,4 +1,4 @@
-use Rattle.std.proofs.Common.{rules, ◌≡◌, ◌<◌, ◌++◌, ◌∷◌, [], length, subst}
+use Rattle.esc_rows.proofs.Common.{rules, ◌≡◌, ◌<◌, ◌++◌, ◌∷◌, [], length, subst}
 use Rattle.esc_rows.proofs.DecodeLemmas.{one_more}
 use Rattle.esc_rows.proofs.reader.read_rows.Goals as goal
 

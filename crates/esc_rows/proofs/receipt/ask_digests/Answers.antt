@@ -1,4 +1,4 @@
-use Rattle.std.proofs.Common.{rules}
+use Rattle.esc_rows.proofs.Common.{rules}
 use Rattle.esc_rows.proofs.PartLemmas.{tells}
 use Rattle.esc_rows.proofs.Compiled.{verdict_digests_is}
 use Rattle.esc_rows.proofs.VerdictLemmas.{shows_verdict_digests}

@@ -1,4 +1,4 @@
-use Rattle.std.proofs.Common.{rules}
+use Rattle.esc_rows.proofs.Common.{rules}
 use Rattle.esc_rows.proofs.PartLemmas.{makes}
 use Rattle.esc_rows.proofs.Compiled.{clear_steps_from_is}
 use Rattle.esc_rows.proofs.TableLemmas.{clears_steps_from}

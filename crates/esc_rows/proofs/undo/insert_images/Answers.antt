@@ -1,7 +1,4 @@
-use Rattle.std.proofs.Common.{map, ap, ◌∙◌}
-use Rattle.std.proofs.lemmas.List.{length-map}
-use Rattle.sqlite.specs.Values.{bound}
-use Rattle.esc_rows.specs.Entries.{new_image}
+use Rattle.esc_rows.proofs.Common.{map, ap, ◌∙◌, length-map, bound, new_image}
 use Rattle.esc_rows.proofs.PartLemmas.{makes}
 use Rattle.esc_rows.proofs.Compiled.{insert_images_is}
 use Rattle.esc_rows.proofs.UndoLemmas.{puts_images}
