@@ -1,7 +1,6 @@
 -- How a store of version 1 becomes one of version 2.
-use Rattle.esc_rows.proofs.Common.{◌≡◌, ◌<◌, ℕ, pos, true, List, [], ◌∷◌, map, Ok, refl, sym, ap, ◌∙◌, arith, Null, Int, value_cmp-Int, Row, Update, Output, overlay, Given, Trees, edit_of, edited, Database, understood, State, mode_of}
-use Rattle.esc_rows.proofs.Common.{Executes, statement_of, runs_as, ids_of, store_schema, info_tree, info_table, raise_version_text, info_row, StoreTable, Parked, Moment, place_of, tree_of, stored_row, Content, rows_of, HoldsFirst}
-use Rattle.esc_rows.proofs.Common.{IsTableAdded, AddsTable}
+use Rattle.esc_rows.proofs.Common.{◌≡◌, ℕ, ◌<◌, pos, List, [], ◌∷◌, refl, arith, map, sym, ap, ◌∙◌, statement_of, runs_as, Update, edit_of, edited, Database, understood, overlay, Output, Given, mode_of, Trees, ids_of, value_cmp-Int}
+use Rattle.esc_rows.proofs.Common.{Row, Null, Int, rows_of, Content, IsTableAdded, AddsTable, HoldsFirst, info_row, store_schema, info_tree, info_table, StoreTable, tree_of, stored_row, Parked, Moment, place_of, raise_version_text}
 use Rattle.esc_rows.specs.Rows.{first_info_row}
 use Rattle.esc_rows.specs.FirstVersion.{IsToBeRaised, RaisesVersion}
 use Rattle.esc_rows.proofs.Compiled.{program_of, version_sets, raise_version_is}
@@ -9,6 +8,8 @@ use Rattle.esc_rows.proofs.Scan.{scan, no_limit, scanned, in_order}
 use Rattle.esc_rows.proofs.Forms.{uncounted, updated}
 use Rattle.esc_rows.proofs.Frame.{not_info, of_first, written, other_rows}
 use Rattle.esc_rows.proofs.Values.{cast_null, cast_int}
+use Rattle.esc_rows.proofs.PartLemmas.{IsWriting}
+use Rattle.std.proofs.lemmas.List.Sorted.{IsPermutation-refl}
 
 -- ---- the version
 
@@ -20,27 +21,30 @@ raised : (db : Trees) (rows : List Row) → db info_tree ≡ first_info_row ∷ 
     → edited db (edit_of db (uncounted info_table) (ids_of rows) Given 1 rows) ≡ info_row ∷ []
 raised db rows was is = rw (is, was, cast_null, cast_int (pos 1), cast_int (pos 2), value_cmp-Int (pos 1) (pos 1)) refl
 
-pub raises : (old new : State) (count : ℕ) → Executes raise_version_text [] old new (Ok count) → RaisesVersion old.now new.now
-raises old new count ran c h =
-    let q = program_of (scan info_tree [] version_sets [] no_limit) in
-    let out : Row → Output = λ r. ([], raised_row) in
-    let one = first_info_row ∷ [] in
-    let w = runs_as raise_version_text [] old new store_schema h.schema_is (Update 0 q) raise_version_is.is raise_version_is.plain count ran in
-    let done = updated old.step_limit (mode_of old) refl [] old.now new.now h.schema_is 0 info_table refl q (statement_of raise_version_text (understood store_schema raise_version_text)) w.tally w.changed in
-    let s = scanned (λ (_ : Row). first_info_row) (λ _. true) out info_tree [] version_sets [] no_limit [] (λ _. refl) (λ _. refl) (overlay old.now.trees []) one done.rows h.info (done.found.answer Null) in
-    let rows : done.rows ≡ raised_row ∷ [] = in_order (λ (_ : Row). first_info_row) (λ _. true) out info_tree [] version_sets [] no_limit [] one done.rows (tt, tt) s in
-    let all = written old.now new.now (edit_of old.now.trees (uncounted info_table) (ids_of done.rows) Given 1 done.rows) h.schema_is w.sound done.edited in
-    record {
-      schema_is = all.same_schema;
-      store = record {
-        rows = record {
-          info = done.edited.applies.rows ∙ raised old.now.trees done.rows h.info rows;
-          tables = λ t. other_rows info_tree old.now new.now all t (λ e. not_info t (sym e)) ∙ h.tables t;
+pub raises : IsWriting raise_version_text [] RaisesVersion
+raises = record {
+  writes = raise_version_is.writes;
+  does = λ old new count ran c h.
+      let q = program_of (scan info_tree [] version_sets [] no_limit) in
+      let out : Row → Output = λ r. ([], raised_row) in
+      let one = first_info_row ∷ [] in
+      let w = runs_as raise_version_text [] old new store_schema h.schema_is (Update 0 q) raise_version_is.is raise_version_is.plain count ran in
+      let done = updated old.step_limit (mode_of old) refl [] old.now new.now h.schema_is 0 info_table refl q (statement_of raise_version_text (understood store_schema raise_version_text)) w.tally w.changed in
+      let s = scanned out info_tree [] version_sets [] no_limit [] (λ (_ : Row). first_info_row) (λ _. refl) (overlay old.now.trees []) one one done.rows h.info refl (done.found.answer Null) in
+      let rows : done.rows ≡ raised_row ∷ [] = in_order out info_tree [] version_sets [] no_limit [] one one done.rows (IsPermutation-refl one) (tt, tt) s in
+      let all = written old.now new.now (edit_of old.now.trees (uncounted info_table) (ids_of done.rows) Given 1 done.rows) h.schema_is w.sound done.edited in
+      record {
+        schema_is = all.same_schema;
+        store = record {
+          rows = record {
+            info = done.edited.applies.rows ∙ raised old.now.trees done.rows h.info rows;
+            tables = λ t. other_rows info_tree old.now new.now all t (λ e. not_info t (sym e)) ∙ h.tables t;
+          };
+          ordered = h.ordered;
+          sound = all.sound;
         };
-        ordered = h.ordered;
-        sound = all.sound;
       };
-    }
+}
 
 -- ---- the two new tables
 

@@ -1,6 +1,5 @@
 use Rattle.esc_rows.proofs.Common.{map, ap, ◌∙◌, length-map, bound, new_entry}
 use Rattle.esc_rows.proofs.PartLemmas.{makes}
-use Rattle.esc_rows.proofs.Compiled.{insert_objects_is}
 use Rattle.esc_rows.proofs.ObjectLemmas.{inserts_objects}
 use Rattle.esc_rows.proofs.object.insert_objects.Goals as goal
 
@@ -8,7 +7,6 @@ pub returns : goal.returns
 returns g c =
     let rows = c.args.rows.now in
     record {
-      part = makes g.S.Store insert_objects_is c.write_within.ensures
-          (inserts_objects _ _ (map new_entry rows) (length-map rows new_entry ∙ c.requires))
+      part = makes g.S.Store (inserts_objects (map new_entry rows) (length-map rows new_entry ∙ c.requires)) c.write_within.ensures
           (ap bound c.as_slice.ensures.value ∙ c.in_ok-params.ensures.params);
     }
