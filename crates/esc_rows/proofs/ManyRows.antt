@@ -12,8 +12,7 @@ use Rattle.sqlite_keyed.proofs.KeyedLemmas.{above_all}
 use Rattle.esc_rows.proofs.Compiled.{IsWrite, rows_terms}
 use Rattle.esc_rows.proofs.Forms.{uncounted}
 use Rattle.esc_rows.proofs.Statements.{leaves}
-use Rattle.esc_rows.proofs.Typed.{stored, put_typed, next_typed}
-use Rattle.esc_rows.proofs.NumberLemmas.{insert_last}
+use Rattle.esc_rows.proofs.Typed.{stored, put_typed, next_typed, insert_last}
 use Rattle.esc_rows.proofs.PartLemmas.{IsWriting}
 
 -- the parameters of a row come after those of the rows before it

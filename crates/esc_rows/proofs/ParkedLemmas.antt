@@ -1,23 +1,24 @@
--- What the statements on parked bodies do.
-use Rattle.esc_rows.proofs.Common.{◌≡◌, ℕ, true, false, List, [], ◌∷◌, refl, inl, inr, filter, ◌≤◌, map, length, sym, ap, subst, ◌∙◌, Bool, ◌||◌, Less, is_eq, is_some, bytes_eq, cases_Bool, and_parts, nat_list_cmp_total}
-use Rattle.esc_rows.proofs.Common.{nat_list_eq_equiv, on_total, list_any-IsPermutation, is_eq-slice_cmp, bytes_eq-Decides, IsTotalOrder, slice_cmp, list_any, nat_cmp, Database, IsAscending, map-map, ascending_weaker, ascending-map}
-use Rattle.esc_rows.proofs.Common.{IsPermutation-sort_by, sort_by, delete_where, AreApart, value_cmp-Blob, Row, Blob, HoldsContent, Content, by_digest, shown_digest, digest_of, rising, stored_row, Parked, insert_parked_text}
-use Rattle.esc_rows.proofs.Common.{find_parked_text, parked_digests_text, delete_parked_text}
+-- What the statements on parked bodies and on the moment do.
+use Rattle.esc_rows.proofs.Common.{◌≡◌, ℕ, pos, true, false, List, [], ◌∷◌, refl, arith, inl, inr, filter, ◌≤◌, ◌<ℤ◌, map, length, Option, None, sym, ap, subst, ◌∙◌, ℤ, Bool, ◌||◌, slice_get, Some, option_map, Less, is_eq, is_some}
+use Rattle.esc_rows.proofs.Common.{bytes_eq, cases_Bool, and_parts, nat_list_cmp_total, nat_list_eq_equiv, on_total, ints, list_any-IsPermutation, is_eq-slice_cmp, bytes_eq-Decides, IsTotalOrder, slice_cmp, list_any, nat_cmp, Database}
+use Rattle.esc_rows.proofs.Common.{IsAscending, map-map, ascending_weaker, ascending-map, IsPermutation-sort_by, IsKeyedBy, insert_by, has_key, sort_by, delete_where, AreApart, value_cmp-Blob, Row, Int, Blob, Becomes, HoldsContent}
+use Rattle.esc_rows.proofs.Common.{Content, first_of, by_digest, shown_digest, digest_of, rising, stored_row, Parked, Moment, insert_parked_text, find_parked_text, parked_digests_text, delete_parked_text, clear_moment_text}
+use Rattle.esc_rows.proofs.Common.{insert_moment_text, find_moment_text}
 use Rattle.std.proofs.lemmas.Map.Views.{Contains-from_any, list_any-from_Contains}
 use Rattle.sqlite_value.specs.Keys.{first_key}
-use Rattle.esc_rows.specs.Rows.{ParkedRow}
-use Rattle.esc_rows.specs.Content.{parked_at, is_parked_at}
-use Rattle.esc_rows.specs.Parked.{PutsParked, RemovesParked, ListsParked, shown_parked, ShowsParked, ShowsDigests}
-use Rattle.esc_rows.proofs.Compiled.{parked_tests, insert_parked_is, find_parked_is, parked_digests_is, delete_parked_is}
-use Rattle.esc_rows.proofs.Scan.{is_match, same_blob, and_true}
+use Rattle.esc_rows.specs.Rows.{ParkedRow, MomentRow, moment_number}
+use Rattle.esc_rows.specs.Content.{parked_at, is_parked_at, moment_of}
+use Rattle.esc_rows.specs.Parked.{PutsParked, RemovesParked, ListsParked, shown_parked, ShowsParked, ShowsDigests, without_moment, moment_row, SetsMoment, shown_moment, ShowsMoment}
+use Rattle.esc_rows.proofs.Compiled.{parked_tests, insert_parked_is, find_parked_is, parked_digests_is, delete_parked_is, clear_moment_is, insert_moment_is, find_moment_is}
+use Rattle.esc_rows.proofs.Scan.{is_match, same_blob, and_true, short_rises}
 use Rattle.esc_rows.proofs.ManyRows.{gains, of_one}
-use Rattle.esc_rows.proofs.Values.{cast_null}
+use Rattle.esc_rows.proofs.Values.{cast_null, cast_int}
 use Rattle.esc_rows.proofs.Finds.{at_most_one_apart, rows_apart, found-delete}
-use Rattle.esc_rows.proofs.Sorts.{then_equal}
-use Rattle.esc_rows.proofs.Firsts.{rises-sorted}
-use Rattle.esc_rows.proofs.NumberLemmas.{every}
-use Rattle.esc_rows.proofs.Statements.{finds, cuts, asks_sorted}
+use Rattle.esc_rows.proofs.Sorts.{then_equal, rises-sorted}
+use Rattle.esc_rows.proofs.Typed.{every}
+use Rattle.esc_rows.proofs.Statements.{finds, cuts, asks_sorted, clears, adds, asks_in_order}
 use Rattle.esc_rows.proofs.PartLemmas.{IsAsking, IsWriting, writing_as, asking_as}
+use Rattle.std.proofs.lemmas.List.Sorted.{IsPermutation-refl}
 
 -- the two are under one digest
 abbrev pub is_same_parked : ParkedRow → ParkedRow → Bool
@@ -101,3 +102,38 @@ lists_parked db c found h is = subst (ListsParked c) (sym is) (record {
   there d =
       among d (sort_by by_digest c.parked)
       ∙ list_any-IsPermutation (λ (p : ParkedRow). bytes_eq d p.digest) (sort_by by_digest c.parked) c.parked (IsPermutation-sort_by by_digest total c.parked) ∙ found_any d c.parked
+
+-- ---- what the statements on the moment do
+
+pub clears_moment : IsWriting clear_moment_text [] (Becomes without_moment)
+clears_moment = clears Moment clear_moment_is
+
+-- every row has the one number
+none_free : (ms : List MomentRow) → has_key moment_number ms (pos 1) ≡ false → ms ≡ []
+none_free [] free = refl
+none_free (m ∷ ms) free = absurd cc
+
+pub sets_moment : (watermark : ℤ) → IsWriting insert_moment_text (Int watermark ∷ []) (SetsMoment watermark)
+sets_moment watermark =
+    let m = moment_row watermark in
+    writing_as (adds Moment insert_moment_is m refl (rw (cast_null, cast_int (pos 1), cast_int watermark) refl)) (λ old new added c h.
+    let none = none_free c.moment (added c h).1 in
+    (subst (λ ms. HoldsContent new (record c { moment = insert_by moment_number ms m })) none (added c h).0, none))
+
+-- of rows that all have one number there is one at most
+pub one_moment : (ms : List MomentRow) → IsKeyedBy moment_number ms → length ms ≤ 1
+one_moment (m ∷ n ∷ ms) up = absurd (let low : pos 1 <ℤ pos 1 = up.0.0 in omega (arith, ints))
+one_moment _ up = omega arith
+
+pub finds_moment : IsAsking find_moment_text [] ShowsMoment
+finds_moment =
+    asks_in_order Moment (λ m. ([], shown_moment m)) find_moment_is every (λ m. refl) (λ c. c.moment)
+    (λ db c h. (IsPermutation-refl c.moment, short_rises _ c.moment (one_moment c.moment (h.store.ordered Moment))))
+
+pub moment_is : (c : Content) (rows : List Row) (found : Option ℤ) → ShowsMoment c rows → option_map Int found ≡ option_map first_of (slice_get rows 0) → found ≡ moment_of c.moment
+moment_is c rows found shows is = go c.moment found (is ∙ ap (λ l. option_map first_of (slice_get l 0)) shows)
+  where
+    go : (ms : List MomentRow) (o : Option ℤ) → option_map Int o ≡ option_map first_of (slice_get (map shown_moment ms) 0) → o ≡ moment_of ms
+    go [] None h = refl
+    go (m ∷ ms) (Some w) h = let e : w ≡ m.watermark = cc in ap Some e
+    go _ _ h = let no : ⊥ = cc in absurd no

@@ -1,6 +1,6 @@
 use Rattle.esc_rows.proofs.Common.{refl}
 use Rattle.esc_rows.proofs.PartLemmas.{makes}
-use Rattle.esc_rows.proofs.UpgradeLemmas.{raises}
+use Rattle.esc_rows.proofs.CreateLemmas.{raises}
 use Rattle.esc_rows.proofs.info.raise_version.Goals as goal
 
 pub returns : goal.returns

@@ -1,5 +1,5 @@
 use Rattle.esc_rows.proofs.Common.{◌∙◌, if_goes}
-use Rattle.esc_rows.proofs.MomentLemmas.{moment_is}
+use Rattle.esc_rows.proofs.ParkedLemmas.{moment_is}
 use Rattle.esc_rows.proofs.PartLemmas.{read_then}
 use Rattle.esc_rows.proofs.moment.find_moment.Goals as goal
 

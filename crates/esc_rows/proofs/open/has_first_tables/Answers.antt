@@ -1,5 +1,5 @@
 use Rattle.esc_rows.proofs.Common.{◌∙◌, state}
-use Rattle.esc_rows.proofs.OpenLemmas.{opens_first}
+use Rattle.esc_rows.proofs.Forms.{opens_first}
 use Rattle.esc_rows.proofs.open.has_first_tables.Goals as goal
 
 pub returns-clause-found : goal.returns-clause-found

@@ -1,6 +1,6 @@
-use Rattle.esc_rows.proofs.Common.{rules, IsTrue, Ok, Err, sym, ap, subst, ◌∙◌, RunsInside, state, survives_weaker}
+use Rattle.esc_rows.proofs.Common.{Ok, sym, ap, subst, ◌∙◌, Err, IsTrue, rules, survives_weaker, state, RunsInside}
 use Rattle.std.proofs.lemmas.Result.{err_from_is_err_and}
-use Rattle.esc_rows.proofs.WithinLemmas.{within, commits_none}
+use Rattle.esc_rows.proofs.RowTexts.{within, commits_none}
 use Rattle.esc_rows.proofs.within.write_within.Goals as goal
 
 pub returns-in_err-execute-clause-runs : goal.returns-in_err-execute-clause-runs
