@@ -1,6 +1,4 @@
-use Rattle.esc_rows.proofs.Common.{refl}
-use Rattle.esc_rows.proofs.PartLemmas.{makes}
-use Rattle.esc_rows.proofs.CreateLemmas.{raises}
+use Rattle.esc_rows.proofs.Calls.{refl, makes, raises}
 use Rattle.esc_rows.proofs.info.raise_version.Goals as goal
 
 pub returns : goal.returns

@@ -1,6 +1,4 @@
-use Rattle.esc_rows.proofs.Common.{◌∙◌, shown_listed, listed_row, if_goes}
-use Rattle.esc_rows.proofs.DecodeLemmas.{reads_back}
-use Rattle.esc_rows.proofs.PartLemmas.{read_then}
+use Rattle.esc_rows.proofs.Calls.{◌∙◌, shown_listed, listed_row, if_goes, reads_back, read_then}
 use Rattle.esc_rows.proofs.listed.all_listed.Goals as goal
 
 pub returns : goal.returns

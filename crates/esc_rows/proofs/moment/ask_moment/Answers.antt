@@ -1,6 +1,4 @@
-use Rattle.esc_rows.proofs.Common.{refl}
-use Rattle.esc_rows.proofs.PartLemmas.{tells}
-use Rattle.esc_rows.proofs.ParkedLemmas.{finds_moment}
+use Rattle.esc_rows.proofs.Calls.{refl, tells, finds_moment}
 use Rattle.esc_rows.proofs.moment.ask_moment.Goals as goal
 
 pub returns : goal.returns

@@ -1,6 +1,4 @@
-use Rattle.esc_rows.proofs.Common.{refl}
-use Rattle.esc_rows.proofs.PartLemmas.{makes}
-use Rattle.esc_rows.proofs.ParkedLemmas.{clears_moment}
+use Rattle.esc_rows.proofs.Calls.{refl, makes, clears_moment}
 use Rattle.esc_rows.proofs.moment.clear_moment.Goals as goal
 
 pub returns : goal.returns

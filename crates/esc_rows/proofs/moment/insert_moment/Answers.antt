@@ -1,8 +1,6 @@
-use Rattle.esc_rows.proofs.Common.{rules}
+use Rattle.esc_rows.proofs.Calls.{rules, makes, sets_moment}
 use Rattle.std.proofs.Common.{w64}
 use Rattle.std.proofs.lemmas.Int.{to_z-of_z}
-use Rattle.esc_rows.proofs.PartLemmas.{makes}
-use Rattle.esc_rows.proofs.ParkedLemmas.{sets_moment}
 use Rattle.esc_rows.proofs.moment.insert_moment.Goals as goal
 
 pub returns : goal.returns

@@ -1,6 +1,4 @@
-use Rattle.esc_rows.proofs.Common.{map, ap, ◌∙◌, length-map, bound, new_entry}
-use Rattle.esc_rows.proofs.PartLemmas.{makes}
-use Rattle.esc_rows.proofs.ObjectLemmas.{inserts_objects}
+use Rattle.esc_rows.proofs.Calls.{map, ap, ◌∙◌, length-map, bound, new_entry, makes, inserts_objects}
 use Rattle.esc_rows.proofs.object.insert_objects.Goals as goal
 
 pub returns : goal.returns

@@ -1,5 +1,4 @@
-use Rattle.esc_rows.proofs.Common.{◌∙◌, state}
-use Rattle.esc_rows.proofs.Forms.{opens_first}
+use Rattle.esc_rows.proofs.Calls.{◌∙◌, state, opens_first}
 use Rattle.esc_rows.proofs.open.has_first_tables.Goals as goal
 
 pub returns-clause-found : goal.returns-clause-found

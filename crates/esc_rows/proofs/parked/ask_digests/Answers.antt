@@ -1,6 +1,4 @@
-use Rattle.esc_rows.proofs.Common.{refl}
-use Rattle.esc_rows.proofs.PartLemmas.{tells}
-use Rattle.esc_rows.proofs.ParkedLemmas.{shows_digests}
+use Rattle.esc_rows.proofs.Calls.{refl, tells, shows_digests}
 use Rattle.esc_rows.proofs.parked.ask_digests.Goals as goal
 
 pub returns : goal.returns

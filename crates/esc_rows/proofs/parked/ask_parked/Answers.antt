@@ -1,6 +1,4 @@
-use Rattle.esc_rows.proofs.Common.{rules}
-use Rattle.esc_rows.proofs.PartLemmas.{tells}
-use Rattle.esc_rows.proofs.ParkedLemmas.{finds_parked}
+use Rattle.esc_rows.proofs.Calls.{rules, tells, finds_parked}
 use Rattle.esc_rows.proofs.parked.ask_parked.Goals as goal
 
 pub returns : goal.returns

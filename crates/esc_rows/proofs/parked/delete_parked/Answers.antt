@@ -1,6 +1,4 @@
-use Rattle.esc_rows.proofs.Common.{rules}
-use Rattle.esc_rows.proofs.PartLemmas.{makes}
-use Rattle.esc_rows.proofs.ParkedLemmas.{removes_parked}
+use Rattle.esc_rows.proofs.Calls.{rules, makes, removes_parked}
 use Rattle.esc_rows.proofs.parked.delete_parked.Goals as goal
 
 pub returns : goal.returns

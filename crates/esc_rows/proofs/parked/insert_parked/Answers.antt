@@ -1,6 +1,4 @@
-use Rattle.esc_rows.proofs.Common.{rules}
-use Rattle.esc_rows.proofs.PartLemmas.{makes}
-use Rattle.esc_rows.proofs.ParkedLemmas.{puts_parked}
+use Rattle.esc_rows.proofs.Calls.{rules, makes, puts_parked}
 use Rattle.esc_rows.proofs.parked.insert_parked.Goals as goal
 
 pub returns : goal.returns

@@ -1,7 +1,4 @@
-use Rattle.esc_rows.proofs.Common.{map, ◌∙◌, sort_by, by_digest, digest_of, shown_digest, if_goes}
-use Rattle.esc_rows.proofs.DecodeLemmas.{reads_back}
-use Rattle.esc_rows.proofs.ParkedLemmas.{lists_parked}
-use Rattle.esc_rows.proofs.PartLemmas.{read_then}
+use Rattle.esc_rows.proofs.Calls.{map, ◌∙◌, sort_by, by_digest, digest_of, shown_digest, if_goes, reads_back, lists_parked, read_then}
 use Rattle.esc_rows.proofs.parked.parked_digests.Goals as goal
 
 pub returns : goal.returns

@@ -1,6 +1,4 @@
-use Rattle.esc_rows.proofs.Common.{rules}
-use Rattle.esc_rows.proofs.PartLemmas.{tells}
-use Rattle.esc_rows.proofs.ReceiptLemmas.{shows_verdict_digests}
+use Rattle.esc_rows.proofs.Calls.{rules, tells, shows_verdict_digests}
 use Rattle.esc_rows.proofs.receipt.ask_digests.Goals as goal
 
 pub returns : goal.returns

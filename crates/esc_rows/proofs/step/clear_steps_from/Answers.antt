@@ -1,6 +1,4 @@
-use Rattle.esc_rows.proofs.Common.{rules}
-use Rattle.esc_rows.proofs.PartLemmas.{makes}
-use Rattle.esc_rows.proofs.TableLemmas.{clears_steps_from}
+use Rattle.esc_rows.proofs.Calls.{rules, makes, clears_steps_from}
 use Rattle.esc_rows.proofs.step.clear_steps_from.Goals as goal
 
 pub returns : goal.returns

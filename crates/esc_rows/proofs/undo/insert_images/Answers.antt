@@ -1,6 +1,4 @@
-use Rattle.esc_rows.proofs.Common.{map, ap, ◌∙◌, length-map, bound, new_image}
-use Rattle.esc_rows.proofs.PartLemmas.{makes}
-use Rattle.esc_rows.proofs.UndoLemmas.{puts_images}
+use Rattle.esc_rows.proofs.Calls.{map, ap, ◌∙◌, length-map, bound, new_image, makes, puts_images}
 use Rattle.esc_rows.proofs.undo.insert_images.Goals as goal
 
 pub returns : goal.returns

@@ -1,6 +1,5 @@
-use Rattle.esc_rows.proofs.Common.{Ok, sym, ap, subst, ◌∙◌, Err, IsTrue, rules, survives_weaker, state, RunsInside}
+use Rattle.esc_rows.proofs.Calls.{Ok, sym, ap, subst, ◌∙◌, Err, IsTrue, rules, survives_weaker, state, RunsInside, within, commits_none}
 use Rattle.std.proofs.lemmas.Result.{err_from_is_err_and}
-use Rattle.esc_rows.proofs.RowTexts.{within, commits_none}
 use Rattle.esc_rows.proofs.within.write_within.Goals as goal
 
 pub returns-in_err-execute-clause-runs : goal.returns-in_err-execute-clause-runs
