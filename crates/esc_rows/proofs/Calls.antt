@@ -2,7 +2,7 @@
 pub use Rattle.esc_rows.proofs.Common.{arith, subst, PutsListed, listed_row, ◌+◌, sym, table_at, schema_of, ◌≡◌, Ok, state, Error, IsPart, Builds, no_schema, rules, ShowsVersion, refl, ◌∙◌, shown_listed, if_goes, map, map-map, sort_by}
 pub use Rattle.esc_rows.proofs.Common.{object_entry, by_key, object_of, shown_entry, ap, length-map, bound, new_entry, first_of, number_value, shown_kind, zero, ◌≢◌, ObjectEntry, CountsObject, filter, take, take-map, is_kind_from}
 pub use Rattle.esc_rows.proofs.Common.{shown_object, by_digest, digest_of, shown_digest, ◌<◌, ◌++◌, ◌∷◌, [], length, shown_receipt, Some, None, slice_get, common_steps, shown_step, survives_weaker, Err, each_err, new_image, image_entry}
-pub use Rattle.esc_rows.proofs.Common.{by_image, shown_image_entry, IsTrue, RunsInside}
+pub use Rattle.esc_rows.proofs.Common.{by_image, shown_image_entry, IsTrue, RunsInside, inl}
 pub use Rattle.esc_rows.proofs.Compiled.{IsCreate, create_is, select_version_is}
 pub use Rattle.esc_rows.proofs.CreateLemmas.{adds_next, adds_table, builds, AddsBoth, adds_both, shows_version, makes_empty, raises}
 pub use Rattle.esc_rows.proofs.DecodeLemmas.{reads_back, reads_numbers, numbers_are, one_more}
