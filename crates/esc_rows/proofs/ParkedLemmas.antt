@@ -1,6 +1,6 @@
 -- What the statements on parked bodies and on the moment do.
-use Rattle.esc_rows.proofs.Common.{◌≡◌, ℕ, pos, true, false, List, [], ◌∷◌, refl, arith, inl, inr, filter, ◌≤◌, ◌<ℤ◌, map, length, Option, None, sym, ap, subst, ◌∙◌, ℤ, Bool, ◌||◌, slice_get, Some, option_map, Less, is_eq, is_some}
-use Rattle.esc_rows.proofs.Common.{bytes_eq, cases_Bool, and_parts, nat_list_cmp_total, nat_list_eq_equiv, on_total, ints, list_any-IsPermutation, is_eq-slice_cmp, bytes_eq-Decides, IsTotalOrder, slice_cmp, list_any, nat_cmp, Database}
+use Rattle.esc_rows.proofs.Common.{◌≡◌, ℕ, pos, true, false, List, [], ◌∷◌, refl, arith, inl, inr, filter, ◌≤◌, ◌<ℤ◌, map, length, Option, None, sym, ap, subst, ◌∙◌, ℤ, Bool, slice_get, Some, option_map, Less, is_eq, is_some, bytes_eq}
+use Rattle.esc_rows.proofs.Common.{cases_Bool, and_parts, nat_list_cmp_total, nat_list_eq_equiv, on_total, ints, list_any-IsPermutation, is_eq-slice_cmp, bytes_eq-Decides, IsTotalOrder, slice_cmp, list_any, nat_cmp, Database}
 use Rattle.esc_rows.proofs.Common.{IsAscending, map-map, ascending_weaker, ascending-map, IsPermutation-sort_by, IsKeyedBy, insert_by, has_key, sort_by, delete_where, AreApart, value_cmp-Blob, Row, Int, Blob, Becomes, HoldsContent}
 use Rattle.esc_rows.proofs.Common.{Content, first_of, by_digest, shown_digest, digest_of, rising, stored_row, Parked, Moment, insert_parked_text, find_parked_text, parked_digests_text, delete_parked_text, clear_moment_text}
 use Rattle.esc_rows.proofs.Common.{insert_moment_text, find_moment_text}
@@ -13,7 +13,7 @@ use Rattle.esc_rows.proofs.Compiled.{parked_tests, insert_parked_is, find_parked
 use Rattle.esc_rows.proofs.Scan.{is_match, same_blob, and_true, short_rises}
 use Rattle.esc_rows.proofs.ManyRows.{gains, of_one}
 use Rattle.esc_rows.proofs.Values.{cast_null, cast_int}
-use Rattle.esc_rows.proofs.Finds.{at_most_one_apart, rows_apart, found-delete}
+use Rattle.esc_rows.proofs.Finds.{at_most_one_apart, rows_apart, found-delete, any-map}
 use Rattle.esc_rows.proofs.Sorts.{then_equal, rises-sorted}
 use Rattle.esc_rows.proofs.Typed.{every}
 use Rattle.esc_rows.proofs.Statements.{finds, cuts, asks_sorted, clears, adds, asks_in_order}
@@ -84,11 +84,7 @@ shows_digests =
     asking_as (asks_sorted Parked (λ p. (Blob p.digest ∷ [], Blob p.digest ∷ [])) parked_digests_is every (λ p. refl) by_digest total (λ a b. then_equal _ ∙ value_cmp-Blob a.digest b.digest) unlike)
     (λ c rows is. is ∙ sym (map-map shown_digest digest_of (sort_by by_digest c.parked)))
 
--- a digest is among those of the rows exactly where a body is found under it
-among : (d : List ℕ) (ps : List ParkedRow) → list_any (bytes_eq d) (map digest_of ps) ≡ list_any (λ (p : ParkedRow). bytes_eq d p.digest) ps
-among d [] = refl
-among d (p ∷ ps) = ap (λ b. bytes_eq d p.digest || b) (among d ps)
-
+-- a digest is that of a row exactly where a body is found under it
 found_any : (d : List ℕ) (ps : List ParkedRow) → list_any (λ (p : ParkedRow). bytes_eq d p.digest) ps ≡ is_some (parked_at d ps)
 found_any d [] = refl
 found_any d (p ∷ ps) = rw (nat_list_eq_equiv.symm d p.digest) (elim (cases_Bool (bytes_eq p.digest d)) [ inl is ↦ rw is refl | inr other ↦ rw other (found_any d ps) ])
@@ -100,7 +96,7 @@ lists_parked db c found h is = subst (ListsParked c) (sym is) (record {
 }) where
   there : (d : List ℕ) → list_any (bytes_eq d) (map digest_of (sort_by by_digest c.parked)) ≡ is_some (parked_at d c.parked)
   there d =
-      among d (sort_by by_digest c.parked)
+      any-map (bytes_eq d) (λ (p : ParkedRow). bytes_eq d p.digest) digest_of (λ p. refl) (sort_by by_digest c.parked)
       ∙ list_any-IsPermutation (λ (p : ParkedRow). bytes_eq d p.digest) (sort_by by_digest c.parked) c.parked (IsPermutation-sort_by by_digest total c.parked) ∙ found_any d c.parked
 
 -- ---- what the statements on the moment do
