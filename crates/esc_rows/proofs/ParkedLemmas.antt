@@ -2,7 +2,7 @@
 use Rattle.esc_rows.proofs.Common.{◌≡◌, ℕ, pos, true, false, List, [], ◌∷◌, refl, arith, inl, inr, filter, ◌≤◌, ◌<ℤ◌, map, length, Option, None, sym, ap, subst, ◌∙◌, ℤ, Bool, slice_get, Some, option_map, Less, is_eq, is_some, bytes_eq}
 use Rattle.esc_rows.proofs.Common.{cases_Bool, and_parts, nat_list_cmp_total, nat_list_eq_equiv, on_total, ints, list_any-IsPermutation, is_eq-slice_cmp, bytes_eq-Decides, IsTotalOrder, slice_cmp, list_any, nat_cmp, Database}
 use Rattle.esc_rows.proofs.Common.{IsAscending, map-map, ascending_weaker, ascending-map, IsPermutation-sort_by, IsKeyedBy, insert_by, has_key, sort_by, delete_where, AreApart, value_cmp-Blob, Row, Int, Blob, Becomes, HoldsContent}
-use Rattle.esc_rows.proofs.Common.{Content, first_of, by_digest, shown_digest, digest_of, rising, stored_row, Parked, Moment, insert_parked_text, find_parked_text, parked_digests_text, delete_parked_text, clear_moment_text}
+use Rattle.esc_rows.proofs.Common.{Content, first_of, by_digest, shown_digest, digest_of, stored_row, Parked, Moment, insert_parked_text, find_parked_text, parked_digests_text, delete_parked_text, clear_moment_text}
 use Rattle.esc_rows.proofs.Common.{insert_moment_text, find_moment_text}
 use Rattle.std.proofs.lemmas.Map.Views.{Contains-from_any, list_any-from_Contains}
 use Rattle.sqlite_value.specs.Keys.{first_key}
