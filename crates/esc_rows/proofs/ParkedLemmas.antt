@@ -99,7 +99,7 @@ lists_parked db c found h is = subst (ListsParked c) (sym is) (record {
       any-map (bytes_eq d) (λ (p : ParkedRow). bytes_eq d p.digest) digest_of (λ p. refl) (sort_by by_digest c.parked)
       ∙ list_any-IsPermutation (λ (p : ParkedRow). bytes_eq d p.digest) (sort_by by_digest c.parked) c.parked (IsPermutation-sort_by by_digest total c.parked) ∙ found_any d c.parked
 
--- ---- what the statements on the moment do
+-- ---- the moment
 
 pub clears_moment : IsWriting clear_moment_text [] (Becomes without_moment)
 clears_moment = clears Moment clear_moment_is
