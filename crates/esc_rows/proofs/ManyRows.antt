@@ -1,37 +1,19 @@
 -- Rows that one statement adds: what its parameters give, how SQLite numbers them, and what is found after.
-use Rattle.std.proofs.Common.{◌≡◌, inl, inr, ◌≤◌, ℕ, suc, ◌+◌, ◌/◌, ℤ, pos, ◌<ℤ◌, ◌+ℤ◌, Bool, true, false, cond, List, [], ◌∷◌}
-use Rattle.std.proofs.Common.{◌++◌, map, filter, length, take, drop, slice_get, Option, Some, None, option_map, Ok, refl, sym, ap, ap₂, subst, ◌∙◌, arith}
-use Rattle.std.specs.Prelude.{find, fold, is_some}
-use Rattle.std.specs.List.{AllByRecursion, flat_map}
-use Rattle.std.specs.Option.{option_or}
-use Rattle.std.proofs.lemmas.Bool.{cases_Bool}
+use Rattle.esc_rows.proofs.Common.{◌≡◌, ℕ, suc, ◌+◌, pos, true, false, List, [], ◌∷◌, ◌++◌, refl, arith, inl, inr, filter, ◌≤◌, ◌<ℤ◌, map, take, length, Option, None, sym, ap, subst, ◌∙◌, ap₂, ℤ, Bool, cond, slice_get, Some, option_map}
+use Rattle.esc_rows.proofs.Common.{find, ◌/◌, ◌+ℤ◌, fold, is_some, cases_Bool, AllByRecursion, flat_map, option_or, Insert, Database, value_rows, Chosen, stamped, Values, Term, eval_all, put_row, IsKeyedBy-insert_by, slice_get-filter}
+use Rattle.esc_rows.proofs.Common.{map-map, map_same, is_some-map, IsKeyedBy, cast_row, Row, column, Null, Int, HoldsContent, rows_of, Content, with_rows, StoreTable, Listed, RowOf, schema_table, place_of, row_number, row_columns}
+use Rattle.std.proofs.Common.{drop}
 use Rattle.std.proofs.lemmas.List.{append-nil, append_assoc, length-append}
 use Rattle.std.proofs.lemmas.List.Folds.{find-append}
 use Rattle.std.proofs.lemmas.List.Elements.{filter-append}
 use Rattle.std.proofs.Math.Seq.{take-append_seam, drop-append_seam}
-use Rattle.sqlite_value.specs.declared.value.Value.TheVariants.{Null, Int}
-use Rattle.sqlite_value.specs.Order.{Row, column}
-use Rattle.sqlite.specs.Term.{Term, eval_all}
-use Rattle.sqlite.specs.Effect.{value_rows}
-use Rattle.sqlite.specs.Rows.{stamped}
-use Rattle.sqlite.specs.Source.TheVariants.{Values}
-use Rattle.sqlite.specs.Command.TheVariants.{Insert}
-use Rattle.sqlite.specs.State.{State, Executes}
-use Rattle.sqlite_rules.specs.Cast.{cast_row}
-use Rattle.sqlite.specs.Tree.{put_row}
 use Rattle.sqlite.specs.Edit.{numbered, next_rowid, put_all}
-use Rattle.sqlite.specs.Rowids.TheVariants.{Chosen}
-use Rattle.sqlite_keyed.specs.Keyed.{IsKeyedBy}
-use Rattle.sqlite_keyed.proofs.KeyedLemmas.{above_all, IsKeyedBy-insert_by}
-use Rattle.sqlite_keyed.proofs.ListLemmas.{map-map, map_same, slice_get-filter}
-use Rattle.sqlite_keyed.proofs.SliceLemmas.{is_some-map}
-use Rattle.esc_rows.specs.StoreTable.{StoreTable, RowOf, schema_table, place_of, row_number, row_columns}
-use Rattle.esc_rows.specs.Content.{Content, HoldsContent, rows_of, with_rows}
+use Rattle.sqlite_keyed.proofs.KeyedLemmas.{above_all}
 use Rattle.esc_rows.proofs.Compiled.{IsWrite, rows_terms}
 use Rattle.esc_rows.proofs.Forms.{uncounted}
 use Rattle.esc_rows.proofs.Statements.{leaves}
-use Rattle.esc_rows.proofs.Typed.{stored, put_typed, next_typed}
-use Rattle.esc_rows.proofs.NumberLemmas.{insert_last}
+use Rattle.esc_rows.proofs.Typed.{stored, put_typed, next_typed, insert_last}
+use Rattle.esc_rows.proofs.PartLemmas.{IsWriting}
 
 -- the parameters of a row come after those of the rows before it
 pub column_behind : (before row : Row) (at : ℕ) → column (before ++ row) (length before + at) ≡ column row at
@@ -61,11 +43,11 @@ each_same : {E : Type 0} (f : Row → Row) (g : E → Row) → ((e : E) → f (g
 each_same f g same es = map-map f g es ∙ map_same (λ e. f (g e)) g same es
 
 -- one more than the last number, or 1 if there is none
-abbrev pub next_id : {X : Type 0} → (X → ℕ) → List X → ℕ
+abbrev next_id : {X : Type 0} → (X → ℕ) → List X → ℕ
 next_id id = fold (λ _ x. id x + 1) 1
 
 -- rows numbered from n on
-abbrev pub made : {X E : Type 0} → (ℕ → E → X) → ℕ → List E → List X
+abbrev made : {X E : Type 0} → (ℕ → E → X) → ℕ → List E → List X
 made make n [] = []
 made make n (e ∷ es) = make n e ∷ made make (n + 1) es
 
@@ -98,18 +80,6 @@ module _ {X E : Type 0} (make : ℕ → E → X) (key : X → ℤ) (id : X → �
       let more = puts_all es (xs ++ x ∷ []) (subst (IsKeyedBy key) last (IsKeyedBy-insert_by key xs x up)) in
       rw (row, put, ← all) more
 
--- rows that leave their numbers to SQLite
-module _ (t : StoreTable) {E : Type 0} (make : ℕ → E → RowOf t) (id : RowOf t → ℕ) (key_is : (x : RowOf t) → row_number t x ≡ pos (id x)) (id_is : (n : ℕ) (e : E) → id (make n e) ≡ n)
-    (cols : E → Row) (rest_is : (n : ℕ) (e : E) → row_columns t (make n e) ≡ cols e) (cast_is : (e : E) → cast_row (uncounted (schema_table t)) (Null ∷ cols e) ≡ Null ∷ cols e) where
-  pub gains : (params : Row) (text : List ℕ) (terms : List Term) (width : ℕ) (es : List E) → IsWrite text (Insert (place_of t) (Values terms width))
-      → value_rows (stamped (schema_table t) params) width (length terms / width) terms ≡ map (λ e. Null ∷ cols e) es
-      → (old new : State) (count : ℕ) (c : Content) → HoldsContent old.now c → Executes text params old new (Ok count)
-      → HoldsContent new.now (with_rows c t (rows_of c t ++ made make (next_id id (rows_of c t)) es))
-  gains params text terms width es it given old new count c h ran =
-      let put = puts_all make (row_number t) id key_is id_is (row_columns t) cols rest_is es (rows_of c t) (h.store.ordered t) in
-      leaves t params text terms width (map (λ e. Null ∷ cols e) es) it given old new count c h ran (rows_of c t ++ made make (next_id id (rows_of c t)) es)
-      (rw (h.store.rows.tables t, each_same (cast_row (uncounted (schema_table t))) (λ e. Null ∷ cols e) cast_is es) put.0) put.1
-
 -- ---- what is found, where one row at most passes the test
 
 one_alone : {X : Type 0} (xs ys : List X) → length (xs ++ ys) ≤ 1 → is_some (slice_get ys 0) ≡ true → slice_get xs 0 ≡ None
@@ -129,7 +99,7 @@ module _ {X E V : Type 0} (make : ℕ → E → X) (p : X → Bool) (t : E → B
   found_made n (e ∷ es) = rw (same n e) (elim (cases_Bool (t e)) [ inl is ↦ rw (is, out_is n e) refl | inr other ↦ rw other (found_made (n + 1) es) ])
 
   -- a new row that is found is the only one, and where none is, what was found before is found
-  pub found_after : (n : ℕ) (es : List E) (xs : List X) → length (filter p (xs ++ made make n es)) ≤ 1
+  found_after : (n : ℕ) (es : List E) (xs : List X) → length (filter p (xs ++ made make n es)) ≤ 1
       → (is_some (option_map shown (find t es)) ≡ true → option_map out (find p xs) ≡ None)
       × (option_map out (find p (xs ++ made make n es)) ≡ option_or (option_map shown (find t es)) (option_map out (find p xs)))
   found_after n es xs few = (
@@ -148,3 +118,27 @@ module _ {X E V : Type 0} (make : ℕ → E → X) (p : X → Bool) (t : E → B
       go None m (Some y) is alone = is
       go (Some x) m None is alone = refl
       go (Some x) m (Some y) is alone = absurd (let e = alone refl in cc)
+
+rows_with : (t : StoreTable) (c : Content) (xs : List (RowOf t)) → rows_of (with_rows c t xs) t ≡ xs
+rows_with Listed c xs = refl
+rows_with _ c xs = refl
+
+-- rows that leave their numbers to SQLite, and what is found of them by each key
+module _ (t : StoreTable) {E V K : Type 0} (make : ℕ → E → RowOf t) (id : RowOf t → ℕ) (key_is : (x : RowOf t) → row_number t x ≡ pos (id x)) (id_is : (n : ℕ) (e : E) → id (make n e) ≡ n)
+    (cols : E → Row) (rest_is : (n : ℕ) (e : E) → row_columns t (make n e) ≡ cols e) (cast_is : (e : E) → cast_row (uncounted (schema_table t)) (Null ∷ cols e) ≡ Null ∷ cols e)
+    (out : RowOf t → V) (shown : E → V) (out_is : (n : ℕ) (e : E) → out (make n e) ≡ shown e) (at : K → RowOf t → Bool) (test : K → E → Bool) (same : (k : K) (n : ℕ) (e : E) → at k (make n e) ≡ test k e)
+    (few : (k : K) (db : Database) (c : Content) → HoldsContent db c → length (filter (at k) (rows_of c t)) ≤ 1) where
+  pub gains : {params : Row} {text : List ℕ} {terms : List Term} {width : ℕ} (es : List E) → IsWrite text (Insert (place_of t) (Values terms width))
+      → value_rows (stamped (schema_table t) params) width (length terms / width) terms ≡ map (λ e. Null ∷ cols e) es
+      → IsWriting text params (λ old new. (c : Content) → HoldsContent old c → (xs : List (RowOf t)) × HoldsContent new (with_rows c t xs)
+      × ((k : K) → (is_some (option_map shown (find (test k) es)) ≡ true → option_map out (find (at k) (rows_of c t)) ≡ None)
+      × (option_map out (find (at k) xs) ≡ option_or (option_map shown (find (test k) es)) (option_map out (find (at k) (rows_of c t))))))
+  gains {params} {text} {terms} {width} es it given = record {
+    writes = it.writes;
+    does = λ old new count ran c h.
+        let put = puts_all make (row_number t) id key_is id_is (row_columns t) cols rest_is es (rows_of c t) (h.store.ordered t) in
+        let xs = rows_of c t ++ made make (next_id id (rows_of c t)) es in
+        let now = leaves t params text terms width (map (λ e. Null ∷ cols e) es) it given old new count c h ran xs
+        (rw (h.store.rows.tables t, each_same (cast_row (uncounted (schema_table t))) (λ e. Null ∷ cols e) cast_is es) put.0) put.1 in
+        (xs, now, λ k. found_after make (at k) (test k) out shown (same k) out_is _ es (rows_of c t) (subst (λ l. length (filter (at k) l) ≤ 1) (rows_with t c xs) (few k new.now (with_rows c t xs) now)));
+  }

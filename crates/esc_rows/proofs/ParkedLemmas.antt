@@ -1,176 +1,135 @@
--- What the statements on parked bodies do.
-use Rattle.std.proofs.Common.{◌≡◌, inl, inr, ℕ, pos, ◌≤◌, ◌&&◌, ◌||◌, Bool, true, false, not, cond, List, [], ◌∷◌}
-use Rattle.std.proofs.Common.{◌++◌, map, filter, length, Option, None, option_map, Ok, refl, sym, ap, subst, ◌∙◌, int_eq, is_eq, Less, Equal}
-use Rattle.std.specs.Prelude.{bytes_eq, is_some}
-use Rattle.std.specs.Ordering.{nat_cmp, ordering_then}
-use Rattle.std.specs.Cmp.{IsTotalOrder}
-use Rattle.std.specs.Cmp.Lexicographic.{slice_cmp}
-use Rattle.std.specs.List.{list_any}
-use Rattle.std.proofs.lemmas.Bool.{cases_Bool, and_parts}
-use Rattle.std.proofs.lemmas.Cmp.{nat_list_cmp_total, nat_list_eq_equiv, on_total}
-use Rattle.std.proofs.lemmas.Map.Text.{is_eq-slice_cmp}
-use Rattle.std.proofs.lemmas.Slice.Eq.{bytes_eq-Decides}
-use Rattle.std.proofs.lemmas.List.Sorted.{list_any-IsPermutation}
+-- What the statements on parked bodies and on the moment do.
+use Rattle.esc_rows.proofs.Common.{◌≡◌, ℕ, pos, true, false, List, [], ◌∷◌, refl, arith, inl, inr, filter, ◌≤◌, ◌<ℤ◌, map, length, Option, None, sym, ap, subst, ◌∙◌, ℤ, Bool, slice_get, Some, option_map, Less, is_eq, is_some, bytes_eq}
+use Rattle.esc_rows.proofs.Common.{cases_Bool, and_parts, nat_list_cmp_total, nat_list_eq_equiv, on_total, ints, list_any-IsPermutation, is_eq-slice_cmp, bytes_eq-Decides, IsTotalOrder, slice_cmp, list_any, nat_cmp, Database}
+use Rattle.esc_rows.proofs.Common.{IsAscending, map-map, ascending_weaker, ascending-map, IsPermutation-sort_by, IsKeyedBy, insert_by, has_key, sort_by, delete_where, AreApart, value_cmp-Blob, Row, Int, Blob, Becomes, HoldsContent}
+use Rattle.esc_rows.proofs.Common.{Content, first_of, by_digest, shown_digest, digest_of, stored_row, Parked, Moment, insert_parked_text, find_parked_text, parked_digests_text, delete_parked_text, clear_moment_text}
+use Rattle.esc_rows.proofs.Common.{insert_moment_text, find_moment_text}
 use Rattle.std.proofs.lemmas.Map.Views.{Contains-from_any, list_any-from_Contains}
-use Rattle.sqlite_value.specs.declared.keys.Key.{Key}
-use Rattle.sqlite_value.specs.declared.value.Value.TheVariants.{Blob}
 use Rattle.sqlite_value.specs.Keys.{first_key}
-use Rattle.sqlite_value.specs.Order.{Row, value_cmp}
-use Rattle.sqlite_value.proofs.OrderLemmas.{value_cmp-Blob}
-use Rattle.sqlite_schema.specs.Rules.{differ, agree}
-use Rattle.sqlite.specs.Collation.TheVariants.{Binary}
-use Rattle.sqlite.specs.Tree.{IsAscending, rowid}
-use Rattle.sqlite.specs.Term.{Term, col}
-use Rattle.sqlite.specs.Query.{Output, output_cmp}
-use Rattle.sqlite.specs.State.{State, Executes, Shown}
-use Rattle.sqlite.specs.Effect.{Database}
-use Rattle.sqlite_keyed.specs.Lists.{sort_by, delete_where}
-use Rattle.sqlite_keyed.specs.Rules.{AreApart}
-use Rattle.sqlite_keyed.proofs.ListLemmas.{all_weaker, ascending_weaker, ascending-map}
-use Rattle.sqlite_keyed.proofs.SortLemmas.{IsPermutation-sort_by}
-use Rattle.esc_rows.specs.Schema.{rising, parked_tree}
-use Rattle.esc_rows.specs.Texts.{insert_parked_text, find_parked_text, parked_digests_text, delete_parked_text}
-use Rattle.esc_rows.specs.Rows.{ParkedRow, parked_number}
-use Rattle.esc_rows.specs.StoreTable.{Parked, tree_of, stored_row}
-use Rattle.esc_rows.specs.Content.{Content, HoldsContent, parked_at, is_parked_at}
-use Rattle.esc_rows.specs.Parked.{PutsParked, RemovesParked, by_digest, ListsParked, shown_parked, ShowsParked, shown_digest, digest_of, ShowsDigests}
-use Rattle.esc_rows.proofs.Compiled.{parked_tests, parked_terms, insert_parked_is, find_parked_is, parked_digests_is, delete_parked_is}
-use Rattle.esc_rows.proofs.Frame.{passes_unique}
-use Rattle.esc_rows.proofs.Scan.{scan, no_limit, is_match, put_in_order, same_blob, and_true}
-use Rattle.esc_rows.proofs.ManyRows.{next_id, made, gains, of_one, found_after}
-use Rattle.esc_rows.proofs.Values.{cast_null}
-use Rattle.esc_rows.proofs.Finds.{apart, at_most_one_apart, find-filter, find_same, find_never}
-use Rattle.esc_rows.proofs.Sorts.{sort_same, then_equal}
-use Rattle.esc_rows.proofs.Firsts.{rises-sorted}
-use Rattle.esc_rows.proofs.NumberLemmas.{every}
-use Rattle.esc_rows.proofs.Statements.{asks, finds, cuts}
-use Rattle.esc_rows.proofs.ObjectLemmas.{differ_int, swapped, never, still}
+use Rattle.esc_rows.specs.Rows.{ParkedRow, MomentRow, moment_number}
+use Rattle.esc_rows.specs.Content.{parked_at, is_parked_at, moment_of}
+use Rattle.esc_rows.specs.Parked.{PutsParked, RemovesParked, ListsParked, shown_parked, ShowsParked, ShowsDigests, without_moment, moment_row, SetsMoment, shown_moment, ShowsMoment}
+use Rattle.esc_rows.proofs.Compiled.{parked_tests, insert_parked_is, find_parked_is, parked_digests_is, delete_parked_is, clear_moment_is, insert_moment_is, find_moment_is}
+use Rattle.esc_rows.proofs.Scan.{is_match, same_blob, and_true, short_rises}
+use Rattle.esc_rows.proofs.ManyRows.{gains, of_one}
+use Rattle.esc_rows.proofs.Values.{cast_null, cast_int}
+use Rattle.esc_rows.proofs.Finds.{at_most_one_apart, rows_apart, found-delete, any-map}
+use Rattle.esc_rows.proofs.Sorts.{then_equal, rises-sorted}
+use Rattle.esc_rows.proofs.Typed.{every}
+use Rattle.esc_rows.proofs.Statements.{finds, cuts, asks_sorted, clears, adds, asks_in_order}
+use Rattle.esc_rows.proofs.PartLemmas.{IsAsking, IsWriting, writing_as, asking_as}
+use Rattle.std.proofs.lemmas.List.Sorted.{IsPermutation-refl}
 
 -- the two are under one digest
 abbrev pub is_same_parked : ParkedRow → ParkedRow → Bool
 is_same_parked a b = is_parked_at b.digest a
 
-clash_is : (a b : ParkedRow) → (agree rising (1 ∷ []) (stored_row Parked a) (1 ∷ []) (stored_row Parked b) && differ (rowid (stored_row Parked a)) (rowid (stored_row Parked b))) ≡ (not (int_eq (parked_number a) (parked_number b)) && is_same_parked a b)
-unfolding first_key
-clash_is a b = rw (same_blob a.digest b.digest, and_true (bytes_eq a.digest b.digest), differ_int (pos a.id) (pos b.id)) (swapped (bytes_eq a.digest b.digest) (not (int_eq (pos a.id) (pos b.id))))
-
 pub parked_apart : (db : Database) (c : Content) → HoldsContent db c → AreApart is_same_parked c.parked
-parked_apart db c h =
-    apart parked_number (stored_row Parked) is_same_parked (λ other row. agree rising (1 ∷ []) other (1 ∷ []) row && differ (rowid other) (rowid row)) clash_is (db.trees (tree_of Parked)) c.parked (h.store.rows.tables Parked) (h.store.ordered Parked)
-    (all_weaker _ _ (λ row h. (and_parts _ true h).0) (db.trees (tree_of Parked)) (passes_unique Parked db.trees h.store.sound))
+unfolding first_key
+parked_apart = rows_apart Parked (1 ∷ []) is_same_parked (λ a b. rw (same_blob a.digest b.digest, and_true (bytes_eq a.digest b.digest)) refl) (λ trees row h. (and_parts _ true h).0)
 
 -- ---- digests
 
-one_parked : (digest : List ℕ) (ps : List ParkedRow) → AreApart is_same_parked ps → length (filter (is_parked_at digest) ps) ≤ 1
-one_parked digest ps =
-    at_most_one_apart is_same_parked (is_parked_at digest)
-    (λ a b x y. rw ((bytes_eq-Decides a.digest digest).0 x, (bytes_eq-Decides b.digest digest).0 y) (nat_list_eq_equiv.refl digest)) ps
+-- what a test says of a row at another digest
+digest_test : (digest d : List ℕ) (p : ParkedRow) → is_parked_at d p ≡ true → is_parked_at digest p ≡ bytes_eq digest d
+digest_test digest d p here = rw ((bytes_eq-Decides p.digest d).0 here) (nat_list_eq_equiv.symm d digest)
 
--- at one digest the tests are one
-test_same : (digest d : List ℕ) (p : ParkedRow) → bytes_eq digest d ≡ true → is_parked_at d p ≡ is_parked_at digest p
-test_same digest d p h = rw ((bytes_eq-Decides digest d).0 h) refl
-
--- at two digests they never both hold
-tests_apart : (digest d : List ℕ) (p : ParkedRow) → bytes_eq digest d ≡ false → is_parked_at d p ≡ true → is_parked_at digest p ≡ false
-tests_apart digest d p other here = elim (cases_Bool (is_parked_at digest p)) [
-  | inl there ↦
-      let same : digest ≡ d = sym ((bytes_eq-Decides p.digest digest).0 there) ∙ (bytes_eq-Decides p.digest d).0 here in
-      let e : true ≡ false = sym (nat_list_eq_equiv.refl d) ∙ subst (λ x. bytes_eq x d ≡ false) same other in
-      absurd cc
-  | inr apart ↦ apart
-]
-
-abbrev body_of : Option ParkedRow → Option (List ℕ)
-body_of = option_map (λ (p : ParkedRow). p.body)
+one_parked : (digest : List ℕ) (db : Database) (c : Content) → HoldsContent db c → length (filter (is_parked_at digest) c.parked) ≤ 1
+one_parked digest db c h = at_most_one_apart is_same_parked (is_parked_at digest) (λ a b x y. digest_test b.digest digest a x ∙ y) c.parked (parked_apart db c h)
 
 -- ---- insert
 
 abbrev pub parked_params : List ℕ → List ℕ → Row
 parked_params digest body = Blob digest ∷ Blob body ∷ []
 
-pub puts_parked : (old new : State) (digest body : List ℕ) (count : ℕ) → Executes insert_parked_text (parked_params digest body) old new (Ok count) → PutsParked digest body old.now new.now
-puts_parked old new digest body count ran c h =
-    let added : ℕ → Unit {0} → ParkedRow = λ id _. record { id = id; digest = digest; body = body } in
-    let params = parked_params digest body in
-    let ps = c.parked ++ made added (next_id (λ (p : ParkedRow). p.id) c.parked) (tt ∷ []) in
-    let now = gains Parked added (λ p. p.id) (λ p. refl) (λ n e. refl) (λ _. params) (λ n e. refl) (λ e. rw cast_null refl)
-    params insert_parked_text parked_terms 3 (tt ∷ []) insert_parked_is refl old new count c h ran in
-    let apart = parked_apart new.now (record c { parked = ps }) now in
-    let found = λ (d : List ℕ). found_after added (is_parked_at d) (λ _. bytes_eq digest d) (λ p. p.body) (λ _. body) (λ n e. refl) (λ n e. refl) _ (tt ∷ []) c.parked (one_parked d ps apart) in
-    (ps, now, (found digest).0 (rw (nat_list_eq_equiv.refl digest) refl), λ d. (found d).1 ∙ of_one (bytes_eq digest d) tt (λ _. body) (parked_at d c.parked))
+pub puts_parked : (digest body : List ℕ) → IsWriting insert_parked_text (parked_params digest body) (PutsParked digest body)
+puts_parked digest body =
+    writing_as (gains Parked {E = Unit {0}} (λ id _. record { id = id; digest = digest; body = body }) (λ p. p.id) (λ p. refl) (λ n e. refl) (λ _. parked_params digest body) (λ n e. refl) (λ e. rw cast_null refl)
+    (λ p. p.body) (λ _. body) (λ n e. refl) is_parked_at (λ d _. bytes_eq digest d) (λ d n e. refl) one_parked (tt ∷ []) insert_parked_is refl) (λ old new did c h.
+    let put = did c h in (
+      put.0,
+      put.1,
+      (put.2 digest).0 (rw (nat_list_eq_equiv.refl digest) refl),
+      λ d. (put.2 d).1 ∙ of_one (bytes_eq digest d) tt (λ _. body) (parked_at d c.parked),
+    ))
 
 -- ---- delete
 
 at_digest : (digest : List ℕ) (p : ParkedRow) → is_match parked_tests (Blob digest ∷ []) (stored_row Parked p) ≡ is_parked_at digest p
 at_digest digest p = and_true _ ∙ same_blob p.digest digest
 
-gone_at : (digest : List ℕ) (ps : List ParkedRow) (d : List ℕ) → parked_at d (delete_where (is_parked_at digest) ps) ≡ cond (bytes_eq digest d) None (parked_at d ps)
-gone_at digest ps d =
-    ap body_of (find-filter (is_parked_at d) (λ p. not (is_parked_at digest p)) ps)
-    ∙ elim (cases_Bool (bytes_eq digest d)) [
-      | inl same ↦ rw same (ap body_of (find_same _ (λ _. false) (λ p. ap (λ b. not (is_parked_at digest p) && b) (test_same digest d p same) ∙ never (is_parked_at digest p)) ps ∙ find_never ps))
-      | inr other ↦ rw other (ap body_of (find_same _ (is_parked_at d) (λ p. still (is_parked_at digest p) (is_parked_at d p) (tests_apart digest d p other)) ps))
-    ]
-
-pub removes_parked : (old new : State) (digest : List ℕ) (count : ℕ) → Executes delete_parked_text (Blob digest ∷ []) old new (Ok count) → RemovesParked digest old.now new.now
-removes_parked old new digest count ran c h =
-    let p = is_parked_at digest in
-    (delete_where p c.parked, cuts Parked p parked_tests (Blob digest ∷ []) delete_parked_text delete_parked_is old new count c h ran (at_digest digest), gone_at digest c.parked)
+pub removes_parked : (digest : List ℕ) → IsWriting delete_parked_text (Blob digest ∷ []) (RemovesParked digest)
+removes_parked digest =
+    writing_as (cuts Parked (is_parked_at digest) delete_parked_is (at_digest digest)) (λ old new cut c h. (
+      delete_where (is_parked_at digest) c.parked,
+      cut c h,
+      λ d. found-delete (λ p. p.body) (is_parked_at digest) (is_parked_at d) (bytes_eq digest d) (digest_test digest d) c.parked,
+    ))
 
 -- ---- find
 
-pub finds_parked : (old new : State) (digest : List ℕ) (rows : List Row) (c : Content) → HoldsContent old.now c → Shown find_parked_text (Blob digest ∷ []) old new rows → ShowsParked digest c rows
-finds_parked old new digest rows c h shown =
-    finds Parked (is_parked_at digest) shown_parked parked_tests (col 1 2 ∷ []) (Blob digest ∷ []) find_parked_text find_parked_is old new rows c h shown (at_digest digest) (λ p. refl) (one_parked digest c.parked (parked_apart old.now c h))
+pub finds_parked : (digest : List ℕ) → IsAsking find_parked_text (Blob digest ∷ []) (ShowsParked digest)
+finds_parked digest = finds Parked (is_parked_at digest) shown_parked find_parked_is (at_digest digest) (λ p. refl) (one_parked digest)
 
 -- ---- the digests
-
-abbrev by_first : List (Term × Key)
-by_first = (col 1 1, record { collation = Binary; descending = false }) ∷ []
-
-abbrev out : ParkedRow → Output
-out p = (Blob p.digest ∷ [], Blob p.digest ∷ [])
-
-compared : (a b : ParkedRow) → ordering_then (value_cmp (Blob a.digest) (Blob b.digest)) Equal ≡ by_digest a b
-compared a b = then_equal _ ∙ value_cmp-Blob a.digest b.digest
-
-unlike : (ps : List ParkedRow) → AreApart is_same_parked ps → IsAscending (λ a b. is_eq (by_digest a b) ≡ false) ps
-unlike ps up = ascending_weaker (λ a b. is_same_parked a b ≡ false) (λ a b. is_eq (by_digest a b) ≡ false) (λ a b e. is_eq-slice_cmp a.digest b.digest ∙ e) ps up
-
-pub shows_digests : (old new : State) (rows : List Row) (c : Content) → HoldsContent old.now c → Shown parked_digests_text [] old new rows → ShowsDigests c rows
-shows_digests old new rows c h shown =
-    let q = scan parked_tree [] (col 1 1 ∷ []) by_first no_limit in
-    let all = filter (λ _. true) c.parked in
-    let up = subst (AreApart is_same_parked) (sym (every c.parked)) (parked_apart old.now c h) in
-    let same : (a b : ParkedRow) → output_cmp q (out a) (out b) ≡ by_digest a b = compared in
-    let s = asks Parked (λ _. true) out [] (col 1 1 ∷ []) by_first no_limit [] parked_digests_text parked_digests_is old new rows c h shown (λ p. refl) (λ p. refl) in
-    put_in_order (stored_row Parked) (λ _. true) out parked_tree [] (col 1 1 ∷ []) by_first no_limit [] c.parked rows
-    (ascending_weaker (λ a b. is_eq (by_digest a b) ≡ false) (λ a b. is_eq (output_cmp q (out a) (out b)) ≡ false) (λ a b e. ap is_eq (same a b) ∙ e) all (unlike all up)) s
-    ∙ ap (map (λ (p : ParkedRow). Blob p.digest ∷ [])) (sort_same (λ a b. output_cmp q (out a) (out b)) by_digest same all ∙ ap (sort_by by_digest) (every c.parked))
-    ∙ digests (sort_by by_digest c.parked)
-  where
-    digests : (ps : List ParkedRow) → map (λ (p : ParkedRow). Blob p.digest ∷ []) ps ≡ map shown_digest (map digest_of ps)
-    digests [] = refl
-    digests (p ∷ ps) = ap (λ rs. (Blob p.digest ∷ []) ∷ rs) (digests ps)
 
 total : IsTotalOrder by_digest
 total = on_total digest_of nat_list_cmp_total
 
--- a digest is among those of the rows exactly where a body is found under it
-among : (d : List ℕ) (ps : List ParkedRow) → list_any (bytes_eq d) (map digest_of ps) ≡ list_any (λ (p : ParkedRow). bytes_eq d p.digest) ps
-among d [] = refl
-among d (p ∷ ps) = ap (λ b. bytes_eq d p.digest || b) (among d ps)
+unlike : (db : Database) (c : Content) → HoldsContent db c → IsAscending (λ a b. is_eq (by_digest a b) ≡ false) c.parked
+unlike db c h = ascending_weaker (λ a b. is_same_parked a b ≡ false) (λ a b. is_eq (by_digest a b) ≡ false) (λ a b e. is_eq-slice_cmp a.digest b.digest ∙ e) c.parked (parked_apart db c h)
 
+pub shows_digests : IsAsking parked_digests_text [] ShowsDigests
+shows_digests =
+    asking_as (asks_sorted Parked (λ p. (Blob p.digest ∷ [], Blob p.digest ∷ [])) parked_digests_is every (λ p. refl) by_digest total (λ a b. then_equal _ ∙ value_cmp-Blob a.digest b.digest) unlike)
+    (λ c rows is. is ∙ sym (map-map shown_digest digest_of (sort_by by_digest c.parked)))
+
+-- a digest is that of a row exactly where a body is found under it
 found_any : (d : List ℕ) (ps : List ParkedRow) → list_any (λ (p : ParkedRow). bytes_eq d p.digest) ps ≡ is_some (parked_at d ps)
 found_any d [] = refl
 found_any d (p ∷ ps) = rw (nat_list_eq_equiv.symm d p.digest) (elim (cases_Bool (bytes_eq p.digest d)) [ inl is ↦ rw is refl | inr other ↦ rw other (found_any d ps) ])
 
 pub lists_parked : (db : Database) (c : Content) (found : List (List ℕ)) → HoldsContent db c → found ≡ map digest_of (sort_by by_digest c.parked) → ListsParked c found
 lists_parked db c found h is = subst (ListsParked c) (sym is) (record {
-  rising = ascending-map (λ a b. slice_cmp nat_cmp a b ≡ Less) digest_of (sort_by by_digest c.parked) (rises-sorted by_digest total c.parked (unlike c.parked (parked_apart db c h)));
+  rising = ascending-map (λ a b. slice_cmp nat_cmp a b ≡ Less) digest_of (sort_by by_digest c.parked) (rises-sorted by_digest total c.parked (unlike db c h));
   each = λ d. (λ has. sym (there d) ∙ list_any-from_Contains nat_list_eq_equiv d _ has, λ some. Contains-from_any (λ a b. (bytes_eq-Decides a b).0) d _ (there d ∙ some));
 }) where
   there : (d : List ℕ) → list_any (bytes_eq d) (map digest_of (sort_by by_digest c.parked)) ≡ is_some (parked_at d c.parked)
   there d =
-      among d (sort_by by_digest c.parked)
+      any-map (bytes_eq d) (λ (p : ParkedRow). bytes_eq d p.digest) digest_of (λ p. refl) (sort_by by_digest c.parked)
       ∙ list_any-IsPermutation (λ (p : ParkedRow). bytes_eq d p.digest) (sort_by by_digest c.parked) c.parked (IsPermutation-sort_by by_digest total c.parked) ∙ found_any d c.parked
+
+-- ---- the moment
+
+pub clears_moment : IsWriting clear_moment_text [] (Becomes without_moment)
+clears_moment = clears Moment clear_moment_is
+
+-- every row has the one number
+none_free : (ms : List MomentRow) → has_key moment_number ms (pos 1) ≡ false → ms ≡ []
+none_free [] free = refl
+none_free (m ∷ ms) free = absurd cc
+
+pub sets_moment : (watermark : ℤ) → IsWriting insert_moment_text (Int watermark ∷ []) (SetsMoment watermark)
+sets_moment watermark =
+    let m = moment_row watermark in
+    writing_as (adds Moment insert_moment_is m refl (rw (cast_null, cast_int (pos 1), cast_int watermark) refl)) (λ old new added c h.
+    let none = none_free c.moment (added c h).1 in
+    (subst (λ ms. HoldsContent new (record c { moment = insert_by moment_number ms m })) none (added c h).0, none))
+
+-- of rows that all have one number there is one at most
+pub one_moment : (ms : List MomentRow) → IsKeyedBy moment_number ms → length ms ≤ 1
+one_moment (m ∷ n ∷ ms) up = absurd (let low : pos 1 <ℤ pos 1 = up.0.0 in omega (arith, ints))
+one_moment _ up = omega arith
+
+pub finds_moment : IsAsking find_moment_text [] ShowsMoment
+finds_moment =
+    asks_in_order Moment (λ m. ([], shown_moment m)) find_moment_is every (λ m. refl) (λ c. c.moment)
+    (λ db c h. (IsPermutation-refl c.moment, short_rises _ c.moment (one_moment c.moment (h.store.ordered Moment))))
+
+pub moment_is : (c : Content) (rows : List Row) (found : Option ℤ) → ShowsMoment c rows → option_map Int found ≡ option_map first_of (slice_get rows 0) → found ≡ moment_of c.moment
+moment_is c rows found shows is = go c.moment found (is ∙ ap (λ l. option_map first_of (slice_get l 0)) shows)
+  where
+    go : (ms : List MomentRow) (o : Option ℤ) → option_map Int o ≡ option_map first_of (slice_get (map shown_moment ms) 0) → o ≡ moment_of ms
+    go [] None h = refl
+    go (m ∷ ms) (Some w) h = let e : w ≡ m.watermark = cc in ap Some e
+    go _ _ h = let no : ⊥ = cc in absurd no

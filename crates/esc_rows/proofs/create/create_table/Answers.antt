@@ -1,9 +1,4 @@
-use Rattle.std.proofs.Common.{◌+◌, sym, subst}
-use Rattle.esc_rows.specs.FirstVersion.{table_at}
-use Rattle.esc_rows.specs.Schema.{schema_of}
-use Rattle.esc_rows.proofs.Compiled.{IsCreate, create_is}
-use Rattle.esc_rows.proofs.PartLemmas.{write_part}
-use Rattle.esc_rows.proofs.CreateLemmas.{adds_table}
+use Rattle.esc_rows.proofs.Calls.{◌+◌, sym, subst, table_at, schema_of, IsCreate, create_is, write_part, adds_table}
 use Rattle.esc_rows.proofs.create.create_table.Goals as goal
 
 pub returns : goal.returns

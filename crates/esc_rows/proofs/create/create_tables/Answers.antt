@@ -1,11 +1,4 @@
-use Rattle.std.proofs.Common.{◌≡◌, Ok, subst, arith}
-use Rattle.sqlite.specs.Held.{state}
-use Rattle.sqlite.specs.declared.error.Error.{Error}
-use Rattle.esc_rows.specs.Part.{IsPart}
-use Rattle.esc_rows.specs.Creation.{Builds}
-use Rattle.esc_rows.specs.Schema.{no_schema, schema_of}
-use Rattle.esc_rows.proofs.PartLemmas.{parts, part_as}
-use Rattle.esc_rows.proofs.CreateLemmas.{builds}
+use Rattle.esc_rows.proofs.Calls.{◌≡◌, Ok, subst, arith, state, Error, IsPart, Builds, no_schema, schema_of, parts, part_as, builds}
 use Rattle.esc_rows.proofs.create.create_tables.Goals as goal
 
 pub loop-at-init : goal.loop-at-init

@@ -1,9 +1,4 @@
-use Rattle.std.proofs.Common.{Ok}
-use Rattle.sqlite.specs.Held.{state}
-use Rattle.sqlite.specs.declared.error.Error.{Error}
-use Rattle.esc_rows.specs.Part.{IsPart}
-use Rattle.esc_rows.specs.Creation.{Builds}
-use Rattle.esc_rows.specs.Schema.{no_schema, schema_of}
+use Rattle.esc_rows.proofs.Common.{Ok, state, Error, IsPart, Builds, no_schema, schema_of}
 use Rattle.esc_rows.proofs.create.create_tables.Given as goal
 
 abbrev pub invariant-loop-at : goal.invariant-loop-at

@@ -1,5 +1,4 @@
-use Rattle.esc_rows.proofs.PartLemmas.{parts, then_part}
-use Rattle.esc_rows.proofs.UpgradeLemmas.{AddsBoth, adds_both}
+use Rattle.esc_rows.proofs.Calls.{parts, then_part, AddsBoth, adds_both}
 use Rattle.esc_rows.proofs.create.upgrade.Goals as goal
 
 pub returns : goal.returns

@@ -1,8 +1,5 @@
-use Rattle.std.proofs.Common.{refl}
-use Rattle.esc_rows.proofs.PartLemmas.{makes}
-use Rattle.esc_rows.proofs.Compiled.{raise_version_is}
-use Rattle.esc_rows.proofs.UpgradeLemmas.{raises}
+use Rattle.esc_rows.proofs.Calls.{refl, makes, raises}
 use Rattle.esc_rows.proofs.info.raise_version.Goals as goal
 
 pub returns : goal.returns
-returns g c = record { part = makes g.S.Store raise_version_is c.write_within.ensures (raises _ _) refl }
+returns g c = record { part = makes g.S.Store raises c.write_within.ensures refl }

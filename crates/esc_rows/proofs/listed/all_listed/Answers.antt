@@ -1,9 +1,4 @@
-use Rattle.std.proofs.Common.{◌∙◌}
-use Rattle.esc_rows.specs.Rows.{shown_listed}
-use Rattle.esc_rows.specs.Entries.{listed_row}
-use Rattle.esc_rows.specs.ResultLaws.{if_goes}
-use Rattle.esc_rows.proofs.DecodeLemmas.{reads_back}
-use Rattle.esc_rows.proofs.PartLemmas.{read_then}
+use Rattle.esc_rows.proofs.Calls.{◌∙◌, shown_listed, listed_row, if_goes, reads_back, read_then}
 use Rattle.esc_rows.proofs.listed.all_listed.Goals as goal
 
 pub returns : goal.returns

@@ -1,7 +1,4 @@
-use Rattle.std.proofs.Common.{◌∙◌}
-use Rattle.esc_rows.specs.ResultLaws.{if_goes}
-use Rattle.esc_rows.proofs.MomentLemmas.{moment_is}
-use Rattle.esc_rows.proofs.PartLemmas.{read_then}
+use Rattle.esc_rows.proofs.Calls.{◌∙◌, if_goes, moment_is, read_then}
 use Rattle.esc_rows.proofs.moment.find_moment.Goals as goal
 
 pub returns : goal.returns

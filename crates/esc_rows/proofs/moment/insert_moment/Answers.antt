@@ -1,12 +1,10 @@
-use Rattle.std.proofs.Common.{rules, w64}
+use Rattle.esc_rows.proofs.Calls.{rules, makes, sets_moment}
+use Rattle.std.proofs.Common.{w64}
 use Rattle.std.proofs.lemmas.Int.{to_z-of_z}
-use Rattle.esc_rows.proofs.PartLemmas.{makes}
-use Rattle.esc_rows.proofs.Compiled.{insert_moment_is}
-use Rattle.esc_rows.proofs.MomentLemmas.{sets_moment}
 use Rattle.esc_rows.proofs.moment.insert_moment.Goals as goal
 
 pub returns : goal.returns
 returns g c = record {
-  part = makes g.S.Store insert_moment_is c.write_within.ensures (sets_moment _ _ _)
+  part = makes g.S.Store (sets_moment _) c.write_within.ensures
       (search (rules, to_z-of_z w64 c.args.watermark c.ranges.watermark));
 }

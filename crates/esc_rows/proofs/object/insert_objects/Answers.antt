@@ -1,17 +1,10 @@
-use Rattle.std.proofs.Common.{map, ap, ◌∙◌}
-use Rattle.std.proofs.lemmas.List.{length-map}
-use Rattle.sqlite.specs.Values.{bound}
-use Rattle.esc_rows.specs.Entries.{new_entry}
-use Rattle.esc_rows.proofs.PartLemmas.{makes}
-use Rattle.esc_rows.proofs.Compiled.{insert_objects_is}
-use Rattle.esc_rows.proofs.ObjectLemmas.{inserts_objects}
+use Rattle.esc_rows.proofs.Calls.{map, ap, ◌∙◌, length-map, bound, new_entry, makes, inserts_objects}
 use Rattle.esc_rows.proofs.object.insert_objects.Goals as goal
 
 pub returns : goal.returns
 returns g c =
     let rows = c.args.rows.now in
     record {
-      part = makes g.S.Store insert_objects_is c.write_within.ensures
-          (inserts_objects _ _ (map new_entry rows) (length-map rows new_entry ∙ c.requires))
+      part = makes g.S.Store (inserts_objects (map new_entry rows) (length-map rows new_entry ∙ c.requires)) c.write_within.ensures
           (ap bound c.as_slice.ensures.value ∙ c.in_ok-params.ensures.params);
     }

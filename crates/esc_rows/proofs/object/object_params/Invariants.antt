@@ -1,7 +1,4 @@
-use Rattle.std.proofs.Common.{◌≡◌, map, take}
-use Rattle.std.specs.List.{flat_map}
-use Rattle.sqlite.specs.Values.{bound}
-use Rattle.esc_rows.specs.Entries.{new_entry, shown_entry}
+use Rattle.esc_rows.proofs.Common.{◌≡◌, map, take, flat_map, bound, new_entry, shown_entry}
 use Rattle.esc_rows.proofs.object.object_params.Given as goal
 
 abbrev pub invariant-loop-at : goal.invariant-loop-at

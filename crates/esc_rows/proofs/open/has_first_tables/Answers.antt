@@ -1,6 +1,4 @@
-use Rattle.std.proofs.Common.{◌∙◌}
-use Rattle.sqlite.specs.Held.{state}
-use Rattle.esc_rows.proofs.OpenLemmas.{opens_first}
+use Rattle.esc_rows.proofs.Calls.{◌∙◌, state, opens_first}
 use Rattle.esc_rows.proofs.open.has_first_tables.Goals as goal
 
 pub returns-clause-found : goal.returns-clause-found

@@ -1,8 +1,5 @@
-use Rattle.std.proofs.Common.{refl}
-use Rattle.esc_rows.proofs.PartLemmas.{tells}
-use Rattle.esc_rows.proofs.Compiled.{parked_digests_is}
-use Rattle.esc_rows.proofs.ParkedLemmas.{shows_digests}
+use Rattle.esc_rows.proofs.Calls.{refl, tells, shows_digests}
 use Rattle.esc_rows.proofs.parked.ask_digests.Goals as goal
 
 pub returns : goal.returns
-returns g c = record { read = tells parked_digests_is c.query_all.ensures (shows_digests _ _) refl }
+returns g c = record { read = tells shows_digests c.query_all.ensures refl }

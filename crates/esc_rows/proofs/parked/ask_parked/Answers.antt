@@ -1,8 +1,5 @@
-use Rattle.std.proofs.Common.{rules}
-use Rattle.esc_rows.proofs.PartLemmas.{tells}
-use Rattle.esc_rows.proofs.Compiled.{find_parked_is}
-use Rattle.esc_rows.proofs.ParkedLemmas.{finds_parked}
+use Rattle.esc_rows.proofs.Calls.{rules, tells, finds_parked}
 use Rattle.esc_rows.proofs.parked.ask_parked.Goals as goal
 
 pub returns : goal.returns
-returns g c = record { read = tells find_parked_is c.query_all.ensures (finds_parked _ _ _) (search rules) }
+returns g c = record { read = tells (finds_parked _) c.query_all.ensures (search rules) }

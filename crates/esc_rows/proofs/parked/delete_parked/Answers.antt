@@ -1,10 +1,7 @@
-use Rattle.std.proofs.Common.{rules}
-use Rattle.esc_rows.proofs.PartLemmas.{makes}
-use Rattle.esc_rows.proofs.Compiled.{delete_parked_is}
-use Rattle.esc_rows.proofs.ParkedLemmas.{removes_parked}
+use Rattle.esc_rows.proofs.Calls.{rules, makes, removes_parked}
 use Rattle.esc_rows.proofs.parked.delete_parked.Goals as goal
 
 pub returns : goal.returns
 returns g c = record {
-  part = makes g.S.Store delete_parked_is c.write_within.ensures (removes_parked _ _ _) (search rules);
+  part = makes g.S.Store (removes_parked _) c.write_within.ensures (search rules);
 }

@@ -1,10 +1,7 @@
-use Rattle.std.proofs.Common.{rules}
-use Rattle.esc_rows.proofs.PartLemmas.{makes}
-use Rattle.esc_rows.proofs.Compiled.{insert_parked_is}
-use Rattle.esc_rows.proofs.ParkedLemmas.{puts_parked}
+use Rattle.esc_rows.proofs.Calls.{rules, makes, puts_parked}
 use Rattle.esc_rows.proofs.parked.insert_parked.Goals as goal
 
 pub returns : goal.returns
 returns g c = record {
-  part = makes g.S.Store insert_parked_is c.write_within.ensures (puts_parked _ _ _ _) (search rules);
+  part = makes g.S.Store (puts_parked _ _) c.write_within.ensures (search rules);
 }

@@ -1,10 +1,4 @@
-use Rattle.std.proofs.Common.{map, ◌∙◌}
-use Rattle.sqlite_keyed.specs.Lists.{sort_by}
-use Rattle.esc_rows.specs.Parked.{by_digest, digest_of, shown_digest}
-use Rattle.esc_rows.specs.ResultLaws.{if_goes}
-use Rattle.esc_rows.proofs.DecodeLemmas.{reads_back}
-use Rattle.esc_rows.proofs.ParkedLemmas.{lists_parked}
-use Rattle.esc_rows.proofs.PartLemmas.{read_then}
+use Rattle.esc_rows.proofs.Calls.{map, ◌∙◌, sort_by, by_digest, digest_of, shown_digest, if_goes, reads_back, lists_parked, read_then}
 use Rattle.esc_rows.proofs.parked.parked_digests.Goals as goal
 
 pub returns : goal.returns

@@ -1,5 +1,4 @@
-use Rattle.std.proofs.Common.{rules, ◌≡◌, ◌<◌, ◌++◌, ◌∷◌, [], length, subst}
-use Rattle.esc_rows.proofs.DecodeLemmas.{one_more}
+use Rattle.esc_rows.proofs.Calls.{rules, ◌≡◌, ◌<◌, ◌++◌, ◌∷◌, [], length, subst, one_more}
 use Rattle.esc_rows.proofs.reader.read_rows.Goals as goal
 
 pub loop-at-preserved : goal.loop-at-preserved

@@ -1,5 +1,4 @@
-use Rattle.std.proofs.Common.{take}
-use Rattle.esc_rows.specs.Reading.{AreRead}
+use Rattle.esc_rows.proofs.Common.{take, AreRead}
 use Rattle.esc_rows.proofs.reader.read_rows.Given as goal
 
 abbrev pub invariant-loop-at : goal.invariant-loop-at

@@ -1,9 +1,5 @@
-use Rattle.std.proofs.Common.{◌∙◌}
-use Rattle.esc_rows.specs.Rows.{shown_receipt}
+use Rattle.esc_rows.proofs.Calls.{◌∙◌, shown_receipt, if_goes, reads_back, read_then}
 use Rattle.esc_rows.specs.Entries.{receipt_row}
-use Rattle.esc_rows.specs.ResultLaws.{if_goes}
-use Rattle.esc_rows.proofs.DecodeLemmas.{reads_back}
-use Rattle.esc_rows.proofs.PartLemmas.{read_then}
 use Rattle.esc_rows.proofs.receipt.all_receipts.Goals as goal
 
 pub returns : goal.returns

@@ -1,10 +1,7 @@
-use Rattle.std.proofs.Common.{rules}
-use Rattle.esc_rows.proofs.PartLemmas.{tells}
-use Rattle.esc_rows.proofs.Compiled.{verdict_digests_is}
-use Rattle.esc_rows.proofs.VerdictLemmas.{shows_verdict_digests}
+use Rattle.esc_rows.proofs.Calls.{rules, tells, shows_verdict_digests}
 use Rattle.esc_rows.proofs.receipt.ask_digests.Goals as goal
 
 pub returns : goal.returns
 returns g c = record {
-  read = tells verdict_digests_is c.query_all.ensures (shows_verdict_digests _ _ _) (search rules);
+  read = tells (shows_verdict_digests _) c.query_all.ensures (search rules);
 }

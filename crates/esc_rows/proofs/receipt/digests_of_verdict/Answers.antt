@@ -1,9 +1,5 @@
-use Rattle.std.proofs.Common.{◌∙◌}
+use Rattle.esc_rows.proofs.Calls.{◌∙◌, shown_digest, if_goes, reads_back, read_then}
 use Rattle.esc_rows.specs.Changes.{verdict_digests}
-use Rattle.esc_rows.specs.Parked.{shown_digest}
-use Rattle.esc_rows.specs.ResultLaws.{if_goes}
-use Rattle.esc_rows.proofs.DecodeLemmas.{reads_back}
-use Rattle.esc_rows.proofs.PartLemmas.{read_then}
 use Rattle.esc_rows.proofs.receipt.digests_of_verdict.Goals as goal
 
 pub returns : goal.returns

@@ -1,4 +1,4 @@
-use Rattle.std.proofs.Common.{◌≡◌, map, take}
+use Rattle.esc_rows.proofs.Common.{◌≡◌, map, take}
 use Rattle.esc_rows.proofs.shape.are_as.Given as goal
 
 abbrev pub invariant-loop-at : goal.invariant-loop-at

@@ -1,9 +1,5 @@
-use Rattle.std.proofs.Common.{◌∙◌}
-use Rattle.esc_rows.specs.Rows.{shown_step}
+use Rattle.esc_rows.proofs.Calls.{◌∙◌, shown_step, if_goes, reads_back, read_then}
 use Rattle.esc_rows.specs.Entries.{step_row}
-use Rattle.esc_rows.specs.ResultLaws.{if_goes}
-use Rattle.esc_rows.proofs.DecodeLemmas.{reads_back}
-use Rattle.esc_rows.proofs.PartLemmas.{read_then}
 use Rattle.esc_rows.proofs.step.all_steps.Goals as goal
 
 pub returns : goal.returns

@@ -1,8 +1,4 @@
-use Rattle.std.proofs.Common.{◌≡◌, ◌∷◌, pos, map, take}
-use Rattle.std.specs.List.{flat_map}
-use Rattle.sqlite_value.specs.declared.value.Value.TheVariants.{Int}
-use Rattle.sqlite.specs.Values.{bound}
-use Rattle.esc_rows.specs.Entries.{new_image, shown_image_entry}
+use Rattle.esc_rows.proofs.Common.{◌≡◌, ◌∷◌, pos, map, take, flat_map, Int, bound, new_image, shown_image_entry}
 use Rattle.esc_rows.proofs.undo.image_params.Given as goal
 
 abbrev pub invariant-loop-row : goal.invariant-loop-row

@@ -1,9 +1,5 @@
-use Rattle.std.proofs.Common.{rules, IsTrue, Ok, Err, sym, ap, subst, ◌∙◌}
+use Rattle.esc_rows.proofs.Calls.{Ok, sym, ap, subst, ◌∙◌, Err, IsTrue, rules, survives_weaker, state, RunsInside, within, commits_none}
 use Rattle.std.proofs.lemmas.Result.{err_from_is_err_and}
-use Rattle.esc_rows.specs.Part.{RunsInside}
-use Rattle.sqlite.specs.Held.{state}
-use Rattle.sqlite.proofs.StateLemmas.{survives_weaker}
-use Rattle.esc_rows.proofs.WithinLemmas.{within, commits_none}
 use Rattle.esc_rows.proofs.within.write_within.Goals as goal
 
 pub returns-in_err-execute-clause-runs : goal.returns-in_err-execute-clause-runs

@@ -1,6 +1,4 @@
-use Rattle.std.proofs.Common.{rules, arith, refl}
-use Rattle.std.proofs.lemmas.Grind.{common_steps}
-use Rattle.esc_rows.proofs.ShapeLemmas.{table_made}
+use Rattle.esc_rows.proofs.Calls.{rules, arith, refl, common_steps, table_made}
 use Rattle.esc_rows.proofs.shape.TableShapeDescribesTable.is_shape_of.Goals as goal
 
 pub returns : goal.returns
