@@ -1,31 +1,15 @@
 -- How many objects of a kind there are, from the kinds of the table's rows.
-use Rattle.std.proofs.Common.{◌≡◌, ℕ, suc, Bool, true, false, cond, List, [], ◌∷◌, length, filter, Option, None, Some, refl, sym, ap, subst, ◌∙◌, arith, inl, inr}
-use Rattle.std.specs.Prelude.{◌==◌, ◌&&◌, bytes_eq, find, option_map, IsSome, IfSome, if◌then◌else◌}
-use Rattle.std.specs.List.{AllByRecursion, IsDistinct}
-use Rattle.std.specs.Map.{lookup, keys_of}
-use Rattle.std.specs.Option.{option_and_then}
-use Rattle.std.proofs.lemmas.Bool.{cases_Bool, eqb-true, and_parts}
-use Rattle.std.proofs.lemmas.Bool.Decides.{nat_tests}
-use Rattle.std.proofs.lemmas.Slice.Eq.{bytes_eq-Decides}
-use Rattle.std.proofs.lemmas.List.Elements.{All-from_recursion}
+use Rattle.esc_store.proofs.Common.{◌≡◌, ℕ, suc, Bool, true, false, cond, List, [], ◌∷◌, length, filter, Option, None, Some, refl, sym, ap, subst, ◌∙◌, arith, inl, inr, ◌==◌, ◌&&◌, bytes_eq, find, option_map, IsSome, IfSome, if◌then◌else◌}
+use Rattle.esc_store.proofs.Common.{AllByRecursion, lookup, keys_of, option_and_then, cases_Bool, eqb-true, and_parts, nat_tests, bytes_eq-Decides, All-from_recursion, all_weaker, Kind, Registrar, Contact, Host, Domain, Idn, Nndn}
+use Rattle.esc_store.proofs.Common.{kind_rank, one_kind, KeyName, key_eq, ObjectValue, record_of, State, keys_alike, ObjectRow, Content, object_at, tallies, AreCounts, record_at, IsRegistry}
+use Rattle.std.specs.List.{IsDistinct}
 use Rattle.std.proofs.lemmas.Cmp.{nat_list_eq_equiv}
-use Rattle.sqlite_keyed.proofs.ListLemmas.{all_weaker}
-use Rattle.esc_envelope.specs.declared.kind.Kind.{Kind}
-use Rattle.esc_envelope.specs.declared.kind.Kind.TheVariants.{Registrar, Contact, Host, Domain, Idn, Nndn}
-use Rattle.esc_envelope.specs.Kinds.{kind_rank}
-use Rattle.esc_envelope.specs.KindLaws.{one_kind}
-use Rattle.esc_tables.specs.KeyName.{KeyName, key_eq}
-use Rattle.esc_tables.specs.ObjectValue.{ObjectValue}
-use Rattle.esc_record.specs.Record.{record_of}
-use Rattle.esc_apply.specs.Registry.{State, HasSize}
+use Rattle.esc_apply.specs.Registry.{HasSize}
 use Rattle.esc_apply.specs.Registry.{Content as Objects}
-use Rattle.esc_tables.specs.KeyLaws.{keys_alike}
-use Rattle.esc_rows.specs.Rows.{ObjectRow}
-use Rattle.esc_rows.specs.Content.{Content, is_object_at, object_at}
+use Rattle.esc_rows.specs.Content.{is_object_at}
 use Rattle.esc_rows.specs.Changes.{HaveOwnKeys, ListsKinds}
-use Rattle.esc_store.specs.Decoded.{times, tallies}
-use Rattle.esc_store.specs.Kept.{of_kind, AreCounts}
-use Rattle.esc_store.specs.TypedRows.{record_at, IsRegistry}
+use Rattle.esc_store.specs.Decoded.{times}
+use Rattle.esc_store.specs.Kept.{of_kind}
 use Rattle.esc_store.proofs.Gathering.{record_here}
 use Rattle.esc_store.proofs.Registries.{same_tests}
 

@@ -1,19 +1,9 @@
 -- From rows of tables to replies and steps.
-use Rattle.std.proofs.Common.{◌≡◌, ℕ, zero, suc, ◌+◌, ◌<◌, List, [], ◌∷◌, ◌++◌, length, take, get_or, map, None, Some, refl, sym, ap, ◌∙◌, arith, inl, inr}
-use Rattle.std.proofs.lemmas.Bool.{cases_Bool}
-use Rattle.std.proofs.lemmas.List.{length-map, length-take-le, get_or-map, take_more, map-append}
-use Rattle.esc_manifest.specs.declared.row.MRow.{MRow}
-use Rattle.esc_apply.specs.declared.front.Step.{Step}
-use Rattle.esc_rows.specs.Rows.{ReceiptRow, StepRow}
-use Rattle.esc_rows.specs.Changes.{receipt_of}
-use Rattle.esc_rows.specs.declared.receipt.Receipt.{Receipt}
-use Rattle.esc_rows.specs.declared.step.ChainStep.{ChainStep}
-use Rattle.esc_rows.specs.Entries.{step_row}
+use Rattle.esc_store.proofs.Common.{◌≡◌, ℕ, zero, suc, ◌+◌, ◌<◌, List, [], ◌∷◌, ◌++◌, length, take, get_or, map, None, Some, refl, sym, ap, ◌∙◌, arith, inl, inr, cases_Bool, length-map, length-take-le, get_or-map, take_more, map-append}
+use Rattle.esc_store.proofs.Common.{MRow, Step, ReceiptRow, StepRow, receipt_of, Receipt, ChainStep, step_row, A2, step_at, ReceiptValue, ReplyValue, replies_from, reply_alike, receipts_from, steps_from}
 use Rattle.esc_rows.specs.Entries.{receipt_row as stored_row}
-use Rattle.esc_store.specs.declared.reply.Verdict.TheVariants.{A2}
-use Rattle.esc_store.specs.Kept.{step_at}
-use Rattle.esc_store.specs.ReplyValue.{ReceiptValue, ReplyValue, reply_kept, replies_from, reply_alike, is_alike}
-use Rattle.esc_store.specs.TypedRows.{receipt_row, receipts_from, steps_from}
+use Rattle.esc_store.specs.ReplyValue.{reply_kept, is_alike}
+use Rattle.esc_store.specs.TypedRows.{receipt_row}
 use Rattle.esc_store.proofs.RowSteps.{step_nth, same_length}
 
 -- ---- one receipt

@@ -1,20 +1,10 @@
 -- The beginning and the ends of a change.
-use Rattle.std.proofs.Common.{◌≡◌, inl, inr, true, false, List, Option, sym, ap, subst, ◌∙◌}
-use Rattle.std.specs.Prelude.{IsTrue, Result, Ok, Err, OnErr, IsErr}
-use Rattle.std.proofs.lemmas.Bool.{cases_Bool}
-use Rattle.sqlite_trees.specs.Tree.{Trees}
-use Rattle.sqlite.specs.Effect.{Database}
-use Rattle.sqlite.specs.State.{State, HasCleanDisk, Survives, KeepsCommit, Shows}
-use Rattle.sqlite.proofs.StateLemmas.{survives_weaker}
-use Rattle.esc_manifest.specs.declared.row.MRow.{MRow}
+use Rattle.esc_store.proofs.Common.{◌≡◌, inl, inr, true, false, List, Option, sym, ap, subst, ◌∙◌, IsTrue, Result, Ok, Err, OnErr, IsErr, cases_Bool, Trees, Database, HasCleanDisk, Survives, KeepsCommit, Shows, survives_weaker, MRow}
+use Rattle.esc_store.proofs.Common.{content_in, KindCounts, Kept, IsBooks, IsRegistry, IsStoreDatabase, HoldsTables, IsAtRest, RestsAt, AreCountsOf, IsStanding, IsBegun, IsMade, IsUnderWay, was_clean}
+use Rattle.sqlite.specs.State.{State}
 use Rattle.esc_apply.specs.Registry.{State as Tables}
-use Rattle.esc_rows.specs.Content.{content_in}
-use Rattle.esc_store.specs.declared.counts.KindCounts.{KindCounts}
-use Rattle.esc_store.specs.Kept.{Kept, with_registry}
-use Rattle.esc_store.specs.TypedRows.{IsBooks, IsRegistry}
-use Rattle.esc_store.specs.StoreTables.{IsStore, IsStoreDatabase, HoldsTables}
-use Rattle.esc_store.specs.Standing.{IsAtRest, RestsAt, AreCountsOf, IsStanding, IsBegun, IsMade, IsUnderWay}
-use Rattle.esc_store.specs.StandingLaws.{was_clean}
+use Rattle.esc_store.specs.Kept.{with_registry}
+use Rattle.esc_store.specs.StoreTables.{IsStore}
 
 -- ---- results
 

@@ -1,37 +1,14 @@
 -- Rows of objects that are put many at a time, after what their keys had is noted.
-use Rattle.std.proofs.Common.{◌≡◌, ℕ, Bool, true, false, cond, ◌&&◌, List, [], ◌∷◌, ◌++◌, map, Option, None, Some, is_some, refl, sym, ap, ap₂, subst, ◌∙◌, append_assoc, arith, ◌<◌, ◌+◌, length, take, get_or}
-use Rattle.std.specs.Prelude.{◌==◌, if◌then◌else◌, option_map, bytes_eq, IsSome, IfSome}
-use Rattle.std.proofs.lemmas.Bool.{and_parts}
-use Rattle.std.specs.Option.{option_and_then, option_or, unwrap_or}
-use Rattle.std.specs.List.{AllByRecursion}
-use Rattle.std.specs.Map.{lookup, keys_of}
-use Rattle.std.proofs.lemmas.Bool.Decides.{nat_tests}
-use Rattle.std.proofs.lemmas.Slice.Eq.{bytes_eq-Decides}
-use Rattle.std.proofs.lemmas.List.{append-nil, map-append, map_push, map_more}
-use Rattle.sqlite_trees.specs.declared.store.Store.{Ghosts}
-use Rattle.sqlite.specs.Effect.{Database}
-use Rattle.esc_envelope.specs.declared.kind.Kind.{Kind}
-use Rattle.esc_envelope.specs.Kinds.{kind_rank}
-use Rattle.esc_envelope.specs.KindLaws.{one_kind}
-use Rattle.esc_tables.specs.KeyName.{KeyName, key_eq}
-use Rattle.esc_tables.specs.KeyLaws.{keys_alike}
-use Rattle.esc_tables.specs.ObjectValue.{ObjectValue}
-use Rattle.esc_record.specs.Record.{record_of}
-use Rattle.esc_apply.specs.ObjectStreams.{Entry}
-use Rattle.esc_apply.specs.Registry.{State, written}
-use Rattle.esc_apply.specs.declared.registry.Targets.{Targets}
-use Rattle.esc_apply.specs.Changes.{with_object, changed_by, AreNew, CanBePut}
+use Rattle.esc_store.proofs.Common.{◌≡◌, ℕ, Bool, true, false, cond, ◌&&◌, List, [], ◌∷◌, ◌++◌, map, Option, None, Some, is_some, refl, sym, ap, subst, ◌∙◌, arith, ◌<◌, ◌+◌, length, take, get_or, ◌==◌, if◌then◌else◌, option_map, bytes_eq}
+use Rattle.esc_store.proofs.Common.{IsSome, IfSome, and_parts, option_and_then, option_or, unwrap_or, AllByRecursion, lookup, keys_of, nat_tests, bytes_eq-Decides, append-nil, map-append, Ghosts, Database, Kind, kind_rank, one_kind}
+use Rattle.esc_store.proofs.Common.{KeyName, key_eq, keys_alike, ObjectValue, record_of, Entry, State, written, Targets, with_object, CanBePut, Content, content_in, object_at, image_at, NewObject, new_entry, new_image, ObjectEntry}
+use Rattle.esc_store.proofs.Common.{ImageEntry, is_entry_at, entry_at, entry_row, stored_row, AreRowsOf, kind_at, record_at, image_kept, IsRegistry, after_filling, after_noting, no_image, image_now, ChangeOf, Follows, goes_then}
+use Rattle.std.proofs.Common.{ap₂, append_assoc}
+use Rattle.std.proofs.lemmas.List.{map_push, map_more}
+use Rattle.esc_apply.specs.Changes.{changed_by, AreNew}
 use Rattle.esc_apply.specs.ChangeLaws.{content-changed_by, undo-new, written_by-noted, Fills, fills_more, fills_last, Returns, returns_last}
-use Rattle.esc_rows.specs.Content.{Content, content_in, object_at, image_at}
-use Rattle.esc_rows.specs.declared.object.NewObject.{NewObject}
 use Rattle.esc_rows.specs.declared.undo.NewImage.{NewImage}
-use Rattle.esc_rows.specs.Entries.{new_entry, new_image}
-use Rattle.esc_rows.specs.Changes.{ObjectEntry, ImageEntry, is_entry_at, entry_at, has_entry, image_entry_at, GainsObjects, PutsObjects, GainsImages, PutsImages}
-use Rattle.esc_store.specs.Pages.{entry_row, stored_row, AreRowsOf}
-use Rattle.esc_store.specs.TypedRows.{kind_at, record_at, image_kept, IsRegistry}
-use Rattle.esc_store.specs.Filling.{after_filling, after_noting, no_image, image_now}
-use Rattle.esc_store.specs.Standing.{ChangeOf, Follows}
-use Rattle.esc_store.specs.StandingLaws.{goes_then}
+use Rattle.esc_rows.specs.Changes.{has_entry, image_entry_at, GainsObjects, PutsObjects, GainsImages, PutsImages}
 use Rattle.esc_store.proofs.Gathering.{tests_alike, record_here, image_here}
 use Rattle.esc_store.proofs.Parts.{Turns, turning}
 use Rattle.esc_store.proofs.Registries.{no_kind, number_of_kind, in_branch, has_record}

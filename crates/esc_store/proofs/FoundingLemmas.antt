@@ -1,23 +1,11 @@
 -- Stores that are made.
-use Rattle.std.proofs.Common.{◌≡◌, List, refl, sym, ap, subst, ◌∙◌, false}
-use Rattle.std.specs.Prelude.{IsTrue}
-use Rattle.sqlite_trees.specs.Tree.{Trees}
-use Rattle.sqlite.specs.Effect.{Database}
-use Rattle.sqlite.specs.State.{State, HasCleanDisk, Survives, Shows}
-use Rattle.sqlite.proofs.StateLemmas.{survives_then, survives_weaker}
-use Rattle.esc_manifest.specs.declared.row.MRow.{MRow}
+use Rattle.esc_store.proofs.Common.{◌≡◌, List, refl, sym, ap, subst, ◌∙◌, false, IsTrue, Trees, Database, HasCleanDisk, Survives, Shows, survives_then, survives_weaker, MRow, ListedRow, content_in, HoldsContent, content_is, empty, Kept}
+use Rattle.esc_store.proofs.Common.{fresh, IsBooks, IsRegistry, listed_from, IsStoreDatabase, RestsAt, was_clean}
+use Rattle.sqlite.specs.State.{State}
 use Rattle.esc_rows.specs.Schema.{no_schema}
-use Rattle.esc_rows.specs.Rows.{ListedRow}
-use Rattle.esc_rows.specs.Content.{content_in, HoldsContent}
-use Rattle.esc_rows.specs.ContentIs.{content_is}
 use Rattle.esc_rows.specs.Creation.{MakesStore}
 use Rattle.esc_rows.specs.Creation.{fresh as fresh_rows}
-use Rattle.esc_apply.specs.Registry.{empty}
-use Rattle.esc_store.specs.Kept.{Kept, fresh}
-use Rattle.esc_store.specs.TypedRows.{IsBooks, IsRegistry, listed_from}
-use Rattle.esc_store.specs.StoreTables.{IsStore, IsStoreDatabase}
-use Rattle.esc_store.specs.Standing.{RestsAt}
-use Rattle.esc_store.specs.StandingLaws.{was_clean}
+use Rattle.esc_store.specs.StoreTables.{IsStore}
 use Rattle.esc_store.proofs.Manifests.{listed_rise}
 use Rattle.esc_store.proofs.Registries.{nothing_kept, nothing_there}
 

@@ -1,22 +1,13 @@
 -- From rows of tables to objects and before-images by their keys.
-use Rattle.std.proofs.Common.{◌≡◌, ℕ, Bool, true, false, cond, List, [], ◌∷◌, ◌++◌, Option, None, Some, refl, sym, ap, subst, ◌∙◌}
-use Rattle.std.specs.Prelude.{◌==◌, ◌&&◌, bytes_eq, find, option_map, IsSome, IfSome}
+use Rattle.esc_store.proofs.Common.{◌≡◌, ℕ, Bool, true, false, cond, List, [], ◌∷◌, ◌++◌, Option, None, Some, refl, sym, ap, subst, ◌∙◌, ◌==◌, ◌&&◌, bytes_eq, find, option_map, IsSome, IfSome, lookup, keys_of, option_and_then, option_or}
+use Rattle.esc_store.proofs.Common.{Kind, kind_rank, KeyName, key_eq, ObjectValue, record_of, State, Befores, Content, ObjectEntry, ImageEntry, is_entry_at, AreObjectsOf, AreImagesOf, record_at, image_kept, IsRegistry}
 use Rattle.std.specs.List.{IsDistinct}
-use Rattle.std.specs.Map.{lookup, keys_of}
-use Rattle.std.specs.Option.{option_and_then, option_or}
 use Rattle.std.proofs.lemmas.List.Folds.{find-append}
-use Rattle.esc_envelope.specs.declared.kind.Kind.{Kind}
-use Rattle.esc_envelope.specs.Kinds.{kind_rank}
-use Rattle.esc_tables.specs.KeyName.{KeyName, key_eq}
-use Rattle.esc_tables.specs.ObjectValue.{ObjectValue}
-use Rattle.esc_record.specs.Record.{record_of}
-use Rattle.esc_apply.specs.Registry.{State, Befores, IsEntriesOf}
+use Rattle.esc_apply.specs.Registry.{IsEntriesOf}
 use Rattle.esc_apply.specs.Registry.{Content as Objects}
 use Rattle.esc_tables.specs.KeyLaws.{one_key as same_key}
-use Rattle.esc_rows.specs.Content.{Content}
-use Rattle.esc_rows.specs.Changes.{ObjectEntry, ImageEntry, ListsObjects, ListsImages, is_entry_at, is_image_entry_at}
-use Rattle.esc_store.specs.Decoded.{AreObjectsOf, AreImagesOf, AreNotes}
-use Rattle.esc_store.specs.TypedRows.{record_at, image_kept, IsRegistry}
+use Rattle.esc_rows.specs.Changes.{ListsObjects, ListsImages, is_image_entry_at}
+use Rattle.esc_store.specs.Decoded.{AreNotes}
 use Rattle.esc_store.proofs.Registries.{kind_back, same_tests, AreAlone, one_object}
 
 -- ---- one row more

@@ -1,21 +1,10 @@
 -- What a part of a change does that lists rows.
-use Rattle.std.proofs.Common.{◌≡◌, ℕ, suc, ◌+◌, List, [], ◌∷◌, ◌++◌, length, Option, Some, refl, sym, ap, subst, arith}
-use Rattle.std.specs.Prelude.{pos}
-use Rattle.std.specs.Option.{unwrap_or}
-use Rattle.std.proofs.lemmas.Int.{ints}
-use Rattle.sqlite_keyed.specs.Keyed.{insert_by}
+use Rattle.esc_store.proofs.Common.{◌≡◌, ℕ, suc, ◌+◌, List, [], ◌∷◌, ◌++◌, length, Option, Some, refl, sym, ap, subst, arith, pos, unwrap_or, ints, insert_by, MRow, ListedRow, listed_number, Content, Kept, with_listed, IsBooks, IsRegistry}
+use Rattle.esc_store.proofs.Common.{listed_row, listed_from, Ghosts, Store, ChangeOf, GoesOn, survives_same}
 use Rattle.sqlite_keyed.proofs.KeyedLemmas.{Less-from_lt}
-use Rattle.esc_manifest.specs.declared.row.MRow.{MRow}
 use Rattle.esc_apply.specs.Registry.{State as Tables}
-use Rattle.esc_rows.specs.Rows.{ListedRow, listed_number}
-use Rattle.esc_rows.specs.Content.{Content}
 use Rattle.esc_rows.specs.Changes.{with_listed_row}
-use Rattle.esc_store.specs.Kept.{Kept, with_listed}
-use Rattle.esc_store.specs.TypedRows.{IsBooks, IsRegistry, listed_row, listed_from}
-use Rattle.sqlite_trees.specs.declared.store.Store.{Ghosts}
-use Rattle.esc_store.specs.declared.store.Store.{Store}
-use Rattle.esc_store.specs.Standing.{ChangeOf, RestIn, IsUncommitted, GoesOn}
-use Rattle.esc_store.specs.StandingLaws.{survives_same}
+use Rattle.esc_store.specs.Standing.{RestIn, IsUncommitted}
 use Rattle.esc_store.proofs.RowSteps.{Becoming}
 
 -- the next row, put in its place

@@ -1,23 +1,9 @@
 -- What a read within a change leaves as it was, and what it says.
-use Rattle.std.proofs.Common.{◌≡◌, List, Option, true, refl, sym, subst, ◌∙◌}
-use Rattle.std.specs.Prelude.{Result, Ok, Err, IfErr}
-use Rattle.std.specs.Option.{unwrap_or}
-use Rattle.std.proofs.lemmas.Result.{IfOk-at_ok, IfErr-at_err}
-use Rattle.std.proofs.lemmas.Bool.{both_ways}
-use Rattle.sqlite_trees.specs.declared.store.Store.{Ghosts}
-use Rattle.sqlite.specs.Effect.{Database}
-use Rattle.sqlite.specs.Held.{state}
-use Rattle.sqlite.specs.State.{State, HasCleanDisk, Shows}
-use Rattle.esc_manifest.specs.declared.row.MRow.{MRow}
+use Rattle.esc_store.proofs.Common.{◌≡◌, List, Option, true, refl, sym, subst, ◌∙◌, Result, Ok, Err, IfErr, unwrap_or, IfOk-at_ok, IfErr-at_err, both_ways, Ghosts, Database, state, HasCleanDisk, Shows, MRow, Content, content_in, Tells}
+use Rattle.esc_store.proofs.Common.{Store, Kept, IsBooks, IsRegistry, IsStoreDatabase, HoldsTables, ChangeOf, IsBegun, IsMade, IsUnderWay, IsLook, IsStoreRead, Follows, was_clean}
+use Rattle.sqlite.specs.State.{State}
 use Rattle.esc_apply.specs.Registry.{State as Tables}
-use Rattle.esc_rows.specs.Content.{Content, content_in}
-use Rattle.esc_rows.specs.Changes.{Tells}
-use Rattle.esc_store.specs.declared.store.Store.{Store}
-use Rattle.esc_store.specs.Kept.{Kept}
-use Rattle.esc_store.specs.TypedRows.{IsBooks, IsRegistry}
-use Rattle.esc_store.specs.StoreTables.{IsStoreDatabase, HoldsTables}
-use Rattle.esc_store.specs.Standing.{ChangeOf, IsBegun, IsMade, IsUnderWay, IsLook, IsStoreRead, BeganIn, RestIn, HoldsIn, Follows}
-use Rattle.esc_store.specs.StandingLaws.{was_clean}
+use Rattle.esc_store.specs.Standing.{BeganIn, RestIn, HoldsIn}
 use Rattle.esc_store.proofs.Ends.{begun_committed}
 
 module _ {X E : Type 0} {old new : State} {P : Content → X → Type 0} {r : Result X E} (look : IsLook old new (Tells P) r) where

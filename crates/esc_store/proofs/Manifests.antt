@@ -1,18 +1,10 @@
 -- A manifest in its table.
-use Rattle.std.proofs.Common.{◌≡◌, ℕ, zero, suc, ◌+◌, ◌<◌, List, [], ◌∷◌, ◌++◌, length, take, get_or, map, Option, None, Some, refl, sym, ap, ◌∙◌, arith}
-use Rattle.std.specs.Prelude.{Result, Ok, Err, pos, ◌<ℤ◌}
-use Rattle.std.specs.List.{AllByRecursion}
-use Rattle.std.proofs.lemmas.Int.{ints}
-use Rattle.std.proofs.lemmas.List.{length-map, length-take-le, get_or-map, take_more, map-append}
-use Rattle.sqlite_keyed.specs.Keyed.{IsKeyedBy}
-use Rattle.esc_manifest.specs.declared.row.MRow.{MRow}
+use Rattle.esc_store.proofs.Common.{◌≡◌, ℕ, zero, suc, ◌+◌, ◌<◌, List, [], ◌∷◌, ◌++◌, length, take, get_or, map, Option, None, Some, refl, sym, ap, ◌∙◌, arith, Result, Ok, Err, pos, ◌<ℤ◌, AllByRecursion, ints, length-map, length-take-le}
+use Rattle.esc_store.proofs.Common.{get_or-map, take_more, map-append, IsKeyedBy, MRow, no_row, ListedRow, listed_number, listed_row, listed_from}
 use Rattle.esc_manifest.specs.declared.fault.MFault.{MFault}
 use Rattle.esc_manifest.specs.declared.fault.MFault.TheVariants.{Refused}
-use Rattle.esc_manifest.specs.ManifestRows.{no_row}
-use Rattle.esc_rows.specs.Rows.{ListedRow, listed_number}
 use Rattle.esc_rows.specs.declared.listed.Listed.{Listed}
 use Rattle.esc_rows.specs.Entries.{listed_row as stored_row}
-use Rattle.esc_store.specs.TypedRows.{listed_row, listed_from}
 
 -- what was accepted is what was given
 pub accepted_is : (fault : Option (ℕ × ℕ)) (r : Result (List MRow) MFault) (m rows : List MRow) → (fault ≡ None → r ≡ Ok rows) → ((code row : ℕ) → fault ≡ Some (code, row) → r ≡ Err (Refused code row)) → r ≡ Ok m → m ≡ rows

@@ -1,26 +1,12 @@
 -- What parts of a change do to parked bodies and to the moment.
-use Rattle.std.proofs.Common.{◌≡◌, ℕ, ℤ, true, List, [], ◌∷◌, Option, None, Some, refl, sym, ap, subst, ◌∙◌}
-use Rattle.std.specs.Prelude.{Result, Ok, IsSome, ◌↔◌, if◌then◌else◌, bytes_eq}
-use Rattle.std.specs.List.{Contains}
-use Rattle.std.specs.Ordering.{nat_cmp}
-use Rattle.std.specs.declared.cmp.Ordering.TheVariants.{Less}
-use Rattle.std.specs.Cmp.Lexicographic.{slice_cmp}
-use Rattle.std.proofs.lemmas.List.Elements.{All-from_recursion}
-use Rattle.std.proofs.lemmas.Result.{IfOk-at_ok}
-use Rattle.sqlite_trees.specs.declared.store.Store.{Ghosts}
-use Rattle.sqlite_trees.specs.Tree.{IsAscending}
-use Rattle.sqlite.specs.Effect.{Database}
-use Rattle.sqlite.specs.Held.{state}
-use Rattle.sqlite.specs.State.{HasCleanDisk}
-use Rattle.esc_manifest.specs.declared.row.MRow.{MRow}
+use Rattle.esc_store.proofs.Common.{◌≡◌, ℕ, ℤ, true, List, [], ◌∷◌, Option, None, Some, refl, sym, ap, subst, ◌∙◌, Result, Ok, IsSome, ◌↔◌, if◌then◌else◌, bytes_eq, Contains, nat_cmp, Less, slice_cmp, All-from_recursion, IfOk-at_ok, Ghosts}
+use Rattle.esc_store.proofs.Common.{IsAscending, Database, state, HasCleanDisk, MRow, Content, content_in, HoldsContent, Store, Kept, with_parked, AreParked, IsBooks, IsRegistry, ChangeOf, IsStep, IsStoreRead, Follows, survives_same}
+use Rattle.esc_store.proofs.Common.{was_clean}
 use Rattle.esc_apply.specs.Registry.{State as Tables}
-use Rattle.esc_rows.specs.Content.{Content, content_in, HoldsContent, parked_at}
+use Rattle.esc_rows.specs.Content.{parked_at}
 use Rattle.esc_rows.specs.Parked.{PutsParked, RemovesParked, ListsParked, SetsMoment, without_moment, moment_row}
-use Rattle.esc_store.specs.declared.store.Store.{Store}
-use Rattle.esc_store.specs.Kept.{Kept, with_parked, with_moment, AreRisingTexts, AreParked}
-use Rattle.esc_store.specs.TypedRows.{IsBooks, IsRegistry}
-use Rattle.esc_store.specs.Standing.{ChangeOf, IsStep, IsStoreRead, RestIn, Follows}
-use Rattle.esc_store.specs.StandingLaws.{survives_same, was_clean}
+use Rattle.esc_store.specs.Kept.{with_moment, AreRisingTexts}
+use Rattle.esc_store.specs.Standing.{RestIn}
 use Rattle.esc_store.proofs.Parts.{Turns, turning}
 use Rattle.esc_store.proofs.RowSteps.{Becoming}
 

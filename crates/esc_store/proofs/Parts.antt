@@ -1,26 +1,11 @@
 -- What a part of a change does to what the change has made.
-use Rattle.std.proofs.Common.{◌≡◌, true, List, refl, sym, subst}
-use Rattle.std.specs.Prelude.{IsTrue, Result, Ok, Err, IfOk, IfErr, OnErr, IsErr}
-use Rattle.std.proofs.lemmas.Result.{IfOk-at_ok, IfErr-at_err}
-use Rattle.std.proofs.lemmas.Bool.{both_ways}
-use Rattle.sqlite_trees.specs.declared.store.Store.{Ghosts}
-use Rattle.sqlite.specs.Effect.{Database}
-use Rattle.sqlite.specs.Held.{state}
-use Rattle.sqlite.specs.State.{State, HasCleanDisk, Survives, KeepsCommit}
-use Rattle.sqlite.proofs.StateLemmas.{survives_then}
-use Rattle.esc_manifest.specs.declared.row.MRow.{MRow}
+use Rattle.esc_store.proofs.Common.{◌≡◌, true, List, refl, sym, subst, IsTrue, Result, Ok, Err, IfErr, OnErr, IsErr, IfOk-at_ok, IfErr-at_err, both_ways, Ghosts, Database, state, HasCleanDisk, Survives, KeepsCommit, survives_then, MRow}
+use Rattle.esc_store.proofs.Common.{Content, content_in, HoldsContent, content_is, IsPart, IsRead, SFault, Store, Kept, IsBooks, IsRegistry, IsStoreDatabase, HoldsTables, IsBegun, IsMade, IsUnderWay, IsStep, IsLook, was_clean}
+use Rattle.std.specs.Prelude.{IfOk}
+use Rattle.sqlite.specs.State.{State}
 use Rattle.esc_apply.specs.Registry.{State as Tables}
-use Rattle.esc_rows.specs.Content.{Content, content_in, HoldsContent}
-use Rattle.esc_rows.specs.ContentIs.{content_is}
-use Rattle.esc_rows.specs.Part.{IsPart, IsRead}
-use Rattle.esc_store.specs.declared.fault.SFault.{SFault}
-use Rattle.esc_store.specs.declared.store.Store.{Store}
 use Rattle.esc_store.specs.Faults.{IsS1OrS2}
-use Rattle.esc_store.specs.Kept.{Kept}
-use Rattle.esc_store.specs.TypedRows.{IsBooks, IsRegistry}
-use Rattle.esc_store.specs.StoreTables.{IsStoreDatabase, HoldsTables}
-use Rattle.esc_store.specs.Standing.{IsBegun, IsMade, IsUnderWay, IsGivenUp, Settles, IsStep, IsLook}
-use Rattle.esc_store.specs.StandingLaws.{was_clean}
+use Rattle.esc_store.specs.Standing.{IsGivenUp, Settles}
 use Rattle.esc_store.proofs.Ends.{keeps_then, begun_committed}
 
 -- ---- from statements to steps

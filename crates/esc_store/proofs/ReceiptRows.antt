@@ -1,24 +1,18 @@
 -- The rows of which receipts say that their deposits are held.
-use Rattle.std.proofs.Common.{◌≡◌, ◌⊎◌, inl, inr, ℕ, suc, ◌<◌, ◌==◌, Bool, true, false, cond, List, [], ◌∷◌, length, map, filter, Option, Some, refl, sym, ap, subst, ◌∙◌, arith, eqb, true≢false}
-use Rattle.std.specs.Prelude.{IsSorted, slice_index_or}
-use Rattle.std.specs.List.{Contains, Any, AllPairs, dedup}
-use Rattle.std.specs.Ordering.{nat_cmp}
-use Rattle.std.proofs.lemmas.List.{get_or-map, length-map}
+use Rattle.esc_store.proofs.Common.{◌≡◌, ◌⊎◌, inl, inr, ℕ, suc, ◌<◌, ◌==◌, Bool, true, false, cond, List, [], ◌∷◌, length, map, filter, Option, Some, refl, sym, ap, subst, ◌∙◌, arith, eqb, true≢false, IsSorted, Contains, Any, dedup}
+use Rattle.esc_store.proofs.Common.{nat_cmp, get_or-map, length-map, eqb-true, ReceiptRow, Content, ListsRows, Verdict, AreOnce, Kept, ReceiptValue, verdict_number, receipts_from, IsBooks, any_weaker}
+use Rattle.std.specs.Prelude.{slice_index_or}
+use Rattle.std.specs.List.{AllPairs}
 use Rattle.std.proofs.lemmas.List.Elements.{All-from_get_or}
 use Rattle.std.proofs.lemmas.List.Kept.{AllPairs-from_increasing, Contains-dedup_nat, Contains-from_dedup}
 use Rattle.std.proofs.lemmas.List.Sorted.{IsPermutation-sym, Contains-permutation}
 use Rattle.std.proofs.lemmas.Map.Keys.{IsStrictlyIncreasing-dedup}
-use Rattle.std.proofs.lemmas.Bool.{eqb-true, eq-eqb}
-use Rattle.esc_rows.specs.Rows.{ReceiptRow}
-use Rattle.esc_rows.specs.Content.{Content}
-use Rattle.esc_rows.specs.Changes.{is_of_verdict, ListsRows}
-use Rattle.esc_store.specs.declared.reply.Verdict.{Verdict}
+use Rattle.std.proofs.lemmas.Bool.{eq-eqb}
+use Rattle.esc_rows.specs.Changes.{is_of_verdict}
 use Rattle.esc_store.specs.declared.reply.Verdict.TheVariants.{A1}
-use Rattle.esc_store.specs.Decoded.{AreOnce}
-use Rattle.esc_store.specs.Kept.{Kept, IsRising, SaysHeld, AreHeldBy}
-use Rattle.esc_store.specs.ReplyValue.{ReceiptValue}
-use Rattle.esc_store.specs.TypedRows.{verdict_number, receipt_row, receipts_from, IsBooks}
-use Rattle.esc_store.specs.ListLaws.{first_or_later, later, any_first, any_later, any_split, any_weaker}
+use Rattle.esc_store.specs.Kept.{IsRising, SaysHeld, AreHeldBy}
+use Rattle.esc_store.specs.TypedRows.{receipt_row}
+use Rattle.esc_store.specs.ListLaws.{first_or_later, later, any_first, any_later, any_split}
 
 -- ---- each once
 

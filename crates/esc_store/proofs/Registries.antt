@@ -1,28 +1,14 @@
 -- What the statements on objects and before-images do to tables and before-images by keys.
-use Rattle.std.proofs.Common.{◌≡◌, inl, inr, ℕ, Bool, true, false, List, [], ◌++◌, Option, None, Some, refl, sym, ap, subst, ◌∙◌, arith}
-use Rattle.std.specs.Prelude.{◌==◌, if◌then◌else◌, bytes_eq, option_map, IsSome, IfSome}
-use Rattle.std.specs.Option.{option_and_then}
-use Rattle.std.proofs.lemmas.Bool.{cases_Bool, eqb-true, and_parts}
-use Rattle.std.proofs.lemmas.Bool.Decides.{nat_tests}
-use Rattle.std.proofs.lemmas.Slice.Eq.{bytes_eq-Decides}
-use Rattle.sqlite.specs.Effect.{Database}
-use Rattle.esc_envelope.specs.declared.kind.Kind.{Kind}
-use Rattle.esc_envelope.specs.declared.kind.Kind.TheVariants.{Registrar, Contact, Host, Domain, Idn, Nndn}
-use Rattle.esc_envelope.specs.Kinds.{kind_rank}
-use Rattle.esc_envelope.specs.KindLaws.{one_kind}
-use Rattle.esc_tables.specs.KeyName.{KeyName, key_eq}
-use Rattle.esc_tables.specs.ObjectValue.{ObjectValue}
-use Rattle.esc_record.specs.Record.{record_of}
-use Rattle.std.proofs.lemmas.List.{append-nil}
+use Rattle.esc_store.proofs.Common.{◌≡◌, inl, inr, ℕ, Bool, true, false, List, [], ◌++◌, Option, None, Some, refl, sym, ap, subst, ◌∙◌, arith, ◌==◌, if◌then◌else◌, bytes_eq, option_map, IsSome, IfSome, option_and_then, cases_Bool, eqb-true}
+use Rattle.esc_store.proofs.Common.{and_parts, nat_tests, bytes_eq-Decides, Database, Kind, Registrar, Contact, Host, Domain, Idn, Nndn, kind_rank, one_kind, KeyName, key_eq, ObjectValue, record_of, append-nil, State, Befores, empty}
+use Rattle.esc_store.proofs.Common.{written, noted, ObjectRow, Content, content_in, HoldsContent, object_at, image_at, Becomes, Kept, kind_at, record_at, image_kept, IsBooks, IsRegistry}
 use Rattle.std.proofs.lemmas.Option.{same_Some}
-use Rattle.esc_apply.specs.Registry.{State, Befores, empty, nothing, with_key, written, noted, taken}
+use Rattle.esc_apply.specs.Registry.{nothing, with_key, taken}
 use Rattle.esc_apply.specs.Registry.{Content as Objects}
 use Rattle.esc_tables.specs.KeyLaws.{key_itself, one_key as same_key}
-use Rattle.esc_rows.specs.Rows.{ObjectRow}
-use Rattle.esc_rows.specs.Content.{Content, content_in, HoldsContent, object_at, image_at, is_same_key, is_same_image}
-use Rattle.esc_rows.specs.Changes.{PutsObject, RemovesObject, without_objects, PutsImage, RemovesImages, without_undo, Becomes}
-use Rattle.esc_store.specs.Kept.{Kept}
-use Rattle.esc_store.specs.TypedRows.{kind_at, at_key, record_at, image_kept, IsBooks, IsRegistry}
+use Rattle.esc_rows.specs.Content.{is_same_key, is_same_image}
+use Rattle.esc_rows.specs.Changes.{PutsObject, RemovesObject, without_objects, PutsImage, RemovesImages, without_undo}
+use Rattle.esc_store.specs.TypedRows.{at_key}
 use Rattle.esc_store.proofs.Parts.{Turns, turning}
 
 -- ---- kinds by number

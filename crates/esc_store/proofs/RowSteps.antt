@@ -1,44 +1,31 @@
 -- What parts do to rows, receipts, bodies and steps.
-use Rattle.std.proofs.Common.{◌≡◌, ℕ, zero, suc, take, get_or, ◌+◌, ◌<◌, ◌≤◌, ltb, Bool, true, false, filter, List, Option, [], ◌∷◌, ◌++◌, length, map, None, Some, refl, sym, ap, subst, ◌∙◌, arith}
-use Rattle.std.specs.Prelude.{IsTrue, Result, Ok, Err, OnOk, pos, ◌<ℤ◌, ℤ, ◌==◌, if◌then◌else◌, option_map, is_some}
-use Rattle.std.specs.List.{AllByRecursion}
-use Rattle.std.proofs.lemmas.Int.{ints}
-use Rattle.std.proofs.lemmas.List.{append_assoc, append-nil, length-map, length-take-le, get_or-map, take_more}
+use Rattle.esc_store.proofs.Common.{◌≡◌, ℕ, zero, suc, take, get_or, ◌+◌, ◌<◌, ◌≤◌, Bool, true, false, filter, List, Option, [], ◌∷◌, ◌++◌, length, map, None, Some, refl, sym, ap, subst, ◌∙◌, arith, IsTrue, Result, Ok, Err, OnOk, pos, ◌<ℤ◌}
+use Rattle.esc_store.proofs.Common.{ℤ, ◌==◌, if◌then◌else◌, option_map, is_some, AllByRecursion, ints, append-nil, length-map, length-take-le, get_or-map, take_more, MRow, ChainStep, Step, step_row, Database, HasCleanDisk, survives_then}
+use Rattle.esc_store.proofs.Common.{IsKeyedBy, insert_by, all_weaker, Less, nat_tests, IfOk-at_ok, ReceiptRow, StepRow, Content, content_in, HoldsContent, Tells, Becomes, last_number, Kept, with_body, ReceiptValue, IsBooks, IsRegistry}
+use Rattle.esc_store.proofs.Common.{receipts_from, steps_from, ContinuesSteps, IsStep, IsLook, Ghosts, state, Store, was_clean}
+use Rattle.std.proofs.Common.{ltb}
+use Rattle.std.proofs.lemmas.List.{append_assoc}
 use Rattle.std.proofs.lemmas.List.Elements.{filter_passes, recursion_from_All}
-use Rattle.esc_manifest.specs.declared.row.MRow.{MRow}
-use Rattle.esc_rows.specs.declared.step.ChainStep.{ChainStep}
-use Rattle.esc_apply.specs.declared.front.Step.{Step}
-use Rattle.esc_rows.specs.Entries.{step_row}
-use Rattle.sqlite.specs.Effect.{Database}
-use Rattle.sqlite.specs.State.{State, HasCleanDisk}
-use Rattle.sqlite.proofs.StateLemmas.{survives_then}
-use Rattle.sqlite_keyed.specs.Keyed.{IsKeyedBy, get_by, insert_by}
+use Rattle.sqlite.specs.State.{State}
+use Rattle.sqlite_keyed.specs.Keyed.{get_by}
 use Rattle.sqlite_keyed.proofs.KeyedLemmas.{same_int, lt_from_Less}
-use Rattle.sqlite_keyed.proofs.ListLemmas.{all-append, all_weaker}
+use Rattle.sqlite_keyed.proofs.ListLemmas.{all-append}
 use Rattle.std.specs.Ordering.{int_cmp, int_eq, match_ordering}
 use Rattle.std.specs.declared.cmp.Ordering.{Ordering}
-use Rattle.std.specs.declared.cmp.Ordering.TheVariants.{Less, Equal, Greater}
+use Rattle.std.specs.declared.cmp.Ordering.TheVariants.{Equal, Greater}
 use Rattle.std.proofs.lemmas.Cmp.{int_ranked}
 use Rattle.std.proofs.lemmas.Bool.{lt-ltb, le-ltb, ltb-true}
-use Rattle.std.proofs.lemmas.Bool.Decides.{nat_tests}
-use Rattle.std.proofs.lemmas.Result.{IfOk-at_ok}
 use Rattle.esc_rows.specs.StoreTable.{Receipts}
-use Rattle.esc_rows.specs.Rows.{ReceiptRow, StepRow, HeldRow, receipt_number, held_number}
-use Rattle.esc_rows.specs.Content.{Content, content_in, HoldsContent}
-use Rattle.esc_rows.specs.Changes.{Tells, AddsReceipt, AddsStep, HoldsBody, Becomes, steps_before, last_number, body_of}
+use Rattle.esc_rows.specs.Rows.{HeldRow, receipt_number, held_number}
+use Rattle.esc_rows.specs.Changes.{AddsReceipt, AddsStep, HoldsBody, steps_before, body_of}
 use Rattle.esc_apply.specs.Registry.{State as Tables}
-use Rattle.esc_store.specs.Kept.{Kept, with_receipt, with_body, with_steps}
-use Rattle.esc_store.specs.ReplyValue.{ReceiptValue}
-use Rattle.esc_store.specs.TypedRows.{IsBooks, IsRegistry, receipt_row, receipts_from, steps_from}
-use Rattle.esc_store.specs.ChangeParts.{next_number, with_next_receipt, AddsNext, with_steps_from, ContinuesSteps}
-use Rattle.esc_store.specs.Standing.{IsStep, IsLook, RestIn}
+use Rattle.esc_store.specs.Kept.{with_receipt, with_steps}
+use Rattle.esc_store.specs.TypedRows.{receipt_row}
+use Rattle.esc_store.specs.ChangeParts.{next_number, with_next_receipt, AddsNext, with_steps_from}
+use Rattle.esc_store.specs.Standing.{RestIn}
 use Rattle.esc_store.proofs.Ends.{keeps_then}
 use Rattle.esc_store.proofs.Parts.{Turns, turning}
 use Rattle.esc_store.proofs.Reading.{counted}
-use Rattle.sqlite_trees.specs.declared.store.Store.{Ghosts}
-use Rattle.sqlite.specs.Held.{state}
-use Rattle.esc_store.specs.declared.store.Store.{Store}
-use Rattle.esc_store.specs.StandingLaws.{was_clean}
 
 -- ---- receipts
 

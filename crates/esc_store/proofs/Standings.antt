@@ -1,9 +1,6 @@
 -- What stores and changes are from one call to the next.
-use Rattle.sqlite_trees.specs.declared.store.Store.{Ghosts}
-use Rattle.sqlite.specs.Held.{Held}
-use Rattle.esc_store.specs.Kept.{Kept}
+use Rattle.esc_store.proofs.Common.{Ghosts, Held, Kept, survives_same}
 use Rattle.esc_store.specs.Standing.{LeavesOr}
-use Rattle.esc_store.specs.StandingLaws.{survives_same}
 
 -- nothing was called
 pub leaves_same : {S : Type 0} (g : Ghosts S) (h : Held S) (k : Kept) → LeavesOr g h h k

@@ -1,22 +1,9 @@
 -- Reads of a store's tables.
-use Rattle.std.proofs.Common.{◌≡◌, List, Option, Some, refl, sym, subst, ◌∙◌}
-use Rattle.std.specs.Prelude.{IsTrue, Result, Ok, Err}
-use Rattle.std.proofs.lemmas.Result.{IfOk-at_ok, IfErr-at_err}
-use Rattle.sqlite_trees.specs.declared.store.Store.{Ghosts}
-use Rattle.sqlite.specs.Held.{Held, state}
-use Rattle.sqlite.specs.State.{State, HasCleanDisk}
-use Rattle.esc_manifest.specs.declared.row.MRow.{MRow}
-use Rattle.esc_rows.specs.Content.{Content, content_in}
-use Rattle.esc_rows.specs.Changes.{Tells}
-use Rattle.esc_rows.specs.Part.{IsRead}
+use Rattle.esc_store.proofs.Common.{◌≡◌, List, Option, Some, refl, sym, subst, ◌∙◌, IsTrue, Result, Ok, Err, IfOk-at_ok, IfErr-at_err, Ghosts, Held, state, HasCleanDisk, MRow, Content, content_in, Tells, IsRead, KindCounts, SFault, Store}
+use Rattle.esc_store.proofs.Common.{Kept, AreCounts, IsStoreDatabase, IsAtRest, AreCountsOf, IsStanding, IsStoreRead, IsLook, IsTold, IsHonest, survives_same, was_clean}
+use Rattle.sqlite.specs.State.{State}
 use Rattle.esc_store.specs.Decoded.{counted}
-use Rattle.esc_store.specs.declared.counts.KindCounts.{KindCounts}
-use Rattle.esc_store.specs.declared.fault.SFault.{SFault}
-use Rattle.esc_store.specs.declared.store.Store.{Store}
-use Rattle.esc_store.specs.Kept.{Kept, AreCounts}
-use Rattle.esc_store.specs.StoreTables.{IsStoreDatabase}
-use Rattle.esc_store.specs.Standing.{IsAtRest, AreCountsOf, IsStanding, IsStoreRead, IsLook, IsAsBefore, IsTold, Stands, IsHonest}
-use Rattle.esc_store.specs.StandingLaws.{survives_same, was_clean}
+use Rattle.esc_store.specs.Standing.{IsAsBefore, Stands}
 use Rattle.esc_store.proofs.Ends.{still_counted}
 use Rattle.esc_store.proofs.Parts.{Settled, look_is}
 

@@ -1,6 +1,4 @@
-use Rattle.std.proofs.Common.{◌≡◌, map, take}
-use Rattle.esc_rows.specs.Entries.{new_entry, new_image}
-use Rattle.esc_store.specs.Filling.{no_image}
+use Rattle.esc_store.proofs.Common.{◌≡◌, map, take, new_entry, new_image, no_image}
 use Rattle.esc_store.proofs.filling.no_images.Given as goal
 
 abbrev pub invariant-loop-at : goal.invariant-loop-at

@@ -1,6 +1,4 @@
-use Rattle.std.proofs.lemmas.Result.{IfOk-at_ok}
-use Rattle.esc_store.specs.Kept.{fresh}
-use Rattle.esc_store.specs.ResultLaws.{if_ok}
+use Rattle.esc_store.proofs.Common.{IfOk-at_ok, fresh, if_ok}
 use Rattle.esc_store.proofs.FoundingLemmas.{founded_survives, founded_rests, founded_left}
 use Rattle.esc_store.proofs.founding.found_whole.Goals as goal
 

@@ -1,4 +1,4 @@
-use Rattle.esc_store.specs.StandingLaws.{was_clean}
+use Rattle.esc_store.proofs.Common.{was_clean}
 use Rattle.esc_store.proofs.FoundingLemmas.{founded_survives, founded_rests, founded_left}
 use Rattle.esc_store.proofs.migrating.commit_upgraded.Goals as goal
 

@@ -1,5 +1,4 @@
-use Rattle.std.proofs.Common.{◌≡◌, ◌+◌, arith, refl, sym}
-use Rattle.esc_store.specs.ResultLaws.{if_ok}
+use Rattle.esc_store.proofs.Common.{◌≡◌, ◌+◌, arith, refl, sym, if_ok}
 use Rattle.esc_store.proofs.RowSteps.{become_turns, books_steps, registry_steps, numbered}
 use Rattle.esc_store.proofs.Following.{stepped, goes_step, made_then, holds_all}
 use Rattle.esc_store.proofs.change.Change+S.continue_chain.Goals as goal

@@ -1,5 +1,4 @@
-use Rattle.std.proofs.Common.{refl}
-use Rattle.esc_store.specs.ResultLaws.{if_ok}
+use Rattle.esc_store.proofs.Common.{refl, if_ok}
 use Rattle.esc_store.proofs.Parts.{step_is}
 use Rattle.esc_store.proofs.RowSteps.{held_turns, books_held, registry_held, row_was_free}
 use Rattle.esc_store.proofs.Following.{moved, goes_step, made_all, holds_all}

@@ -1,7 +1,4 @@
-use Rattle.std.proofs.Common.{◌∙◌, ◌+◌, ap, refl, arith}
-use Rattle.std.proofs.lemmas.Result.{IfOk-at_ok}
-use Rattle.esc_store.specs.ResultLaws.{if_ok}
-use Rattle.esc_store.specs.StandingLaws.{was_clean}
+use Rattle.esc_store.proofs.Common.{◌∙◌, ◌+◌, ap, refl, arith, IfOk-at_ok, if_ok, was_clean}
 use Rattle.esc_store.proofs.RowSteps.{become_turns, books_receipt, registry_receipt, receipts_made}
 use Rattle.esc_store.proofs.Following.{stepped, goes_step, made_all, holds_all}
 use Rattle.esc_store.proofs.Looking.{if_err}

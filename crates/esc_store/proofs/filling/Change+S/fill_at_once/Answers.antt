@@ -1,9 +1,4 @@
-use Rattle.std.proofs.Common.{◌∙◌, ap, map, subst}
-use Rattle.std.proofs.lemmas.Result.{on_ok_weaker}
-use Rattle.esc_apply.specs.declared.registry.Targets.{Targets}
-use Rattle.esc_apply.specs.Changes.{with_object, CanBePut}
-use Rattle.esc_rows.specs.Entries.{new_entry, new_image}
-use Rattle.esc_store.specs.StandingLaws.{was_clean}
+use Rattle.esc_store.proofs.Common.{◌∙◌, ap, map, subst, on_ok_weaker, Targets, with_object, CanBePut, new_entry, new_image, was_clean}
 use Rattle.esc_store.proofs.Filled.{free_images}
 use Rattle.esc_store.proofs.filling.Change+S.fill_at_once.Goals as goal
 

@@ -1,10 +1,4 @@
-use Rattle.std.proofs.Common.{◌∙◌, ◌∷◌, ◌+◌, [], map, drop, refl, ap, sym, arith, length-drop}
-use Rattle.std.proofs.lemmas.List.{nil_from_length, drop_more}
-use Rattle.esc_rows.specs.declared.object.NewObject.{NewObject}
-use Rattle.esc_rows.specs.Entries.{new_entry}
-use Rattle.esc_store.specs.Filling.{after_filling}
-use Rattle.esc_store.specs.Standing.{HoldsNow}
-use Rattle.esc_store.specs.StandingLaws.{was_clean}
+use Rattle.esc_store.proofs.Common.{◌∙◌, ◌∷◌, ◌+◌, [], map, drop, refl, ap, sym, arith, length-drop, nil_from_length, drop_more, NewObject, new_entry, after_filling, HoldsNow, was_clean}
 use Rattle.esc_store.proofs.Filled.{follows_then, filling_rows, filling_row, filling_last}
 use Rattle.esc_store.proofs.Parking.{follows_same}
 use Rattle.esc_store.proofs.filling.Change+S.fill_each.Goals as goal

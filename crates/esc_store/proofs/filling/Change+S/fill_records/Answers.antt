@@ -1,8 +1,4 @@
-use Rattle.std.proofs.Common.{◌∙◌, [], refl}
-use Rattle.std.proofs.lemmas.Result.{on_ok_weaker}
-use Rattle.esc_store.specs.Filling.{after_filling}
-use Rattle.esc_store.specs.Standing.{HoldsNow}
-use Rattle.esc_store.specs.StandingLaws.{was_clean}
+use Rattle.esc_store.proofs.Common.{◌∙◌, [], refl, on_ok_weaker, after_filling, HoldsNow, was_clean}
 use Rattle.esc_store.proofs.Filled.{follows_then, filling_first, filling_more, filling_all, filling_last}
 use Rattle.esc_store.proofs.Parking.{follows_same}
 use Rattle.esc_store.proofs.filling.Change+S.fill_records.Goals as goal

@@ -1,11 +1,4 @@
-use Rattle.std.proofs.Common.{◌∙◌, ◌∷◌, ℕ, List, [], Some, ap, sym, subst}
-use Rattle.std.proofs.lemmas.Result.{on_ok_weaker}
-use Rattle.esc_tables.specs.KeyName.{KeyName}
-use Rattle.esc_apply.specs.Changes.{CanBePut}
-use Rattle.esc_apply.specs.Registry.{noted, written}
-use Rattle.esc_rows.specs.Entries.{new_entry}
-use Rattle.esc_store.specs.Standing.{HoldsNow}
-use Rattle.esc_store.specs.StandingLaws.{was_clean}
+use Rattle.esc_store.proofs.Common.{◌∙◌, ◌∷◌, ℕ, List, [], Some, ap, sym, subst, on_ok_weaker, KeyName, CanBePut, noted, written, new_entry, HoldsNow, was_clean}
 use Rattle.esc_store.proofs.Filled.{RowOf, row_key, follows_then}
 use Rattle.esc_store.proofs.filling.Change+S.fill_row.Goals as goal
 

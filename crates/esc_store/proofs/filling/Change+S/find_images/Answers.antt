@@ -1,6 +1,4 @@
-use Rattle.std.proofs.Common.{◌∙◌, ℕ, List, Option, ap, arith}
-use Rattle.esc_store.specs.Filling.{image_now}
-use Rattle.esc_store.specs.StandingLaws.{was_clean}
+use Rattle.esc_store.proofs.Common.{◌∙◌, ℕ, List, Option, ap, arith, image_now, was_clean}
 use Rattle.esc_store.proofs.Filled.{follows_then, images_more}
 use Rattle.esc_store.proofs.filling.Change+S.find_images.Goals as goal
 

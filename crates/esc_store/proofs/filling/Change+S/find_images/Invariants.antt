@@ -1,8 +1,4 @@
-use Rattle.std.proofs.Common.{◌≡◌, map, length, take}
-use Rattle.esc_apply.specs.Registry.{State}
-use Rattle.esc_rows.specs.Entries.{new_entry, new_image}
-use Rattle.esc_store.specs.Filling.{image_now}
-use Rattle.esc_store.specs.Standing.{HoldsNow, Follows, IsHonest, store_in}
+use Rattle.esc_store.proofs.Common.{◌≡◌, map, length, take, State, new_entry, new_image, image_now, HoldsNow, Follows, IsHonest, store_in}
 use Rattle.esc_store.proofs.filling.Change+S.find_images.Given as goal
 
 abbrev pub invariant-loop-at : goal.invariant-loop-at

@@ -1,6 +1,4 @@
-use Rattle.std.proofs.Common.{◌∙◌, sym}
-use Rattle.std.proofs.lemmas.Result.{on_ok_weaker}
-use Rattle.esc_store.specs.StandingLaws.{was_clean}
+use Rattle.esc_store.proofs.Common.{◌∙◌, sym, on_ok_weaker, was_clean}
 use Rattle.esc_store.proofs.Filled.{follows_then}
 use Rattle.esc_store.proofs.filling.Change+S.note_present.Goals as goal
 

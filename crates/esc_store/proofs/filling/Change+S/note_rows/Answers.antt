@@ -1,4 +1,4 @@
-use Rattle.esc_store.specs.ResultLaws.{if_ok}
+use Rattle.esc_store.proofs.Common.{if_ok}
 use Rattle.esc_store.proofs.Filled.{images_turn, note_all}
 use Rattle.esc_store.proofs.Following.{moved, follows_step, holds_step}
 use Rattle.esc_store.proofs.Registries.{books_images}

@@ -1,9 +1,4 @@
-use Rattle.std.proofs.Common.{◌∙◌, ℕ, List, Some, ap, sym, subst}
-use Rattle.std.proofs.lemmas.Result.{on_ok_weaker}
-use Rattle.esc_tables.specs.KeyName.{KeyName}
-use Rattle.esc_apply.specs.Registry.{written}
-use Rattle.esc_rows.specs.Entries.{new_entry}
-use Rattle.esc_store.specs.Standing.{HoldsNow}
+use Rattle.esc_store.proofs.Common.{◌∙◌, ℕ, List, Some, ap, sym, subst, on_ok_weaker, KeyName, written, new_entry, HoldsNow}
 use Rattle.esc_store.proofs.Filled.{RowOf, row_key}
 use Rattle.esc_store.proofs.filling.Change+S.write_row.Goals as goal
 

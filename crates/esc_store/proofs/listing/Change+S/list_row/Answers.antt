@@ -1,4 +1,4 @@
-use Rattle.esc_store.specs.ResultLaws.{if_ok}
+use Rattle.esc_store.proofs.Common.{if_ok}
 use Rattle.esc_store.proofs.RowSteps.{become_turns}
 use Rattle.esc_store.proofs.Lists.{books_listed, registry_listed}
 use Rattle.esc_store.proofs.Following.{moved, goes_step, listed_step, holds_all}

@@ -1,4 +1,4 @@
-use Rattle.std.proofs.Common.{refl}
+use Rattle.esc_store.proofs.Common.{refl}
 use Rattle.esc_store.proofs.RowSteps.{become_turns}
 use Rattle.esc_store.proofs.Parking.{books_no_moment, registry_no_moment}
 use Rattle.esc_store.proofs.Following.{moved, goes_step, made_all, holds_all}

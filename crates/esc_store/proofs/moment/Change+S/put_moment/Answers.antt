@@ -1,4 +1,5 @@
-use Rattle.std.proofs.Common.{refl, w64}
+use Rattle.esc_store.proofs.Common.{refl}
+use Rattle.std.proofs.Common.{w64}
 use Rattle.std.proofs.lemmas.Int.{to_z-of_z}
 use Rattle.esc_store.proofs.Parking.{moment_turns, books_moment, registry_moment}
 use Rattle.esc_store.proofs.Following.{moved, goes_step, made_all, holds_all}

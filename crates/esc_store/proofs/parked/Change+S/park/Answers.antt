@@ -1,5 +1,4 @@
-use Rattle.std.proofs.Common.{refl}
-use Rattle.esc_store.specs.ResultLaws.{if_ok}
+use Rattle.esc_store.proofs.Common.{refl, if_ok}
 use Rattle.esc_store.proofs.Parking.{park_turns, books_parked, registry_parked, was_free}
 use Rattle.esc_store.proofs.Parts.{step_is}
 use Rattle.esc_store.proofs.Following.{moved, goes_step, made_all, holds_all}

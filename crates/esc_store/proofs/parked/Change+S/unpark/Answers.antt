@@ -1,4 +1,4 @@
-use Rattle.std.proofs.Common.{refl}
+use Rattle.esc_store.proofs.Common.{refl}
 use Rattle.esc_store.proofs.Parking.{unpark_turns, books_parked, registry_parked}
 use Rattle.esc_store.proofs.Following.{moved, goes_step, made_all, holds_all}
 use Rattle.esc_store.proofs.parked.Change+S.unpark.Goals as goal

@@ -1,4 +1,4 @@
-use Rattle.esc_store.specs.ResultLaws.{if_ok}
+use Rattle.esc_store.proofs.Common.{if_ok}
 use Rattle.esc_store.proofs.Registries.{undo_turns, books_no_undo, undo_gone}
 use Rattle.esc_store.proofs.Following.{moved, follows_step, holds_step}
 use Rattle.esc_store.proofs.records.Change+S.clear_notes.Goals as goal

@@ -1,5 +1,4 @@
-use Rattle.std.proofs.Common.{◌∙◌}
-use Rattle.esc_store.specs.ResultLaws.{if_ok}
+use Rattle.esc_store.proofs.Common.{◌∙◌, if_ok}
 use Rattle.esc_store.proofs.Sure.{read_settled}
 use Rattle.esc_store.proofs.Looking.{follows_look, says_look}
 use Rattle.esc_store.proofs.records.Change+S.find_stored.Goals as goal

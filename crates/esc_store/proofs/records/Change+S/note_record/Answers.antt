@@ -1,4 +1,4 @@
-use Rattle.esc_store.specs.ResultLaws.{if_ok}
+use Rattle.esc_store.proofs.Common.{if_ok}
 use Rattle.esc_store.proofs.Registries.{image_turns, books_images, note_registry, key_note}
 use Rattle.esc_store.proofs.Following.{moved, follows_step, holds_step}
 use Rattle.esc_store.proofs.records.Change+S.note_record.Goals as goal

@@ -1,5 +1,4 @@
-use Rattle.std.proofs.Common.{Some}
-use Rattle.esc_store.specs.ResultLaws.{if_ok}
+use Rattle.esc_store.proofs.Common.{Some, if_ok}
 use Rattle.esc_store.proofs.Registries.{put_turns, books_objects, set_registry, key_set, has_record}
 use Rattle.esc_store.proofs.Following.{moved, follows_step, holds_step}
 use Rattle.esc_store.proofs.records.Change+S.put_record.Goals as goal

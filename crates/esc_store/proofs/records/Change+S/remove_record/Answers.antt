@@ -1,4 +1,4 @@
-use Rattle.std.proofs.Common.{refl, None}
+use Rattle.esc_store.proofs.Common.{refl, None}
 use Rattle.esc_store.proofs.Registries.{remove_turns, books_objects, set_registry, key_set}
 use Rattle.esc_store.proofs.Following.{moved, follows_step, holds_all}
 use Rattle.esc_store.proofs.records.Change+S.remove_record.Goals as goal

@@ -1,9 +1,5 @@
-use Rattle.std.proofs.Common.{◌∙◌}
-use Rattle.std.proofs.lemmas.Result.{IfOk-at_ok}
-use Rattle.sqlite.proofs.StateLemmas.{survives_then}
-use Rattle.esc_rows.specs.ResultLaws.{if_goes}
+use Rattle.esc_store.proofs.Common.{◌∙◌, IfOk-at_ok, survives_then, if_goes, was_clean}
 use Rattle.esc_store.specs.Standing.{Stands, BeganIn, RestIn, HoldsIn}
-use Rattle.esc_store.specs.StandingLaws.{was_clean}
 use Rattle.esc_store.proofs.Ends.{began, made, under_way, given_up, keeps_then}
 use Rattle.esc_store.proofs.store.Store.begin_here.Goals as goal
 use Rattle.esc_store.proofs.Looking.{if_err}

@@ -1,10 +1,5 @@
-use Rattle.std.proofs.Common.{◌∙◌}
-use Rattle.std.proofs.lemmas.Result.{IfOk-at_ok}
-use Rattle.sqlite.proofs.StateLemmas.{survives_then}
-use Rattle.esc_rows.specs.ResultLaws.{if_goes}
-use Rattle.esc_store.specs.StoreTables.{IsStore}
+use Rattle.esc_store.proofs.Common.{◌∙◌, IfOk-at_ok, survives_then, if_goes, IsStore, was_clean}
 use Rattle.esc_store.specs.Standing.{Stands, HoldsKept, BeganIn, RestIn, HoldsIn, LeavesOr, LeavesOnly}
-use Rattle.esc_store.specs.StandingLaws.{was_clean}
 use Rattle.esc_store.proofs.Ends.{at_err, committed, crash, left, given_up, keeps_then, begun_committed}
 use Rattle.esc_store.proofs.store.Store.commit_here.Goals as goal
 use Rattle.esc_store.proofs.Looking.{if_err}

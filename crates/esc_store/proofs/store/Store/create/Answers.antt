@@ -1,4 +1,4 @@
-use Rattle.std.proofs.Common.{◌∙◌, ap, map}
+use Rattle.esc_store.proofs.Common.{◌∙◌, ap, map}
 use Rattle.esc_rows.specs.Entries.{listed_row}
 use Rattle.esc_store.specs.Standing.{Stands, LeavesOnly, LeavesOr}
 use Rattle.esc_store.proofs.Standings.{leaves_same}
