@@ -7,7 +7,7 @@ pub use Rattle.std.proofs.lemmas.Int.{ints}
 pub use Rattle.std.proofs.lemmas.List.{length-map, length-take-le, get_or-map, take_more, map-append, append-nil, take_all, nil_from_length, drop_more}
 pub use Rattle.std.proofs.lemmas.List.Elements.{All-from_recursion}
 pub use Rattle.std.proofs.lemmas.Map.Keys.{IsDistinct-from_sorted}
-pub use Rattle.std.proofs.lemmas.Result.{IfOk-at_ok, IfErr-at_err, on_ok_weaker}
+pub use Rattle.std.proofs.lemmas.Result.{IfOk-at_ok, IfErr-at_err, IfOk-weaker, IfErr-weaker, on_ok_weaker}
 pub use Rattle.std.proofs.lemmas.Slice.Eq.{bytes_eq-Decides}
 pub use Rattle.std.specs.BTreeMap.{IsOrdered}
 pub use Rattle.std.specs.Cmp.Lexicographic.{slice_cmp}
@@ -51,7 +51,7 @@ pub use Rattle.esc_rows.specs.declared.receipt.Receipt.{Receipt}
 pub use Rattle.esc_rows.specs.declared.step.ChainStep.{ChainStep}
 pub use Rattle.esc_store.specs.ChangeParts.{ContinuesSteps}
 pub use Rattle.esc_store.specs.Decoded.{tallies, AreObjectsOf, AreImagesOf, AreOnce}
-pub use Rattle.esc_store.specs.Filling.{after_filling, after_noting, no_image, image_now}
+pub use Rattle.esc_store.specs.Filling.{after_filling, after_noting, image_now}
 pub use Rattle.esc_store.specs.FirstVersion.{IsFirstDatabase}
 pub use Rattle.esc_store.specs.Kept.{AreCounts, step_at, Kept, fresh, with_listed, with_parked, AreParked, with_body}
 pub use Rattle.esc_store.specs.ListLaws.{any_weaker}

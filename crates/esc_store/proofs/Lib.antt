@@ -1,4 +1,5 @@
 pub mod Common
+pub mod Numbered
 pub mod Counting
 pub mod RowSteps
 pub mod Decoding

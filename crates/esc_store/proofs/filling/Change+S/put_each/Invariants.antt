@@ -1,6 +1,6 @@
 use Rattle.esc_store.proofs.Common.{◌≡◌, ℕ, List, map, drop, Entry, State, new_entry, after_filling, after_noting, AreRowsOf, HoldsNow, Follows}
 use Rattle.esc_store.proofs.Filled.{Writing}
-use Rattle.esc_store.proofs.filling.Change+S.write_rows.Given as goal
+use Rattle.esc_store.proofs.filling.Change+S.put_each.Given as goal
 
 abbrev pub invariant-loop-at : goal.invariant-loop-at
 invariant-loop-at g l = record {
