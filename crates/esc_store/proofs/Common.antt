@@ -1,10 +1,10 @@
 -- The names that most proofs of this crate cite, passed on from one place. Declares nothing.
 pub use Rattle.std.proofs.Common.{◌≡◌, ℕ, suc, Bool, true, false, cond, List, [], ◌∷◌, length, filter, Option, None, Some, refl, sym, ap, subst, ◌∙◌, arith, inl, inr, ◌==◌, ◌&&◌, bytes_eq, find, option_map, IsSome, IfSome, if◌then◌else◌}
-pub use Rattle.std.proofs.Common.{zero, ◌+◌, ◌<◌, ◌++◌, take, get_or, map, IsTrue, Result, Ok, Err, OnErr, IsErr, is_some, OnOk, pos, IfErr, ◌<ℤ◌, ◌≤◌, slice_get, ℤ, not, ◌↔◌, ◌⊎◌, eqb, true≢false, IsSorted, drop, length-drop, int_eq}
+pub use Rattle.std.proofs.Common.{zero, ◌+◌, ◌<◌, ◌++◌, take, get_or, map, IsTrue, Result, Ok, Err, OnErr, IsErr, is_some, OnOk, pos, IfErr, ◌<ℤ◌, ◌≤◌, slice_get, ℤ, not, ◌↔◌, ◌⊎◌, eqb, true≢false, IsSorted, drop, length-drop, int_eq, ap₂}
 pub use Rattle.std.proofs.lemmas.Bool.{cases_Bool, eqb-true, and_parts, both_ways}
 pub use Rattle.std.proofs.lemmas.Bool.Decides.{nat_tests}
 pub use Rattle.std.proofs.lemmas.Int.{ints}
-pub use Rattle.std.proofs.lemmas.List.{length-map, length-take-le, get_or-map, take_more, map-append, append-nil, take_all, nil_from_length, drop_more}
+pub use Rattle.std.proofs.lemmas.List.{length-map, length-take-le, get_or-map, take_more, map-append, append-nil, take_all, nil_from_length, drop_more, map_more, map_push}
 pub use Rattle.std.proofs.lemmas.List.Elements.{All-from_recursion}
 pub use Rattle.std.proofs.lemmas.Map.Keys.{IsDistinct-from_sorted}
 pub use Rattle.std.proofs.lemmas.Result.{IfOk-at_ok, IfErr-at_err, IfOk-weaker, IfErr-weaker, on_ok_weaker}
@@ -37,8 +37,8 @@ pub use Rattle.esc_envelope.specs.declared.kind.Kind.TheVariants.{Registrar, Con
 pub use Rattle.esc_manifest.specs.ManifestRows.{no_row}
 pub use Rattle.esc_manifest.specs.declared.row.MRow.{MRow}
 pub use Rattle.esc_record.specs.Record.{record_of}
-pub use Rattle.esc_rows.specs.Changes.{receipt_of, ObjectEntry, ImageEntry, is_entry_at, entry_at, Tells, last_number, ListsRows, Becomes, verdict_digests}
-pub use Rattle.esc_rows.specs.Content.{Content, object_at, content_in, image_at, HoldsContent}
+pub use Rattle.esc_rows.specs.Changes.{receipt_of, ObjectEntry, ImageEntry, is_entry_at, entry_at, Tells, last_number, ListsRows, Becomes, verdict_digests, GainsImages, GainsObjects, body_of}
+pub use Rattle.esc_rows.specs.Content.{Content, object_at, content_in, image_at, HoldsContent, parked_at}
 pub use Rattle.esc_rows.specs.ContentIs.{content_is}
 pub use Rattle.esc_rows.specs.Creation.{TellsVersion}
 pub use Rattle.esc_rows.specs.Entries.{step_row, new_entry, new_image, image_of, object_of, receipt_row}
@@ -51,7 +51,7 @@ pub use Rattle.esc_rows.specs.declared.receipt.Receipt.{Receipt}
 pub use Rattle.esc_rows.specs.declared.step.ChainStep.{ChainStep}
 pub use Rattle.esc_store.specs.ChangeParts.{ContinuesSteps}
 pub use Rattle.esc_store.specs.Decoded.{tallies, AreObjectsOf, AreImagesOf, AreOnce}
-pub use Rattle.esc_store.specs.Filling.{after_filling, after_noting, image_now}
+pub use Rattle.esc_store.specs.Filling.{after_filling, after_noting, image_now, AreFree}
 pub use Rattle.esc_store.specs.FirstVersion.{IsFirstDatabase}
 pub use Rattle.esc_store.specs.Kept.{AreCounts, step_at, Kept, fresh, with_listed, with_parked, AreParked, with_body}
 pub use Rattle.esc_store.specs.ListLaws.{any_weaker}
@@ -59,7 +59,7 @@ pub use Rattle.esc_store.specs.Opening.{IsSettled}
 pub use Rattle.esc_store.specs.Pages.{entry_row, stored_row, AreRowsOf}
 pub use Rattle.esc_store.specs.ReplyValue.{ReceiptValue, ReplyValue, replies_from, reply_alike}
 pub use Rattle.esc_store.specs.ResultLaws.{if_ok}
-pub use Rattle.esc_store.specs.Standing.{IsAtRest, RestsAt, AreCountsOf, IsStanding, IsBegun, IsMade, IsUnderWay, ChangeOf, Follows, IsStep, RestIn, GoesOn, IsLook, IsStoreRead, IsTold, IsHonest, HoldsNow, store_in}
+pub use Rattle.esc_store.specs.Standing.{IsAtRest, RestsAt, AreCountsOf, IsStanding, IsBegun, IsMade, IsUnderWay, ChangeOf, Follows, IsStep, RestIn, GoesOn, IsLook, IsStoreRead, IsTold, IsHonest, HoldsNow, store_in, Settles}
 pub use Rattle.esc_store.specs.StandingLaws.{was_clean, goes_then, survives_same}
 pub use Rattle.esc_store.specs.StoreTables.{IsStore, IsStoreDatabase, HoldsTables}
 pub use Rattle.esc_store.specs.TypedRows.{record_at, IsRegistry, receipts_from, steps_from, IsBooks, kind_at, image_kept, listed_from, listed_row, verdict_number}

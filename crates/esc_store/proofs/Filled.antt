@@ -2,17 +2,15 @@
 use Rattle.esc_store.proofs.Common.{◌≡◌, ℕ, Bool, true, false, cond, ◌&&◌, List, [], ◌∷◌, ◌++◌, map, Option, None, Some, is_some, refl, sym, ap, subst, ◌∙◌, arith, ◌<◌, ◌+◌, length, take, get_or, ◌==◌, if◌then◌else◌, option_map, bytes_eq}
 use Rattle.esc_store.proofs.Common.{IsSome, IfSome, cases_Bool, inl, inr, and_parts, option_and_then, option_or, unwrap_or, AllByRecursion, All-from_recursion, get_or-map, length-map, lookup, keys_of, nat_tests, bytes_eq-Decides, append-nil, map-append, Ghosts, Kind, kind_rank}
 use Rattle.esc_store.proofs.Common.{KeyName, key_eq, keys_alike, ObjectValue, record_of, Entry, State, written, Targets, with_object, CanBePut, Content, object_at, image_at, NewObject, new_entry, new_image, ObjectEntry}
-use Rattle.esc_store.proofs.Common.{ImageEntry, is_entry_at, entry_at, entry_row, stored_row, AreRowsOf, kind_at, record_at, image_kept, IsRegistry, after_filling, after_noting, image_now, ChangeOf, Follows, goes_then}
-use Rattle.std.proofs.Common.{ap₂, append_assoc}
-use Rattle.std.proofs.lemmas.List.{map_push, map_more}
+use Rattle.esc_store.proofs.Common.{ImageEntry, is_entry_at, entry_at, entry_row, stored_row, AreRowsOf, kind_at, record_at, image_kept, IsRegistry, after_filling, after_noting, image_now, ChangeOf, Follows, goes_then, ap₂, map_push, map_more, GainsObjects, GainsImages, AreFree}
+use Rattle.std.proofs.Common.{append_assoc}
 use Rattle.esc_apply.specs.Changes.{changed_by, AreNew}
 use Rattle.esc_apply.specs.ChangeLaws.{content-changed_by, undo-new, written_by-noted, Fills, fills_more, fills_last, Returns, returns_last}
 use Rattle.esc_rows.specs.declared.undo.NewImage.{NewImage}
-use Rattle.esc_rows.specs.Changes.{has_entry, image_entry_at, GainsObjects, GainsImages}
+use Rattle.esc_rows.specs.Changes.{has_entry, image_entry_at}
 use Rattle.esc_apply.specs.declared.registry.Targets.TheVariants.{Free, Any}
 use Rattle.std.specs.Prelude.{All}
 use Rattle.std.proofs.lemmas.List.Elements.{All-head, All-get_or}
-use Rattle.esc_store.specs.Filling.{AreFree}
 use Rattle.esc_store.proofs.Gathering.{tests_alike, record_here, image_here}
 use Rattle.esc_store.proofs.Registries.{no_kind, number_of_kind, in_branch, has_record, ChangesObjects, ChangesImages}
 

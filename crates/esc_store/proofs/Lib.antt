@@ -14,7 +14,6 @@ pub mod OpeningLemmas
 pub mod Parts
 pub mod Reading
 pub mod Registries
-pub mod Standings
 pub mod Sure
 pub mod Paging
 pub mod ReceiptRows

@@ -1,6 +1,5 @@
 -- Rows that are numbered one after another, from a number on.
-use Rattle.esc_store.proofs.Common.{◌≡◌, ℕ, zero, suc, ◌+◌, ◌<◌, List, [], ◌∷◌, ◌++◌, length, take, get_or, map, refl, sym, ap, ◌∙◌, arith, length-map, get_or-map, take_more}
-use Rattle.std.proofs.Common.{ap₂}
+use Rattle.esc_store.proofs.Common.{◌≡◌, ℕ, zero, suc, ◌+◌, ◌<◌, List, [], ◌∷◌, ◌++◌, length, take, get_or, map, refl, sym, ap, ◌∙◌, arith, length-map, get_or-map, take_more, ap₂}
 
 module _ {X R : Type 0} (row : ℕ → X → R) (from : ℕ → List X → List R) (none : (n : ℕ) → from n [] ≡ []) (more : (n : ℕ) (x : X) (xs : List X) → from n (x ∷ xs) ≡ row n x ∷ from (suc n) xs) where
   pub from_append : (n m : ℕ) (xs ys : List X) → length xs + n ≡ m → from n (xs ++ ys) ≡ from n xs ++ from m ys

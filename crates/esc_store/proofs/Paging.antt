@@ -1,7 +1,7 @@
 -- From rows of the table of objects to a page of them.
 use Rattle.esc_store.proofs.Common.{◌≡◌, ℕ, ◌+◌, ◌<◌, ◌≤◌, ◌==◌, ◌&&◌, Bool, true, false, cond, List, [], ◌∷◌, ◌++◌, map, filter, take, length, get_or, Option, None, Some, option_map, refl, sym, ap, subst, ◌∙◌, inl, inr, arith, bytes_eq}
-use Rattle.esc_store.proofs.Common.{find, lookup, nat_cmp, slice_cmp, cases_Bool, map-append, take_more, length-map, IsAscending, Kind, kind_rank, KeyName, key_cmp, key_eq, record_of, Entry, State, keys_alike, Content, object_at}
-use Rattle.esc_store.proofs.Common.{ObjectEntry, entry_at, is_entry_at, entry_row, stored_row, IsRegistry}
+use Rattle.esc_store.proofs.Common.{find, lookup, nat_cmp, slice_cmp, cases_Bool, length-map, IsAscending, Kind, kind_rank, KeyName, key_cmp, key_eq, record_of, Entry, State, keys_alike, Content, object_at}
+use Rattle.esc_store.proofs.Common.{ObjectEntry, entry_at, is_entry_at, entry_row, stored_row, IsRegistry, ap₂, map_push, map_more}
 use Rattle.std.proofs.Common.{Ordering, Less}
 use Rattle.std.specs.List.Sorted.{IsStrictlySortedBy}
 use Rattle.std.specs.Ordering.{ordering_then}
@@ -93,5 +93,4 @@ page_short c kind from rows es lists same =
 
 pub one_entry : {A : Type 0} (f : A → Shown) (stored : List A) (d : A) (at : ℕ) (es : List Entry) (e : Entry) → at < length stored → map entry_row es ≡ map f (take at stored) → entry_row e ≡ f (get_or stored at d) → map entry_row (es ++ e ∷ []) ≡ map f (take (at + 1) stored)
 one_entry f stored d at es e below so_far is =
-    map-append entry_row es (e ∷ []) ∙ ap (λ l. l ++ (entry_row e ∷ [])) so_far ∙ ap (λ t. map f (take at stored) ++ (t ∷ [])) is
-    ∙ sym (map-append f (take at stored) (get_or stored at d ∷ [])) ∙ ap (map f) (sym (take_more stored at d below))
+    map_push entry_row es e ∙ ap₂ (λ (l : List Shown) (t : Shown). l ++ (t ∷ [])) so_far is ∙ sym (map_more f stored at d below)

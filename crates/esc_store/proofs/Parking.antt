@@ -1,8 +1,7 @@
 -- What parts of a change do to parked bodies and to the moment.
 use Rattle.esc_store.proofs.Common.{◌≡◌, ℕ, ℤ, true, List, [], ◌∷◌, Option, None, Some, refl, sym, ap, subst, ◌∙◌, Result, Ok, IsSome, ◌↔◌, if◌then◌else◌, bytes_eq, Contains, nat_cmp, Less, slice_cmp, All-from_recursion, IfOk-at_ok, Ghosts}
 use Rattle.esc_store.proofs.Common.{IsAscending, Database, state, HasCleanDisk, MRow, Content, content_in, HoldsContent, Store, Kept, with_parked, AreParked, IsBooks, ChangeOf, IsStep, IsStoreRead, Follows, survives_same}
-use Rattle.esc_store.proofs.Common.{was_clean}
-use Rattle.esc_rows.specs.Content.{parked_at}
+use Rattle.esc_store.proofs.Common.{was_clean, parked_at}
 use Rattle.esc_rows.specs.Parked.{PutsParked, RemovesParked, ListsParked, SetsMoment, without_moment, moment_row}
 use Rattle.esc_store.specs.Kept.{with_moment, AreRisingTexts}
 use Rattle.esc_store.specs.Standing.{RestIn}

@@ -1,13 +1,12 @@
 -- What a part of a change does to what the change has made.
-use Rattle.esc_store.proofs.Common.{◌≡◌, ◌∙◌, ℕ, true, List, refl, sym, ap, subst, IsTrue, Result, Ok, Err, IfErr, OnErr, IsErr, IfOk-at_ok, IfErr-at_err, both_ways, Ghosts, Database, state, HasCleanDisk, Survives, KeepsCommit, survives_then, MRow}
+use Rattle.esc_store.proofs.Common.{◌≡◌, ◌∙◌, ℕ, true, List, refl, sym, ap, subst, IsTrue, Result, Ok, Err, IfErr, OnErr, IsErr, IfOk-at_ok, IfErr-at_err, both_ways, Ghosts, Database, state, HasCleanDisk, Survives, KeepsCommit, survives_then, MRow, parked_at, body_of, Settles}
 use Rattle.esc_store.proofs.Common.{Content, object_at, image_at, Becomes, listed_from, receipts_from, steps_from, content_in, HoldsContent, content_is, IsPart, IsRead, SFault, Store, Kept, IsBooks, IsRegistry, IsStoreDatabase, HoldsTables, IsBegun, IsMade, IsUnderWay, IsStep, IsLook, was_clean}
 use Rattle.std.specs.Prelude.{IfOk}
-use Rattle.esc_rows.specs.Content.{parked_at, moment_of}
-use Rattle.esc_rows.specs.Changes.{body_of}
+use Rattle.esc_rows.specs.Content.{moment_of}
 use Rattle.sqlite.specs.State.{State}
 use Rattle.esc_apply.specs.Registry.{State as Tables}
 use Rattle.esc_store.specs.Faults.{IsS1OrS2}
-use Rattle.esc_store.specs.Standing.{IsGivenUp, Settles}
+use Rattle.esc_store.specs.Standing.{IsGivenUp}
 use Rattle.esc_store.proofs.Ends.{keeps_then, begun_ended}
 
 -- ---- from statements to steps

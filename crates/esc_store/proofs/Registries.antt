@@ -156,8 +156,8 @@ abbrev pub DropsAt : ℕ → List UndoRow → List UndoRow → Type 0
 DropsAt step before after = (p n : ℕ) (text : List ℕ) → image_at p n text after ≡ (if step == p then None else image_at p n text before)
 
 pub never : {X Y : Type 0} (f : X → Option Y) (o : Option X) → ((x : X) → f x ≡ None) → option_and_then f o ≡ None
-never f None nothing = refl
-never f (Some x) nothing = nothing x
+never f None nowhere = refl
+never f (Some x) nowhere = nowhere x
 
 pub nothing_kept : (n : ℕ) (text : List ℕ) → image_kept nothing n text ≡ None
 nothing_kept n text = ap (option_map (λ w. option_and_then record_of w)) (never (λ (kind : Kind). nothing (record { kind = kind; text = text })) (kind_at n) (λ _. refl))

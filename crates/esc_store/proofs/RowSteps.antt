@@ -2,7 +2,7 @@
 use Rattle.esc_store.proofs.Common.{◌≡◌, ℕ, zero, suc, take, get_or, ◌+◌, ◌<◌, ◌≤◌, Bool, true, false, filter, List, Option, [], ◌∷◌, ◌++◌, length, map, None, Some, refl, sym, ap, subst, ◌∙◌, arith, IsTrue, Result, Ok, Err, OnOk, pos, ◌<ℤ◌}
 use Rattle.esc_store.proofs.Common.{ℤ, ◌==◌, if◌then◌else◌, option_map, is_some, AllByRecursion, ints, append-nil, length-map, length-take-le, get_or-map, MRow, ChainStep, Step, step_row, Database, HasCleanDisk, survives_then}
 use Rattle.esc_store.proofs.Common.{IsKeyedBy, insert_by, all_weaker, Less, nat_tests, IfOk-at_ok, ReceiptRow, StepRow, Content, content_in, HoldsContent, Tells, Becomes, last_number, Kept, with_body, ReceiptValue, IsBooks}
-use Rattle.esc_store.proofs.Common.{receipts_from, steps_from, ContinuesSteps, IsStep, IsLook, Ghosts, state, Store, was_clean}
+use Rattle.esc_store.proofs.Common.{receipts_from, steps_from, ContinuesSteps, IsStep, IsLook, Ghosts, state, Store, was_clean, body_of}
 use Rattle.std.proofs.Common.{ltb}
 use Rattle.std.proofs.lemmas.List.{append_assoc}
 use Rattle.std.proofs.lemmas.List.Elements.{filter_passes, recursion_from_All}
@@ -17,7 +17,7 @@ use Rattle.std.proofs.lemmas.Cmp.{int_ranked}
 use Rattle.std.proofs.lemmas.Bool.{lt-ltb, le-ltb, ltb-true}
 use Rattle.esc_rows.specs.StoreTable.{Receipts}
 use Rattle.esc_rows.specs.Rows.{HeldRow, receipt_number, held_number}
-use Rattle.esc_rows.specs.Changes.{AddsReceipt, AddsStep, HoldsBody, steps_before, body_of}
+use Rattle.esc_rows.specs.Changes.{AddsReceipt, AddsStep, HoldsBody, steps_before}
 use Rattle.esc_store.specs.Kept.{with_receipt, with_steps}
 use Rattle.esc_store.specs.TypedRows.{receipt_row}
 use Rattle.esc_store.specs.ChangeParts.{next_number, with_next_receipt, AddsNext, with_steps_from}

@@ -1,9 +1,9 @@
 -- Reads of a store's tables.
 use Rattle.esc_store.proofs.Common.{survives_same, ◌≡◌, List, Option, Some, refl, sym, subst, ◌∙◌, IsTrue, Result, Ok, Err, IfOk-at_ok, IfErr-at_err, Ghosts, Held, state, HasCleanDisk, MRow, Content, content_in, Tells, IsRead, KindCounts, SFault, Store}
-use Rattle.esc_store.proofs.Common.{Kept, AreCounts, IsStoreDatabase, IsAtRest, AreCountsOf, IsStanding, IsStoreRead, IsLook, IsTold, IsHonest, was_clean}
+use Rattle.esc_store.proofs.Common.{Kept, AreCounts, IsStoreDatabase, IsAtRest, AreCountsOf, IsStanding, IsStoreRead, IsLook, IsTold, IsHonest, was_clean, Settles}
 use Rattle.sqlite.specs.State.{State}
 use Rattle.esc_store.specs.Decoded.{counted}
-use Rattle.esc_store.specs.Standing.{IsAsBefore, Settles, Stands}
+use Rattle.esc_store.specs.Standing.{IsAsBefore, Stands}
 use Rattle.esc_store.proofs.Ends.{still_counted}
 use Rattle.esc_store.proofs.Parts.{Settled, look_is}
 

@@ -1,5 +1,4 @@
-use Rattle.esc_store.proofs.Common.{◌∙◌, ap, on_ok_weaker, if_ok, map, new_image, was_clean}
-use Rattle.esc_rows.specs.Changes.{GainsImages, GainsObjects}
+use Rattle.esc_store.proofs.Common.{◌∙◌, ap, on_ok_weaker, if_ok, map, new_image, was_clean, GainsImages, GainsObjects}
 use Rattle.esc_store.proofs.Filled.{note_all, put_all, follows_then, free_rows, is_new}
 use Rattle.esc_store.proofs.Following.{moved, follows_step, holds_step}
 use Rattle.esc_store.proofs.Registries.{images_turn, books_images, objects_turn, books_objects}

@@ -1,5 +1,4 @@
-use Rattle.esc_store.proofs.Common.{◌≡◌, map, length, take, State, new_entry, new_image, image_now, HoldsNow, Follows, IsHonest, store_in}
-use Rattle.esc_store.specs.Filling.{AreFree}
+use Rattle.esc_store.proofs.Common.{◌≡◌, map, length, take, State, new_entry, new_image, image_now, HoldsNow, Follows, IsHonest, store_in, AreFree}
 use Rattle.esc_store.proofs.filling.Change+S.find_images.Given as goal
 
 abbrev pub invariant-loop-at : goal.invariant-loop-at
