@@ -1,33 +1,17 @@
 -- How many objects of a kind there are, from the kinds of the table's rows.
-use Rattle.std.proofs.Common.{◌≡◌, ℕ, suc, Bool, true, false, cond, List, [], ◌∷◌, length, filter, Option, None, Some, refl, sym, ap, subst, ◌∙◌, arith, inl, inr}
-use Rattle.std.specs.Prelude.{◌==◌, ◌&&◌, bytes_eq, find, option_map, IsSome, IfSome, if◌then◌else◌}
-use Rattle.std.specs.List.{AllByRecursion, IsDistinct}
-use Rattle.std.specs.Map.{lookup, keys_of}
-use Rattle.std.specs.Option.{option_and_then}
-use Rattle.std.proofs.lemmas.Bool.{cases_Bool, eqb-true, and_parts}
-use Rattle.std.proofs.lemmas.Bool.Decides.{nat_tests}
-use Rattle.std.proofs.lemmas.Slice.Eq.{bytes_eq-Decides}
-use Rattle.std.proofs.lemmas.List.Elements.{All-from_recursion}
+use Rattle.esc_store.proofs.Common.{◌≡◌, ℕ, suc, Bool, true, false, cond, List, [], ◌∷◌, length, filter, Option, None, Some, refl, sym, ap, subst, ◌∙◌, arith, inl, inr, ◌==◌, ◌&&◌, bytes_eq, find, option_map, IsSome, IfSome, if◌then◌else◌}
+use Rattle.esc_store.proofs.Common.{AllByRecursion, lookup, keys_of, option_and_then, cases_Bool, eqb-true, and_parts, nat_tests, bytes_eq-Decides, All-from_recursion, all_weaker, Kind, Registrar, Contact, Host, Domain, Idn, Nndn}
+use Rattle.esc_store.proofs.Common.{kind_rank, one_kind, KeyName, key_eq, ObjectValue, record_of, State, keys_alike, ObjectRow, Content, object_at, tallies, AreCounts, record_at, IsRegistry}
+use Rattle.std.specs.List.{IsDistinct}
 use Rattle.std.proofs.lemmas.Cmp.{nat_list_eq_equiv}
-use Rattle.sqlite_keyed.proofs.ListLemmas.{all_weaker}
-use Rattle.esc_envelope.specs.declared.kind.Kind.{Kind}
-use Rattle.esc_envelope.specs.declared.kind.Kind.TheVariants.{Registrar, Contact, Host, Domain, Idn, Nndn}
-use Rattle.esc_envelope.specs.Kinds.{kind_rank}
-use Rattle.esc_envelope.specs.KindLaws.{one_kind}
-use Rattle.esc_tables.specs.KeyName.{KeyName, key_eq}
-use Rattle.esc_tables.specs.ObjectValue.{ObjectValue}
-use Rattle.esc_record.specs.Record.{record_of}
-use Rattle.esc_apply.specs.Registry.{State, HasSize}
+use Rattle.esc_apply.specs.Registry.{HasSize}
 use Rattle.esc_apply.specs.Registry.{Content as Objects}
-use Rattle.esc_tables.specs.KeyLaws.{keys_alike}
-use Rattle.esc_rows.specs.Rows.{ObjectRow}
-use Rattle.esc_rows.specs.Content.{Content, is_object_at, object_at}
+use Rattle.esc_rows.specs.Content.{is_object_at}
 use Rattle.esc_rows.specs.Changes.{HaveOwnKeys, ListsKinds}
-use Rattle.esc_store.specs.Decoded.{times, tallies}
-use Rattle.esc_store.specs.Kept.{of_kind, AreCounts}
-use Rattle.esc_store.specs.TypedRows.{record_at, IsRegistry}
-use Rattle.esc_store.proofs.Gathering.{record_here}
-use Rattle.esc_store.proofs.Registries.{same_tests}
+use Rattle.esc_store.specs.Decoded.{times}
+use Rattle.esc_store.specs.Kept.{of_kind}
+use Rattle.esc_store.proofs.Gathering.{record_here, none_there}
+use Rattle.esc_store.proofs.Registries.{itself, never, same_tests}
 
 abbrev name : Kind → ObjectRow → KeyName
 name kind o = record { kind = kind; text = o.key }
@@ -80,10 +64,6 @@ this_kind q kind f is =
 -- a row's test and its key's
 key_test : (q : KeyName) (o : ObjectRow) (kind : Kind) → (o.kind == kind_rank kind) ≡ true → key_eq q (name kind o) ≡ is_object_at (kind_rank q.kind) q.text o
 key_test q o kind of = keys_alike.symm q (name kind o) ∙ (same_tests (name kind o) q ∙ ap (λ n. (n == kind_rank q.kind) && bytes_eq o.key q.text) (sym (eqb-true o.kind (kind_rank kind) of)))
-
-never : {X Y : Type 0} (f : X → Option Y) (o : Option X) → ((x : X) → f x ≡ None) → option_and_then f o ≡ None
-never f None nothing = refl
-never f (Some x) nothing = nothing x
 
 -- of a key the rows of a kind have the object that the content has, if there is a row of that key
 abbrev IsAmong : Objects → Kind → KeyName → List ObjectRow → List (KeyName × ObjectValue) → Type 0
@@ -141,27 +121,18 @@ once_each f kind (o ∷ os) up = go (o.kind == kind_rank kind) (f (name kind o))
 
 -- ---- the rows of a kind
 
-itself : (o : ObjectRow) → is_object_at o.kind o.key o ≡ true
-itself o =
-    let a : (o.kind == o.kind) ≡ true = grind (arith, nat_tests) in
-    let b : bytes_eq o.key o.key ≡ true = (bytes_eq-Decides o.key o.key).1 refl in
-    rw (a, b) refl
-
 found_among : (p : ObjectRow → Bool) (o : ObjectRow) (os : List ObjectRow) → IsSome (find p os) → IsSome (find p (o ∷ os))
 found_among p o os some = elim (cases_Bool (p o)) [ inl is ↦ rw is refl | inr other ↦ rw other some ]
 
 found_itself : (os : List ObjectRow) → AllByRecursion (λ (o : ObjectRow). IsSome (find (is_object_at o.kind o.key) os)) os
 found_itself [] = tt
-found_itself (o ∷ os) = (rw (itself o) refl, all_weaker _ _ (λ x some. found_among (is_object_at x.kind x.key) o os some) os (found_itself os))
+found_itself (o ∷ os) = (rw (itself o.kind o.key) refl, all_weaker _ _ (λ x some. found_among (is_object_at x.kind x.key) o os some) os (found_itself os))
 
 is_kept : (c : Content) (s : State) (kind : Kind) (o : ObjectRow) → IsRegistry c s → IsSome (find (is_object_at o.kind o.key) c.objects) → IsThere s.content kind o
 is_kept c s kind o it some of = elim (s.content (name kind o)) as (λ x. option_and_then record_of x ≡ object_at o.kind o.key c.objects → IsSome x) [
-  | None ↦ λ e. absurd (no_bytes (find (is_object_at o.kind o.key) c.objects) e some)
+  | None ↦ λ e. absurd (none_there (λ (o : ObjectRow). o.bytes) (find (is_object_at o.kind o.key) c.objects) e some)
   | Some x ↦ λ e. refl
-] (sym (record_here s.content (name kind o)) ∙ (ap (λ n. record_at s.content n o.key) (sym (eqb-true o.kind (kind_rank kind) of)) ∙ sym (it.objects o.kind o.key))) where
-  no_bytes : (x : Option ObjectRow) → None ≡ option_map (λ (o : ObjectRow). o.bytes) x → IsSome x → ⊥
-  no_bytes None e some = let bottom : ⊥ = cc in bottom
-  no_bytes (Some x) e some = let bottom : ⊥ = cc in bottom
+] (sym (record_here s.content (name kind o)) ∙ (ap (λ n. record_at s.content n o.key) (sym (eqb-true o.kind (kind_rank kind) of)) ∙ sym (it.objects o.kind o.key)))
 
 -- what the rows don't have is none
 each_is : (c : Content) (s : State) (kind : Kind) (q : KeyName) → IsRegistry c s → lookup (key_eq q) (entries_in s.content kind c.objects) ≡ of_kind kind s.content q

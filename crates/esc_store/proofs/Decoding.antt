@@ -1,20 +1,11 @@
 -- From rows of tables to replies and steps.
-use Rattle.std.proofs.Common.{◌≡◌, ℕ, zero, suc, ◌+◌, ◌<◌, List, [], ◌∷◌, ◌++◌, length, take, get_or, map, None, Some, refl, sym, ap, ◌∙◌, arith, inl, inr}
-use Rattle.std.proofs.lemmas.Bool.{cases_Bool}
-use Rattle.std.proofs.lemmas.List.{length-map, length-take-le, get_or-map, take_more, map-append}
-use Rattle.esc_manifest.specs.declared.row.MRow.{MRow}
-use Rattle.esc_apply.specs.declared.front.Step.{Step}
-use Rattle.esc_rows.specs.Rows.{ReceiptRow, StepRow}
-use Rattle.esc_rows.specs.Changes.{receipt_of}
-use Rattle.esc_rows.specs.declared.receipt.Receipt.{Receipt}
-use Rattle.esc_rows.specs.declared.step.ChainStep.{ChainStep}
-use Rattle.esc_rows.specs.Entries.{step_row}
+use Rattle.esc_store.proofs.Common.{◌≡◌, ℕ, suc, ◌+◌, ◌<◌, List, [], ◌∷◌, ◌++◌, length, take, get_or, map, None, Some, refl, sym, ap, ◌∙◌, arith, inl, inr, cases_Bool, ap₂, map_more}
+use Rattle.esc_store.proofs.Common.{MRow, Step, ReceiptRow, StepRow, receipt_of, Receipt, ChainStep, step_row, A2, step_at, ReceiptValue, ReplyValue, replies_from, reply_alike, receipts_from, steps_from}
 use Rattle.esc_rows.specs.Entries.{receipt_row as stored_row}
-use Rattle.esc_store.specs.declared.reply.Verdict.TheVariants.{A2}
-use Rattle.esc_store.specs.Kept.{step_at}
-use Rattle.esc_store.specs.ReplyValue.{ReceiptValue, ReplyValue, reply_kept, replies_from, reply_alike, is_alike}
-use Rattle.esc_store.specs.TypedRows.{receipt_row, receipts_from, steps_from}
+use Rattle.esc_store.specs.ReplyValue.{reply_kept, is_alike}
+use Rattle.esc_store.specs.TypedRows.{receipt_row}
 use Rattle.esc_store.proofs.RowSteps.{step_nth, same_length}
+use Rattle.esc_store.proofs.Numbered.{from_next, from_size, from_nth}
 
 -- ---- one receipt
 
@@ -46,31 +37,15 @@ none_found listed n number digest (r ∷ rs) h = elim (cases_Bool (is_alike numb
 no_receipt : ReceiptValue
 no_receipt = record { number = []; digest = []; verdict = A2; row = None; again = None; orphans = None }
 
-receipts_get : (n : ℕ) (rs : List ReceiptValue) (i : ℕ) (d : ReceiptRow) → i < length rs → get_or (receipts_from n rs) i d ≡ receipt_row (n + i) (get_or rs i no_receipt)
-receipts_get n [] i d lt = absurd (omega arith)
-receipts_get n (r ∷ rs) zero d lt = let e : n + 0 ≡ n = omega arith in rw e refl
-receipts_get n (r ∷ rs) (suc i) d lt = let e : n + suc i ≡ suc n + i = omega arith in receipts_get (suc n) rs i d (omega arith) ∙ rw e refl
-
-receipts_length : (n : ℕ) (rs : List ReceiptValue) → length (receipts_from n rs) ≡ length rs
-receipts_length n [] = refl
-receipts_length n (r ∷ rs) = ap suc (receipts_length (suc n) rs)
-
-replies_push : (listed : List MRow) (n : ℕ) (rs : List ReceiptValue) (r : ReceiptValue) (m : ℕ) → length rs + n ≡ m → replies_from listed n (rs ++ (r ∷ [])) ≡ replies_from listed n rs ++ (reply_kept listed m r ∷ [])
-replies_push listed n [] r m is = let e : n ≡ m = omega (arith, is) in rw e refl
-replies_push listed n (x ∷ rs) r m is = ap (λ l. reply_kept listed n x ∷ l) (replies_push listed (suc n) rs r m (omega (arith, is)))
-
 pub receipts_size : (ss : List Receipt) (rs : List ReceiptValue) → map stored_row ss ≡ receipts_from 1 rs → length ss ≡ length rs
-receipts_size ss rs e = sym (length-map ss stored_row) ∙ (ap length e ∙ receipts_length 1 rs)
+receipts_size = from_size receipt_row receipts_from (λ _. refl) (λ _ _ _. refl) stored_row 1
 
 pub one_reply : (listed : List MRow) (ss : List Receipt) (rs : List ReceiptValue) (i : ℕ) (d : Receipt) (replies : List ReplyValue) (reply : ReplyValue) → map stored_row ss ≡ receipts_from 1 rs → i < length ss → replies ≡ replies_from listed 1 (take i rs)
     → ((n : ℕ) (r : ReceiptValue) → stored_row (get_or ss i d) ≡ receipt_row n r → reply ≡ reply_kept listed n r) → replies ++ (reply ∷ []) ≡ replies_from listed 1 (take (i + 1) rs)
 one_reply listed ss rs i d replies reply e lt so_far is =
     let size = receipts_size ss rs e in
-    let below : i < length rs = omega arith in
-    let there : stored_row (get_or ss i d) ≡ receipt_row (1 + i) (get_or rs i no_receipt) = sym (get_or-map stored_row ss i d (stored_row d) lt) ∙ (ap (λ (xs : List ReceiptRow). get_or xs i (stored_row d)) e ∙ receipts_get 1 rs i (stored_row d) below) in
-    let taken : length (take i rs) + 1 ≡ 1 + i = let k = length-take-le i rs (omega arith) in omega arith in
-    ap (λ l. l ++ (reply ∷ [])) so_far ∙ (ap (λ x. replies_from listed 1 (take i rs) ++ (x ∷ [])) (is (1 + i) (get_or rs i no_receipt) there)
-    ∙ (sym (replies_push listed 1 (take i rs) (get_or rs i no_receipt) (1 + i) taken) ∙ ap (replies_from listed 1) (sym (take_more rs i no_receipt below))))
+    from_next (reply_kept listed) (replies_from listed) (λ _. refl) (λ _ _ _. refl) 1 replies rs i reply no_receipt so_far (omega arith)
+    (is _ _ (from_nth receipt_row receipts_from (λ _. refl) (λ _ _ _. refl) stored_row 1 ss rs i d no_receipt e lt))
 
 -- ---- all steps
 
@@ -80,5 +55,4 @@ one_step listed ss rows i d steps step e lt so_far is =
     let size = same_length 1 ss rows e in
     let below : i < length rows = omega arith in
     let there : (get_or ss i d).row ≡ get_or rows i 0 = ap (λ (s : StepRow). s.row) (step_nth 1 ss rows i d e lt) in
-    ap (λ l. l ++ (step ∷ [])) so_far ∙ (ap (λ x. map (step_at listed) (take i rows) ++ (x ∷ [])) (is ∙ ap (step_at listed) there)
-    ∙ (sym (map-append (step_at listed) (take i rows) (get_or rows i 0 ∷ [])) ∙ ap (map (step_at listed)) (sym (take_more rows i 0 below))))
+    ap₂ (λ (l : List Step) (s : Step). l ++ (s ∷ [])) so_far (is ∙ ap (step_at listed) there) ∙ sym (map_more (step_at listed) rows i 0 below)

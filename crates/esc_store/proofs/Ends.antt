@@ -1,20 +1,10 @@
 -- The beginning and the ends of a change.
-use Rattle.std.proofs.Common.{◌≡◌, inl, inr, true, false, List, Option, sym, ap, subst, ◌∙◌}
-use Rattle.std.specs.Prelude.{IsTrue, Result, Ok, Err, OnErr, IsErr}
-use Rattle.std.proofs.lemmas.Bool.{cases_Bool}
-use Rattle.sqlite_trees.specs.Tree.{Trees}
-use Rattle.sqlite.specs.Effect.{Database}
-use Rattle.sqlite.specs.State.{State, HasCleanDisk, Survives, KeepsCommit, Shows}
-use Rattle.sqlite.proofs.StateLemmas.{survives_weaker}
-use Rattle.esc_manifest.specs.declared.row.MRow.{MRow}
+use Rattle.esc_store.proofs.Common.{◌≡◌, inl, inr, true, false, List, Option, sym, ap, subst, ◌∙◌, IsTrue, Result, Ok, Err, OnErr, IsErr, cases_Bool, both_ways, Trees, Database, HasCleanDisk, Survives, KeepsCommit, Shows, survives_weaker, survives_then, MRow}
+use Rattle.esc_store.proofs.Common.{Content, HoldsContent, content_is, content_in, KindCounts, Kept, IsBooks, IsRegistry, IsStoreDatabase, HoldsTables, IsAtRest, RestsAt, AreCountsOf, IsStanding, IsBegun, IsMade, IsUnderWay, was_clean}
+use Rattle.sqlite.specs.State.{State}
 use Rattle.esc_apply.specs.Registry.{State as Tables}
-use Rattle.esc_rows.specs.Content.{content_in}
-use Rattle.esc_store.specs.declared.counts.KindCounts.{KindCounts}
-use Rattle.esc_store.specs.Kept.{Kept, with_registry}
-use Rattle.esc_store.specs.TypedRows.{IsBooks, IsRegistry}
-use Rattle.esc_store.specs.StoreTables.{IsStore, IsStoreDatabase, HoldsTables}
-use Rattle.esc_store.specs.Standing.{IsAtRest, RestsAt, AreCountsOf, IsStanding, IsBegun, IsMade, IsUnderWay}
-use Rattle.esc_store.specs.StandingLaws.{was_clean}
+use Rattle.esc_store.specs.Kept.{with_registry}
+use Rattle.esc_store.specs.StoreTables.{IsStore}
 
 -- ---- results
 
@@ -37,6 +27,11 @@ both db k s tables books registry = record {
     registry = registry;
   };
 }
+
+pub holds_store : (db : Database) (c : Content) (k : Kept) → HoldsContent db c → IsBooks c k → IsRegistry c k.registry → IsStoreDatabase db k
+holds_store db c k holds books registry =
+    let e : content_in db.trees ≡ c = content_is db.trees c holds.store.rows in
+    both db k k.registry (subst (HoldsContent db) (sym e) holds) (subst (λ x. IsBooks x k) (sym e) books) (subst (λ x. IsRegistry x k.registry) (sym e) registry)
 
 -- ---- the beginning
 
@@ -91,18 +86,19 @@ given_up old new m a b k C survives kept ended settled listed held same counts =
 pub keeps_then : (a b c : State) → KeepsCommit a b → KeepsCommit b c → KeepsCommit a c
 keeps_then a b c p q = record { was_open = λ up. p.was_open (q.was_open up); committed = λ up. q.committed up ∙ p.committed (q.was_open up) }
 
-module _ (old new : State) (m rows : List MRow) (before k : Kept) (s : Tables) (made : IsMade old m rows before (with_registry k s)) (goes : HasCleanDisk old → IsUnderWay old k.registry) where
-  -- what a change holds is a store
-  pub whole : HasCleanDisk old → IsStoreDatabase old.now k
-  whole clean = both old.now k s (goes clean).tables_are (made.books clean (goes clean).in_transaction) (goes clean).registry
+-- what a change holds is a store
+pub whole : (old : State) (m rows : List MRow) (before k : Kept) (s : Tables) → IsMade old m rows before (with_registry k s) → (HasCleanDisk old → IsUnderWay old k.registry) → HasCleanDisk old → IsStoreDatabase old.now k
+whole old m rows before k s made goes clean = both old.now k s (goes clean).tables_are (made.books clean (goes clean).in_transaction) (goes clean).registry
 
-  pub whole_trees : HasCleanDisk old → IsStore old.now.trees k
+-- a store that was made within a transaction, and is committed
+module _ (old new : State) (k : Kept) (built : HasCleanDisk old → IsStoreDatabase old.now k) where
+  whole_trees : HasCleanDisk old → IsStore old.now.trees k
   unfolding IsStore
-  whole_trees clean = (whole clean).kept
+  whole_trees clean = (built clean).kept
 
   pub committed : (C : Trees → Type 0) → Survives old new C → (HasCleanDisk new → Shows old new old.now old.now false) → RestsAt new k
   committed C survives shown clean up = record {
-    kept = subst (λ db. IsStoreDatabase db k) (sym (shown clean).committed_is) (whole (was_clean survives clean));
+    kept = subst (λ db. IsStoreDatabase db k) (sym (shown clean).committed_is) (built (was_clean survives clean));
     same = (shown clean).now_is ∙ sym (shown clean).committed_is;
     autocommit = (shown clean).mode;
   }
@@ -117,9 +113,22 @@ module _ (old new : State) (m rows : List MRow) (before k : Kept) (s : Tables) (
       let sh = shown clean in
       subst (λ t. IsStore t k) (sym (only sh.is_open trees may ∙ ap (λ (db : Database). db.trees) sh.committed_is)) (whole_trees (was_clean survives clean))
 
+-- the same after a call that leaves nothing new
+pub crash_then : (start old new : State) (k : Kept) → (HasCleanDisk old → IsStoreDatabase old.now k) → Survives start old (λ _. ⊥) → Survives old new (λ trees. trees ≡ old.now.trees) → Survives start new (λ trees. IsStore trees k)
+crash_then start old new k built first second = survives_then start old new _ _ _ (λ _ db none. absurd none) (λ _ db is. is) first (crash old new k built second)
+
 -- what is committed while a change is on
 pub begun_committed : (s : State) (m : List MRow) (k : Kept) → IsBegun s m k → HasCleanDisk s → IsTrue s.is_open → IsStoreDatabase s.committed k
 begun_committed s m k begun clean up = elim (cases_Bool s.in_transaction) [
   | inl on ↦ (begun.on clean on).1
   | inr off ↦ (begun.off clean off up).0
 ]
+
+-- a failed part of a change, after which no transaction is on
+pub begun_ended : (old new : State) (m : List MRow) (k : Kept) (C : Trees → Type 0) → Survives old new C → (HasCleanDisk new → KeepsCommit old new) → (HasCleanDisk new → (new.in_transaction ≡ false) × (IsTrue new.is_open → new.now ≡ new.committed))
+    → IsBegun old m k → IsBegun new m k
+begun_ended old new m k C survives kept failed begun = record {
+  listed = begun.listed;
+  on = λ clean on. absurd (both_ways new.in_transaction (failed clean).0 on);
+  off = λ clean off up. (subst (λ db. IsStoreDatabase db k) (sym ((kept clean).committed up)) (begun_committed old m k begun (was_clean survives clean) ((kept clean).was_open up)), (failed clean).1 up);
+}

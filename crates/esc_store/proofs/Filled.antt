@@ -1,40 +1,18 @@
 -- Rows of objects that are put many at a time, after what their keys had is noted.
-use Rattle.std.proofs.Common.{◌≡◌, ℕ, Bool, true, false, cond, ◌&&◌, List, [], ◌∷◌, ◌++◌, map, Option, None, Some, is_some, refl, sym, ap, ap₂, subst, ◌∙◌, append_assoc, arith, ◌<◌, ◌+◌, length, take, get_or}
-use Rattle.std.specs.Prelude.{◌==◌, if◌then◌else◌, option_map, bytes_eq, IsSome, IfSome}
-use Rattle.std.proofs.lemmas.Bool.{and_parts}
-use Rattle.std.specs.Option.{option_and_then, option_or, unwrap_or}
-use Rattle.std.specs.List.{AllByRecursion}
-use Rattle.std.specs.Map.{lookup, keys_of}
-use Rattle.std.proofs.lemmas.Bool.Decides.{nat_tests}
-use Rattle.std.proofs.lemmas.Slice.Eq.{bytes_eq-Decides}
-use Rattle.std.proofs.lemmas.List.{append-nil, map-append, map_push, map_more}
-use Rattle.sqlite_trees.specs.declared.store.Store.{Ghosts}
-use Rattle.sqlite.specs.Effect.{Database}
-use Rattle.esc_envelope.specs.declared.kind.Kind.{Kind}
-use Rattle.esc_envelope.specs.Kinds.{kind_rank}
-use Rattle.esc_envelope.specs.KindLaws.{one_kind}
-use Rattle.esc_tables.specs.KeyName.{KeyName, key_eq}
-use Rattle.esc_tables.specs.KeyLaws.{keys_alike}
-use Rattle.esc_tables.specs.ObjectValue.{ObjectValue}
-use Rattle.esc_record.specs.Record.{record_of}
-use Rattle.esc_apply.specs.ObjectStreams.{Entry}
-use Rattle.esc_apply.specs.Registry.{State, written}
-use Rattle.esc_apply.specs.declared.registry.Targets.{Targets}
-use Rattle.esc_apply.specs.Changes.{with_object, changed_by, AreNew, CanBePut}
+use Rattle.esc_store.proofs.Common.{◌≡◌, ℕ, Bool, true, false, cond, ◌&&◌, List, [], ◌∷◌, ◌++◌, map, Option, None, Some, is_some, refl, sym, ap, subst, ◌∙◌, arith, ◌<◌, ◌+◌, length, take, get_or, ◌==◌, if◌then◌else◌, option_map, bytes_eq}
+use Rattle.esc_store.proofs.Common.{IsSome, IfSome, cases_Bool, inl, inr, and_parts, option_and_then, option_or, unwrap_or, AllByRecursion, All-from_recursion, get_or-map, length-map, lookup, keys_of, nat_tests, bytes_eq-Decides, append-nil, map-append, Ghosts, Kind, kind_rank}
+use Rattle.esc_store.proofs.Common.{KeyName, key_eq, keys_alike, ObjectValue, record_of, Entry, State, written, Targets, with_object, CanBePut, Content, object_at, image_at, NewObject, new_entry, new_image, ObjectEntry}
+use Rattle.esc_store.proofs.Common.{ImageEntry, is_entry_at, entry_at, entry_row, stored_row, AreRowsOf, kind_at, record_at, image_kept, IsRegistry, after_filling, after_noting, image_now, ChangeOf, Follows, goes_then, ap₂, map_push, map_more, GainsObjects, GainsImages, AreFree}
+use Rattle.std.proofs.Common.{append_assoc}
+use Rattle.esc_apply.specs.Changes.{changed_by, AreNew}
 use Rattle.esc_apply.specs.ChangeLaws.{content-changed_by, undo-new, written_by-noted, Fills, fills_more, fills_last, Returns, returns_last}
-use Rattle.esc_rows.specs.Content.{Content, content_in, object_at, image_at}
-use Rattle.esc_rows.specs.declared.object.NewObject.{NewObject}
 use Rattle.esc_rows.specs.declared.undo.NewImage.{NewImage}
-use Rattle.esc_rows.specs.Entries.{new_entry, new_image}
-use Rattle.esc_rows.specs.Changes.{ObjectEntry, ImageEntry, is_entry_at, entry_at, has_entry, image_entry_at, GainsObjects, PutsObjects, GainsImages, PutsImages}
-use Rattle.esc_store.specs.Pages.{entry_row, stored_row, AreRowsOf}
-use Rattle.esc_store.specs.TypedRows.{kind_at, record_at, image_kept, IsRegistry}
-use Rattle.esc_store.specs.Filling.{after_filling, after_noting, no_image, image_now}
-use Rattle.esc_store.specs.Standing.{ChangeOf, Follows}
-use Rattle.esc_store.specs.StandingLaws.{goes_then}
+use Rattle.esc_rows.specs.Changes.{has_entry, image_entry_at}
+use Rattle.esc_apply.specs.declared.registry.Targets.TheVariants.{Free, Any}
+use Rattle.std.specs.Prelude.{All}
+use Rattle.std.proofs.lemmas.List.Elements.{All-head, All-get_or}
 use Rattle.esc_store.proofs.Gathering.{tests_alike, record_here, image_here}
-use Rattle.esc_store.proofs.Parts.{Turns, turning}
-use Rattle.esc_store.proofs.Registries.{no_kind, number_of_kind, in_branch, has_record}
+use Rattle.esc_store.proofs.Registries.{no_kind, number_of_kind, in_branch, has_record, ChangesObjects, ChangesImages}
 
 -- ---- rows of entries
 abbrev pub RowOf : Type 0
@@ -62,9 +40,13 @@ first_row (e ∷ es) r rows are = let it = other_rows e es r rows are in record 
 rows_more : (es : List Entry) (e : Entry) (rows : List ObjectEntry) (r : ObjectEntry) → AreRowsOf es rows → entry_row e ≡ stored_row r → AreRowsOf (es ++ e ∷ []) (rows ++ r ∷ [])
 rows_more es e rows r are same = record { same = map_push entry_row es e ∙ ap₂ (λ (l : List RowOf) (x : RowOf). l ++ x ∷ []) are.same same ∙ sym (map_push stored_row rows r) }
 
+-- a row's kind, key and record are its entry's
+pub parts : (e : Entry) (r : ObjectEntry) → entry_row e ≡ stored_row r → (kind_rank e.0.kind ≡ r.kind) × (e.0.text ≡ r.key) × (record_of e.1 ≡ Some r.bytes)
+parts e r same = (ap (λ (t : RowOf). t.0) same, ap (λ (t : RowOf). t.1) same, ap (λ (t : RowOf). t.2) same)
+
 -- a key of the table is a row's exactly if it is its entry's
 row_test : (e : Entry) (r : ObjectEntry) → entry_row e ≡ stored_row r → (q : KeyName) → is_entry_at (kind_rank q.kind) q.text r ≡ key_eq q e.0
-row_test e r same q = sym (tests_alike e.0 q r.kind r.key (sym (ap (λ t. t.0) same)) (sym (ap (λ t. t.1) same))) ∙ keys_alike.symm e.0 q
+row_test e r same q = let (kinds, texts, bytes) = parts e r same in sym (tests_alike e.0 q r.kind r.key (sym kinds) (sym texts)) ∙ keys_alike.symm e.0 q
 
 -- what is to be put at a key, if anything is: an object, and its record
 data Alike (a : Option (Option ObjectValue)) (b : Option (List ℕ)) : Type 0 where
@@ -75,53 +57,35 @@ rows_found : (es : List Entry) (rows : List ObjectEntry) → AreRowsOf es rows �
 rows_found [] [] are q = neither refl refl
 rows_found [] (r ∷ rows) are q = let no = are.same in absurd cc
 rows_found (e ∷ es) [] are q = let no = are.same in absurd cc
-rows_found (e ∷ es) (r ∷ rows) are q = by_test (key_eq q e.0) (row_test e r (other_rows e es r rows are).0 q) (rows_found es rows (other_rows e es r rows are).1 q)
-  where
-    by_test : (b : Bool) → is_entry_at (kind_rank q.kind) q.text r ≡ b → Alike (lookup (key_eq q) (map with_object es)) (entry_at (kind_rank q.kind) q.text rows)
-        → Alike (cond b (Some (Some e.1)) (lookup (key_eq q) (map with_object es))) (entry_at (kind_rank q.kind) q.text (r ∷ rows))
-    by_test true at rest = rw at (both e.1 r.bytes refl refl (ap (λ (t : RowOf). t.2) (other_rows e es r rows are).0))
-    by_test false at rest = rw at rest
+rows_found (e ∷ es) (r ∷ rows) are q =
+    let (same, others) = other_rows e es r rows are in
+    rw (row_test e r same q) (elim (cases_Bool (key_eq q e.0)) [
+      | inl is ↦ rw is (both e.1 r.bytes refl refl (parts e r same).2)
+      | inr other ↦ rw other (rows_found es rows others q)
+    ])
 
 -- no row is of a kind that there isn't
 no_row : (es : List Entry) (rows : List ObjectEntry) → AreRowsOf es rows → (n : ℕ) (text : List ℕ) → kind_at n ≡ None → entry_at n text rows ≡ None
 no_row [] [] are n text none = refl
 no_row (e ∷ es) (r ∷ rows) are n text none =
     let (same, others) = other_rows e es r rows are in
-    let kinds : kind_rank e.0.kind ≡ r.kind = ap (λ (t : RowOf). t.0) same in
-    let texts : e.0.text ≡ r.key = ap (λ (t : RowOf). t.1) same in
+    let (kinds, texts, bytes) = parts e r same in
     let off : is_entry_at n text r ≡ false = rw (← kinds, ← texts) (no_kind e.0 n text none) in
     rw off (no_row es rows others n text none)
 no_row _ _ are n text none = let no = are.same in absurd cc
-
--- ---- what the two statements turn a store's content into
-pub record GainsAll (rows : List ObjectEntry) (c c' : Content) : Type 0 where
-  pub only : c' ≡ record c { objects = c'.objects }
-  pub gains : GainsObjects rows c.objects c'.objects
-
-pub objects_turn : (rows : List ObjectEntry) (old new : Database) → PutsObjects rows old new → Turns (GainsAll rows) old new
-objects_turn rows old new made = turning (λ tables. let m = made (content_in old.trees) tables in (record (content_in old.trees) { objects = m.0 }, m.1, record { only = refl; gains = m.2 }))
-
-pub record NotesAll (step : ℕ) (images : List ImageEntry) (c c' : Content) : Type 0 where
-  pub only : c' ≡ record c { undo = c'.undo }
-  pub gains : GainsImages step images c.undo c'.undo
-
-pub images_turn : (step : ℕ) (images : List ImageEntry) (old new : Database) → PutsImages step images old new → Turns (NotesAll step images) old new
-images_turn step images old new made = turning (λ tables. let m = made (content_in old.trees) tables in (record (content_in old.trees) { undo = m.0 }, m.1, record { only = refl; gains = m.2 }))
 
 -- ---- before-images of rows
 -- at a key of the rows it is what the key has
 images_found : (s : State) (rows : List ObjectEntry) (n : ℕ) (text : List ℕ) → image_entry_at n text (map (image_now s) rows) ≡ (if has_entry n text rows then Some (record_at s.content n text) else None)
 images_found s [] n text = refl
-images_found s (r ∷ rows) n text = by_test (is_entry_at n text r) refl (images_found s rows n text)
-  where
-    by_test : (b : Bool) → is_entry_at n text r ≡ b → image_entry_at n text (map (image_now s) rows) ≡ (if has_entry n text rows then Some (record_at s.content n text) else None)
-        → image_entry_at n text (map (image_now s) (r ∷ rows)) ≡ (if has_entry n text (r ∷ rows) then Some (record_at s.content n text) else None)
-    by_test true is rest =
-        let (a, b) = and_parts (r.kind == n) (bytes_eq r.key text) is in
-        let kind : r.kind ≡ n = grind (arith, nat_tests, a) in
-        let key : r.key ≡ text = (bytes_eq-Decides r.key text).0 b in
-        rw is (ap₂ (λ (k : ℕ) (t : List ℕ). Some (record_at s.content k t)) kind key)
-    by_test false is rest = rw is rest
+images_found s (r ∷ rows) n text = elim (cases_Bool (is_entry_at n text r)) [
+  | inl is ↦
+      let (a, b) = and_parts (r.kind == n) (bytes_eq r.key text) is in
+      let kind : r.kind ≡ n = grind (arith, nat_tests, a) in
+      let key : r.key ≡ text = (bytes_eq-Decides r.key text).0 b in
+      rw is (ap₂ (λ (k : ℕ) (t : List ℕ). Some (record_at s.content k t)) kind key)
+  | inr other ↦ rw other (images_found s rows n text)
+]
 
 -- one row more
 pub images_more : (f : ObjectEntry → ImageEntry) (rows : List NewObject) (at : ℕ) (r : NewObject) (images now : List NewImage) (image : NewImage) → at < length rows → r ≡ get_or rows at r → now ≡ images ++ image ∷ []
@@ -130,16 +94,31 @@ images_more f rows at r images now image lt is more same before =
     ap (map new_image) more ∙ map_push new_image images image ∙ ap₂ (λ (l : List ImageEntry) (x : ImageEntry). l ++ x ∷ []) before (same ∙ ap (λ (o : NewObject). f (new_entry o)) is)
     ∙ sym (map_push f (map new_entry (take at rows)) (new_entry (get_or rows at r))) ∙ ap (map f) (sym (map_more new_entry rows at r lt))
 
--- where no key has an object
-pub free_images : (s : State) (es : List Entry) (rows : List ObjectEntry) → AreRowsOf es rows → AllByRecursion (λ k. s.content k ≡ None) (keys_of (map with_object es)) → map no_image rows ≡ map (image_now s) rows
-free_images s [] [] are free = refl
-free_images s (e ∷ es) (r ∷ rows) are free =
+-- where the keys are free no row's key has an object
+free_each : (s : State) (es : List Entry) (rows : List ObjectEntry) → AreRowsOf es rows → AllByRecursion (λ k. s.content k ≡ None) (keys_of (map with_object es))
+    → AllByRecursion (λ (r : ObjectEntry). record_at s.content r.kind r.key ≡ None) rows
+free_each s es [] are free = tt
+free_each s (e ∷ es) (r ∷ rows) are free =
     let (same, others) = other_rows e es r rows are in
-    let kinds : kind_rank e.0.kind ≡ r.kind = ap (λ (t : RowOf). t.0) same in
-    let texts : e.0.text ≡ r.key = ap (λ (t : RowOf). t.1) same in
-    let none : record_at s.content r.kind r.key ≡ None = rw (← kinds, ← texts) (record_here s.content e.0 ∙ ap (option_and_then record_of) free.0) in
-    ap₂ (λ (b : Option (List ℕ)) (l : List ImageEntry). record { kind = r.kind; key = r.key; bytes = b } ∷ l) (sym none) (free_images s es rows others free.1)
-free_images s _ _ are free = let no = are.same in absurd cc
+    let (kinds, texts, bytes) = parts e r same in
+    (rw (← kinds, ← texts) (record_here s.content e.0 ∙ ap (option_and_then record_of) free.0), free_each s es rows others free.1)
+free_each s [] (r ∷ rows) are free = let no = are.same in absurd cc
+
+pub free_rows : (targets : Targets) (s : State) (step : ℕ) {es : List Entry} {rows : List ObjectEntry} → AreRowsOf es rows → CanBePut targets s step (map with_object es) → AreFree targets s rows
+free_rows Free s step {es} {rows} are can is = All-from_recursion (λ (o : ObjectEntry). record_at s.content o.kind o.key ≡ None) rows (free_each s es rows are can.free)
+free_rows Any s step are can is = absurd cc
+
+pub one_free : (targets : Targets) (s : State) (step : ℕ) (e : Entry) (r : ObjectEntry) → entry_row e ≡ stored_row r → CanBePut targets s step (with_object e ∷ []) → targets ≡ Free → record_at s.content r.kind r.key ≡ None
+one_free targets s step e r same can is = All-head (λ (o : ObjectEntry). record_at s.content o.kind o.key ≡ None) r [] (free_rows targets s step {es = e ∷ []} {rows = r ∷ []} (record { same = ap (λ (t : RowOf). t ∷ []) same }) can is)
+
+pub row_free : (s : State) (rows : List NewObject) (at : ℕ) (r : NewObject) → at < length rows → r ≡ get_or rows at r → All (λ (o : ObjectEntry). record_at s.content o.kind o.key ≡ None) (map new_entry rows) → record_at s.content r.kind r.key.now ≡ None
+row_free s rows at r lt is all =
+    subst (λ (o : ObjectEntry). record_at s.content o.kind o.key ≡ None) (get_or-map new_entry rows at r (new_entry r) lt ∙ ap new_entry (sym is))
+    (All-get_or (λ (o : ObjectEntry). record_at s.content o.kind o.key ≡ None) (map new_entry rows) at (new_entry r) (omega (arith, lt, length-map rows new_entry)) all)
+
+pub is_new : (targets : Targets) (s : State) (step : ℕ) (es : List Entry) → CanBePut targets s step (map with_object es) → AreNew s step (map with_object es)
+is_new Free s step es can = can.new
+is_new Any s step es can = can
 
 -- ---- and into tables and before-images
 -- at each key of the tables, if so at those of a kind and at those of none
@@ -189,10 +168,10 @@ module _ {es : List Entry} {rows : List ObjectEntry} (are : AreRowsOf es rows) {
       found a b (neither p q) = rw (p, q) refl
       found a b (both o bytes p q is) = rw (p, q) refl
 
-  pub note_all : {images : List ImageEntry} {c c' : Content} → images ≡ map (image_now s) rows → NotesAll step images c c' → IsRegistry c s → IsRegistry c' (after_noting s step es)
+  pub note_all : {images : List ImageEntry} {c c' : Content} → images ≡ map (image_now s) rows → ChangesImages (GainsImages step images) c c' → IsRegistry c s → IsRegistry c' (after_noting s step es)
   note_all {images} {c} {c'} is set it = record {
     objects = λ n text. ap (λ (x : Content). object_at n text x.objects) set.only ∙ it.objects n text;
-    images = λ p n text. set.gains.same p n text ∙ gained p n text (image_at p n text c.undo) ∙ ap (λ x. if (step == p) && has_entry n text rows then Some (record_at s.content n text) else x) (it.images p n text) ∙ noted_then p n text;
+    images = λ p n text. set.are.same p n text ∙ gained p n text (image_at p n text c.undo) ∙ ap (λ x. if (step == p) && has_entry n text rows then Some (record_at s.content n text) else x) (it.images p n text) ∙ noted_then p n text;
     recorded = it.recorded;
     noted = λ p q x is. noted ((step == p) && is_some (here q)) p q x (sym (undo-new s step (map with_object es) new.once p q) ∙ is);
   } where
@@ -207,9 +186,9 @@ module _ {es : List Entry} {rows : List ObjectEntry} (are : AreRowsOf es rows) {
     noted true p q x is = let same : s.content q ≡ Some x = cc in subst (λ (o : Option ObjectValue). IfSome o (λ y. IsSome (record_of y))) same (it.recorded q)
     noted false p q x is = it.noted p q x is
 
-  pub put_all : {c c' : Content} → GainsAll rows c c' → IsRegistry c (after_noting s step es) → IsRegistry c' (after_filling s step es)
+  pub put_all : {c c' : Content} → ChangesObjects (GainsObjects rows) c c' → IsRegistry c (after_noting s step es) → IsRegistry c' (after_filling s step es)
   put_all {c} {c'} set it = record {
-    objects = λ n text. set.gains.same n text ∙ ap (option_or (entry_at n text rows)) (it.objects n text) ∙ put_then n text;
+    objects = λ n text. set.are.same n text ∙ ap (option_or (entry_at n text rows)) (it.objects n text) ∙ put_then n text;
     images = λ p n text. ap (λ (x : Content). image_at p n text x.undo) set.only ∙ it.images p n text;
     recorded = λ q. subst (λ (o : Option ObjectValue). IfSome o (λ x. IsSome (record_of x))) (sym (content-changed_by s step (map with_object es) new.once q))
         (recorded (here q) (entry_at (kind_rank q.kind) q.text rows) (s.content q) (rows_found es rows are q) (it.recorded q));
@@ -222,13 +201,6 @@ module _ {es : List Entry} {rows : List ObjectEntry} (are : AreRowsOf es rows) {
 -- ---- one part after another
 pub follows_then : {S : Type 0} {g : Ghosts S} {a b c : ChangeOf S} → Follows g a b → Follows g b c → Follows g a c
 follows_then p q = record { goes_on = goes_then p.goes_on q.goes_on; rest = λ before k h. q.rest before k (p.rest before k h) }
-
--- the key that is made of a row is its entry's
-pub row_key : (e : Entry) (r : ObjectEntry) (k : KeyName) → entry_row e ≡ stored_row r → r.kind ≡ kind_rank k.kind → r.key ≡ k.text → k ≡ e.0
-row_key e r k same kind text =
-    let kinds : k.kind ≡ e.0.kind = one_kind k.kind e.0.kind (sym kind ∙ sym (ap (λ (t : RowOf). t.0) same)) in
-    let texts : k.text ≡ e.0.text = sym text ∙ sym (ap (λ (t : RowOf). t.1) same) in
-    λ i. record { kind = kinds i; text = texts i }
 
 -- the entries of these rows are still to be put, and then those after them, and that leads to the end
 pub record Filling (Held : State → Type 0) (targets : Targets) (end : State) (step : ℕ) (rows : List ObjectEntry) (after : List Entry) : Type 0 where

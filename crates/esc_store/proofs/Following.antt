@@ -1,20 +1,8 @@
 -- What the calls of a change as a registry keep, and what they make.
-use Rattle.std.proofs.Common.{◌≡◌, List, Option, Some, refl, sym, subst, ◌∙◌}
-use Rattle.std.specs.Prelude.{Result, Ok, OnOk}
-use Rattle.std.specs.Option.{unwrap_or}
-use Rattle.sqlite_trees.specs.declared.store.Store.{Ghosts}
-use Rattle.sqlite.specs.Effect.{Database}
-use Rattle.sqlite.specs.Held.{Held, state}
-use Rattle.esc_manifest.specs.declared.row.MRow.{MRow}
+use Rattle.esc_store.proofs.Common.{◌≡◌, List, Option, Some, refl, sym, subst, ◌∙◌, Result, Ok, OnOk, unwrap_or, Ghosts, Database, Held, state, MRow, Content, IsPart, SFault, Store, Kept, IsBooks, IsRegistry, ChangeOf, IsBegun, IsMade}
+use Rattle.esc_store.proofs.Common.{IsStep, GoesOn, Follows, if_ok}
 use Rattle.esc_apply.specs.Registry.{State as Tables}
-use Rattle.esc_rows.specs.Content.{Content}
-use Rattle.esc_rows.specs.Part.{IsPart}
-use Rattle.esc_store.specs.declared.fault.SFault.{SFault}
-use Rattle.esc_store.specs.declared.store.Store.{Store}
-use Rattle.esc_store.specs.Kept.{Kept}
-use Rattle.esc_store.specs.TypedRows.{IsBooks, IsRegistry}
-use Rattle.esc_store.specs.Standing.{ChangeOf, IsBegun, IsMade, IsStep, BeganIn, RestIn, HoldsIn, GoesOn, Follows}
-use Rattle.esc_store.specs.ResultLaws.{if_ok}
+use Rattle.esc_store.specs.Standing.{BeganIn, RestIn, HoldsIn}
 use Rattle.esc_store.proofs.Parts.{Turns, Settled, step_is, step_turns, begun_on, made_on, made_kept, under_way_on}
 
 -- a part of a change, and what it makes of what the tables hold

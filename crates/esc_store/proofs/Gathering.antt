@@ -1,22 +1,13 @@
 -- From rows of tables to objects and before-images by their keys.
-use Rattle.std.proofs.Common.{◌≡◌, ℕ, Bool, true, false, cond, List, [], ◌∷◌, ◌++◌, Option, None, Some, refl, sym, ap, subst, ◌∙◌}
-use Rattle.std.specs.Prelude.{◌==◌, ◌&&◌, bytes_eq, find, option_map, IsSome, IfSome}
+use Rattle.esc_store.proofs.Common.{cases_Bool, inl, inr, ◌≡◌, ℕ, Bool, true, false, cond, List, [], ◌∷◌, ◌++◌, Option, None, Some, refl, sym, ap, subst, ◌∙◌, ◌==◌, ◌&&◌, bytes_eq, find, option_map, IsSome, IfSome, lookup, keys_of, option_and_then, option_or}
+use Rattle.esc_store.proofs.Common.{Kind, kind_rank, KeyName, key_eq, ObjectValue, record_of, State, Befores, Content, ObjectEntry, ImageEntry, is_entry_at, AreObjectsOf, AreImagesOf, record_at, image_kept, IsRegistry}
 use Rattle.std.specs.List.{IsDistinct}
-use Rattle.std.specs.Map.{lookup, keys_of}
-use Rattle.std.specs.Option.{option_and_then, option_or}
 use Rattle.std.proofs.lemmas.List.Folds.{find-append}
-use Rattle.esc_envelope.specs.declared.kind.Kind.{Kind}
-use Rattle.esc_envelope.specs.Kinds.{kind_rank}
-use Rattle.esc_tables.specs.KeyName.{KeyName, key_eq}
-use Rattle.esc_tables.specs.ObjectValue.{ObjectValue}
-use Rattle.esc_record.specs.Record.{record_of}
-use Rattle.esc_apply.specs.Registry.{State, Befores, IsEntriesOf}
+use Rattle.esc_apply.specs.Registry.{IsEntriesOf}
 use Rattle.esc_apply.specs.Registry.{Content as Objects}
 use Rattle.esc_tables.specs.KeyLaws.{one_key as same_key}
-use Rattle.esc_rows.specs.Content.{Content}
-use Rattle.esc_rows.specs.Changes.{ObjectEntry, ImageEntry, ListsObjects, ListsImages, is_entry_at, is_image_entry_at}
-use Rattle.esc_store.specs.Decoded.{AreObjectsOf, AreImagesOf, AreNotes}
-use Rattle.esc_store.specs.TypedRows.{record_at, image_kept, IsRegistry}
+use Rattle.esc_rows.specs.Changes.{ListsObjects, ListsImages, is_image_entry_at}
+use Rattle.esc_store.specs.Decoded.{AreNotes}
 use Rattle.esc_store.proofs.Registries.{kind_back, same_tests, AreAlone, one_object}
 
 -- ---- one row more
@@ -46,13 +37,13 @@ module _ {R B X Y : Type 0} (test : KeyName → R → Bool) (bytes : R → B) (r
 
   pub one_more : (rows : List R) (es more : List (KeyName × X)) (r : R) (k : KeyName) (x : X) → AreOf rows es → lookup (key_eq k) es ≡ None → ((q : KeyName) → lookup (key_eq q) more ≡ cond (key_eq k q) (Some x) (lookup (key_eq q) es))
       → ((q : KeyName) → key_eq k q ≡ test q r) → read x ≡ held (bytes r) → AreOf (rows ++ (r ∷ [])) more
-  one_more rows es more r k x all new added tests is q = ap (option_map read) (added q) ∙ by_test (key_eq k q) refl where
-    by_test : (b : Bool) → key_eq k q ≡ b → option_map read (cond b (Some x) (lookup (key_eq q) es)) ≡ option_map held (option_map bytes (find (test q) (rows ++ (r ∷ []))))
-    by_test true same =
+  one_more rows es more r k x all new added tests is q = ap (option_map read) (added q) ∙ elim (cases_Bool (key_eq k q)) [
+    | inl same ↦
         let there : lookup (key_eq q) es ≡ None = subst (λ (y : KeyName). lookup (key_eq y) es ≡ None) (same_key k q same) new in
         let none : find (test q) rows ≡ None = none_held (find (test q) rows) (sym (all q) ∙ ap (option_map read) there) in
-        ap Some is ∙ ap (λ o. option_map held (option_map bytes o)) (sym (find_last (test q) rows r none (sym (tests q) ∙ same)))
-    by_test false other = all q ∙ ap (λ o. option_map held (option_map bytes o)) (sym (find_past (test q) rows r (sym (tests q) ∙ other)))
+        rw same (ap Some is ∙ ap (λ o. option_map held (option_map bytes o)) (sym (find_last (test q) rows r none (sym (tests q) ∙ same))))
+    | inr other ↦ rw other (all q ∙ ap (λ o. option_map held (option_map bytes o)) (sym (find_past (test q) rows r (sym (tests q) ∙ other))))
+  ]
 
 -- ---- objects
 
@@ -61,13 +52,13 @@ pub object_more : (rows : List ObjectEntry) (es more : List (KeyName × ObjectVa
 object_more rows es more r k o kinds texts is new added all =
     one_more (λ q e. is_entry_at (kind_rank q.kind) q.text e) (λ (e : ObjectEntry). e.bytes) record_of (λ bytes. Some bytes) rows es more r k o all new added (λ q. tests_alike k q r.kind r.key kinds texts) is
 
-no_record : {X : Type 0} (o : Option X) → None ≡ option_map (λ x. Some x) o → IsSome o → ⊥
-no_record None e some = let never : ⊥ = cc in never
-no_record (Some x) e some = let never : ⊥ = cc in never
+pub none_there : {X Y : Type 0} (f : X → Y) (o : Option X) → None ≡ option_map f o → IsSome o → ⊥
+none_there f None e some = let never : ⊥ = cc in never
+none_there f (Some x) e some = let never : ⊥ = cc in never
 
 pub same_records : AreAlone → (a b : Option ObjectValue) → option_map record_of a ≡ option_map (λ bytes. Some bytes) (option_and_then record_of b) → IfSome b (λ o. IsSome (record_of o)) → a ≡ b
 same_records alone None None e has = refl
-same_records alone None (Some y) e has = absurd (no_record (record_of y) e has)
+same_records alone None (Some y) e has = absurd (none_there (λ bytes. Some bytes) (record_of y) e has)
 same_records alone (Some x) None e has = absurd cc
 same_records alone (Some x) (Some y) e has = by_record (record_of y) refl e where
   some_same : (p q : Option (List ℕ)) → Some p ≡ Some q → p ≡ q

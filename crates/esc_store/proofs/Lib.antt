@@ -1,3 +1,5 @@
+pub mod Common
+pub mod Numbered
 pub mod Counting
 pub mod RowSteps
 pub mod Decoding
@@ -12,7 +14,6 @@ pub mod OpeningLemmas
 pub mod Parts
 pub mod Reading
 pub mod Registries
-pub mod Standings
 pub mod Sure
 pub mod Paging
 pub mod ReceiptRows

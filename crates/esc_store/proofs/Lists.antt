@@ -1,22 +1,10 @@
 -- What a part of a change does that lists rows.
-use Rattle.std.proofs.Common.{◌≡◌, ℕ, suc, ◌+◌, List, [], ◌∷◌, ◌++◌, length, Option, Some, refl, sym, ap, subst, arith}
-use Rattle.std.specs.Prelude.{pos}
-use Rattle.std.specs.Option.{unwrap_or}
-use Rattle.std.proofs.lemmas.Int.{ints}
-use Rattle.sqlite_keyed.specs.Keyed.{insert_by}
+use Rattle.esc_store.proofs.Common.{◌≡◌, ℕ, suc, ◌+◌, List, [], ◌∷◌, ◌++◌, length, Option, Some, refl, ap, arith, pos, unwrap_or, ints, insert_by, MRow, ListedRow, listed_number, Content, Kept, with_listed, IsBooks}
+use Rattle.esc_store.proofs.Common.{listed_row, listed_from, Ghosts, Store, ChangeOf, GoesOn, survives_same}
 use Rattle.sqlite_keyed.proofs.KeyedLemmas.{Less-from_lt}
-use Rattle.esc_manifest.specs.declared.row.MRow.{MRow}
-use Rattle.esc_apply.specs.Registry.{State as Tables}
-use Rattle.esc_rows.specs.Rows.{ListedRow, listed_number}
-use Rattle.esc_rows.specs.Content.{Content}
 use Rattle.esc_rows.specs.Changes.{with_listed_row}
-use Rattle.esc_store.specs.Kept.{Kept, with_listed}
-use Rattle.esc_store.specs.TypedRows.{IsBooks, IsRegistry, listed_row, listed_from}
-use Rattle.sqlite_trees.specs.declared.store.Store.{Ghosts}
-use Rattle.esc_store.specs.declared.store.Store.{Store}
-use Rattle.esc_store.specs.Standing.{ChangeOf, RestIn, IsUncommitted, GoesOn}
-use Rattle.esc_store.specs.StandingLaws.{survives_same}
-use Rattle.esc_store.proofs.RowSteps.{Becoming}
+use Rattle.esc_store.specs.Standing.{RestIn, IsUncommitted}
+use Rattle.esc_store.proofs.Parts.{Becoming, books_as}
 
 -- the next row, put in its place
 listed_put : (n m : ℕ) (rs : List MRow) (r : MRow) → length rs + n ≡ m → insert_by listed_number (listed_from n rs) (listed_row m r) ≡ listed_from n (rs ++ r ∷ [])
@@ -25,17 +13,8 @@ listed_put n m (x ∷ rs) r is =
     rw (Less-from_lt (pos n) (pos m) (omega (arith, ints, is))) (ap (λ l. listed_row n x ∷ l) (listed_put (suc n) m rs r (omega (arith, is))))
 
 pub books_listed : (k : Kept) (row : ListedRow) (r : MRow) → row ≡ listed_row (length k.listed) r → (c c' : Content) → Becoming (with_listed_row row) c c' → IsBooks c k → IsBooks c' (with_listed k (k.listed ++ r ∷ []))
-books_listed k row r row_is c c' turn books = subst (λ x. IsBooks x (with_listed k (k.listed ++ r ∷ []))) (sym turn.is) (record {
-  listed = rw (row_is, books.listed) (listed_put 0 (length k.listed) k.listed r (omega arith));
-  receipts = books.receipts;
-  held = books.held;
-  parked = books.parked;
-  moment = books.moment;
-  steps = books.steps;
-})
-
-pub registry_listed : (s : Tables) (row : ListedRow) (c c' : Content) → Becoming (with_listed_row row) c c' → IsRegistry c s → IsRegistry c' s
-registry_listed s row c c' turn it = subst (λ x. IsRegistry x s) (sym turn.is) (record { objects = it.objects; images = it.images; recorded = it.recorded; noted = it.noted })
+books_listed k row r row_is c c' turn books = books_as turn.is (rw (row_is, books.listed) (listed_put 0 (length k.listed) k.listed r (omega arith)))
+    books.receipts books.held books.parked books.moment books.steps
 
 -- nothing was called
 pub unchanged : {S : Type 0} {g : Ghosts S} {a : ChangeOf S} → IsUncommitted g a a

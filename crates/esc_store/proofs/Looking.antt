@@ -1,24 +1,10 @@
 -- What a read within a change leaves as it was, and what it says.
-use Rattle.std.proofs.Common.{◌≡◌, List, Option, true, refl, sym, subst, ◌∙◌}
-use Rattle.std.specs.Prelude.{Result, Ok, Err, IfErr}
-use Rattle.std.specs.Option.{unwrap_or}
-use Rattle.std.proofs.lemmas.Result.{IfOk-at_ok, IfErr-at_err}
-use Rattle.std.proofs.lemmas.Bool.{both_ways}
-use Rattle.sqlite_trees.specs.declared.store.Store.{Ghosts}
-use Rattle.sqlite.specs.Effect.{Database}
-use Rattle.sqlite.specs.Held.{state}
-use Rattle.sqlite.specs.State.{State, HasCleanDisk, Shows}
-use Rattle.esc_manifest.specs.declared.row.MRow.{MRow}
+use Rattle.esc_store.proofs.Common.{◌≡◌, List, Option, true, refl, sym, subst, ◌∙◌, Result, Ok, Err, unwrap_or, IfOk-at_ok, IfErr-at_err, both_ways, Ghosts, Database, state, HasCleanDisk, Shows, MRow, Content, content_in, Tells}
+use Rattle.esc_store.proofs.Common.{IsSome, IfSome, KeyName, record_of, Store, Kept, IsBooks, IsRegistry, IsStoreDatabase, HoldsTables, ChangeOf, IsBegun, IsMade, IsUnderWay, IsLook, IsStoreRead, Follows, was_clean}
+use Rattle.sqlite.specs.State.{State}
 use Rattle.esc_apply.specs.Registry.{State as Tables}
-use Rattle.esc_rows.specs.Content.{Content, content_in}
-use Rattle.esc_rows.specs.Changes.{Tells}
-use Rattle.esc_store.specs.declared.store.Store.{Store}
-use Rattle.esc_store.specs.Kept.{Kept}
-use Rattle.esc_store.specs.TypedRows.{IsBooks, IsRegistry}
-use Rattle.esc_store.specs.StoreTables.{IsStoreDatabase, HoldsTables}
-use Rattle.esc_store.specs.Standing.{ChangeOf, IsBegun, IsMade, IsUnderWay, IsLook, IsStoreRead, BeganIn, RestIn, HoldsIn, Follows}
-use Rattle.esc_store.specs.StandingLaws.{was_clean}
-use Rattle.esc_store.proofs.Ends.{begun_committed}
+use Rattle.esc_store.specs.Standing.{BeganIn, RestIn, HoldsIn}
+use Rattle.esc_store.proofs.Ends.{begun_ended}
 
 module _ {X E : Type 0} {old new : State} {P : Content → X → Type 0} {r : Result X E} (look : IsLook old new (Tells P) r) where
   clean_before : HasCleanDisk new → HasCleanDisk old
@@ -36,15 +22,7 @@ module _ {X E : Type 0} {old new : State} {P : Content → X → Type 0} {r : Re
       off = λ clean off up. let it = shown x is clean in let was = begun.off (clean_before clean) (sym it.mode ∙ off) it.was_open in
           (subst (λ db. IsStoreDatabase db k) (sym it.committed_is) was.0, it.now_is ∙ (was.1 ∙ sym it.committed_is));
     }
-    | Err e ↦ λ is. record {
-      listed = begun.listed;
-      on = λ clean on. absurd (both_ways new.in_transaction (IfErr-at_err _ is (look.failed clean)).0 on);
-      off = λ clean off up. let kept = look.kept clean in (
-        subst (λ db. IsStoreDatabase db k) (sym (kept.committed up))
-            (begun_committed old m k begun (clean_before clean) (kept.was_open up)),
-        (IfErr-at_err _ is (look.failed clean)).1 up,
-      );
-    }
+    | Err e ↦ λ is. begun_ended old new m k _ look.survives look.kept (λ clean. IfErr-at_err _ is (look.failed clean)) begun
   ] refl
 
   made_look : (m rows : List MRow) (before k : Kept) → IsMade old m rows before k → IsMade new m rows before k
@@ -88,14 +66,14 @@ module _ {S : Type 0} {g : Ghosts S} {X E : Type 0} {old new : Store S} {P : Con
       let was = goes (clean_before read.look clean) in
       (content_in (state g old.conn).now.trees, was.registry, said_seen read.look s x is clean was, holds_look is s goes)
 
+-- each object of what a change holds has a record
+pub recorded : {S : Type 0} (g : Ghosts S) (store : Store S) (s : Tables) → HasCleanDisk (state g store.conn) → HoldsIn g store s → (q : KeyName) → IfSome (s.content q) (λ x. IsSome (record_of x))
+unfolding HoldsIn
+recorded g store s clean held = (held clean).registry.recorded
+
 pub follows_look : {S : Type 0} {g : Ghosts S} {X E : Type 0} {old : ChangeOf S} {new : Store S} {P : Content → X → Type 0} {r : Result X E}
     → IsStoreRead g old.store.now new P r → Follows g old (record old { store = record old.store { now = new } })
 follows_look {old = old} read = record {
   goes_on = record { same_reference = refl; manifest = read.manifest; listed = rw read.manifest refl; writes = read.writes; survives = read.look.survives; began = began_look read };
   rest = rest_look read old.listing;
 }
-
--- what follows from a result, of its fault
-pub if_err : {X E : Type 0} (r : Result X E) (P Q : E → Type 0) → IfErr r P → ((e : E) → P e → Q e) → IfErr r Q
-if_err (Ok x) P Q h f = tt
-if_err (Err e) P Q h f = f e h

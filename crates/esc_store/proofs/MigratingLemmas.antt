@@ -1,23 +1,13 @@
 -- Version 1 stores that are found, and made stores of this version.
-use Rattle.std.proofs.Common.{◌≡◌, ◌≤◌, inr, Bool, false, List, [], ◌∷◌, length, slice_get, Option, Some, option_map, sym, ap, subst, ◌∙◌, arith}
-use Rattle.std.specs.Prelude.{IsTrue, ℤ, pos}
-use Rattle.sqlite_value.specs.Order.{Row, column}
-use Rattle.sqlite.specs.Effect.{Database}
-use Rattle.sqlite.specs.State.{State, HasCleanDisk, Survives, IsUnchanged}
-use Rattle.sqlite.proofs.StateLemmas.{survives_then}
-use Rattle.esc_rows.specs.Schema.{first_schema, info_tree}
+use Rattle.esc_store.proofs.Common.{◌≡◌, ◌≤◌, inr, Bool, false, List, [], ◌∷◌, length, slice_get, Option, Some, option_map, sym, ap, subst, ◌∙◌, arith, IsTrue, ℤ, pos, Row, column, Database, HasCleanDisk, Survives, IsUnchanged}
+use Rattle.esc_store.proofs.Common.{survives_then, info_tree, Content, TellsVersion, Kept, IsStore, IsStoreDatabase, IsSettled, IsFirstDatabase, was_clean}
+use Rattle.sqlite.specs.State.{State}
+use Rattle.esc_rows.specs.Schema.{first_schema}
 use Rattle.esc_rows.specs.Rows.{first_info_row}
-use Rattle.esc_rows.specs.Content.{Content, content_in, HoldsContent}
-use Rattle.esc_rows.specs.ContentIs.{content_is}
-use Rattle.esc_rows.specs.Creation.{TellsVersion}
 use Rattle.esc_rows.specs.FirstVersion.{first_content_in, HoldsFirst as HasFirstContent, Upgrades}
 use Rattle.esc_rows.specs.FirstVersion.{IsFirstStore as HasFirstTables}
-use Rattle.esc_store.specs.Kept.{Kept}
-use Rattle.esc_store.specs.TypedRows.{IsBooks, IsRegistry}
-use Rattle.esc_store.specs.StoreTables.{IsStore, IsStoreDatabase}
-use Rattle.esc_store.specs.Opening.{IsSettled}
-use Rattle.esc_store.specs.FirstVersion.{IsFirstKept, IsFirstStore, IsFirstDatabase, IsOfFirstVersion, IsFirstAtRest, SeesFirst}
-use Rattle.esc_store.specs.StandingLaws.{was_clean}
+use Rattle.esc_store.specs.FirstVersion.{IsFirstKept, IsFirstStore, IsOfFirstVersion, IsFirstAtRest, SeesFirst}
+use Rattle.esc_store.proofs.Ends.{holds_store}
 use Rattle.esc_store.proofs.OpeningLemmas.{int_is}
 
 -- a database whose last commit is a version 1 store has its tables
@@ -39,16 +29,7 @@ version_told s version k same schema tells stored =
 pub upgraded : (old new : Database) (k : Kept) → Upgrades old new → IsFirstDatabase old k → IsStoreDatabase new k
 upgraded old new k up first =
     let c : Content = first_content_in old.trees in
-    let holds : HoldsContent new c = up c (record { schema_is = first.schema; store = first.kept.tables }) in
-    let e : content_in new.trees ≡ c = content_is new.trees c holds.store.rows in
-    record {
-      schema = holds.schema_is;
-      kept = record {
-        tables = (subst (HoldsContent new) (sym e) holds).store;
-        books = subst (λ x. IsBooks x k) (sym e) first.kept.books;
-        registry = subst (λ x. IsRegistry x k.registry) (sym e) first.kept.registry;
-      };
-    }
+    holds_store new c k (up c (record { schema_is = first.schema; store = first.kept.tables })) first.kept.books first.kept.registry
 
 -- what a connection sees of a version 1 store that is at rest, or committed
 pub sees_rest : (s : State) (k : Kept) → (HasCleanDisk s → IsTrue s.is_open → IsFirstAtRest s k) → SeesFirst s k

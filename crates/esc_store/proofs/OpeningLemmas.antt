@@ -1,21 +1,13 @@
 -- Databases that are found to be a store, or none.
-use Rattle.std.proofs.Common.{◌≡◌, ◌≤◌, inl, Bool, true, false, not, List, [], ◌∷◌, length, slice_get, Option, Some, None, option_map, refl, sym, ap, subst, ◌∙◌, arith}
-use Rattle.std.specs.Prelude.{IsTrue, ℤ, pos}
+use Rattle.esc_store.proofs.Common.{◌≡◌, ◌≤◌, inl, Bool, true, false, not, List, [], ◌∷◌, length, slice_get, Option, Some, None, option_map, refl, sym, ap, subst, ◌∙◌, arith, IsTrue, ℤ, pos, Row, column, Database, HasCleanDisk, Survives}
+use Rattle.esc_store.proofs.Common.{KeepsCommit, IsUnchanged, MRow, info_tree, Content, content_in, HoldsContent, TellsVersion, Kept, IsStoreDatabase, IsSettled, IsStanding, RestsAt, was_clean}
 use Rattle.sqlite_value.specs.declared.value.Value.TheVariants.{Int}
-use Rattle.sqlite_value.specs.Order.{Row, column}
-use Rattle.sqlite.specs.Effect.{Database}
-use Rattle.sqlite.specs.State.{State, HasCleanDisk, Survives, KeepsCommit, IsUnchanged}
-use Rattle.esc_manifest.specs.declared.row.MRow.{MRow}
-use Rattle.esc_rows.specs.Schema.{store_schema, info_tree}
+use Rattle.sqlite.specs.State.{State}
+use Rattle.esc_rows.specs.Schema.{store_schema}
 use Rattle.esc_rows.specs.Rows.{info_row}
-use Rattle.esc_rows.specs.Content.{Content, content_in, HoldsContent}
 use Rattle.esc_rows.specs.Content.{IsStore as HasTables}
-use Rattle.esc_rows.specs.Creation.{TellsVersion}
-use Rattle.esc_store.specs.Kept.{Kept}
-use Rattle.esc_store.specs.StoreTables.{IsStore, IsStoreDatabase, IsOfVersion}
-use Rattle.esc_store.specs.Opening.{IsSettled, IsAsItWas}
-use Rattle.esc_store.specs.Standing.{IsStanding, RestsAt}
-use Rattle.esc_store.specs.StandingLaws.{was_clean}
+use Rattle.esc_store.specs.StoreTables.{IsStore, IsOfVersion}
+use Rattle.esc_store.specs.Opening.{IsAsItWas}
 
 -- a database whose last commit is a store has the tables
 pub tables_refused : (s : State) (has : Bool) (k : Kept) → (IsTrue s.is_open → (c : Content) → HasTables s.now.trees c → IsTrue has × HoldsContent s.now c) → s.now ≡ s.committed → has ≡ false → IsTrue s.is_open → IsStore s.committed.trees k → ⊥

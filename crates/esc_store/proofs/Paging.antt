@@ -1,28 +1,18 @@
 -- From rows of the table of objects to a page of them.
-use Rattle.std.proofs.Common.{◌≡◌, ℕ, ◌+◌, ◌<◌, ◌≤◌, ◌==◌, ◌&&◌, Bool, true, false, cond, List, [], ◌∷◌, ◌++◌, map, filter, take, length, get_or, Option, None, Some, option_map, refl, sym, ap, subst, ◌∙◌, inl, inr, Ordering, Less, arith}
-use Rattle.std.specs.Prelude.{bytes_eq, find}
+use Rattle.esc_store.proofs.Common.{◌≡◌, ℕ, ◌+◌, ◌<◌, ◌≤◌, ◌==◌, ◌&&◌, Bool, true, false, cond, List, [], ◌∷◌, ◌++◌, map, filter, take, length, get_or, Option, None, Some, option_map, refl, sym, ap, subst, ◌∙◌, inl, inr, arith, bytes_eq}
+use Rattle.esc_store.proofs.Common.{find, lookup, nat_cmp, slice_cmp, cases_Bool, length-map, IsAscending, Kind, kind_rank, KeyName, key_cmp, key_eq, record_of, Entry, State, keys_alike, Content, object_at}
+use Rattle.esc_store.proofs.Common.{ObjectEntry, entry_at, is_entry_at, entry_row, stored_row, IsRegistry, ap₂, map_push, map_more}
+use Rattle.std.proofs.Common.{Ordering, Less}
 use Rattle.std.specs.List.Sorted.{IsStrictlySortedBy}
-use Rattle.std.specs.Map.{lookup}
-use Rattle.std.specs.Ordering.{nat_cmp, ordering_then}
-use Rattle.std.specs.Cmp.Lexicographic.{slice_cmp}
+use Rattle.std.specs.Ordering.{ordering_then}
 use Rattle.std.specs.List.{last_or}
-use Rattle.std.proofs.lemmas.Bool.{cases_Bool}
-use Rattle.std.proofs.lemmas.List.{map-append, take_more, length-map, length-take}
-use Rattle.sqlite_trees.specs.Tree.{IsAscending}
+use Rattle.std.proofs.lemmas.List.{length-take}
 use Rattle.sqlite_keyed.specs.Lists.{sort_by}
 use Rattle.sqlite_keyed.proofs.ListLemmas.{ascending-map, ascending_from_map, all_map}
-use Rattle.esc_envelope.specs.declared.kind.Kind.{Kind}
-use Rattle.esc_envelope.specs.Kinds.{kind_rank}
-use Rattle.esc_tables.specs.KeyName.{KeyName, key_cmp, key_eq}
-use Rattle.esc_record.specs.Record.{record_of}
-use Rattle.esc_apply.specs.ObjectStreams.{Entry, InOrder}
-use Rattle.esc_apply.specs.Registry.{State}
-use Rattle.esc_tables.specs.KeyLaws.{keys_alike}
-use Rattle.esc_rows.specs.Content.{Content, object_at}
-use Rattle.esc_rows.specs.Changes.{ObjectEntry, object_entry, by_key, by_entry, entry_at, is_entry_at, is_from, is_kind_from, is_up_to, last_key, ListsFrom}
+use Rattle.esc_apply.specs.ObjectStreams.{InOrder}
+use Rattle.esc_rows.specs.Changes.{object_entry, by_key, by_entry, is_from, is_kind_from, is_up_to, last_key, ListsFrom}
 use Rattle.esc_store.specs.declared.reads.TheConstants.{MOST_ON_PAGE}
-use Rattle.esc_store.specs.Pages.{IsPage, last_text, is_on_page, entry_row, stored_row}
-use Rattle.esc_store.specs.TypedRows.{IsRegistry}
+use Rattle.esc_store.specs.Pages.{IsPage, last_text, is_on_page}
 use Rattle.esc_store.proofs.Gathering.{tests_alike, same_records, record_here}
 use Rattle.esc_store.proofs.Registries.{AreAlone}
 
@@ -103,5 +93,4 @@ page_short c kind from rows es lists same =
 
 pub one_entry : {A : Type 0} (f : A → Shown) (stored : List A) (d : A) (at : ℕ) (es : List Entry) (e : Entry) → at < length stored → map entry_row es ≡ map f (take at stored) → entry_row e ≡ f (get_or stored at d) → map entry_row (es ++ e ∷ []) ≡ map f (take (at + 1) stored)
 one_entry f stored d at es e below so_far is =
-    map-append entry_row es (e ∷ []) ∙ ap (λ l. l ++ (entry_row e ∷ [])) so_far ∙ ap (λ t. map f (take at stored) ++ (t ∷ [])) is
-    ∙ sym (map-append f (take at stored) (get_or stored at d ∷ [])) ∙ ap (map f) (sym (take_more stored at d below))
+    map_push entry_row es e ∙ ap₂ (λ (l : List Shown) (t : Shown). l ++ (t ∷ [])) so_far is ∙ sym (map_more f stored at d below)

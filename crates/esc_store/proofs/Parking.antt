@@ -1,28 +1,11 @@
 -- What parts of a change do to parked bodies and to the moment.
-use Rattle.std.proofs.Common.{◌≡◌, ℕ, ℤ, true, List, [], ◌∷◌, Option, None, Some, refl, sym, ap, subst, ◌∙◌}
-use Rattle.std.specs.Prelude.{Result, Ok, IsSome, ◌↔◌, if◌then◌else◌, bytes_eq}
-use Rattle.std.specs.List.{Contains}
-use Rattle.std.specs.Ordering.{nat_cmp}
-use Rattle.std.specs.declared.cmp.Ordering.TheVariants.{Less}
-use Rattle.std.specs.Cmp.Lexicographic.{slice_cmp}
-use Rattle.std.proofs.lemmas.List.Elements.{All-from_recursion}
-use Rattle.std.proofs.lemmas.Result.{IfOk-at_ok}
-use Rattle.sqlite_trees.specs.declared.store.Store.{Ghosts}
-use Rattle.sqlite_trees.specs.Tree.{IsAscending}
-use Rattle.sqlite.specs.Effect.{Database}
-use Rattle.sqlite.specs.Held.{state}
-use Rattle.sqlite.specs.State.{HasCleanDisk}
-use Rattle.esc_manifest.specs.declared.row.MRow.{MRow}
-use Rattle.esc_apply.specs.Registry.{State as Tables}
-use Rattle.esc_rows.specs.Content.{Content, content_in, HoldsContent, parked_at}
+use Rattle.esc_store.proofs.Common.{◌≡◌, ℕ, ℤ, true, List, [], ◌∷◌, Option, None, Some, refl, sym, ap, subst, ◌∙◌, Result, Ok, IsSome, ◌↔◌, if◌then◌else◌, bytes_eq, Contains, nat_cmp, Less, slice_cmp, All-from_recursion, IfOk-at_ok, Ghosts}
+use Rattle.esc_store.proofs.Common.{IsAscending, Database, state, HasCleanDisk, MRow, Content, content_in, HoldsContent, Store, Kept, with_parked, AreParked, IsBooks, ChangeOf, IsStep, IsStoreRead, Follows, survives_same}
+use Rattle.esc_store.proofs.Common.{was_clean, parked_at}
 use Rattle.esc_rows.specs.Parked.{PutsParked, RemovesParked, ListsParked, SetsMoment, without_moment, moment_row}
-use Rattle.esc_store.specs.declared.store.Store.{Store}
-use Rattle.esc_store.specs.Kept.{Kept, with_parked, with_moment, AreRisingTexts, AreParked}
-use Rattle.esc_store.specs.TypedRows.{IsBooks, IsRegistry}
-use Rattle.esc_store.specs.Standing.{ChangeOf, IsStep, IsStoreRead, RestIn, Follows}
-use Rattle.esc_store.specs.StandingLaws.{survives_same, was_clean}
-use Rattle.esc_store.proofs.Parts.{Turns, turning}
-use Rattle.esc_store.proofs.RowSteps.{Becoming}
+use Rattle.esc_store.specs.Kept.{with_moment, AreRisingTexts}
+use Rattle.esc_store.specs.Standing.{RestIn}
+use Rattle.esc_store.proofs.Parts.{Turns, turning, Becoming, books_as}
 
 -- under this digest there is this body, or none, and all else is as it was
 pub record SetsParked (digest : List ℕ) (w : Option (List ℕ)) (c c' : Content) : Type 0 where
@@ -36,17 +19,8 @@ pub unpark_turns : (digest : List ℕ) (old new : Database) → RemovesParked di
 unpark_turns digest old new made = turning (λ tables. let m = made (content_in old.trees) tables in (record (content_in old.trees) { parked = m.0 }, m.1, record { only = refl; map_is = m.2 }))
 
 pub books_parked : (k : Kept) (digest : List ℕ) (w : Option (List ℕ)) (c c' : Content) → SetsParked digest w c c' → IsBooks c k → IsBooks c' (with_parked k digest w)
-books_parked k digest w c c' set books = subst (λ x. IsBooks x (with_parked k digest w)) (sym set.only) (record {
-  listed = books.listed;
-  receipts = books.receipts;
-  held = books.held;
-  parked = λ d. set.map_is d ∙ ap (λ o. if bytes_eq digest d then w else o) (books.parked d);
-  moment = books.moment;
-  steps = books.steps;
-})
-
-pub registry_parked : (s : Tables) (digest : List ℕ) (w : Option (List ℕ)) (c c' : Content) → SetsParked digest w c c' → IsRegistry c s → IsRegistry c' s
-registry_parked s digest w c c' set it = subst (λ x. IsRegistry x s) (sym set.only) (record { objects = it.objects; images = it.images; recorded = it.recorded; noted = it.noted })
+books_parked k digest w c c' set books = books_as set.only books.listed books.receipts books.held
+    (λ d. set.map_is d ∙ ap (λ o. if bytes_eq digest d then w else o) (books.parked d)) books.moment books.steps
 
 -- what is put was not there before
 pub was_free : {S X E : Type 0} (g : Ghosts S) (old new : Store S) (digest body : List ℕ) {r : Result X E} {x : X} → r ≡ Ok x → IsStep (state g old.conn) (state g new.conn) (PutsParked digest body) r → HasCleanDisk (state g new.conn)
@@ -73,10 +47,7 @@ are_parked k c found books lists = record {
 -- ---- the moment
 
 pub books_no_moment : (k : Kept) (c c' : Content) → Becoming without_moment c c' → IsBooks c k → IsBooks c' (with_moment k None)
-books_no_moment k c c' turn books = subst (λ x. IsBooks x (with_moment k None)) (sym turn.is) (record { listed = books.listed; receipts = books.receipts; held = books.held; parked = books.parked; moment = refl; steps = books.steps })
-
-pub registry_no_moment : (s : Tables) (c c' : Content) → Becoming without_moment c c' → IsRegistry c s → IsRegistry c' s
-registry_no_moment s c c' turn it = subst (λ x. IsRegistry x s) (sym turn.is) (record { objects = it.objects; images = it.images; recorded = it.recorded; noted = it.noted })
+books_no_moment k c c' turn books = books_as turn.is books.listed books.receipts books.held books.parked refl books.steps
 
 abbrev pub with_moment_row : ℤ → Content → Content
 with_moment_row w c = record c { moment = moment_row w ∷ [] }
@@ -86,10 +57,7 @@ moment_turns v w is old new made = turning (λ tables.
     (with_moment_row w (content_in old.trees), subst (λ x. HoldsContent new (with_moment_row x (content_in old.trees))) is (made (content_in old.trees) tables).0, record { is = refl }))
 
 pub books_moment : (k : Kept) (w : ℤ) (c c' : Content) → Becoming (with_moment_row w) c c' → IsBooks c k → IsBooks c' (with_moment k (Some w))
-books_moment k w c c' turn books = subst (λ x. IsBooks x (with_moment k (Some w))) (sym turn.is) (record { listed = books.listed; receipts = books.receipts; held = books.held; parked = books.parked; moment = refl; steps = books.steps })
-
-pub registry_moment : (s : Tables) (w : ℤ) (c c' : Content) → Becoming (with_moment_row w) c c' → IsRegistry c s → IsRegistry c' s
-registry_moment s w c c' turn it = subst (λ x. IsRegistry x s) (sym turn.is) (record { objects = it.objects; images = it.images; recorded = it.recorded; noted = it.noted })
+books_moment k w c c' turn books = books_as turn.is books.listed books.receipts books.held books.parked refl books.steps
 
 -- ---- a change
 

@@ -1,27 +1,13 @@
 -- What a part of a change does to what the change has made.
-use Rattle.std.proofs.Common.{◌≡◌, true, List, refl, sym, subst}
-use Rattle.std.specs.Prelude.{IsTrue, Result, Ok, Err, IfOk, IfErr, OnErr, IsErr}
-use Rattle.std.proofs.lemmas.Result.{IfOk-at_ok, IfErr-at_err}
-use Rattle.std.proofs.lemmas.Bool.{both_ways}
-use Rattle.sqlite_trees.specs.declared.store.Store.{Ghosts}
-use Rattle.sqlite.specs.Effect.{Database}
-use Rattle.sqlite.specs.Held.{state}
-use Rattle.sqlite.specs.State.{State, HasCleanDisk, Survives, KeepsCommit}
-use Rattle.sqlite.proofs.StateLemmas.{survives_then}
-use Rattle.esc_manifest.specs.declared.row.MRow.{MRow}
+use Rattle.esc_store.proofs.Common.{◌≡◌, ◌∙◌, ℕ, true, List, refl, sym, ap, subst, IsTrue, Result, Ok, Err, IfErr, OnErr, IsErr, IfOk-at_ok, IfErr-at_err, both_ways, Ghosts, Database, state, HasCleanDisk, Survives, KeepsCommit, survives_then, MRow, parked_at, body_of, Settles}
+use Rattle.esc_store.proofs.Common.{Content, object_at, image_at, Becomes, listed_from, receipts_from, steps_from, content_in, HoldsContent, content_is, IsPart, IsRead, SFault, Store, Kept, IsBooks, IsRegistry, IsStoreDatabase, HoldsTables, IsBegun, IsMade, IsUnderWay, IsStep, IsLook, was_clean}
+use Rattle.std.specs.Prelude.{IfOk}
+use Rattle.esc_rows.specs.Content.{moment_of}
+use Rattle.sqlite.specs.State.{State}
 use Rattle.esc_apply.specs.Registry.{State as Tables}
-use Rattle.esc_rows.specs.Content.{Content, content_in, HoldsContent}
-use Rattle.esc_rows.specs.ContentIs.{content_is}
-use Rattle.esc_rows.specs.Part.{IsPart, IsRead}
-use Rattle.esc_store.specs.declared.fault.SFault.{SFault}
-use Rattle.esc_store.specs.declared.store.Store.{Store}
 use Rattle.esc_store.specs.Faults.{IsS1OrS2}
-use Rattle.esc_store.specs.Kept.{Kept}
-use Rattle.esc_store.specs.TypedRows.{IsBooks, IsRegistry}
-use Rattle.esc_store.specs.StoreTables.{IsStoreDatabase, HoldsTables}
-use Rattle.esc_store.specs.Standing.{IsBegun, IsMade, IsUnderWay, IsGivenUp, Settles, IsStep, IsLook}
-use Rattle.esc_store.specs.StandingLaws.{was_clean}
-use Rattle.esc_store.proofs.Ends.{keeps_then, begun_committed}
+use Rattle.esc_store.specs.Standing.{IsGivenUp}
+use Rattle.esc_store.proofs.Ends.{keeps_then, begun_ended}
 
 -- ---- from statements to steps
 
@@ -84,6 +70,28 @@ pub record Turns (R : Content → Content → Type 0) (old new : Database) : Typ
 pub turning : {R : Content → Content → Type 0} {old new : Database} → (HoldsTables old → (c : Content) × HoldsContent new c × R (content_in old.trees) c) → Turns R old new
 turning {R} {old} {new} f = record { by = λ tables. let m = f tables in let b = becomes new m.0 m.1 in (b.0, subst (R (content_in old.trees)) (sym b.1) m.2) }
 
+-- what a change of the content turns into
+pub record Becoming (change : Content → Content) (c c' : Content) : Type 0 where
+  pub is : c' ≡ change c
+
+pub become_turns : (change : Content → Content) (old new : Database) → Becomes change old new → Turns (Becoming change) old new
+become_turns change old new made = turning (λ tables. (change (content_in old.trees), made (content_in old.trees) tables, record { is = refl }))
+
+-- what is kept, by each of its parts
+pub books_as : {k : Kept} {c d : Content} → c ≡ d → d.listed ≡ listed_from 0 k.listed → d.receipts ≡ receipts_from 1 k.receipts → ((row : ℕ) → body_of row d.held ≡ k.bodies row)
+    → ((digest : List ℕ) → parked_at digest d.parked ≡ k.parked digest) → moment_of d.moment ≡ k.moment → d.steps ≡ steps_from 1 k.steps → IsBooks c k
+books_as {k} is listed receipts held parked moment steps =
+    subst (λ x. IsBooks x k) (sym is) (record { listed = listed; receipts = receipts; held = held; parked = parked; moment = moment; steps = steps })
+
+-- objects and before-images that stay
+pub registry_same : {s : Tables} {c c' d : Content} → c' ≡ d → d.objects ≡ c.objects → d.undo ≡ c.undo → IsRegistry c s → IsRegistry c' s
+registry_same {s} is objects undo it = subst (λ x. IsRegistry x s) (sym is) (record {
+  objects = λ n text. ap (object_at n text) objects ∙ it.objects n text;
+  images = λ step n text. ap (image_at step n text) undo ∙ it.images step n text;
+  recorded = it.recorded;
+  noted = it.noted;
+})
+
 pub step_turns : {X E : Type 0} {old new : State} {Made Other : Database → Database → Type 0} {r : Result X E}
     → ((a b : Database) → Made a b → Other a b) → IsStep old new Made r → IsStep old new Other r
 step_turns {r = Ok x} f step = record { survives = step.survives; kept = step.kept; made = λ clean. let m = step.made clean in (m.0, f _ _ m.1, m.2, m.3); failed = step.failed }
@@ -110,15 +118,7 @@ module _ {X E : Type 0} {old new : State} {R : Content → Content → Type 0} {
           (it.is_open, subst (λ db. IsStoreDatabase db k) (sym ((step.kept clean).committed it.is_open)) was.1, (it.turns.by was.2).0);
       off = λ clean off. absurd (both_ways new.in_transaction off (made_of x is clean).on);
     }
-    | Err e ↦ λ is. record {
-      listed = begun.listed;
-      on = λ clean on. absurd (both_ways new.in_transaction (IfErr-at_err _ is (step.failed clean)).0 on);
-      off = λ clean off up. (
-        subst (λ db. IsStoreDatabase db k) (sym ((step.kept clean).committed up))
-            (begun_committed old m k begun (clean_before clean) ((step.kept clean).was_open up)),
-        (IfErr-at_err _ is (step.failed clean)).1 up,
-      );
-    }
+    | Err e ↦ λ is. begun_ended old new m k _ step.survives step.kept (λ clean. IfErr-at_err _ is (step.failed clean)) begun
   ] refl
 
   pub made_on : (m rows rows' : List MRow) (before k k' : Kept) (x : X) → r ≡ Ok x → (rows ≡ k.listed → rows' ≡ k'.listed)

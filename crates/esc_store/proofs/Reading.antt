@@ -1,15 +1,7 @@
 -- What the reads of a store answer.
-use Rattle.std.proofs.Common.{◌≡◌, ℕ, suc, ◌+◌, List, [], ◌∷◌, length, Option, refl, ap, ◌∙◌, arith}
-use Rattle.std.specs.Prelude.{option_map}
-use Rattle.sqlite_trees.specs.declared.store.Store.{Ghosts}
-use Rattle.esc_rows.specs.Changes.{last_number, receipt_of}
-use Rattle.esc_rows.specs.declared.receipt.Receipt.{Receipt}
+use Rattle.esc_store.proofs.Common.{◌≡◌, ℕ, suc, ◌+◌, List, [], ◌∷◌, length, Option, refl, ap, ◌∙◌, arith, option_map, Ghosts, last_number, receipt_of, Receipt, Store, Kept, ReceiptValue, ReplyValue, reply_alike, receipts_from, IsTold}
 use Rattle.esc_rows.specs.Entries.{receipt_row as stored_row}
-use Rattle.esc_store.specs.declared.store.Store.{Store}
-use Rattle.esc_store.specs.Kept.{Kept}
-use Rattle.esc_store.specs.ReplyValue.{ReceiptValue, ReplyValue, reply_alike}
-use Rattle.esc_store.specs.TypedRows.{receipts_from}
-use Rattle.esc_store.specs.Standing.{IsTold, Stands}
+use Rattle.esc_store.specs.Standing.{Stands}
 
 pub stands_listed : {S : Type 0} (g : Ghosts S) (s : Store S) (k : Kept) → Stands g s k → s.manifest ≡ k.listed
 unfolding Stands

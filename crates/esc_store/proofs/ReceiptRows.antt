@@ -1,24 +1,18 @@
 -- The rows of which receipts say that their deposits are held.
-use Rattle.std.proofs.Common.{◌≡◌, ◌⊎◌, inl, inr, ℕ, suc, ◌<◌, ◌==◌, Bool, true, false, cond, List, [], ◌∷◌, length, map, filter, Option, Some, refl, sym, ap, subst, ◌∙◌, arith, eqb, true≢false}
-use Rattle.std.specs.Prelude.{IsSorted, slice_index_or}
-use Rattle.std.specs.List.{Contains, Any, AllPairs, dedup}
-use Rattle.std.specs.Ordering.{nat_cmp}
-use Rattle.std.proofs.lemmas.List.{get_or-map, length-map}
+use Rattle.esc_store.proofs.Common.{◌≡◌, inl, inr, ℕ, suc, ◌<◌, ◌==◌, List, [], ◌∷◌, length, map, filter, Option, Some, refl, sym, ap, subst, ◌∙◌, arith, eqb, IsSorted, Contains, Any, dedup}
+use Rattle.esc_store.proofs.Common.{nat_cmp, cases_Bool, get_or-map, length-map, eqb-true, ReceiptRow, Content, ListsRows, Verdict, AreOnce, Kept, ReceiptValue, verdict_number, receipts_from, IsBooks, any_weaker}
+use Rattle.std.specs.Prelude.{slice_index_or}
+use Rattle.std.specs.List.{AllPairs}
 use Rattle.std.proofs.lemmas.List.Elements.{All-from_get_or}
 use Rattle.std.proofs.lemmas.List.Kept.{AllPairs-from_increasing, Contains-dedup_nat, Contains-from_dedup}
 use Rattle.std.proofs.lemmas.List.Sorted.{IsPermutation-sym, Contains-permutation}
 use Rattle.std.proofs.lemmas.Map.Keys.{IsStrictlyIncreasing-dedup}
-use Rattle.std.proofs.lemmas.Bool.{eqb-true, eq-eqb}
-use Rattle.esc_rows.specs.Rows.{ReceiptRow}
-use Rattle.esc_rows.specs.Content.{Content}
-use Rattle.esc_rows.specs.Changes.{is_of_verdict, ListsRows}
-use Rattle.esc_store.specs.declared.reply.Verdict.{Verdict}
+use Rattle.std.proofs.lemmas.Bool.{eq-eqb}
+use Rattle.esc_rows.specs.Changes.{is_of_verdict}
 use Rattle.esc_store.specs.declared.reply.Verdict.TheVariants.{A1}
-use Rattle.esc_store.specs.Decoded.{AreOnce}
-use Rattle.esc_store.specs.Kept.{Kept, IsRising, SaysHeld, AreHeldBy}
-use Rattle.esc_store.specs.ReplyValue.{ReceiptValue}
-use Rattle.esc_store.specs.TypedRows.{verdict_number, receipt_row, receipts_from, IsBooks}
-use Rattle.esc_store.specs.ListLaws.{first_or_later, later, any_first, any_later, any_split, any_weaker}
+use Rattle.esc_store.specs.Kept.{IsRising, SaysHeld, AreHeldBy}
+use Rattle.esc_store.specs.TypedRows.{receipt_row}
+use Rattle.esc_store.specs.ListLaws.{first_or_later, later, any_first, any_later, any_split}
 
 -- ---- each once
 
@@ -57,30 +51,23 @@ module _ {Y : Type 0} (column : ReceiptRow → Y) (value : ReceiptValue → Y) (
 
   pub said : (n : ℕ) (rs : List ReceiptValue) → Contains (map column (rows_from n rs)) y → Any Says rs
   said n [] there = absurd (omega (arith, there.1))
-  said n (r ∷ rs) there = by_test (verdict_number r.verdict == v) refl there (said (suc n) rs)
-    where
-      by_test : (b : Bool) → (verdict_number r.verdict == v) ≡ b → Contains (map column (cond b (receipt_row n r ∷ rows_from (suc n) rs) (rows_from (suc n) rs))) y → (Contains (map column (rows_from (suc n) rs)) y → Any Says rs) → Any Says (r ∷ rs)
-      by_test true is there more = elim (first_or_later (column (receipt_row n r)) y (map column (rows_from (suc n) rs)) there) [
-        | inl here ↦ any_first Says r rs (eqb-true (verdict_number r.verdict) v is, sym (shown n r) ∙ here)
-        | inr behind ↦ any_later Says r rs (more behind)
-      ]
-      by_test false is there more = any_later Says r rs (more there)
+  said n (r ∷ rs) there = elim (cases_Bool (verdict_number r.verdict == v)) [
+    | inl is ↦ elim (first_or_later (column (receipt_row n r)) y (map column (rows_from (suc n) rs)) (rw is at there)) [
+      | inl here ↦ any_first Says r rs (eqb-true (verdict_number r.verdict) v is, sym (shown n r) ∙ here)
+      | inr behind ↦ any_later Says r rs (said (suc n) rs behind)
+    ]
+    | inr other ↦ any_later Says r rs (said (suc n) rs (rw other at there))
+  ]
 
   pub named : (n : ℕ) (rs : List ReceiptValue) → Any Says rs → Contains (map column (rows_from n rs)) y
   named n [] any = absurd (omega (arith, any.2))
-  named n (r ∷ rs) any = by_case (any_split Says r rs any) (named (suc n) rs)
-    where
-      kept : (b : Bool) → Contains (map column (rows_from (suc n) rs)) y → Contains (map column (cond b (receipt_row n r ∷ rows_from (suc n) rs) (rows_from (suc n) rs))) y
-      kept true there = later (column (receipt_row n r)) y (map column (rows_from (suc n) rs)) there
-      kept false there = there
-
-      here : (b : Bool) → b ≡ true → value r ≡ y → Contains (map column (cond b (receipt_row n r ∷ rows_from (suc n) rs) (rows_from (suc n) rs))) y
-      here true is same = (0, omega arith, shown n r ∙ same)
-      here false is same = absurd (true≢false (sym is))
-
-      by_case : Says r ⊎ Any Says rs → (Any Says rs → Contains (map column (rows_from (suc n) rs)) y) → Contains (map column (cond (verdict_number r.verdict == v) (receipt_row n r ∷ rows_from (suc n) rs) (rows_from (suc n) rs))) y
-      by_case (inl (is, same)) more = here (verdict_number r.verdict == v) (eq-eqb (verdict_number r.verdict) v is) same
-      by_case (inr there) more = kept (verdict_number r.verdict == v) (more there)
+  named n (r ∷ rs) any = elim (any_split Says r rs any) [
+    | inl (is, same) ↦ rw (eq-eqb (verdict_number r.verdict) v is) (0, omega arith, shown n r ∙ same)
+    | inr there ↦ elim (cases_Bool (verdict_number r.verdict == v)) [
+      | inl is ↦ rw is (later (column (receipt_row n r)) y (map column (rows_from (suc n) rs)) (named (suc n) rs there))
+      | inr other ↦ rw other (named (suc n) rs there)
+    ]
+  ]
 
 -- ---- the receipts of the verdict A1
 

@@ -1,44 +1,31 @@
 -- What parts do to rows, receipts, bodies and steps.
-use Rattle.std.proofs.Common.{◌≡◌, ℕ, zero, suc, take, get_or, ◌+◌, ◌<◌, ◌≤◌, ltb, Bool, true, false, filter, List, Option, [], ◌∷◌, ◌++◌, length, map, None, Some, refl, sym, ap, subst, ◌∙◌, arith}
-use Rattle.std.specs.Prelude.{IsTrue, Result, Ok, Err, OnOk, pos, ◌<ℤ◌, ℤ, ◌==◌, if◌then◌else◌, option_map, is_some}
-use Rattle.std.specs.List.{AllByRecursion}
-use Rattle.std.proofs.lemmas.Int.{ints}
-use Rattle.std.proofs.lemmas.List.{append_assoc, append-nil, length-map, length-take-le, get_or-map, take_more}
+use Rattle.esc_store.proofs.Common.{◌≡◌, ℕ, zero, suc, take, get_or, ◌+◌, ◌<◌, ◌≤◌, Bool, true, false, filter, List, Option, [], ◌∷◌, ◌++◌, length, map, None, Some, refl, sym, ap, subst, ◌∙◌, arith, IsTrue, Result, Ok, Err, OnOk, pos, ◌<ℤ◌}
+use Rattle.esc_store.proofs.Common.{ℤ, ◌==◌, if◌then◌else◌, option_map, is_some, AllByRecursion, ints, append-nil, length-map, length-take-le, get_or-map, MRow, ChainStep, Step, step_row, Database, HasCleanDisk, survives_then}
+use Rattle.esc_store.proofs.Common.{IsKeyedBy, insert_by, all_weaker, Less, nat_tests, IfOk-at_ok, ReceiptRow, StepRow, Content, content_in, HoldsContent, Tells, Becomes, last_number, Kept, with_body, ReceiptValue, IsBooks}
+use Rattle.esc_store.proofs.Common.{receipts_from, steps_from, ContinuesSteps, IsStep, IsLook, Ghosts, state, Store, was_clean, body_of}
+use Rattle.std.proofs.Common.{ltb}
+use Rattle.std.proofs.lemmas.List.{append_assoc}
 use Rattle.std.proofs.lemmas.List.Elements.{filter_passes, recursion_from_All}
-use Rattle.esc_manifest.specs.declared.row.MRow.{MRow}
-use Rattle.esc_rows.specs.declared.step.ChainStep.{ChainStep}
-use Rattle.esc_apply.specs.declared.front.Step.{Step}
-use Rattle.esc_rows.specs.Entries.{step_row}
-use Rattle.sqlite.specs.Effect.{Database}
-use Rattle.sqlite.specs.State.{State, HasCleanDisk}
-use Rattle.sqlite.proofs.StateLemmas.{survives_then}
-use Rattle.sqlite_keyed.specs.Keyed.{IsKeyedBy, get_by, insert_by}
+use Rattle.sqlite.specs.State.{State}
+use Rattle.sqlite_keyed.specs.Keyed.{get_by}
 use Rattle.sqlite_keyed.proofs.KeyedLemmas.{same_int, lt_from_Less}
-use Rattle.sqlite_keyed.proofs.ListLemmas.{all-append, all_weaker}
+use Rattle.sqlite_keyed.proofs.ListLemmas.{all-append}
 use Rattle.std.specs.Ordering.{int_cmp, int_eq, match_ordering}
 use Rattle.std.specs.declared.cmp.Ordering.{Ordering}
-use Rattle.std.specs.declared.cmp.Ordering.TheVariants.{Less, Equal, Greater}
+use Rattle.std.specs.declared.cmp.Ordering.TheVariants.{Equal, Greater}
 use Rattle.std.proofs.lemmas.Cmp.{int_ranked}
 use Rattle.std.proofs.lemmas.Bool.{lt-ltb, le-ltb, ltb-true}
-use Rattle.std.proofs.lemmas.Bool.Decides.{nat_tests}
-use Rattle.std.proofs.lemmas.Result.{IfOk-at_ok}
 use Rattle.esc_rows.specs.StoreTable.{Receipts}
-use Rattle.esc_rows.specs.Rows.{ReceiptRow, StepRow, HeldRow, receipt_number, held_number}
-use Rattle.esc_rows.specs.Content.{Content, content_in, HoldsContent}
-use Rattle.esc_rows.specs.Changes.{Tells, AddsReceipt, AddsStep, HoldsBody, Becomes, steps_before, last_number, body_of}
-use Rattle.esc_apply.specs.Registry.{State as Tables}
-use Rattle.esc_store.specs.Kept.{Kept, with_receipt, with_body, with_steps}
-use Rattle.esc_store.specs.ReplyValue.{ReceiptValue}
-use Rattle.esc_store.specs.TypedRows.{IsBooks, IsRegistry, receipt_row, receipts_from, steps_from}
-use Rattle.esc_store.specs.ChangeParts.{next_number, with_next_receipt, AddsNext, with_steps_from, ContinuesSteps}
-use Rattle.esc_store.specs.Standing.{IsStep, IsLook, RestIn}
+use Rattle.esc_rows.specs.Rows.{HeldRow, receipt_number, held_number}
+use Rattle.esc_rows.specs.Changes.{AddsReceipt, AddsStep, HoldsBody, steps_before}
+use Rattle.esc_store.specs.Kept.{with_receipt, with_steps}
+use Rattle.esc_store.specs.TypedRows.{receipt_row}
+use Rattle.esc_store.specs.ChangeParts.{next_number, with_next_receipt, AddsNext, with_steps_from}
+use Rattle.esc_store.specs.Standing.{RestIn}
 use Rattle.esc_store.proofs.Ends.{keeps_then}
-use Rattle.esc_store.proofs.Parts.{Turns, turning}
+use Rattle.esc_store.proofs.Parts.{Turns, turning, Becoming, books_as}
 use Rattle.esc_store.proofs.Reading.{counted}
-use Rattle.sqlite_trees.specs.declared.store.Store.{Ghosts}
-use Rattle.sqlite.specs.Held.{state}
-use Rattle.esc_store.specs.declared.store.Store.{Store}
-use Rattle.esc_store.specs.StandingLaws.{was_clean}
+use Rattle.esc_store.proofs.Numbered.{from_append, from_next, from_size, from_nth}
 
 -- ---- receipts
 
@@ -75,29 +62,10 @@ step_next old mid new r last v row y z on look is row_is step = record {
 pub last_told : {D : Type 0} (old mid : State) (r : Result ℕ D) (last : ℕ) → IsLook old mid (Tells (λ c (found : ℕ). found ≡ last_number c.receipts)) r → r ≡ Ok last → HasCleanDisk mid → (c : Content) → HoldsContent old.now c → last ≡ last_number c.receipts
 last_told old mid r last look is clean c h = (IfOk-at_ok _ is (look.said clean)).0 c h
 
--- what a change of the content turns into
-pub record Becoming (change : Content → Content) (c c' : Content) : Type 0 where
-  pub is : c' ≡ change c
-
-pub become_turns : (change : Content → Content) (old new : Database) → Becomes change old new → Turns (Becoming change) old new
-become_turns change old new made = turning (λ tables. (change (content_in old.trees), made (content_in old.trees) tables, record { is = refl }))
-
-receipts_push : (n : ℕ) (rs : List ReceiptValue) (r : ReceiptValue) (m : ℕ) → length rs + n ≡ m → receipts_from n (rs ++ (r ∷ [])) ≡ receipts_from n rs ++ (receipt_row m r ∷ [])
-receipts_push n [] r m is = let e : n ≡ m = omega (arith, is) in rw e refl
-receipts_push n (x ∷ rs) r m is = ap (λ l. receipt_row n x ∷ l) (receipts_push (suc n) rs r m (omega (arith, is)))
-
 pub books_receipt : (k : Kept) (r : ReceiptValue) (c c' : Content) → Becoming (with_next_receipt r) c c' → IsBooks c k → IsBooks c' (with_receipt k r)
-books_receipt k r c c' turn books = subst (λ x. IsBooks x (with_receipt k r)) (sym turn.is) (record {
-  listed = books.listed;
-  receipts = ap (λ (rs : List ReceiptRow). rs ++ receipt_row (last_number rs + 1) r ∷ []) books.receipts ∙ sym (receipts_push 1 k.receipts r _ (ap (λ n. n + 1) (sym (counted k.receipts))));
-  held = books.held;
-  parked = books.parked;
-  moment = books.moment;
-  steps = books.steps;
-})
-
-pub registry_receipt : (s : Tables) (r : ReceiptValue) (c c' : Content) → Becoming (with_next_receipt r) c c' → IsRegistry c s → IsRegistry c' s
-registry_receipt s r c c' turn it = subst (λ x. IsRegistry x s) (sym turn.is) (record { objects = it.objects; images = it.images; recorded = it.recorded; noted = it.noted })
+books_receipt k r c c' turn books = books_as turn.is books.listed
+    (ap (λ (rs : List ReceiptRow). rs ++ receipt_row (last_number rs + 1) r ∷ []) books.receipts ∙ sym (from_append receipt_row receipts_from (λ _. refl) (λ _ _ _. refl) 1 _ k.receipts (r ∷ []) (ap (λ n. n + 1) (sym (counted k.receipts)))))
+    books.held books.parked books.moment books.steps
 
 -- the receipts of what a change has made
 pub receipts_made : {S : Type 0} (g : Ghosts S) (store : Store S) (listing : Option (List MRow)) (before k : Kept) → HasCleanDisk (state g store.conn) → (state g store.conn).in_transaction ≡ true → RestIn g store listing before k
@@ -145,17 +113,9 @@ body_in h hs row = ap (option_map (λ (x : HeldRow). x.body)) (get_put held_numb
   branch false = refl
 
 pub books_held : (k : Kept) (h : HeldRow) (row : ℕ) (body : List ℕ) → h.row ≡ row → h.body ≡ body → (c c' : Content) → Becoming (with_held_row h) c c' → IsBooks c k → IsBooks c' (with_body k row body)
-books_held k h row body row_is body_is c c' turn books = subst (λ x. IsBooks x (with_body k row body)) (sym turn.is) (record {
-  listed = books.listed;
-  receipts = books.receipts;
-  held = λ n. body_in h c.held n ∙ rw (row_is, body_is) (ap (λ o. if n == row then Some body else o) (books.held n));
-  parked = books.parked;
-  moment = books.moment;
-  steps = books.steps;
-})
-
-pub registry_held : (s : Tables) (h : HeldRow) (c c' : Content) → Becoming (with_held_row h) c c' → IsRegistry c s → IsRegistry c' s
-registry_held s h c c' turn it = subst (λ x. IsRegistry x s) (sym turn.is) (record { objects = it.objects; images = it.images; recorded = it.recorded; noted = it.noted })
+books_held k h row body row_is body_is c c' turn books = books_as turn.is books.listed books.receipts
+    (λ n. body_in h c.held n ∙ rw (row_is, body_is) (ap (λ o. if n == row then Some body else o) (books.held n)))
+    books.parked books.moment books.steps
 
 none_in : {X Y : Type 0} (f : X → Y) (o : Option X) → is_some o ≡ false → option_map f o ≡ None
 none_in f None none = refl
@@ -174,9 +134,11 @@ row_was_free g old new h {r} {x} is step clean listing before k made =
 
 -- ---- steps
 
+abbrev step_of : ℕ → ℕ → StepRow
+step_of n row = record { pos = n; row = row }
+
 steps_append : (n m : ℕ) (front rows : List ℕ) → length front + n ≡ m → steps_from n (front ++ rows) ≡ steps_from n front ++ steps_from m rows
-steps_append n m [] rows is = let e : n ≡ m = omega (arith, is) in rw e refl
-steps_append n m (x ∷ front) rows is = ap (λ l. record { pos = n; row = x } ∷ l) (steps_append (suc n) m front rows (omega (arith, is)))
+steps_append = from_append step_of steps_from (λ _. refl) (λ _ _ _. refl)
 
 steps_below : (n m : ℕ) (rows : List ℕ) → length rows + n ≤ m → AllByRecursion (λ (x : StepRow). x.pos < m) (steps_from n rows)
 steps_below n m [] h = tt
@@ -202,20 +164,10 @@ kept_below at m ss h =
     (recursion_from_All passes (filter before ss) (filter_passes before ss))
 
 pub books_steps : (k : Kept) (front at : ℕ) (rows : List ℕ) → at ≡ front + 1 → front ≤ length k.steps → (c c' : Content) → Becoming (with_steps_from at rows) c c' → IsBooks c k → IsBooks c' (with_steps k (take front k.steps ++ rows))
-books_steps k front at rows at_is within c c' turn books = subst (λ x. IsBooks x (with_steps k (take front k.steps ++ rows))) (sym turn.is) (record {
-  listed = books.listed;
-  receipts = books.receipts;
-  held = books.held;
-  parked = books.parked;
-  moment = books.moment;
-  steps =
-      ap (λ (ss : List StepRow). filter (λ (s : StepRow). ltb s.pos at) ss ++ steps_from at rows) books.steps
-      ∙ (ap (λ (ss : List StepRow). ss ++ steps_from at rows) (front_before 1 front at k.steps (omega (arith, at_is)))
-      ∙ sym (steps_append 1 at (take front k.steps) rows (let size = length-take-le front k.steps within in omega (arith, size, at_is))));
-})
-
-pub registry_steps : (s : Tables) (at : ℕ) (rows : List ℕ) (c c' : Content) → Becoming (with_steps_from at rows) c c' → IsRegistry c s → IsRegistry c' s
-registry_steps s at rows c c' turn it = subst (λ x. IsRegistry x s) (sym turn.is) (record { objects = it.objects; images = it.images; recorded = it.recorded; noted = it.noted })
+books_steps k front at rows at_is within c c' turn books = books_as turn.is books.listed books.receipts books.held books.parked books.moment
+    (ap (λ (ss : List StepRow). filter (λ (s : StepRow). ltb s.pos at) ss ++ steps_from at rows) books.steps
+    ∙ (ap (λ (ss : List StepRow). ss ++ steps_from at rows) (front_before 1 front at k.steps (omega (arith, at_is)))
+    ∙ sym (steps_append 1 at (take front k.steps) rows (let size = length-take-le front k.steps within in omega (arith, size, at_is)))))
 
 -- a list of stored steps that is this one, numbered from a number that is this one
 pub numbered : (n m : ℕ) (ss ts : List ChainStep) (rows : List ℕ) → n ≡ m → ts ≡ ss → map step_row ss ≡ steps_from n rows → map step_row ts ≡ steps_from m rows
@@ -261,30 +213,11 @@ steps_more {Y} {E} {old} {mid} {new} at rows row s {y} {done} s_is before step =
 
 -- ---- the steps one by one
 
-steps_get : (n : ℕ) (rows : List ℕ) (i : ℕ) (d : StepRow) → i < length rows → get_or (steps_from n rows) i d ≡ record { pos = n + i; row = get_or rows i 0 }
-steps_get n [] i d lt = absurd (omega arith)
-steps_get n (row ∷ rows) zero d lt = let e : n + 0 ≡ n = omega arith in rw e refl
-steps_get n (row ∷ rows) (suc i) d lt = let e : n + suc i ≡ suc n + i = omega arith in steps_get (suc n) rows i d (omega arith) ∙ rw e refl
-
-steps_length : (n : ℕ) (rows : List ℕ) → length (steps_from n rows) ≡ length rows
-steps_length n [] = refl
-steps_length n (row ∷ rows) = ap suc (steps_length (suc n) rows)
-
 pub step_nth : (n : ℕ) (ss : List ChainStep) (rows : List ℕ) (i : ℕ) (d : ChainStep) → map step_row ss ≡ steps_from n rows → i < length ss → step_row (get_or ss i d) ≡ record { pos = length (take i rows) + n; row = get_or rows i 0 }
-step_nth n ss rows i d e lt =
-    let l : length ss ≡ length rows = sym (length-map ss step_row) ∙ (ap length e ∙ steps_length n rows) in
-    let below : i < length rows = omega arith in
-    let size : length (take i rows) ≡ i = length-take-le i rows (omega arith) in
-    let number : n + i ≡ length (take i rows) + n = omega arith in
-    sym (get_or-map step_row ss i d (step_row d) lt) ∙ (ap (λ (xs : List StepRow). get_or xs i (step_row d)) e ∙ (steps_get n rows i (step_row d) below ∙ rw number refl))
+step_nth n ss rows i d = from_nth step_of steps_from (λ _. refl) (λ _ _ _. refl) step_row n ss rows i d 0
 
 pub same_length : (n : ℕ) (ss : List ChainStep) (rows : List ℕ) → map step_row ss ≡ steps_from n rows → length ss ≡ length rows
-same_length n ss rows e = sym (length-map ss step_row) ∙ (ap length e ∙ steps_length n rows)
-
-steps_pushed : (n : ℕ) (ss : List StepRow) (rows : List ℕ) (i : ℕ) (s : StepRow) → ss ≡ steps_from n (take i rows) → i < length rows → s ≡ record { pos = i + n; row = get_or rows i 0 } → ss ++ (s ∷ []) ≡ steps_from n (take (i + 1) rows)
-steps_pushed n ss rows i s e lt is =
-    let size : length (take i rows) + n ≡ i + n = let k = length-take-le i rows (omega arith) in omega arith in
-    ap (λ l. l ++ (s ∷ [])) e ∙ (ap (λ x. steps_from n (take i rows) ++ (x ∷ [])) is ∙ (sym (steps_append n (i + n) (take i rows) (get_or rows i 0 ∷ []) size) ∙ ap (steps_from n) (sym (take_more rows i 0 lt))))
+same_length = from_size step_of steps_from (λ _. refl) (λ _ _ _. refl) step_row
 
 pub steps_stored : (first : ℕ) (ss : List StepRow) (steps : List Step) (i n row : ℕ) (d : Step) → ss ≡ steps_from first (take i (map (λ (s : Step). s.row) steps)) → i < length steps → n ≡ i + first → row ≡ (get_or steps i d).row
     → ss ++ (record { pos = n; row = row } ∷ []) ≡ steps_from first (take (i + 1) (map (λ (s : Step). s.row) steps))
@@ -292,4 +225,5 @@ steps_stored first ss steps i n row d e lt n_is row_is =
     let row_of : Step → ℕ = λ (s : Step). s.row in
     let size : length (map row_of steps) ≡ length steps = length-map steps row_of in
     let there : get_or (map row_of steps) i 0 ≡ row = get_or-map row_of steps i d 0 lt ∙ sym row_is in
-    steps_pushed first ss (map row_of steps) i (record { pos = n; row = row }) e (omega arith) (rw (n_is, there) refl)
+    let taken : length (take i (map row_of steps)) ≡ i = length-take-le i (map row_of steps) (omega arith) in
+    from_next step_of steps_from (λ _. refl) (λ _ _ _. refl) first ss (map row_of steps) i (record { pos = n; row = row }) 0 e (omega arith) (rw (n_is, taken, there) refl)

@@ -1,22 +1,9 @@
 -- Reads of a store's tables.
-use Rattle.std.proofs.Common.{◌≡◌, List, Option, Some, refl, sym, subst, ◌∙◌}
-use Rattle.std.specs.Prelude.{IsTrue, Result, Ok, Err}
-use Rattle.std.proofs.lemmas.Result.{IfOk-at_ok, IfErr-at_err}
-use Rattle.sqlite_trees.specs.declared.store.Store.{Ghosts}
-use Rattle.sqlite.specs.Held.{Held, state}
-use Rattle.sqlite.specs.State.{State, HasCleanDisk}
-use Rattle.esc_manifest.specs.declared.row.MRow.{MRow}
-use Rattle.esc_rows.specs.Content.{Content, content_in}
-use Rattle.esc_rows.specs.Changes.{Tells}
-use Rattle.esc_rows.specs.Part.{IsRead}
+use Rattle.esc_store.proofs.Common.{survives_same, ◌≡◌, List, Option, Some, refl, sym, subst, ◌∙◌, IsTrue, Result, Ok, Err, IfOk-at_ok, IfErr-at_err, Ghosts, Held, state, HasCleanDisk, MRow, Content, content_in, Tells, IsRead, KindCounts, SFault, Store}
+use Rattle.esc_store.proofs.Common.{Kept, AreCounts, IsStoreDatabase, IsAtRest, AreCountsOf, IsStanding, IsStoreRead, IsLook, IsTold, IsHonest, was_clean, Settles}
+use Rattle.sqlite.specs.State.{State}
 use Rattle.esc_store.specs.Decoded.{counted}
-use Rattle.esc_store.specs.declared.counts.KindCounts.{KindCounts}
-use Rattle.esc_store.specs.declared.fault.SFault.{SFault}
-use Rattle.esc_store.specs.declared.store.Store.{Store}
-use Rattle.esc_store.specs.Kept.{Kept, AreCounts}
-use Rattle.esc_store.specs.StoreTables.{IsStoreDatabase}
-use Rattle.esc_store.specs.Standing.{IsAtRest, AreCountsOf, IsStanding, IsStoreRead, IsLook, IsAsBefore, IsTold, Stands, IsHonest}
-use Rattle.esc_store.specs.StandingLaws.{survives_same, was_clean}
+use Rattle.esc_store.specs.Standing.{IsAsBefore, Stands}
 use Rattle.esc_store.proofs.Ends.{still_counted}
 use Rattle.esc_store.proofs.Parts.{Settled, look_is}
 
@@ -51,9 +38,13 @@ module _ {X E : Type 0} {old new : State} {P : Content → X → Type 0} {r : Re
       }
 
 -- the same of a store
+pub read_here : {S X D E : Type 0} {g : Ghosts S} {old new : Store S} {conn : Held S} {outcome : Result X D} {result : Result X E} {P : Content → X → Type 0} → new.manifest ≡ old.manifest → new.writes ≡ old.writes → new.counted ≡ old.counted
+    → Settles g (record old { conn = conn }) new outcome result → IsRead (state g old.conn) (state g conn) (Tells P) outcome → IsStoreRead g old new P result
+read_here manifest writes counted settled read = record { manifest = manifest; writes = writes; counted = counted; look = look_is settled read }
+
 pub read_settled : {S X D : Type 0} {g : Ghosts S} {old new : Store S} {conn : Held S} {outcome : Result X D} {result : Result X SFault} {P : Content → X → Type 0}
     → Settled g (record old { conn = conn }) new outcome result → IsRead (state g old.conn) (state g conn) (Tells P) outcome → IsStoreRead g old new P result
-read_settled settle read = record { manifest = settle.manifest; writes = settle.writes; counted = settle.counted; look = look_is settle.settled read }
+read_settled settle = read_here settle.manifest settle.writes settle.counted settle.settled
 
 module _ {S X E : Type 0} {g : Ghosts S} {old new : Store S} {P : Content → X → Type 0} where
   pub as_before : {r : Result X E} → IsStoreRead g old new P r → IsAsBefore g old new

@@ -1,18 +1,10 @@
 -- The digests of the receipts of a verdict, and of bodies that no row listed.
-use Rattle.std.proofs.Common.{◌≡◌, ◌⊎◌, inl, inr, ℕ, true, List, ◌++◌, refl, sym, ap, subst, ◌∙◌, arith, true≢false}
-use Rattle.std.specs.Prelude.{◌↔◌}
-use Rattle.std.specs.List.{Contains, Any}
+use Rattle.esc_store.proofs.Common.{◌≡◌, ◌⊎◌, inl, inr, ℕ, true, List, ◌++◌, refl, sym, ap, subst, ◌∙◌, arith, true≢false, ◌↔◌, Contains, Any, ReceiptRow, Content, verdict_digests, Verdict, A2, Kept, ReceiptValue, verdict_number}
+use Rattle.esc_store.proofs.Common.{receipts_from, IsBooks, any_weaker}
 use Rattle.std.proofs.lemmas.List.Elements.{Contains-append_left, Contains-append_right, Contains-append_cases}
-use Rattle.esc_rows.specs.Rows.{ReceiptRow}
-use Rattle.esc_rows.specs.Content.{Content}
-use Rattle.esc_rows.specs.Changes.{verdict_digests}
-use Rattle.esc_store.specs.declared.reply.Verdict.{Verdict}
-use Rattle.esc_store.specs.declared.reply.Verdict.TheVariants.{A2, A5}
+use Rattle.esc_store.specs.declared.reply.Verdict.TheVariants.{A5}
 use Rattle.esc_store.specs.Decoded.{IsOfVerdict, AreOfVerdict}
-use Rattle.esc_store.specs.Kept.{Kept, is_unlisted, TellsUnlisted, AreUnlisted}
-use Rattle.esc_store.specs.ReplyValue.{ReceiptValue}
-use Rattle.esc_store.specs.TypedRows.{verdict_number, receipts_from, IsBooks}
-use Rattle.esc_store.specs.ListLaws.{any_weaker}
+use Rattle.esc_store.specs.Kept.{is_unlisted, TellsUnlisted, AreUnlisted}
 use Rattle.esc_store.proofs.ReceiptRows.{said, named}
 
 -- ---- of one verdict

@@ -1,10 +1,11 @@
 -- Objects that are put many at a time, after what their keys had is noted.
-use Rattle.std.specs.Prelude.{◌≡◌, ℕ, List, Option, None, map}
+use Rattle.std.specs.Prelude.{◌≡◌, ℕ, List, None, map, All}
 use Rattle.sqlite_trees.specs.declared.store.Store.{Ghosts}
 use Rattle.esc_apply.specs.declared.registry.Targets.{Targets}
+use Rattle.esc_apply.specs.declared.registry.Targets.TheVariants.{Free}
 use Rattle.esc_apply.specs.ObjectStreams.{Entry}
 use Rattle.esc_apply.specs.Registry.{State}
-use Rattle.esc_apply.specs.Changes.{with_object, changed_by, AreNew, CanBePut}
+use Rattle.esc_apply.specs.Changes.{with_object, changed_by, CanBePut}
 use Rattle.esc_rows.specs.Changes.{ObjectEntry, ImageEntry}
 use Rattle.esc_store.specs.Pages.{AreRowsOf}
 use Rattle.esc_store.specs.TypedRows.{record_at}
@@ -18,22 +19,20 @@ after_filling s step es = changed_by s step (map with_object es)
 abbrev pub after_noting : State → ℕ → List Entry → State
 after_noting s step es = record { content = s.content; undo = (after_filling s step es).undo }
 
--- the before-image of a row's key that had this record, or none
-abbrev image_with : Option (List ℕ) → ObjectEntry → ImageEntry
-image_with bytes r = record { kind = r.kind; key = r.key; bytes = bytes }
-
--- the before-image that says that the row's key had no object
-abbrev pub no_image : ObjectEntry → ImageEntry
-no_image r = image_with None r
-
 -- the before-image that says what the row's key has in this state
 abbrev pub image_now : State → ObjectEntry → ImageEntry
-image_now s r = image_with (record_at s.content r.kind r.key) r
+image_now s r = record { kind = r.kind; key = r.key; bytes = record_at s.content r.kind r.key }
+
+-- the keys of these rows have no object, if keys are said to be free
+abbrev pub AreFree : Targets → State → List ObjectEntry → Type 0
+AreFree targets s rows = targets ≡ Free
+    → All (λ (r : ObjectEntry). record_at s.content r.kind r.key ≡ None) rows
 
 -- a change gave before-images that say what the keys of these rows have
-abbrev pub AreImagesNow : {S : Type 0} → Ghosts S → List ObjectEntry → List ImageEntry → ChangeOf S
-    → ChangeOf S → Type 0
-AreImagesNow g rows images old new = IsHonest g (store_in new) → (s : State) → HoldsNow g old s
+abbrev pub AreImagesNow : {S : Type 0} → Ghosts S → Targets → List ObjectEntry → List ImageEntry
+    → ChangeOf S → ChangeOf S → Type 0
+AreImagesNow g targets rows images old new = IsHonest g (store_in new) → (s : State)
+    → AreFree targets s rows → HoldsNow g old s
     → (images ≡ map (image_now s) rows) × HoldsNow g new s
 
 -- a change has put the objects of these rows, and noted for the step what their keys had
@@ -43,16 +42,7 @@ FillsRows g step targets rows old new = IsHonest g (store_in new) → (s : State
     → AreRowsOf es rows → CanBePut targets s step (map with_object es) → HoldsNow g old s
     → HoldsNow g new (after_filling s step es)
 
--- a change has noted these before-images for the step, if they say what the keys of rows had
-abbrev pub NotesRows : {S : Type 0} → Ghosts S → ℕ → List ImageEntry → ChangeOf S → ChangeOf S
-    → Type 0
-NotesRows g step images old new = (s : State) (rows : List ObjectEntry) (es : List Entry)
-    → images ≡ map (image_now s) rows → AreRowsOf es rows → AreNew s step (map with_object es)
-    → HoldsNow g old s → HoldsNow g new (after_noting s step es)
-
 -- a change has put the objects of these rows, if it was noted for a step what their keys had
-abbrev pub PutsRows : {S : Type 0} → Ghosts S → Targets → List ObjectEntry → ChangeOf S → ChangeOf S
-    → Type 0
-PutsRows g targets rows old new = (s : State) (step : ℕ) (es : List Entry) → AreRowsOf es rows
-    → CanBePut targets s step (map with_object es) → HoldsNow g old (after_noting s step es)
-    → HoldsNow g new (after_filling s step es)
+abbrev pub PutsRows : {S : Type 0} → Ghosts S → List ObjectEntry → ChangeOf S → ChangeOf S → Type 0
+PutsRows g rows old new = (s : State) (step : ℕ) (es : List Entry) → AreRowsOf es rows
+    → HoldsNow g old (after_noting s step es) → HoldsNow g new (after_filling s step es)

@@ -24,6 +24,7 @@ use sqlite::Alter;
 
 impl<S: Alter> Store<S> {
     // The moment that is set, if one is.
+    #[tactic(auto, using(crate::proofs::Sure::read_here))]
     fn moment_here(&mut self) -> Result<Option<i64>, SFault>
         ensures read { IsStoreRead S.Store self.old self.new
             (λ c found. found ≡ moment_of c.moment) result }

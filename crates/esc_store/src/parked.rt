@@ -43,6 +43,7 @@ pub const MOST_PARKED: usize = 1024;
 
 impl<S: Alter> Store<S> {
     // The body that is parked under a digest, if one is.
+    #[tactic(auto, using(crate::proofs::Sure::read_here))]
     fn parked_here(&mut self, digest: &[u8]) -> Result<Option<Vec<u8>>, SFault>
         ensures read { IsStoreRead S.Store self.old self.new
             (λ c found. option_map (λ b. b.items) found ≡ parked_at digest.now c.parked) result }
@@ -53,6 +54,7 @@ impl<S: Alter> Store<S> {
     }
 
     // The digests of the parked bodies.
+    #[tactic(auto, using(crate::proofs::Sure::read_here))]
     fn digests_here(&mut self, alloc: Global) -> Result<Vec<Vec<u8>>, SFault>
         ensures read { IsStoreRead S.Store self.old self.new
             (λ c found. ListsParked c (map (λ d. d.items) found.items)) result }

@@ -15,6 +15,7 @@ ghost use Rattle.std.specs.Prelude.{
 ghost use Rattle.std.specs.Option.{option_and_then};
 ghost use Rattle.sqlite.specs.Held.{state};
 ghost use Rattle.sqlite.specs.State.{HasCleanDisk};
+ghost use Rattle.esc_envelope.specs.Kinds.{kind_rank};
 ghost use Rattle.esc_tables.specs.KeyName.{KeyName};
 ghost use Rattle.esc_tables.specs.ObjectValue.{ObjectValue};
 ghost use Rattle.esc_record.specs.Record.{record_of};
@@ -26,28 +27,13 @@ ghost use Rattle.esc_store.specs.Standing.{HoldsNow, Follows};
 ghost use Rattle.esc_store.specs.TypedRows.{record_at};
 
 use crate::change::Change;
-use crate::codec::object::kind_number;
 use crate::fault::SFault;
 use esc_rows::object::{clear_objects, delete_object, find_object, put_object};
 use esc_rows::undo::{StoredImage, clear_undo, delete_undo, insert_undo, select_undo};
-use esc_tables::Key;
 use sqlite::Alter;
 use std::alloc::Global;
 
 impl<'a, S: Alter> Change<'a, S> {
-    // The record at a key, if there is one.
-    pub(crate) fn find_record(&mut self, k: &Key) -> Result<Option<Vec<u8>>, SFault>
-        ensures count { self.new.count ≡ self.old.count }
-        ensures follows { Follows S.Store self.old self.new }
-        ensures found { IfOk result (λ found. HasCleanDisk (state S.Store self.new.store.now.conn)
-            → (s : State) → HoldsNow S.Store self.old s
-            → (option_map (λ b. b.items) found ≡ option_and_then record_of (s.content k.now))
-            × IfSome (s.content k.now) (λ x. IsSome (record_of x)) × HoldsNow S.Store self.new s) }
-        ensures cause { IfErr result IsS1OrS2 }
-    {
-        self.find_stored(kind_number(k.kind), k.text.as_bytes())
-    }
-
     // The record at the key with this kind's number and these bytes as its text, if there is one.
     pub(crate) fn find_stored(&mut self, kind: u32, text: &[u8]) -> Result<Option<Vec<u8>>, SFault>
         ensures count { self.new.count ≡ self.old.count }
@@ -55,7 +41,6 @@ impl<'a, S: Alter> Change<'a, S> {
         ensures found { IfOk result (λ found. HasCleanDisk (state S.Store self.new.store.now.conn)
             → (s : State) → HoldsNow S.Store self.old s
             → (option_map (λ b. b.items) found ≡ record_at s.content kind text.now)
-            × ((q : KeyName) → IfSome (s.content q) (λ x. IsSome (record_of x)))
             × HoldsNow S.Store self.new s) }
         ensures cause { IfErr result IsS1OrS2 }
     {
@@ -63,58 +48,50 @@ impl<'a, S: Alter> Change<'a, S> {
         self.store.settle(found)
     }
 
-    // Writes a record at a key.
-    pub(crate) fn put_record(&mut self, k: &Key, bytes: &[u8]) -> Result<(), SFault>
+    // Writes a record at the key with this kind's number and these bytes as its text.
+    pub(crate) fn put_stored(&mut self, kind: u32, text: &[u8], bytes: &[u8]) -> Result<(), SFault>
         ensures count { self.new.count ≡ self.old.count }
         ensures follows { Follows S.Store self.old self.new }
-        ensures written { OnOk result ((s : State) (o : ObjectValue)
-            → record_of o ≡ Some bytes.now
-            → HoldsNow S.Store self.old s → HoldsNow S.Store self.new (written s k.now (Some o))) }
+        ensures written { OnOk result ((s : State) (k : KeyName) (o : ObjectValue)
+            → kind ≡ kind_rank k.kind → text.now ≡ k.text → record_of o ≡ Some bytes.now
+            → HoldsNow S.Store self.old s → HoldsNow S.Store self.new (written s k (Some o))) }
         ensures cause { IfErr result IsS1OrS2 }
     {
-        let done = put_object(
-            &mut self.store.conn,
-            kind_number(k.kind),
-            k.text.as_bytes(),
-            bytes,
-        );
+        let done = put_object(&mut self.store.conn, kind, text, bytes);
         self.store.settle(done)
     }
 
-    // Removes the record of a key, if there is one.
-    pub(crate) fn remove_record(&mut self, k: &Key) -> Result<(), SFault>
+    // Removes the record of such a key, if there is one.
+    pub(crate) fn remove_stored(&mut self, kind: u32, text: &[u8]) -> Result<(), SFault>
         ensures count { self.new.count ≡ self.old.count }
         ensures follows { Follows S.Store self.old self.new }
-        ensures written { OnOk result ((s : State) → HoldsNow S.Store self.old s
-            → HoldsNow S.Store self.new (written s k.now None)) }
+        ensures written { OnOk result ((s : State) (k : KeyName)
+            → kind ≡ kind_rank k.kind → text.now ≡ k.text
+            → HoldsNow S.Store self.old s → HoldsNow S.Store self.new (written s k None)) }
         ensures cause { IfErr result IsS1OrS2 }
     {
-        let done = delete_object(&mut self.store.conn, kind_number(k.kind), k.text.as_bytes());
+        let done = delete_object(&mut self.store.conn, kind, text);
         self.store.settle(done)
     }
 
-    // Notes the record that a key had before a step, or that it had none.
-    pub(crate) fn note_record(
+    // Notes the record that such a key had before a step, or that it had none.
+    pub(crate) fn note_stored(
         &mut self,
         step: u32,
-        k: &Key,
+        kind: u32,
+        text: &[u8],
         before: Option<&[u8]>,
     ) -> Result<(), SFault>
         ensures count { self.new.count ≡ self.old.count }
         ensures follows { Follows S.Store self.old self.new }
-        ensures noted { OnOk result ((s : State) (o : _)
+        ensures noted { OnOk result ((s : State) (k : KeyName) (o : _)
+            → kind ≡ kind_rank k.kind → text.now ≡ k.text
             → option_and_then record_of o ≡ option_map (λ b. b.now) before.entry
             → IfSome o (λ x. IsSome (record_of x)) → HoldsNow S.Store self.old s
-            → HoldsNow S.Store self.new (noted s step k.now o)) }
+            → HoldsNow S.Store self.new (noted s step k o)) }
         ensures cause { IfErr result IsS1OrS2 }
     {
-        let done = insert_undo(
-            &mut self.store.conn,
-            step,
-            kind_number(k.kind),
-            k.text.as_bytes(),
-            before,
-        );
+        let done = insert_undo(&mut self.store.conn, step, kind, text, before);
         self.store.settle(done)
     }
 

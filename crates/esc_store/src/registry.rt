@@ -1,7 +1,7 @@
 //! A change as a registry of objects.
 
 use crate::change::Change;
-use crate::codec::object::{images_of, object_in, record_bytes};
+use crate::codec::object::{images_of, kind_number, object_in, record_bytes};
 use crate::fault::SFault;
 use esc_apply::{Registry, Targets};
 use esc_record::no_record_begins_another;
@@ -32,19 +32,19 @@ impl<'a, S: Alter> Registry for Change<'a, S> {
     ghost follows = { λ a b. Follows S.Store a b };
 
     fn get(&mut self, alloc: Global, k: &Key) -> Result<Option<Object>, SFault> {
-        let found = self.find_record(k)?;
+        let found = self.find_stored(kind_number(k.kind), k.text.as_bytes())?;
         object_in(alloc, found)
     }
 
     fn put(&mut self, alloc: Global, k: &Key, o: &Object) -> Result<(), SFault> {
         let record = record_bytes(alloc, o)?;
-        self.put_record(k, record.as_slice())?;
+        self.put_stored(kind_number(k.kind), k.text.as_bytes(), record.as_slice())?;
         self.count = self.count.saturating_add(1);
         Ok(())
     }
 
     fn remove(&mut self, k: &Key) -> Result<(), SFault> {
-        self.remove_record(k)?;
+        self.remove_stored(kind_number(k.kind), k.text.as_bytes())?;
         self.count = self.count.saturating_add(1);
         Ok(())
     }
@@ -61,12 +61,13 @@ impl<'a, S: Alter> Registry for Change<'a, S> {
         k: &Key,
         before: Option<&Object>,
     ) -> Result<(), SFault> {
+        let (kind, text) = (kind_number(k.kind), k.text.as_bytes());
         match before {
             Some(object) => {
                 let record = record_bytes(alloc, object)?;
-                self.note_record(step, k, Some(record.as_slice()))
+                self.note_stored(step, kind, text, Some(record.as_slice()))
             }
-            None => self.note_record(step, k, None),
+            None => self.note_stored(step, kind, text, None),
         }
     }
 

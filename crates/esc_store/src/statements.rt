@@ -1,5 +1,6 @@
 //! The statements of a store: each is one write or one read of its tables. Where one fails, a
 //! transaction that is on is rolled back.
+#![tactic(auto, using(crate::proofs::Sure::read_here))]
 
 ghost use Rattle.std.specs.Prelude.{◌≡◌, map, option_map, IfErr};
 ghost use Rattle.sqlite.specs.Held.{state};

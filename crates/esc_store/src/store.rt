@@ -165,6 +165,7 @@ impl<S: Alter> Store<S> {
     }
 
     /// The connection of the store, whose database stays as it is. Doesn't allocate.
+    #[tactic(auto, unfolding(crate::specs::Standing::Stands, crate::specs::Standing::HoldsKept))]
     pub fn into_connection(self) -> Connection<S>
         ensures same { result ≡ connection_of self }
         ensures holds { (k : Kept) → Stands S.Store self k → HoldsKept S.Store result k }
@@ -174,6 +175,7 @@ impl<S: Alter> Store<S> {
 
     /// The manifest: the rows with which the store was made, and those that were listed since.
     /// Doesn't allocate.
+    #[tactic(auto, unfolding(crate::specs::Standing::Stands))]
     pub fn manifest(&self) -> &Manifest
         ensures manifest { result.now ≡ rows_of self.now }
         ensures kept { (k : Kept) → Stands S.Store self.now k → result.now ≡ k.listed }

@@ -1,9 +1,4 @@
-use Rattle.std.proofs.Common.{◌∙◌, ap}
-use Rattle.std.proofs.lemmas.Result.{IfOk-at_ok}
-use Rattle.sqlite.specs.Effect.{Database}
-use Rattle.sqlite.specs.Held.{state}
-use Rattle.esc_store.specs.StandingLaws.{was_clean}
-use Rattle.esc_store.specs.ResultLaws.{if_ok}
+use Rattle.esc_store.proofs.Common.{◌∙◌, ap, IfOk-at_ok, Database, state, was_clean, if_ok}
 use Rattle.esc_store.proofs.FoundingLemmas.{made_fresh}
 use Rattle.esc_store.proofs.founding.build_here.Goals as goal
 

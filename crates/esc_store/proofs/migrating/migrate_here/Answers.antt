@@ -1,5 +1,4 @@
-use Rattle.sqlite.specs.Held.{state}
-use Rattle.esc_store.specs.StandingLaws.{was_clean}
+use Rattle.esc_store.proofs.Common.{state, was_clean}
 use Rattle.esc_store.proofs.Ends.{keeps_then}
 use Rattle.esc_store.proofs.OpeningLemmas.{at_rest, as_it_was}
 use Rattle.esc_store.proofs.MigratingLemmas.{sees_committed, given_up_survives}

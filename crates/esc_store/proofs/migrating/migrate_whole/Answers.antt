@@ -1,6 +1,4 @@
-use Rattle.std.proofs.lemmas.Result.{IfOk-at_ok}
-use Rattle.esc_rows.specs.ResultLaws.{if_goes}
-use Rattle.esc_store.specs.ResultLaws.{if_ok}
+use Rattle.esc_store.proofs.Common.{IfOk-at_ok, if_goes, if_ok}
 use Rattle.esc_store.proofs.MigratingLemmas.{tested, migrated_survives}
 use Rattle.esc_store.proofs.migrating.migrate_whole.Goals as goal
 

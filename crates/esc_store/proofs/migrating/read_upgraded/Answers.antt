@@ -1,12 +1,5 @@
-use Rattle.std.proofs.Common.{◌∙◌, ap, sym, subst, map}
-use Rattle.std.proofs.lemmas.Result.{IfOk-at_ok}
-use Rattle.sqlite.specs.Held.{state}
+use Rattle.esc_store.proofs.Common.{◌∙◌, ap, sym, subst, map, IfOk-at_ok, state, content_in, if_goes, IsStoreDatabase, was_clean, if_ok}
 use Rattle.esc_rows.specs.Entries.{listed_row}
-use Rattle.esc_rows.specs.Content.{content_in}
-use Rattle.esc_rows.specs.ResultLaws.{if_goes}
-use Rattle.esc_store.specs.StoreTables.{IsStoreDatabase}
-use Rattle.esc_store.specs.StandingLaws.{was_clean}
-use Rattle.esc_store.specs.ResultLaws.{if_ok}
 use Rattle.esc_store.proofs.migrating.read_upgraded.Goals as goal
 
 pub returns-clause-upgraded : goal.returns-clause-upgraded

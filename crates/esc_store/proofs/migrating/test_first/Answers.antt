@@ -1,8 +1,4 @@
-use Rattle.std.proofs.Common.{◌≡◌, ◌∙◌, ap, true, false, not, int_eq, Some}
-use Rattle.std.specs.Prelude.{pos}
-use Rattle.std.specs.Option.{option_eq}
-use Rattle.std.proofs.lemmas.Result.{IfOk-at_ok}
-use Rattle.sqlite.specs.Held.{state}
+use Rattle.esc_store.proofs.Common.{◌≡◌, ◌∙◌, ap, true, false, not, int_eq, Some, pos, option_eq, IfOk-at_ok, state}
 use Rattle.esc_store.proofs.MigratingLemmas.{tables_refused, version_told}
 use Rattle.esc_store.proofs.migrating.test_first.Goals as goal
 

@@ -1,9 +1,4 @@
-use Rattle.std.proofs.Common.{sym, subst}
-use Rattle.std.proofs.lemmas.Result.{IfOk-at_ok}
-use Rattle.sqlite.specs.Held.{state}
-use Rattle.esc_store.specs.FirstVersion.{IsFirstDatabase}
-use Rattle.esc_store.specs.StandingLaws.{was_clean}
-use Rattle.esc_store.specs.ResultLaws.{if_ok}
+use Rattle.esc_store.proofs.Common.{sym, subst, IfOk-at_ok, state, IsFirstDatabase, was_clean, if_ok}
 use Rattle.esc_store.proofs.MigratingLemmas.{upgraded}
 use Rattle.esc_store.proofs.migrating.upgrade_here.Goals as goal
 

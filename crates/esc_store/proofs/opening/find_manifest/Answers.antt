@@ -1,4 +1,4 @@
-use Rattle.esc_store.specs.StandingLaws.{was_clean}
+use Rattle.esc_store.proofs.Common.{was_clean}
 use Rattle.esc_store.proofs.Ends.{keeps_then}
 use Rattle.esc_store.proofs.OpeningLemmas.{at_rest, as_it_was}
 use Rattle.esc_store.proofs.opening.find_manifest.Goals as goal

@@ -1,11 +1,5 @@
-use Rattle.std.proofs.Common.{◌∙◌, ap, sym, subst, map}
-use Rattle.std.proofs.lemmas.Result.{IfOk-at_ok}
-use Rattle.sqlite.specs.Held.{state}
-use Rattle.sqlite.specs.Effect.{Database}
+use Rattle.esc_store.proofs.Common.{◌∙◌, ap, sym, subst, map, IfOk-at_ok, state, Database, content_in, HoldsContent, if_goes, was_clean}
 use Rattle.esc_rows.specs.Entries.{listed_row}
-use Rattle.esc_rows.specs.Content.{content_in, HoldsContent}
-use Rattle.esc_rows.specs.ResultLaws.{if_goes}
-use Rattle.esc_store.specs.StandingLaws.{was_clean}
 use Rattle.esc_store.proofs.opening.read_manifest.Goals as goal
 
 pub returns-clause-manifest : goal.returns-clause-manifest

@@ -1,4 +1,4 @@
-use Rattle.std.proofs.Common.{◌≡◌, map, take}
+use Rattle.esc_store.proofs.Common.{◌≡◌, map, take}
 use Rattle.esc_store.proofs.parked.digests_of.Given as goal
 
 abbrev pub invariant-loop-bytes : goal.invariant-loop-bytes

@@ -1,6 +1,6 @@
-use Rattle.std.proofs.Common.{◌≡◌, ◌+◌, arith, refl, sym}
-use Rattle.esc_store.specs.ResultLaws.{if_ok}
-use Rattle.esc_store.proofs.RowSteps.{become_turns, books_steps, registry_steps, numbered}
+use Rattle.esc_store.proofs.Common.{◌≡◌, ◌+◌, arith, refl, sym, if_ok}
+use Rattle.esc_store.proofs.RowSteps.{books_steps, numbered}
+use Rattle.esc_store.proofs.Parts.{registry_same, become_turns}
 use Rattle.esc_store.proofs.Following.{stepped, goes_step, made_then, holds_all}
 use Rattle.esc_store.proofs.change.Change+S.continue_chain.Goals as goal
 
@@ -22,4 +22,4 @@ returns-clause-holds g c =
     let at : c.args.front + 1 ≡ c.in_ok-from.from = omega (arith, c.in_ok-from.ensures.number, c.saturating_add.ensures) in
     let done = c.continue_steps_here.ensures in
     holds_all (stepped done.manifest done.writes (done.step _ (numbered _ _ _ _ _ at c.as_slice.ensures.value c.in_ok-stored.ensures.rows)) (become_turns _))
-    (λ s. registry_steps s _ _)
+    (λ _ _ _ turn. registry_same turn.is refl refl)

@@ -1,10 +1,7 @@
-use Rattle.std.proofs.Common.{◌∙◌, ◌+◌, ap, refl, arith}
-use Rattle.std.proofs.lemmas.Result.{IfOk-at_ok}
-use Rattle.esc_store.specs.ResultLaws.{if_ok}
-use Rattle.esc_store.specs.StandingLaws.{was_clean}
-use Rattle.esc_store.proofs.RowSteps.{become_turns, books_receipt, registry_receipt, receipts_made}
+use Rattle.esc_store.proofs.Common.{◌∙◌, ◌+◌, ap, refl, arith, IfOk-at_ok, IfErr-weaker, if_ok, was_clean}
+use Rattle.esc_store.proofs.RowSteps.{books_receipt, receipts_made}
+use Rattle.esc_store.proofs.Parts.{registry_same, become_turns}
 use Rattle.esc_store.proofs.Following.{stepped, goes_step, made_all, holds_all}
-use Rattle.esc_store.proofs.Looking.{if_err}
 use Rattle.esc_store.proofs.change.Change+S.record_receipt.Goals as goal
 
 pub returns-clause-goes_on : goal.returns-clause-goes_on
@@ -21,11 +18,12 @@ returns-clause-number g c = if_ok c.add_next_here.result _ (λ n is clean before
     IfOk-at_ok _ is c.add_next_here.ensures.number clean _ kept.0 ∙ ap (λ n. n + 1) kept.1)
 
 pub returns-clause-full : goal.returns-clause-full
-returns-clause-full g c = if_err c.add_next_here.result _ _ c.add_next_here.ensures.full (λ e full is clean before k made.
+returns-clause-full g c = IfErr-weaker c.add_next_here.result _ _ (λ e full is clean before k made.
     let it = full is clean in
     let kept = receipts_made _ _ _ before k (was_clean c.add_next_here.ensures.step.survives clean) it.0 made in
     omega (arith, it.1 _ kept.0, kept.1))
+    c.add_next_here.ensures.full
 
 pub returns-clause-holds : goal.returns-clause-holds
 returns-clause-holds g c = holds_all (stepped c.add_next_here.ensures.manifest c.add_next_here.ensures.writes c.add_next_here.ensures.step (become_turns _))
-    (λ s. registry_receipt s _)
+    (λ _ _ _ turn. registry_same turn.is refl refl)

@@ -1,4 +1,4 @@
-use Rattle.std.proofs.Common.{◌∙◌}
+use Rattle.esc_store.proofs.Common.{◌∙◌}
 use Rattle.esc_store.specs.Standing.{BeganIn, Stands}
 use Rattle.esc_store.proofs.Ends.{given_up, begun_committed}
 use Rattle.esc_store.proofs.change.Change.drop.Goals as goal

@@ -1,5 +1,4 @@
-use Rattle.std.proofs.Common.{◌∙◌, arith}
-use Rattle.std.proofs.lemmas.List.{take_all}
+use Rattle.esc_store.proofs.Common.{◌∙◌, arith, take_all}
 use Rattle.esc_store.proofs.codec.manifest.digest_of.Goals as goal
 
 pub returns-in-Some-clause-digest : goal.returns-in-Some-clause-digest

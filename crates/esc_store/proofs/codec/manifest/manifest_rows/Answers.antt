@@ -1,5 +1,4 @@
-use Rattle.std.proofs.Common.{◌∙◌, ap, arith}
-use Rattle.std.proofs.lemmas.List.{take_all}
+use Rattle.esc_store.proofs.Common.{◌∙◌, ap, arith, take_all}
 use Rattle.esc_rows.specs.Entries.{listed_row as stored_row}
 use Rattle.esc_store.proofs.Manifests.{one_row, listed_size}
 use Rattle.esc_store.proofs.codec.manifest.manifest_rows.Goals as goal

@@ -1,7 +1,5 @@
-use Rattle.std.proofs.Common.{◌≡◌, List, map, take}
-use Rattle.esc_manifest.specs.declared.row.MRow.{MRow}
+use Rattle.esc_store.proofs.Common.{◌≡◌, List, map, take, MRow, listed_from}
 use Rattle.esc_rows.specs.Entries.{listed_row as stored_row}
-use Rattle.esc_store.specs.TypedRows.{listed_from}
 use Rattle.esc_store.proofs.codec.manifest.manifest_rows.Given as goal
 
 abbrev pub invariant-loop-at : goal.invariant-loop-at

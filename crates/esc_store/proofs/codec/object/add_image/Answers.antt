@@ -1,7 +1,4 @@
-use Rattle.std.proofs.Common.{sym, ◌∙◌}
-use Rattle.std.proofs.lemmas.Result.{IfOk-at_ok}
-use Rattle.esc_rows.specs.Entries.{image_of}
-use Rattle.esc_store.specs.ResultLaws.{if_ok}
+use Rattle.esc_store.proofs.Common.{sym, ◌∙◌, IfOk-at_ok, image_of, if_ok}
 use Rattle.esc_store.proofs.Gathering.{image_more}
 use Rattle.esc_store.proofs.codec.object.add_image.Goals as goal
 

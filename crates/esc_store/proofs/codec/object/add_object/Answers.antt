@@ -1,7 +1,4 @@
-use Rattle.std.proofs.Common.{sym, ap, ◌∙◌, Some}
-use Rattle.std.proofs.lemmas.Result.{IfOk-at_ok}
-use Rattle.esc_rows.specs.Entries.{object_of}
-use Rattle.esc_store.specs.ResultLaws.{if_ok}
+use Rattle.esc_store.proofs.Common.{sym, ap, ◌∙◌, Some, IfOk-at_ok, object_of, if_ok}
 use Rattle.esc_store.proofs.Gathering.{object_more}
 use Rattle.esc_store.proofs.codec.object.add_object.Goals as goal
 

@@ -1,7 +1,4 @@
-use Rattle.std.proofs.Common.{◌∙◌, ap, arith, map}
-use Rattle.std.proofs.lemmas.List.{take_all}
-use Rattle.esc_rows.specs.Entries.{object_of}
-use Rattle.esc_store.specs.Pages.{entry_row, stored_row}
+use Rattle.esc_store.proofs.Common.{◌∙◌, ap, arith, map, take_all, object_of, entry_row, stored_row}
 use Rattle.esc_store.proofs.Paging.{one_entry}
 use Rattle.esc_store.proofs.codec.object.entries_of.Goals as goal
 

@@ -1,6 +1,4 @@
-use Rattle.std.proofs.Common.{◌≡◌, map, take}
-use Rattle.esc_rows.specs.Entries.{object_of}
-use Rattle.esc_store.specs.Pages.{entry_row, stored_row}
+use Rattle.esc_store.proofs.Common.{◌≡◌, map, take, object_of, entry_row, stored_row}
 use Rattle.esc_store.proofs.codec.object.entries_of.Given as goal
 
 abbrev pub invariant-loop-at : goal.invariant-loop-at

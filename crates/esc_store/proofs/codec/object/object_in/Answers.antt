@@ -1,4 +1,4 @@
-use Rattle.std.proofs.Common.{ap, ◌∙◌, Some}
+use Rattle.esc_store.proofs.Common.{ap, ◌∙◌, Some}
 use Rattle.esc_store.proofs.Registries.{one_object}
 use Rattle.esc_store.proofs.codec.object.object_in.Goals as goal
 

@@ -1,5 +1,4 @@
-use Rattle.std.proofs.lemmas.Map.Keys.{IsDistinct-from_sorted}
-use Rattle.esc_tables.specs.KeyName.{key_cmp}
+use Rattle.esc_store.proofs.Common.{IsDistinct-from_sorted, key_cmp}
 use Rattle.esc_store.proofs.codec.object.objects_of.Goals as goal
 
 pub returns-clause-once : goal.returns-clause-once

@@ -1,7 +1,5 @@
-use Rattle.std.proofs.Common.{eqb, sym, ap, subst, ◌∙◌}
-use Rattle.std.specs.List.{dedup}
+use Rattle.esc_store.proofs.Common.{eqb, sym, ap, subst, ◌∙◌, dedup, AreOnce}
 use Rattle.std.proofs.lemmas.List.Filters.{dedup_is}
-use Rattle.esc_store.specs.Decoded.{AreOnce}
 use Rattle.esc_store.proofs.ReceiptRows.{are_once}
 use Rattle.esc_store.proofs.codec.receipt.distinct_indices_of.Goals as goal
 

@@ -1,4 +1,4 @@
-use Rattle.std.proofs.Common.{◌≡◌, take}
+use Rattle.esc_store.proofs.Common.{◌≡◌, take}
 use Rattle.esc_store.proofs.codec.receipt.indices_of.Given as goal
 
 abbrev pub invariant-loop-number : goal.invariant-loop-number

@@ -1,7 +1,4 @@
-use Rattle.std.proofs.Common.{◌∙◌, ap, arith}
-use Rattle.std.proofs.lemmas.List.{take_all}
-use Rattle.esc_rows.specs.Entries.{receipt_row}
-use Rattle.esc_store.specs.ReplyValue.{replies_from}
+use Rattle.esc_store.proofs.Common.{◌∙◌, ap, arith, take_all, receipt_row, replies_from}
 use Rattle.esc_store.proofs.Decoding.{one_reply, receipts_size}
 use Rattle.esc_store.proofs.codec.receipt.replies_of.Goals as goal
 

@@ -1,7 +1,4 @@
-use Rattle.std.proofs.Common.{◌≡◌, List, map, take}
-use Rattle.esc_rows.specs.Entries.{receipt_row}
-use Rattle.esc_store.specs.ReplyValue.{ReceiptValue, replies_from}
-use Rattle.esc_store.specs.TypedRows.{receipts_from}
+use Rattle.esc_store.proofs.Common.{◌≡◌, List, map, take, receipt_row, ReceiptValue, replies_from, receipts_from}
 use Rattle.esc_store.proofs.codec.receipt.replies_of.Given as goal
 
 abbrev pub invariant-loop-at : goal.invariant-loop-at

@@ -1,5 +1,4 @@
-use Rattle.std.proofs.Common.{◌∙◌, sym, ap, Some}
-use Rattle.esc_rows.specs.Entries.{receipt_row}
+use Rattle.esc_store.proofs.Common.{◌∙◌, sym, ap, Some, receipt_row}
 use Rattle.esc_store.proofs.Decoding.{found_as, none_found}
 use Rattle.esc_store.proofs.codec.receipt.reply_found.Goals as goal
 

@@ -1,6 +1,4 @@
-use Rattle.std.proofs.Common.{◌∙◌, ap, arith, map}
-use Rattle.std.proofs.lemmas.List.{take_all}
-use Rattle.esc_store.specs.Kept.{step_at}
+use Rattle.esc_store.proofs.Common.{◌∙◌, ap, arith, map, take_all, step_at}
 use Rattle.esc_store.proofs.Decoding.{one_step}
 use Rattle.esc_store.proofs.RowSteps.{same_length}
 use Rattle.esc_store.proofs.codec.step.steps_of.Goals as goal

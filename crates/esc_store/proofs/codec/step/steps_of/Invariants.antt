@@ -1,7 +1,4 @@
-use Rattle.std.proofs.Common.{◌≡◌, List, ℕ, map, take}
-use Rattle.esc_rows.specs.Entries.{step_row}
-use Rattle.esc_store.specs.Kept.{step_at}
-use Rattle.esc_store.specs.TypedRows.{steps_from}
+use Rattle.esc_store.proofs.Common.{◌≡◌, List, ℕ, map, take, step_row, step_at, steps_from}
 use Rattle.esc_store.proofs.codec.step.steps_of.Given as goal
 
 abbrev pub invariant-loop-at : goal.invariant-loop-at

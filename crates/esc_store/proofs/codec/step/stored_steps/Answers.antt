@@ -1,6 +1,4 @@
-use Rattle.std.proofs.Common.{◌≡◌, ◌+◌, ◌∙◌, map, ap, arith}
-use Rattle.std.proofs.lemmas.List.{map-append}
-use Rattle.esc_rows.specs.Entries.{step_row}
+use Rattle.esc_store.proofs.Common.{◌≡◌, ◌+◌, ◌∙◌, map, ap, arith, map-append, step_row}
 use Rattle.esc_store.proofs.RowSteps.{steps_stored}
 use Rattle.esc_store.proofs.codec.step.stored_steps.Goals as goal
 

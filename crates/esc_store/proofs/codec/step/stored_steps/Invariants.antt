@@ -1,6 +1,4 @@
-use Rattle.std.proofs.Common.{◌≡◌, ◌+◌, map, take}
-use Rattle.esc_rows.specs.Entries.{step_row}
-use Rattle.esc_store.specs.TypedRows.{steps_from}
+use Rattle.esc_store.proofs.Common.{◌≡◌, ◌+◌, map, take, step_row, steps_from}
 use Rattle.esc_store.proofs.codec.step.stored_steps.Given as goal
 
 abbrev pub invariant-loop-at : goal.invariant-loop-at

@@ -1,4 +1,4 @@
-use Rattle.std.proofs.Common.{◌≡◌, take}
+use Rattle.esc_store.proofs.Common.{◌≡◌, take}
 use Rattle.esc_store.specs.Decoded.{all_kinds, counted_of}
 use Rattle.esc_store.proofs.counts.KindCounts.by_kind.Given as goal
 

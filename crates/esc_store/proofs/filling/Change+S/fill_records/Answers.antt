@@ -1,8 +1,4 @@
-use Rattle.std.proofs.Common.{◌∙◌, [], refl}
-use Rattle.std.proofs.lemmas.Result.{on_ok_weaker}
-use Rattle.esc_store.specs.Filling.{after_filling}
-use Rattle.esc_store.specs.Standing.{HoldsNow}
-use Rattle.esc_store.specs.StandingLaws.{was_clean}
+use Rattle.esc_store.proofs.Common.{◌∙◌, [], refl, on_ok_weaker, after_filling, HoldsNow, was_clean}
 use Rattle.esc_store.proofs.Filled.{follows_then, filling_first, filling_more, filling_all, filling_last}
 use Rattle.esc_store.proofs.Parking.{follows_same}
 use Rattle.esc_store.proofs.filling.Change+S.fill_records.Goals as goal
@@ -15,8 +11,8 @@ loop-key-init g c = record {
       (c.into_iter-key-iterator.ensures.into_iter_gives ∙ c.iter-key-items.ensures.rest) can held;
 }
 
-pub loop-key-preserved-then-len-lt-ROWS_AT_ONCE : goal.loop-key-preserved-then-len-lt-ROWS_AT_ONCE
-loop-key-preserved-then-len-lt-ROWS_AT_ONCE g c = record {
+pub loop-key-preserved-then-len-ne-ROWS_AT_ONCE : goal.loop-key-preserved-then-len-ne-ROWS_AT_ONCE
+loop-key-preserved-then-len-ne-ROWS_AT_ONCE g c = record {
   follows = c.loop-key.invariant.follows;
   count = c.loop-key.invariant.count;
   filling = λ honest s can held.
@@ -38,9 +34,9 @@ loop-key-preserved g c = record {
 }
 
 pub returns-clause-filled : goal.returns-clause-filled
-returns-clause-filled g c = on_ok_weaker c.fill_rows-2.result (λ put honest s can held.
+returns-clause-filled g c = on_ok_weaker c.fill_each.result (λ put honest s can held.
     let end = after_filling s c.args.step c.args.objects.now.entries in
-    filling_last (HoldsNow g.S.Store c.fill_rows-2.new.self) c.args.targets end c.args.step [] _ refl c.in-None.ensures.steps.0
-    (filling_all (HoldsNow g.S.Store c.loop-key.self) (HoldsNow g.S.Store c.fill_rows-2.new.self) c.args.targets end c.args.step _ _ [] _
-    c.as_slice-2.ensures.value refl (c.loop-key.invariant.filling (was_clean c.fill_rows-2.ensures.follows.goes_on.survives honest) s can held) (put honest)))
-    c.fill_rows-2.ensures.filled
+    filling_last (HoldsNow g.S.Store c.fill_each.new.self) c.args.targets end c.args.step [] _ refl c.in-None.ensures.steps.0
+    (filling_all (HoldsNow g.S.Store c.loop-key.self) (HoldsNow g.S.Store c.fill_each.new.self) c.args.targets end c.args.step _ _ [] _
+    c.as_slice-2.ensures.value refl (c.loop-key.invariant.filling (was_clean c.fill_each.ensures.follows.goes_on.survives honest) s can held) (put honest)))
+    c.fill_each.ensures.filled

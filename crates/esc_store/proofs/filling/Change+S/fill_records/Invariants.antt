@@ -1,9 +1,4 @@
-use Rattle.std.proofs.Common.{◌≡◌, map}
-use Rattle.esc_apply.specs.Registry.{State}
-use Rattle.esc_apply.specs.Changes.{with_object, CanBePut}
-use Rattle.esc_rows.specs.Entries.{new_entry}
-use Rattle.esc_store.specs.Filling.{after_filling}
-use Rattle.esc_store.specs.Standing.{HoldsNow, Follows, IsHonest, store_in}
+use Rattle.esc_store.proofs.Common.{◌≡◌, map, State, with_object, CanBePut, new_entry, after_filling, HoldsNow, Follows, IsHonest, store_in}
 use Rattle.esc_store.proofs.Filled.{Filling}
 use Rattle.esc_store.proofs.filling.Change+S.fill_records.Given as goal
 

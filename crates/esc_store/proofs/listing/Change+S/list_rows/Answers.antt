@@ -1,11 +1,5 @@
-use Rattle.std.proofs.Common.{◌≡◌, ◌∙◌, Some, length, take, get_or, refl, sym, ap, subst, arith}
-use Rattle.std.proofs.lemmas.List.{take_more, take_all, length-take-le}
-use Rattle.esc_manifest.specs.ManifestRows.{no_row}
+use Rattle.esc_store.proofs.Common.{◌≡◌, ◌∙◌, Some, length, take, get_or, refl, sym, ap, subst, arith, take_more, take_all, length-take-le, no_row, with_listed, listed_row, RestIn, goes_then}
 use Rattle.esc_rows.specs.Entries.{listed_row as stored_row}
-use Rattle.esc_store.specs.Kept.{with_listed}
-use Rattle.esc_store.specs.TypedRows.{listed_row}
-use Rattle.esc_store.specs.Standing.{RestIn}
-use Rattle.esc_store.specs.StandingLaws.{goes_then}
 use Rattle.esc_store.proofs.Manifests.{stored_get, listed_size}
 use Rattle.esc_store.proofs.Parking.{follows_same}
 use Rattle.esc_store.proofs.listing.Change+S.list_rows.Goals as goal

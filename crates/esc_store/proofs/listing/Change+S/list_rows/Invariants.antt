@@ -1,10 +1,5 @@
-use Rattle.std.proofs.Common.{◌≡◌, List, Some, map, take}
-use Rattle.esc_manifest.specs.declared.row.MRow.{MRow}
-use Rattle.esc_apply.specs.Registry.{State}
+use Rattle.esc_store.proofs.Common.{◌≡◌, List, Some, map, take, MRow, State, Kept, with_listed, listed_from, RestIn, HoldsNow, GoesOn}
 use Rattle.esc_rows.specs.Entries.{listed_row as stored_row}
-use Rattle.esc_store.specs.Kept.{Kept, with_listed}
-use Rattle.esc_store.specs.TypedRows.{listed_from}
-use Rattle.esc_store.specs.Standing.{RestIn, HoldsNow, GoesOn}
 use Rattle.esc_store.proofs.listing.Change+S.list_rows.Given as goal
 
 abbrev pub invariant-loop-at : goal.invariant-loop-at

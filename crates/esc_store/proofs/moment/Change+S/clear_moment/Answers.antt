@@ -1,6 +1,6 @@
-use Rattle.std.proofs.Common.{refl}
-use Rattle.esc_store.proofs.RowSteps.{become_turns}
-use Rattle.esc_store.proofs.Parking.{books_no_moment, registry_no_moment}
+use Rattle.esc_store.proofs.Common.{refl}
+use Rattle.esc_store.proofs.Parking.{books_no_moment}
+use Rattle.esc_store.proofs.Parts.{registry_same, become_turns}
 use Rattle.esc_store.proofs.Following.{moved, goes_step, made_all, holds_all}
 use Rattle.esc_store.proofs.moment.Change+S.clear_moment.Goals as goal
 
@@ -11,4 +11,4 @@ pub returns-clause-cleared : goal.returns-clause-cleared
 returns-clause-cleared g c = made_all (moved c.settle.ensures c.clear_moment-done.ensures.part (become_turns _)) _ (λ _. refl) books_no_moment
 
 pub returns-clause-holds : goal.returns-clause-holds
-returns-clause-holds g c = holds_all (moved c.settle.ensures c.clear_moment-done.ensures.part (become_turns _)) registry_no_moment
+returns-clause-holds g c = holds_all (moved c.settle.ensures c.clear_moment-done.ensures.part (become_turns _)) (λ _ _ _ turn. registry_same turn.is refl refl)

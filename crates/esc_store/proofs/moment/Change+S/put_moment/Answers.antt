@@ -1,6 +1,8 @@
-use Rattle.std.proofs.Common.{refl, w64}
+use Rattle.esc_store.proofs.Common.{refl}
+use Rattle.std.proofs.Common.{w64}
 use Rattle.std.proofs.lemmas.Int.{to_z-of_z}
-use Rattle.esc_store.proofs.Parking.{moment_turns, books_moment, registry_moment}
+use Rattle.esc_store.proofs.Parking.{moment_turns, books_moment}
+use Rattle.esc_store.proofs.Parts.{registry_same}
 use Rattle.esc_store.proofs.Following.{moved, goes_step, made_all, holds_all}
 use Rattle.esc_store.proofs.moment.Change+S.put_moment.Goals as goal
 
@@ -13,4 +15,4 @@ returns-clause-put g c = made_all (moved c.settle.ensures c.insert_moment-done.e
 
 pub returns-clause-holds : goal.returns-clause-holds
 returns-clause-holds g c = holds_all (moved c.settle.ensures c.insert_moment-done.ensures.part (moment_turns _ _ (to_z-of_z w64 _ c.ranges.moment)))
-    (λ s. registry_moment s _)
+    (λ _ _ _ turn. registry_same turn.is refl refl)

@@ -1,10 +1,5 @@
-use Rattle.std.proofs.Common.{None, sym, subst, arith}
-use Rattle.std.proofs.lemmas.Result.{IfOk-at_ok}
-use Rattle.sqlite.specs.Held.{state}
-use Rattle.sqlite.specs.State.{HasCleanDisk}
-use Rattle.esc_store.specs.Kept.{with_body, with_parked}
+use Rattle.esc_store.proofs.Common.{None, sym, subst, arith, IfOk-at_ok, state, HasCleanDisk, with_body, with_parked, if_ok}
 use Rattle.esc_store.specs.Standing.{Rest}
-use Rattle.esc_store.specs.ResultLaws.{if_ok}
 use Rattle.esc_store.proofs.parked.Change+S.adopt.Goals as goal
 
 pub returns-clause-adopted : goal.returns-clause-adopted

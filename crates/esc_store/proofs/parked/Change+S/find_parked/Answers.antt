@@ -1,5 +1,4 @@
-use Rattle.std.specs.Prelude.{option_map}
-use Rattle.esc_store.specs.ResultLaws.{if_ok}
+use Rattle.esc_store.proofs.Common.{option_map, if_ok}
 use Rattle.esc_store.proofs.Sure.{read_settled}
 use Rattle.esc_store.proofs.Looking.{follows_look, holds_look}
 use Rattle.esc_store.proofs.Parking.{follows_same, found_parked}

@@ -1,11 +1,12 @@
-use Rattle.esc_store.specs.ResultLaws.{if_ok}
-use Rattle.esc_store.proofs.Registries.{undo_turns, books_no_undo, undo_gone}
+use Rattle.esc_store.proofs.Common.{if_ok}
+use Rattle.esc_store.proofs.Parts.{become_turns}
+use Rattle.esc_store.proofs.Registries.{books_images, undo_gone}
 use Rattle.esc_store.proofs.Following.{moved, follows_step, holds_step}
 use Rattle.esc_store.proofs.records.Change+S.clear_notes.Goals as goal
 
 pub returns-clause-follows : goal.returns-clause-follows
-returns-clause-follows g c = follows_step (moved c.settle.ensures c.clear_undo-done.ensures.part undo_turns) books_no_undo
+returns-clause-follows g c = follows_step (moved c.settle.ensures c.clear_undo-done.ensures.part (become_turns _)) (λ _ _ _ turn. books_images turn.is)
 
 pub returns-clause-cleared : goal.returns-clause-cleared
 returns-clause-cleared g c = if_ok c.settle.result _ (λ x is s.
-    holds_step (moved c.settle.ensures c.clear_undo-done.ensures.part undo_turns) is (undo_gone s))
+    holds_step (moved c.settle.ensures c.clear_undo-done.ensures.part (become_turns _)) is (undo_gone s))

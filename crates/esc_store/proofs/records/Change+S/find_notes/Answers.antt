@@ -1,4 +1,4 @@
-use Rattle.esc_store.specs.ResultLaws.{if_ok}
+use Rattle.esc_store.proofs.Common.{if_ok}
 use Rattle.esc_store.proofs.Gathering.{notes_are}
 use Rattle.esc_store.proofs.Sure.{read_settled}
 use Rattle.esc_store.proofs.Looking.{follows_look, says_look}

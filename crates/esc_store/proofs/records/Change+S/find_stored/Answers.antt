@@ -1,5 +1,4 @@
-use Rattle.std.proofs.Common.{◌∙◌}
-use Rattle.esc_store.specs.ResultLaws.{if_ok}
+use Rattle.esc_store.proofs.Common.{◌∙◌, if_ok}
 use Rattle.esc_store.proofs.Sure.{read_settled}
 use Rattle.esc_store.proofs.Looking.{follows_look, says_look}
 use Rattle.esc_store.proofs.records.Change+S.find_stored.Goals as goal
@@ -10,4 +9,4 @@ returns-clause-follows g c = follows_look (read_settled c.settle.ensures c.find_
 pub returns-clause-found : goal.returns-clause-found
 returns-clause-found g c = if_ok c.settle.result _ (λ x is clean s goes.
     let said = says_look (read_settled c.settle.ensures c.find_object-found.ensures.read) is clean goes in
-    (said.2 ∙ said.1.objects c.args.kind c.args.text.now, said.1.recorded, said.3))
+    (said.2 ∙ said.1.objects c.args.kind c.args.text.now, said.3))

@@ -1,10 +1,4 @@
-use Rattle.std.proofs.Common.{arith, subst, map}
-use Rattle.std.proofs.lemmas.Map.Keys.{IsDistinct-from_sorted}
-use Rattle.sqlite.specs.Held.{state}
-use Rattle.sqlite.specs.State.{HasCleanDisk}
-use Rattle.esc_tables.specs.KeyName.{key_cmp}
-use Rattle.esc_rows.specs.Entries.{image_of}
-use Rattle.esc_store.specs.Decoded.{AreImagesOf}
+use Rattle.esc_store.proofs.Common.{arith, subst, map, IsDistinct-from_sorted, state, HasCleanDisk, key_cmp, image_of, AreImagesOf}
 use Rattle.esc_store.proofs.Gathering.{images_are}
 use Rattle.esc_store.proofs.registry.ChangeRegistry.take_undo.Goals as goal
 

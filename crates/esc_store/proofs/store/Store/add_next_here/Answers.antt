@@ -1,5 +1,4 @@
-use Rattle.std.proofs.Common.{◌∙◌, ◌+◌, ap}
-use Rattle.esc_store.specs.StandingLaws.{was_clean}
+use Rattle.esc_store.proofs.Common.{◌∙◌, ◌+◌, ap, was_clean}
 use Rattle.esc_store.proofs.RowSteps.{step_next, last_told}
 use Rattle.esc_store.proofs.store.Store.add_next_here.Goals as goal
 

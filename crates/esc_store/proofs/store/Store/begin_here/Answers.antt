@@ -1,12 +1,7 @@
-use Rattle.std.proofs.Common.{◌∙◌}
-use Rattle.std.proofs.lemmas.Result.{IfOk-at_ok}
-use Rattle.sqlite.proofs.StateLemmas.{survives_then}
-use Rattle.esc_rows.specs.ResultLaws.{if_goes}
+use Rattle.esc_store.proofs.Common.{◌∙◌, IfOk-at_ok, IfErr-weaker, survives_then, if_goes, was_clean}
 use Rattle.esc_store.specs.Standing.{Stands, BeganIn, RestIn, HoldsIn}
-use Rattle.esc_store.specs.StandingLaws.{was_clean}
 use Rattle.esc_store.proofs.Ends.{began, made, under_way, given_up, keeps_then}
 use Rattle.esc_store.proofs.store.Store.begin_here.Goals as goal
-use Rattle.esc_store.proofs.Looking.{if_err}
 
 pub returns-clause-began : goal.returns-clause-began
 unfolding Stands BeganIn
@@ -25,9 +20,10 @@ returns-clause-holds g c = if_goes c.settle.result _ _ c.settle.ensures.settled.
 
 pub returns-clause-stands : goal.returns-clause-stands
 unfolding Stands
-returns-clause-stands g c = if_err c.settle.result _ _ c.settle.ensures.settled.err (λ e p k stands.
+returns-clause-stands g c = IfErr-weaker c.settle.result _ _ (λ e p k stands.
     given_up _ _ _ _ _ k (λ trees. ⊥)
     (survives_then _ _ _ _ _ _ (λ _ db none. none) (λ _ db none. none) c.begin_in-begun.ensures.survives p.1.survives)
     (λ clean. keeps_then _ _ _ (c.begin_in-begun.ensures.kept (was_clean p.1.survives clean)) (p.1.kept clean))
     p.1.ended p.1.settled (c.settle.ensures.manifest ∙ stands.listed) (λ clean up. (stands.rests clean up).kept)
     c.settle.ensures.counted stands.counted)
+    c.settle.ensures.settled.err

@@ -1,5 +1,4 @@
-use Rattle.std.proofs.Common.{◌∙◌, ap}
-use Rattle.esc_store.specs.ResultLaws.{if_ok}
+use Rattle.esc_store.proofs.Common.{◌∙◌, ap, if_ok}
 use Rattle.esc_store.proofs.Sure.{told_at}
 use Rattle.esc_store.proofs.store.Store.body_of.Goals as goal
 

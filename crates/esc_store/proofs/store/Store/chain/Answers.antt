@@ -1,8 +1,4 @@
-use Rattle.std.proofs.Common.{map}
-use Rattle.esc_rows.specs.Entries.{step_row}
-use Rattle.esc_store.specs.Kept.{step_at}
-use Rattle.std.proofs.Common.{◌∙◌, ap}
-use Rattle.esc_rows.specs.ResultLaws.{if_goes}
+use Rattle.esc_store.proofs.Common.{map, step_row, step_at, ◌∙◌, ap, if_goes}
 use Rattle.esc_store.proofs.Reading.{stands_listed}
 use Rattle.esc_store.proofs.Sure.{told_of}
 use Rattle.esc_store.proofs.store.Store.chain.Goals as goal

@@ -1,9 +1,4 @@
-use Rattle.std.proofs.Common.{◌∙◌, List, ℕ, subst, sym, take, get_or, arith, Ok}
-use Rattle.sqlite.specs.Held.{state}
-use Rattle.std.proofs.lemmas.List.{take_more, take_all}
-use Rattle.esc_store.specs.declared.fault.SFault.{SFault}
-use Rattle.esc_store.specs.ChangeParts.{ContinuesSteps}
-use Rattle.esc_store.specs.Standing.{IsStep}
+use Rattle.esc_store.proofs.Common.{◌∙◌, List, ℕ, subst, sym, take, get_or, arith, Ok, state, take_more, take_all, SFault, ContinuesSteps, IsStep}
 use Rattle.esc_store.proofs.RowSteps.{steps_cut, steps_more, step_nth, same_length}
 use Rattle.esc_store.proofs.store.Store.continue_steps_here.Goals as goal
 

@@ -1,10 +1,4 @@
-use Rattle.std.proofs.Common.{◌≡◌, List, ℕ, map, take, Ok}
-use Rattle.sqlite.specs.Held.{state}
-use Rattle.esc_rows.specs.Entries.{step_row}
-use Rattle.esc_store.specs.declared.fault.SFault.{SFault}
-use Rattle.esc_store.specs.TypedRows.{steps_from}
-use Rattle.esc_store.specs.ChangeParts.{ContinuesSteps}
-use Rattle.esc_store.specs.Standing.{IsStep}
+use Rattle.esc_store.proofs.Common.{◌≡◌, List, ℕ, map, take, Ok, state, step_row, SFault, steps_from, ContinuesSteps, IsStep}
 use Rattle.esc_store.proofs.store.Store.continue_steps_here.Given as goal
 
 abbrev pub invariant-loop-at : goal.invariant-loop-at

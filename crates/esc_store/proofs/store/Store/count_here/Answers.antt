@@ -1,5 +1,4 @@
-use Rattle.std.proofs.Common.{◌∙◌, ap}
-use Rattle.esc_store.specs.Decoded.{tallies}
+use Rattle.esc_store.proofs.Common.{◌∙◌, ap, tallies}
 use Rattle.esc_store.proofs.Counting.{are_counts}
 use Rattle.esc_store.proofs.Sure.{told_of, remembered}
 use Rattle.esc_store.proofs.store.Store.count_here.Goals as goal

@@ -1,6 +1,4 @@
-use Rattle.std.proofs.Common.{sym, subst}
-use Rattle.esc_rows.specs.ResultLaws.{if_goes}
-use Rattle.esc_store.specs.Kept.{AreCounts}
+use Rattle.esc_store.proofs.Common.{sym, subst, if_goes, AreCounts}
 use Rattle.esc_store.specs.Standing.{Stands}
 use Rattle.esc_store.proofs.store.Store.counts_by_kind.Goals as goal
 

@@ -1,11 +1,11 @@
-use Rattle.std.proofs.Common.{◌∙◌, ap, map}
+use Rattle.esc_store.proofs.Common.{survives_same, ◌∙◌, ap, map}
 use Rattle.esc_rows.specs.Entries.{listed_row}
 use Rattle.esc_store.specs.Standing.{Stands, LeavesOnly, LeavesOr}
-use Rattle.esc_store.proofs.Standings.{leaves_same}
 use Rattle.esc_store.proofs.store.Store.create.Goals as goal
 
 pub returns-in-Err-clause-crash : goal.returns-in-Err-clause-crash
-returns-in-Err-clause-crash g c = leaves_same g.S.Store _ _
+unfolding LeavesOr
+returns-in-Err-clause-crash g c = survives_same
 
 pub returns-in-Ok-found_here-clause-created : goal.returns-in-Ok-found_here-clause-created
 unfolding Stands

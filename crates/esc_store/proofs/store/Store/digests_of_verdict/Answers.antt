@@ -1,6 +1,4 @@
-use Rattle.std.proofs.Common.{◌≡◌, ◌∙◌, List, ℕ, map, subst, ap}
-use Rattle.esc_rows.specs.Changes.{verdict_digests}
-use Rattle.esc_rows.specs.ResultLaws.{if_goes}
+use Rattle.esc_store.proofs.Common.{◌≡◌, ◌∙◌, List, ℕ, map, subst, ap, verdict_digests, if_goes}
 use Rattle.esc_store.proofs.Sure.{told_of}
 use Rattle.esc_store.proofs.Unlisted.{are_of_verdict}
 use Rattle.esc_store.proofs.store.Store.digests_of_verdict.Goals as goal

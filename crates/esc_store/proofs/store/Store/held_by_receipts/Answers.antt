@@ -1,9 +1,4 @@
-use Rattle.std.proofs.Common.{sym, subst}
-use Rattle.std.specs.Prelude.{IsSorted}
-use Rattle.std.specs.Ordering.{nat_cmp}
-use Rattle.esc_rows.specs.Changes.{ListsRows}
-use Rattle.esc_rows.specs.ResultLaws.{if_goes}
-use Rattle.esc_store.specs.Decoded.{AreOnce}
+use Rattle.esc_store.proofs.Common.{sym, subst, IsSorted, nat_cmp, ListsRows, if_goes, AreOnce}
 use Rattle.esc_store.proofs.ReceiptRows.{are_held_by}
 use Rattle.esc_store.proofs.Sure.{told_of}
 use Rattle.esc_store.proofs.store.Store.held_by_receipts.Goals as goal

@@ -1,4 +1,4 @@
-use Rattle.sqlite.specs.Held.{state}
+use Rattle.esc_store.proofs.Common.{state}
 use Rattle.esc_store.specs.FirstVersion.{HoldsFirst}
 use Rattle.esc_store.specs.Standing.{Stands, LeavesOnly, LeavesOr}
 use Rattle.esc_store.proofs.MigratingLemmas.{sees_rest, sees_committed}

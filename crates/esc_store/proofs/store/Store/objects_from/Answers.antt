@@ -1,8 +1,5 @@
-use Rattle.std.proofs.Common.{sym, ap, map, ◌∙◌}
+use Rattle.esc_store.proofs.Common.{sym, ap, map, ◌∙◌, object_of, if_goes, stored_row}
 use Rattle.sqlite_keyed.proofs.ListLemmas.{map-map}
-use Rattle.esc_rows.specs.Entries.{object_of}
-use Rattle.esc_rows.specs.ResultLaws.{if_goes}
-use Rattle.esc_store.specs.Pages.{stored_row}
 use Rattle.esc_store.proofs.Paging.{page_is, page_short}
 use Rattle.esc_store.proofs.Sure.{told_of}
 use Rattle.esc_store.proofs.store.Store.objects_from.Goals as goal

@@ -1,6 +1,4 @@
-use Rattle.std.proofs.Common.{sym, ap, subst, ◌∙◌}
-use Rattle.sqlite.specs.Effect.{Database}
-use Rattle.esc_store.specs.StoreTables.{IsStore}
+use Rattle.esc_store.proofs.Common.{sym, ap, subst, ◌∙◌, Database, IsStore}
 use Rattle.esc_store.specs.Standing.{HoldsKept, Stands, LeavesOnly}
 use Rattle.esc_store.proofs.OpeningLemmas.{opened, found}
 use Rattle.esc_store.proofs.store.Store.open.Goals as goal

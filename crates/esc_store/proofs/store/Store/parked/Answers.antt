@@ -1,6 +1,4 @@
-use Rattle.std.proofs.Common.{◌∙◌, map, subst, sym, ap}
-use Rattle.esc_rows.specs.ResultLaws.{if_goes}
-use Rattle.esc_store.specs.Kept.{AreParked}
+use Rattle.esc_store.proofs.Common.{◌∙◌, map, subst, sym, ap, if_goes, AreParked}
 use Rattle.esc_store.proofs.Parking.{are_parked}
 use Rattle.esc_store.proofs.Sure.{told_of}
 use Rattle.esc_store.proofs.store.Store.parked.Goals as goal

@@ -1,5 +1,4 @@
-use Rattle.std.proofs.Common.{◌∙◌}
-use Rattle.esc_store.specs.ResultLaws.{if_ok}
+use Rattle.esc_store.proofs.Common.{◌∙◌, if_ok}
 use Rattle.esc_store.proofs.Sure.{told_at}
 use Rattle.esc_store.proofs.store.Store.parked_body.Goals as goal
 

@@ -1,5 +1,4 @@
-use Rattle.esc_rows.specs.Changes.{last_number}
-use Rattle.std.proofs.Common.{◌∙◌, ap}
+use Rattle.esc_store.proofs.Common.{last_number, ◌∙◌, ap}
 use Rattle.esc_store.proofs.Reading.{counted}
 use Rattle.esc_store.proofs.Sure.{told_of}
 use Rattle.esc_store.proofs.store.Store.receipt_count.Goals as goal

@@ -1,4 +1,4 @@
-use Rattle.esc_rows.specs.ResultLaws.{if_goes}
+use Rattle.esc_store.proofs.Common.{if_goes}
 use Rattle.esc_store.proofs.Reading.{found_reply}
 use Rattle.esc_store.proofs.Sure.{told_of}
 use Rattle.esc_store.proofs.store.Store.receipt_of.Goals as goal

@@ -1,8 +1,4 @@
-use Rattle.std.proofs.Common.{map}
-use Rattle.esc_rows.specs.Entries.{receipt_row}
-use Rattle.std.proofs.Common.{◌∙◌, ap}
-use Rattle.esc_rows.specs.ResultLaws.{if_goes}
-use Rattle.esc_store.specs.ReplyValue.{replies_from}
+use Rattle.esc_store.proofs.Common.{map, receipt_row, ◌∙◌, ap, if_goes, replies_from}
 use Rattle.esc_store.proofs.Reading.{stands_listed}
 use Rattle.esc_store.proofs.Sure.{told_of}
 use Rattle.esc_store.proofs.store.Store.receipts.Goals as goal

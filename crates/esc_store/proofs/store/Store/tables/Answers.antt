@@ -1,6 +1,4 @@
-use Rattle.std.proofs.Common.{subst, map}
-use Rattle.esc_rows.specs.Entries.{object_of}
-use Rattle.esc_store.specs.Decoded.{AreObjectsOf}
+use Rattle.esc_store.proofs.Common.{subst, map, object_of, AreObjectsOf}
 use Rattle.esc_store.specs.ResultLaws.{if_both}
 use Rattle.esc_store.proofs.Gathering.{tables_are}
 use Rattle.esc_store.proofs.Sure.{told_of}

@@ -1,4 +1,4 @@
-use Rattle.std.proofs.Common.{◌∙◌, ◌++◌, List, ℕ, ap}
+use Rattle.esc_store.proofs.Common.{◌∙◌, ◌++◌, List, ℕ, ap}
 use Rattle.esc_store.specs.StandingLaws.{was_honest}
 use Rattle.esc_store.proofs.Unlisted.{are_unlisted}
 use Rattle.esc_store.proofs.store.Store.unlisted_digests.Goals as goal

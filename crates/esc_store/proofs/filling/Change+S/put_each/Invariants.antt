@@ -1,12 +1,6 @@
-use Rattle.std.proofs.Common.{◌≡◌, ℕ, List, map, drop}
-use Rattle.esc_apply.specs.ObjectStreams.{Entry}
-use Rattle.esc_apply.specs.Registry.{State}
-use Rattle.esc_rows.specs.Entries.{new_entry}
-use Rattle.esc_store.specs.Filling.{after_filling, after_noting}
-use Rattle.esc_store.specs.Pages.{AreRowsOf}
-use Rattle.esc_store.specs.Standing.{HoldsNow, Follows}
+use Rattle.esc_store.proofs.Common.{◌≡◌, ℕ, List, map, drop, Entry, State, new_entry, after_filling, after_noting, AreRowsOf, HoldsNow, Follows}
 use Rattle.esc_store.proofs.Filled.{Writing}
-use Rattle.esc_store.proofs.filling.Change+S.write_rows.Given as goal
+use Rattle.esc_store.proofs.filling.Change+S.put_each.Given as goal
 
 abbrev pub invariant-loop-at : goal.invariant-loop-at
 invariant-loop-at g l = record {

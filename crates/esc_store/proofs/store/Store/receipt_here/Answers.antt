@@ -1,5 +1,0 @@
-use Rattle.esc_store.proofs.Sure.{read_settled}
-use Rattle.esc_store.proofs.store.Store.receipt_here.Goals as goal
-
-pub returns-clause-read : goal.returns-clause-read
-returns-clause-read g c = read_settled c.settle.ensures c.find_receipt-found.ensures.read
