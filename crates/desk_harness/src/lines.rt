@@ -1,17 +1,16 @@
 //! What is told, line by line, and what is answered.
 
-use crate::database::answer_of_database;
-use crate::desks::Place;
-use crate::disks::{Change, Disks, Room, check_memory, connect, options};
-use crate::events::answer_of_desk;
-use crate::streams::{next_line, say};
+use crate::desks::{Place, answer_of_place};
 use esc_desk::{Desk, SFault};
 use esc_kept::{files_of, reopen_desk};
-use sqlite::{Alter, Connection, FileStore, Files};
+use sqlite::{Alter, FileStore, Files};
 use sqlite_disk::Disk;
 use std::alloc::Global;
 use std::fmt::Write;
 use std::test::Fail;
+use store_lines::{
+    DiskChange, Disks, Room, check_memory, connect, left_files, next_line, options, say,
+};
 
 /// What there is while no database is open: the files, and the line that is next.
 #[derive(Drop)]
@@ -41,15 +40,15 @@ fn step(rt: &HostRuntime, state: State) -> Result<State, Fail> {
     let Some(line) = line else {
         return Ok(State { disks, line: None });
     };
-    match Change::of(line.as_str()) {
+    match DiskChange::of(line.as_str()) {
         Some(change) => changed(rt, disks, change),
         None => served(rt, disks, line),
     }
 }
 
-fn changed(rt: &HostRuntime, disks: Disks, change: Change) -> Result<State, Fail> {
+fn changed(rt: &HostRuntime, disks: Disks, change: DiskChange) -> Result<State, Fail> {
     let mut answer = String::new(rt.alloc());
-    if let Change::Look = change {
+    if let DiskChange::Look = change {
         writeln!(answer, "{}", disks.have_failed())?;
     }
     let disks = disks.changed(rt.alloc(), change)?;
@@ -108,13 +107,7 @@ fn left<D: Disk + Drop>(
                 Ok(files_of(desk))
             }
         }
-        Place::Database(connection) => {
-            if closes {
-                Ok(closed(connection))
-            } else {
-                Ok(connection.into_store().close())
-            }
-        }
+        Place::Database(connection) => Ok(left_files(connection, closes)),
     }
 }
 
@@ -126,13 +119,6 @@ fn files_of_reopened<D: Disk + Drop>(
     match reopen_desk(alloc, desk, options(room)) {
         Ok(desk) => Ok(files_of(desk)),
         Err(fault) => Err(Fail::new(fault)),
-    }
-}
-
-fn closed<D: Disk + Drop>(connection: Connection<FileStore<D>>) -> Files<D> {
-    match connection.close_files() {
-        Ok(files) => files,
-        Err((_error, store)) => store.close(),
     }
 }
 
@@ -148,7 +134,7 @@ impl Talk<'_> {
     // Whether the next line is about the database, or the desk over it.
     fn is_for_database(&self) -> bool {
         match &self.line {
-            Some(line) => Change::of(line.as_str()).is_none(),
+            Some(line) => DiskChange::of(line.as_str()).is_none(),
             None => false,
         }
     }
@@ -176,12 +162,7 @@ impl Talk<'_> {
     fn answer<S: Alter + Drop>(&mut self, place: Place<S>) -> Result<Place<S>, Fail> {
         let line = self.line.take().ok_or("no line")?;
         let mut text = String::new(self.rt.alloc());
-        let place = match place {
-            Place::Database(connection) => {
-                answer_of_database(self.rt, &mut text, connection, line.as_str())?
-            }
-            Place::Desk(desk) => answer_of_desk(self.rt, &mut text, desk, line.as_str())?,
-        };
+        let place = answer_of_place(self.rt, &mut text, place, line.as_str())?;
         say(self.rt, text)?;
         self.line = next_line(self.rt)?;
         Ok(place)

@@ -74,6 +74,9 @@
 //! It ends with its input. Where memory runs out, a statement is refused or a file can't be read,
 //! it ends with a line on standard error and status 1.
 //!
+//! What needs no desk is done by `store_lines`, and what needs a desk, but not its files or a
+//! request, by `desk_lines`.
+//!
 //! By proof: that no call is unsafe and that each ends. The functions have no clause.
 //!
 //! # Example
@@ -96,18 +99,9 @@
 //! ```
 #![tactic(auto)]
 
-mod changes;
-mod database;
 mod desks;
-mod disks;
-mod events;
 mod lines;
-mod looks;
 mod requests;
-mod runs;
-mod shown;
-mod stores;
-mod streams;
 mod waits;
 
 use lines::play;

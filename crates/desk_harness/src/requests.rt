@@ -1,7 +1,5 @@
 //! Requests to a desk, over memory.
 
-use crate::shown::tell_bytes;
-use crate::streams::split;
 use esc_desk::Desk;
 use esc_flaky::{FailingReader, FailingWriter};
 use esc_http::{ServeFault, serve_one};
@@ -10,6 +8,7 @@ use std::alloc::Global;
 use std::fmt::Write;
 use std::fs;
 use std::test::Fail;
+use store_lines::{split, tell_bytes};
 
 /// How a client sends a request, and takes the response.
 #[derive(Clone, Copy, Debug)]

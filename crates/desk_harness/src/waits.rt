@@ -1,7 +1,6 @@
 //! Clients that are waited for, by a clock that moves only while one is.
 
 use crate::requests::tell_served;
-use crate::streams::split;
 use esc_client::{Client, Patience, Timed};
 use esc_desk::Desk;
 use esc_flaky::FailingWriter;
@@ -14,6 +13,7 @@ use std::fs;
 use std::io::{self, Read, Write};
 use std::test::Fail;
 use std::time::{Clock, Duration};
+use store_lines::split;
 
 /// A clock that clients set.
 #[derive(Drop)]

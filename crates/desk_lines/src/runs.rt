@@ -1,14 +1,13 @@
 //! Events that are given to a desk in one call.
 
 use crate::events::moment_of;
-use crate::shown::tell_reply;
-use crate::streams::{next_line, split};
 use esc_desk::{Arrival, Desk, Event, EventOutcome, Outcome, SFault, number};
 use sqlite::Alter;
 use std::alloc::Global;
 use std::fmt::Write;
 use std::fs;
 use std::test::Fail;
+use store_lines::{next_line, split, tell_reply};
 
 /// An event's line, and the bytes of the file that it names.
 #[derive(Drop)]

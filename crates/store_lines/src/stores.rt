@@ -1,12 +1,11 @@
-//! What the store below a desk has, and changes of it.
+//! What a store has, and changes of it.
 
 use crate::changes::{change, list};
 use crate::shown::{tell_bytes, tell_place, tell_reply};
 use crate::streams::split;
 use esc_apply::Step;
-use esc_desk::{Reply, number};
 use esc_manifest::MRow;
-use esc_store::Store;
+use esc_store::{Reply, Store, number};
 use sqlite::Alter;
 use std::alloc::Global;
 use std::fmt::Write;

@@ -1,104 +1,32 @@
-//! What is asked of a database where no desk is open.
+//! Statements of a database, and what it has.
 
-use crate::desks::Place;
 use crate::shown::tell_bytes;
-use crate::streams::split;
-use esc_desk::{Desk, SFault};
-use esc_kept::{new_desk, open_desk};
-use esc_manifest::read_manifest;
 use esc_rows::create::build;
 use esc_rows::info::find_version;
 use esc_rows::open::{has_tables, is_unused};
-use esc_store::Store;
 use sqlite::types::ValueRef;
 use sqlite::{Alter, Connection, Error, Row};
-use std::alloc::Global;
 use std::fmt::Write;
 use std::fs;
 use std::test::Fail;
 
-/// Does what a line asks for.
+/// Does what a word asks of a database, and tells whether the word is one of these.
 pub fn answer_of_database<S: Alter + Drop>(
     rt: &HostRuntime,
     text: &mut String,
-    connection: Connection<S>,
-    line: &str,
-) -> Result<Place<S>, Fail> {
-    let (word, rest) = split(line);
-    match word {
-        "create" => create(rt, text, connection, rest),
-        "open" => opened(text, open_desk(rt.alloc(), connection), "opened"),
-        "migrate" => opened(text, migrate(rt.alloc(), connection), "migrated"),
-        "sql" | "script" | "query" | "kind" | "build" => ran(rt, text, connection, word, rest),
-        _ => {
-            text.push_str("no desk\n")?;
-            Ok(Place::Database(connection))
-        }
-    }
-}
-
-// ---- desks
-
-fn opened<S: Alter + Drop>(
-    text: &mut String,
-    desk: Result<Desk<S>, (SFault, Connection<S>)>,
-    word: &str,
-) -> Result<Place<S>, Fail> {
-    match desk {
-        Ok(desk) => {
-            writeln!(text, "{word}")?;
-            Ok(Place::Desk(desk))
-        }
-        Err((fault, connection)) => {
-            writeln!(text, "{fault}")?;
-            Ok(Place::Database(connection))
-        }
-    }
-}
-
-fn create<S: Alter + Drop>(
-    rt: &HostRuntime,
-    text: &mut String,
-    connection: Connection<S>,
-    path: &str,
-) -> Result<Place<S>, Fail> {
-    let bytes = fs::read(rt, path)?;
-    match read_manifest(rt.alloc(), bytes.as_slice()) {
-        Ok(manifest) => opened(text, new_desk(rt.alloc(), connection, &manifest), "created"),
-        Err(fault) => {
-            writeln!(text, "{fault}")?;
-            Ok(Place::Database(connection))
-        }
-    }
-}
-
-fn migrate<S: Alter + Drop>(
-    alloc: Global,
-    connection: Connection<S>,
-) -> Result<Desk<S>, (SFault, Connection<S>)> {
-    match Store::migrate(alloc, connection) {
-        Ok(store) => Ok(Desk::open(store)),
-        Err(refused) => Err(refused),
-    }
-}
-
-// ---- statements
-
-fn ran<S: Alter + Drop>(
-    rt: &HostRuntime,
-    text: &mut String,
-    mut connection: Connection<S>,
+    connection: &mut Connection<S>,
     word: &str,
     rest: &str,
-) -> Result<Place<S>, Fail> {
+) -> Result<bool, Fail> {
     match word {
-        "sql" => writeln!(text, "{} changed", execute(&mut connection, rest)?)?,
-        "script" => run_script(rt, &mut connection, rest)?,
-        "kind" => tell_kind(text, &mut connection)?,
-        "build" => tell_build(text, &mut connection)?,
-        _ => tell_rows(text, query(&mut connection, rest)?.as_slice())?,
+        "sql" => writeln!(text, "{} changed", execute(connection, rest)?)?,
+        "script" => run_script(rt, connection, rest)?,
+        "query" => tell_rows(text, query(connection, rest)?.as_slice())?,
+        "kind" => tell_kind(text, connection)?,
+        "build" => tell_build(text, connection)?,
+        _ => return Ok(false),
     }
-    Ok(Place::Database(connection))
+    Ok(true)
 }
 
 fn execute<S: Alter + Drop>(connection: &mut Connection<S>, sql: &str) -> Result<usize, Error> {

@@ -1,13 +1,7 @@
 //! Events at a desk, one by one.
 
-use crate::desks::Place;
 use crate::looks::look;
-use crate::requests::request;
 use crate::runs::{run, run_arrivals};
-use crate::shown::{tell_reply, tell_work};
-use crate::stores::answer_of_store;
-use crate::streams::split;
-use crate::waits::wait;
 use esc_apply::Work;
 use esc_desk::{AmendFault, Desk, Number, Reply, SFault, number};
 use esc_envelope::watermark;
@@ -16,53 +10,25 @@ use std::alloc::Global;
 use std::fmt::Write;
 use std::fs;
 use std::test::Fail;
+use store_lines::{split, tell_reply, tell_work};
 
-/// Does what a line asks for.
+/// Does what a word asks of a desk, and tells whether the word is one of these.
 pub fn answer_of_desk<S: Alter + Drop>(
-    rt: &HostRuntime,
-    text: &mut String,
-    mut desk: Desk<S>,
-    line: &str,
-) -> Result<Place<S>, Fail> {
-    let (word, rest) = split(line);
-    match word {
-        "close" => return Ok(Place::Database(desk.into_store().into_connection())),
-        "chain" => return told_of_store(rt, text, desk, line),
-        "store" => return told_of_store(rt, text, desk, rest),
-        _ => answer(rt, text, &mut desk, word, rest)?,
-    }
-    Ok(Place::Desk(desk))
-}
-
-fn answer<S: Alter + Drop>(
     rt: &HostRuntime,
     text: &mut String,
     desk: &mut Desk<S>,
     word: &str,
     rest: &str,
-) -> Result<(), Fail> {
+) -> Result<bool, Fail> {
     match word {
-        "comes" => tell_arrival(rt, text, desk, rest),
-        "amend" => tell_amendment(rt, text, desk, rest),
-        "as-of" => tell_moment(rt.alloc(), text, desk, rest),
-        "run" => run(rt, text, desk, rest),
-        "arrivals" => run_arrivals(rt, text, desk, rest),
-        "request" => request(rt, text, desk, rest),
-        "slow" | "taken" | "rest" => wait(rt, text, desk, word, rest),
-        _ => look(rt.alloc(), text, desk, word, rest),
+        "comes" => tell_arrival(rt, text, desk, rest)?,
+        "amend" => tell_amendment(rt, text, desk, rest)?,
+        "as-of" => tell_moment(rt.alloc(), text, desk, rest)?,
+        "run" => run(rt, text, desk, rest)?,
+        "arrivals" => run_arrivals(rt, text, desk, rest)?,
+        _ => return look(rt.alloc(), text, desk, word, rest),
     }
-}
-
-// Does what is asked of the store below a desk, which is opened again then.
-fn told_of_store<S: Alter + Drop>(
-    rt: &HostRuntime,
-    text: &mut String,
-    desk: Desk<S>,
-    line: &str,
-) -> Result<Place<S>, Fail> {
-    let mut store = desk.into_store();
-    answer_of_store(rt, text, &mut store, line)?;
-    Ok(Place::Desk(Desk::open(store)))
+    Ok(true)
 }
 
 // ---- an event

@@ -1,7 +1,7 @@
 //! Two files in memory, of which calls fail where they are told to.
 
-use esc_desk::SFault;
 use esc_flaky::FlakyDisk;
+use esc_store::SFault;
 use sqlite::{Connection, FileStore, Files, Options};
 use sqlite_disk::{Crash, Disk, Fuse, Memory};
 use std::alloc::Global;
@@ -37,7 +37,7 @@ pub enum Failing {
 
 /// What happens to the files while no database is open over them.
 #[derive(Clone, Copy, Debug)]
-pub enum Change {
+pub enum DiskChange {
     /// Calls of them fail from now on. All their bytes are synced.
     Failing { log: Failing, database: Failing },
     /// They have what was synced alone.
@@ -50,44 +50,44 @@ pub enum Change {
     Look,
 }
 
-impl Change {
+impl DiskChange {
     /// The change that a line asks for, if it is one.
-    pub fn of(line: &str) -> Option<Change> {
+    pub fn of(line: &str) -> Option<DiskChange> {
         match line {
-            "sound" | "crash written" => Some(Change::Failing {
+            "sound" | "crash written" => Some(DiskChange::Failing {
                 log: Failing::Never,
                 database: Failing::Never,
             }),
-            "crash synced" => Some(Change::Crash),
-            "reopen" => Some(Change::Reopening),
-            "failed" => Some(Change::Look),
-            _ => Change::numbered(line),
+            "crash synced" => Some(DiskChange::Crash),
+            "reopen" => Some(DiskChange::Reopening),
+            "failed" => Some(DiskChange::Look),
+            _ => DiskChange::numbered(line),
         }
     }
 
     // The change that a line with a number asks for.
-    fn numbered(line: &str) -> Option<Change> {
+    fn numbered(line: &str) -> Option<DiskChange> {
         let (words, digits) = line.rsplit_once(' ')?;
         let number = digits.parse::<u64>().ok()?;
         match words {
-            "fail log" => Some(Change::of_log(Failing::Once(number))),
-            "fail database" => Some(Change::of_database(Failing::Once(number))),
-            "stop log" => Some(Change::of_log(Failing::After(number))),
-            "stop database" => Some(Change::of_database(Failing::After(number))),
-            "room" => Some(Change::Room(Room {
+            "fail log" => Some(DiskChange::of_log(Failing::Once(number))),
+            "fail database" => Some(DiskChange::of_database(Failing::Once(number))),
+            "stop log" => Some(DiskChange::of_log(Failing::After(number))),
+            "stop database" => Some(DiskChange::of_database(Failing::After(number))),
+            "room" => Some(DiskChange::Room(Room {
                 log_pages: number as usize,
                 ..PLENTY
             })),
-            _ => Change::room_of(words, number as usize),
+            _ => DiskChange::room_of(words, number as usize),
         }
     }
 
     // The room of a line with two numbers, of which this is the second.
-    fn room_of(words: &str, cache_pages: usize) -> Option<Change> {
+    fn room_of(words: &str, cache_pages: usize) -> Option<DiskChange> {
         let (word, digits) = words.split_once(' ')?;
         let log_pages = digits.parse::<usize>().ok()?;
         if word == "room" {
-            Some(Change::Room(Room {
+            Some(DiskChange::Room(Room {
                 cache_pages,
                 log_pages,
             }))
@@ -96,15 +96,15 @@ impl Change {
         }
     }
 
-    fn of_log(log: Failing) -> Change {
-        Change::Failing {
+    fn of_log(log: Failing) -> DiskChange {
+        DiskChange::Failing {
             log,
             database: Failing::Never,
         }
     }
 
-    fn of_database(database: Failing) -> Change {
-        Change::Failing {
+    fn of_database(database: Failing) -> DiskChange {
+        DiskChange::Failing {
             log: Failing::Never,
             database,
         }
@@ -136,19 +136,19 @@ impl Disks {
     }
 
     /// The files after a change.
-    pub fn changed(self, alloc: Global, change: Change) -> Result<Disks, Fail> {
+    pub fn changed(self, alloc: Global, change: DiskChange) -> Result<Disks, Fail> {
         let Disks { files, room } = self;
         match change {
-            Change::Failing { log, database } => Ok(Disks {
+            DiskChange::Failing { log, database } => Ok(Disks {
                 files: copied(alloc, files, log, database)?,
                 room,
             }),
-            Change::Crash => Ok(Disks {
+            DiskChange::Crash => Ok(Disks {
                 files: crashed(files),
                 room,
             }),
-            Change::Room(room) => Ok(Disks { files, room }),
-            Change::Reopening | Change::Look => Ok(Disks { files, room }),
+            DiskChange::Room(room) => Ok(Disks { files, room }),
+            DiskChange::Reopening | DiskChange::Look => Ok(Disks { files, room }),
         }
     }
 }
@@ -219,6 +219,20 @@ pub fn connect<D: Disk + Drop>(
     match Connection::open_files(alloc, files, options(room)) {
         Ok(connection) => Ok(connection),
         Err((error, left)) => Err((SFault::from(error), left.into_files())),
+    }
+}
+
+/// The files of a connection that is left as by a crash, or closed as by a program.
+pub fn left_files<D: Disk + Drop>(
+    connection: Connection<FileStore<D>>,
+    is_closed: bool,
+) -> Files<D> {
+    if !is_closed {
+        return connection.into_store().close();
+    }
+    match connection.close_files() {
+        Ok(files) => files,
+        Err((_error, store)) => store.close(),
     }
 }
 

@@ -1,8 +1,8 @@
 //! Replies, objects and numbers as texts.
 
 use esc_apply::Work;
-use esc_desk::{Reply, Status, Verdict};
 use esc_envelope::{Kind, Place, watermark_text};
+use esc_store::{Reply, Verdict};
 use esc_tables::{Key, Object, Row};
 use std::alloc::Global;
 use std::collections::BTreeMap;
@@ -95,30 +95,10 @@ pub fn tell_place(alloc: Global, text: &mut String, place: Place, resend: u32) -
     Ok(())
 }
 
-fn tell_end(alloc: Global, text: &mut String, end: Option<(Place, u32)>) -> Result<(), Fail> {
-    text.push_str("end ")?;
-    match end {
-        Some((place, resend)) => tell_place(alloc, text, place, resend),
-        None => Ok(text.push_str("none\n")?),
-    }
-}
-
 /// A line for each kind that has a count.
 pub fn tell_counts(text: &mut String, counts: &BTreeMap<Kind, u64>) -> Result<(), Fail> {
     for (kind, count) in counts {
         writeln!(text, "{} {count}", kind.name())?;
     }
     Ok(())
-}
-
-/// The eleven numbers of a status, a line each.
-pub fn tell_status_of(alloc: Global, text: &mut String, status: &Status) -> Result<(), Fail> {
-    let (listed, held) = (status.listed, status.held);
-    let (receipts, chain) = (status.receipts, status.chain);
-    writeln!(
-        text,
-        "listed {listed}\nheld {held}\nreceipts {receipts}\nchain {chain}"
-    )?;
-    tell_end(alloc, text, status.end)?;
-    tell_counts(text, &status.objects)
 }

@@ -1,7 +1,6 @@
 //! What a desk has.
 
-use crate::shown::{tell_bytes, tell_counts, tell_object, tell_reply, tell_status_of};
-use crate::streams::split;
+use crate::shown::tell_status_of;
 use esc_apply::Objects;
 use esc_desk::{Desk, End, ParkedBody, Reply, SFault, Status, Walk};
 use esc_envelope::{Kind, watermark_text};
@@ -11,27 +10,29 @@ use std::alloc::Global;
 use std::collections::BTreeMap;
 use std::fmt::Write;
 use std::test::Fail;
+use store_lines::{split, tell_bytes, tell_counts, tell_object, tell_reply};
 
-/// Tells what a word asks for.
+/// Tells what a word asks of a desk, and whether the word is one of these.
 pub fn look<S: Alter + Drop>(
     alloc: Global,
     text: &mut String,
     desk: &mut Desk<S>,
     word: &str,
     rest: &str,
-) -> Result<(), Fail> {
+) -> Result<bool, Fail> {
     match word {
-        "status" => tell_status(alloc, text, desk),
-        "end" => tell_end(alloc, text, desk),
-        "moment" => tell_moment(alloc, text, desk),
-        "parked" => tell_parked(alloc, text, desk),
-        "receipts" => tell_receipts(alloc, text, desk),
-        "held" => tell_held(alloc, text, desk),
-        "tables" => tell_tables(alloc, text, desk),
-        "walk" => tell_walk(alloc, text, desk, rest),
-        "writes" => tell_writes(text, desk),
-        _ => Ok(text.push_str("a desk is open\n")?),
+        "status" => tell_status(alloc, text, desk)?,
+        "end" => tell_end(alloc, text, desk)?,
+        "moment" => tell_moment(alloc, text, desk)?,
+        "parked" => tell_parked(alloc, text, desk)?,
+        "receipts" => tell_receipts(alloc, text, desk)?,
+        "held" => tell_held(alloc, text, desk)?,
+        "tables" => tell_tables(alloc, text, desk)?,
+        "walk" => tell_walk(alloc, text, desk, rest)?,
+        "writes" => tell_writes(text, desk)?,
+        _ => return Ok(false),
     }
+    Ok(true)
 }
 
 // What was found. A refusal is told.
