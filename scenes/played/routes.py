@@ -89,7 +89,7 @@ UNAVAILABLE = refusal('503 Service Unavailable', 'S1')
 ONE_PAGE = 'room 8 1'
 # How often each request is refused at most: an arrival that is a commit twice, since it may be open whether it is kept, and any other
 # request once.
-REFUSED = (2, 1, 2, 1, 1, 1, 1, 1, 1, 1, 1, 1, 1, 1, 1)
+REFUSED = (2, 1, 2, 1, 1, 1, 1, 1, 1, 1, 1, 1, 1, 1, 1, 1)
 # More calls than there are.
 MOST_CALLS = 5_000
 
