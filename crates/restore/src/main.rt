@@ -15,7 +15,7 @@
 //!   `listening 127.0.0.1:P`, serves N connections one after the other, and ends.
 //! - `restore report --store FILE WHAT` prints how far the desk has come (`status`), what each
 //!   listed place waits for (`gaps`), what breaks a rule (`links`), the bodies that no row lists
-//!   (`parked`), or all `receipts`.
+//!   (`parked`), the `moment` that is set, or all `receipts`.
 //! - `restore export --store FILE KIND` prints the export of one kind of objects.
 //!
 //! Each arrival, each amendment and each moment is a run of the desk
