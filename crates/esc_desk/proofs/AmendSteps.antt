@@ -20,10 +20,10 @@ use Rattle.esc_events.specs.Known.{IsKnown}
 use Rattle.esc_events.specs.Plans.{AreLatestSteps, IsPlanned, IsMovedFrom, IsCostOfMove, moved_by}
 use Rattle.esc_events.specs.Stands.{StandsFor, AreBooks, deposits_of}
 use Rattle.esc_events.specs.Works.{IsWorkOf, MentionsFew}
-use Rattle.esc_events.proofs.AmendedBooks.{kept_bodies, books_amended}
-use Rattle.esc_events.proofs.AmendingKept.{StayBesides, rest_stays}
-use Rattle.esc_events.proofs.Moving.{moved_from, stands_moved, works_moved}
-use Rattle.esc_events.proofs.MovingLemmas.{held_within}
+use Rattle.esc_desk.proofs.AmendedBooks.{kept_bodies, books_amended}
+use Rattle.esc_desk.proofs.AmendingKept.{StayBesides, rest_stays}
+use Rattle.esc_desk.proofs.Moving.{moved_from, stands_moved, works_moved}
+use Rattle.esc_desk.proofs.MovingLemmas.{held_within}
 use Rattle.esc_desk.specs.declared.judging.Judged.{Judged}
 use Rattle.esc_desk.specs.Amendments.{AreApartRows, IsAmendmentOf}
 use Rattle.esc_desk.specs.DepositSources.{AreJudged}

@@ -17,9 +17,9 @@ use Rattle.esc_events.specs.Events.EventValue.{listed, arrived}
 use Rattle.esc_events.specs.Assessment.{row_of}
 use Rattle.esc_events.specs.Receipts.{distinct, receipts_after}
 use Rattle.esc_events.specs.Stands.{rows_of, kept_arrivals, held_body, StandsFor}
-use Rattle.esc_events.proofs.EventLemmas.{union_then, comings_then}
-use Rattle.esc_events.proofs.Moving.{chain_of}
-use Rattle.esc_events.proofs.MovingLemmas.{same_deposits}
+use Rattle.esc_desk.proofs.EventLemmas.{union_then, comings_then}
+use Rattle.esc_desk.proofs.Moving.{chain_of}
+use Rattle.esc_desk.proofs.MovingLemmas.{same_deposits}
 use Rattle.esc_desk.specs.Laws.{AreLeftByArrivals, came_with}
 use Rattle.esc_desk.proofs.EarlyEvents.{counted_then}
 

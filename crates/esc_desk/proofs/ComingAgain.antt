@@ -60,17 +60,17 @@ use Rattle.esc_events.specs.Events.{EventValue, union, coming, comings}
 use Rattle.esc_events.specs.Events.EventValue.{arrived}
 use Rattle.esc_events.specs.Assessment.{assessment, row_of, held_row}
 use Rattle.esc_events.specs.Known.{IsKnown}
-use Rattle.esc_events.specs.Laws.{IsMove}
+use Rattle.esc_desk.specs.EventLaws.{IsMove}
 use Rattle.esc_events.specs.Plans.{AreLatestSteps, IsPlanned}
 use Rattle.esc_events.specs.Receipts.{distinct, reply_to}
 use Rattle.esc_events.specs.Stands.{StandsFor, AreBooks, IsApart, kept_arrivals, holds_by, has_digest, held_body, parked_body}
 use Rattle.esc_events.specs.Taking.{IsAgain}
 use Rattle.esc_events.specs.Works.{IsIdle, no_work}
-use Rattle.esc_events.proofs.EventLemmas.{union-arrived}
-use Rattle.esc_events.proofs.HeldRows.{is_row_of, listed_row}
-use Rattle.esc_events.proofs.Lost.{alike_counts, came_counts}
-use Rattle.esc_events.proofs.Members.{any_of, distinct_among}
-use Rattle.esc_events.proofs.Moving.{stands_still, no_work_of}
+use Rattle.esc_desk.proofs.EventLemmas.{union-arrived}
+use Rattle.esc_desk.proofs.HeldRows.{is_row_of, listed_row}
+use Rattle.esc_desk.proofs.Lost.{alike_counts, came_counts}
+use Rattle.esc_desk.proofs.Members.{any_of, distinct_among}
+use Rattle.esc_desk.proofs.Moving.{stands_still, no_work_of}
 use Rattle.esc_desk.specs.declared.desk.Desk.{Desk}
 use Rattle.esc_desk.specs.declared.plan.Source.TheVariants.{Arrived}
 use Rattle.esc_desk.specs.Again.{IsUnkept, IsMissing, IsMissingAfter}

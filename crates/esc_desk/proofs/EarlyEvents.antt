@@ -9,7 +9,7 @@ use Rattle.esc_events.specs.ArrivalValue.{ArrivalValue}
 use Rattle.esc_events.specs.Events.{EventValue, Coming, union_after, union, coming, early_coming, comings_after, comings, moment_after, moment_of, manifest_then}
 use Rattle.esc_events.specs.Events.EventValue.{listed, arrived, moved, arrived_early}
 use Rattle.esc_events.specs.Stands.{is_lost, kept_arrivals}
-use Rattle.esc_events.proofs.EventLemmas.{comings_then}
+use Rattle.esc_desk.proofs.EventLemmas.{comings_then}
 
 early_lists_none : (m : List MRow) (e : List EventValue) (a : ArrivalValue) → union_after m (e ++ arrived_early a ∷ []) ≡ union_after m e
 early_lists_none m [] a = refl

@@ -56,7 +56,7 @@ use Rattle.esc_events.specs.ArrivalValue.{ArrivalValue}
 use Rattle.esc_events.specs.Events.{EventValue, union}
 use Rattle.esc_events.specs.Events.EventValue.{arrived}
 use Rattle.esc_events.specs.Assessment.{as_listed, assessment, found_at, row_of, held_row}
-use Rattle.esc_events.specs.Laws.{IsMove}
+use Rattle.esc_desk.specs.EventLaws.{IsMove}
 use Rattle.esc_events.specs.Notes.{noted_by, held_by}
 use Rattle.esc_events.specs.Parks.{IsParking}
 use Rattle.esc_events.specs.Receipts.{is_among, receipt_by}
@@ -64,9 +64,9 @@ use Rattle.esc_events.specs.Plans.{AreLatestSteps, IsPlanned}
 use Rattle.esc_events.specs.Stands.{AreBooks, StandsFor}
 use Rattle.esc_events.specs.Taking.{IsNew}
 use Rattle.esc_events.specs.Works.{no_work}
-use Rattle.esc_events.proofs.Arriving.{books_noted, books_parked, books_held}
-use Rattle.esc_events.proofs.EventLemmas.{union-arrived}
-use Rattle.esc_events.proofs.Moving.{stands_still, no_work_of}
+use Rattle.esc_desk.proofs.Arriving.{books_noted, books_parked, books_held}
+use Rattle.esc_desk.proofs.EventLemmas.{union-arrived}
+use Rattle.esc_desk.proofs.Moving.{stands_still, no_work_of}
 use Rattle.esc_desk.specs.declared.plan.Source.TheVariants.{Arrived}
 use Rattle.esc_desk.specs.Crashes.{AddsStore, AddsStoreFor}
 use Rattle.esc_desk.specs.DepositSources.{IsSource}

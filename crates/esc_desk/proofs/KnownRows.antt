@@ -42,8 +42,8 @@ use Rattle.esc_events.specs.declared.assessment.Assessment.TheVariants.{Holding}
 use Rattle.esc_events.specs.Assessment.{held_row}
 use Rattle.esc_events.specs.Receipts.{receipt_by}
 use Rattle.esc_events.specs.HeldLaws.{same_self, exact}
-use Rattle.esc_events.proofs.HeldReceipts.{holds_from_says, says_from_holds}
-use Rattle.esc_events.proofs.HeldRows.{is_row_of}
+use Rattle.esc_desk.proofs.HeldReceipts.{holds_from_says, says_from_holds}
+use Rattle.esc_desk.proofs.HeldRows.{is_row_of}
 use Rattle.esc_desk.specs.Knowing.{IsInserted}
 
 -- ---- the rows that receipts say are held

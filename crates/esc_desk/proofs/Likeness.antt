@@ -59,13 +59,13 @@ use Rattle.esc_events.specs.Events.EventValue.{listed, arrived, moved, arrived_e
 use Rattle.esc_events.specs.Assessment.{assessment, found, found_at, as_listed, row_of}
 use Rattle.esc_events.specs.Receipts.{alike, distinct, holds_row, receipts_of, receipts_after, reply_to}
 use Rattle.esc_events.specs.Stands.{Among, IsApart, AreBooks, StandsFor, CameFor, CameWith, TellsOf, body_of, holds_by, has_digest, kept_arrivals, held_body, parked_body}
-use Rattle.esc_events.proofs.AmendingLemmas.{row_found}
-use Rattle.esc_events.proofs.EventLemmas.{union-arrived, comings-arrived, moment-arrived, union-listed, comings-listed, moment-listed, union-moved, comings-moved, moment-moved}
-use Rattle.esc_events.proofs.Distinct.{alike_laws, distinct-push}
-use Rattle.esc_events.proofs.Members.{any_of, one_of, among-front, among-last}
-use Rattle.esc_events.proofs.Moving.{stands_still}
-use Rattle.esc_events.proofs.OneArrival.{any_kept}
-use Rattle.esc_events.proofs.Searches.{some_alike, find-front, find-back, find-push-old}
+use Rattle.esc_desk.proofs.AmendingLemmas.{row_found}
+use Rattle.esc_desk.proofs.EventLemmas.{union-arrived, comings-arrived, moment-arrived, union-listed, comings-listed, moment-listed, union-moved, comings-moved, moment-moved}
+use Rattle.esc_desk.proofs.Distinct.{alike_laws, distinct-push}
+use Rattle.esc_desk.proofs.Members.{any_of, one_of, among-front, among-last}
+use Rattle.esc_desk.proofs.Moving.{stands_still}
+use Rattle.esc_desk.proofs.OneArrival.{any_kept}
+use Rattle.esc_desk.proofs.Searches.{some_alike, find-front, find-back, find-push-old}
 use Rattle.esc_desk.proofs.EarlyEvents.{union-early, comings-early, moment-early, counting, counting-append}
 
 or_false : (b : Bool) → (b || false) ≡ b

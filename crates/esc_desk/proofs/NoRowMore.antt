@@ -41,9 +41,9 @@ use Rattle.esc_events.specs.Events.{EventValue, Coming, union, coming, early_com
 use Rattle.esc_events.specs.Events.EventValue.{listed, arrived, moved, arrived_early}
 use Rattle.esc_events.specs.Stands.{AreBooks, StandsFor, TellsOf, holds_by}
 use Rattle.esc_events.specs.Works.{IsWorkOf, no_work}
-use Rattle.esc_events.proofs.AmendingEvents.{receipts_as, apart_as, held_as, parked_as, came_as, waits_as}
-use Rattle.esc_events.proofs.EventLemmas.{union-arrived, comings-arrived, moment-arrived, union-listed, comings-listed, moment-listed, union-moved, comings-moved, moment-moved}
-use Rattle.esc_events.proofs.Moving.{stands_still, no_work_of}
+use Rattle.esc_desk.proofs.AmendingEvents.{receipts_as, apart_as, held_as, parked_as, came_as, waits_as}
+use Rattle.esc_desk.proofs.EventLemmas.{union-arrived, comings-arrived, moment-arrived, union-listed, comings-listed, moment-listed, union-moved, comings-moved, moment-moved}
+use Rattle.esc_desk.proofs.Moving.{stands_still, no_work_of}
 use Rattle.esc_desk.specs.Asked.{rows_read, amendment_of}
 use Rattle.esc_desk.specs.Crashes.{IsStoreFor, IsStoreForOneOf, CrashLeaves, doubtful_with, AddsStoreFor}
 use Rattle.esc_desk.proofs.EarlyEvents.{union-early, comings-early, moment-early}

@@ -38,13 +38,14 @@ use Rattle.esc_apply.specs.Tables.{tables}
 use Rattle.esc_store.specs.Kept.{Kept, kept_chain, step_at, AreHeld}
 use Rattle.esc_store.specs.declared.store.Store.{Store}
 use Rattle.esc_store.specs.Standing.{IsAsBefore}
+use Rattle.esc_store.specs.StandingLaws.{as_before_then}
 use Rattle.esc_events.specs.Events.{EventValue, union}
 use Rattle.esc_events.specs.Assessment.{found_at, row_of, held_row}
 use Rattle.esc_events.specs.Receipts.{is_row}
 use Rattle.esc_events.specs.LatestTables.{tables_of, AreTables}
 use Rattle.esc_events.specs.Stands.{or_no_deposit, deposit_of, held_body, IsApart, StandsFor}
-use Rattle.esc_events.proofs.Moving.{chain_of}
-use Rattle.esc_events.proofs.MovingLemmas.{same_deposits}
+use Rattle.esc_desk.proofs.Moving.{chain_of}
+use Rattle.esc_desk.proofs.MovingLemmas.{same_deposits}
 use Rattle.esc_desk.specs.declared.desk.Desk.{Desk}
 use Rattle.esc_desk.specs.declared.status.End.{End}
 use Rattle.esc_desk.specs.Calls.{Stays}
@@ -57,6 +58,9 @@ use Rattle.esc_desk.specs.Reads.{last, AreHeldRows, AreParkedOf, SaysEnd, IsEndA
 pub read_stays : {S : Type 0} (g : Ghosts S) (old : Desk S) (store : Store S) → IsAsBefore g old.store store
     → Stays g old (record { store = store; known = old.known; reread = old.reread })
 read_stays g old store same = still_stays g old (record { store = store; known = old.known; reread = old.reread }) same refl
+
+-- the same after two reads
+pub ruleset read_then_stays = (read_stays, as_before_then)
 
 -- the last element of an image
 last_mapped : {X Y : Type 0} (f : X → Y) (xs : List X) → last (map f xs) ≡ option_map f (last xs)

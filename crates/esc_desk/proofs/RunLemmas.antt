@@ -53,10 +53,10 @@ use Rattle.esc_desk.specs.Crashes.{doubtful_by, doubtful_after}
 use Rattle.esc_desk.specs.Outcomes.{IsOutcomeOf, AreOutcomesOf, AreWorksOf, writes_in, HasWorked}
 use Rattle.esc_desk.specs.Running.{IsAnswer, AreAnswers, Ran, Takes}
 use Rattle.esc_desk.specs.Serving.{DeskServes, Answers}
-use Rattle.esc_events.proofs.AmendedBooks.{replies_stay}
-use Rattle.esc_events.proofs.EventLemmas.{union-arrived, comings-arrived, union-moved, comings-moved}
-use Rattle.esc_events.proofs.Searches.{alike-front}
-use Rattle.esc_events.proofs.Distinct.{distinct-push, receipts-push}
+use Rattle.esc_desk.proofs.AmendedBooks.{replies_stay}
+use Rattle.esc_desk.proofs.EventLemmas.{union-arrived, comings-arrived, union-moved, comings-moved}
+use Rattle.esc_desk.proofs.Searches.{alike-front}
+use Rattle.esc_desk.proofs.Distinct.{distinct-push, receipts-push}
 use Rattle.esc_desk.proofs.EarlyEvents.{union-early, comings-early}
 
 -- ---- a reply stays as it was

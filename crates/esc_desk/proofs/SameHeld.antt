@@ -12,10 +12,10 @@ use Rattle.esc_chain.specs.Laws.{OneLatestChainAt}
 use Rattle.esc_apply.specs.Images.{chain_state}
 use Rattle.esc_events.specs.Events.{EventValue, Coming, union, moment_of}
 use Rattle.esc_events.specs.Stands.{body_of, kept_arrivals, holds_by, deposits_of, held_rows, held_body}
-use Rattle.esc_events.proofs.AmendingLemmas.{digest_is}
-use Rattle.esc_events.proofs.Members.{first_of}
-use Rattle.esc_events.proofs.Moving.{chain_of}
-use Rattle.esc_events.proofs.MovingLemmas.{contains_held, same_deposits}
+use Rattle.esc_desk.proofs.AmendingLemmas.{digest_is}
+use Rattle.esc_desk.proofs.Members.{first_of}
+use Rattle.esc_desk.proofs.Moving.{chain_of}
+use Rattle.esc_desk.proofs.MovingLemmas.{contains_held, same_deposits}
 use Rattle.esc_desk.specs.Laws.{TablesAreOfEvents, HoldTheSame, SameHeldSameKept, AreApart}
 use Rattle.esc_desk.proofs.ReadLemmas.{same_content}
 use Rattle.esc_desk.proofs.WalkSteps.{held_in_range}

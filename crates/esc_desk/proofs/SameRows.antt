@@ -12,8 +12,8 @@ use Rattle.esc_chain.specs.Laws.{rows_along, ChainsAreOfRows}
 use Rattle.esc_apply.specs.Images.{chain_state}
 use Rattle.esc_events.specs.Events.{EventValue, union, moment_of}
 use Rattle.esc_events.specs.Stands.{deposit_of, deposits_of, held_rows, held_body}
-use Rattle.esc_events.proofs.Moving.{chain_of}
-use Rattle.esc_events.proofs.MovingLemmas.{contains_held, same_deposits}
+use Rattle.esc_desk.proofs.Moving.{chain_of}
+use Rattle.esc_desk.proofs.MovingLemmas.{contains_held, same_deposits}
 use Rattle.esc_desk.specs.Laws.{HoldTheSameRows, SameRowsSameTables}
 use Rattle.esc_desk.proofs.WalkSteps.{held_in_range}
 use Rattle.esc_desk.proofs.SameHeld.{same_body}

@@ -25,10 +25,10 @@ use Rattle.esc_desk.specs.declared.walk.Walk.{Walk}
 use Rattle.esc_events.specs.Events.{EventValue, union, moment_of}
 use Rattle.esc_events.specs.LatestTables.{AreEntries, tables_of}
 use Rattle.esc_events.specs.Stands.{kept_arrivals, IsApart, holds_by, held_rows}
-use Rattle.esc_events.proofs.HeldRows.{contains_held}
-use Rattle.esc_events.proofs.Members.{one_of}
-use Rattle.esc_events.proofs.Moving.{chain_of}
-use Rattle.esc_events.proofs.MovingLemmas.{held_within}
+use Rattle.esc_desk.proofs.HeldRows.{contains_held}
+use Rattle.esc_desk.proofs.Members.{one_of}
+use Rattle.esc_desk.proofs.Moving.{chain_of}
+use Rattle.esc_desk.proofs.MovingLemmas.{held_within}
 use Rattle.esc_desk.specs.Serving.{Serves}
 use Rattle.esc_desk.specs.Places.{first_kind, IsPlaceBehind}
 use Rattle.esc_desk.specs.Walking.{of_kinds, AreBehind, AreToCome, Follows}

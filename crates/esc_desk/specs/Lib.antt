@@ -4,6 +4,7 @@ pub mod Asked
 pub mod Calls
 pub mod Causes
 pub mod Crashes
+pub mod EventLaws
 pub mod Filled
 pub mod Knowing
 pub mod Laws

@@ -48,7 +48,7 @@ use crate::parking::parking_of;
 use crate::plan::{Source, latest_steps, plan_move};
 use esc_apply::{Work, read_deposits_mention_few};
 use esc_chain::latest_chain_at_rows_are_held;
-use esc_events::{Assessment, Known, Parking, books_after_a_lost_one_again, chain_after_an_event};
+use esc_events::{Assessment, Known, Parking};
 use esc_store::{Reply, SFault, Store, Verdict};
 use esc_tables::Deposit;
 use sqlite::Alter;
@@ -208,8 +208,6 @@ fn take_found<S: Alter>(
     ensures honest { IsHonest S.Store store.new → IsHonest S.Store store.old }
     ensures cause { IfErr result (IsTakeAgainFault S.Store store.old store.new found digest.now) }
 {
-    books_after_a_lost_one_again();
-    chain_after_an_event();
     // Read for the proof alone: it shows that the count is below 2^64.
     let _writes = store.writes();
     match found {
@@ -251,8 +249,6 @@ fn park_late<S: Alter>(
     ensures honest { IsHonest S.Store store.new → IsHonest S.Store store.old }
     ensures cause { IfErr result (IsParkLateFault S.Store store.old store.new digest.now) }
 {
-    books_after_a_lost_one_again();
-    chain_after_an_event();
     // Read for the proof alone: it shows that the count is below 2^64.
     let _writes = store.writes();
     match parking_of(store, alloc, digest)? {
@@ -295,8 +291,6 @@ fn hold_late<S: Alter>(
     ensures honest { IsHonest S.Store store.new → IsHonest S.Store store.old }
     ensures cause { IfErr result IsS1OrS2 }
 {
-    books_after_a_lost_one_again();
-    chain_after_an_event();
     // Read for the proof alone: it shows that the count is below 2^64.
     let _writes = store.writes();
     if known.held.contains(&row) {
@@ -339,8 +333,6 @@ fn hold_and_move<S: Alter>(
 {
     latest_chain_at_rows_are_held();
     read_deposits_mention_few();
-    books_after_a_lost_one_again();
-    chain_after_an_event();
     let moment = store.moment()?;
     let new = latest_steps(alloc, store.manifest(), &known.held, moment)?;
     let old = mem::replace(&mut known.chain, Vec::new(alloc));

@@ -58,7 +58,7 @@ use crate::receipt::{is_among, receipt_by, reply_of};
 use crate::reread::Reread;
 use esc_apply::{Work, read_deposits_mention_few};
 use esc_chain::latest_chain_at_rows_are_held;
-use esc_events::{Assessment, Known, Parking, chain_after_an_event};
+use esc_events::{Assessment, Known, Parking};
 use esc_store::{MOST_RECEIPTS, Number, Receipt, Reply, SFault, Store};
 use esc_tables::Deposit;
 use sqlite::Alter;
@@ -285,7 +285,6 @@ fn keep_deposit<S: Alter>(
 {
     latest_chain_at_rows_are_held();
     read_deposits_mention_few();
-    chain_after_an_event();
     let moment = store.moment()?;
     let new = latest_steps(alloc, store.manifest(), &known.held, moment)?;
     let old = mem::replace(&mut known.chain, Vec::new(alloc));

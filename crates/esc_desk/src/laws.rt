@@ -32,7 +32,6 @@ ghost use Rattle.esc_desk.specs.Worked.{
 };
 
 use esc_chain::{chains_are_of_rows, latest_chain_at_is_one};
-use esc_events::migrated_store_stands;
 use esc_store::Store;
 use sqlite::Alter;
 
@@ -108,7 +107,6 @@ pub fn migrated_store_serves<S: Alter>(store: &Store<S>)
         → StoodFor sha256 reading m l k → StandsFor sha256 reading (events_before m l) k }
 {
     let _ = store;
-    migrated_store_stands();
 }
 
 ghost use Rattle.esc_store.specs.Kept.{Kept};

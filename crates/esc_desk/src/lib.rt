@@ -128,6 +128,7 @@ mod bodies;
 mod changes;
 mod desk;
 mod event;
+mod event_laws;
 mod judging;
 mod keeping;
 mod knowing;
@@ -148,6 +149,10 @@ pub use desk::Desk;
 pub use esc_events::ParkedBody;
 pub use esc_store::{N1, Number, Reply, SFault, Verdict, number};
 pub use event::{Event, EventOutcome, Outcome};
+pub use event_laws::{
+    books_after_a_lost_one_again, books_after_a_moment, books_after_an_amendment,
+    books_after_an_arrival, chain_after_an_event, migrated_store_stands,
+};
 pub use laws::{
     migrated_store_serves, new_store_stands_for_its_manifest, same_held_same_kept,
     same_rows_same_tables, stands_for_manifest_and_arrivals, tables_are_of_events,

@@ -33,7 +33,7 @@ use crate::desk::Desk;
 use crate::plan::{Source, latest_steps, plan_move};
 use esc_apply::{Work, read_deposits_mention_few};
 use esc_chain::latest_chain_at_rows_are_held;
-use esc_events::{Plan, chain_after_an_event};
+use esc_events::Plan;
 use esc_store::{Change, SFault, Store};
 use sqlite::Alter;
 use std::alloc::Global;
@@ -61,7 +61,6 @@ impl<S: Alter> Desk<S> {
     {
         latest_chain_at_rows_are_held();
         read_deposits_mention_few();
-        chain_after_an_event();
         let mut known = self.take_known(alloc)?;
         let new = latest_steps(alloc, self.store.manifest(), &known.held, moment)?;
         let old = mem::replace(&mut known.chain, Vec::new(alloc));

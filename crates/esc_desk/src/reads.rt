@@ -93,7 +93,7 @@ impl<S: Alter> Desk<S> {
 
     /// The bodies that no row lists, each as its digest and length, in the order of digests. They
     /// are read one at a time. `S1`, `S2`.
-    #[tactic(auto, using(crate::proofs::ReadLemmas::read_stays, esc_store::specs::StandingLaws::as_before_then))]
+    #[tactic(auto, using(crate::proofs::ReadLemmas::read_then_stays))]
     pub fn parked(&mut self, alloc: Global) -> Result<Vec<ParkedBody>, SFault>
         ensures stays { Stays S.Store self.old self.new }
         ensures bodies { OkOver S.Store self.old self.new result
@@ -129,7 +129,7 @@ impl<S: Alter> Desk<S> {
 
     /// What the latest chain's last deposit says of the registry, read from its body's envelope;
     /// `None` where there is no chain. `S1`, `S2`.
-    #[tactic(auto, using(crate::proofs::ReadLemmas::read_stays, esc_store::specs::StandingLaws::as_before_then))]
+    #[tactic(auto, using(crate::proofs::ReadLemmas::read_then_stays))]
     pub fn end(&mut self, alloc: Global) -> Result<Option<End>, SFault>
         ensures stays { Stays S.Store self.old self.new }
         ensures end { OkOver S.Store self.old self.new result
@@ -148,7 +148,7 @@ impl<S: Alter> Desk<S> {
 
     /// The desk's counts, and the end of its latest chain. Reads what [`Desk::held`] reads and, the
     /// first time after a change, the kind of each object. `S1`, `S2`.
-    #[tactic(auto, using(crate::proofs::ReadLemmas::read_stays, esc_store::specs::StandingLaws::as_before_then))]
+    #[tactic(auto, using(crate::proofs::ReadLemmas::read_then_stays))]
     pub fn status(&mut self, alloc: Global) -> Result<Status, SFault>
         ensures stays { Stays S.Store self.old self.new }
         ensures status { OkOver S.Store self.old self.new result

@@ -13,5 +13,4 @@ pub mod Receipts
 pub mod Stands
 pub mod Taking
 pub mod Works
-pub mod Laws
 pub mod HeldLaws

@@ -1,5 +1,5 @@
 //! What a list of events makes of a store, with amended manifests and moments: definitions, and
-//! what follows from them.
+//! the types that they speak of.
 //!
 //! An agent may release a manifest in parts, so that a body comes before the row that lists it; and
 //! an operator may want the registry as it was at a moment. Here is what both mean. The events are:
@@ -32,39 +32,28 @@
 //!
 //! # What is promised
 //!
-//! The laws say what one more event changes in a store that stands for a list: in its books, which
-//! are what it keeps except for the chain and its tables ([`books_after_an_arrival`],
-//! [`books_after_a_lost_one_again`], [`books_after_an_amendment`], [`books_after_a_moment`]), and
-//! in its chain and tables, with the work of the move ([`chain_after_an_event`]). For example,
-//! `AmendedBooks` says of an amendment: before the chain moves, all that has to be done is to list
-//! the new rows, to hold the parked bodies that are their deposits, and to drop the other bodies
-//! that are parked for them. [`migrated_store_stands`] says that what a store of version 1 kept
-//! stands for its manifest and its arrivals as early ones.
+//! Nothing: here are definitions, and the types that they speak of. That a store stands for a list
+//! of events, and what one more event changes in it, is promised by the contracts of the desk
+//! (`esc_desk`), in these words.
 //!
 //! # Example
 //!
-//! No code here runs: the contracts of the desk (`esc_desk`) are stated by these definitions, and
-//! its bodies call a law where their proofs need it.
+//! No code here runs. A clause of a desk's call, in these words: where the desk stood for the
+//! events `e` before, it stands for them and the arrival after.
 //!
 //! ```text
-//! chain_after_an_event();  // from here on, that a planned move leaves the latest chain's tables
-//! let plan = plan_move(store, alloc, old, new, source)?;
+//! ensures { .. StandsFor sha256 reading e k → StandsFor sha256 reading (e ++ arrived a ∷ []) l }
 //! ```
 #![tactic(auto)]
 
 mod assessment;
 mod known;
-mod laws;
 mod parked;
 mod parking;
 mod plan;
 
 pub use assessment::Assessment;
 pub use known::Known;
-pub use laws::{
-    books_after_a_lost_one_again, books_after_a_moment, books_after_an_amendment,
-    books_after_an_arrival, chain_after_an_event, migrated_store_stands,
-};
 pub use parked::ParkedBody;
 pub use parking::Parking;
 pub use plan::Plan;

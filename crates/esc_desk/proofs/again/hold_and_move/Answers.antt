@@ -11,17 +11,18 @@ use Rattle.esc_events.specs.ArrivalValue.{an_arrival}
 use Rattle.esc_events.specs.Events.{EventValue}
 use Rattle.esc_events.specs.Events.EventValue.{arrived}
 use Rattle.esc_events.specs.Known.{IsKnown}
-use Rattle.esc_events.specs.Laws.{IsMove}
+use Rattle.esc_desk.specs.EventLaws.{IsMove}
 use Rattle.esc_events.specs.Plans.{AreLatestSteps, moved_by}
 use Rattle.esc_events.specs.Stands.{deposits_of}
 use Rattle.esc_events.specs.Taking.{IsAgain}
-use Rattle.esc_events.proofs.Moving.{moved_from}
+use Rattle.esc_desk.proofs.Moving.{moved_from, move_stands, move_is_work}
 use Rattle.esc_desk.specs.Crashes.{AddsStore, AddsStoreFor}
 use Rattle.esc_desk.proofs.ComingAgain.{again_source, again_move, again_idle}
 use Rattle.esc_desk.proofs.Working.{both_ok}
 use Rattle.esc_desk.proofs.CrashLemmas.{leaves_for}
 use Rattle.esc_desk.proofs.CrashSteps.{adds_for, adds_none, adds_then}
 use Rattle.esc_desk.proofs.again.hold_and_move.Given as given
+use Rattle.esc_desk.proofs.Arriving.{books_held_again}
 use Rattle.esc_desk.proofs.again.hold_and_move.Goals as goal
 
 pub returns-in_err-moment-clause-crash : goal.returns-in_err-moment-clause-crash
@@ -57,7 +58,7 @@ move g c clean e n k reply stood none is knows =
     let moment = c.in_ok-moment.ensures.moment (was_honest c.in_ok-plan.ensures.same honest) k stood in
     let new = ap (λ v. v.items) (sym c.in_ok-plan.ensures.new) in
     let latest = subst (λ (steps : List Step). AreLatestSteps c.manifest.result.now rows c.in_ok-moment.moment steps) new c.in_ok-new.ensures.steps in
-    let books = c.books_after_a_lost_one_again.ensures.held e a k row c.args.deposit reply is none in
+    let books = books_held_again e a k row c.args.deposit reply is none in
     again_move e a k row c.args.deposit reply is none books rows plan _ _ held (c.manifest.ensures.kept k there) moment latest planned
 
 pub returns-clause-held : goal.returns-clause-held
@@ -76,11 +77,11 @@ returns-clause-held g c = IfOk-weaker c.hold_body-work.result _ _
     let few_new = subst (λ (steps : List Step). length steps ≤ 4096) (ap (λ v. v.items) (sym c.in_ok-plan.ensures.new)) c.in_ok-new.ensures.few in
     let moves = move g c clean e n k reply stood none is knows in
     let from = moved_from e k bodies plan is.stood moves.planned in
-    let stands = c.chain_after_an_event.ensures.moved law e (arrived a) k with_it [] rows bodies plan moves in
+    let stands = move_stands law e (arrived a) k with_it [] rows bodies plan moves in
     record {
       serves = record { kept = moved_by plan with_it was; stands = made.1.0 clean k was none from before; stands_for = stands };
       knows = record { held = knows.held; told = knows.told; chain = moves.latest.are_steps };
-      works = c.chain_after_an_event.ensures.worked law few e (arrived a) k with_it [] rows bodies plan moves c.in_ok-plan.ensures.few few_new work (made.1.1 clean k was from before);
+      works = move_is_work law few e (arrived a) k with_it [] rows bodies plan moves c.in_ok-plan.ensures.few few_new work (made.1.1 clean k was from before);
       idle = again_idle e a k row c.args.deposit reply is none moves.books work;
       left = leaves_for g.S.Store _ stands (made.0 k was none from before);
     })
@@ -98,5 +99,5 @@ returns-clause-crash g c = λ clean e n k reply stood none is knows.
     let before = c.in_ok-plan.ensures.same.stands k (c.in_ok-moment.ensures.same.stands k stood) in
     let moves = move g c clean e n k reply stood none is knows in
     let from = moved_from e k bodies plan is.stood moves.planned in
-    let stands = c.chain_after_an_event.ensures.moved law e (arrived (an_arrival n body)) k with_it [] c.deref.result.now bodies plan moves in
+    let stands = move_stands law e (arrived (an_arrival n body)) k with_it [] c.deref.result.now bodies plan moves in
     adds_then c.in_ok-moment.ensures.same.survives (adds_then c.in_ok-plan.ensures.same.survives (adds_for stands (c.hold_body-work.ensures.crash k was none from before)))

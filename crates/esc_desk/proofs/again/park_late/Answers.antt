@@ -10,6 +10,7 @@ use Rattle.esc_desk.specs.Crashes.{AddsStore, AddsStoreFor}
 use Rattle.esc_desk.proofs.ComingAgain.{nothing_parked, nothing_taken, parked_stands, parked_taken}
 use Rattle.esc_desk.proofs.CrashLemmas.{leaves_for, leaves_with_nothing}
 use Rattle.esc_desk.proofs.CrashSteps.{adds_as, adds_for, adds_none, adds_then, not_full_by, not_full_of}
+use Rattle.esc_desk.proofs.Arriving.{books_parked_again}
 use Rattle.esc_desk.proofs.again.park_late.Goals as goal
 
 pub returns-in_err-parking_of-clause-crash : goal.returns-in_err-parking_of-clause-crash
@@ -36,7 +37,7 @@ returns-in_ok-park_body-in-Free-clause-taken g c = λ clean e n k reply known st
     let a = an_arrival n c.args.body.now in
     let at = subst (λ (p : Parking). IsParking k.parked c.args.digest.now p) c.in-Free.is (c.in_ok-parking_of.ensures.parking (c.in_ok-park_body-in-Free.ensures.honest clean) k stood) in
     let free = subst (λ (d : List ℕ). IsParking k.parked d Free) c.requires at in
-    let books = c.books_after_a_lost_one_again.ensures.parked e a k reply is Free free (λ full. let never : ⊥ = cc in never) in
+    let books = books_parked_again e a k reply is Free free (λ full. let never : ⊥ = cc in never) in
     let there = c.in_ok-parking_of.ensures.same.stands k stood in
     parked_taken e a k reply is books g.S.Store c.args.store.now c.park_body.new.store known knows
     (subst (λ (d : List ℕ). Stands g.S.Store c.park_body.new.store (with_parked k d (Some c.args.body.now))) c.requires (c.in_ok-park_body-in-Free.ensures.parked clean k there))
@@ -49,7 +50,7 @@ returns-in_ok-park_body-in-Free-clause-crash g c = λ clean e n k reply stood is
     let a = an_arrival n c.args.body.now in
     let at = subst (λ (p : Parking). IsParking k.parked c.args.digest.now p) c.in-Free.is (c.in_ok-parking_of.ensures.parking (c.in_ok-park_body-in-Free.ensures.honest clean) k stood) in
     let free = subst (λ (d : List ℕ). IsParking k.parked d Free) c.requires at in
-    let books = c.books_after_a_lost_one_again.ensures.parked e a k reply is Free free (λ full. let never : ⊥ = cc in never) in
+    let books = books_parked_again e a k reply is Free free (λ full. let never : ⊥ = cc in never) in
     let there = c.in_ok-parking_of.ensures.same.stands k stood in
     let adds = subst (λ (d : List ℕ). AddsStore g.S.Store c.parking_of.new.store.conn c.park_body.new.store.conn c.park_body.result (with_parked k d (Some c.args.body.now)))
     c.requires (c.park_body.ensures.crash k there) in
@@ -61,7 +62,7 @@ returns-in_err-park_body-in-Free-clause-crash g c = λ clean e n k reply stood i
     let a = an_arrival n c.args.body.now in
     let at = subst (λ (p : Parking). IsParking k.parked c.args.digest.now p) c.in-Free.is (c.in_ok-parking_of.ensures.parking (c.in_err-park_body-in-Free.ensures.honest clean) k stood) in
     let free = subst (λ (d : List ℕ). IsParking k.parked d Free) c.requires at in
-    let books = c.books_after_a_lost_one_again.ensures.parked e a k reply is Free free (λ full. let never : ⊥ = cc in never) in
+    let books = books_parked_again e a k reply is Free free (λ full. let never : ⊥ = cc in never) in
     let there = c.in_ok-parking_of.ensures.same.stands k stood in
     let adds = subst (λ (d : List ℕ). AddsStore g.S.Store c.parking_of.new.store.conn c.park_body.new.store.conn c.park_body.result (with_parked k d (Some c.args.body.now)))
     c.requires (c.park_body.ensures.crash k there) in

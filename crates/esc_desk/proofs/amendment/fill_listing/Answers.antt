@@ -5,7 +5,7 @@ use Rattle.esc_store.specs.Kept.{Kept, with_listed}
 use Rattle.esc_store.specs.Standing.{IsHonest}
 use Rattle.esc_events.specs.Amended.{with_all_adopted, with_all_dropped, amended_kept}
 use Rattle.esc_events.specs.Plans.{moved_by}
-use Rattle.esc_events.proofs.AmendingKept.{adopted_stay, dropped_stay}
+use Rattle.esc_desk.proofs.AmendingKept.{adopted_stay, dropped_stay}
 use Rattle.esc_desk.specs.Amendments.{AreApartRows}
 use Rattle.esc_desk.specs.Filled.{IsFilled}
 use Rattle.esc_desk.proofs.ListingSteps.{apart_listed, listed_first}

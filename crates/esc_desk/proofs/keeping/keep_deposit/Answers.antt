@@ -11,12 +11,12 @@ use Rattle.esc_events.specs.ArrivalValue.{an_arrival}
 use Rattle.esc_events.specs.Events.{EventValue}
 use Rattle.esc_events.specs.Events.EventValue.{arrived}
 use Rattle.esc_events.specs.Known.{IsKnown}
-use Rattle.esc_events.specs.Laws.{IsMove}
+use Rattle.esc_desk.specs.EventLaws.{IsMove}
 use Rattle.esc_events.specs.Notes.{held_by}
 use Rattle.esc_events.specs.Plans.{AreLatestSteps, moved_by}
 use Rattle.esc_events.specs.Stands.{deposits_of}
 use Rattle.esc_events.specs.Taking.{IsNew}
-use Rattle.esc_events.proofs.Moving.{moved_from}
+use Rattle.esc_desk.proofs.Moving.{moved_from, move_stands, move_is_work}
 use Rattle.esc_desk.specs.Crashes.{AddsStore, AddsStoreFor}
 use Rattle.esc_desk.proofs.Holding.{held_source, move_of}
 use Rattle.esc_desk.proofs.Working.{both_ok, idle_held}
@@ -78,11 +78,11 @@ returns-clause-kept g c = IfOk-weaker c.hold_deposit-kept.result _ _
     let few_new = subst (λ (steps : List Step). length steps ≤ 4096) (ap (λ v. v.items) (sym c.in_ok-plan.ensures.new)) c.in_ok-new.ensures.few in
     let moves = move g c clean e n k first stood none is knows in
     let from = moved_from e k bodies plan is.stood moves.planned in
-    let stands = c.chain_after_an_event.ensures.moved law e (arrived a) k with_it [] rows bodies plan moves in
+    let stands = move_stands law e (arrived a) k with_it [] rows bodies plan moves in
     record {
       serves = record { kept = moved_by plan with_it was; stands = made.1.0 clean k was none from before; stands_for = stands };
       knows = record { held = knows.held; told = knows.told; chain = moves.latest.are_steps };
-      works = c.chain_after_an_event.ensures.worked law few e (arrived a) k with_it [] rows bodies plan moves c.in_ok-plan.ensures.few few_new p.1 (made.1.1 clean k was from before);
+      works = move_is_work law few e (arrived a) k with_it [] rows bodies plan moves c.in_ok-plan.ensures.few few_new p.1 (made.1.1 clean k was from before);
       idle = idle_held is none p.1;
       left = leaves_for g.S.Store _ stands (made.0 k was none from before);
     })
@@ -100,5 +100,5 @@ returns-clause-crash g c = λ clean e n k first stood none is knows.
     let before = c.in_ok-plan.ensures.same.stands k (c.in_ok-moment.ensures.same.stands k stood) in
     let moves = move g c clean e n k first stood none is knows in
     let from = moved_from e k bodies plan is.stood moves.planned in
-    let stands = c.chain_after_an_event.ensures.moved law e (arrived (an_arrival n body)) k with_it [] c.deref.result.now bodies plan moves in
+    let stands = move_stands law e (arrived (an_arrival n body)) k with_it [] c.deref.result.now bodies plan moves in
     adds_then c.in_ok-moment.ensures.same.survives (adds_then c.in_ok-plan.ensures.same.survives (adds_for stands (c.hold_deposit-kept.ensures.crash k was none from before)))

@@ -14,9 +14,9 @@ use Rattle.esc_events.specs.Known.{IsKnown}
 use Rattle.esc_events.specs.Receipts.{is_among, receipt_by}
 use Rattle.esc_events.specs.Stands.{StandsFor}
 use Rattle.esc_events.specs.Taking.{IsNew}
-use Rattle.esc_events.proofs.Arriving.{new_receipt}
-use Rattle.esc_events.proofs.HeldRows.{unlisted_row}
-use Rattle.esc_events.proofs.OneArrival.{new_reply}
+use Rattle.esc_desk.proofs.Arriving.{new_receipt}
+use Rattle.esc_desk.proofs.HeldRows.{unlisted_row}
+use Rattle.esc_desk.proofs.OneArrival.{new_reply}
 use Rattle.esc_desk.specs.Crashes.{AddsStoreFor}
 use Rattle.esc_desk.proofs.CauseLemmas.{if_err_is, faults_of}
 use Rattle.esc_desk.proofs.CrashSteps.{adds_as, not_full_by}

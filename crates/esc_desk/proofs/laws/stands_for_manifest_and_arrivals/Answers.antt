@@ -1,4 +1,4 @@
-use Rattle.esc_events.proofs.EventLemmas.{union_then, arrivals_then}
+use Rattle.esc_desk.proofs.EventLemmas.{union_then, arrivals_then}
 use Rattle.esc_desk.proofs.AtFirst.{left_by_arrivals}
 use Rattle.esc_desk.proofs.laws.stands_for_manifest_and_arrivals.Goals as goal
 

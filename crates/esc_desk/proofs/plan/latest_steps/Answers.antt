@@ -4,7 +4,7 @@ use Rattle.std.specs.FinSet as set
 use Rattle.esc_chain.specs.Chain.{Rows, InRange, IsLatestChainAt}
 use Rattle.esc_store.specs.Kept.{step_at}
 use Rattle.esc_events.specs.Plans.{rows_in}
-use Rattle.esc_events.proofs.Moving.{rows_of_steps}
+use Rattle.esc_desk.proofs.Moving.{rows_of_steps}
 use Rattle.esc_desk.proofs.plan.latest_steps.Goals as goal
 
 pub returns-clause-steps : goal.returns-clause-steps

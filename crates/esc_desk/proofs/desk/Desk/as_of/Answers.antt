@@ -7,10 +7,10 @@ use Rattle.esc_store.specs.StandingLaws.{was_honest}
 use Rattle.esc_events.specs.Events.{EventValue}
 use Rattle.esc_events.specs.Events.EventValue.{moved}
 use Rattle.esc_events.specs.Known.{IsKnown}
-use Rattle.esc_events.specs.Laws.{IsMove}
+use Rattle.esc_desk.specs.EventLaws.{IsMove}
 use Rattle.esc_events.specs.Plans.{AreLatestSteps, moved_by}
 use Rattle.esc_events.specs.Stands.{deposits_of}
-use Rattle.esc_events.proofs.Moving.{moved_from}
+use Rattle.esc_desk.proofs.Moving.{moved_from, move_stands, move_is_work}
 use Rattle.esc_desk.specs.Crashes.{AddsStore, AddsStoreFor}
 use Rattle.esc_desk.specs.Serving.{DeskServes}
 use Rattle.esc_desk.proofs.CrashLemmas.{if_clean, leaves_unmade, leaves_at}
@@ -53,7 +53,7 @@ returns-in_err-work-clause-crash g c = λ e doubtful served left.
     let new = ap (λ v. v.items) (sym c.in_ok-plan.ensures.new) in
     let latest = subst (λ (steps : List Step). AreLatestSteps c.manifest.result.now c.deref.result.now c.args.moment steps) new c.in_ok-new.ensures.steps in
     let move = moment_move stood is (c.manifest.ensures.kept k there) c.deref.ensures.value latest planned in
-    let stands = c.chain_after_an_event.ensures.moved c.latest_chain_at_rows_are_held.ensures e (moved c.args.moment) k l [] known.held.items k.bodies plan move in
+    let stands = move_stands c.latest_chain_at_rows_are_held.ensures e (moved c.args.moment) k l [] known.held.items k.bodies plan move in
     adds_then c.in_ok-known.ensures.same.survives (adds_then c.in_ok-plan.ensures.same.survives
     (adds_as (λ h. not_full_by c.in_err-work.field-0.0 (search rules) h) (adds_for stands (c.in_err-work.ensures.crash k was (moved_from e k k.bodies plan stood planned) before)))))
 
@@ -87,7 +87,7 @@ returns-clause-set g c = λ clean e served.
     let is = knows g c clean e served in
     let moves = move g c clean e served in
     let from = moved_from e k k.bodies plan moves.stood moves.planned in
-    let stands = c.chain_after_an_event.ensures.moved c.latest_chain_at_rows_are_held.ensures e (moved c.args.moment) k l [] c.in_ok-known.known.held.items k.bodies plan moves in
+    let stands = move_stands c.latest_chain_at_rows_are_held.ensures e (moved c.args.moment) k l [] c.in_ok-known.known.held.items k.bodies plan moves in
     record {
       serves = record { kept = moved_by plan l was; stands = c.in_ok-work.ensures.set clean k was from before; stands_for = stands };
       remembers = record { held = is.held; told = is.told; chain = moves.latest.are_steps };
@@ -103,7 +103,7 @@ returns-clause-worked g c = λ clean e served.
     let few_new = subst (λ (steps : List Step). length steps ≤ 4096) (ap (λ v. v.items) (sym c.in_ok-plan.ensures.new)) c.in_ok-new.ensures.few in
     let moves = move g c clean e served in
     let from = moved_from e k k.bodies plan moves.stood moves.planned in
-    c.chain_after_an_event.ensures.worked c.latest_chain_at_rows_are_held.ensures c.read_deposits_mention_few.ensures e (moved c.args.moment) k l [] c.in_ok-known.known.held.items k.bodies plan moves
+    move_is_work c.latest_chain_at_rows_are_held.ensures c.read_deposits_mention_few.ensures e (moved c.args.moment) k l [] c.in_ok-known.known.held.items k.bodies plan moves
     c.in_ok-plan.ensures.few few_new c.in_ok-work.work (c.in_ok-work.ensures.worked clean k was from before)
 
 pub returns-clause-crash : goal.returns-clause-crash
@@ -115,5 +115,5 @@ returns-clause-crash g c = λ e doubtful served left. if_clean g.S.Store _ _ _ (
     let before = c.in_ok-plan.ensures.same.stands k (c.in_ok-known.ensures.same.stands k served.serves.stands) in
     let moves = move g c clean e served in
     let from = moved_from e k k.bodies plan moves.stood moves.planned in
-    let stands = c.chain_after_an_event.ensures.moved c.latest_chain_at_rows_are_held.ensures e (moved c.args.moment) k l [] c.in_ok-known.known.held.items k.bodies plan moves in
+    let stands = move_stands c.latest_chain_at_rows_are_held.ensures e (moved c.args.moment) k l [] c.in_ok-known.known.held.items k.bodies plan moves in
     leaves_at g.S.Store c.set_moment.new.store stands (c.in_ok-work.ensures.left k was from before))

@@ -7,7 +7,7 @@ use Rattle.esc_store.specs.Kept.{step_at, AreCounts}
 use Rattle.esc_store.specs.ReplyValue.{ReceiptValue}
 use Rattle.esc_store.specs.StandingLaws.{was_honest}
 use Rattle.esc_events.specs.Events.{union}
-use Rattle.esc_events.proofs.Moving.{chain_of}
+use Rattle.esc_desk.proofs.Moving.{chain_of}
 use Rattle.esc_desk.specs.Reads.{last}
 use Rattle.esc_desk.proofs.ReadLemmas.{same_held, same_content, same_chain}
 use Rattle.esc_desk.proofs.desk.Desk.status.Goals as goal

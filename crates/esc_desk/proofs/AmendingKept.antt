@@ -14,7 +14,7 @@ use Rattle.esc_events.specs.Assessment.{row_of}
 use Rattle.esc_events.specs.Stands.{Among}
 use Rattle.esc_events.specs.Amended.{judged, numbers_from, is_adopted, is_dropped, adopted_rows, dropped_rows}
 use Rattle.esc_events.specs.Amended.{amended_bodies, still_parked, with_adopted, with_all_adopted, with_all_dropped}
-use Rattle.esc_events.proofs.AmendingLemmas.{row_is, row_has, judged_some}
+use Rattle.esc_desk.proofs.AmendingLemmas.{row_is, row_has, judged_some}
 
 none_both : (t : Bool) (o : Option (List ℕ)) → o ≡ None → cond t None o ≡ None
 none_both true o none = refl

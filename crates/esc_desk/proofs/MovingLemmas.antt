@@ -30,9 +30,9 @@ use Rattle.esc_events.specs.Events.EventValue.{listed, arrived, moved, arrived_e
 use Rattle.esc_events.specs.Works.{no_work}
 use Rattle.esc_events.specs.Stands.{Among, HaveBodies, holds_by, body_of, kept_arrivals, held_rows, held_body, deposit_of, deposits_of}
 use Rattle.esc_events.specs.HeldLaws.{same_self, exact}
-use Rattle.esc_events.proofs.AmendingLemmas.{same_bool, row_held}
-use Rattle.esc_events.proofs.FrontLemmas.{AreOf}
-use Rattle.esc_events.proofs.HeldRows as rows
+use Rattle.esc_desk.proofs.AmendingLemmas.{same_bool, row_held}
+use Rattle.esc_desk.proofs.FrontLemmas.{AreOf}
+use Rattle.esc_desk.proofs.HeldRows as rows
 
 -- ---- each row of a list
 pub each_of : (P : ℕ → Type 0) (rows : List ℕ) → ((i : ℕ) → i < length rows → P (slice_index rows i)) → AllByRecursion P rows

@@ -30,11 +30,11 @@ use Rattle.esc_events.specs.Receipts.{holds_row, holds, holds_any, is_among, dis
 use Rattle.esc_events.specs.Stands.{TellsOf, holds_by, held_body, parked_body, IsApart, AreBooks}
 use Rattle.esc_events.specs.Taking.{IsNew, IsAgain}
 use Rattle.esc_events.specs.HeldLaws.{same_self, exact, holding_listed}
-use Rattle.esc_events.proofs.AmendingLemmas.{same_bool, row_found}
-use Rattle.esc_events.proofs.HeldReceipts.{holds_from_says, any_holds, any_says}
-use Rattle.esc_events.proofs.HeldRows.{is_row_of, listed_row, unlisted_row}
-use Rattle.esc_events.proofs.OneArrival.{OldOrHolds, OldOrHas, old_body, new_body, old_parked, new_parked, repeated, books_again, books_with}
-use Rattle.esc_events.proofs.Telling.{any_of_row, told_again}
+use Rattle.esc_desk.proofs.AmendingLemmas.{same_bool, row_found}
+use Rattle.esc_desk.proofs.HeldReceipts.{holds_from_says, any_holds, any_says}
+use Rattle.esc_desk.proofs.HeldRows.{is_row_of, listed_row, unlisted_row}
+use Rattle.esc_desk.proofs.OneArrival.{OldOrHolds, OldOrHas, old_body, new_body, old_parked, new_parked, repeated, books_again, books_with}
+use Rattle.esc_desk.proofs.Telling.{any_of_row, told_again}
 
 -- ---- the receipt
 

@@ -19,12 +19,12 @@ use Rattle.esc_events.specs.Assessment.{found_at, row_of}
 use Rattle.esc_events.specs.FirstVersion.{StoodFor, events_before, first_arrivals}
 use Rattle.esc_events.specs.Receipts.{holds_row, holds, alike, distinct, receipts_after}
 use Rattle.esc_events.specs.Stands.{Among, IsApart, CameFor, StandsFor, TellsOf, body_of, holds_by, has_digest, is_lost, kept_arrivals, held_body, parked_body}
-use Rattle.esc_events.proofs.AmendingLemmas.{row_has, row_found, find_never}
-use Rattle.esc_events.proofs.Distinct.{alike_laws, any_alike}
-use Rattle.esc_events.proofs.EventLemmas.{none_is_listed}
-use Rattle.esc_events.proofs.HeldReceipts.{any_holds, any_says}
-use Rattle.esc_events.proofs.Lost.{counted_came, counted_kept, came_counts}
-use Rattle.esc_events.proofs.Members.{any_of, one_of, first_of, distinct_among, some_any, any_some}
+use Rattle.esc_desk.proofs.AmendingLemmas.{row_has, row_found, find_never}
+use Rattle.esc_desk.proofs.Distinct.{alike_laws, any_alike}
+use Rattle.esc_desk.proofs.EventLemmas.{none_is_listed}
+use Rattle.esc_desk.proofs.HeldReceipts.{any_holds, any_says}
+use Rattle.esc_desk.proofs.Lost.{counted_came, counted_kept, came_counts}
+use Rattle.esc_desk.proofs.Members.{any_of, one_of, first_of, distinct_among, some_any, any_some}
 
 -- ---- the events
 

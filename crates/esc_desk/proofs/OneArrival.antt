@@ -17,12 +17,12 @@ use Rattle.esc_events.specs.Events.EventValue.{arrived}
 use Rattle.esc_events.specs.Assessment.{assessment, row_of, held_row}
 use Rattle.esc_events.specs.Receipts.{holds_row, holds_any, found_then, alike, distinct, receipt_for, receipts_after, receipts_of, reply_to}
 use Rattle.esc_events.specs.Stands.{Among, TellsOf, body_of, holds_by, has_digest, kept_arrivals, held_body, parked_body, IsApart, CameFor, CameWith, AreBooks}
-use Rattle.esc_events.proofs.EventLemmas.{union-arrived, comings-arrived, moment-arrived}
-use Rattle.esc_events.proofs.Searches.{none_alike, some_alike, alike-last, find-push-old, find-push-new}
-use Rattle.esc_events.proofs.Distinct.{alike_laws, any_alike, distinct-push, receipts-push, kept_any}
-use Rattle.esc_events.proofs.HeldReceipts.{says_from_holds}
-use Rattle.esc_events.proofs.Lost.{kept_arrivals-arrived, came_counts, alike_counts}
-use Rattle.esc_events.proofs.Members.{any_of, among-front, among-last, distinct_among, some_any, any_some, no_first}
+use Rattle.esc_desk.proofs.EventLemmas.{union-arrived, comings-arrived, moment-arrived}
+use Rattle.esc_desk.proofs.Searches.{none_alike, some_alike, alike-last, find-push-old, find-push-new}
+use Rattle.esc_desk.proofs.Distinct.{alike_laws, any_alike, distinct-push, receipts-push, kept_any}
+use Rattle.esc_desk.proofs.HeldReceipts.{says_from_holds}
+use Rattle.esc_desk.proofs.Lost.{kept_arrivals-arrived, came_counts, alike_counts}
+use Rattle.esc_desk.proofs.Members.{any_of, among-front, among-last, distinct_among, some_any, any_some, no_first}
 
 module _ (digest : List ℕ → List ℕ) (reads : List ℕ → Result DepositValue ℕ) where
   -- whether an arrival of the list is a duplicate of this one, by the receipts

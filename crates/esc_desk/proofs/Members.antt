@@ -7,7 +7,7 @@ use Rattle.esc_tables.specs.DepositValue.{DepositValue}
 use Rattle.esc_events.specs.Events.{Coming}
 use Rattle.esc_events.specs.Receipts.{alike, distinct}
 use Rattle.esc_events.specs.Stands.{Among, body_of}
-use Rattle.esc_events.proofs.Searches.{find_some, find_none}
+use Rattle.esc_desk.proofs.Searches.{find_some, find_none}
 
 pub any_of : (p : Coming → Bool) (l : List Coming) (a : Coming) → Among l a → p a ≡ true → list_any p l ≡ true
 any_of p [] a among e = absurd among

@@ -14,10 +14,10 @@ use Rattle.esc_events.specs.Events.EventValue.{arrived}
 use Rattle.esc_events.specs.Assessment.{found_at, row_of, held_row}
 use Rattle.esc_events.specs.Receipts.{receipt_by, holds_any, alike, receipt_for, receipts_after, unlisted_verdict}
 use Rattle.esc_events.specs.Stands.{Among, is_lost, kept_arrivals}
-use Rattle.esc_events.proofs.Distinct.{kept_one}
-use Rattle.esc_events.proofs.EventLemmas.{comings-arrived}
-use Rattle.esc_events.proofs.Members.{passed_among, passed_test, among_passed}
-use Rattle.esc_events.proofs.MovingLemmas.{among_before}
+use Rattle.esc_desk.proofs.Distinct.{kept_one}
+use Rattle.esc_desk.proofs.EventLemmas.{comings-arrived}
+use Rattle.esc_desk.proofs.Members.{passed_among, passed_test, among_passed}
+use Rattle.esc_desk.proofs.MovingLemmas.{among_before}
 
 no_row_is : (o : Option ℕ) → is_none o ≡ true → o ≡ None
 no_row_is None is = refl

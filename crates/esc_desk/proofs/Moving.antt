@@ -30,9 +30,10 @@ use Rattle.esc_events.specs.LatestTables.{IsChainOf}
 use Rattle.esc_events.specs.Works.{no_work}
 use Rattle.esc_events.specs.Stands.{HaveBodies, AreBooks, StandsFor, IsApart, deposit_of, or_no_deposit, deposits_of, held_rows, held_body}
 use Rattle.esc_events.specs.Works.{chain_cost, IsWorkOf, MentionsFew}
-use Rattle.esc_events.proofs.FrontLemmas.{same_front}
-use Rattle.esc_events.proofs.Lost.{counted_before}
-use Rattle.esc_events.proofs.MovingLemmas.{each_of, are_of, same_maps, same_deposits, first_step, accepted_first, contains_held, have_bodies, true_of, held_within, front_of_same, no_move}
+use Rattle.esc_desk.specs.EventLaws.{MovedStands, MoveIsWork}
+use Rattle.esc_desk.proofs.FrontLemmas.{same_front}
+use Rattle.esc_desk.proofs.Lost.{counted_before}
+use Rattle.esc_desk.proofs.MovingLemmas.{each_of, are_of, same_maps, same_deposits, first_step, accepted_first, contains_held, have_bodies, true_of, held_within, front_of_same, no_move}
 
 module _ (few : MentionsFew) where
   few_of : (body : List ℕ) (told : Result DepositValue ℕ) → reading body ≡ told → mention_count (or_no_deposit told) ≤ 100_000
@@ -238,3 +239,12 @@ module _ (law : LatestChainsAtAreHeldRows) (e : List EventValue) (x : EventValue
     latest_after = chain_of (e ++ x ∷ []) (moved_by plan l (deposits_of reading k.bodies k.steps)) stands_moved apart;
     is_cost = cost (few_moved few few_old few_new) ∙ move_cost apart;
   }
+
+-- the same, of a move as the law says it
+pub move_stands : MovedStands
+move_stands law e x k l more rows bodies plan is =
+    stands_moved law e x k l is.stood is.books more is.begins is.keeps rows is.held bodies is.same plan is.latest is.planned
+
+pub move_is_work : MoveIsWork
+move_is_work law few e x k l more rows bodies plan is =
+    works_moved law e x k l is.stood is.books more is.begins is.keeps rows is.held bodies is.same plan is.latest is.planned few

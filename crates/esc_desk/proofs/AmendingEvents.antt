@@ -14,8 +14,8 @@ use Rattle.esc_events.specs.Assessment.{row_of}
 use Rattle.esc_events.specs.Receipts.{distinct, receipts_after, receipts_of}
 use Rattle.esc_events.specs.Stands.{Among, IsApart, CameFor, CameWith, body_of, holds_by, has_digest, is_lost, kept_arrivals, held_body, parked_body}
 use Rattle.esc_events.specs.Amended.{judged, amended_bodies, still_parked}
-use Rattle.esc_events.proofs.AmendingLemmas.{find_never, holds_same, beyond_held, listed_still, unlisted_before, judged_first}
-use Rattle.esc_events.proofs.EventLemmas.{union-listed, comings-listed}
+use Rattle.esc_desk.proofs.AmendingLemmas.{find_never, holds_same, beyond_held, listed_still, unlisted_before, judged_first}
+use Rattle.esc_desk.proofs.EventLemmas.{union-listed, comings-listed}
 
 module _ (digest : List ℕ → List ℕ) where
   -- the body that is held of a row, and that is parked under a digest, of these arrivals

@@ -4,7 +4,7 @@
 //! listed rows, the receipts, the held and the parked bodies, and the moment. The functions here do
 //! nothing. Each has a law as its contract: a caller who needs the law calls it.
 
-ghost use Rattle.esc_events.specs.Laws.{
+ghost use Rattle.esc_desk.specs.EventLaws.{
   NotedBooks,
   ParkedBooks,
   HeldBooks,

@@ -20,13 +20,13 @@ use Rattle.esc_events.specs.Assessment.{found, row_of}
 use Rattle.esc_events.specs.Receipts.{holds_row, distinct, receipts_after, receipts_of, reply_to}
 use Rattle.esc_events.specs.Stands.{AreBooks, IsApart, TellsOf, CameFor, holds_by, kept_arrivals, held_body, parked_body}
 use Rattle.esc_events.specs.Amended.{judged, amended_bodies, still_parked, amended_kept}
-use Rattle.esc_events.proofs.AmendingLemmas.{row_is, row_has, row_held, same_at, listed_still, holds_same, judged_at, judged_some}
-use Rattle.esc_events.proofs.AmendingLemmas.{reply_same, rows_short, receipts_below}
-use Rattle.esc_events.proofs.AmendingEvents.{came_under, holds_as, receipts_as, apart_as, held_as, parked_as, came_as, waits_as, held_is, parked_is}
-use Rattle.esc_events.proofs.AmendingKept.{StayBesides, rest_stays, parked_was, parked_are, bodies_are}
-use Rattle.esc_events.proofs.Members.{distinct_among}
-use Rattle.esc_events.proofs.Telling.{any_of_row}
-use Rattle.esc_events.proofs.EventLemmas.{union-listed, comings-listed, moment-listed, union-moved, comings-moved, moment-moved}
+use Rattle.esc_desk.proofs.AmendingLemmas.{row_is, row_has, row_held, same_at, listed_still, holds_same, judged_at, judged_some}
+use Rattle.esc_desk.proofs.AmendingLemmas.{reply_same, rows_short, receipts_below}
+use Rattle.esc_desk.proofs.AmendingEvents.{came_under, holds_as, receipts_as, apart_as, held_as, parked_as, came_as, waits_as, held_is, parked_is}
+use Rattle.esc_desk.proofs.AmendingKept.{StayBesides, rest_stays, parked_was, parked_are, bodies_are}
+use Rattle.esc_desk.proofs.Members.{distinct_among}
+use Rattle.esc_desk.proofs.Telling.{any_of_row}
+use Rattle.esc_desk.proofs.EventLemmas.{union-listed, comings-listed, moment-listed, union-moved, comings-moved, moment-moved}
 
 -- by the definitions: the bodies that are held after an amendment are those that were held, and for
 -- each new row the parked body with its digest, if that is its deposit; and the parked ones are
