@@ -3,8 +3,8 @@ again has the response of a desk that nothing happened to."""
 from dataclasses import dataclass
 
 from played.clients import (
-    AMPLE, HELD, READ_FAULT, RECEIPTS, SAMPLE, WRITE_FAULT, RequestDesk, Wire, export, gaps, get, lines, links, list_sample, moment, new_desk,
-    parked, parked_bodies, receipts, refusal, status)
+    AMPLE, HELD, READ_FAULT, RECEIPTS, SAMPLE, WRITE_FAULT, RequestDesk, Wire, export, gaps, get, lines, links, list_sample, moment,
+    new_desk, parked, parked_bodies, receipts, refusal, status)
 from played.stories import check
 from scening.stage import Failed
 

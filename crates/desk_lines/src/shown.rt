@@ -7,7 +7,7 @@ use std::fmt::Write;
 use std::test::Fail;
 use store_lines::{tell_counts, tell_place};
 
-fn tell_end(alloc: Global, text: &mut String, end: Option<(Place, u32)>) -> Result<(), Fail> {
+fn tell_chain_end(alloc: Global, text: &mut String, end: Option<(Place, u32)>) -> Result<(), Fail> {
     text.push_str("end ")?;
     match end {
         Some((place, resend)) => tell_place(alloc, text, place, resend),
@@ -23,6 +23,6 @@ pub fn tell_status_of(alloc: Global, text: &mut String, status: &Status) -> Resu
         text,
         "listed {listed}\nheld {held}\nreceipts {receipts}\nchain {chain}"
     )?;
-    tell_end(alloc, text, status.end)?;
+    tell_chain_end(alloc, text, status.end)?;
     tell_counts(text, &status.objects)
 }

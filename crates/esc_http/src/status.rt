@@ -13,7 +13,8 @@ ghost use Rattle.esc_http.specs.StatusText.{
 
 use esc_bundle::NoMemory;
 use esc_desk::{SFault, Status};
-use esc_envelope::{Kind, Place, watermark_text};
+use esc_envelope::{Kind, Place};
+use esc_texts::printed_watermark;
 use std::alloc::Global;
 use std::collections::BTreeMap;
 
@@ -83,9 +84,7 @@ fn end_text(alloc: Global, place: Place, resend: u32) -> Result<String, SFault>
     ensures line { IfOk result (λ line. string_bytes line ≡ end_text place resend) }
     ensures cause { IfErr result IsS1OrS2 }
 {
-    let Some(watermark) = watermark_text(alloc, place.watermark)? else {
-        return Err(SFault::S1);
-    };
+    let watermark = printed_watermark(alloc, place.watermark)?;
     let kind = place.kind.name();
     Ok(format!(in alloc; "end {watermark} {kind} {resend}\n")?)
 }

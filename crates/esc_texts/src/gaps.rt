@@ -11,7 +11,6 @@ ghost use Rattle.std.specs.Prelude.{
   string_bytes,
   option_map,
 };
-ghost use Rattle.esc_envelope.specs.Watermark.{printed};
 ghost use Rattle.esc_chain.specs.GapTexts.{state_text, blocker_text};
 ghost use Rattle.esc_csv.specs.Lines.{line_text};
 ghost use Rattle.esc_store.specs.Faults.{IsS1OrS2};
@@ -19,10 +18,10 @@ ghost use Rattle.esc_texts.specs.GapsText.{heading, gap_line, gap_lines_text, ga
 ghost use Rattle.esc_texts.specs.ReceiptsText.{or_empty};
 
 use crate::receipts::resend_text;
+use crate::watermark::printed_watermark;
 use esc_bundle::NoMemory;
 use esc_chain::{Blocker, GapLine, State};
 use esc_csv::Lines;
-use esc_envelope::watermark_text;
 use esc_store::SFault;
 use std::alloc::{AllocError, Global};
 
@@ -68,7 +67,7 @@ fn write_line(alloc: Global, lines: &mut Lines, gap: &GapLine) -> Result<(), SFa
     ensures written { OnOk result (lines.new ≡ lines.old ++ line_text (gap_line gap.now)) }
     ensures cause { IfErr result IsS1OrS2 }
 {
-    let watermark = moment_text(alloc, gap.place.watermark)?;
+    let watermark = printed_watermark(alloc, gap.place.watermark)?;
     let used = resend_text(alloc, gap.used)?;
     let state = state_text(alloc, gap.state)?;
     let blocker = blocker_text(alloc, &gap.blocker)?;
@@ -82,16 +81,6 @@ fn write_line(alloc: Global, lines: &mut Lines, gap: &GapLine) -> Result<(), SFa
         blocker.as_bytes(),
         awaited.as_bytes(),
     )
-}
-
-fn moment_text(alloc: Global, watermark: i64) -> Result<String, SFault>
-    ensures text { IfOk result (λ text. string_bytes text ≡ printed watermark) }
-    ensures cause { IfErr result IsS1OrS2 }
-{
-    match watermark_text(alloc, watermark)? {
-        Some(text) => Ok(text),
-        None => Err(SFault::S1),
-    }
 }
 
 fn state_text(alloc: Global, state: State) -> Result<String, AllocError>

@@ -8,6 +8,7 @@
 //! | [`gaps_text`] | the report of gaps: a heading, and a line for each listed place |
 //! | [`links_text`] | the report of links: a heading, and a line for each finding |
 //! | [`parked_text`] | the report of parked bodies: a heading, and a line for each |
+//! | [`printed_watermark`] | a watermark as the reports print it |
 //!
 //! The reports are CSV as `csv` writes it (RFC 4180, except that lines end with a line feed alone);
 //! a value that isn't there is empty. No desk is needed: each call takes the values, and `esc_http`
@@ -24,8 +25,9 @@
 //!
 //! Each text is exactly the one that its definition gives (`specs/ReplyText.antt`,
 //! `ReceiptsText.antt`, `GapsText.antt`, `LinksText.antt`, `ParkedText.antt`, with the words of
-//! `Words.antt`), or memory was refused (`NoMemory`, or `S2` of [`gaps_text`]). [`gaps_text`]
-//! returns `S1` for a place whose watermark has no text; no manifest has such a place.
+//! `Words.antt`), or memory was refused (`NoMemory`, or `S2` of the two that return `S1`).
+//! [`printed_watermark`] returns `S1` for a watermark without a text, and so does [`gaps_text`] if a
+//! place has such a watermark; no manifest has such a place.
 #![tactic(auto)]
 
 mod gaps;
@@ -33,6 +35,7 @@ mod links;
 mod parked;
 mod receipts;
 mod reply;
+mod watermark;
 mod words;
 
 pub use gaps::gaps_text;
@@ -40,3 +43,4 @@ pub use links::links_text;
 pub use parked::parked_text;
 pub use receipts::{receipt_line, receipts_heading, receipts_text};
 pub use reply::reply_text;
+pub use watermark::printed_watermark;
