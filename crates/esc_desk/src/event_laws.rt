@@ -2,7 +2,7 @@
 //!
 //! The *books* of a store (`AreBooks`) are what it keeps except for the chain and its tables: the
 //! listed rows, the receipts, the held and the parked bodies, and the moment. The functions here do
-//! nothing. Each has a law as its contract: a caller who needs the law calls it.
+//! nothing. Each has a law as its contract.
 
 ghost use Rattle.esc_desk.specs.EventLaws.{
   NotedBooks,

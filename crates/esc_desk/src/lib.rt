@@ -74,6 +74,14 @@
 //! then arrivals is said without events by [`stands_for_manifest_and_arrivals`]. A desk serves what
 //! its store serves, if what it remembers of the held rows and the chain is true (`DeskServes`).
 //!
+//! What one more event changes is also said by the definitions alone: in a store's *books*, which
+//! are what it keeps except for the chain and its tables, by [`books_after_an_arrival`],
+//! [`books_after_a_lost_one_again`], [`books_after_an_amendment`] and [`books_after_a_moment`]; in
+//! its chain and tables, with the work of the move, by [`chain_after_an_event`]; and
+//! [`migrated_store_stands`] says it of a store of version 1. For example, `AmendedBooks` says that
+//! all that an amendment has to do before the chain moves is to list the new rows, to hold the
+//! parked bodies that are their deposits, and to drop the other bodies parked for them.
+//!
 //! Most clauses begin with a word of `specs/Calls.antt`, which says of which events they speak.
 //! `OkAfter` is "if the store is honest after the call, and the call succeeded, then for every list
 //! of events that the desk served before it": a desk that served a list serves, after an arrival
