@@ -2,15 +2,17 @@
 """gate.py [--anew]: runs the gate, and says what it cost.
 
 `rt ci` proves each crate and its tests and runs the tests and the programs, in a copy of the tree without the wrong bodies. What an
-earlier run on this machine proved it keeps, but with --anew it proves all from nothing. The wrong bodies are then tried over the
-libraries that it built, as tools/wrong_bodies.py says: `rt ci` would check a crate once more for each of them. What was built is moved
-to the tree, and the scenes are played on the programs there, as tools/scenes.py says. It prints what `rt ci` prints, the verdict on each
-wrong body and on each scene, a table as in docs/GATE.md, and at last 'N passed, M failed', the sums of all three. The table has
-processor seconds for each crate's proof, tests and wrong bodies, as /proc shows them once a second (what lives shorter is in the sum
-alone); below it stand the whole gate's time, its processor minutes and the most memory that was in use beyond that at its start."""
+earlier run on this machine proved it keeps, but with --anew it proves all from nothing. With four lanes or more a second `rt ci` goes
+ahead of it (tools/lanes.py). The wrong bodies are then tried over the libraries that it built, as tools/wrong_bodies.py says: `rt ci` would
+check a crate once more for each of them. What was built is moved to the tree, and the scenes are played on the programs there, as
+tools/scenes.py says. It prints what `rt ci` prints, the verdict on each wrong body and on each scene, a table as in docs/GATE.md, and at
+last 'N passed, M failed', the sums of all three. The table has processor seconds for each crate's proof, tests and wrong bodies, as /proc
+shows them once a second (what lives shorter is in the sum alone); below it stand the whole gate's time, its processor minutes and the
+most memory that was in use beyond that at its start."""
 import os, re, resource, subprocess, sys, tempfile, threading, time
 
 from crates import TOP, built_moved, copied_tree, libraries, locked
+from lanes import lanes, memory, path_ahead
 from wrong_bodies import edits_of, tried
 
 TICK = os.sysconf('SC_CLK_TCK')
@@ -19,29 +21,10 @@ PARTS = ('proof', 'tests', 'edits')
 PROGRAMS = tuple(f'crates/{it}/out/{it}' for it in ('restore', 'desk_harness', 'pack'))
 
 
-def memory():
-    """All memory, and what of it is free, in kilobytes."""
-    with open('/proc/meminfo') as file:
-        found = dict(re.findall(r'(MemTotal|MemAvailable): +(\d+)', file.read()))
-    return int(found['MemTotal']), int(found['MemAvailable'])
-
-
 def memory_in_use():
     """In kilobytes."""
     total, free = memory()
     return total - free
-
-
-def lanes():
-    """How many checks run side by side: RT_JOBS of them, or one for each processor, with at least 5 GB of free memory for each, since the
-    largest take up to 6 and most up to 3. `rt ci` reads RT_JOBS too. Where it isn't set, that starts no proof for which memory might not
-    suffice, by its own estimate, and lets two processes work at one while nothing else could run."""
-    given = os.environ.get('RT_JOBS')
-    if not given:
-        return max(1, min(len(os.sched_getaffinity(0)), memory()[1] // 5_000_000))
-    if not re.fullmatch('[1-9][0-9]*', given):
-        sys.exit(f'check: RT_JOBS is no number of lanes: {given}')
-    return int(given)
 
 
 def stat_of(pid):
@@ -179,10 +162,11 @@ class WrongBodies:
 ENDED = re.compile(r'rt: (\w+)(: its tests are)? (NOT PROVED|proved|is kept)\b')
 
 
-def counted(words, folder, take_note=lambda line: None):
+def counted(words, folder, take_note=lambda line: None, environment=None):
     """Runs a command in a folder, prints what it prints but its last line, and gives the numbers of that line. Each line is noted."""
     last = ''
-    with subprocess.Popen(words, cwd=folder, stdin=subprocess.DEVNULL, stdout=subprocess.PIPE, stderr=subprocess.STDOUT) as ran:
+    with subprocess.Popen(words, cwd=folder, env=environment, stdin=subprocess.DEVNULL, stdout=subprocess.PIPE,
+                          stderr=subprocess.STDOUT) as ran:
         try:
             for line in ran.stdout:
                 print(last, end='', flush=True)
@@ -198,7 +182,7 @@ def counted(words, folder, take_note=lambda line: None):
     return (int(found[1]), int(found[2])) if found else (0, 1)
 
 
-def proved(tree, bodies):
+def proved(tree, bodies, environment):
     """Runs `rt ci` in a tree, and gives its numbers. It tells the wrong bodies what has ended."""
     def take_note(line):
         if done := ENDED.match(line):
@@ -206,7 +190,7 @@ def proved(tree, bodies):
             if done[3] == 'is kept':
                 # Of tests that are kept nothing is said. Where they are not, one task more runs than is counted.
                 bodies.note(done[1], 'tests', True)
-    return counted(['rt', 'ci', *sys.argv[1:]], tree, take_note)
+    return counted(['rt', 'ci', *sys.argv[1:]], tree, take_note, environment)
 
 
 def missing_in(tree):
@@ -231,7 +215,8 @@ def main():
     with tempfile.TemporaryDirectory(prefix='gate-') as tree:
         copied_tree(tree, libraries())
         bodies = WrongBodies(tree, count)
-        passed, failed = proved(tree, bodies)
+        with path_ahead(libraries(), count, is_anew=bool(sys.argv[1:])) as environment:
+            passed, failed = proved(tree, bodies, environment)
         refused, through = bodies.ended()
         missing = missing_in(tree)
         built_moved(tree, libraries())
