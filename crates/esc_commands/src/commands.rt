@@ -2,8 +2,9 @@
 
 use crate::command_line::{DeskTask, Invocation, Task, parse};
 use crate::files::{read_manifest_text, stop_at};
-use crate::jobs::{Ended, Job, use_file};
-use crate::stop::{Stop, print, tell_stop};
+use crate::jobs::{Ended, Job};
+use crate::session::Session;
+use crate::stop::{Stop, tell_stop};
 use crate::store_file::{Closed, open_file, open_store_file};
 use clap::Error;
 use esc_console::{DONE, USAGE, tell_answer};
@@ -15,12 +16,12 @@ use std::net::{Net, TcpListener, TcpStream};
 
 /// Runs the program on its words, of which the first is its name. Returns the status. Help and
 /// version are printed on standard output, and what is wrong with the words on standard error.
-pub fn run_words<N, O, E>(
-    rt: &HostRuntime,
-    net: &N,
+pub fn run_words<'a, N, O, E>(
+    rt: &'a HostRuntime,
+    net: &'a N,
     words: &[String],
-    out: &mut O,
-    err: &mut E,
+    out: &'a mut O,
+    err: &'a mut E,
 ) -> u8
 where
     N: Net<Listener = TcpListener, Stream = TcpStream>,
@@ -28,7 +29,10 @@ where
     E: Write,
 {
     match parse(rt.alloc(), words) {
-        Ok(Some(invocation)) => run(rt, net, invocation, out, err),
+        Ok(Some(invocation)) => {
+            let mut session = Session { rt, net, out, err };
+            session.run(invocation)
+        }
         Ok(None) => USAGE,
         Err(error) => tell_error(rt, &error, out, err),
     }
@@ -42,127 +46,84 @@ fn tell_error<O: Write, E: Write>(rt: &HostRuntime, error: &Error, out: &mut O, 
     }
 }
 
-// Does what is asked for. Returns the status.
-fn run<N, O, E>(
-    rt: &HostRuntime,
-    net: &N,
-    invocation: Invocation<'_>,
-    out: &mut O,
-    err: &mut E,
-) -> u8
+impl<N, O, E> Session<'_, N, O, E>
 where
     N: Net<Listener = TcpListener, Stream = TcpStream>,
     O: Write,
     E: Write,
 {
-    let Invocation { store, task } = invocation;
-    let done = match task {
-        Task::Init { manifest } => init(rt, net, store, manifest, out, err),
-        Task::Migrate => migrate(rt, net, store, out, err),
-        Task::Amend { manifest } => amend(rt, net, store, manifest, out, err),
-        Task::AsOf { moment } => as_of(rt, net, store, moment, out, err),
-        Task::Desk(task) => use_store(rt, net, store, task, out, err),
-    };
-    match finish(rt, done, out) {
-        Ok(status) => status,
-        Err(stop) => tell_stop(rt, err, &stop),
+    // Does what is asked for. Returns the status.
+    fn run(&mut self, invocation: Invocation<'_>) -> u8 {
+        match self.finish(invocation) {
+            Ok(status) => status,
+            Err(stop) => tell_stop(self.rt, self.err, &stop),
+        }
     }
-}
 
-// Prints what a command leaves to be printed.
-fn finish<O: Write>(rt: &HostRuntime, done: Result<Ended, Stop>, out: &mut O) -> Result<u8, Stop> {
-    let ended = done?;
-    print(rt, out, &ended.text)?;
-    Ok(ended.status)
-}
+    // Does what is asked for, and prints what that leaves to be printed.
+    fn finish(&mut self, invocation: Invocation<'_>) -> Result<u8, Stop> {
+        let ended = self.command(invocation)?;
+        self.print(&ended.text)?;
+        Ok(ended.status)
+    }
 
-// `init --store FILE --manifest FILE`: makes a store of a manifest, and prints how many rows that
-// lists. A store that was made is in the file or in its log, so a close that fails refuses nothing.
-fn init<N, O, E>(
-    rt: &HostRuntime,
-    net: &N,
-    store: &str,
-    manifest: &str,
-    out: &mut O,
-    err: &mut E,
-) -> Result<Ended, Stop>
-where
-    N: Net<Listener = TcpListener, Stream = TcpStream>,
-    O: Write,
-    E: Write,
-{
-    let manifest = manifest_of(rt, manifest)?;
-    let line = listed(rt.alloc(), &manifest)?;
-    let connection = open_file(rt, store)?;
-    let made = use_file(rt, net, connection, Job::Create(&manifest), out, err);
-    made.outcome?;
-    Ok(Ended {
-        status: DONE,
-        text: line,
-    })
-}
+    fn command(&mut self, invocation: Invocation<'_>) -> Result<Ended, Stop> {
+        let Invocation { store, task } = invocation;
+        match task {
+            Task::Init { manifest } => self.init(store, manifest),
+            Task::Migrate => self.migrate(store),
+            Task::Amend { manifest } => self.amend(store, manifest),
+            Task::AsOf { moment } => self.as_of(store, moment),
+            Task::Desk(task) => self.use_store(store, task),
+        }
+    }
 
-// `migrate --store FILE`: makes a store of version 1 one of this version, and says so. As with
-// `init`, a close that fails refuses nothing: the store is there.
-fn migrate<N, O, E>(
-    rt: &HostRuntime,
-    net: &N,
-    store: &str,
-    out: &mut O,
-    err: &mut E,
-) -> Result<Ended, Stop>
-where
-    N: Net<Listener = TcpListener, Stream = TcpStream>,
-    O: Write,
-    E: Write,
-{
-    let line = String::from_str(rt.alloc(), "migrated\n")?;
-    let connection = open_store_file(rt, store)?;
-    let made = use_file(rt, net, connection, Job::Migrate, out, err);
-    made.outcome?;
-    Ok(Ended {
-        status: DONE,
-        text: line.into_bytes(),
-    })
-}
+    // `init --store FILE --manifest FILE`: makes a store of a manifest, and prints how many rows
+    // that lists. A store that was made is in the file or in its log, so a close that fails refuses
+    // nothing.
+    fn init(&mut self, store: &str, manifest: &str) -> Result<Ended, Stop> {
+        let manifest = manifest_of(self.rt, manifest)?;
+        let line = listed(self.rt.alloc(), &manifest)?;
+        let connection = open_file(self.rt, store)?;
+        let made = self.use_file(connection, Job::Create(&manifest));
+        made.outcome?;
+        Ok(Ended::done(line))
+    }
 
-// `amend --store FILE --manifest FILE`: lists the rows of one more manifest, and prints how many
-// are new. The faults that its text has by itself come before those of the store.
-fn amend<N, O, E>(
-    rt: &HostRuntime,
-    net: &N,
-    store: &str,
-    manifest: &str,
-    out: &mut O,
-    err: &mut E,
-) -> Result<Ended, Stop>
-where
-    N: Net<Listener = TcpListener, Stream = TcpStream>,
-    O: Write,
-    E: Write,
-{
-    let text = read_manifest_text(rt, manifest)?;
-    let _ = manifest_in(rt.alloc(), &text)?;
-    use_store(rt, net, store, DeskTask::List { text: &text }, out, err)
-}
+    // `migrate --store FILE`: makes a store of version 1 one of this version, and says so. As with
+    // `init`, a close that fails refuses nothing: the store is there.
+    fn migrate(&mut self, store: &str) -> Result<Ended, Stop> {
+        let line = String::from_str(self.rt.alloc(), "migrated\n")?;
+        let connection = open_store_file(self.rt, store)?;
+        let made = self.use_file(connection, Job::Migrate);
+        made.outcome?;
+        Ok(Ended::done(line.into_bytes()))
+    }
 
-// `as-of --store FILE MOMENT`: rebuilds the registry as of a moment, and prints where its chain
-// ends then.
-fn as_of<N, O, E>(
-    rt: &HostRuntime,
-    net: &N,
-    store: &str,
-    moment: &str,
-    out: &mut O,
-    err: &mut E,
-) -> Result<Ended, Stop>
-where
-    N: Net<Listener = TcpListener, Stream = TcpStream>,
-    O: Write,
-    E: Write,
-{
-    let moment = moment_named(rt.alloc(), moment)?;
-    use_store(rt, net, store, DeskTask::Move { moment }, out, err)
+    // `amend --store FILE --manifest FILE`: lists the rows of one more manifest, and prints how many
+    // are new. The faults that its text has by itself come before those of the store.
+    fn amend(&mut self, store: &str, manifest: &str) -> Result<Ended, Stop> {
+        let text = read_manifest_text(self.rt, manifest)?;
+        let _ = manifest_in(self.rt.alloc(), &text)?;
+        self.use_store(store, DeskTask::List { text: &text })
+    }
+
+    // `as-of --store FILE MOMENT`: rebuilds the registry as of a moment, and prints where its chain
+    // ends then.
+    fn as_of(&mut self, store: &str, moment: &str) -> Result<Ended, Stop> {
+        let moment = moment_named(self.rt.alloc(), moment)?;
+        self.use_store(store, DeskTask::Move { moment })
+    }
+
+    // Does a task with the desk of the store in a file. What was answered before a stop is kept, and
+    // a stop is reported rather than a close that fails after it.
+    fn use_store(&mut self, path: &str, task: DeskTask<'_>) -> Result<Ended, Stop> {
+        let connection = open_store_file(self.rt, path)?;
+        let Closed { outcome, closed } = self.use_file(connection, Job::Desk(task));
+        let ended = outcome?;
+        closed?;
+        Ok(ended)
+    }
 }
 
 // The moment that a word names, in nanoseconds since 1970-01-01T00:00:00Z; `latest` is none.
@@ -195,26 +156,4 @@ fn listed(alloc: Global, manifest: &Manifest) -> Result<Vec<u8>, AllocError> {
     let count = manifest.rows().len();
     let line = format!(in alloc; "listed {count}\n")?;
     Ok(line.into_bytes())
-}
-
-// Does a task with the desk of the store in a file. What was answered before a stop is kept, and a
-// stop is reported rather than a close that fails after it.
-fn use_store<N, O, E>(
-    rt: &HostRuntime,
-    net: &N,
-    path: &str,
-    task: DeskTask<'_>,
-    out: &mut O,
-    err: &mut E,
-) -> Result<Ended, Stop>
-where
-    N: Net<Listener = TcpListener, Stream = TcpStream>,
-    O: Write,
-    E: Write,
-{
-    let connection = open_store_file(rt, path)?;
-    let Closed { outcome, closed } = use_file(rt, net, connection, Job::Desk(task), out, err);
-    let ended = outcome?;
-    closed?;
-    Ok(ended)
 }

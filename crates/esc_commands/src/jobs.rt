@@ -2,12 +2,11 @@
 
 use crate::command_line::DeskTask;
 use crate::events;
-use crate::serve::serve_connections;
+use crate::session::Session;
 use crate::stop::Stop;
 use crate::store_file::{
     Closed, Used, close, connection_of, create_store, migrate_store, open_desk,
 };
-use crate::take::take_folder;
 use esc_console::DONE;
 use esc_desk::Desk;
 use esc_http::{Report, end_line, report};
@@ -27,6 +26,11 @@ pub(crate) struct Ended {
 }
 
 impl Ended {
+    /// The end of a command that did all that was asked for, and leaves a text to be printed.
+    pub fn done(text: Vec<u8>) -> Ended {
+        Ended { status: DONE, text }
+    }
+
     // The end of a command that leaves nothing to be printed. Doesn't allocate.
     fn silent(alloc: Global, status: u8) -> Ended {
         Ended {
@@ -47,44 +51,70 @@ pub(crate) enum Job<'a> {
     Desk(DeskTask<'a>),
 }
 
-/// Does a job with a file, and closes it.
-pub(crate) fn use_file<N, O, E>(
-    rt: &HostRuntime,
-    net: &N,
-    connection: Connection<FileStore<File>>,
-    job: Job<'_>,
-    out: &mut O,
-    err: &mut E,
-) -> Closed<Ended>
+impl<N, O, E> Session<'_, N, O, E>
 where
     N: Net<Listener = TcpListener, Stream = TcpStream>,
     O: Write,
     E: Write,
 {
-    close(use_connection(rt, net, connection, job, out, err))
-}
+    /// Does a job with a file, and closes it.
+    pub fn use_file(
+        &mut self,
+        connection: Connection<FileStore<File>>,
+        job: Job<'_>,
+    ) -> Closed<Ended> {
+        close(self.use_connection(connection, job))
+    }
 
-// For any store: each use of a `FileStore` as a store costs the prover seconds.
-fn use_connection<N, S, O, E>(
-    rt: &HostRuntime,
-    net: &N,
-    connection: Connection<S>,
-    job: Job<'_>,
-    out: &mut O,
-    err: &mut E,
-) -> Used<S, Ended>
-where
-    N: Net<Listener = TcpListener, Stream = TcpStream>,
-    S: Alter,
-    O: Write,
-    E: Write,
-{
-    match job {
-        Job::Create(manifest) => {
-            silent(rt.alloc(), create_store(rt.alloc(), connection, manifest))
+    // For any store: each use of a `FileStore` as a store costs the prover seconds.
+    fn use_connection<S: Alter>(
+        &mut self,
+        connection: Connection<S>,
+        job: Job<'_>,
+    ) -> Used<S, Ended> {
+        let alloc = self.rt.alloc();
+        match job {
+            Job::Create(manifest) => silent(alloc, create_store(alloc, connection, manifest)),
+            Job::Migrate => silent(alloc, migrate_store(alloc, connection)),
+            Job::Desk(task) => self.open_and_use(connection, task),
         }
-        Job::Migrate => silent(rt.alloc(), migrate_store(rt.alloc(), connection)),
-        Job::Desk(task) => open_and_use(rt, net, connection, task, out, err),
+    }
+
+    fn open_and_use<S: Alter>(
+        &mut self,
+        connection: Connection<S>,
+        task: DeskTask<'_>,
+    ) -> Used<S, Ended> {
+        match open_desk(self.rt.alloc(), connection) {
+            Ok(mut desk) => {
+                let outcome = self.use_desk(&mut desk, task);
+                Used {
+                    connection: connection_of(desk),
+                    outcome,
+                }
+            }
+            Err((fault, connection)) => Used {
+                connection,
+                outcome: Err(Stop::Store(fault)),
+            },
+        }
+    }
+
+    fn use_desk<S: Alter>(
+        &mut self,
+        desk: &mut Desk<S>,
+        task: DeskTask<'_>,
+    ) -> Result<Ended, Stop> {
+        let alloc = self.rt.alloc();
+        match task {
+            DeskTask::Take { folder } => told(alloc, self.take_folder(desk, folder)),
+            DeskTask::Serve { port, count } => {
+                told(alloc, self.serve_connections(desk, port, count))
+            }
+            DeskTask::List { text } => list_rows(alloc, desk, text),
+            DeskTask::Move { moment } => move_to(alloc, desk, moment),
+            DeskTask::Tell { report } => report_text(alloc, desk, report),
+        }
     }
 }
 
@@ -103,63 +133,6 @@ fn silent<S: Alter>(alloc: Global, made: Used<S, ()>) -> Used<S, Ended> {
     }
 }
 
-fn open_and_use<N, S, O, E>(
-    rt: &HostRuntime,
-    net: &N,
-    connection: Connection<S>,
-    task: DeskTask<'_>,
-    out: &mut O,
-    err: &mut E,
-) -> Used<S, Ended>
-where
-    N: Net<Listener = TcpListener, Stream = TcpStream>,
-    S: Alter,
-    O: Write,
-    E: Write,
-{
-    match open_desk(rt.alloc(), connection) {
-        Ok(mut desk) => {
-            let outcome = use_desk(rt, net, &mut desk, task, out, err);
-            Used {
-                connection: connection_of(desk),
-                outcome,
-            }
-        }
-        Err((fault, connection)) => Used {
-            connection,
-            outcome: Err(Stop::Store(fault)),
-        },
-    }
-}
-
-fn use_desk<N, S, O, E>(
-    rt: &HostRuntime,
-    net: &N,
-    desk: &mut Desk<S>,
-    task: DeskTask<'_>,
-    out: &mut O,
-    err: &mut E,
-) -> Result<Ended, Stop>
-where
-    N: Net<Listener = TcpListener, Stream = TcpStream>,
-    S: Alter,
-    O: Write,
-    E: Write,
-{
-    match task {
-        DeskTask::Take { folder } => told(rt.alloc(), take_folder(rt, desk, folder, out, err)),
-        DeskTask::Serve { port, count } => {
-            told(
-                rt.alloc(),
-                serve_connections(rt, net, desk, port, count, out, err),
-            )
-        }
-        DeskTask::List { text } => list_rows(rt.alloc(), desk, text),
-        DeskTask::Move { moment } => move_to(rt.alloc(), desk, moment),
-        DeskTask::Tell { report } => report_text(rt.alloc(), desk, report),
-    }
-}
-
 // The end of a command that has printed everything.
 fn told(alloc: Global, status: Result<u8, Stop>) -> Result<Ended, Stop> {
     match status {
@@ -172,10 +145,7 @@ fn told(alloc: Global, status: Result<u8, Stop>) -> Result<Ended, Stop> {
 fn list_rows<S: Alter>(alloc: Global, desk: &mut Desk<S>, text: &[u8]) -> Result<Ended, Stop> {
     let count = events::amend(alloc, desk, text)?;
     let line = format!(in alloc; "added {count}\n")?;
-    Ok(Ended {
-        status: DONE,
-        text: line.into_bytes(),
-    })
+    Ok(Ended::done(line.into_bytes()))
 }
 
 // Rebuilds the registry as of a moment. The text says where its chain ends then.
@@ -187,16 +157,13 @@ fn move_to<S: Alter>(
     events::move_to(alloc, desk, moment)?;
     let status = desk.status(alloc)?;
     let line = end_line(alloc, status.end)?;
-    Ok(Ended {
-        status: DONE,
-        text: line.into_bytes(),
-    })
+    Ok(Ended::done(line.into_bytes()))
 }
 
 // `report --store FILE WHAT` and `export --store FILE KIND`: the text of a report.
 fn report_text<S: Alter>(alloc: Global, desk: &mut Desk<S>, what: Report) -> Result<Ended, Stop> {
     match report(alloc, desk, what) {
-        Ok(text) => Ok(Ended { status: DONE, text }),
+        Ok(text) => Ok(Ended::done(text)),
         Err(fault) => Err(Stop::Store(fault)),
     }
 }

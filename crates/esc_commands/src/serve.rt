@@ -1,7 +1,8 @@
 //! The desk on a port.
 
 use crate::files::or_stop;
-use crate::stop::{Stop, print};
+use crate::session::Session;
+use crate::stop::Stop;
 use esc_client::{Client, Patience};
 use esc_console::DONE;
 use esc_desk::Desk;
@@ -20,50 +21,62 @@ const BYTES_AT_ONCE: usize = 16_384;
 /// `ErrorKind` of their own: ENONET, EPROTO, ENOPROTOOPT, EOPNOTSUPP and EHOSTDOWN.
 const UNNAMED_ERRORS: [i32; 5] = [64, 71, 92, 95, 112];
 
-/// Listens on a port of 127.0.0.1, says so, and serves so many connections one after the other: one
-/// request each. One that fails is reported, and the next is served; a client that was waited for
-/// too long fails too. Returns the status.
-pub fn serve_connections<N, S, O, E>(
-    rt: &HostRuntime,
-    net: &N,
-    desk: &mut Desk<S>,
-    port: u16,
-    count: u32,
-    out: &mut O,
-    err: &mut E,
-) -> Result<u8, Stop>
+impl<N, O, E> Session<'_, N, O, E>
 where
     N: Net<Listener = TcpListener, Stream = TcpStream>,
-    S: Alter,
     O: Write,
     E: Write,
 {
-    let address = format!(in rt.alloc(); "127.0.0.1:{port}")?;
-    let bound = TcpListener::bind(net, address.as_str());
-    let listener = or_stop(rt, address.as_str(), bound)?;
-    let line = format!(in rt.alloc(); "listening {address}\n")?;
-    print(rt, out, line.as_bytes())?;
-    for _ in 0..count {
-        let served = serve_next(rt, desk, &listener, err);
-        or_stop(rt, address.as_str(), served)?;
+    /// Listens on a port of 127.0.0.1, says so, and serves so many connections one after the other:
+    /// one request each. One that fails is reported, and the next is served; a client that was
+    /// waited for too long fails too. Returns the status.
+    pub fn serve_connections<S: Alter>(
+        &mut self,
+        desk: &mut Desk<S>,
+        port: u16,
+        count: u32,
+    ) -> Result<u8, Stop> {
+        let address = format!(in self.rt.alloc(); "127.0.0.1:{port}")?;
+        let bound = TcpListener::bind(self.net, address.as_str());
+        let listener = or_stop(self.rt, address.as_str(), bound)?;
+        let line = format!(in self.rt.alloc(); "listening {address}\n")?;
+        self.print(line.as_bytes())?;
+        for _ in 0..count {
+            let served = self.serve_next(desk, &listener);
+            or_stop(self.rt, address.as_str(), served)?;
+        }
+        Ok(DONE)
     }
-    Ok(DONE)
-}
 
-// Serves the next connection. One that failed before it was accepted is reported as one that can't
-// be read. At `Err` there is none, since the listener failed.
-fn serve_next<S: Alter, E: Write>(
-    rt: &HostRuntime,
-    desk: &mut Desk<S>,
-    listener: &TcpListener,
-    err: &mut E,
-) -> Result<(), Error> {
-    match listener.accept() {
-        Ok((stream, _address)) => serve_connection(rt, desk, &stream, err),
-        Err(error) if is_of_connection(&error) => tell_fault(err, &ServeFault::Read),
-        Err(error) => return Err(error),
+    // Serves the next connection. One that failed before it was accepted is reported as one that
+    // can't be read. At `Err` there is none, since the listener failed.
+    fn serve_next<S: Alter>(
+        &mut self,
+        desk: &mut Desk<S>,
+        listener: &TcpListener,
+    ) -> Result<(), Error> {
+        match listener.accept() {
+            Ok((stream, _address)) => self.serve_connection(desk, &stream),
+            Err(error) if is_of_connection(&error) => self.tell_fault(&ServeFault::Read),
+            Err(error) => return Err(error),
+        }
+        Ok(())
     }
-    Ok(())
+
+    // Serves one request over a connection. One that fails is reported.
+    fn serve_connection<S: Alter>(&mut self, desk: &mut Desk<S>, stream: &TcpStream) {
+        let mut reader = Client::new(self.rt, stream, Patience::for_request());
+        let mut writer = Client::new(self.rt, stream, Patience::for_response());
+        match serve_one(self.rt.alloc(), desk, &mut reader, &mut writer) {
+            Ok(()) => drain(self.rt, stream),
+            Err(fault) => self.tell_fault(&fault),
+        }
+    }
+
+    fn tell_fault(&mut self, fault: &ServeFault) {
+        // A failure of standard error is ignored: there is nowhere to report it.
+        let _ = writeln!(self.err, "{fault}");
+    }
 }
 
 // Whether an error of `accept` is one of the connection that was to be accepted: Linux reports there
@@ -84,21 +97,6 @@ fn is_of_connection(error: &Error) -> bool {
     }
 }
 
-// Serves one request over a connection. One that fails is reported.
-fn serve_connection<S: Alter, E: Write>(
-    rt: &HostRuntime,
-    desk: &mut Desk<S>,
-    stream: &TcpStream,
-    err: &mut E,
-) {
-    let mut reader = Client::new(rt, stream, Patience::for_request());
-    let mut writer = Client::new(rt, stream, Patience::for_response());
-    match serve_one(rt.alloc(), desk, &mut reader, &mut writer) {
-        Ok(()) => drain(rt, stream),
-        Err(fault) => tell_fault(err, &fault),
-    }
-}
-
 // Ends a connection whose response was sent. A client whose request was refused before its end may
 // still be sending. If nobody read that, it would find the connection broken and might miss its
 // response: so the rest is read and dropped, within limits.
@@ -113,9 +111,4 @@ fn drain(rt: &HostRuntime, stream: &TcpStream) {
             return;
         }
     }
-}
-
-fn tell_fault<E: Write>(err: &mut E, fault: &ServeFault) {
-    // A failure of standard error is ignored: there is nowhere to report it.
-    let _ = writeln!(err, "{fault}");
 }

@@ -1,6 +1,5 @@
-//! What the program stops for, its statuses, and its two streams.
+//! What the program stops for, and its statuses.
 
-use crate::files::or_stop;
 use esc_bundle::NoMemory;
 use esc_console::OneLine;
 use esc_desk::SFault;
@@ -76,24 +75,6 @@ impl<T: Drop> From<AllocFailed<T>> for Stop {
     fn from(_refused: AllocFailed<T>) -> Stop {
         NO_MEMORY
     }
-}
-
-/// Prints on standard output, whose path is `-`.
-pub fn print<O: Write>(rt: &HostRuntime, out: &mut O, text: &[u8]) -> Result<(), Stop> {
-    or_stop(rt, "-", out.write_all(text))
-}
-
-/// Prints a refusal that doesn't stop the program. A failure of standard error is ignored: there is
-/// nowhere to report it.
-pub fn tell<E: Write>(
-    rt: &HostRuntime,
-    err: &mut E,
-    refusal: &str,
-    name: &str,
-) -> Result<(), Stop> {
-    let line = format!(in rt.alloc(); "{refusal} {}\n", OneLine(name))?;
-    let _ = err.write_all(line.as_bytes());
-    Ok(())
 }
 
 /// Prints what the program stops for, and returns its status. If there is no memory for the line,

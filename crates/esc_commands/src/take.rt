@@ -2,85 +2,76 @@
 
 use crate::events;
 use crate::files::{or_stop, read_body};
-use crate::stop::{REFUSED, Stop, print, tell};
+use crate::session::Session;
+use crate::stop::{REFUSED, Stop};
 use esc_console::{DONE, path_in, plain_files};
 use esc_desk::{Arrival, Desk, Verdict, number};
 use esc_http::{receipt_line, receipts_heading};
 use sqlite::Alter;
 use std::io::Write;
 
-/// Takes every plain file of a folder in byte order of names, the name being the arrival's number,
-/// and prints the receipts report: its heading once the folder is listed, then a line for each
-/// arrival as it is answered. Returns the status.
-pub fn take_folder<S: Alter, O: Write, E: Write>(
-    rt: &HostRuntime,
-    desk: &mut Desk<S>,
-    folder: &str,
-    out: &mut O,
-    err: &mut E,
-) -> Result<u8, Stop> {
-    let listing = or_stop(rt, folder, plain_files(rt, folder))?;
-    print(rt, out, &receipts_heading(rt.alloc())?)?;
-    tell_unnamed(rt, err, listing.unnamed)?;
-    let are_held = take_files(rt, desk, folder, &listing.names, out, err)?;
-    if listing.unnamed == 0 && are_held {
-        Ok(DONE)
-    } else {
-        Ok(REFUSED)
+impl<N, O: Write, E: Write> Session<'_, N, O, E> {
+    /// Takes every plain file of a folder in byte order of names, the name being the arrival's
+    /// number, and prints the receipts report: its heading once the folder is listed, then a line
+    /// for each arrival as it is answered. Returns the status.
+    pub fn take_folder<S: Alter>(&mut self, desk: &mut Desk<S>, folder: &str) -> Result<u8, Stop> {
+        let listing = or_stop(self.rt, folder, plain_files(self.rt, folder))?;
+        self.print(&receipts_heading(self.rt.alloc())?)?;
+        self.tell_unnamed(listing.unnamed)?;
+        let are_held = self.take_files(desk, folder, &listing.names)?;
+        if listing.unnamed == 0 && are_held {
+            Ok(DONE)
+        } else {
+            Ok(REFUSED)
+        }
     }
-}
 
-// Reports so many names that are not UTF-8, and so no numbers.
-fn tell_unnamed<E: Write>(rt: &HostRuntime, err: &mut E, count: usize) -> Result<(), Stop> {
-    for _ in 0..count {
-        tell(rt, err, "N1", "(a name that is no UTF-8)")?;
+    // Reports so many names that are not UTF-8, and so no numbers.
+    fn tell_unnamed(&mut self, count: usize) -> Result<(), Stop> {
+        for _ in 0..count {
+            self.tell("N1", "(a name that is no UTF-8)")?;
+        }
+        Ok(())
     }
-    Ok(())
-}
 
-// Takes the files of these names, and says whether the deposits of all are held.
-fn take_files<S: Alter, O: Write, E: Write>(
-    rt: &HostRuntime,
-    desk: &mut Desk<S>,
-    folder: &str,
-    names: &[String],
-    out: &mut O,
-    err: &mut E,
-) -> Result<bool, Stop> {
-    let mut are_held = true;
-    for name in names {
-        are_held &= take_file(rt, desk, folder, name.as_str(), out, err)?;
+    // Takes the files of these names, and says whether the deposits of all are held.
+    fn take_files<S: Alter>(
+        &mut self,
+        desk: &mut Desk<S>,
+        folder: &str,
+        names: &[String],
+    ) -> Result<bool, Stop> {
+        let mut are_held = true;
+        for name in names {
+            are_held &= self.take_file(desk, folder, name.as_str())?;
+        }
+        Ok(are_held)
     }
-    Ok(are_held)
-}
 
-// Takes one file, and says whether its deposit is held. A name that is no number and a body that is
-// too long are reported, and are no arrivals.
-fn take_file<S: Alter, O: Write, E: Write>(
-    rt: &HostRuntime,
-    desk: &mut Desk<S>,
-    folder: &str,
-    name: &str,
-    out: &mut O,
-    err: &mut E,
-) -> Result<bool, Stop> {
-    let Ok(number) = number(name) else {
-        tell(rt, err, "N1", name)?;
-        return Ok(false);
-    };
-    let path = path_in(rt.alloc(), folder, name)?;
-    let Some(body) = read_body(rt, path.as_str())? else {
-        tell(rt, err, "E2", name)?;
-        return Ok(false);
-    };
-    let reply = events::take(
-        rt.alloc(),
-        desk,
-        Arrival {
+    // Takes one file, and says whether its deposit is held. A name that is no number and a body that
+    // is too long are reported, and are no arrivals.
+    fn take_file<S: Alter>(
+        &mut self,
+        desk: &mut Desk<S>,
+        folder: &str,
+        name: &str,
+    ) -> Result<bool, Stop> {
+        let alloc = self.rt.alloc();
+        let Ok(number) = number(name) else {
+            self.tell("N1", name)?;
+            return Ok(false);
+        };
+        let path = path_in(alloc, folder, name)?;
+        let Some(body) = read_body(self.rt, path.as_str())? else {
+            self.tell("E2", name)?;
+            return Ok(false);
+        };
+        let arrival = Arrival {
             number,
             body: &body,
-        },
-    )?;
-    print(rt, out, &receipt_line(rt.alloc(), &reply)?)?;
-    Ok(reply.verdict == Verdict::A1)
+        };
+        let reply = events::take(alloc, desk, arrival)?;
+        self.print(&receipt_line(alloc, &reply)?)?;
+        Ok(reply.verdict == Verdict::A1)
+    }
 }
