@@ -82,3 +82,6 @@ pub use Rattle.esc_rows.specs.Texts.{verdict_digests_text, insert_held_text, fin
 pub use Rattle.esc_rows.specs.Texts.{clear_objects_text, find_object_text, select_objects_text, objects_from_text, select_kinds_text, insert_undo_text, insert_images_text, select_undo_text, delete_undo_text, clear_undo_text}
 pub use Rattle.esc_rows.specs.Texts.{insert_parked_text, find_parked_text, parked_digests_text, delete_parked_text, clear_moment_text, insert_moment_text, find_moment_text}
 pub use Rattle.esc_rows.specs.declared.object.TheConstants.{ROWS_AT_ONCE}
+unfoldable pub use Rattle.sqlite_value.specs.Keys.{first_key}
+pub use Rattle.std.proofs.lemmas.Cmp.{and_equiv, on_equiv, nat_eq_equiv}
+pub use Rattle.std.proofs.lemmas.List.Sorted.{IsPermutation-refl}

@@ -1,4 +1,4 @@
-use Rattle.esc_rows.proofs.Calls.{◌≡◌, Ok, subst, arith, state, Error, IsPart, Builds, no_schema, schema_of, parts, part_as, builds}
+use Rattle.esc_rows.proofs.Calls.{◌≡◌, arith, parts, part_as, builds}
 use Rattle.esc_rows.proofs.create.create_tables.Goals as goal
 
 pub loop-at-init : goal.loop-at-init
@@ -13,7 +13,4 @@ loop-at-preserved g c =
 pub returns : goal.returns
 returns g c =
     let all : c.loop-at.at ≡ 9 = omega (arith, c.loop-at-test.false, c.loop-at.auto.at-end) in
-    record {
-      part = subst (λ n. IsPart {X = Unit {0}} {E = Error} (state g.S.Store c.args.conn.now)
-          (state g.S.Store c.loop-at.conn) (Builds no_schema (schema_of n)) (Ok tt)) all c.loop-at.invariant;
-    }
+    record { part = rw all at c.loop-at.invariant }

@@ -1,9 +1,11 @@
-use Rattle.esc_rows.proofs.Calls.{rules, arith, refl, common_steps, table_made}
+use Rattle.esc_rows.proofs.Calls.{◌≡◌, rules, arith, refl, common_steps}
 use Rattle.esc_rows.proofs.shape.TableShapeDescribesTable.is_shape_of.Goals as goal
 
 pub returns : goal.returns
 returns c = (
-  λ t. table_made c.args.it.now _ _ _ _ _ _ _ _ _ _ _ _ (search rules) (search rules)
-      (grind (arith, common_steps)),
+  λ t.
+      let name : c.args.it.now.name ≡ c.args.self.now.name.now = search rules in
+      let primary : c.args.it.now.primary ≡ c.args.self.now.primary.now = search rules in
+      grind (arith, common_steps, name, primary),
   λ e. refl,
 )
