@@ -1,10 +1,10 @@
 -- The names that most proofs of this crate cite, passed on from one place. Declares nothing.
 pub use Rattle.std.proofs.Common.{◌≡◌, ℕ, suc, Bool, true, false, cond, List, [], ◌∷◌, length, filter, Option, None, Some, refl, sym, ap, subst, ◌∙◌, arith, inl, inr, ◌==◌, ◌&&◌, bytes_eq, find, option_map, IsSome, IfSome, if◌then◌else◌}
-pub use Rattle.std.proofs.Common.{zero, ◌+◌, ◌<◌, ◌++◌, take, get_or, map, IsTrue, Result, Ok, Err, OnErr, IsErr, is_some, OnOk, pos, IfErr, ◌<ℤ◌, ◌≤◌, slice_get, ℤ, not, ◌↔◌, ◌⊎◌, eqb, true≢false, IsSorted, drop, length-drop, int_eq, ap₂}
+pub use Rattle.std.proofs.Common.{zero, ◌+◌, ◌<◌, ◌++◌, take, get_or, map, IsTrue, Result, Ok, Err, OnErr, IsErr, is_some, OnOk, pos, IfErr, ◌<ℤ◌, ◌≤◌, slice_get, ℤ, not, ◌↔◌, ◌⊎◌, eqb, true≢false, IsSorted, drop, int_eq, ap₂}
 pub use Rattle.std.proofs.lemmas.Bool.{cases_Bool, eqb-true, and_parts, both_ways}
 pub use Rattle.std.proofs.lemmas.Bool.Decides.{nat_tests}
 pub use Rattle.std.proofs.lemmas.Int.{ints}
-pub use Rattle.std.proofs.lemmas.List.{length-map, length-take-le, get_or-map, take_more, map-append, append-nil, take_all, nil_from_length, drop_more, map_more, map_push}
+pub use Rattle.std.proofs.lemmas.List.{length-map, length-take-le, get_or-map, take_more, map-append, append-nil, take_all, drop_all, drop_more, map_more, map_push}
 pub use Rattle.std.proofs.lemmas.List.Elements.{All-from_recursion}
 pub use Rattle.std.proofs.lemmas.Map.Keys.{IsDistinct-from_sorted}
 pub use Rattle.std.proofs.lemmas.Result.{IfOk-at_ok, IfErr-at_err, IfOk-weaker, IfErr-weaker, on_ok_weaker}
@@ -41,7 +41,7 @@ pub use Rattle.esc_rows.specs.Changes.{receipt_of, ObjectEntry, ImageEntry, is_e
 pub use Rattle.esc_rows.specs.Content.{Content, object_at, content_in, image_at, HoldsContent, parked_at}
 pub use Rattle.esc_rows.specs.ContentIs.{content_is}
 pub use Rattle.esc_rows.specs.Creation.{TellsVersion}
-pub use Rattle.esc_rows.specs.Entries.{step_row, new_entry, new_image, image_of, object_of, receipt_row}
+pub use Rattle.esc_rows.specs.Entries.{step_row, new_entry, new_image, image_of, object_of, receipt_row, listed_row as stored_listed}
 pub use Rattle.esc_rows.specs.Part.{IsPart, IsRead}
 pub use Rattle.esc_rows.specs.ResultLaws.{if_goes}
 pub use Rattle.esc_rows.specs.Rows.{ObjectRow, ReceiptRow, StepRow, ListedRow, listed_number}
@@ -59,15 +59,22 @@ pub use Rattle.esc_store.specs.Opening.{IsSettled}
 pub use Rattle.esc_store.specs.Pages.{entry_row, stored_row, AreRowsOf}
 pub use Rattle.esc_store.specs.ReplyValue.{ReceiptValue, ReplyValue, replies_from, reply_alike}
 pub use Rattle.esc_store.specs.ResultLaws.{if_ok}
-pub use Rattle.esc_store.specs.Standing.{IsAtRest, RestsAt, AreCountsOf, IsStanding, IsBegun, IsMade, IsUnderWay, ChangeOf, Follows, IsStep, RestIn, GoesOn, IsLook, IsStoreRead, IsTold, IsHonest, HoldsNow, store_in, Settles}
+pub use Rattle.esc_store.specs.Standing.{IsAtRest, RestsAt, AreCountsOf, IsStanding, IsBegun, IsMade, IsUnderWay, ChangeOf, Follows, IsStep, GoesOn, IsLook, IsStoreRead, IsTold, IsHonest, HoldsNow, store_in, Settles}
 pub use Rattle.esc_store.specs.StandingLaws.{was_clean, goes_then, survives_same}
-pub use Rattle.esc_store.specs.StoreTables.{IsStore, IsStoreDatabase, HoldsTables}
+pub use Rattle.esc_store.specs.StoreTables.{IsStoreDatabase, HoldsTables}
 pub use Rattle.esc_store.specs.TypedRows.{record_at, IsRegistry, receipts_from, steps_from, IsBooks, kind_at, image_kept, listed_from, listed_row, verdict_number}
 pub use Rattle.esc_store.specs.declared.counts.KindCounts.{KindCounts}
 pub use Rattle.esc_store.specs.declared.fault.SFault.{SFault}
 pub use Rattle.esc_store.specs.declared.reply.Verdict.{Verdict}
 pub use Rattle.esc_store.specs.declared.reply.Verdict.TheVariants.{A2}
 pub use Rattle.esc_store.specs.declared.store.Store.{Store}
-pub use Rattle.esc_tables.specs.KeyLaws.{keys_alike}
+pub use Rattle.esc_tables.specs.KeyLaws.{keys_alike, one_key as same_key}
 pub use Rattle.esc_tables.specs.KeyName.{KeyName, key_eq, key_cmp}
 pub use Rattle.esc_tables.specs.ObjectValue.{ObjectValue}
+pub use Rattle.std.proofs.Common.{IfOk}
+pub use Rattle.std.proofs.lemmas.Option.{same_Some}
+pub use Rattle.sqlite.specs.State.{State as ConnState}
+pub use Rattle.esc_rows.specs.StoreTable.{Objects, Undo}
+pub use Rattle.esc_rows.specs.Entries.{listed_row as stored_listed}
+unfoldable pub use Rattle.esc_store.specs.Standing.{Stands, BeganIn, RestIn, HoldsIn, HoldsKept, LeavesOr, LeavesOnly}
+unfoldable pub use Rattle.esc_store.specs.StoreTables.{IsStore}

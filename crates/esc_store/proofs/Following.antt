@@ -1,19 +1,49 @@
--- What the calls of a change as a registry keep, and what they make.
-use Rattle.esc_store.proofs.Common.{◌≡◌, List, Option, Some, refl, sym, subst, ◌∙◌, Result, Ok, OnOk, unwrap_or, Ghosts, Database, Held, state, MRow, Content, IsPart, SFault, Store, Kept, IsBooks, IsRegistry, ChangeOf, IsBegun, IsMade}
-use Rattle.esc_store.proofs.Common.{IsStep, GoesOn, Follows, if_ok}
-use Rattle.esc_apply.specs.Registry.{State as Tables}
-use Rattle.esc_store.specs.Standing.{BeganIn, RestIn, HoldsIn}
-use Rattle.esc_store.proofs.Parts.{Turns, Settled, step_is, step_turns, begun_on, made_on, made_kept, under_way_on}
+-- What a call within a change keeps of the change, what it makes of it, and what a read says.
+use Rattle.esc_store.proofs.Common.{◌≡◌, true, false, List, Option, Some, refl, sym, ap, subst, ◌∙◌, IsTrue, Result, Ok, Err, OnOk, both_ways, unwrap_or, Ghosts, Database, Held, state, HasCleanDisk, Survives, KeepsCommit, MRow, Content, IsPart, SFault, Store, Kept, BeganIn, RestIn, HoldsIn}
+use Rattle.esc_store.proofs.Common.{IsBooks, IsRegistry, ChangeOf, IsStoreDatabase, IsStep, GoesOn, Follows, IfOk-at_ok, was_clean, if_ok, State as Tables, content_in, Tells, IsLook, IsStoreRead}
+use Rattle.sqlite.specs.State.{State}
+use Rattle.esc_store.proofs.Ends.{begun_committed}
+pub use Rattle.esc_store.proofs.Parts.{step_is, registry_same, become_turns}
+use Rattle.esc_store.proofs.Parts.{Turns, turning, Becoming, Settled, books_as}
 
--- a part of a change, and what it makes of what the tables hold
+-- a call within a change, by the state of the connection: what it makes of tables while the transaction is on, and that nothing is left of the change where it is off
+pub record Passes {X E : Type 0} (old new : State) (R : Content → Content → Type 0) (result : Result X E) : Type 0 where
+  pub survives : Survives old new (λ trees. ⊥)
+  pub kept : HasCleanDisk new → KeepsCommit old new
+  pub on : HasCleanDisk new → new.in_transaction ≡ true → (old.in_transaction ≡ true) × Turns R old.now new.now × IsTrue new.is_open
+  pub off : HasCleanDisk new → new.in_transaction ≡ false → IsTrue new.is_open → (old.in_transaction ≡ false → old.now ≡ old.committed) → new.now ≡ new.committed
+  pub stays : HasCleanDisk new → OnOk result (old.in_transaction ≡ true → new.in_transaction ≡ true)
+
+-- one that failed
+pub passes_err : {X E : Type 0} {old new : State} {R : Content → Content → Type 0} {e : E} → Survives old new (λ trees. ⊥) → (HasCleanDisk new → KeepsCommit old new)
+    → (HasCleanDisk new → (new.in_transaction ≡ false) × (IsTrue new.is_open → new.now ≡ new.committed)) → Passes {X = X} old new R (Err e)
+passes_err {new = new} survives kept failed = record {
+  survives = survives;
+  kept = kept;
+  on = λ clean on. absurd (both_ways new.in_transaction (failed clean).0 on);
+  off = λ clean off up was. (failed clean).1 up;
+  stays = λ clean. tt;
+}
+
+passes_step : {X E : Type 0} {old new : State} {Made : Database → Database → Type 0} {R : Content → Content → Type 0} {r : Result X E} → IsStep old new Made r → ((a b : Database) → Made a b → Turns R a b) → Passes old new R r
+passes_step {new = new} {r = Ok x} step turns = record {
+  survives = step.survives;
+  kept = step.kept;
+  on = λ clean on. let m = step.made clean in (m.0, turns _ _ m.1, m.3);
+  off = λ clean off up was. absurd (both_ways new.in_transaction off (step.made clean).2);
+  stays = λ clean was. (step.made clean).2;
+}
+passes_step {r = Err e} step turns = passes_err step.survives step.kept step.failed
+
+-- the same of a store, and what the call makes of what the tables hold
 pub record Moves {S X E : Type 0} (g : Ghosts S) (old new : Store S) (R : Content → Content → Type 0) (result : Result X E) : Type 0 where
   pub manifest : new.manifest ≡ old.manifest
   pub writes : new.writes ≡ old.writes
-  pub step : IsStep (state g old.conn) (state g new.conn) (Turns R) result
+  pub pass : Passes (state g old.conn) (state g new.conn) R result
 
 pub stepped : {S X E : Type 0} {g : Ghosts S} {old new : Store S} {r : Result X E} {Made : Database → Database → Type 0} {R : Content → Content → Type 0}
     → new.manifest ≡ old.manifest → new.writes ≡ old.writes → IsStep (state g old.conn) (state g new.conn) Made r → ((a b : Database) → Made a b → Turns R a b) → Moves g old new R r
-stepped manifest writes step turns = record { manifest = manifest; writes = writes; step = step_turns turns step }
+stepped manifest writes step turns = record { manifest = manifest; writes = writes; pass = passes_step step turns }
 
 -- a statement, settled
 pub moved : {S X D : Type 0} {g : Ghosts S} {old new : Store S} {conn : Held S} {outcome : Result X D} {result : Result X SFault}
@@ -22,42 +52,90 @@ pub moved : {S X D : Type 0} {g : Ghosts S} {old new : Store S} {conn : Held S} 
 moved settle part turns = stepped settle.manifest settle.writes (step_is settle.settled part) turns
 
 module _ {S : Type 0} {g : Ghosts S} {X E : Type 0} {old new : Store S} {R : Content → Content → Type 0} {r : Result X E} (move : Moves g old new R r) where
+  clean_before : HasCleanDisk (state g new.conn) → HasCleanDisk (state g old.conn)
+  clean_before = was_clean move.pass.survives
+
   begun_step : (k : Kept) → BeganIn g old k → BeganIn g new k
   unfolding BeganIn
-  begun_step k begun = subst (λ m. IsBegun (state g new.conn) m k) (sym move.manifest) (begun_on move.step old.manifest k begun)
+  begun_step k begun = record {
+    listed = move.manifest ∙ begun.listed;
+    on = λ clean on. let (was_on, turns, up) = move.pass.on clean on in let was = begun.on (clean_before clean) was_on in
+        (up, subst (λ db. IsStoreDatabase db k) (sym ((move.pass.kept clean).committed up)) was.1, (turns.by was.2).0);
+    off = λ clean off up. let kept = move.pass.kept clean in (
+      subst (λ db. IsStoreDatabase db k) (sym (kept.committed up)) (begun_committed _ _ k begun (clean_before clean) (kept.was_open up)),
+      move.pass.off clean off up (λ was. (begun.off (clean_before clean) was (kept.was_open up)).1),
+    );
+  }
 
-  rest_step : ((k : Kept) (c c' : Content) → R c c' → IsBooks c k → IsBooks c' k) → (listing : Option (List MRow)) (before k : Kept) → RestIn g old listing before k → RestIn g new listing before k
-  unfolding RestIn
-  rest_step turn listing before k made = subst (λ m. IsMade (state g new.conn) m (unwrap_or listing m) before k) (sym move.manifest)
-      (made_kept move.step old.manifest (unwrap_or listing old.manifest) before k (turn k) made)
+  -- what is made of what was kept, where the rows that are listed are those of it
+  made_as : (l l' : Option (List MRow)) {k k' : Kept} → (unwrap_or l old.manifest ≡ k.listed → unwrap_or l' new.manifest ≡ k'.listed) → ((c c' : Content) → R c c' → IsBooks c k → IsBooks c' k')
+      → (before : Kept) → RestIn g old l before k → RestIn g new l' before k'
+  unfolding RestIn BeganIn
+  made_as l l' listed turn before made = record {
+    begun = begun_step before made.begun;
+    listed = listed made.listed;
+    books = λ clean on. let (was_on, turns, up) = move.pass.on clean on in
+        turn _ _ (turns.by (made.begun.on (clean_before clean) was_on).2).1 (made.books (clean_before clean) was_on);
+  }
 
-  pub made_then : {k k' : Kept} {x : X} → r ≡ Ok x → (listing : Option (List MRow)) → k'.listed ≡ k.listed → ((c c' : Content) → R c c' → IsBooks c k → IsBooks c' k')
-      → (before : Kept) → RestIn g old listing before k → RestIn g new listing before k'
-  unfolding RestIn
-  made_then {k} {k'} {x} is listing same turn before made = subst (λ m. IsMade (state g new.conn) m (unwrap_or listing m) before k') (sym move.manifest)
-      (made_on move.step old.manifest (unwrap_or listing old.manifest) (unwrap_or listing old.manifest) before k k' x is (λ h. h ∙ sym same) turn made)
+  pub made_then : (l : Option (List MRow)) {k k' : Kept} → k'.listed ≡ k.listed → ((c c' : Content) → R c c' → IsBooks c k → IsBooks c' k') → (before : Kept) → RestIn g old l before k → RestIn g new l before k'
+  made_then l same = made_as l l (λ h. ap (unwrap_or l) move.manifest ∙ h ∙ sym same)
 
-  pub made_all : {F : Kept → Kept} (listing : Option (List MRow)) → ((k : Kept) → (F k).listed ≡ k.listed) → ((k : Kept) (c c' : Content) → R c c' → IsBooks c k → IsBooks c' (F k))
-      → OnOk r ((before k : Kept) → RestIn g old listing before k → RestIn g new listing before (F k))
-  made_all {F} listing same turn = if_ok r _ (λ x is before k made. made_then is listing (same k) (turn k) before made)
+  pub made_all : {F : Kept → Kept} (l : Option (List MRow)) → ((k : Kept) → (F k).listed ≡ k.listed) → ((k : Kept) (c c' : Content) → R c c' → IsBooks c k → IsBooks c' (F k))
+      → OnOk r ((before k : Kept) → RestIn g old l before k → RestIn g new l before (F k))
+  made_all l same turn = if_ok r _ (λ x is before k. made_then l (same k) (turn k) before)
 
   -- of a step that lists rows
-  pub listed_step : {k k' : Kept} {x : X} → r ≡ Ok x → ((c c' : Content) → R c c' → IsBooks c k → IsBooks c' k') → (before : Kept)
-      → RestIn g old (Some k.listed) before k → RestIn g new (Some k'.listed) before k'
-  unfolding RestIn
-  listed_step {k} {k'} {x} is turn before made = subst (λ m. IsMade (state g new.conn) m k'.listed before k') (sym move.manifest)
-      (made_on move.step old.manifest k.listed k'.listed before k k' x is (λ h. refl) turn made)
+  pub listed_step : {k k' : Kept} → ((c c' : Content) → R c c' → IsBooks c k → IsBooks c' k') → (before : Kept) → RestIn g old (Some k.listed) before k → RestIn g new (Some k'.listed) before k'
+  listed_step {k} {k'} = made_as (Some k.listed) (Some k'.listed) (λ _. refl)
 
   pub holds_step : {s s' : Tables} {x : X} → r ≡ Ok x → ((c c' : Content) → R c c' → IsRegistry c s → IsRegistry c' s') → HoldsIn g old s → HoldsIn g new s'
   unfolding HoldsIn
-  holds_step {s} {s'} {x} is turn goes = under_way_on move.step s s' x is turn goes
+  holds_step is turn goes clean =
+      let was = goes (clean_before clean) in
+      let on = IfOk-at_ok _ is (move.pass.stays clean) was.in_transaction in
+      let (was_on, turns, up) = move.pass.on clean on in
+      let now = turns.by was.tables_are in
+      record { is_open = up; in_transaction = on; tables_are = now.0; registry = turn _ _ now.1 was.registry }
 
   pub holds_all : {F : Tables → Tables} → ((s : Tables) (c c' : Content) → R c c' → IsRegistry c s → IsRegistry c' (F s)) → OnOk r ((s : Tables) → HoldsIn g old s → HoldsIn g new (F s))
   holds_all turn = if_ok r _ (λ x is s. holds_step is (turn s))
 
 module _ {S : Type 0} {g : Ghosts S} {X E : Type 0} {old : ChangeOf S} {new : Store S} {R : Content → Content → Type 0} {r : Result X E} (move : Moves g old.store.now new R r) where
   pub goes_step : GoesOn g old (record old { store = record old.store { now = new } })
-  goes_step = record { same_reference = refl; manifest = move.manifest; listed = rw move.manifest refl; writes = move.writes; survives = move.step.survives; began = begun_step move }
+  goes_step = record { same_reference = refl; manifest = move.manifest; listed = rw move.manifest refl; writes = move.writes; survives = move.pass.survives; began = begun_step move }
 
   pub follows_step : ((k : Kept) (c c' : Content) → R c c' → IsBooks c k → IsBooks c' k) → Follows g old (record old { store = record old.store { now = new } })
-  follows_step turn = record { goes_on = goes_step; rest = rest_step move turn old.listing }
+  follows_step turn = record { goes_on = goes_step; rest = λ before k. made_then move old.listing refl (turn k) before }
+
+-- ---- reads
+
+-- what the tables hold stays
+passes_look : {X E : Type 0} {old new : State} {P : Content → X → Type 0} {r : Result X E} → IsLook old new (Tells P) r → Passes old new (Becoming (λ c. c)) r
+passes_look {old = old} {r = Ok x} look = record {
+  survives = look.survives;
+  kept = look.kept;
+  on = λ clean on. let it = (look.said clean).1.0 in
+      (sym it.mode ∙ on, subst (λ (db : Database). Turns (Becoming (λ c. c)) old.now db) (sym it.now_is) (turning (λ tables. (content_in old.now.trees, tables, record { is = refl }))), it.is_open);
+  off = λ clean off up was. let it = (look.said clean).1.0 in it.now_is ∙ was (sym it.mode ∙ off) ∙ sym it.committed_is;
+  stays = λ clean was. (look.said clean).1.0.mode ∙ was;
+}
+passes_look {r = Err e} look = passes_err look.survives look.kept look.failed
+
+module _ {S : Type 0} {g : Ghosts S} {X E : Type 0} {old new : Store S} {P : Content → X → Type 0} {r : Result X E} (read : IsStoreRead g old new P r) where
+  moves_look : Moves g old new (Becoming (λ c. c)) r
+  moves_look = record { manifest = read.manifest; writes = read.writes; pass = passes_look read.look }
+
+  pub holds_look : {x : X} → r ≡ Ok x → (s : Tables) → HoldsIn g old s → HoldsIn g new s
+  holds_look is s = holds_step moves_look is (λ _ _ turn. registry_same turn.is refl refl)
+
+  pub says_look : {s : Tables} {x : X} → r ≡ Ok x → HasCleanDisk (state g new.conn) → HoldsIn g old s → (c : Content) × IsRegistry c s × P c x × HoldsIn g new s
+  unfolding HoldsIn
+  says_look {s} is clean goes =
+      let was = goes (was_clean read.look.survives clean) in
+      let c = content_in (state g old.conn).now.trees in
+      (c, was.registry, (IfOk-at_ok _ is (read.look.said clean)).0 c was.tables_are, holds_look is s goes)
+
+pub follows_look : {S : Type 0} {g : Ghosts S} {X E : Type 0} {old : ChangeOf S} {new : Store S} {P : Content → X → Type 0} {r : Result X E}
+    → IsStoreRead g old.store.now new P r → Follows g old (record old { store = record old.store { now = new } })
+follows_look read = follows_step (moves_look read) (λ _ _ _ turn books. books_as turn.is books.listed books.receipts books.held books.parked books.moment books.steps)

@@ -6,10 +6,7 @@ pub mod Decoding
 pub mod Ends
 pub mod Following
 pub mod Gathering
-pub mod FoundingLemmas
-pub mod Looking
 pub mod Manifests
-pub mod MigratingLemmas
 pub mod OpeningLemmas
 pub mod Parts
 pub mod Reading
@@ -18,6 +15,6 @@ pub mod Sure
 pub mod Paging
 pub mod ReceiptRows
 pub mod Parking
-pub mod Unlisted
 pub mod Lists
 pub mod Filled
+pub mod Survival

@@ -1,9 +1,9 @@
 -- What a part of a change does that lists rows.
-use Rattle.esc_store.proofs.Common.{◌≡◌, ℕ, suc, ◌+◌, List, [], ◌∷◌, ◌++◌, length, Option, Some, refl, ap, arith, pos, unwrap_or, ints, insert_by, MRow, ListedRow, listed_number, Content, Kept, with_listed, IsBooks}
+use Rattle.esc_store.proofs.Common.{◌≡◌, ℕ, suc, ◌+◌, List, [], ◌∷◌, ◌++◌, length, Option, Some, refl, ap, arith, pos, unwrap_or, ints, insert_by, MRow, ListedRow, listed_number, Content, Kept, with_listed, IsBooks, RestIn}
 use Rattle.esc_store.proofs.Common.{listed_row, listed_from, Ghosts, Store, ChangeOf, GoesOn, survives_same}
 use Rattle.sqlite_keyed.proofs.KeyedLemmas.{Less-from_lt}
 use Rattle.esc_rows.specs.Changes.{with_listed_row}
-use Rattle.esc_store.specs.Standing.{RestIn, IsUncommitted}
+use Rattle.esc_store.specs.Standing.{IsUncommitted}
 use Rattle.esc_store.proofs.Parts.{Becoming, books_as}
 
 -- the next row, put in its place

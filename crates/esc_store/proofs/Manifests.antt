@@ -1,11 +1,10 @@
 -- A manifest in its table.
-use Rattle.esc_store.proofs.Common.{◌≡◌, ℕ, suc, ◌+◌, ◌<◌, List, [], ◌∷◌, ◌++◌, length, take, get_or, map, Option, None, Some, refl, sym, ap, ◌∙◌, arith, Result, Ok, Err, pos, ◌<ℤ◌, AllByRecursion, ints, length-take-le}
-use Rattle.esc_store.proofs.Common.{◌≤◌, take_more, map-append, IsKeyedBy, MRow, no_row, ListedRow, listed_number, listed_row, listed_from}
+use Rattle.esc_store.proofs.Common.{◌≡◌, ℕ, suc, ◌+◌, ◌<◌, List, [], ◌∷◌, ◌++◌, length, take, get_or, map, Option, None, Some, refl, sym, ap, ◌∙◌, arith, Result, Ok, Err, pos, ◌<ℤ◌, AllByRecursion, ints, length-take-le, stored_listed as stored_row}
+use Rattle.esc_store.proofs.Common.{◌≤◌, ap₂, take_more, map-append, IsKeyedBy, MRow, no_row, ListedRow, listed_number, listed_row, listed_from}
 use Rattle.esc_manifest.specs.declared.fault.MFault.{MFault}
 use Rattle.esc_manifest.specs.declared.fault.MFault.TheVariants.{Refused}
 use Rattle.esc_rows.specs.declared.listed.Listed.{Listed}
 use Rattle.esc_store.proofs.Numbered.{from_next, from_size, from_nth}
-use Rattle.esc_rows.specs.Entries.{listed_row as stored_row}
 
 -- what was accepted is what was given
 pub accepted_is : (fault : Option (ℕ × ℕ)) (r : Result (List MRow) MFault) (m rows : List MRow) → (fault ≡ None → r ≡ Ok rows) → ((code row : ℕ) → fault ≡ Some (code, row) → r ≡ Err (Refused code row)) → r ≡ Ok m → m ≡ rows
@@ -34,8 +33,7 @@ pub one_row : (ss : List Listed) (rs : List MRow) (i : ℕ) (d : Listed) (rows :
     → ((n : ℕ) (r : MRow) → stored_row (get_or ss i d) ≡ listed_row n r → row ≡ r) → rows ++ (row ∷ []) ≡ take (i + 1) rs
 one_row ss rs i d rows row e lt so_far is =
     let size = listed_size ss rs e in
-    let below : i < length rs = omega arith in
-    ap (λ l. l ++ (row ∷ [])) so_far ∙ (ap (λ x. take i rs ++ (x ∷ [])) (is i (get_or rs i no_row) (stored_get ss rs i d e lt)) ∙ sym (take_more rs i no_row below))
+    ap₂ (λ l x. l ++ (x ∷ [])) so_far (is i (get_or rs i no_row) (stored_get ss rs i d e lt)) ∙ sym (take_more rs i no_row (omega arith))
 
 above : (n m : ℕ) (rs : List MRow) → n < m → AllByRecursion (λ (x : ListedRow). pos n <ℤ listed_number x) (listed_from m rs)
 above n m [] lt = tt

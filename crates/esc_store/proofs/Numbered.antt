@@ -1,5 +1,5 @@
 -- Rows that are numbered one after another, from a number on.
-use Rattle.esc_store.proofs.Common.{◌≡◌, ℕ, zero, suc, ◌+◌, ◌<◌, List, [], ◌∷◌, ◌++◌, length, take, get_or, map, refl, sym, ap, ◌∙◌, arith, length-map, get_or-map, take_more, ap₂}
+use Rattle.esc_store.proofs.Common.{◌≡◌, ℕ, zero, suc, ◌+◌, ◌<◌, List, [], ◌∷◌, ◌++◌, length, take, get_or, map, refl, sym, ap, ◌∙◌, arith, length-map, take_more}
 
 module _ {X R : Type 0} (row : ℕ → X → R) (from : ℕ → List X → List R) (none : (n : ℕ) → from n [] ≡ []) (more : (n : ℕ) (x : X) (xs : List X) → from n (x ∷ xs) ≡ row n x ∷ from (suc n) xs) where
   pub from_append : (n m : ℕ) (xs ys : List X) → length xs + n ≡ m → from n (xs ++ ys) ≡ from n xs ++ from m ys
@@ -11,25 +11,23 @@ module _ {X R : Type 0} (row : ℕ → X → R) (from : ℕ → List X → List 
   from_length n [] = ap length (none n)
   from_length n (x ∷ xs) = ap length (more n x xs) ∙ ap suc (from_length (suc n) xs)
 
-  from_get : (n : ℕ) (xs : List X) (i : ℕ) (d : R) (e : X) → i < length xs → get_or (from n xs) i d ≡ row (length (take i xs) + n) (get_or xs i e)
-  from_get n [] i d e lt = absurd (omega arith)
-  from_get n (x ∷ xs) zero d e lt = let at : n ≡ 0 + n = omega arith in ap (λ l. get_or l 0 d) (more n x xs) ∙ ap (λ m. row m x) at
-  from_get n (x ∷ xs) (suc i) d e lt =
-      let at : length (take i xs) + suc n ≡ suc (length (take i xs)) + n = omega arith in
-      ap (λ l. get_or l (suc i) d) (more n x xs) ∙ from_get (suc n) xs i d e (omega arith) ∙ ap (λ m. row m (get_or xs i e)) at
-
   -- one row more
   pub from_next : (n : ℕ) (rs : List R) (xs : List X) (i : ℕ) (r : R) (d : X) → rs ≡ from n (take i xs) → i < length xs → r ≡ row (length (take i xs) + n) (get_or xs i d) → rs ++ (r ∷ []) ≡ from n (take (i + 1) xs)
   from_next n rs xs i r d so_far lt is =
       let at = length (take i xs) + n in
-      let one = ap₂ (λ (y : R) (l : List R). y ∷ l) is (sym (none (suc at))) ∙ sym (more at (get_or xs i d) []) in
-      ap₂ (λ (a b : List R). a ++ b) so_far one ∙ sym (from_append n at (take i xs) (get_or xs i d ∷ []) refl) ∙ ap (from n) (sym (take_more xs i d lt))
+      rw (so_far, is, take_more xs i d lt, from_append n at (take i xs) (get_or xs i d ∷ []) refl, more at (get_or xs i d) [], none (suc at)) refl
 
   -- rows in another form
   pub from_size : {A : Type 0} (f : A → R) (n : ℕ) (ss : List A) (xs : List X) → map f ss ≡ from n xs → length ss ≡ length xs
   from_size f n ss xs is = sym (length-map ss f) ∙ ap length is ∙ from_length n xs
 
   pub from_nth : {A : Type 0} (f : A → R) (n : ℕ) (ss : List A) (xs : List X) (i : ℕ) (d : A) (e : X) → map f ss ≡ from n xs → i < length ss → f (get_or ss i d) ≡ row (length (take i xs) + n) (get_or xs i e)
-  from_nth f n ss xs i d e is lt =
-      let size = from_size f n ss xs is in
-      sym (get_or-map f ss i d (f d) lt) ∙ ap (λ (l : List R). get_or l i (f d)) is ∙ from_get n xs i (f d) e (omega arith)
+  from_nth f n [] xs i d e is lt = absurd (omega arith)
+  from_nth f n (s ∷ ss) [] i d e is lt = let no : f s ∷ map f ss ≡ [] = is ∙ none n in absurd cc
+  from_nth f n (s ∷ ss) (x ∷ xs) zero d e is lt =
+      let all : f s ∷ map f ss ≡ row n x ∷ from (suc n) xs = is ∙ more n x xs in
+      let at : n ≡ 0 + n = omega arith in (cc)
+  from_nth f n (s ∷ ss) (x ∷ xs) (suc i) d e is lt =
+      let all : f s ∷ map f ss ≡ row n x ∷ from (suc n) xs = is ∙ more n x xs in
+      let at : length (take i xs) + suc n ≡ suc (length (take i xs)) + n = omega arith in
+      from_nth f (suc n) ss xs i d e (cc) (omega arith) ∙ ap (λ m. row m (get_or xs i e)) at

@@ -1,71 +1,58 @@
 -- Databases that are found to be a store, or none.
-use Rattle.esc_store.proofs.Common.{◌≡◌, ◌≤◌, inl, Bool, true, false, not, List, [], ◌∷◌, length, slice_get, Option, Some, None, option_map, refl, sym, ap, subst, ◌∙◌, arith, IsTrue, ℤ, pos, Row, column, Database, HasCleanDisk, Survives}
-use Rattle.esc_store.proofs.Common.{KeepsCommit, IsUnchanged, MRow, info_tree, Content, content_in, HoldsContent, TellsVersion, Kept, IsStoreDatabase, IsSettled, IsStanding, RestsAt, was_clean}
+use Rattle.esc_store.proofs.Common.{◌≡◌, Bool, true, false, true≢false, not, List, [], ◌∷◌, slice_get, Option, Some, None, option_map, option_eq, int_eq, refl, sym, ap, subst, ◌∙◌, arith, IsTrue, ℤ, Row, column, Trees, Database, HasCleanDisk, Survives}
+use Rattle.esc_store.proofs.Common.{IsUnchanged, MRow, info_tree, Content, TellsVersion, Kept, IsStoreDatabase, IsSettled, IsStore, IsFirstDatabase, IsStanding, RestsAt, was_clean, ConnState as State}
+use Rattle.std.proofs.lemmas.Bool.Decides.{Decides-int_eq}
+use Rattle.std.proofs.Common.{rules}
 use Rattle.sqlite_value.specs.declared.value.Value.TheVariants.{Int}
-use Rattle.sqlite.specs.State.{State}
-use Rattle.esc_rows.specs.Schema.{store_schema}
-use Rattle.esc_rows.specs.Rows.{info_row}
-use Rattle.esc_rows.specs.Content.{IsStore as HasTables}
-use Rattle.esc_store.specs.StoreTables.{IsStore, IsOfVersion}
-use Rattle.esc_store.specs.Opening.{IsAsItWas}
+use Rattle.esc_rows.specs.Schema.{IsOfSomeVersion}
+use Rattle.esc_store.specs.FirstVersion.{IsFirstAtRest, IsFirstStore, IsOfFirstVersion, SeesFirst}
+use Rattle.esc_store.specs.StoreTables.{IsOfVersion}
+use Rattle.esc_store.proofs.Ends.{still_stands, unchanged_settled}
 
--- a database whose last commit is a store has the tables
-pub tables_refused : (s : State) (has : Bool) (k : Kept) → (IsTrue s.is_open → (c : Content) → HasTables s.now.trees c → IsTrue has × HoldsContent s.now c) → s.now ≡ s.committed → has ≡ false → IsTrue s.is_open → IsStore s.committed.trees k → ⊥
-unfolding IsStore
-tables_refused s has k found same lacks up stored =
-    let yes = (found up (content_in s.now.trees) (subst (λ (db : Database). HasTables db.trees (content_in db.trees)) (sym same) stored.tables)).0 in
-    let none : ⊥ = cc in none
+-- a database whose last commit is a store of a version has its tables
+pub tables_refused : (Has : Trees → Content → Type 0) (content : Trees → Content) {Holds : Content → Type 0} {Up : Type 0} {now committed : Database} {has : Bool} → (Up → (c : Content) → Has now.trees c → IsTrue has × Holds c)
+    → now ≡ committed → has ≡ false → Up → Has committed.trees (content committed.trees) → ⊥
+tables_refused Has content {now = now} found same lacks up stored =
+    let yes = (found up (content now.trees) (subst (λ (db : Database). Has db.trees (content db.trees)) (sym same) stored)).0 in cc
 
-pub int_is : (version : Option ℤ) (n : ℤ) → option_map Int version ≡ Some (Int n) → version ≡ Some n
-int_is None n is = let no : ⊥ = cc in absurd no
-int_is (Some v) n is = let e : v ≡ n = cc in ap Some e
+-- and the version
+pub version_refused : (version : Option ℤ) {n : ℤ} {row : Row} {now committed : Database} → now ≡ committed → TellsVersion now version → IsOfSomeVersion now.schema → committed.trees info_tree ≡ row ∷ [] → column row 2 ≡ Int n
+    → true ≡ not (option_eq int_eq version (Some n)) → ⊥
+version_refused version {n} {row} {now} same tells some info is other = differ version other (tells some (rw here (omega arith)) ∙ (ap (λ (rows : List Row). option_map (λ (r : Row). column r 2) (slice_get rows 0)) here ∙ ap Some is)) where
+  here : now.trees info_tree ≡ row ∷ []
+  here = ap (λ (db : Database). db.trees info_tree) same ∙ info
 
--- and its version is 2
-pub version_told : (s : State) (version : Option ℤ) (k : Kept) → s.now ≡ s.committed → s.now.schema ≡ store_schema → TellsVersion s.now version → IsStore s.committed.trees k → version ≡ Some (pos 2)
-unfolding IsStore
-version_told s version k same schema tells stored =
-    let info : s.now.trees info_tree ≡ info_row ∷ [] = ap (λ (db : Database). db.trees info_tree) same ∙ stored.tables.rows.info in
-    let one : length (s.now.trees info_tree) ≤ 1 = subst (λ (rows : List Row). length rows ≤ 1) (sym info) (omega arith) in
-    int_is version (pos 2) (tells (inl schema) one ∙ ap (λ (rows : List Row). option_map (λ (r : Row). column r 2) (slice_get rows 0)) info)
-
-pub is_off : (b on : Bool) → b ≡ not on → IsTrue b → on ≡ false
-is_off b false e t = refl
-is_off b true e t = let off : b ≡ false = e in let none : ⊥ = cc in absurd none
+  differ : (v : Option ℤ) → true ≡ not (option_eq int_eq v (Some n)) → option_map Int v ≡ Some (Int n) → ⊥
+  differ None other is = let no : ⊥ = cc in no
+  differ (Some m) other is = let e : m ≡ n = cc in true≢false (rw ((Decides-int_eq m n).1 e) at other)
 
 -- what a call that asks whether no transaction is on makes known where none is
 pub at_rest : {b on : Bool} {P : Type 0} → b ≡ not on → (IsTrue b → P) → IsTrue b → (on ≡ false) × P
-at_rest value settled t = (is_off _ _ value t, settled t)
-
--- nothing was committed, and no transaction was on and none is
-pub as_it_was : (old new : State) → IsSettled old → (HasCleanDisk new → KeepsCommit old new) → (HasCleanDisk new → new.in_transaction ≡ false) → (HasCleanDisk new → IsTrue new.is_open → new.now ≡ new.committed) → IsAsItWas old new
-as_it_was old new settled kept ended same = record {
-  in_transaction = λ clean. ended clean ∙ sym settled.0;
-  committed = λ clean up. (kept clean).committed up;
-  now = λ clean up. same clean up ∙ ((kept clean).committed up ∙ sym (settled.1 ((kept clean).was_open up)));
-}
+at_rest value settled t = (grind arith, settled t)
 
 -- what was read is what the store was
-pub opened : (old new : State) (m : List MRow) (k : Kept) → Survives old new (λ trees. ⊥) → IsUnchanged old new → (IsStoreDatabase old.now k → m ≡ k.listed)
-    → RestsAt old k → HasCleanDisk new → IsStanding new m None k
-opened old new m k survives unchanged told rests clean =
+pub opened : {old new : State} {m : List MRow} {k : Kept} → Survives old new (λ trees. ⊥) → IsUnchanged old new → (IsStoreDatabase old.now k → m ≡ k.listed) → RestsAt old k → HasCleanDisk new → IsStanding new m None k
+opened {k = k} survives unchanged told rests clean =
     let was = rests (was_clean survives clean) unchanged.0.was_open in
-    record {
-      listed = told (subst (λ db. IsStoreDatabase db k) (sym was.same) was.kept);
-      rests = λ still up. record {
-        kept = subst (λ db. IsStoreDatabase db k) (sym unchanged.0.committed_is) was.kept;
-        same = unchanged.0.now_is ∙ (was.same ∙ sym unchanged.0.committed_is);
-        autocommit = unchanged.0.mode ∙ was.autocommit;
-      };
-      counted = λ still. tt;
-    }
+    still_stands {a = None} survives (λ _. record { was_open = λ _. unchanged.0.was_open; committed = λ _. unchanged.0.committed_is }) (λ _ _. unchanged_settled unchanged was)
+    (told (subst (λ db. IsStoreDatabase db k) (sym was.same) was.kept)) (λ clean up. (rests clean up).kept) refl (λ _. tt)
 
 -- the store that the last commit is
-pub found : (old new : State) (m : List MRow) (k : Kept) → Survives old new (λ trees. ⊥) → IsUnchanged old new × IsOfVersion old.now → IsSettled old
-    → (IsStoreDatabase old.now k → m ≡ k.listed) → IsStore old.committed.trees k → HasCleanDisk new → IsStanding new m None k
+pub found : {old new : State} {m : List MRow} {k : Kept} → Survives old new (λ trees. ⊥) → IsUnchanged old new × IsOfVersion old.now → IsSettled old → (IsStoreDatabase old.now k → m ≡ k.listed)
+    → IsStore old.committed.trees k → HasCleanDisk new → IsStanding new m None k
 unfolding IsStore
-found old new m k survives version settled told stored = opened old new m k survives version.0 told
-    (λ clean up. record {
-      kept = record { schema = ap (λ (db : Database). db.schema) (sym (settled.1 up)) ∙ version.1.schema; kept = stored };
-      same = settled.1 up;
-      autocommit = settled.0;
-    })
+found survives version settled told stored = opened survives version.0 told (λ clean up. let same = settled.1 up in search rules)
+
+-- ---- stores of version 1
+
+-- what a connection sees of a version 1 store that is at rest, or committed
+pub sees_rest : (s : State) {k : Kept} → (HasCleanDisk s → IsTrue s.is_open → IsFirstAtRest s k) → SeesFirst s k
+sees_rest s rests clean up = let it = rests clean up in rw it.same it.kept.kept
+
+pub sees_committed : (s : State) {k : Kept} → IsSettled s → IsFirstStore s.committed.trees k → SeesFirst s k
+unfolding IsFirstStore
+sees_committed s settled stored clean up = rw (settled.1 up) stored
+
+-- with its schema, once that was found
+pub tested : {old mid : State} {k : Kept} → Survives old mid (λ _. ⊥) → (HasCleanDisk mid → IsUnchanged old mid × IsOfFirstVersion old.now) → SeesFirst old k → HasCleanDisk mid → IsFirstDatabase mid.now k
+tested survives version sees clean = let it = version clean in rw it.0.0.now_is (record { schema = it.1.schema; kept = sees (was_clean survives clean) it.0.0.was_open })

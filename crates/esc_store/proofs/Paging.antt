@@ -1,16 +1,15 @@
 -- From rows of the table of objects to a page of them.
-use Rattle.esc_store.proofs.Common.{◌≡◌, ℕ, ◌+◌, ◌<◌, ◌≤◌, ◌==◌, ◌&&◌, Bool, true, false, cond, List, [], ◌∷◌, ◌++◌, map, filter, take, length, get_or, Option, None, Some, option_map, refl, sym, ap, subst, ◌∙◌, inl, inr, arith, bytes_eq}
-use Rattle.esc_store.proofs.Common.{find, lookup, nat_cmp, slice_cmp, cases_Bool, length-map, IsAscending, Kind, kind_rank, KeyName, key_cmp, key_eq, record_of, Entry, State, keys_alike, Content, object_at}
+use Rattle.esc_store.proofs.Common.{◌≡◌, ℕ, ◌+◌, ◌<◌, ◌≤◌, ◌==◌, ◌&&◌, Bool, true, false, cond, List, [], ◌∷◌, ◌++◌, map, filter, take, length, get_or, Option, None, Some, option_map, refl, sym, ap, subst, ◌∙◌, inl, inr, arith}
+use Rattle.esc_store.proofs.Common.{lookup, nat_cmp, slice_cmp, cases_Bool, length-map, IsAscending, Kind, kind_rank, KeyName, key_cmp, key_eq, record_of, Entry, State, keys_alike, Content, object_at}
 use Rattle.esc_store.proofs.Common.{ObjectEntry, entry_at, is_entry_at, entry_row, stored_row, IsRegistry, ap₂, map_push, map_more}
 use Rattle.std.proofs.Common.{Ordering, Less}
 use Rattle.std.specs.List.Sorted.{IsStrictlySortedBy}
 use Rattle.std.specs.Ordering.{ordering_then}
-use Rattle.std.specs.List.{last_or}
 use Rattle.std.proofs.lemmas.List.{length-take}
 use Rattle.sqlite_keyed.specs.Lists.{sort_by}
-use Rattle.sqlite_keyed.proofs.ListLemmas.{ascending-map, ascending_from_map, all_map}
+use Rattle.sqlite_keyed.proofs.ListLemmas.{ascending-map, all_map, all_unmap}
 use Rattle.esc_apply.specs.ObjectStreams.{InOrder}
-use Rattle.esc_rows.specs.Changes.{object_entry, by_key, by_entry, is_from, is_kind_from, is_up_to, last_key, ListsFrom}
+use Rattle.esc_rows.specs.Changes.{object_entry, by_key, is_from, is_kind_from, is_up_to, last_key, ListsFrom}
 use Rattle.esc_store.specs.declared.reads.TheConstants.{MOST_ON_PAGE}
 use Rattle.esc_store.specs.Pages.{IsPage, last_text, is_on_page}
 use Rattle.esc_store.proofs.Gathering.{tests_alike, same_records, record_here}
@@ -22,55 +21,33 @@ Shown = ℕ × List ℕ × Option (List ℕ)
 abbrev by_shown : Shown → Shown → Ordering
 by_shown a b = ordering_then (nat_cmp a.0 b.0) (slice_cmp nat_cmp a.1 b.1)
 
-abbrev is_shown_at : KeyName → Shown → Bool
-is_shown_at q t = (t.0 == kind_rank q.kind) && bytes_eq t.1 q.text
-
-abbrev record_in : Option Shown → Option (Option (List ℕ))
-record_in = option_map (λ (t : Shown). t.2)
-
 -- ---- the order
 
-in_order : (es : List Entry) → IsAscending (λ (a b : Entry). key_cmp a.0 b.0 ≡ Less) es → InOrder es
+in_order : (es : List Entry) → IsAscending (λ a b. by_shown a b ≡ Less) (map entry_row es) → InOrder es
 unfolding IsStrictlySortedBy
 in_order [] up = tt
-in_order (e ∷ es) up = (all_map (λ k. key_cmp e.0 k ≡ Less) (λ (f : Entry). f.0) es up.0, in_order es up.1)
+in_order (e ∷ es) up = (all_map (λ k. key_cmp e.0 k ≡ Less) (λ (f : Entry). f.0) es (all_unmap (λ t. by_shown (entry_row e) t ≡ Less) entry_row es up.0), in_order es up.1)
 
-order_is : (rows : List ObjectEntry) (es : List Entry) → IsAscending (λ a b. by_entry a b ≡ Less) rows → map entry_row es ≡ map stored_row rows → InOrder es
-order_is rows es up same =
-    in_order es (ascending_from_map (λ a b. by_shown a b ≡ Less) entry_row es (subst (IsAscending (λ a b. by_shown a b ≡ Less)) (sym same) (ascending-map (λ a b. by_shown a b ≡ Less) stored_row rows up)))
-
--- ---- the last one
-
-last_of_entries : (es : List Entry) → last_text es ≡ option_map (λ (t : Shown). t.1) (last_or None (map entry_row es))
-last_of_entries (e ∷ f ∷ es) = last_of_entries (f ∷ es)
-last_of_entries _ = refl
-
-last_of_rows : (rows : List ObjectEntry) → last_key rows ≡ option_map (λ (t : Shown). t.1) (last_or None (map stored_row rows))
-last_of_rows (r ∷ s ∷ rows) = last_of_rows (s ∷ rows)
-last_of_rows _ = refl
+-- ---- the last one, and what is found
 
 last_is : (rows : List ObjectEntry) (es : List Entry) → map entry_row es ≡ map stored_row rows → last_key rows ≡ last_text es
-last_is rows es same = last_of_rows rows ∙ ap (λ ts. option_map (λ (t : Shown). t.1) (last_or None ts)) (sym same) ∙ sym (last_of_entries es)
-
--- ---- what is found
-
-entries_show : (q : KeyName) (es : List Entry) → option_map record_of (lookup (key_eq q) es) ≡ record_in (find (is_shown_at q) (map entry_row es))
-entries_show q [] = refl
-entries_show q (e ∷ es) =
-    let alike : key_eq q e.0 ≡ is_shown_at q (entry_row e) = keys_alike.symm q e.0 ∙ tests_alike e.0 q (kind_rank e.0.kind) e.0.text refl refl in
-    rw alike (elim (cases_Bool (is_shown_at q (entry_row e))) [ inl is ↦ rw is refl | inr other ↦ rw other (entries_show q es) ])
-
-rows_show : (q : KeyName) (rows : List ObjectEntry) → option_map (λ bytes. Some bytes) (entry_at (kind_rank q.kind) q.text rows) ≡ record_in (find (is_shown_at q) (map stored_row rows))
-rows_show q [] = refl
-rows_show q (r ∷ rows) = elim (cases_Bool (is_entry_at (kind_rank q.kind) q.text r)) [ inl is ↦ rw is refl | inr other ↦ rw other (rows_show q rows) ]
+last_is [] [] same = refl
+last_is (r ∷ []) (e ∷ []) same = let here : entry_row e ≡ stored_row r = cc in ap (λ (t : Shown). Some t.1) (sym here)
+last_is (r ∷ s ∷ rows) (e ∷ f ∷ es) same = last_is (s ∷ rows) (f ∷ es) cc
+last_is _ _ same = absurd cc
 
 shown_alike : (q : KeyName) (rows : List ObjectEntry) (es : List Entry) → map entry_row es ≡ map stored_row rows
     → option_map record_of (lookup (key_eq q) es) ≡ option_map (λ bytes. Some bytes) (entry_at (kind_rank q.kind) q.text rows)
-shown_alike q rows es same = entries_show q es ∙ ap (λ ts. record_in (find (is_shown_at q) ts)) same ∙ sym (rows_show q rows)
+shown_alike q [] [] same = refl
+shown_alike q (r ∷ rows) (e ∷ es) same =
+    let here : entry_row e ≡ stored_row r = cc in
+    let alike : key_eq q e.0 ≡ is_entry_at (kind_rank q.kind) q.text r = keys_alike.symm q e.0 ∙ tests_alike e.0 q r.kind r.key (ap (λ (t : Shown). t.0) (sym here)) (ap (λ (t : Shown). t.1) (sym here)) in
+    rw alike (elim (cases_Bool (is_entry_at (kind_rank q.kind) q.text r)) [ inl is ↦ rw is (ap (λ (t : Shown). Some t.2) here) | inr other ↦ rw other (shown_alike q rows es cc) ])
+shown_alike q _ _ same = absurd cc
 
 -- rows that the table has from a key on are a page of what the store keeps
 pub page_is : AreAlone → (s : State) (c : Content) (kind : Kind) (from : List ℕ) (rows : List ObjectEntry) (es : List Entry) → IsRegistry c s → ListsFrom (kind_rank kind) from c rows → map entry_row es ≡ map stored_row rows → IsPage s.content kind from es
-page_is alone s c kind from rows es it lists same = record { order = order_is rows es lists.ascending same; each = each }
+page_is alone s c kind from rows es it lists same = record { order = in_order es (subst (IsAscending (λ a b. by_shown a b ≡ Less)) (sym same) (ascending-map _ stored_row rows lists.ascending)); each = each }
   where
     here : (q : KeyName) (b : Bool) → option_map record_of (lookup (key_eq q) es) ≡ option_map (λ bytes. Some bytes) (cond b (object_at (kind_rank q.kind) q.text c.objects) None) → lookup (key_eq q) es ≡ cond b (s.content q) None
     here q true is = same_records alone (lookup (key_eq q) es) (s.content q) (is ∙ ap (option_map (λ bytes. Some bytes)) (it.objects (kind_rank q.kind) q.text ∙ record_here s.content q)) (it.recorded q)
@@ -84,10 +61,7 @@ page_is alone s c kind from rows es it lists same = record { order = order_is ro
 pub page_short : (c : Content) (kind : Kind) (from : List ℕ) (rows : List ObjectEntry) (es : List Entry) → ListsFrom (kind_rank kind) from c rows → map entry_row es ≡ map stored_row rows → length es ≤ MOST_ON_PAGE
 page_short c kind from rows es lists same =
     let all = sort_by by_key (filter (is_kind_from (kind_rank kind) from) c.objects) in
-    let taken = length-take 256 all in
-    let shown : length rows ≡ length (take 256 all) = ap length lists.first ∙ length-map (take 256 all) object_entry in
-    let here : length es ≡ length rows = sym (length-map es entry_row) ∙ (ap length same ∙ length-map rows stored_row) in
-    omega (arith, taken, shown, here)
+    omega (arith, length-take 256 all, ap length lists.first, length-map (take 256 all) object_entry, length-map es entry_row, ap length same, length-map rows stored_row)
 
 -- ---- one row more
 

@@ -1,11 +1,12 @@
 -- What parts of a change do to parked bodies and to the moment.
 use Rattle.esc_store.proofs.Common.{◌≡◌, ℕ, ℤ, true, List, [], ◌∷◌, Option, None, Some, refl, sym, ap, subst, ◌∙◌, Result, Ok, IsSome, ◌↔◌, if◌then◌else◌, bytes_eq, Contains, nat_cmp, Less, slice_cmp, All-from_recursion, IfOk-at_ok, Ghosts}
-use Rattle.esc_store.proofs.Common.{IsAscending, Database, state, HasCleanDisk, MRow, Content, content_in, HoldsContent, Store, Kept, with_parked, AreParked, IsBooks, ChangeOf, IsStep, IsStoreRead, Follows, survives_same}
-use Rattle.esc_store.proofs.Common.{was_clean, parked_at}
-use Rattle.esc_rows.specs.Parked.{PutsParked, RemovesParked, ListsParked, SetsMoment, without_moment, moment_row}
+use Rattle.esc_store.proofs.Common.{IsAscending, Database, state, HasCleanDisk, MRow, Content, content_in, Store, Kept, with_parked, AreParked, IsBooks, ChangeOf, IsStep, IsStoreRead, Follows, survives_same}
+use Rattle.esc_store.proofs.Common.{was_clean, parked_at, RestIn}
+use Rattle.esc_rows.specs.Content.{moment_of}
+use Rattle.esc_rows.specs.Rows.{MomentRow}
+use Rattle.esc_rows.specs.Parked.{PutsParked, RemovesParked, ListsParked, SetsMoment, moment_row}
 use Rattle.esc_store.specs.Kept.{with_moment, AreRisingTexts}
-use Rattle.esc_store.specs.Standing.{RestIn}
-use Rattle.esc_store.proofs.Parts.{Turns, turning, Becoming, books_as}
+use Rattle.esc_store.proofs.Parts.{Turns, turning, Becoming, become_turns, books_as}
 
 -- under this digest there is this body, or none, and all else is as it was
 pub record SetsParked (digest : List ℕ) (w : Option (List ℕ)) (c c' : Content) : Type 0 where
@@ -46,18 +47,11 @@ are_parked k c found books lists = record {
 
 -- ---- the moment
 
-pub books_no_moment : (k : Kept) (c c' : Content) → Becoming without_moment c c' → IsBooks c k → IsBooks c' (with_moment k None)
-books_no_moment k c c' turn books = books_as turn.is books.listed books.receipts books.held books.parked refl books.steps
+pub books_moment : {rows : List MomentRow} {moment : Option ℤ} → moment_of rows ≡ moment → (k : Kept) (c c' : Content) → Becoming (λ c. record c { moment = rows }) c c' → IsBooks c k → IsBooks c' (with_moment k moment)
+books_moment is k c c' turn books = books_as turn.is books.listed books.receipts books.held books.parked is books.steps
 
-abbrev pub with_moment_row : ℤ → Content → Content
-with_moment_row w c = record c { moment = moment_row w ∷ [] }
-
-pub moment_turns : (v w : ℤ) → v ≡ w → (old new : Database) → SetsMoment v old new → Turns (Becoming (with_moment_row w)) old new
-moment_turns v w is old new made = turning (λ tables.
-    (with_moment_row w (content_in old.trees), subst (λ x. HoldsContent new (with_moment_row x (content_in old.trees))) is (made (content_in old.trees) tables).0, record { is = refl }))
-
-pub books_moment : (k : Kept) (w : ℤ) (c c' : Content) → Becoming (with_moment_row w) c c' → IsBooks c k → IsBooks c' (with_moment k (Some w))
-books_moment k w c c' turn books = books_as turn.is books.listed books.receipts books.held books.parked refl books.steps
+pub moment_turns : (v : ℤ) (old new : Database) → SetsMoment v old new → Turns (Becoming (λ c. record c { moment = moment_row v ∷ [] })) old new
+moment_turns v old new made = become_turns _ old new (λ c holds. (made c holds).0)
 
 -- ---- a change
 

@@ -1,16 +1,17 @@
--- The rows of which receipts say that their deposits are held.
-use Rattle.esc_store.proofs.Common.{◌≡◌, inl, inr, ℕ, suc, ◌<◌, ◌==◌, List, [], ◌∷◌, length, map, filter, Option, Some, refl, sym, ap, subst, ◌∙◌, arith, eqb, IsSorted, Contains, Any, dedup}
-use Rattle.esc_store.proofs.Common.{nat_cmp, cases_Bool, get_or-map, length-map, eqb-true, ReceiptRow, Content, ListsRows, Verdict, AreOnce, Kept, ReceiptValue, verdict_number, receipts_from, IsBooks, any_weaker}
-use Rattle.std.specs.Prelude.{slice_index_or}
+-- What receipts say: of which rows the deposits are held, and of which bodies no row was listed.
+use Rattle.esc_store.proofs.Common.{◌≡◌, ◌↔◌, ◌⊎◌, inl, inr, ℕ, suc, ◌<◌, ◌==◌, true, List, [], ◌∷◌, ◌++◌, length, map, filter, Some, refl, sym, ap, subst, ◌∙◌, arith, eqb, true≢false, same_Some, IsSorted, Contains, Any, dedup}
+use Rattle.esc_store.proofs.Common.{nat_cmp, cases_Bool, get_or-map, length-map, eqb-true, ReceiptRow, Content, ListsRows, verdict_digests, any_weaker, Verdict, A2, AreOnce, Kept, ReceiptValue, verdict_number, receipts_from, IsBooks}
+use Rattle.std.specs.Prelude.{IsPermutation}
 use Rattle.std.specs.List.{AllPairs}
-use Rattle.std.proofs.lemmas.List.Elements.{All-from_get_or}
+use Rattle.std.proofs.lemmas.List.Elements.{All-from_get_or, Contains-append_left, Contains-append_right, Contains-append_cases}
 use Rattle.std.proofs.lemmas.List.Kept.{AllPairs-from_increasing, Contains-dedup_nat, Contains-from_dedup}
 use Rattle.std.proofs.lemmas.List.Sorted.{IsPermutation-sym, Contains-permutation}
 use Rattle.std.proofs.lemmas.Map.Keys.{IsStrictlyIncreasing-dedup}
 use Rattle.std.proofs.lemmas.Bool.{eq-eqb}
 use Rattle.esc_rows.specs.Changes.{is_of_verdict}
-use Rattle.esc_store.specs.declared.reply.Verdict.TheVariants.{A1}
-use Rattle.esc_store.specs.Kept.{IsRising, SaysHeld, AreHeldBy}
+use Rattle.esc_store.specs.declared.reply.Verdict.TheVariants.{A1, A5}
+use Rattle.esc_store.specs.Decoded.{IsOfVerdict, AreOfVerdict}
+use Rattle.esc_store.specs.Kept.{IsRising, SaysHeld, AreHeldBy, is_unlisted, TellsUnlisted, AreUnlisted}
 use Rattle.esc_store.specs.TypedRows.{receipt_row}
 use Rattle.esc_store.specs.ListLaws.{first_or_later, later, any_first, any_later, any_split}
 
@@ -34,70 +35,58 @@ some_there xs n (k, within, is) = (k, omega (arith, within, length-map xs (λ (x
 some_back : (xs : List ℕ) (n : ℕ) → Contains (map (λ x. Some x) xs) (Some n) → Contains xs n
 some_back xs n (k, within, is) =
     let inside : k < length xs = omega (arith, within, length-map xs (λ (x : ℕ). Some x)) in
-    let same : Some (slice_index_or xs k n) ≡ Some n = sym (get_or-map (λ x. Some x) xs k n (Some n) inside) ∙ is in
-    let one : slice_index_or xs k n ≡ n = cc in
-    (k, inside, one)
+    (k, inside, same_Some _ _ (sym (get_or-map (λ x. Some x) xs k n (Some n) inside) ∙ is))
 
 -- ---- the receipts of a verdict, by what a column of their rows says
 
-module _ {Y : Type 0} (column : ReceiptRow → Y) (value : ReceiptValue → Y) (shown : (n : ℕ) (r : ReceiptValue) → column (receipt_row n r) ≡ value r) (v : ℕ) (y : Y) where
-  -- the rows of the receipts of the verdict
-  abbrev rows_from : ℕ → List ReceiptValue → List ReceiptRow
-  rows_from n rs = filter (is_of_verdict v) (receipts_from n rs)
-
-  -- a receipt is of the verdict, and says this
-  abbrev Says : ReceiptValue → Type 0
-  Says r = (verdict_number r.verdict ≡ v) × (value r ≡ y)
-
-  pub said : (n : ℕ) (rs : List ReceiptValue) → Contains (map column (rows_from n rs)) y → Any Says rs
-  said n [] there = absurd (omega (arith, there.1))
-  said n (r ∷ rs) there = elim (cases_Bool (verdict_number r.verdict == v)) [
-    | inl is ↦ elim (first_or_later (column (receipt_row n r)) y (map column (rows_from (suc n) rs)) (rw is at there)) [
-      | inl here ↦ any_first Says r rs (eqb-true (verdict_number r.verdict) v is, sym (shown n r) ∙ here)
-      | inr behind ↦ any_later Says r rs (said (suc n) rs behind)
-    ]
-    | inr other ↦ any_later Says r rs (said (suc n) rs (rw other at there))
-  ]
-
-  pub named : (n : ℕ) (rs : List ReceiptValue) → Any Says rs → Contains (map column (rows_from n rs)) y
-  named n [] any = absurd (omega (arith, any.2))
-  named n (r ∷ rs) any = elim (any_split Says r rs any) [
-    | inl (is, same) ↦ rw (eq-eqb (verdict_number r.verdict) v is) (0, omega arith, shown n r ∙ same)
-    | inr there ↦ elim (cases_Bool (verdict_number r.verdict == v)) [
-      | inl is ↦ rw is (later (column (receipt_row n r)) y (map column (rows_from (suc n) rs)) (named (suc n) rs there))
-      | inr other ↦ rw other (named (suc n) rs there)
-    ]
+module _ {Y : Type 0} (column : ReceiptRow → Y) (v : ℕ) (y : Y) (P : ReceiptValue → Type 0) (reads : (n : ℕ) (r : ReceiptValue) → ((verdict_number r.verdict ≡ v) × (column (receipt_row n r) ≡ y)) ↔ P r) where
+  pub said : (n : ℕ) (rs : List ReceiptValue) → Contains (map column (filter (is_of_verdict v) (receipts_from n rs))) y ↔ Any P rs
+  said n [] = (λ there. absurd (omega (arith, there.1)), λ any. absurd (omega (arith, any.2)))
+  said n (r ∷ rs) = elim (cases_Bool (verdict_number r.verdict == v)) [
+    | inl is ↦ rw is (
+      λ there. elim (first_or_later _ y _ there) [ inl here ↦ any_first P r rs ((reads n r).0 (eqb-true _ v is, here)) | inr behind ↦ any_later P r rs ((said (suc n) rs).0 behind) ],
+      λ any. elim (any_split P r rs any) [ inl p ↦ (0, omega arith, ((reads n r).1 p).1) | inr there ↦ later _ y _ ((said (suc n) rs).1 there) ],
+    )
+    | inr other ↦ rw other (
+      λ there. any_later P r rs ((said (suc n) rs).0 there),
+      λ any. elim (any_split P r rs any) [ inl p ↦ absurd (true≢false (sym (eq-eqb _ v ((reads n r).1 p).0) ∙ other)) | inr there ↦ (said (suc n) rs).1 there ],
+    )
   ]
 
 -- ---- the receipts of the verdict A1
-
-abbrev row_in : ReceiptRow → Option ℕ
-row_in r = r.row
-
-abbrev row_of : ReceiptValue → Option ℕ
-row_of r = r.row
 
 is_a1 : (v : Verdict) → verdict_number v ≡ 1 → v ≡ A1
 is_a1 A1 is = refl
 is_a1 _ is = absurd (omega (arith, is))
 
-abbrev rows_named : List ReceiptRow → List (Option ℕ)
-rows_named rs = map row_in (filter (is_of_verdict 1) rs)
-
-abbrev numbered : List ℕ → List (Option ℕ)
-numbered = map (λ n. Some n)
-
 pub are_held_by : (k : Kept) (c : Content) (numbers rows : List ℕ) → IsBooks c k → ListsRows 1 c numbers → AreOnce numbers rows → AreHeldBy k.receipts rows
-are_held_by k c numbers rows books lists once = record { rising = once.rising; each = λ row. (down row, up row) }
-  where
-    down : (row : ℕ) → Contains rows row → Any (SaysHeld row) k.receipts
-    down row there =
-        let moved = Contains-permutation (numbered numbers) (rows_named c.receipts) (Some row) (IsPermutation-sym (rows_named c.receipts) (numbered numbers) lists.same) (some_there numbers row ((once.each row).0 there)) in
-        any_weaker (Says row_in row_of (λ n r. refl) 1 (Some row)) (SaysHeld row) (λ r it. (is_a1 r.verdict it.0, it.1)) k.receipts
-        (said row_in row_of (λ n r. refl) 1 (Some row) 1 k.receipts (subst (λ rs. Contains (rows_named rs) (Some row)) books.receipts moved))
+are_held_by k c numbers rows books lists once = record { rising = once.rising; each = each } where
+  each : (row : ℕ) → Contains rows row ↔ Any (SaysHeld row) k.receipts
+  each row =
+      let same = subst (λ rs. IsPermutation (map (λ (r : ReceiptRow). r.row) (filter (is_of_verdict 1) rs)) (map (λ n. Some n) numbers)) books.receipts lists.same in
+      let (told, named) = said (λ r. r.row) 1 (Some row) (SaysHeld row) (λ n r. (λ it. (is_a1 r.verdict it.0, it.1), λ it. (ap verdict_number it.0, it.1))) 1 k.receipts in
+      (λ there. told (Contains-permutation _ _ _ (IsPermutation-sym _ _ same) (some_there numbers row ((once.each row).0 there))), λ any. (once.each row).1 (some_back numbers row (Contains-permutation _ _ _ same (named any))))
 
-    up : (row : ℕ) → Any (SaysHeld row) k.receipts → Contains rows row
-    up row any =
-        let there = subst (λ rs. Contains (rows_named rs) (Some row)) (sym books.receipts) (named row_in row_of (λ n r. refl) 1 (Some row) 1 k.receipts
-        (any_weaker (SaysHeld row) (Says row_in row_of (λ n r. refl) 1 (Some row)) (λ r it. (ap verdict_number it.0, it.1)) k.receipts any)) in
-        (once.each row).1 (some_back numbers row (Contains-permutation (rows_named c.receipts) (numbered numbers) (Some row) lists.same there))
+-- ---- the digests of the receipts of a verdict, and of bodies that no row listed
+
+-- of one verdict
+pub are_of_verdict : (v : ℕ) (k : Kept) (c : Content) (digests : List (List ℕ)) → IsBooks c k → digests ≡ verdict_digests v c.receipts → AreOfVerdict v k.receipts digests
+are_of_verdict v k c digests books is d = subst (λ ds. Contains ds d ↔ Any (IsOfVerdict v d) k.receipts) (sym (is ∙ ap (verdict_digests v) books.receipts)) (said (λ r. r.digest) v d (IsOfVerdict v d) (λ n r. (λ it. it, λ it. it)) 1 k.receipts)
+
+is_told : (w : Verdict) → (is_unlisted w ≡ true) ↔ ((verdict_number w ≡ 2) ⊎ (verdict_number w ≡ 5))
+is_told A2 = (λ _. inl refl, λ _. refl)
+is_told A5 = (λ _. inr refl, λ _. refl)
+is_told _ = (λ is. absurd (true≢false (sym is)), λ is. absurd (elim is [ inl two ↦ omega (arith, two) | inr five ↦ omega (arith, five) ]))
+
+-- of both
+pub are_unlisted : (rs : List ReceiptValue) (firsts seconds digests : List (List ℕ)) → AreOfVerdict 2 rs firsts → AreOfVerdict 5 rs seconds → digests ≡ firsts ++ seconds → AreUnlisted rs digests
+are_unlisted rs firsts seconds digests first second is d = subst (λ ds. Contains ds d ↔ Any (TellsUnlisted d) rs) (sym is) (
+  λ there. elim (Contains-append_cases firsts seconds d there) [
+    | inl one ↦ any_weaker (IsOfVerdict 2 d) (TellsUnlisted d) (λ r it. ((is_told r.verdict).1 (inl it.0), it.1)) rs ((first d).0 one)
+    | inr other ↦ any_weaker (IsOfVerdict 5 d) (TellsUnlisted d) (λ r it. ((is_told r.verdict).1 (inr it.0), it.1)) rs ((second d).0 other)
+  ],
+  λ any. elim ((is_told any.1.verdict).0 any.4.0) [
+    | inl two ↦ Contains-append_left firsts seconds d ((first d).1 (any.0, any.1, any.2, any.3, (two, any.4.1)))
+    | inr five ↦ Contains-append_right firsts seconds d ((second d).1 (any.0, any.1, any.2, any.3, (five, any.4.1)))
+  ],
+)

@@ -56,11 +56,10 @@ impl<'a, S: Alter> Change<'a, S> {
         let mut rows = Vec::new(alloc);
         for (key, object) in objects.iter() {
             rows.push(new_row(alloc, key, object)?)?;
-            if rows.len() != ROWS_AT_ONCE {
-                continue;
+            if rows.len() == ROWS_AT_ONCE {
+                self.fill_rows(alloc, step, targets, rows.as_slice())?;
+                rows.clear();
             }
-            self.fill_rows(alloc, step, targets, rows.as_slice())?;
-            rows.clear();
         }
         self.fill_each(step, targets, rows.as_slice())
     }

@@ -60,7 +60,7 @@
 //! - Each clause `cause` says which faults a call returns: `S3` comes of `create`, `open` and
 //!   `migrate` alone, and `S4` of `record_receipt` alone, where the store has 1,000,000,000
 //!   receipts. No call of the store returns `S5`, and `park` parks any number of bodies.
-#![tactic(auto, using(sqlite::proofs::StateLemmas::survives_weaker, sqlite::proofs::StateLemmas::survives_then))]
+#![tactic(auto, using(crate::proofs::Survival::survivals))]
 
 mod books;
 mod change;

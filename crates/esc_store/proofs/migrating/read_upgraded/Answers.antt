@@ -1,5 +1,5 @@
-use Rattle.esc_store.proofs.Common.{◌∙◌, ap, sym, subst, map, IfOk-at_ok, state, content_in, if_goes, IsStoreDatabase, was_clean, if_ok}
-use Rattle.esc_rows.specs.Entries.{listed_row}
+use Rattle.esc_store.proofs.Common.{◌∙◌, ap, sym, subst, map, IfOk-at_ok, if_goes, IsStoreDatabase, was_clean, if_ok, stored_listed as listed_row}
+use Rattle.esc_store.proofs.Ends.{tables_of}
 use Rattle.esc_store.proofs.migrating.read_upgraded.Goals as goal
 
 pub returns-clause-upgraded : goal.returns-clause-upgraded
@@ -9,8 +9,5 @@ returns-clause-upgraded g c = if_ok c.kept_manifest.result _ (λ x is clean k fi
 
 pub returns-clause-manifest : goal.returns-clause-manifest
 returns-clause-manifest g c = if_goes c.kept_manifest.result _ _ c.kept_manifest.ensures.manifest (λ manifest is clean k first.
-    let mid = state g.S.Store c.upgrade_here.new.conn in
-    let store : IsStoreDatabase mid.now k = c.in_ok-upgrade_here.ensures.upgraded (was_clean c.all_listed.ensures.read.survives clean) k first in
-    let said = IfOk-at_ok _ c.in_ok-stored.was (c.all_listed.ensures.read.said clean) in
-    is k.listed (ap (map listed_row) c.as_slice.ensures.value
-    ∙ (said.0 (content_in mid.now.trees) (record { schema_is = store.schema; store = store.kept.tables }) ∙ store.kept.books.listed)))
+    let store = c.in_ok-upgrade_here.ensures.upgraded (was_clean c.all_listed.ensures.read.survives clean) k first in
+    is k.listed (ap (map listed_row) c.as_slice.ensures.value ∙ ((IfOk-at_ok _ c.in_ok-stored.was (c.all_listed.ensures.read.said clean)).0 _ (tables_of store) ∙ store.kept.books.listed)))

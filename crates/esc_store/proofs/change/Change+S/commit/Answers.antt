@@ -1,5 +1,4 @@
-use Rattle.esc_store.proofs.Common.{◌∙◌, ap, unwrap_or}
-use Rattle.esc_store.specs.Standing.{Stands, HoldsKept, RestIn, LeavesOnly}
+use Rattle.esc_store.proofs.Common.{◌∙◌, ap, unwrap_or, Stands, HoldsKept, RestIn, LeavesOnly}
 use Rattle.esc_store.proofs.change.Change+S.commit.Goals as goal
 
 pub returns-clause-committed : goal.returns-clause-committed

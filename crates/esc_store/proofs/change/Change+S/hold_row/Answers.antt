@@ -1,18 +1,23 @@
-use Rattle.esc_store.proofs.Common.{refl, if_ok}
-use Rattle.esc_store.proofs.Parts.{step_is, registry_same}
-use Rattle.esc_store.proofs.RowSteps.{held_turns, books_held, row_was_free}
-use Rattle.esc_store.proofs.Following.{moved, goes_step, made_all, holds_all}
+use Rattle.esc_store.proofs.Common.{◌∙◌, refl, sym, IfOk-at_ok, was_clean, if_ok, RestIn}
+use Rattle.esc_rows.specs.Rows.{HeldRow}
+use Rattle.esc_store.proofs.RowSteps.{held_turns, books_held, none_in}
+use Rattle.esc_store.proofs.Following.{moved, goes_step, made_all, holds_all, step_is, registry_same}
 use Rattle.esc_store.proofs.change.Change+S.hold_row.Goals as goal
 
 pub returns-clause-goes_on : goal.returns-clause-goes_on
 returns-clause-goes_on g c = goes_step (moved c.settle.ensures c.insert_held-done.ensures.part (held_turns _))
 
 pub returns-clause-held : goal.returns-clause-held
-returns-clause-held g c = made_all (moved c.settle.ensures c.insert_held-done.ensures.part (held_turns _)) _ (λ _. refl) (λ k. books_held k _ _ _ refl refl)
+returns-clause-held g c = made_all (moved c.settle.ensures c.insert_held-done.ensures.part (held_turns _)) _ (λ _. refl) (λ k. books_held k _)
 
 pub returns-clause-holds : goal.returns-clause-holds
 returns-clause-holds g c = holds_all (moved c.settle.ensures c.insert_held-done.ensures.part (held_turns _)) (λ _ _ _ turn. registry_same turn.is refl refl)
 
+-- a row that is given a body had none before
 pub returns-clause-free : goal.returns-clause-free
-returns-clause-free g c = if_ok c.settle.result _ (λ x is clean.
-    row_was_free _ _ c.settle.new.self _ is (step_is c.settle.ensures.settled c.insert_held-done.ensures.part) clean _)
+unfolding RestIn
+returns-clause-free g c = if_ok c.settle.result _ (λ x is clean before k made.
+    let step = step_is c.settle.ensures.settled c.insert_held-done.ensures.part in
+    let m = IfOk-at_ok _ is (step.made clean) in
+    let was = was_clean step.survives clean in
+    sym ((made.books was m.0).held c.args.row) ∙ none_in (λ (x : HeldRow). x.body) _ (m.1 _ (made.begun.on was m.0).2).1)

@@ -1,5 +1,4 @@
-use Rattle.esc_store.proofs.Common.{◌∙◌, ap, arith, take_all}
-use Rattle.esc_rows.specs.Entries.{listed_row as stored_row}
+use Rattle.esc_store.proofs.Common.{◌∙◌, ap, arith, take_all, stored_listed as stored_row}
 use Rattle.esc_store.proofs.Manifests.{one_row, listed_size}
 use Rattle.esc_store.proofs.codec.manifest.manifest_rows.Goals as goal
 
@@ -8,4 +7,4 @@ loop-at-preserved c = λ rs e. c.in_ok-push.ensures.items ∙ one_row _ rs _ _ _
     (λ n r h. c.in_ok-row.ensures.row n r (ap stored_row c.index-stored-at.is ∙ h))
 
 pub returns-clause-rows : goal.returns-clause-rows
-returns-clause-rows c = λ rs e. c.loop-at.invariant rs e ∙ take_all c.loop-at.at rs (let size = listed_size c.args.stored.now rs e in let past = c.loop-at-test.false in omega arith)
+returns-clause-rows c = λ rs e. c.loop-at.invariant rs e ∙ take_all c.loop-at.at rs (omega (arith, listed_size c.args.stored.now rs e))

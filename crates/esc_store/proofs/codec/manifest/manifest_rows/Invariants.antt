@@ -1,5 +1,4 @@
-use Rattle.esc_store.proofs.Common.{◌≡◌, List, map, take, MRow, listed_from}
-use Rattle.esc_rows.specs.Entries.{listed_row as stored_row}
+use Rattle.esc_store.proofs.Common.{◌≡◌, List, map, take, MRow, listed_from, stored_listed as stored_row}
 use Rattle.esc_store.proofs.codec.manifest.manifest_rows.Given as goal
 
 abbrev pub invariant-loop-at : goal.invariant-loop-at

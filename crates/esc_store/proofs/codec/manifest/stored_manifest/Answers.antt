@@ -1,5 +1,4 @@
-use Rattle.esc_store.proofs.Common.{◌∙◌, ap, map, listed_row}
-use Rattle.esc_rows.specs.Entries.{listed_row as stored_row}
+use Rattle.esc_store.proofs.Common.{◌∙◌, ap, map, listed_row, stored_listed as stored_row}
 use Rattle.esc_store.proofs.Manifests.{one_stored}
 use Rattle.esc_store.proofs.codec.manifest.stored_manifest.Goals as goal
 

@@ -1,5 +1,4 @@
-use Rattle.esc_store.proofs.Common.{◌≡◌, map, take, listed_from}
-use Rattle.esc_rows.specs.Entries.{listed_row as stored_row}
+use Rattle.esc_store.proofs.Common.{◌≡◌, map, take, listed_from, stored_listed as stored_row}
 use Rattle.esc_store.proofs.codec.manifest.stored_manifest.Given as goal
 
 abbrev pub invariant-loop-at : goal.invariant-loop-at

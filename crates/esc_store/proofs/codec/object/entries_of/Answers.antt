@@ -7,4 +7,4 @@ loop-at-preserved c = ap (map entry_row) c.in_ok-push.ensures.items ∙ one_entr
     (c.in_ok-entry.ensures.entry ∙ ap (λ it. stored_row (object_of it)) c.index-stored-at.is)
 
 pub returns-clause-entries : goal.returns-clause-entries
-returns-clause-entries c = c.loop-at.invariant ∙ ap (map (λ it. stored_row (object_of it))) (take_all c.loop-at.at c.args.stored.now (let past = c.loop-at-test.false in omega arith))
+returns-clause-entries c = c.loop-at.invariant ∙ ap (map (λ it. stored_row (object_of it))) (take_all c.loop-at.at c.args.stored.now (omega arith))

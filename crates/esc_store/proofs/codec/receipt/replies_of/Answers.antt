@@ -7,5 +7,4 @@ loop-at-preserved c = λ rs e. c.in_ok-push.ensures.items ∙ one_reply _ _ rs _
     (λ n r h. c.in_ok-reply.ensures.reply n r (ap receipt_row c.index-stored-at.is ∙ h))
 
 pub returns-clause-replies : goal.returns-clause-replies
-returns-clause-replies c = λ rs e. c.loop-at.invariant rs e ∙ ap (replies_from c.args.manifest.now 1)
-    (take_all c.loop-at.at rs (let size = receipts_size c.args.stored.now rs e in let past = c.loop-at-test.false in omega arith))
+returns-clause-replies c = λ rs e. c.loop-at.invariant rs e ∙ ap (replies_from c.args.manifest.now 1) (take_all c.loop-at.at rs (omega (arith, receipts_size c.args.stored.now rs e)))

@@ -1,5 +1,4 @@
-use Rattle.esc_store.proofs.Common.{◌∙◌, ap, map, take, listed_from}
-use Rattle.esc_rows.specs.Entries.{listed_row as stored_row}
+use Rattle.esc_store.proofs.Common.{◌∙◌, ap, map, take, listed_from, stored_listed as stored_row}
 use Rattle.esc_store.proofs.Lists.{as_listed}
 use Rattle.esc_store.proofs.listing.Change+S.list.Goals as goal
 

@@ -1,17 +1,6 @@
-use Rattle.esc_store.proofs.Common.{◌≡◌, ◌∙◌, Some, length, take, get_or, refl, sym, ap, subst, arith, take_more, take_all, length-take-le, no_row, with_listed, listed_row, RestIn, goes_then}
-use Rattle.esc_rows.specs.Entries.{listed_row as stored_row}
+use Rattle.esc_store.proofs.Common.{◌≡◌, ◌∙◌, length, take, get_or, refl, ap, arith, take_more, take_all, length-take-le, no_row, with_listed, listed_row, goes_then, stored_listed as stored_row}
 use Rattle.esc_store.proofs.Manifests.{stored_get, listed_size}
-use Rattle.esc_store.proofs.Parking.{follows_same}
 use Rattle.esc_store.proofs.listing.Change+S.list_rows.Goals as goal
-
-pub loop-at-init : goal.loop-at-init
-loop-at-init g c = (
-  (follows_same g.S.Store c.args.self.now).goes_on,
-  refl,
-  refl,
-  λ before k union e front rest. subst (λ rows. RestIn g.S.Store c.args.self.now.store.now (Some rows) before (with_listed k rows)) (sym front) rest,
-  λ s h. h,
-)
 
 pub loop-at-preserved : goal.loop-at-preserved
 loop-at-preserved g c = (
@@ -24,13 +13,11 @@ loop-at-preserved g c = (
       let there = stored_get c.args.rows.now union at c.index-rows-at.result e c.loop-at-test.true in
       let so_far = length-take-le at union (omega arith) in
       let next : stored_row c.index-rows-at.result ≡ listed_row (length (take at union)) (get_or union at no_row) = ap stored_row c.index-rows-at.is ∙ (there ∙ rw so_far refl) in
-      subst (λ rows. RestIn g.S.Store c.list_row.new.self.store.now (Some rows) before (with_listed k rows)) (sym (take_more union at no_row (omega arith)))
-      (c.in_ok-list_row.ensures.listed before (with_listed k (take at union)) (get_or union at no_row) next (c.loop-at.invariant.3 before k union e front rest)),
+      rw (take_more union at no_row (omega arith)) (c.in_ok-list_row.ensures.listed before (with_listed k (take at union)) (get_or union at no_row) next (c.loop-at.invariant.3 before k union e front rest)),
   λ s h. c.in_ok-list_row.ensures.holds s (c.loop-at.invariant.4 s h),
 )
 
 pub returns-clause-listed : goal.returns-clause-listed
 returns-clause-listed g c = λ before k union e front rest.
     let size = listed_size c.args.rows.now union e in
-    subst (λ rows. RestIn g.S.Store c.loop-at.self.store.now (Some rows) before (with_listed k rows))
-    (take_all c.loop-at.at union (let past = c.loop-at-test.false in omega arith)) (c.loop-at.invariant.3 before k union e front rest)
+    rw (take_all c.loop-at.at union (let past = c.loop-at-test.false in omega arith)) at (c.loop-at.invariant.3 before k union e front rest)

@@ -1,5 +1,4 @@
-use Rattle.esc_store.proofs.Common.{◌≡◌, List, Some, map, take, MRow, State, Kept, with_listed, listed_from, RestIn, HoldsNow, GoesOn}
-use Rattle.esc_rows.specs.Entries.{listed_row as stored_row}
+use Rattle.esc_store.proofs.Common.{◌≡◌, List, Some, map, take, MRow, State, Kept, with_listed, listed_from, RestIn, HoldsNow, GoesOn, stored_listed as stored_row}
 use Rattle.esc_store.proofs.listing.Change+S.list_rows.Given as goal
 
 abbrev pub invariant-loop-at : goal.invariant-loop-at

@@ -12,8 +12,3 @@ returns-clause-adopted g c = if_ok c.unpark.result _ (λ x is clean before k fre
       subst (λ b. Rest g.S.Store c.unpark.new.self before (with_parked (with_body k c.args.row b) c.args.digest.now None)) c.as_slice.ensures.value
           (IfOk-at_ok _ is c.unpark.ensures.dropped before _ held),
     ))
-
-pub returns-clause-free : goal.returns-clause-free
-returns-clause-free g c = if_ok c.unpark.result _ (λ x is clean before k rest.
-    let held : HasCleanDisk (state g.S.Store c.hold.new.self.store.now.conn) = omega (arith, c.unpark.ensures.goes_on.survives.clean, clean) in
-    c.in_ok-hold.ensures.free held before k (c.find_parked.ensures.follows.rest before k rest))

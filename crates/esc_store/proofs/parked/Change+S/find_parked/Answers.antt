@@ -1,11 +1,8 @@
 use Rattle.esc_store.proofs.Common.{option_map, if_ok}
 use Rattle.esc_store.proofs.Sure.{read_settled}
-use Rattle.esc_store.proofs.Looking.{follows_look, holds_look}
-use Rattle.esc_store.proofs.Parking.{follows_same, found_parked}
+use Rattle.esc_store.proofs.Following.{follows_look, holds_look}
+use Rattle.esc_store.proofs.Parking.{found_parked}
 use Rattle.esc_store.proofs.parked.Change+S.find_parked.Goals as goal
-
-pub returns-in_err-goes_on-clause-follows : goal.returns-in_err-goes_on-clause-follows
-returns-in_err-goes_on-clause-follows g c = follows_same g.S.Store c.args.self.now
 
 pub returns-clause-follows : goal.returns-clause-follows
 returns-clause-follows g c = follows_look (read_settled c.settle.ensures c.find_parked-found.ensures.read)

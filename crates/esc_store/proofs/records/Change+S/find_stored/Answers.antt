@@ -1,6 +1,6 @@
 use Rattle.esc_store.proofs.Common.{◌∙◌, if_ok}
 use Rattle.esc_store.proofs.Sure.{read_settled}
-use Rattle.esc_store.proofs.Looking.{follows_look, says_look}
+use Rattle.esc_store.proofs.Following.{follows_look, says_look}
 use Rattle.esc_store.proofs.records.Change+S.find_stored.Goals as goal
 
 pub returns-clause-follows : goal.returns-clause-follows

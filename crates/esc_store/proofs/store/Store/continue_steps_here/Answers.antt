@@ -1,4 +1,4 @@
-use Rattle.esc_store.proofs.Common.{◌∙◌, List, ℕ, subst, sym, take, get_or, arith, Ok, state, take_more, take_all, SFault, ContinuesSteps, IsStep}
+use Rattle.esc_store.proofs.Common.{◌∙◌, take, get_or, arith, take_more, take_all}
 use Rattle.esc_store.proofs.RowSteps.{steps_cut, steps_more, step_nth, same_length}
 use Rattle.esc_store.proofs.store.Store.continue_steps_here.Goals as goal
 
@@ -18,13 +18,10 @@ loop-at-preserved g c =
       writes = c.add_step_here.ensures.writes ∙ now.writes;
       step = λ rows e.
           let size = same_length from c.args.steps.now rows e in
-          subst (λ (rs : List ℕ). IsStep {X = Unit {0}} {E = SFault} (state g.S.Store c.args.self.now.conn) (state g.S.Store c.add_step_here.new.self.conn) (ContinuesSteps from rs) (Ok tt))
-          (sym (take_more rows c.loop-at.at 0 (omega arith)))
-          (steps_more from (take c.loop-at.at rows) (get_or rows c.loop-at.at 0) _ (step_nth from c.args.steps.now rows c.loop-at.at _ e c.loop-at-test.true) (now.step rows e) c.in_ok-add_step_here.ensures.step);
+          rw (take_more rows c.loop-at.at 0 (omega arith)) (steps_more from (take c.loop-at.at rows) (get_or rows c.loop-at.at 0) _ (step_nth from c.args.steps.now rows c.loop-at.at _ e c.loop-at-test.true) (now.step rows e) c.in_ok-add_step_here.ensures.step);
     }
 
 pub returns-clause-step : goal.returns-clause-step
 returns-clause-step g c = λ rows e.
     let size = same_length c.args.from c.args.steps.now rows e in
-    subst (λ (rs : List ℕ). IsStep {X = Unit {0}} {E = SFault} (state g.S.Store c.args.self.now.conn) (state g.S.Store c.loop-at.self.conn)
-    (ContinuesSteps c.args.from rs) (Ok tt)) (take_all c.loop-at.at rows (let past = c.loop-at-test.false in omega arith)) (c.loop-at.invariant.step rows e)
+    rw (take_all c.loop-at.at rows (let past = c.loop-at-test.false in omega arith)) at (c.loop-at.invariant.step rows e)

@@ -1,12 +1,7 @@
-use Rattle.esc_store.proofs.Common.{sym, subst, if_goes, AreCounts}
-use Rattle.esc_store.specs.Standing.{Stands}
+use Rattle.esc_store.proofs.Common.{sym, subst, if_goes, AreCounts, Stands}
 use Rattle.esc_store.proofs.store.Store.counts_by_kind.Goals as goal
 
 pub returns-in-Some-clause-counts : goal.returns-in-Some-clause-counts
 unfolding Stands
 returns-in-Some-clause-counts g c = λ honest k stands. if_goes c.by_kind.result _ _ c.by_kind.ensures.counts (λ counts is.
     subst (AreCounts k.registry.content) (sym is) (rw c.in-Some.is at (stands.counted honest)))
-
-pub returns-in_ok-count_here-in-None-clause-counts : goal.returns-in_ok-count_here-in-None-clause-counts
-returns-in_ok-count_here-in-None-clause-counts g c = λ honest k stands. if_goes c.by_kind-in-None.result _ _ c.by_kind-in-None.ensures.counts (λ counts is.
-    subst (AreCounts k.registry.content) (sym is) (c.in_ok-count_here-in-None.ensures.counts honest k stands))

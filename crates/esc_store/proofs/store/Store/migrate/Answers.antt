@@ -1,24 +1,12 @@
-use Rattle.esc_store.proofs.Common.{state}
+use Rattle.esc_store.proofs.Common.{state, Kept, Stands, LeavesOnly, LeavesOr}
 use Rattle.esc_store.specs.FirstVersion.{HoldsFirst}
-use Rattle.esc_store.specs.Standing.{Stands, LeavesOnly, LeavesOr}
-use Rattle.esc_store.proofs.MigratingLemmas.{sees_rest, sees_committed}
+use Rattle.esc_store.proofs.OpeningLemmas.{sees_committed, sees_rest}
+use Rattle.std.proofs.Common.{rules}
 use Rattle.esc_store.proofs.store.Store.migrate.Goals as goal
 
-pub returns-in-Ok-clause-carried : goal.returns-in-Ok-clause-carried
-unfolding Stands HoldsFirst
-returns-in-Ok-clause-carried g c = λ clean k holds. c.in-Ok.ensures.stands k (sees_rest (state g.S.Store c.args.connection) k holds) clean
-
-pub returns-in-Ok-clause-found : goal.returns-in-Ok-clause-found
-unfolding Stands
-returns-in-Ok-clause-found g c = λ clean k stored. c.in-Ok.ensures.stands k (sees_committed (state g.S.Store c.args.connection) k c.in-Ok.ensures.settled stored) clean
-
-pub returns-in-Ok-clause-left : goal.returns-in-Ok-clause-left
-unfolding LeavesOnly
-returns-in-Ok-clause-left g c = c.in-Ok.ensures.left
-
-pub returns-in-Ok-clause-crash : goal.returns-in-Ok-clause-crash
-unfolding LeavesOr
-returns-in-Ok-clause-crash g c = c.migrate_here.ensures.survives
+pub returns-in-Ok : goal.returns-in-Ok
+unfolding Stands HoldsFirst LeavesOnly LeavesOr
+returns-in-Ok g c = search (rules, λ (k : Kept). sees_committed (state g.S.Store c.args.connection) {k = k} c.in-Ok.ensures.settled, sees_rest, c.in-Ok.ensures.stands, c.in-Ok.ensures.left, c.in-Ok.ensures.version)
 
 pub returns-in-Err-clause-crash : goal.returns-in-Err-clause-crash
 unfolding LeavesOr

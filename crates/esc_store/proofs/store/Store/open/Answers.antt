@@ -1,17 +1,15 @@
-use Rattle.esc_store.proofs.Common.{sym, ap, subst, ◌∙◌, Database, IsStore}
-use Rattle.esc_store.specs.Standing.{HoldsKept, Stands, LeavesOnly}
+use Rattle.esc_store.proofs.Common.{sym, ap, subst, ◌∙◌, Database, IsStore, HoldsKept, Stands, LeavesOnly}
 use Rattle.esc_store.proofs.OpeningLemmas.{opened, found}
 use Rattle.esc_store.proofs.store.Store.open.Goals as goal
 
 pub returns-in-Ok-clause-stands : goal.returns-in-Ok-clause-stands
 unfolding HoldsKept Stands
-returns-in-Ok-clause-stands g c = λ clean k holds.
-    opened _ _ _ k c.find_manifest.ensures.survives (c.in-Ok.ensures.version clean).0 (c.in-Ok.ensures.manifest clean k) holds clean
+returns-in-Ok-clause-stands g c = λ clean k holds. opened c.find_manifest.ensures.survives (c.in-Ok.ensures.version clean).0 (c.in-Ok.ensures.manifest clean k) holds clean
 
 pub returns-in-Ok-clause-found : goal.returns-in-Ok-clause-found
 unfolding Stands
 returns-in-Ok-clause-found g c = λ clean k stored.
-    found _ _ _ k c.find_manifest.ensures.survives (c.in-Ok.ensures.version clean) c.in-Ok.ensures.settled (c.in-Ok.ensures.manifest clean k) stored clean
+    found c.find_manifest.ensures.survives (c.in-Ok.ensures.version clean) c.in-Ok.ensures.settled (c.in-Ok.ensures.manifest clean k) stored clean
 
 pub returns-in-Ok-clause-left : goal.returns-in-Ok-clause-left
 unfolding LeavesOnly

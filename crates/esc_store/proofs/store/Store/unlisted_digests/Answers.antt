@@ -1,6 +1,6 @@
 use Rattle.esc_store.proofs.Common.{◌∙◌, ◌++◌, List, ℕ, ap}
 use Rattle.esc_store.specs.StandingLaws.{was_honest}
-use Rattle.esc_store.proofs.Unlisted.{are_unlisted}
+use Rattle.esc_store.proofs.ReceiptRows.{are_unlisted}
 use Rattle.esc_store.proofs.store.Store.unlisted_digests.Goals as goal
 
 pub returns-clause-digests : goal.returns-clause-digests
