@@ -1,10 +1,10 @@
 """How many checks run side by side, and a second `rt ci` that goes ahead of the first where all else would wait."""
-import contextlib, os, re, subprocess, sys, tempfile
+import contextlib, os, re, subprocess, sys, tempfile, threading
 
 from crates import copied_tree, libraries
 
-# The crate for which most others wait.
-MOST_AWAITED = 'esc_desk'
+# Crates of the critical path, lowest first: most others wait for the first two, and the last one has most to wait for.
+ON_PATH = ('esc_store', 'esc_desk', 'desk_harness')
 
 
 def memory():
@@ -26,24 +26,51 @@ def lanes():
     return int(given)
 
 
+class Ahead:
+    """A second `rt ci`, which proves some crates, and those below them, ahead of the first.
+
+    On the critical path each crate waits for the one below, so what counts is how soon each is proved; and `rt ci` gives a proof more than
+    one process only where few others could begin, and where memory allows by its own estimate. So each of these crates is proved in a tree
+    of its own, which has what is below it alone. What was proved here the first takes as kept. Where both come to a crate at once one of
+    them waits. What couldn't be proved here the first tries again, and reports."""
+
+    def __init__(self, crates):
+        self.crates, self.ran, self.is_over, self.changing = crates, None, False, threading.Lock()
+        self.thread = threading.Thread(target=self.run, daemon=True)
+        self.thread.start()
+
+    def run(self):
+        own = {name: value for name, value in os.environ.items() if name != 'RT_JOBS'}
+        for name in self.crates:
+            with tempfile.TemporaryDirectory(prefix='ahead-') as tree:
+                copied_tree(tree, [*libraries()[name], name])
+                with self.changing:
+                    if self.is_over:
+                        return
+                    self.ran = subprocess.Popen(['rt', 'ci'], cwd=tree, env=own, stdin=subprocess.DEVNULL, stdout=subprocess.DEVNULL,
+                                                stderr=subprocess.DEVNULL)
+                if self.ran.wait():
+                    return
+
+    def end(self):
+        with self.changing:
+            self.is_over = True
+            if self.ran:
+                self.ran.terminate()
+        self.thread.join()
+
+
 @contextlib.contextmanager
 def path_ahead(crates, lanes, is_anew=False):
-    """Has a second `rt ci` prove the crate for which most of these wait, and those below it, ahead of the first; gives the environment of
-    the first.
-
-    Each crate on that way waits for the one below, so what counts is how soon each is proved; and `rt ci` gives a proof more than one
-    process only where few others could begin, as in the tree of the second. What that has proved the first takes as kept. Where both come
-    to a crate at once one of them waits. What the second couldn't prove the first tries again, and reports. With fewer than four lanes there
-    is none to spare, and where all is proved anew nothing is kept: then the first is alone."""
-    if lanes < 4 or is_anew or MOST_AWAITED not in crates:
+    """Has a second `rt ci` go ahead of one over these crates, and gives the environment of that one: it has as many lanes, since those in
+    which it waits for the second leave the processor free. With fewer than four lanes there is none to spare, and where all is proved anew
+    nothing is kept: then the first is alone."""
+    on_path = [it for it in ON_PATH if it in crates]
+    if lanes < 4 or is_anew or not on_path:
         yield os.environ
         return
-    with tempfile.TemporaryDirectory(prefix='ahead-') as tree:
-        copied_tree(tree, [*libraries()[MOST_AWAITED], MOST_AWAITED])
-        own = {name: value for name, value in os.environ.items() if name != 'RT_JOBS'}
-        with subprocess.Popen(['rt', 'ci'], cwd=tree, env=own, stdin=subprocess.DEVNULL, stdout=subprocess.DEVNULL,
-                              stderr=subprocess.DEVNULL) as ran:
-            try:
-                yield {**os.environ, 'RT_JOBS': str(lanes - 1)}
-            finally:
-                ran.terminate()
+    ahead = Ahead(on_path)
+    try:
+        yield {**os.environ, 'RT_JOBS': str(lanes)}
+    finally:
+        ahead.end()
