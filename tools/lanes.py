@@ -17,7 +17,7 @@ def memory():
 def lanes():
     """How many checks run side by side: RT_JOBS of them, or one for each processor, with at least 5 GB of free memory for each, since the
     largest take up to 6 and most up to 3. `rt ci` reads RT_JOBS too. Where it isn't set, that starts no proof for which memory might not
-    suffice, by its own estimate, and lets two processes work at one while nothing else could run."""
+    suffice, by its own estimate, and lets up to four processes work at one while nothing else could run."""
     given = os.environ.get('RT_JOBS')
     if not given:
         return max(1, min(len(os.sched_getaffinity(0)), memory()[1] // 5_000_000))

@@ -60,8 +60,9 @@ pub fn apply_step<R: Registry>(
     ensures applied { OnOk result (R.is_honest registry.new → (c : List DepositValue)
         → length c + 1 ≡ pos → R.holds registry.old (chain_state c)
         → R.holds registry.new (chain_state (c ++ deposit.now ∷ []))) }
-    ensures stepped { OnOk result (R.is_honest registry.new → (s : State) → R.holds registry.old s
-        → s.undo pos ≡ nothing → R.holds registry.new (stepped s pos deposit.now)) }
+    ensures stepped { OnOk result (R.is_honest registry.new → (s : State)
+        → R.holds registry.old s → s.undo pos ≡ nothing
+        → R.holds registry.new (stepped s pos deposit.now)) }
 {
     let deletes = plain_deletes(alloc, deletes_of(deposit), &deposit.contents)?;
     registry.put_all(alloc, pos, Targets::Any, &deposit.contents)?;
@@ -132,7 +133,8 @@ fn apply_first<R: Registry>(
     ensures number { IfOk result (λ n. n ≡ mention_count deposit.now) }
     ensures counted { OnOk result (R.count registry.new
         ≡ saturated (R.count registry.old + mention_count deposit.now)) }
-    ensures applied { OnOk result (R.is_honest registry.new → R.holds registry.old (chain_state [])
+    ensures applied { OnOk result (R.is_honest registry.new
+        → R.holds registry.old (chain_state [])
         → R.holds registry.new (chain_state (deposit.now ∷ []))) }
 {
     let deletes = plain_deletes(alloc, deletes_of(deposit), &deposit.contents)?;
@@ -181,8 +183,8 @@ fn remove_deletes<R: Registry>(
     ensures cause { IfErr result R.fails }
     ensures counted { OnOk result
         (R.count registry.new ≡ saturated (R.count registry.old + length deletes.now.keys)) }
-    ensures removed { OnOk result (R.is_honest registry.new → (s : State) → R.holds registry.old s
-        → AreNew s pos (map without deletes.now.keys)
+    ensures removed { OnOk result (R.is_honest registry.new → (s : State)
+        → R.holds registry.old s → AreNew s pos (map without deletes.now.keys)
         → R.holds registry.new (changed_by s pos (map without deletes.now.keys))) }
 {
     for key in deletes.iter() {
@@ -201,8 +203,9 @@ fn remove_noted<R: Registry>(
     ensures follows { R.follows registry.old registry.new }
     ensures cause { IfErr result R.fails }
     ensures counted { OnOk result (R.count registry.new ≡ saturated (R.count registry.old + 1)) }
-    ensures changed { OnOk result (R.is_honest registry.new → (s : State) → R.holds registry.old s
-        → s.undo pos key.now ≡ None → R.holds registry.new (changed s pos key.now None)) }
+    ensures changed { OnOk result (R.is_honest registry.new → (s : State)
+        → R.holds registry.old s → s.undo pos key.now ≡ None
+        → R.holds registry.new (changed s pos key.now None)) }
 {
     note(registry, alloc, pos, key)?;
     registry.remove(key)

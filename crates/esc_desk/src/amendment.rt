@@ -117,7 +117,8 @@ impl<S: Alter> Desk<S> {
         ensures cause { After S.Store self.old self.new
             (λ e. IfErr result (IsAmendCause e text.now)) }
         ensures fault { IfErr result IsAmendFault }
-        ensures refused { (code row : ℕ) → result ≡ Err (AmendFault.M (MFault.Refused code row))
+        ensures refused { (code row : ℕ)
+            → result ≡ Err (AmendFault.M (MFault.Refused code row))
             → IsRefusedUnion (rows_of (store_of self.old)) text.now code row }
         ensures unchanged { (code row : ℕ)
             → result ≡ Err (AmendFault.M (MFault.Refused code row)) → self.new ≡ self.old }
