@@ -1,9 +1,9 @@
 //! What is told, line by line, and what is answered.
 
 use crate::desks::{Place, answer_of_place};
-use esc_desk::{Desk, SFault};
+use esc_desk::SFault;
 use esc_kept::{files_of, reopen_desk};
-use sqlite::{Alter, FileStore, Files};
+use sqlite::{Alter, Connection, FileStore, Files};
 use sqlite_disk::Disk;
 use std::alloc::Global;
 use std::fmt::Write;
@@ -74,7 +74,7 @@ fn served(rt: &HostRuntime, disks: Disks, line: String) -> Result<State, Fail> {
 }
 
 // Opens the database in files and answers lines about it. What is over files is for any kind of
-// disk, since it is proved sooner so.
+// disk, and what can be done over any store is done so: it is proved sooner.
 fn talked<D: Disk + Drop>(
     talk: &mut Talk<'_>,
     files: Files<D>,
@@ -82,7 +82,7 @@ fn talked<D: Disk + Drop>(
 ) -> Result<Files<D>, Fail> {
     match connect(talk.rt.alloc(), files, room) {
         Ok(connection) => {
-            let place = talk.answer_all(Place::Database(connection))?;
+            let place = talk.answer_from(connection)?;
             left(talk.rt.alloc(), place, talk.closes(), room)
         }
         Err((fault, files)) => {
@@ -100,25 +100,16 @@ fn left<D: Disk + Drop>(
     room: Room,
 ) -> Result<Files<D>, Fail> {
     match place {
+        Place::Database(connection) => Ok(left_files(connection, closes)),
         Place::Desk(desk) => {
-            if closes {
-                files_of_reopened(alloc, desk, room)
-            } else {
-                Ok(files_of(desk))
+            if !closes {
+                return Ok(files_of(desk));
+            }
+            match reopen_desk(alloc, desk, options(room)) {
+                Ok(desk) => Ok(files_of(desk)),
+                Err(fault) => Err(Fail::new(fault)),
             }
         }
-        Place::Database(connection) => Ok(left_files(connection, closes)),
-    }
-}
-
-fn files_of_reopened<D: Disk + Drop>(
-    alloc: Global,
-    desk: Desk<FileStore<D>>,
-    room: Room,
-) -> Result<Files<D>, Fail> {
-    match reopen_desk(alloc, desk, options(room)) {
-        Ok(desk) => Ok(files_of(desk)),
-        Err(fault) => Err(Fail::new(fault)),
     }
 }
 
@@ -148,8 +139,11 @@ impl Talk<'_> {
     }
 
     // Answers all lines up to the first that is not about the database.
-    fn answer_all<S: Alter + Drop>(&mut self, place: Place<S>) -> Result<Place<S>, Fail> {
-        let mut place = place;
+    fn answer_from<S: Alter + Drop>(
+        &mut self,
+        connection: Connection<S>,
+    ) -> Result<Place<S>, Fail> {
+        let mut place = Place::Database(connection);
         for _ in 0..u64::MAX {
             if !self.is_for_database() {
                 return Ok(place);

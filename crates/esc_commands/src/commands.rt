@@ -5,7 +5,7 @@ use crate::files::{read_manifest_text, stop_at};
 use crate::jobs::{Ended, Job};
 use crate::session::Session;
 use crate::stop::{Stop, tell_stop};
-use crate::store_file::{Closed, open_file, open_store_file};
+use crate::store_file::Closed;
 use clap::Error;
 use esc_console::{DONE, USAGE, tell_answer};
 use esc_envelope::watermark;
@@ -84,8 +84,7 @@ where
     fn init(&mut self, store: &str, manifest: &str) -> Result<Ended, Stop> {
         let manifest = manifest_of(self.rt, manifest)?;
         let line = listed(self.rt.alloc(), &manifest)?;
-        let connection = open_file(self.rt, store)?;
-        let made = self.use_file(connection, Job::Create(&manifest));
+        let made = self.use_file(store, Job::Create(&manifest))?;
         made.outcome?;
         Ok(Ended::done(line))
     }
@@ -94,8 +93,7 @@ where
     // `init`, a close that fails refuses nothing: the store is there.
     fn migrate(&mut self, store: &str) -> Result<Ended, Stop> {
         let line = String::from_str(self.rt.alloc(), "migrated\n")?;
-        let connection = open_store_file(self.rt, store)?;
-        let made = self.use_file(connection, Job::Migrate);
+        let made = self.use_store_file(store, Job::Migrate)?;
         made.outcome?;
         Ok(Ended::done(line.into_bytes()))
     }
@@ -118,8 +116,7 @@ where
     // Does a task with the desk of the store in a file. What was answered before a stop is kept, and
     // a stop is reported rather than a close that fails after it.
     fn use_store(&mut self, path: &str, task: DeskTask<'_>) -> Result<Ended, Stop> {
-        let connection = open_store_file(self.rt, path)?;
-        let Closed { outcome, closed } = self.use_file(connection, Job::Desk(task));
+        let Closed { outcome, closed } = self.use_store_file(path, Job::Desk(task))?;
         let ended = outcome?;
         closed?;
         Ok(ended)

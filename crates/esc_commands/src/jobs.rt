@@ -2,16 +2,17 @@
 
 use crate::command_line::DeskTask;
 use crate::events;
+use crate::files::is_missing;
 use crate::session::Session;
 use crate::stop::Stop;
 use crate::store_file::{
-    Closed, Used, close, connection_of, create_store, migrate_store, open_desk,
+    Closed, Used, connection_of, create_store, ended, migrate_store, open_desk, why_not_opened,
 };
 use esc_console::DONE;
-use esc_desk::Desk;
+use esc_desk::{Desk, SFault};
 use esc_http::{Report, end_line, report};
 use esc_manifest::Manifest;
-use sqlite::{Alter, Connection, File, FileStore};
+use sqlite::{Alter, Connection};
 use std::alloc::Global;
 use std::io::Write;
 use std::net::{Net, TcpListener, TcpStream};
@@ -57,16 +58,32 @@ where
     O: Write,
     E: Write,
 {
-    /// Does a job with a file, and closes it.
-    pub fn use_file(
-        &mut self,
-        connection: Connection<FileStore<File>>,
-        job: Job<'_>,
-    ) -> Closed<Ended> {
-        close(self.use_connection(connection, job))
+    /// Does a job with the database of a file that is there, and closes it: `S3` where it is not.
+    pub fn use_store_file(&mut self, path: &str, job: Job<'_>) -> Result<Closed<Ended>, Stop> {
+        if is_missing(self.rt, path) {
+            return Err(Stop::Store(SFault::S3));
+        }
+        self.use_file(path, job)
     }
 
-    // For any store: each use of a `FileStore` as a store costs the prover seconds.
+    /// Opens the database of a file, which is made where there is none, does a job with it, and
+    /// closes it: what is still in its log is copied into it. `E1` or the store's fault if it can't
+    /// be opened.
+    pub fn use_file(&mut self, path: &str, job: Job<'_>) -> Result<Closed<Ended>, Stop> {
+        // What is done between is for any store: each use of a `FileStore` as one costs the prover
+        // seconds.
+        match Connection::open(self.rt, path) {
+            Ok(connection) => {
+                let Used {
+                    connection,
+                    outcome,
+                } = self.use_connection(connection, job);
+                Ok(ended(outcome, connection.close()))
+            }
+            Err(error) => Err(why_not_opened(self.rt, path, error)),
+        }
+    }
+
     fn use_connection<S: Alter>(
         &mut self,
         connection: Connection<S>,

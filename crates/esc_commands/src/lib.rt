@@ -13,8 +13,8 @@
 //! |---|---|
 //! | `command_line` | the table of the commands and its texts; from the words to what is asked for |
 //! | `commands` | the commands: from what is asked for to the status |
-//! | `jobs` | what a command does with the database of a file, and with the desk of its store |
-//! | `store_file` | opens the file of a store and closes it, once for each command |
+//! | `jobs` | opens the file of a store and closes it, once for each command; what is done in between |
+//! | `store_file` | makes the store in the database of a file or opens it, and says why that failed |
 //! | `events` | arrivals, amendments and moments, each a run of the desk of its own |
 //! | `take` | takes the plain files of a folder, in byte order of names |
 //! | `serve` | serves connections on a port, one after the other, each within a time |

@@ -1,14 +1,11 @@
-//! The file of a store: each command opens it once, and closes it before it ends.
-//!
-//! The functions over a `Connection<S>` do the work. Those over a `FileStore<File>` only open and
-//! close.
+//! The store in the database of a file: how it is made, opened and left, and why it isn't.
 
-use crate::files::{check_access, is_missing};
+use crate::files::check_access;
 use crate::stop::Stop;
 use esc_desk::{Desk, SFault};
 use esc_manifest::Manifest;
 use esc_store::Store;
-use sqlite::{Alter, Connection, Error, ErrorCode, File, FileStore};
+use sqlite::{Alter, Connection, Error, ErrorCode};
 use std::alloc::Global;
 
 /// A connection after its use, and the outcome of the use.
@@ -24,13 +21,12 @@ pub struct Closed<T> {
     pub closed: Result<(), Stop>,
 }
 
-/// The database of a file, which is made where there is none. `E1` if the system doesn't let the
-/// file be read and written, else the store's fault.
-pub fn open_file(rt: &HostRuntime, path: &str) -> Result<Connection<FileStore<File>>, Stop> {
-    match Connection::open(rt, path) {
-        Ok(connection) => Ok(connection),
-        Err(Error::SqliteFailure(ErrorCode::CannotOpen)) => Err(why_closed(rt, path)),
-        Err(error) => Err(Stop::Store(SFault::from(error))),
+/// Why the database of a file wasn't opened: `E1` if the system doesn't let the file be read and
+/// written, else the store's fault.
+pub fn why_not_opened(rt: &HostRuntime, path: &str, error: Error) -> Stop {
+    match error {
+        Error::SqliteFailure(ErrorCode::CannotOpen) => why_closed(rt, path),
+        error => Stop::Store(SFault::from(error)),
     }
 }
 
@@ -51,21 +47,9 @@ fn names_no_file(path: &str) -> bool {
     path == ":memory:" || path.starts_with("file:")
 }
 
-/// The database of a file that is there: `S3` where it is not.
-pub fn open_store_file(rt: &HostRuntime, path: &str) -> Result<Connection<FileStore<File>>, Stop> {
-    if is_missing(rt, path) {
-        return Err(Stop::Store(SFault::S3));
-    }
-    open_file(rt, path)
-}
-
-/// Closes the file, and copies into it what is still in its log.
-pub fn close<T>(used: Used<FileStore<File>, T>) -> Closed<T> {
-    let Used {
-        connection,
-        outcome,
-    } = used;
-    let closed = match connection.close() {
+/// The outcome of the use of a file after an attempt to close it.
+pub fn ended<T>(outcome: Result<T, Stop>, closed: Result<(), Error>) -> Closed<T> {
+    let closed = match closed {
         Ok(()) => Ok(()),
         Err(error) => Err(Stop::Store(SFault::from(error))),
     };

@@ -20,10 +20,9 @@ use Rattle.sqlite.specs.State.{State, HasCleanDisk, Survives, IsLive, Opens}
 use Rattle.sqlite.specs.Files.{over_files, image_of, HoldsDatabase}
 use Rattle.sqlite.specs.Closing.{IsCopied}
 use Rattle.sqlite.proofs.Theorems.{opens_again}
-use Rattle.esc_store.specs.declared.store.Store.{Store}
 use Rattle.esc_store.specs.Kept.{Kept}
 use Rattle.esc_store.specs.StoreTables.{IsStore, IsOfVersion}
-use Rattle.esc_store.specs.Standing.{HoldsKept, LeavesOr, Stands}
+use Rattle.esc_store.specs.Standing.{HoldsKept, LeavesOr}
 use Rattle.esc_rows.specs.Schema.{no_schema}
 use Rattle.sqlite.specs.Effect.{Database}
 use Rattle.sqlite_catalog.specs.Listing.{IsSound}
@@ -31,8 +30,9 @@ use Rattle.esc_kept.specs.Blank.{LeavesBlankOr}
 use Rattle.esc_events.specs.Events.{EventValue}
 use Rattle.esc_desk.specs.declared.desk.Desk.{Desk}
 use Rattle.esc_desk.specs.Calls.{DeskLeaves}
-use Rattle.esc_desk.specs.Serving.{Serves, DeskServes}
+use Rattle.esc_desk.specs.Serving.{DeskServes}
 use Rattle.esc_desk.specs.Crashes.{CrashLeaves, IsStoreForOneOf, IsStoreFor}
+use Rattle.esc_kept.specs.Rest.{RestsFor}
 use Rattle.esc_kept.specs.FileImages.{HoldsStoreFor, HoldsVersion, HoldsOneOf, IsOneOf, ServesOneOf}
 
 -- whatever a crash leaves of the files of a store is one of those that it may leave of the store
@@ -89,16 +89,15 @@ serves_one g desk committed image holds serves e doubtful one = ∥∥₁_map on
     let both = serves found.0 (subst (λ t. IsStoreFor t found.0) (sym (holds it.0 it.1)) found.2) in
     (found.0, found.1, both.0, both.1))
 
--- the files that a close gave back hold the store of the events that it served
-pub closed_store : {D : Type 0} {g : Ghosts D} (conn : Held (FileStore D g)) (files : Files D) (old : Store (FileStore D g)) → IsCopied conn files
-    → ((k : Kept) → Stands over_files old k → HoldsKept over_files conn k) → (e : List EventValue) → Serves over_files old e → HoldsStoreFor (image_of g files) e
-closed_store conn files old copied holds e was = (
+-- the files that a close gave back hold the store of the events for which the connection held one
+pub closed_store : {D : Type 0} {g : Ghosts D} (conn : Held (FileStore D g)) (files : Files D) → IsCopied conn files → (e : List EventValue) → RestsFor over_files conn e → HoldsStoreFor (image_of g files) e
+closed_store conn files copied e rests = (
   (state over_files conn).committed.trees,
   copied.seen.both,
   record {
-    kept = was.kept;
-    store = kept_trees over_files conn was.kept (holds was.kept was.stands) copied.was_clean copied.was_open;
-    stands_for = was.stands_for;
+    kept = rests.kept;
+    store = kept_trees over_files conn rests.kept rests.holds copied.was_clean copied.was_open;
+    stands_for = rests.stands_for;
   },
 )
 
@@ -108,3 +107,8 @@ pub if_told : {T E D : Type 0} (from : Result T E) (to : Result T D) (F : E → 
 if_told (Ok x) to F cases P holds = subst (λ r. IfOk r P) (sym cases) (holds x refl)
 if_told (Err e) (Ok x) F cases P holds = absurd cases
 if_told (Err e) (Err d) F cases P holds = tt
+
+-- what follows for a value from three that hold of it
+pub if_all : {T E : Type 0} (r : Result T E) (P Q R S : T → Type 0) → IfOk r P → IfOk r Q → IfOk r R → ((x : T) → P x → Q x → R x → S x) → IfOk r S
+if_all (Ok x) P Q R S p q r f = f x p q r
+if_all (Err e) P Q R S p q r f = tt

@@ -1,4 +1,7 @@
 //! The two files of a desk, and the desk over them.
+//!
+//! Each use of a `FileStore` as a store costs the prover many seconds. So what can be done with any
+//! store is done by functions over any store.
 
 ghost use Rattle.std.specs.Prelude.{List, [], IsTrue, IfOk, IfErr};
 ghost use Rattle.sqlite_wal.specs.Files.{outcomes, image_at};
@@ -16,7 +19,8 @@ ghost use Rattle.esc_kept.specs.FileImages.{
   ServesOneOf,
 };
 
-use crate::opening::open_desk;
+use crate::leaving::{connection_of, store_below};
+use crate::opening::desk_or_fault;
 use esc_desk::{Desk, SFault};
 use sqlite::{Connection, Error, FileFrom, FileStore, Files, Options, Start};
 use sqlite_disk::Disk;
@@ -31,7 +35,7 @@ pub fn files_of<D: Disk + Drop>(desk: Desk<FileStore<D>>) -> Files<D>
         → (image : Image) → outcomes D.Disk result.log result.db image
         → HoldsOneOf image e doubtful }
 {
-    desk.into_store().into_connection().into_store().close()
+    store_below(desk).close()
 }
 
 /// The desk over the store that two files hold, also where they are what a crash left. `S3` where
@@ -63,7 +67,7 @@ pub fn desk_of_files<D: Disk + Drop>(
         Ok(connection) => connection,
         Err((error, _)) => return Err(fault_of(error)),
     };
-    open_desk(alloc, connection).map_err(|(fault, _)| fault)
+    desk_or_fault(alloc, connection)
 }
 
 /// The desk over the store of the files at a path. `start` says in the contract what they hold.
@@ -91,7 +95,7 @@ pub fn open_desk_at<S: Start>(
         Ok(connection) => connection,
         Err((error, _)) => return Err(fault_of(error)),
     };
-    open_desk(rt.alloc(), connection).map_err(|(fault, _)| fault)
+    desk_or_fault(rt.alloc(), connection)
 }
 
 /// The desk over the files of another, which is closed first: what is still in the log is copied
@@ -108,7 +112,7 @@ pub fn reopen_desk<D: Disk + Drop>(
         (λ e. DeskLeaves over_files again e [])) }
     ensures cause { IfErr result IsS1ToS3 }
 {
-    match desk.into_store().into_connection().close_files() {
+    match connection_of(desk).close_files() {
         Ok(files) => desk_of_files(alloc, files, options),
         Err((error, store)) => {
             drop(store.close());

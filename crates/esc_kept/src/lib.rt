@@ -64,6 +64,7 @@
 #![tactic(auto)]
 
 mod files;
+mod leaving;
 mod opening;
 
 pub use files::{desk_of_files, files_of, open_desk_at, reopen_desk};

@@ -76,3 +76,23 @@ pub fn open_desk<S: Alter>(
         Err(e) => Err(e),
     }
 }
+
+/// The same, where a connection that holds no store is dropped.
+pub(crate) fn desk_or_fault<S: Alter + Drop>(
+    alloc: Global,
+    connection: Connection<S>,
+) -> Result<Desk<S>, SFault>
+    ensures honest { IfOk result (λ desk. IsHonestDesk S.Store desk
+        → HasCleanDisk (state S.Store connection)) }
+    ensures serves { IfOk result (λ desk. IsHonestDesk S.Store desk
+        → (e : List EventValue)
+        → IsStoreFor (state S.Store connection).committed.trees e → DeskServes S.Store desk e) }
+    ensures left { IfOk result (λ desk. (e : List EventValue)
+        → IsStoreFor (state S.Store connection).committed.trees e
+        → DeskLeaves S.Store desk e []) }
+    ensures version { IfOk result (λ desk. IsHonestDesk S.Store desk
+        → IsOfVersion (state S.Store connection).now) }
+    ensures cause { IfErr result IsS1ToS3 }
+{
+    open_desk(alloc, connection).map_err(|(fault, _)| fault)
+}
