@@ -237,6 +237,10 @@ def stubbed(text, kept):
                 alone = [it for it in range(at, end) if lines[it] == f'{header[1]}{{']
                 begin = (alone or [it for it in range(at - 1, end) if lines[it].endswith('{')])[0]
                 lines[begin + 1:end] = [f'{header[1]}    unreachable!()']
+                # No tactic searches for its proof.
+                if at > 1 and lines[at - 2].lstrip().startswith('#[tactic('):
+                    lines[at - 2] = ''
+                lines[at - 1] = f'{header[1]}#[tactic(none)]\n{lines[at - 1]}'
     return '\n'.join(lines)
 
 
@@ -313,8 +317,9 @@ class Room:
         right, wrong, changes = edit.right, edit.functions[0], [it for it in edit.changes if edit.is_below(it)]
         file = changes[0].file
         text = self.text(file)
-        begin, end = place_of(text, text.index(changes[0].old))
-        function, kept = text[begin:end], frozenset().union(*(it.clauses for it in changes))
+        # (The text that it changes may stand by now in the wrong function of another edit, too.)
+        begin = text.index(right.text)
+        end, function, kept = begin + len(right.text), right.text, frozenset().union(*(it.clauses for it in changes))
         for change in changes:
             function = function.replace(change.old, change.new)
         function = re.sub(rf'\bfn {right.name}\b', f'fn {wrong.name}', thinned(function, 0, kept) if kept else function, count=1)
