@@ -2,9 +2,9 @@
 """gate.py [--anew]: runs the gate, and says what it cost.
 
 `rt ci` proves each crate and its tests and runs the tests and the programs, in a copy of the tree without the wrong bodies. What an
-earlier run on this machine proved it keeps, but with --anew it proves all from nothing. With four lanes or more a second `rt ci` goes
-ahead of it (tools/lanes.py). The wrong bodies are then tried over the libraries that it built, as tools/wrong_bodies.py says: `rt ci` would
-check a crate once more for each of them. What was built is moved to the tree, and the scenes are played on the programs there, as
+earlier run on this machine proved it keeps, but with --anew it proves all from nothing. With four lanes or more others prove the critical
+path ahead of it (tools/lanes.py). The wrong bodies are then tried over the libraries that it built, as tools/wrong_bodies.py says: `rt ci`
+would check a crate once more for each of them. What was built is moved to the tree, and the scenes are played on the programs there, as
 tools/scenes.py says. It prints what `rt ci` prints, the verdict on each wrong body and on each scene, a table as in docs/GATE.md, and at
 last 'N passed, M failed', the sums of all three. The table has processor seconds for each crate's proof, tests and wrong bodies, as /proc
 shows them once a second (what lives shorter is in the sum alone); below it stand the whole gate's time, its processor minutes and the
@@ -193,6 +193,10 @@ def proved(tree, bodies, environment):
     return counted(['rt', 'ci', *sys.argv[1:]], tree, take_note, environment)
 
 
+def told_ahead(crate):
+    print(f'check: proved ahead: {crate}', flush=True)
+
+
 def missing_in(tree):
     """The programs of the scenes that weren't built in a tree."""
     return [it for it in PROGRAMS if not os.path.isfile(f'{tree}/{it}')]
@@ -215,7 +219,7 @@ def main():
     with tempfile.TemporaryDirectory(prefix='gate-') as tree:
         copied_tree(tree, libraries())
         bodies = WrongBodies(tree, count)
-        with path_ahead(libraries(), count, is_anew=bool(sys.argv[1:])) as environment:
+        with path_ahead(libraries(), count, told_ahead, is_anew=bool(sys.argv[1:])) as environment:
             passed, failed = proved(tree, bodies, environment)
         refused, through = bodies.ended()
         missing = missing_in(tree)

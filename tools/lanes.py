@@ -1,10 +1,13 @@
-"""How many checks run side by side, and a second `rt ci` that goes ahead of the first where all else would wait."""
+"""How many checks run side by side, and the `rt ci` that go ahead of the one over all crates, to the crates that most others wait for."""
 import contextlib, os, re, subprocess, sys, tempfile, threading
 
 from crates import copied_tree, libraries
 
-# Crates of the critical path, lowest first: most others wait for the first two, and the last one has most to wait for.
-ON_PATH = ('esc_store', 'esc_desk', 'desk_harness')
+# The largest crates of the critical path, lowest first.
+ON_PATH = ('esc_store', 'esc_desk')
+
+# What `rt ci` says of a crate that has ended. Of one whose files an earlier run on this machine proved it says that it is kept.
+ENDED = re.compile(r'rt: (\w+) (proved|is kept|NOT PROVED)\b')
 
 
 def memory():
@@ -27,50 +30,53 @@ def lanes():
 
 
 class Ahead:
-    """A second `rt ci`, which proves some crates, and those below them, ahead of the first.
+    """An `rt ci` that proves a crate, and those below it, ahead of the one over all crates.
 
-    On the critical path each crate waits for the one below, so what counts is how soon each is proved; and `rt ci` gives a proof more than
-    one process only where few others could begin, and where memory allows by its own estimate. So each of these crates is proved in a tree
-    of its own, which has what is below it alone. What was proved here the first takes as kept. Where both come to a crate at once one of
-    them waits. What couldn't be proved here the first tries again, and reports."""
+    `rt ci` gives a proof more than one process only where few others could begin, and where memory allows by its own estimate, which it makes
+    as it starts. So the crate is proved in a tree that has what is below it alone, and that run starts on an idle machine. What was proved
+    here the others take as kept; where two come to a crate at once one of them waits. What couldn't be proved here the one over all crates
+    tries again, and reports. `note` is called with each crate that was proved here."""
 
-    def __init__(self, crates):
-        self.crates, self.ran, self.is_over, self.changing = crates, None, False, threading.Lock()
+    def __init__(self, crate, note):
+        self.crates, self.note, self.ended, self.at_last = [*libraries()[crate], crate], note, set(), threading.Event()
+        self.tree = tempfile.TemporaryDirectory(prefix='ahead-')
+        copied_tree(self.tree.name, self.crates)
+        own = {name: value for name, value in os.environ.items() if name != 'RT_JOBS'}
+        self.ran = subprocess.Popen(['rt', 'ci'], cwd=self.tree.name, env=own, stdin=subprocess.DEVNULL, stdout=subprocess.PIPE,
+                                    stderr=subprocess.STDOUT, text=True, errors='replace')
         self.thread = threading.Thread(target=self.run, daemon=True)
         self.thread.start()
 
     def run(self):
-        own = {name: value for name, value in os.environ.items() if name != 'RT_JOBS'}
-        for name in self.crates:
-            with tempfile.TemporaryDirectory(prefix='ahead-') as tree:
-                copied_tree(tree, [*libraries()[name], name])
-                with self.changing:
-                    if self.is_over:
-                        return
-                    self.ran = subprocess.Popen(['rt', 'ci'], cwd=tree, env=own, stdin=subprocess.DEVNULL, stdout=subprocess.DEVNULL,
-                                                stderr=subprocess.DEVNULL)
-                if self.ran.wait():
-                    return
+        for line in self.ran.stdout:
+            if found := ENDED.match(line):
+                self.ended.add(found[1])
+                if found[2] != 'NOT PROVED':
+                    self.note(found[1])
+                if self.ended.issuperset(self.crates[:-1]):
+                    self.at_last.set()
+        self.at_last.set()
 
     def end(self):
-        with self.changing:
-            self.is_over = True
-            if self.ran:
-                self.ran.terminate()
+        self.ran.terminate()
         self.thread.join()
+        self.ran.wait()
+        self.tree.cleanup()
 
 
 @contextlib.contextmanager
-def path_ahead(crates, lanes, is_anew=False):
-    """Has a second `rt ci` go ahead of one over these crates, and gives the environment of that one: it has as many lanes, since those in
-    which it waits for the second leave the processor free. With fewer than four lanes there is none to spare, and where all is proved anew
-    nothing is kept: then the first is alone."""
+def path_ahead(crates, lanes, note, is_anew=False):
+    """Has the crates of the critical path proved ahead of an `rt ci` over these crates, and gives the environment of that one once nothing
+    but the last of them is left to prove there: it would come to that one sooner, and prove it with one process. With fewer than four lanes
+    it is alone; and where all is proved anew nothing is kept."""
     on_path = [it for it in ON_PATH if it in crates]
     if lanes < 4 or is_anew or not on_path:
         yield os.environ
         return
-    ahead = Ahead(on_path)
-    try:
+    with contextlib.ExitStack() as ends:
+        for name in on_path:
+            # (The last tree has all that the others have.)
+            ahead = Ahead(name, note if name == on_path[-1] else lambda crate: None)
+            ends.callback(ahead.end)
+        ahead.at_last.wait()
         yield {**os.environ, 'RT_JOBS': str(lanes)}
-    finally:
-        ahead.end()

@@ -1,34 +1,40 @@
 #!/usr/bin/env python3
 """prove.py PROGRAM: proves and builds a program and the crates below it, as many side by side as the machine has room for.
 
-`rt ci` does it as in the gate, in a copy of the tree that has these crates alone; a second one may go ahead of it (tools/lanes.py). What
-it proves is kept beside the kit: a later run on this machine, of `./check` too, proves the same files over the same libraries no more.
-What was built is moved to the tree. A line on standard error says of each crate when it was proved; what `rt ci` said of a crate that
-isn't proved follows."""
-import os, re, subprocess, sys, tempfile, time
+`rt ci` does it as in the gate, in a copy of the tree that has these crates alone; others may go ahead of it (tools/lanes.py). What it
+proves is kept beside the kit: a later run on this machine, of `./check` too, proves the same files over the same libraries no more. What was
+built is moved to the tree. A line on standard error says of each crate when it was proved; what `rt ci` said of a crate that isn't proved
+follows."""
+import os, subprocess, sys, tempfile, time
 
 from crates import TOP, built_moved, copied_tree, libraries, locked
-from lanes import lanes, path_ahead
-
-ENDED = re.compile(r'rt: (\w+) (proved|is kept|NOT PROVED)\b')
+from lanes import ENDED, lanes, path_ahead
 
 
-def told(begun, crate, verdict, ended, count):
-    minutes, seconds = divmod(int(time.monotonic() - begun), 60)
-    said = 'NOT PROVED' if verdict == 'NOT PROVED' else 'proved'
-    print(f'{minutes}:{seconds:02d} {said}: {crate} ({ended} of {count})', file=sys.stderr, flush=True)
+class Told:
+    """Says of each of some crates when it has ended, once."""
+
+    def __init__(self, count):
+        self.count, self.begun, self.ended = count, time.monotonic(), set()
+
+    def __call__(self, crate, verdict='proved'):
+        if crate in self.ended:
+            return
+        self.ended.add(crate)
+        minutes, seconds = divmod(int(time.monotonic() - self.begun), 60)
+        said = 'NOT PROVED' if verdict == 'NOT PROVED' else 'proved'
+        print(f'{minutes}:{seconds:02d} {said}: {crate} ({len(self.ended)} of {self.count})', file=sys.stderr, flush=True)
 
 
-def proved(tree, count, environment):
-    """Runs `rt ci` in a tree with so many crates, and says whether all of them passed."""
-    begun, ended, said = time.monotonic(), 0, []
+def proved(tree, told, environment):
+    """Runs `rt ci` in a tree, and says whether all of its crates passed."""
+    said = []
     with subprocess.Popen(['rt', 'ci'], cwd=tree, env=environment, stdin=subprocess.DEVNULL, stdout=subprocess.PIPE,
                           stderr=subprocess.STDOUT, text=True, errors='replace') as ran:
         for line in ran.stdout:
             said.append(line)
             if found := ENDED.match(line):
-                ended += 1
-                told(begun, found[1], found[2], ended, count)
+                told(found[1], found[2])
     if ran.returncode:
         sys.stderr.writelines(said)
     return ran.returncode == 0
@@ -41,8 +47,9 @@ def main():
     crates = [*libraries()[program], program]
     with tempfile.TemporaryDirectory(prefix='prove-') as tree:
         copied_tree(tree, crates)
-        with path_ahead(crates, lanes()) as environment:
-            passed = proved(tree, len(crates), environment)
+        told = Told(len(crates))
+        with path_ahead(crates, lanes(), told) as environment:
+            passed = proved(tree, told, environment)
         built_moved(tree, crates)
     return 0 if passed and os.path.exists(f'{TOP}/crates/{program}/out/{program}') else 1
 
