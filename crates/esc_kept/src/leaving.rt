@@ -15,7 +15,8 @@ use sqlite::{Alter, Connection};
 /// The connection of a desk's store, whose database stays as it is.
 pub(crate) fn connection_of<S: Alter>(desk: Desk<S>) -> Connection<S>
     ensures same { result ≡ held_by (store_of desk) }
-    ensures rests { (e : List EventValue) → DeskServes S.Store desk e → RestsFor S.Store result e }
+    ensures rests { (e : List EventValue) → DeskServes S.Store desk e
+        → RestsFor S.Store result e }
 {
     desk.into_store().into_connection()
 }
