@@ -5,6 +5,8 @@ from crates import copied_tree, libraries
 
 # The largest crates of the critical path, lowest first.
 ON_PATH = ('esc_store', 'esc_desk')
+# How many checks run side by side of the crates that don't stand on the first of these, while that is proved.
+BESIDE = 2
 
 # What `rt ci` says of a crate that has ended. Of one whose files an earlier run on this machine proved it says that it is kept.
 ENDED = re.compile(r'rt: (\w+) (proved|is kept|NOT PROVED)\b')
@@ -30,18 +32,21 @@ def lanes():
 
 
 class Ahead:
-    """An `rt ci` that proves a crate, and those below it, ahead of the one over all crates.
+    """An `rt ci` that proves some crates, lowest first, ahead of the one over all crates: with a number of lanes, or with those that it
+    finds itself.
 
-    `rt ci` gives a proof more than one process only where few others could begin, and where memory allows by its own estimate, which it makes
-    as it starts. So the crate is proved in a tree that has what is below it alone, and that run starts on an idle machine. What was proved
-    here the others take as kept; where two come to a crate at once one of them waits. What couldn't be proved here the one over all crates
-    tries again, and reports. `note` is called with each crate that was proved here."""
+    `rt ci` gives a proof more than one process only where its lanes aren't given, where few others could begin, and where memory allows by
+    its own estimate, which it makes as it starts. So a large crate is proved in a tree that has what is below it alone, and that run starts
+    on an idle machine. What was proved here the others take as kept; where two come to a crate at once one of them waits. What couldn't be
+    proved here the one over all crates tries again, and reports. `note` is called with each crate that was proved here."""
 
-    def __init__(self, crate, note):
-        self.crates, self.note, self.ended, self.at_last = [*libraries()[crate], crate], note, set(), threading.Event()
+    def __init__(self, crates, note, lanes=None):
+        self.crates, self.note, self.ended, self.at_last = crates, note, set(), threading.Event()
         self.tree = tempfile.TemporaryDirectory(prefix='ahead-')
         copied_tree(self.tree.name, self.crates)
         own = {name: value for name, value in os.environ.items() if name != 'RT_JOBS'}
+        if lanes:
+            own['RT_JOBS'] = str(lanes)
         self.ran = subprocess.Popen(['rt', 'ci'], cwd=self.tree.name, env=own, stdin=subprocess.DEVNULL, stdout=subprocess.PIPE,
                                     stderr=subprocess.STDOUT, text=True, errors='replace')
         self.thread = threading.Thread(target=self.run, daemon=True)
@@ -64,6 +69,18 @@ class Ahead:
         self.tree.cleanup()
 
 
+def with_below(crates):
+    """Some crates and all that are below them, lowest first."""
+    below = libraries()
+    return [it for it in below if it in crates or any(it in below[above] for above in crates)]
+
+
+def beside_path(crates):
+    """Those of some crates that don't stand on the first large crate of the critical path, and that its last one doesn't stand on."""
+    below = libraries()
+    return [it for it in crates if ON_PATH[0] not in (it, *below[it]) and it not in below[ON_PATH[-1]]]
+
+
 @contextlib.contextmanager
 def path_ahead(crates, lanes, note, is_anew=False):
     """Has the crates of the critical path proved ahead of an `rt ci` over these crates, and gives the environment of that one once nothing
@@ -73,10 +90,18 @@ def path_ahead(crates, lanes, note, is_anew=False):
     if lanes < 4 or is_anew or not on_path:
         yield os.environ
         return
+    noted = set()
+
+    def note_once(crate):
+        if crate not in noted:
+            noted.add(crate)
+            note(crate)
+
     with contextlib.ExitStack() as ends:
         for name in on_path:
-            # (The last tree has all that the others have.)
-            ahead = Ahead(name, note if name == on_path[-1] else lambda crate: None)
+            ahead = Ahead(with_below([name]), note_once)
             ends.callback(ahead.end)
+        if beside := beside_path(crates):
+            ends.callback(Ahead(with_below(beside), note_once, BESIDE).end)
         ahead.at_last.wait()
         yield {**os.environ, 'RT_JOBS': str(lanes)}

@@ -2,10 +2,9 @@
 
 use crate::command_line::{DeskTask, Invocation, Task, parse};
 use crate::files::{read_manifest_text, stop_at};
-use crate::jobs::{Ended, Job};
-use crate::session::Session;
+use crate::jobs::{Closed, Ended, Job};
+use crate::run::Run;
 use crate::stop::{Stop, tell_stop};
-use crate::store_file::Closed;
 use clap::Error;
 use esc_console::{DONE, USAGE, tell_answer};
 use esc_envelope::watermark;
@@ -30,8 +29,8 @@ where
 {
     match parse(rt.alloc(), words) {
         Ok(Some(invocation)) => {
-            let mut session = Session { rt, net, out, err };
-            session.run(invocation)
+            let mut run = Run { rt, net, out, err };
+            run.perform(invocation)
         }
         Ok(None) => USAGE,
         Err(error) => tell_error(rt, &error, out, err),
@@ -46,14 +45,14 @@ fn tell_error<O: Write, E: Write>(rt: &HostRuntime, error: &Error, out: &mut O, 
     }
 }
 
-impl<N, O, E> Session<'_, N, O, E>
+impl<N, O, E> Run<'_, N, O, E>
 where
     N: Net<Listener = TcpListener, Stream = TcpStream>,
     O: Write,
     E: Write,
 {
     // Does what is asked for. Returns the status.
-    fn run(&mut self, invocation: Invocation<'_>) -> u8 {
+    fn perform(&mut self, invocation: Invocation<'_>) -> u8 {
         match self.finish(invocation) {
             Ok(status) => status,
             Err(stop) => tell_stop(self.rt, self.err, &stop),

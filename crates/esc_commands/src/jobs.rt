@@ -3,16 +3,16 @@
 use crate::command_line::DeskTask;
 use crate::events;
 use crate::files::is_missing;
-use crate::session::Session;
+use crate::run::Run;
 use crate::stop::Stop;
 use crate::store_file::{
-    Closed, Used, connection_of, create_store, ended, migrate_store, open_desk, why_not_opened,
+    Used, connection_of, create_store, migrate_store, open_desk, why_not_opened,
 };
 use esc_console::DONE;
 use esc_desk::{Desk, SFault};
 use esc_http::{Report, end_line, report};
 use esc_manifest::Manifest;
-use sqlite::{Alter, Connection};
+use sqlite::{Alter, Connection, Error};
 use std::alloc::Global;
 use std::io::Write;
 use std::net::{Net, TcpListener, TcpStream};
@@ -41,6 +41,24 @@ impl Ended {
     }
 }
 
+/// The end of a command whose file was opened, and the outcome of closing that.
+#[derive(Drop)]
+pub(crate) struct Closed {
+    pub outcome: Result<Ended, Stop>,
+    pub closed: Result<(), Stop>,
+}
+
+impl Closed {
+    // A command's end after an attempt to close its file.
+    fn after(outcome: Result<Ended, Stop>, closed: Result<(), Error>) -> Closed {
+        let closed = match closed {
+            Ok(()) => Ok(()),
+            Err(error) => Err(Stop::Store(SFault::from(error))),
+        };
+        Closed { outcome, closed }
+    }
+}
+
 /// What is done with the database of a file.
 #[derive(Clone, Copy)]
 pub(crate) enum Job<'a> {
@@ -52,14 +70,14 @@ pub(crate) enum Job<'a> {
     Desk(DeskTask<'a>),
 }
 
-impl<N, O, E> Session<'_, N, O, E>
+impl<N, O, E> Run<'_, N, O, E>
 where
     N: Net<Listener = TcpListener, Stream = TcpStream>,
     O: Write,
     E: Write,
 {
     /// Does a job with the database of a file that is there, and closes it: `S3` where it is not.
-    pub fn use_store_file(&mut self, path: &str, job: Job<'_>) -> Result<Closed<Ended>, Stop> {
+    pub fn use_store_file(&mut self, path: &str, job: Job<'_>) -> Result<Closed, Stop> {
         if is_missing(self.rt, path) {
             return Err(Stop::Store(SFault::S3));
         }
@@ -69,7 +87,7 @@ where
     /// Opens the database of a file, which is made where there is none, does a job with it, and
     /// closes it: what is still in its log is copied into it. `E1` or the store's fault if it can't
     /// be opened.
-    pub fn use_file(&mut self, path: &str, job: Job<'_>) -> Result<Closed<Ended>, Stop> {
+    pub fn use_file(&mut self, path: &str, job: Job<'_>) -> Result<Closed, Stop> {
         // What is done between is for any store: each use of a `FileStore` as one costs the prover
         // seconds.
         match Connection::open(self.rt, path) {
@@ -78,7 +96,7 @@ where
                     connection,
                     outcome,
                 } = self.use_connection(connection, job);
-                Ok(ended(outcome, connection.close()))
+                Ok(Closed::after(outcome, connection.close()))
             }
             Err(error) => Err(why_not_opened(self.rt, path, error)),
         }

@@ -19,7 +19,7 @@
 //! | `take` | takes the plain files of a folder, in byte order of names |
 //! | `serve` | serves connections on a port, one after the other, each within a time |
 //! | `files` | reads manifests and bodies, and says what stops a command at a path |
-//! | `session` | one run of the program: the runtime, the network and its two streams |
+//! | `run` | one run of the program: the runtime, the network and its two streams |
 //! | `stop` | what a command stops for, its text and its status |
 //!
 //! What `pack` does alike is in [`esc_console`]: the commands as `clap` is told of them, the reading
@@ -59,8 +59,8 @@ mod commands;
 mod events;
 mod files;
 mod jobs;
+mod run;
 mod serve;
-mod session;
 mod stop;
 mod store_file;
 mod take;

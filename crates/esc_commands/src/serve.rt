@@ -1,7 +1,7 @@
 //! The desk on a port.
 
 use crate::files::or_stop;
-use crate::session::Session;
+use crate::run::Run;
 use crate::stop::Stop;
 use esc_client::{Client, Patience};
 use esc_console::DONE;
@@ -21,7 +21,7 @@ const BYTES_AT_ONCE: usize = 16_384;
 /// `ErrorKind` of their own: ENONET, EPROTO, ENOPROTOOPT, EOPNOTSUPP and EHOSTDOWN.
 const UNNAMED_ERRORS: [i32; 5] = [64, 71, 92, 95, 112];
 
-impl<N, O, E> Session<'_, N, O, E>
+impl<N, O, E> Run<'_, N, O, E>
 where
     N: Net<Listener = TcpListener, Stream = TcpStream>,
     O: Write,

@@ -14,13 +14,6 @@ pub struct Used<S: Alter, T> {
     pub outcome: Result<T, Stop>,
 }
 
-/// The outcome of the use of a file, and that of closing it.
-#[derive(Drop)]
-pub struct Closed<T> {
-    pub outcome: Result<T, Stop>,
-    pub closed: Result<(), Stop>,
-}
-
 /// Why the database of a file wasn't opened: `E1` if the system doesn't let the file be read and
 /// written, else the store's fault.
 pub fn why_not_opened(rt: &HostRuntime, path: &str, error: Error) -> Stop {
@@ -45,15 +38,6 @@ fn why_closed(rt: &HostRuntime, path: &str) -> Stop {
 // Whether a path means something else to SQLite than a file of that name.
 fn names_no_file(path: &str) -> bool {
     path == ":memory:" || path.starts_with("file:")
-}
-
-/// The outcome of the use of a file after an attempt to close it.
-pub fn ended<T>(outcome: Result<T, Stop>, closed: Result<(), Error>) -> Closed<T> {
-    let closed = match closed {
-        Ok(()) => Ok(()),
-        Err(error) => Err(Stop::Store(SFault::from(error))),
-    };
-    Closed { outcome, closed }
 }
 
 /// Makes the store of a manifest.

@@ -2,7 +2,7 @@
 
 use crate::events;
 use crate::files::{or_stop, read_body};
-use crate::session::Session;
+use crate::run::Run;
 use crate::stop::{REFUSED, Stop};
 use esc_console::{DONE, path_in, plain_files};
 use esc_desk::{Arrival, Desk, Verdict, number};
@@ -10,7 +10,7 @@ use esc_http::{receipt_line, receipts_heading};
 use sqlite::Alter;
 use std::io::Write;
 
-impl<N, O: Write, E: Write> Session<'_, N, O, E> {
+impl<N, O: Write, E: Write> Run<'_, N, O, E> {
     /// Takes every plain file of a folder in byte order of names, the name being the arrival's
     /// number, and prints the receipts report: its heading once the folder is listed, then a line
     /// for each arrival as it is answered. Returns the status.

@@ -8,14 +8,14 @@ use std::io::Write;
 /// One run of the program: the runtime, the network, and the two streams that it writes to. The
 /// commands are its methods, each in its module.
 #[derive(Drop)]
-pub(crate) struct Session<'a, N, O, E> {
+pub(crate) struct Run<'a, N, O, E> {
     pub rt: &'a HostRuntime,
     pub net: &'a N,
     pub out: &'a mut O,
     pub err: &'a mut E,
 }
 
-impl<N, O: Write, E: Write> Session<'_, N, O, E> {
+impl<N, O: Write, E: Write> Run<'_, N, O, E> {
     /// Prints on standard output, whose path is `-`.
     pub fn print(&mut self, text: &[u8]) -> Result<(), Stop> {
         or_stop(self.rt, "-", self.out.write_all(text))
