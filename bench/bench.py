@@ -10,7 +10,7 @@ for the status of the large store the processor time of the first response and o
 Differentials is taken in order: all processor time, and that of an arrival where so many rows are held, with the ratio to
 one where 100 are; and bodies that no row lists yet are parked, as many as there is place for, and adopted by an amendment:
 all processor time, with the ratio to taking the same bodies where they are listed. It needs python3 alone, and the program,
-which `./sample` builds: `./sample >/dev/null && bench/bench.py`. With --only chain, or --only adopted, that task alone is
+which `./sample --proved` builds: `./sample --proved >/dev/null && bench/bench.py`. With --only chain, or --only adopted, that task alone is
 run. Times of a busy machine say little; the ratios say more."""
 import argparse, os, re, shutil, subprocess, sys, tempfile, time
 

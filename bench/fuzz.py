@@ -11,7 +11,7 @@ each server the C library's `integrity_check` has to say ok and the folder, take
 a client of each kind holds its connection (`fuzzing/clients.py`), with a good one behind it, which has to get its response within a
 deadline. At last some bundles as large as a bundle may be are taken one by one, with their time and peak memory.
 
-It needs python3 alone, and the program, which `./sample` builds. Each wrong input stays in a folder, with how to run it
+It needs python3 alone, and the program, which `./sample --proved` builds. Each wrong input stays in a folder, with how to run it
 again. The last line is `N inputs, wrong K`."""
 import argparse, os, random, sys, time
 from fuzzing.arrivals import mutated_release

@@ -10,7 +10,7 @@ receipts and tables and passes the C library's `integrity_check`. What doesn't e
 said as WAITS, and ended; what the system ends by a signal as SIGNAL. A run has at most 1 GB of memory, so that what is read
 without an end would show.
 
-It needs python3, and the program, which `./sample` builds; what asks for root (files that may not be read, device nodes) is
+It needs python3, and the program, which `./sample --proved` builds; what asks for root (files that may not be read, device nodes) is
 left out without it. The last line is `N cases, M without end, K ended by a signal, wrong W`."""
 import argparse, os, shutil, sys
 

@@ -5,7 +5,7 @@ Makes a store of the first sample's manifest with the C library (python's sqlite
 tables as the format words them, the version and the manifest's rows. Then it runs each command on it and on a store that
 `restore init` made: the sample's deposits are taken, taken again, and every report and export is printed. Both print the same
 bytes, hold the same rows, and pass the C library's checks. A store with its tables in another order is no store of this version:
-it is S3, and left as it was. It needs python3 alone, and the program, which `./sample` builds. Prints one line, or stops at
+it is S3, and left as it was. It needs python3 alone, and the program, which `./sample --proved` builds. Prints one line, or stops at
 what differs."""
 import argparse, csv, datetime, os, shutil, sqlite3, subprocess, sys, tempfile
 

@@ -5,7 +5,7 @@ A release of a Full and 30 Differentials (seeded) is taken, and the program is k
 from a fresh store; then it is run on N disks (100) of rising size, each a small ext2 file system in a file, on which the store does
 not fit until the last. After each stop the folder is taken again, for a disk on a larger one: every line that was printed before the
 stop is there again, the receipts and exports are those of an undisturbed run, and the C library's `PRAGMA integrity_check` says ok.
-The disks need root and mkfs.ext2; without them they are left out. It needs python3, and the program, which `./sample` builds. The
+The disks need root and mkfs.ext2; without them they are left out. It needs python3, and the program, which `./sample --proved` builds. The
 last line is 'N stops, M undisturbed, wrong K'."""
 import argparse, os, random, shutil, sqlite3, subprocess, sys, tempfile, time
 

@@ -4,7 +4,7 @@
 A walk borrows the desk, so a program that does it is refused by the borrow check, before any proof. The gate tries wrong bodies that
 the prover refuses, and has no place for one that doesn't compile; so this is run by hand. It writes a crate beside copies of the
 repository's, once with the arrival behind the walk's end and once with it between two objects, and checks both. Run it where the
-crates were proved (`./sample`, `./check`): their kept work is copied too."""
+crates were proved (`./sample --proved`, `./check`): their kept work is copied too."""
 import os, re, shutil, subprocess, sys, tempfile
 
 TOP = os.path.dirname(os.path.dirname(os.path.abspath(__file__)))

@@ -3,10 +3,12 @@ import contextlib, os, re, subprocess, sys, tempfile, threading
 
 from crates import copied_tree, libraries
 
-# The largest crates of the critical path, lowest first.
-ON_PATH = ('esc_store', 'esc_desk')
-# How many checks run side by side of the crates that don't stand on the first of these, while that is proved.
+# Crates of the critical path, lowest first: each is proved in a tree of its own.
+ON_PATH = ('esc_apply', 'esc_store', 'esc_desk')
+# How many checks run side by side of the crates beside that path.
 BESIDE = 2
+# The program that most crates are for.
+PROGRAM = 'restore'
 
 # What `rt ci` says of a crate that has ended. Of one whose files an earlier run on this machine proved it says that it is kept.
 ENDED = re.compile(r'rt: (\w+) (proved|is kept|NOT PROVED)\b')
@@ -76,9 +78,15 @@ def with_below(crates):
 
 
 def beside_path(crates):
-    """Those of some crates that don't stand on the first large crate of the critical path, and that its last one doesn't stand on."""
+    """Those of some crates that don't stand on the store, and that the desk doesn't stand on: they can be proved while the store is."""
     below = libraries()
-    return [it for it in crates if ON_PATH[0] not in (it, *below[it]) and it not in below[ON_PATH[-1]]]
+    _, store, desk = ON_PATH
+    return [it for it in crates if store not in (it, *below[it]) and it not in below[desk]]
+
+
+def is_for_program(crate):
+    """Whether the program waits for a crate: each of those that it stands on waits for those below it."""
+    return crate == PROGRAM or crate in libraries()[PROGRAM]
 
 
 @contextlib.contextmanager

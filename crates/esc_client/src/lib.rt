@@ -16,6 +16,9 @@
 //! | [`Patience::for_response`] | 10 seconds, and one for each 65,536 bytes that went |
 //! | [`Patience::for_rest`] | 10 seconds, and no more than one in each read |
 //!
+//! [`is_of_connection`] tells an error of a connection from one of the listener that accepts it, and
+//! [`drain`] ends a connection over which a client may still be sending.
+//!
 //! # Example
 //!
 //! ```text
@@ -37,9 +40,11 @@
 #![tactic(auto)]
 
 mod client;
+mod connection;
 mod patience;
 
 pub use client::{Client, Timed};
+pub use connection::{drain, is_of_connection};
 pub use patience::{
     BYTES_A_SECOND, FIRST_SECONDS, MOST_REQUEST_SECONDS, Patience, REST_PAUSE_SECONDS, REST_SECONDS,
 };

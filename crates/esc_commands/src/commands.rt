@@ -1,14 +1,13 @@
 //! The commands, each over a store in a file.
 
-use crate::command_line::{DeskTask, Invocation, Task, parse};
-use crate::files::{read_manifest_text, stop_at};
-use crate::jobs::{Closed, Ended, Job};
+use crate::jobs::{Closed, DeskTask, Ended, Job};
 use crate::run::Run;
-use crate::stop::{Stop, tell_stop};
-use clap::Error;
-use esc_console::{DONE, USAGE, tell_answer};
-use esc_envelope::watermark;
-use esc_manifest::{Manifest, read_manifest};
+use esc_console::USAGE;
+use esc_manifest::Manifest;
+use esc_usage::{
+    Invocation, Stop, Task, manifest_in, manifest_of, moment_named, parse, read_manifest_text,
+    tell_error, tell_stop,
+};
 use std::alloc::{AllocError, Global};
 use std::io::Write;
 use std::net::{Net, TcpListener, TcpStream};
@@ -34,14 +33,6 @@ where
         }
         Ok(None) => USAGE,
         Err(error) => tell_error(rt, &error, out, err),
-    }
-}
-
-// Prints the help or the version that was asked for, or what is wrong with the words.
-fn tell_error<O: Write, E: Write>(rt: &HostRuntime, error: &Error, out: &mut O, err: &mut E) -> u8 {
-    match tell_answer(rt.alloc(), error, out, err) {
-        Ok(status) => status,
-        Err(error) => tell_stop(rt, err, &stop_at(rt, "-", &error)),
     }
 }
 
@@ -73,7 +64,9 @@ where
             Task::Migrate => self.migrate(store),
             Task::Amend { manifest } => self.amend(store, manifest),
             Task::AsOf { moment } => self.as_of(store, moment),
-            Task::Desk(task) => self.use_store(store, task),
+            Task::Take { folder } => self.use_store(store, DeskTask::Take { folder }),
+            Task::Serve { port, count } => self.use_store(store, DeskTask::Serve { port, count }),
+            Task::Tell { report } => self.use_store(store, DeskTask::Tell { report }),
         }
     }
 
@@ -119,31 +112,6 @@ where
         let ended = outcome?;
         closed?;
         Ok(ended)
-    }
-}
-
-// The moment that a word names, in nanoseconds since 1970-01-01T00:00:00Z; `latest` is none.
-fn moment_named(alloc: Global, word: &str) -> Result<Option<i64>, Stop> {
-    if word == "latest" {
-        return Ok(None);
-    }
-    match watermark(word) {
-        Some(moment) => Ok(Some(moment)),
-        None => Err(Stop::Moment(String::from_str(alloc, word)?)),
-    }
-}
-
-// The manifest in a file.
-fn manifest_of(rt: &HostRuntime, path: &str) -> Result<Manifest, Stop> {
-    let text = read_manifest_text(rt, path)?;
-    manifest_in(rt.alloc(), &text)
-}
-
-// The manifest that a text reads as, or its refusal.
-fn manifest_in(alloc: Global, text: &[u8]) -> Result<Manifest, Stop> {
-    match read_manifest(alloc, text) {
-        Ok(manifest) => Ok(manifest),
-        Err(fault) => Err(Stop::Manifest(fault)),
     }
 }
 

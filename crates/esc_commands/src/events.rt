@@ -3,9 +3,9 @@
 ghost use Rattle.std.specs.Prelude.{IfOk};
 ghost use Rattle.esc_desk.specs.Outcomes.{IsOutcomeOf};
 
-use crate::stop::Stop;
 use esc_bundle::NoMemory;
 use esc_desk::{AmendFault, Arrival, Desk, Event, EventOutcome, Outcome, Reply};
+use esc_usage::Stop;
 use sqlite::Alter;
 use std::alloc::Global;
 

@@ -1,10 +1,7 @@
 //! What the commands do with the database of a file, and with the desk of its store.
 
-use crate::command_line::DeskTask;
 use crate::events;
-use crate::files::is_missing;
 use crate::run::Run;
-use crate::stop::Stop;
 use crate::store_file::{
     Used, connection_of, create_store, migrate_store, open_desk, why_not_opened,
 };
@@ -12,6 +9,7 @@ use esc_console::DONE;
 use esc_desk::{Desk, SFault};
 use esc_http::{Report, end_line, report};
 use esc_manifest::Manifest;
+use esc_usage::{Stop, is_missing};
 use sqlite::{Alter, Connection, Error};
 use std::alloc::Global;
 use std::io::Write;
@@ -57,6 +55,21 @@ impl Closed {
         };
         Closed { outcome, closed }
     }
+}
+
+/// What is done with the desk of a store.
+#[derive(Clone, Copy)]
+pub(crate) enum DeskTask<'a> {
+    /// Take a folder of deposits.
+    Take { folder: &'a str },
+    /// List the rows of a manifest.
+    List { text: &'a [u8] },
+    /// Rebuild the registry as of a moment, or take the moment back.
+    Move { moment: Option<i64> },
+    /// Listen on a port of 127.0.0.1, and serve `count` connections.
+    Serve { port: u16, count: u32 },
+    /// Print a report, or the export of one kind of objects.
+    Tell { report: Report },
 }
 
 /// What is done with the database of a file.

@@ -11,19 +11,16 @@
 //!
 //! | Module | Does |
 //! |---|---|
-//! | `command_line` | the table of the commands and its texts; from the words to what is asked for |
 //! | `commands` | the commands: from what is asked for to the status |
 //! | `jobs` | opens the file of a store and closes it, once for each command; what is done in between |
 //! | `store_file` | makes the store in the database of a file or opens it, and says why that failed |
 //! | `events` | arrivals, amendments and moments, each a run of the desk of its own |
 //! | `take` | takes the plain files of a folder, in byte order of names |
 //! | `serve` | serves connections on a port, one after the other, each within a time |
-//! | `files` | reads manifests and bodies, and says what stops a command at a path |
 //! | `run` | one run of the program: the runtime, the network and its two streams |
-//! | `stop` | what a command stops for, its text and its status |
 //!
-//! What `pack` does alike is in [`esc_console`]: the commands as `clap` is told of them, the reading
-//! of files and folders, and names on one line.
+//! What the words ask for, the reading of manifests and bodies, and what a command stops for are in
+//! [`esc_usage`]. What `pack` does alike is in [`esc_console`].
 //!
 //! # Example
 //!
@@ -54,16 +51,12 @@
 //! refusals are tested on the built program, by the scenes in `scenes/`.
 #![tactic(auto)]
 
-mod command_line;
 mod commands;
 mod events;
-mod files;
 mod jobs;
 mod run;
 mod serve;
-mod stop;
 mod store_file;
 mod take;
 
 pub use commands::run_words;
-pub use stop::{NO_MEMORY, Stop, tell_stop};

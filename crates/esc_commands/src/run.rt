@@ -1,8 +1,7 @@
 //! What every command works with.
 
-use crate::files::or_stop;
-use crate::stop::Stop;
 use esc_console::OneLine;
+use esc_usage::{Stop, or_stop};
 use std::io::Write;
 
 /// One run of the program: the runtime, the network, and the two streams that it writes to. The

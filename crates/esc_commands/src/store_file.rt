@@ -1,10 +1,9 @@
 //! The store in the database of a file: how it is made, opened and left, and why it isn't.
 
-use crate::files::check_access;
-use crate::stop::Stop;
 use esc_desk::{Desk, SFault};
 use esc_manifest::Manifest;
 use esc_store::Store;
+use esc_usage::{Stop, check_access};
 use sqlite::{Alter, Connection, Error, ErrorCode};
 use std::alloc::Global;
 

@@ -1,12 +1,11 @@
 //! Taking a folder of deposits.
 
 use crate::events;
-use crate::files::{or_stop, read_body};
 use crate::run::Run;
-use crate::stop::{REFUSED, Stop};
 use esc_console::{DONE, path_in, plain_files};
 use esc_desk::{Arrival, Desk, Verdict, number};
 use esc_http::{receipt_line, receipts_heading};
+use esc_usage::{REFUSED, Stop, or_stop, read_body};
 use sqlite::Alter;
 use std::io::Write;
 

@@ -32,8 +32,9 @@
 //! where it stops.
 #![tactic(auto)]
 
-use esc_commands::{NO_MEMORY, run_words, tell_stop};
+use esc_commands::run_words;
 use esc_console::{given_words, tell_invalid_utf8};
+use esc_usage::{NO_MEMORY, tell_stop};
 use std::net::{Net, TcpListener, TcpStream};
 use std::process::ExitCode;
 

@@ -1,11 +1,14 @@
 //! The command line: what the words after the program's name ask for.
 
+use crate::files::stop_at;
+use crate::stop::tell_stop;
 use clap::builder::ValueParser;
 use clap::{ArgMatches, Error};
-use esc_console::{Argument, ArgumentForm, Program, Subcommand};
+use esc_console::{Argument, ArgumentForm, Program, Subcommand, tell_answer};
 use esc_envelope::Kind;
-use esc_http::Report;
+use esc_request::Report;
 use std::alloc::Global;
+use std::io::Write;
 
 /// What the program is asked to do, with the store of a file.
 #[derive(Clone, Copy)]
@@ -26,19 +29,8 @@ pub enum Task<'a> {
     Amend { manifest: &'a str },
     /// Rebuild the registry as of a moment.
     AsOf { moment: &'a str },
-    /// Work with its desk.
-    Desk(DeskTask<'a>),
-}
-
-/// What is to be done with the desk of a store.
-#[derive(Clone, Copy)]
-pub enum DeskTask<'a> {
     /// Take a folder of deposits.
     Take { folder: &'a str },
-    /// List the rows of a manifest.
-    List { text: &'a [u8] },
-    /// Rebuild the registry as of a moment, or take the moment back.
-    Move { moment: Option<i64> },
     /// Listen on a port of 127.0.0.1, and serve `count` connections.
     Serve { port: u16, count: u32 },
     /// Print a report, or the export of one kind of objects.
@@ -256,6 +248,20 @@ pub fn parse<'a>(alloc: Global, words: &'a [String]) -> Result<Option<Invocation
     Ok(invocation_of(&matches))
 }
 
+/// Prints the help or the version that was asked for on `out`, or what is wrong with the words on
+/// `err`. Returns the status.
+pub fn tell_error<O: Write, E: Write>(
+    rt: &HostRuntime,
+    error: &Error,
+    out: &mut O,
+    err: &mut E,
+) -> u8 {
+    match tell_answer(rt.alloc(), error, out, err) {
+        Ok(status) => status,
+        Err(error) => tell_stop(rt, err, &stop_at(rt, "-", &error)),
+    }
+}
+
 // What the matched words ask for. `clap` makes sure that there is a command with its arguments.
 fn invocation_of<'a>(matches: &ArgMatches<'a>) -> Option<Invocation<'a>> {
     let (name, given) = matches.subcommand()?;
@@ -281,17 +287,17 @@ fn task_named<'a>(name: &str, given: &ArgMatches<'a>) -> Option<Task<'a>> {
         }
         "take" => {
             let folder = given.get_str("folder")?;
-            Some(Task::Desk(DeskTask::Take { folder }))
+            Some(Task::Take { folder })
         }
         "serve" => serve_task(given),
         "report" => {
             let report = report_named(given.get_str("report")?)?;
-            Some(Task::Desk(DeskTask::Tell { report }))
+            Some(Task::Tell { report })
         }
         "export" => {
             let kind = Kind::from_name(given.get_str("kind")?)?;
             let report = Report::Export(kind);
-            Some(Task::Desk(DeskTask::Tell { report }))
+            Some(Task::Tell { report })
         }
         _ => None,
     }
@@ -300,7 +306,7 @@ fn task_named<'a>(name: &str, given: &ArgMatches<'a>) -> Option<Task<'a>> {
 fn serve_task<'a>(given: &ArgMatches<'_>) -> Option<Task<'a>> {
     let port = given.get_one::<u16>("port")?;
     let count = given.get_one::<u32>("count")?;
-    Some(Task::Desk(DeskTask::Serve { port, count }))
+    Some(Task::Serve { port, count })
 }
 
 fn report_named(name: &str) -> Option<Report> {

@@ -2,8 +2,8 @@
 
 use esc_bundle::NoMemory;
 use esc_console::OneLine;
-use esc_desk::SFault;
 use esc_manifest::MFault;
+use esc_store::SFault;
 use std::alloc::{AllocError, AllocFailed};
 use std::fmt;
 use std::io::Write;

@@ -2,6 +2,8 @@
 
 use crate::stop::{NO_MEMORY, Stop};
 use esc_console::{Links, read_front, read_whole};
+use esc_manifest::{Manifest, read_manifest};
+use std::alloc::Global;
 use std::fs::{self, File};
 use std::io::{Error, ErrorKind};
 
@@ -47,6 +49,20 @@ pub fn check_access(rt: &HostRuntime, path: &str) -> Result<(), Stop> {
 pub fn read_manifest_text(rt: &HostRuntime, path: &str) -> Result<Vec<u8>, Stop> {
     let front = read_front(rt, path, Links::Followed, esc_manifest::MOST_BYTES as u64);
     or_stop(rt, path, front)
+}
+
+/// The manifest in a file.
+pub fn manifest_of(rt: &HostRuntime, path: &str) -> Result<Manifest, Stop> {
+    let text = read_manifest_text(rt, path)?;
+    manifest_in(rt.alloc(), &text)
+}
+
+/// The manifest that a text reads as, or its refusal.
+pub fn manifest_in(alloc: Global, text: &[u8]) -> Result<Manifest, Stop> {
+    match read_manifest(alloc, text) {
+        Ok(manifest) => Ok(manifest),
+        Err(fault) => Err(Stop::Manifest(fault)),
+    }
 }
 
 /// The body in a plain file, which may not be a link. `None` if the file can be read, and is too

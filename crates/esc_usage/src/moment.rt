@@ -1,0 +1,17 @@
+//! The moment that a word names.
+
+use crate::stop::Stop;
+use esc_envelope::watermark;
+use std::alloc::Global;
+
+/// The moment that a word names, in nanoseconds since 1970-01-01T00:00:00Z; `latest` is none. `E3`
+/// for any other word that is no watermark.
+pub fn moment_named(alloc: Global, word: &str) -> Result<Option<i64>, Stop> {
+    if word == "latest" {
+        return Ok(None);
+    }
+    match watermark(word) {
+        Some(moment) => Ok(Some(moment)),
+        None => Err(Stop::Moment(String::from_str(alloc, word)?)),
+    }
+}
