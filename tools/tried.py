@@ -5,7 +5,7 @@
 removes it. So it is given a command that waits, `serve`, is copied while that waits, and is then sent a request, with which it ends. Such a
 program is for looking at what it does: it is slower than a proved one, and nothing is proved of it. A line on standard error says every half
 minute that the build goes on."""
-import os, shutil, socket, subprocess, sys, tempfile, time
+import glob, os, shutil, socket, subprocess, sys, tempfile, time
 
 from crates import TOP, locked
 
@@ -59,23 +59,30 @@ def ended(port):
             time.sleep(PAUSE)
 
 
+def copied(ran, folder, port):
+    """Copies the program that `rt try` builds once that serves, and lets it end; says now and then that it goes on. Whether there is a copy."""
+    begun, told, is_copied = time.monotonic(), 0, False
+    while ran.poll() is None:
+        if not is_copied and (program := serving(folder)):
+            shutil.copyfile(program, f'{folder}/copy')
+            is_copied = True
+            ended(port)
+        if (lines := int(time.monotonic() - begun) // BETWEEN_LINES) > told:
+            told = lines
+            minutes, seconds = divmod(told * BETWEEN_LINES, 60)
+            print(f'{minutes}:{seconds:02d} restore is being built', file=sys.stderr, flush=True)
+        time.sleep(PAUSE)
+    return is_copied
+
+
 def built(folder, file):
-    """Has `rt try` build and run the program, and copies it to a file. What `rt` said, if there is no copy; else None."""
-    port, begun, told, is_copied = free_port(), time.monotonic(), 0, False
+    """Has `rt try` build and run the program, and puts a copy of it at a file. What `rt` said, if there is no copy; else None."""
+    port = free_port()
     made_cases(folder, port)
     with open(f'{folder}/said', 'w+', errors='replace') as said:
         with subprocess.Popen(['rt', 'try', '--cases', f'{folder}/cases'], cwd=f'{TOP}/crates/restore', env={**os.environ, 'TMPDIR': folder},
                               stdin=subprocess.DEVNULL, stdout=said, stderr=said) as ran:
-            while ran.poll() is None:
-                if not is_copied and (program := serving(folder)):
-                    shutil.copyfile(program, f'{folder}/copy')
-                    is_copied = True
-                    ended(port)
-                if (lines := int(time.monotonic() - begun) // BETWEEN_LINES) > told:
-                    told = lines
-                    minutes, seconds = divmod(told * BETWEEN_LINES, 60)
-                    print(f'{minutes}:{seconds:02d} restore is being built', file=sys.stderr, flush=True)
-                time.sleep(PAUSE)
+            is_copied = copied(ran, folder, port)
         if not is_copied:
             said.seek(0)
             return said.read()
@@ -88,9 +95,12 @@ def main():
     if len(sys.argv) != 2:
         sys.exit('tried.py takes a file')
     file = os.path.abspath(sys.argv[1])
-    os.makedirs(os.path.dirname(file), exist_ok=True)
+    beside = os.path.dirname(file)
+    os.makedirs(beside, exist_ok=True)
+    for left in glob.glob(f'{glob.escape(beside)}/build-*'):
+        shutil.rmtree(left, ignore_errors=True)  # of a run that was killed
     # (Beside the file, so that it is moved there whole.)
-    with tempfile.TemporaryDirectory(prefix='build-', dir=os.path.dirname(file)) as folder:
+    with tempfile.TemporaryDirectory(prefix='build-', dir=beside) as folder:
         if (said := built(folder, file)) is not None:
             sys.exit(f'{said}tried.py: restore could not be built')
 
