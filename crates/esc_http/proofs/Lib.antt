@@ -1,4 +1,3 @@
 pub mod AnswerLemmas
 pub mod Listed
-pub mod StatusLemmas
 pub mod StoreFacts

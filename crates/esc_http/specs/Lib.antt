@@ -1,5 +1,4 @@
 pub mod Answering
-pub mod MomentText
 pub mod RequestPlans
 pub mod Reports
 pub mod Response

@@ -37,9 +37,9 @@ use Rattle.esc_request.specs.declared.reports.Report.TheVariants.{
 }
 use Rattle.esc_texts.specs.GapsText.{gaps_text}
 use Rattle.esc_texts.specs.LinksText.{links_text}
+use Rattle.esc_texts.specs.MomentText.{moment_line}
 use Rattle.esc_texts.specs.ParkedText.{parked_text}
 use Rattle.esc_texts.specs.ReceiptsText.{receipts_text}
-use Rattle.esc_http.specs.MomentText.{moment_line}
 use Rattle.esc_http.specs.StatusText.{status_text}
 
 -- the findings in these tables, by what the end of their chain says, each once and in order;

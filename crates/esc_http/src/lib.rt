@@ -66,7 +66,6 @@
 #![tactic(auto)]
 
 mod answer;
-mod moment;
 mod request_plan;
 mod response;
 mod serving;
@@ -74,7 +73,6 @@ mod status;
 mod telling;
 
 pub use esc_request::{ReadFailed, Report, Sink, Source, WriteFailed};
-pub use esc_texts::{receipt_line, receipts_heading};
+pub use esc_texts::{end_line, receipt_line, receipts_heading};
 pub use serving::{ServeFault, serve, serve_one};
-pub use status::end_line;
 pub use telling::report;

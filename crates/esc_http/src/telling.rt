@@ -8,7 +8,6 @@ ghost use Rattle.esc_request.specs.declared.reports.Report.TheVariants as what;
 ghost use Rattle.esc_http.specs.Reports.{IsReport};
 ghost use Rattle.esc_http.specs.Walked.{AreFoundAt, walk_fault};
 
-use crate::moment::moment_line;
 use crate::status::status_text;
 use esc_apply::tables_are_listed;
 use esc_chain::{Held, gaps_at};
@@ -16,7 +15,7 @@ use esc_check::{Finding, StreamFault, export_from, verify_from};
 use esc_desk::{Desk, End, SFault, tables_are_of_events};
 use esc_envelope::Kind;
 use esc_request::Report;
-use esc_texts::{gaps_text, links_text, parked_text, receipts_text};
+use esc_texts::{gaps_text, links_text, moment_line, parked_text, receipts_text};
 use sqlite::Alter;
 use std::alloc::Global;
 

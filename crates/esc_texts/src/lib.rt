@@ -1,4 +1,4 @@
-//! The texts of replies, gaps, findings and parked bodies.
+//! The texts of replies, gaps, findings and parked bodies, of a moment, and of a status line by line.
 //!
 //! | Call | Text |
 //! |---|---|
@@ -8,6 +8,9 @@
 //! | [`gaps_text`] | the report of gaps: a heading, and a line for each listed place |
 //! | [`links_text`] | the report of links: a heading, and a line for each finding |
 //! | [`parked_text`] | the report of parked bodies: a heading, and a line for each |
+//! | [`moment_line`] | the report of the moment: one line |
+//! | [`end_line`], [`push_end`] | the line of the status report that says where a chain ends |
+//! | [`push_number`], [`push_objects`] | its line of a number, and those of the objects of each kind |
 //! | [`printed_watermark`] | a watermark as the reports print it |
 //!
 //! The reports are CSV as `csv` writes it (RFC 4180, except that lines end with a line feed alone);
@@ -24,23 +27,28 @@
 //! # What is promised
 //!
 //! Each text is exactly the one that its definition gives (`specs/ReplyText.antt`,
-//! `ReceiptsText.antt`, `GapsText.antt`, `LinksText.antt`, `ParkedText.antt`, with the words of
-//! `Words.antt`), or memory was refused (`NoMemory`, or `S2` of the two that return `S1`).
-//! [`printed_watermark`] returns `S1` for a watermark without a text, and so does [`gaps_text`] if a
-//! place has such a watermark; no manifest has such a place.
+//! `ReceiptsText.antt`, `GapsText.antt`, `LinksText.antt`, `ParkedText.antt`, `MomentText.antt`,
+//! `StatusLines.antt`, with the words of `Words.antt`), or memory was refused (`NoMemory`, or `S2`
+//! of those that return `S1`). [`printed_watermark`] returns `S1` for a watermark without a text, and
+//! so do [`gaps_text`], [`end_line`], [`push_end`] and [`moment_line`] if a place, an end or a moment
+//! has such a watermark; no manifest has such a place, and no word sets such a moment.
 #![tactic(auto)]
 
 mod gaps;
 mod links;
+mod moment;
 mod parked;
 mod receipts;
 mod reply;
+mod status_lines;
 mod watermark;
 mod words;
 
 pub use gaps::gaps_text;
 pub use links::links_text;
+pub use moment::moment_line;
 pub use parked::parked_text;
 pub use receipts::{receipt_line, receipts_heading, receipts_text};
 pub use reply::reply_text;
+pub use status_lines::{end_line, push_end, push_number, push_objects};
 pub use watermark::printed_watermark;

@@ -1,6 +1,6 @@
 use Rattle.std.proofs.Common.{◌≡◌, ◌++◌, string_bytes}
-use Rattle.esc_http.specs.StatusText.{objects_text}
-use Rattle.esc_http.proofs.status.push_objects.Given as goal
+use Rattle.esc_texts.specs.StatusLines.{objects_text}
+use Rattle.esc_texts.proofs.status_lines.push_objects.Given as goal
 
 -- what was written, and the kinds that are left
 abbrev pub invariant-loop-kind : goal.invariant-loop-kind

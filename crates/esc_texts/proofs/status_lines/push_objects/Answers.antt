@@ -1,5 +1,5 @@
-use Rattle.esc_http.proofs.StatusLemmas.{kind_written}
-use Rattle.esc_http.proofs.status.push_objects.Goals as goal
+use Rattle.esc_texts.proofs.StatusLineLemmas.{kind_written}
+use Rattle.esc_texts.proofs.status_lines.push_objects.Goals as goal
 
 pub loop-kind-preserved : goal.loop-kind-preserved
 loop-kind-preserved c =

@@ -2,7 +2,7 @@
 use Rattle.std.proofs.Common.{◌≡◌, ℕ, List, ◌∷◌, ◌++◌, sym, ap, ◌∙◌, append_assoc}
 use Rattle.esc_envelope.specs.declared.kind.Kind.{Kind}
 use Rattle.esc_envelope.specs.Kinds.{kind_name}
-use Rattle.esc_http.specs.StatusText.{number_line, objects_text}
+use Rattle.esc_texts.specs.StatusLines.{number_line, objects_text}
 
 -- the line of the first kind that is left
 objects_more : (counts left : List (Kind × ℕ)) (kind : Kind) (n : ℕ) (name : List ℕ) → counts ≡ (kind, n) ∷ left → name ≡ kind_name kind
