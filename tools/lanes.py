@@ -1,5 +1,5 @@
 """How many checks run side by side, and the `rt ci` that go ahead of the one over all crates, to the crates that most others wait for."""
-import contextlib, os, re, subprocess, sys, tempfile, threading
+import contextlib, os, re, signal, subprocess, sys, tempfile, threading, time
 
 from crates import copied_tree, libraries
 
@@ -7,6 +7,8 @@ from crates import copied_tree, libraries
 ON_PATH = ('esc_apply', 'esc_store', 'esc_desk')
 # How many checks run side by side of the crates beside that path.
 BESIDE = 2
+# In seconds: an `rt ci` looks once a second whether what it waits for is proved.
+HELD_BACK = 4
 # The program that most crates are for.
 PROGRAM = 'restore'
 
@@ -64,7 +66,14 @@ class Ahead:
                     self.at_last.set()
         self.at_last.set()
 
+    def hold_back(self):
+        """Stops the `rt ci` for some seconds, but not the proofs that it runs, so that another one comes first to what both wait for."""
+        self.ran.send_signal(signal.SIGSTOP)
+        time.sleep(HELD_BACK)
+        self.ran.send_signal(signal.SIGCONT)
+
     def end(self):
+        self.ran.send_signal(signal.SIGCONT)
         self.ran.terminate()
         self.thread.join()
         self.ran.wait()
@@ -98,16 +107,19 @@ def path_ahead(crates, lanes, note, is_anew=False):
     if lanes < 4 or is_anew or not on_path:
         yield os.environ
         return
-    noted = set()
+    noted, trees = set(), {}
 
     def note_once(crate):
         if crate not in noted:
             noted.add(crate)
             note(crate)
+            # Its tree would else come to the next one as soon as the tree of that one, and prove it with one process.
+            if crate in on_path[:-2] and on_path[-1] in trees:
+                trees[on_path[-1]].hold_back()
 
     with contextlib.ExitStack() as ends:
         for name in on_path:
-            ahead = Ahead(with_below([name]), note_once)
+            trees[name] = ahead = Ahead(with_below([name]), note_once)
             ends.callback(ahead.end)
         if beside := beside_path(crates):
             ends.callback(Ahead(with_below(beside), note_once, BESIDE).end)
