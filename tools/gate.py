@@ -12,12 +12,12 @@ most memory that was in use beyond that at its start."""
 import os, re, resource, subprocess, sys, tempfile, threading, time
 
 from crates import TOP, built_moved, copied_tree, libraries, locked
-from lanes import is_for_program, lanes, memory, path_ahead
+from lanes import is_urgent, lanes, memory, path_ahead
 from wrong_bodies import edits_of, tried
 
 TICK = os.sysconf('SC_CLK_TCK')
 PARTS = ('proof', 'tests', 'edits')
-# The lower priority of proofs that the program doesn't wait for. (Wrong bodies have a still lower one from the start.)
+# The lower priority of proofs for which nothing that is proved last waits. (Wrong bodies have a still lower one from the start.)
 LATER = 5
 # The programs on which the scenes are played, as `rt ci` builds them.
 PROGRAMS = tuple(f'crates/{it}/out/{it}' for it in ('restore', 'desk_harness', 'pack'))
@@ -54,13 +54,13 @@ def part_of(pid):
 
 
 def give_way(pid, part):
-    """Lowers the priority of a process that works on a proof for which the program doesn't wait."""
-    if part and part[1] != 'edits' and not is_for_program(part[0]):
+    """Lowers the priority of a process that works on a proof that isn't urgent."""
+    if part and part[1] != 'edits' and not is_urgent(part[0]):
         os.setpriority(os.PRIO_PROCESS, int(pid), LATER)
 
 
 class Watch:
-    """Looks once a second at the processes and the memory until it is stopped. What isn't urgent gives way to the critical path."""
+    """Looks once a second at the processes and the memory until it is stopped. What isn't urgent gives way."""
 
     def __init__(self, lanes):
         self.lanes, self.parts, self.seconds, self.memory = lanes, {}, {}, 0

@@ -9,8 +9,8 @@ ON_PATH = ('esc_apply', 'esc_store', 'esc_desk')
 BESIDE = 2
 # In seconds: an `rt ci` looks once a second whether what it waits for is proved.
 HELD_BACK = 4
-# The program that most crates are for.
-PROGRAM = 'restore'
+# The programs that are proved last.
+LAST = ('restore', 'desk_harness')
 
 # What `rt ci` says of a crate that has ended. Of one whose files an earlier run on this machine proved it says that it is kept.
 ENDED = re.compile(r'rt: (\w+) (proved|is kept|NOT PROVED)\b')
@@ -93,9 +93,9 @@ def beside_path(crates):
     return [it for it in crates if store not in (it, *below[it]) and it not in below[desk]]
 
 
-def is_for_program(crate):
-    """Whether the program waits for a crate: each of those that it stands on waits for those below it."""
-    return crate == PROGRAM or crate in libraries()[PROGRAM]
+def is_urgent(crate):
+    """Whether a program that is proved last waits for a crate: each of those that it stands on waits for those below it."""
+    return any(crate in (last, *libraries()[last]) for last in LAST)
 
 
 @contextlib.contextmanager
