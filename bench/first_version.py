@@ -14,7 +14,8 @@ one with deposits that don't read or differ from their row, and one with N objec
   exports and the rows of all tables are those of the fresh desk.
 
 With --first, a program of version 1, its stores are migrated too, also one that was killed in the middle of a take: each has the same
-rows as the store that is made here. It needs python3 alone, and the program, which `./sample --proved` builds. The last line is 'N passed, M failed'."""
+rows as the store that is made here. It needs python3 alone, and the program, which `./sample --proved` builds. The last line is
+'N passed, M failed'."""
 import argparse, contextlib, hashlib, io, json, os, random, shutil, sqlite3, subprocess, sys, tempfile, time
 import formats
 from first_store import First, write_store

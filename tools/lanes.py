@@ -107,15 +107,16 @@ def path_ahead(crates, lanes, note, is_anew=False):
     if lanes < 4 or is_anew or not on_path:
         yield os.environ
         return
+    lowest, _, desk = ON_PATH
     noted, trees = set(), {}
 
     def note_once(crate):
         if crate not in noted:
             noted.add(crate)
             note(crate)
-            # Its tree would else come to the next one as soon as the tree of that one, and prove it with one process.
-            if crate in on_path[:-2] and on_path[-1] in trees:
-                trees[on_path[-1]].hold_back()
+            # The desk's tree would else come to the store as soon as that of the store, and prove it with one process.
+            if crate == lowest and desk in trees:
+                trees[desk].hold_back()
 
     with contextlib.ExitStack() as ends:
         for name in on_path:
