@@ -1,5 +1,5 @@
 -- The rows of a release: what bundles say of themselves (RFC 8909, section 5.1), in order.
-use Rattle.std.specs.Prelude.{◌≡◌, ℕ, List, map, Bool, Result, Ok}
+use Rattle.std.specs.Prelude.{◌≡◌, ℕ, List, [], ◌∷◌, ◌++◌, Bool, Result, Ok}
 use Rattle.std.specs.List.Sorted.{IsPermutation, IsSortedBy}
 use Rattle.std.specs.Ordering.{nat_cmp, int_cmp, on, then_cmp, is_lt}
 use Rattle.std.specs.declared.cmp.Ordering.{Ordering}
@@ -22,9 +22,12 @@ row_cmp =
 abbrev pub comes_before : MRow → MRow → Bool
 comes_before a b = is_lt (row_cmp a b)
 
--- the rows of these bodies, one for each, in order
-pub record IsRelease (bodies : List (List ℕ)) (m : List MRow) : Type 0 where
-  pub rows : List MRow
-  pub read : map row_of_body bodies ≡ map Ok rows
+-- a body adds its row to these rows
+abbrev pub Adds : List ℕ → List MRow → List MRow → Type 0
+Adds body before after =
+    (row : MRow) × (row_of_body body ≡ Ok row) × (after ≡ before ++ row ∷ [])
+
+-- the same rows, in order
+pub record IsOrdered (rows m : List MRow) : Type 0 where
   pub same : IsPermutation rows m
   pub rising : IsSortedBy comes_before m

@@ -11,9 +11,6 @@ use std::fmt;
 /// Why bundles have no release manifest.
 #[derive(Clone, Copy, Debug, PartialEq, Eq)]
 pub enum ReleaseFault {
-    /// The bundle at this place among those given, from 0, is no deposit: the refusal with this
-    /// number, 1 to 11 for U1 to U11.
-    Unread { bundle: usize, code: u8 },
     /// Their rows, in the order of places, are no manifest: the refusal with this number, 1 to 13
     /// for M1 to M13, at this row. Rows count from 1, and row 0 is the whole.
     Unlisted { code: u8, row: u32 },
@@ -24,7 +21,6 @@ pub enum ReleaseFault {
 impl fmt::Display for ReleaseFault {
     fn fmt<W: fmt::Write>(&self, f: &mut fmt::Formatter<W>) -> fmt::Result {
         match *self {
-            ReleaseFault::Unread { bundle, code } => write!(f, "U{code} bundle {bundle}"),
             ReleaseFault::Unlisted { code, row } => write!(f, "M{code} row {row}"),
             ReleaseFault::NoMemory => f.write_str("out of memory"),
         }

@@ -9,22 +9,24 @@
 //! description that is no envelope, files that aren't as it says, and files whose bundle would be
 //! no bundle or no deposit.
 //!
-//! `manifest_of_bundles` takes the bytes of bundles (`esc_bundle`) and gives the text of their
-//! release manifest (`esc_manifest`): the heading `id,type,watermark,prevId,resend,sha256`, and a
-//! line for each bundle, with what its deposit says of itself and the SHA-256 of its bytes. The
-//! lines are in the order of places, and at one place in that of resends, whatever the order of the
-//! bundles. An empty prevId is none, an empty resend is 0.
+//! A [`Release`] takes the bytes of bundles (`esc_bundle`), one after the other, holds the row of
+//! each, and gives the text of their release manifest (`esc_manifest`): the heading
+//! `id,type,watermark,prevId,resend,sha256`, and a line for each bundle, with what its deposit says
+//! of itself and the SHA-256 of its bytes. The lines are in the order of places, and at one place in
+//! that of resends, whatever the order of the bundles. An empty prevId is none, an empty resend is 0.
 //!
 //! ```text
-//! let text = manifest_of_bundles(alloc, &[first, second])?;
+//! let mut release = Release::new(alloc);
+//! release.read(alloc, first)?;
+//! release.read(alloc, second)?;
+//! let text = release.manifest(alloc)?;
 //! // id,type,watermark,prevId,resend,sha256
 //! // F1,FULL,2024-03-01T00:00:00Z,,,16562601e50f76b8..
 //! // D2,DIFF,2024-03-02T00:00:00Z,F1,,fa22787c03f83624..
 //! ```
 //!
-//! It refuses bundles of which one is no deposit (`Unread`, U1 to U11 at its place among them) and
-//! deposits that no manifest can list (`Unlisted`, M1 to M13 at a row), such as two with one place
-//! and resend, or one id in two places.
+//! It refuses a bundle that is no deposit (U1 to U11), and deposits that no manifest can list
+//! (`Unlisted`, M1 to M13 at a row), such as two with one place and resend, or one id in two places.
 //!
 //! `describe_files` takes the files of a folder, each with its name and its bytes, and proposes a
 //! description for `bundle_of_files` where an agent sent none (`Proposal`): a text with each table
@@ -57,11 +59,11 @@
 //! is (`IsBundleOf`): its sections, and that `read_deposit` reads each table as just these rows,
 //! and the bundle as the deposit that they make.
 //!
-//! `specs/Release.antt` says what the rows of bundles are (`IsRelease`), `specs/Written.antt` what
-//! their text is, and `specs/Listing.antt` puts them together: a text that is given is the text of
-//! those rows, and `read_manifest` reads it as exactly those rows (`IsManifestOf`); a refusal
-//! applies to these bundles (`IsRefused`), or memory was refused, of which the contract says
-//! nothing more.
+//! `specs/Release.antt` says which row a bundle adds (`Adds`) and in which order rows are,
+//! `specs/Written.antt` what their text is, and `specs/Listing.antt` puts them together: a text that
+//! is given is the text of those rows, and `read_manifest` reads it as exactly those rows
+//! (`IsManifestOf`); a refusal applies to them (`IsRefused`), or memory was refused, of which the
+//! contract says nothing more.
 //!
 //! `specs/KnownTables.antt` says which tables are known by names, `specs/TableFiles.antt` which
 //! files a description names (`sources_of`): `read_sources` gives just these.
@@ -79,8 +81,8 @@ mod draft;
 mod fault;
 mod given;
 mod known_table;
-mod manifest;
 mod proposal;
+mod release;
 mod sources;
 mod table_text;
 mod written;
@@ -91,6 +93,6 @@ pub use describe::{describe_files, table_named};
 pub use fault::ReleaseFault;
 pub use given::TableFiles;
 pub use known_table::KnownTable;
-pub use manifest::manifest_of_bundles;
 pub use proposal::{FolderFile, Proposal, Unknown, Why};
+pub use release::Release;
 pub use sources::{Source, Sources, read_sources};

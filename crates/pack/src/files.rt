@@ -6,15 +6,6 @@ use esc_console::{Links, path_in, read_whole};
 use std::fs::{self, File};
 use std::io::{Error, ErrorKind, Write};
 
-/// The bytes of the files at these paths, in their order.
-pub fn read_bundles(rt: &HostRuntime, paths: &[&str]) -> Result<Vec<Vec<u8>>, Stop> {
-    let mut bundles = Vec::new(rt.alloc());
-    for path in paths {
-        bundles.push(read_file(rt, path)?)?;
-    }
-    Ok(bundles)
-}
-
 /// The bytes of the files with these names in a folder, in their order.
 pub fn read_files(rt: &HostRuntime, folder: &str, names: &[String]) -> Result<Vec<Vec<u8>>, Stop> {
     let mut files = Vec::new(rt.alloc());

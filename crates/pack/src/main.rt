@@ -1,7 +1,7 @@
 //! `pack`: makes the files of a release.
 //!
 //! - `pack manifest BUNDLE..` prints the release manifest of these bundle files, in the order of
-//!   places ([`esc_pack::manifest_of_bundles`], whose contract says what it prints).
+//!   places ([`esc_pack::Release`], whose contract says what it prints).
 //! - `pack bundle --envelope FILE DIR OUT` writes the bundle of the files of DIR, whose tables FILE
 //!   declares ([`esc_pack::bundle_of_files`], whose contract says what is read of it).
 //! - `pack describe DIR` proposes the description of a folder's files, by their names and headings

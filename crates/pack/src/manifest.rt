@@ -1,42 +1,44 @@
 //! `manifest BUNDLE..`: the release manifest of bundles.
 
-use crate::files::{read_bundles, slices_of};
+use crate::files::read_file;
 use crate::stop::{Refusal, RowPaths, Stop};
 use esc_bundle::Fault;
 use esc_envelope::Header;
-use esc_pack::{ReleaseFault, manifest_of_bundles};
-use esc_tables::read_bundled_envelope;
+use esc_manifest::MRow;
+use esc_pack::{Release, ReleaseFault};
 
 /// A bundle: its path, and what its deposit says of itself.
 #[derive(Drop)]
 struct Bundle<'a> {
     path: &'a str,
-    header: Header,
+    header: &'a Header,
 }
 
-/// The release manifest of the bundles at these paths.
+/// The release manifest of the bundles at these paths. Holds one of them at a time.
 pub fn manifest_at(rt: &HostRuntime, paths: &[&str]) -> Result<Vec<u8>, Stop> {
-    let files = read_bundles(rt, paths)?;
-    let bodies = slices_of(rt, &files)?;
-    match manifest_of_bundles(rt.alloc(), &bodies) {
+    let release = read_release(rt, paths)?;
+    match release.manifest(rt.alloc()) {
         Ok(text) => Ok(text),
-        Err(fault) => Err(stop_of(rt, paths, &bodies, &fault)),
+        Err(ReleaseFault::Unlisted { code, row }) => Err(Stop::Unlisted {
+            code,
+            row,
+            paths: row_paths(rt, paths, release.rows(), code, row)?,
+        }),
+        Err(ReleaseFault::NoMemory) => Err(Stop::NoMemory),
     }
 }
 
-// A fault, with the paths of the bundles that have it.
-fn stop_of(rt: &HostRuntime, paths: &[&str], bodies: &[&[u8]], fault: &ReleaseFault) -> Stop {
-    match *fault {
-        ReleaseFault::Unread { bundle, code } => {
-            let path = paths.get(bundle).copied().unwrap_or("");
-            Stop::at(rt, Refusal::Unread(code), path)
+fn read_release(rt: &HostRuntime, paths: &[&str]) -> Result<Release, Stop> {
+    let mut release = Release::new(rt.alloc());
+    for path in paths {
+        let body = read_file(rt, path)?;
+        match release.read(rt.alloc(), body.as_slice()) {
+            Ok(()) => {}
+            Err(Fault::Refused(code)) => return Err(Stop::at(rt, Refusal::Unread(code), path)),
+            Err(Fault::NoMemory) => return Err(Stop::NoMemory),
         }
-        ReleaseFault::Unlisted { code, row } => match row_paths(rt, paths, bodies, code, row) {
-            Ok(paths) => Stop::Unlisted { code, row, paths },
-            Err(stop) => stop,
-        },
-        ReleaseFault::NoMemory => Stop::NoMemory,
     }
+    Ok(release)
 }
 
 // The paths of the bundles that a refusal of this number at this row is about: none at row 0, which
@@ -44,14 +46,14 @@ fn stop_of(rt: &HostRuntime, paths: &[&str], bodies: &[&[u8]], fault: &ReleaseFa
 fn row_paths(
     rt: &HostRuntime,
     paths: &[&str],
-    bodies: &[&[u8]],
+    rows: &[MRow],
     code: u8,
     row: u32,
 ) -> Result<Option<RowPaths>, Stop> {
     let Some(place) = row.checked_sub(1) else {
         return Ok(None);
     };
-    let bundles = in_order(rt, paths, bodies)?;
+    let bundles = in_order(rt, paths, rows)?;
     let Some(blamed) = bundles.get(place as usize) else {
         return Ok(None);
     };
@@ -67,32 +69,28 @@ fn row_paths(
 fn in_order<'a>(
     rt: &HostRuntime,
     paths: &[&'a str],
-    bodies: &[&[u8]],
+    rows: &'a [MRow],
 ) -> Result<Vec<Bundle<'a>>, Stop> {
     let mut bundles = Vec::new(rt.alloc());
-    for (path, body) in paths.iter().zip(bodies) {
-        bundles.push(bundle_of(rt, *path, body)?)?;
+    for (path, row) in paths.iter().zip(rows) {
+        let header = &row.header;
+        bundles.push(Bundle {
+            path: *path,
+            header,
+        })?;
     }
-    bundles.sort_by_key(|bundle| (bundle.header.place, bundle.header.resend))?;
+    bundles.sort_by_key(|bundle| {
+        let header = bundle.header;
+        (header.place, header.resend)
+    })?;
     Ok(bundles)
-}
-
-fn bundle_of<'a>(rt: &HostRuntime, path: &'a str, body: &[u8]) -> Result<Bundle<'a>, Stop> {
-    match read_bundled_envelope(rt.alloc(), body) {
-        Ok(envelope) => Ok(Bundle {
-            path,
-            header: envelope.header,
-        }),
-        Err(Fault::Refused(code)) => Err(Stop::at(rt, Refusal::Unread(code), path)),
-        Err(Fault::NoMemory) => Err(Stop::NoMemory),
-    }
 }
 
 // The path of the first other bundle that the row at this place contradicts, if there is one.
 fn other_path<'a>(bundles: &[Bundle<'a>], code: u8, place: usize) -> Option<&'a str> {
     let blamed = bundles.get(place)?;
     for (at, other) in bundles.iter().enumerate() {
-        if at != place && is_against(code, &blamed.header, &other.header) {
+        if at != place && is_against(code, blamed.header, other.header) {
             return Some(other.path);
         }
     }

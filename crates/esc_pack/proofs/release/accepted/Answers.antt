@@ -2,7 +2,7 @@ use Rattle.std.proofs.Common.{◌≡◌, ℕ, List, Option, Some, None, Result, 
 use Rattle.esc_manifest.specs.declared.fault.MFault.{MFault}
 use Rattle.esc_manifest.specs.declared.row.MRow.{MRow}
 use Rattle.esc_manifest.specs.RowFaults.{rows_fault}
-use Rattle.esc_pack.proofs.manifest.accepted.Goals as goal
+use Rattle.esc_pack.proofs.release.accepted.Goals as goal
 
 -- a manifest is answered for rows without a fault alone, and it has them
 answered : (o : Option (ℕ × ℕ)) {r : Result (List MRow) MFault} {rows m : List MRow} → r ≡ Ok m → (o ≡ None → r ≡ Ok rows)

@@ -6,7 +6,7 @@ use Rattle.std.proofs.lemmas.Fn.{always_returns_same}
 use Rattle.std.proofs.lemmas.List.Sorted.{ranks_by}
 use Rattle.esc_envelope.specs.Place.{rank}
 use Rattle.esc_pack.specs.Release.{row_cmp, comes_before}
-use Rattle.esc_pack.proofs.manifest.in_order.Goals as goal
+use Rattle.esc_pack.proofs.release.in_order.Goals as goal
 
 rows_total : IsTotalOrder row_cmp
 rows_total =
