@@ -36,7 +36,8 @@
 //! write moved are counted (`HasMoved`). No contract says that the time of each is counted, nor
 //! that the stream is limited to `next_wait` before it: a clock and a stream have no model that
 //! could say it. Both are tested, and so is that a limited read ends in time, which is up to the
-//! system.
+//! system. `is_of_connection` and `drain` have no clause: what a system reports of a connection, and
+//! what a stream is told, no contract can say. Scenes over sockets test them.
 #![tactic(auto)]
 
 mod client;

@@ -27,8 +27,7 @@
 //! What needs no desk is in crates below: the head, the route, the body and the bytes of a response
 //! in `esc_request`, the texts of replies, gaps and findings in `esc_texts`.
 //!
-//! [`report`] gives the text of a report, which the program prints too; [`receipts_heading`] and
-//! [`receipt_line`] are the pieces of the receipts report, [`end_line`] is one of the status.
+//! [`report`] gives the text of a report, which the program prints too.
 //!
 //! # Example
 //!
@@ -73,6 +72,5 @@ mod status;
 mod telling;
 
 pub use esc_request::{ReadFailed, Report, Sink, Source, WriteFailed};
-pub use esc_texts::{end_line, receipt_line, receipts_heading};
 pub use serving::{ServeFault, serve, serve_one};
 pub use telling::report;

@@ -1,5 +1,9 @@
 //! Reads manifests and bodies, and says what stops a command at a path.
 
+ghost use Rattle.std.specs.Prelude.{◌≡◌, Ok, IfOk, IfErr};
+ghost use Rattle.esc_manifest.specs.Manifest.{manifest_of};
+ghost use Rattle.esc_usage.specs.Refusals.{IsManifestStop};
+
 use crate::stop::{NO_MEMORY, Stop};
 use esc_console::{Links, read_front, read_whole};
 use esc_manifest::{Manifest, read_manifest};
@@ -58,7 +62,10 @@ pub fn manifest_of(rt: &HostRuntime, path: &str) -> Result<Manifest, Stop> {
 }
 
 /// The manifest that a text reads as, or its refusal.
-pub fn manifest_in(alloc: Global, text: &[u8]) -> Result<Manifest, Stop> {
+pub fn manifest_in(alloc: Global, text: &[u8]) -> Result<Manifest, Stop>
+    ensures accepted { IfOk result (λ manifest. manifest_of text.now ≡ Ok manifest) }
+    ensures cause { IfErr result (IsManifestStop text.now) }
+{
     match read_manifest(alloc, text) {
         Ok(manifest) => Ok(manifest),
         Err(fault) => Err(Stop::Manifest(fault)),

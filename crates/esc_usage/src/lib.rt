@@ -30,9 +30,11 @@
 //!
 //! # What the contracts mean
 //!
-//! By proof: that no call is unsafe and that each ends, whatever the words and files are. No contract
-//! can say what a file holds or what is printed, so the texts, the statuses and the order of refusals
-//! are tested on the built program, by the scenes in `scenes/`.
+//! By proof no call is unsafe, and each ends, whatever the words and files are. `specs/Refusals.antt`
+//! says what two of them return: [`moment_named`] the moment that a word names and [`manifest_in`] the
+//! manifest that a text is read as, or the stop with the word or the refusal. No contract can say what
+//! a file holds or what is printed, so the texts, the statuses and the order of refusals are tested on
+//! the built program, by the scenes in `scenes/`.
 #![tactic(auto)]
 
 mod command_line;

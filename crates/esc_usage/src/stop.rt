@@ -1,5 +1,9 @@
 //! What the program stops for, and its statuses.
 
+ghost use Rattle.std.specs.Prelude.{◌≡◌};
+ghost use Rattle.esc_store.specs.declared.fault.SFault.TheVariants.{S2 as out_of_memory};
+ghost use Rattle.esc_usage.specs.declared.stop.Stop.TheVariants.{Store as of_store};
+
 use esc_bundle::NoMemory;
 use esc_console::OneLine;
 use esc_manifest::MFault;
@@ -60,18 +64,24 @@ impl From<SFault> for Stop {
 }
 
 impl From<NoMemory> for Stop {
+    ghost from_gives = { λ _ stop. stop ≡ of_store out_of_memory };
+
     fn from(_refused: NoMemory) -> Stop {
         NO_MEMORY
     }
 }
 
 impl From<AllocError> for Stop {
+    ghost from_gives = { λ _ stop. stop ≡ of_store out_of_memory };
+
     fn from(_refused: AllocError) -> Stop {
         NO_MEMORY
     }
 }
 
 impl<T: Drop> From<AllocFailed<T>> for Stop {
+    ghost from_gives = { λ _ stop. stop ≡ of_store out_of_memory };
+
     fn from(_refused: AllocFailed<T>) -> Stop {
         NO_MEMORY
     }

@@ -1,6 +1,6 @@
 //! Clients that are waited for, by a clock that moves only while one is.
 
-use crate::requests::tell_served;
+use crate::requests::{PLENTY, tell_served};
 use esc_client::{Client, Patience, Timed};
 use esc_desk::Desk;
 use esc_flaky::FailingWriter;
@@ -99,9 +99,6 @@ impl Write for Slow<'_> {
         Ok(())
     }
 }
-
-/// More bytes than a response has.
-const PLENTY: usize = 100_000_000;
 
 // The client of these words, which gives these bytes.
 fn client_of<'a>(hands: &'a Hands, words: &str, rest: &'a [u8]) -> Result<Slow<'a>, Fail> {

@@ -7,8 +7,9 @@ use crate::store_file::{
 };
 use esc_console::DONE;
 use esc_desk::{Desk, SFault};
-use esc_http::{Report, end_line, report};
+use esc_http::{Report, report};
 use esc_manifest::Manifest;
+use esc_texts::end_line;
 use esc_usage::{Stop, is_missing};
 use sqlite::{Alter, Connection, Error};
 use std::alloc::Global;

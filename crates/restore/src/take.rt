@@ -4,7 +4,7 @@ use crate::events;
 use crate::run::Run;
 use esc_console::{DONE, path_in, plain_files};
 use esc_desk::{Arrival, Desk, Verdict, number};
-use esc_http::{receipt_line, receipts_heading};
+use esc_texts::{receipt_line, receipts_heading};
 use esc_usage::{REFUSED, Stop, or_stop, read_body};
 use sqlite::Alter;
 use std::io::Write;
