@@ -3,24 +3,22 @@
 
 `rt ci` proves each crate and its tests and runs the tests and the programs, in a copy of the tree without the wrong bodies. What an
 earlier run on this machine proved it keeps, but with --anew it proves all from nothing. With four lanes or more others prove the critical
-path ahead of it (tools/lanes.py). The wrong bodies are then tried over the libraries that it built, as tools/wrong_bodies.py says: `rt ci`
-would check a crate once more for each of them. What was built is moved to the tree, and the scenes are played on the programs there, as
-tools/scenes.py says. It prints what `rt ci` prints, the verdict on each wrong body and on each scene, a table as in docs/GATE.md, and at
+path ahead of it (tools/lanes.py). The wrong bodies are tried over the libraries that it built, as tools/wrong_bodies.py says: `rt ci`
+would check a crate once more for each of them. The scenes are played on each program as soon as it is proved and built, as tools/scenes.py
+says; and at last what was built is moved to the tree. It prints what `rt ci` prints, the verdict on each wrong body and on each scene, a table as in docs/GATE.md, and at
 last 'N passed, M failed', the sums of all three. The table has processor seconds for each crate's proof, tests and wrong bodies, as /proc
 shows them once a second (what lives shorter is in the sum alone); below it stand the whole gate's time, its processor minutes and the
 most memory that was in use beyond that at its start."""
-import os, re, resource, subprocess, sys, tempfile, threading, time
+import contextlib, os, re, resource, shutil, subprocess, sys, tempfile, threading, time
 
 from crates import TOP, built_moved, copied_tree, libraries, locked
-from lanes import is_urgent, lanes, memory, path_ahead
+from lanes import lanes, lowered, memory, path_ahead
 from wrong_bodies import edits_of, tried
 
 TICK = os.sysconf('SC_CLK_TCK')
 PARTS = ('proof', 'tests', 'edits')
-# The lower priority of proofs for which nothing that is proved last waits. (Wrong bodies have a still lower one from the start.)
-LATER = 5
-# The programs on which the scenes are played, as `rt ci` builds them.
-PROGRAMS = tuple(f'crates/{it}/out/{it}' for it in ('restore', 'desk_harness', 'pack'))
+# The programs on which the scenes are played.
+PROGRAMS = ('restore', 'desk_harness', 'pack')
 
 
 def memory_in_use():
@@ -43,27 +41,25 @@ def is_own(pid):
     return at == own
 
 
-def part_of(pid):
-    """The crate that a process of the gate works on, and at which part of it; None of another process."""
+def words_of(pid):
+    """The words with which a process of the gate works on a crate; none of another process."""
     with open(f'/proc/{pid}/cmdline') as file:
         words = file.read().split('\0')
-    if '--crate-name' not in words or not is_own(pid):
-        return None
-    crate, folder = words[words.index('--crate-name') + 1], os.readlink(f'/proc/{pid}/cwd')
-    return crate, 'edits' if '/wrong-bodies-' in folder else 'tests' if '--test' in words else 'proof'
+    return words if '--crate-name' in words and is_own(pid) else []
 
 
-def give_way(pid, part):
-    """Lowers the priority of a process that works on a proof that isn't urgent."""
-    if part and part[1] != 'edits' and not is_urgent(part[0]):
-        os.setpriority(os.PRIO_PROCESS, int(pid), LATER)
+def part_of(words, folder):
+    """The crate that a process works on, and at which part of it."""
+    part = 'edits' if '/wrong-bodies-' in folder else 'tests' if '--test' in words else 'proof'
+    return words[words.index('--crate-name') + 1], part
 
 
 class Watch:
-    """Looks once a second at the processes and the memory until it is stopped. What isn't urgent gives way."""
+    """Looks once a second at the processes and the memory until it is stopped. What isn't urgent gives way. `built` is called with a program
+    that the first compiler has built, and its file: the second one works then."""
 
-    def __init__(self, lanes):
-        self.lanes, self.parts, self.seconds, self.memory = lanes, {}, {}, 0
+    def __init__(self, lanes, built):
+        self.lanes, self.built, self.parts, self.seconds, self.memory = lanes, built, {}, {}, 0
         self.before, self.begun, self.ended = memory_in_use(), time.monotonic(), threading.Event()
         self.thread = threading.Thread(target=self.run, daemon=True)
         self.thread.start()
@@ -80,11 +76,23 @@ class Watch:
     def look(self, pid):
         stat = stat_of(pid)
         key = pid, stat[19]
-        if key not in self.parts:
-            self.parts[key] = part_of(pid)
-            give_way(pid, self.parts[key])
-        if self.parts[key]:
+        # (One that is seen as it begins may not have its words yet.)
+        if key not in self.parts and (part := self.met(pid)):
+            self.parts[key] = part
+        if key in self.parts:
             self.seconds[key] = (int(stat[11]) + int(stat[12])) / TICK
+
+    def met(self, pid):
+        """The crate that a process works on, and at which part of it, if it does. It is met once."""
+        if not (words := words_of(pid)):
+            return None
+        folder = os.readlink(f'/proc/{pid}/cwd')
+        crate, part = part_of(words, folder)
+        if part != 'edits' and lowered(crate):
+            os.setpriority(os.PRIO_PROCESS, int(pid), lowered(crate))
+        if ('--backend', 'rattle') in zip(words, words[1:]):
+            self.built(crate, f'{folder}/out/{crate}')
+        return crate, part
 
     def table(self):
         self.ended.set()
@@ -167,56 +175,84 @@ class WrongBodies:
         return refused, sum(map(len, self.edits.values())) - refused
 
 
+class Scenes:
+    """Plays the scenes on the programs, each as soon as it is built, at a lower priority than the proofs."""
+
+    def __init__(self):
+        self.room, self.told, self.counts, self.lock = tempfile.TemporaryDirectory(prefix='scenes-'), set(), (0, 1), threading.Lock()
+        words = ['nice', '-n', '5', sys.executable, 'tools/scenes.py', '--as-built', self.room.name]
+        self.ran = subprocess.Popen(words, cwd=TOP, stdin=subprocess.PIPE, stdout=subprocess.PIPE, stderr=subprocess.STDOUT)
+        self.thread = threading.Thread(target=self.run, daemon=True)
+        self.thread.start()
+
+    def run(self):
+        self.counts = counts_of(self.ran.stdout)
+
+    def built(self, program, file):
+        """Takes note of a program that is proved and built."""
+        with self.lock:
+            if program not in PROGRAMS or program in self.told or not os.path.isfile(file):
+                return
+            self.told.add(program)
+            shutil.copy(file, f'{self.room.name}/{program}')
+            with contextlib.suppress(BrokenPipeError):
+                self.ran.stdin.write(f'{program}\n'.encode())
+                self.ran.stdin.flush()
+
+    def ended(self):
+        """Waits until all are played; how many passed, and how many did not or could not be played."""
+        self.ran.stdin.close()
+        self.thread.join()
+        self.ran.wait()
+        self.room.cleanup()
+        return self.counts
+
+
 # What `rt ci` says of a crate, or of its tests, that has ended. Of a crate whose files an earlier run proved it says that it is kept.
 ENDED = re.compile(r'rt: (\w+)(: its tests are)? (NOT PROVED|proved|is kept)\b')
 
 
-def counted(words, folder, take_note=lambda line: None, environment=None):
-    """Runs a command in a folder, prints what it prints but its last line, and gives the numbers of that line. Each line is noted."""
+def counts_of(lines, take_note=lambda line: None):
+    """Prints lines but the last, and gives its numbers. Each line is noted."""
     last = ''
-    with subprocess.Popen(words, cwd=folder, env=environment, stdin=subprocess.DEVNULL, stdout=subprocess.PIPE,
-                          stderr=subprocess.STDOUT) as ran:
-        try:
-            for line in ran.stdout:
-                print(last, end='', flush=True)
-                last = line.decode(errors='replace')
-                take_note(last)
-        except BaseException:
-            # (It would be waited for, however long it runs.)
-            ran.terminate()
-            raise
+    for line in lines:
+        print(last, end='', flush=True)
+        last = line.decode(errors='replace')
+        take_note(last)
     found = re.fullmatch(r'(\d+) passed, (\d+) failed\s*', last)
     if not found:
         print(last, end='', flush=True)
     return (int(found[1]), int(found[2])) if found else (0, 1)
 
 
-def proved(tree, bodies, environment):
-    """Runs `rt ci` in a tree, and gives its numbers. It tells the wrong bodies what has ended."""
+def proved(tree, bodies, scenes, path):
+    """Runs `rt ci` in a tree, and gives its numbers. It tells the others what has ended."""
     def take_note(line):
-        if done := ENDED.match(line):
-            bodies.note(done[1], 'tests' if done[2] else 'proof', done[3] != 'NOT PROVED')
-            if done[3] == 'is kept':
-                # Of tests that are kept nothing is said. Where they are not, one task more runs than is counted.
-                bodies.note(done[1], 'tests', True)
-    return counted(['rt', 'ci', *sys.argv[1:]], tree, take_note, environment)
+        if not (done := ENDED.match(line)):
+            return
+        crate, of_tests, verdict = done.groups()
+        bodies.note(crate, 'tests' if of_tests else 'proof', verdict != 'NOT PROVED')
+        if verdict == 'is kept':
+            # Of tests that are kept nothing is said. Where they are not, one task more runs than is counted.
+            bodies.note(crate, 'tests', True)
+        if not of_tests:
+            path.note(crate, verdict)
+            if verdict != 'NOT PROVED':
+                scenes.built(crate, f'{tree}/crates/{crate}/out/{crate}')
+
+    with subprocess.Popen(['rt', 'ci', *sys.argv[1:]], cwd=tree, env=path.environment, stdin=subprocess.DEVNULL, stdout=subprocess.PIPE,
+                          stderr=subprocess.STDOUT) as ran:
+        path.others.append(ran)
+        try:
+            return counts_of(ran.stdout, take_note)
+        except BaseException:
+            # (It would be waited for, however long it runs.)
+            ran.terminate()
+            raise
 
 
 def told_ahead(crate):
     print(f'check: proved ahead: {crate}', flush=True)
-
-
-def missing_in(tree):
-    """The programs of the scenes that weren't built in a tree."""
-    return [it for it in PROGRAMS if not os.path.isfile(f'{tree}/{it}')]
-
-
-def played(missing):
-    """Plays the scenes on the programs that were built. Where one is missing, that is one failure."""
-    if missing:
-        print(f'scenes: not built: {", ".join(missing)}', flush=True)
-        return 0, 1
-    return counted([sys.executable, 'tools/scenes.py', *PROGRAMS], TOP)
 
 
 def main():
@@ -224,17 +260,16 @@ def main():
         sys.exit(f'gate.py takes --anew alone: {" ".join(sys.argv[1:])}')
     count = lanes()
     print(f'check: lanes: {count}', flush=True)
-    watch = Watch(count)
+    scenes = Scenes()
+    watch = Watch(count, scenes.built)
     with tempfile.TemporaryDirectory(prefix='gate-') as tree:
         copied_tree(tree, libraries())
         bodies = WrongBodies(tree, count)
-        with path_ahead(libraries(), count, told_ahead, is_anew=bool(sys.argv[1:])) as environment:
-            passed, failed = proved(tree, bodies, environment)
-        refused, through = bodies.ended()
-        missing = missing_in(tree)
+        with path_ahead(libraries(), count, told_ahead, is_anew=bool(sys.argv[1:])) as path:
+            passed, failed = proved(tree, bodies, scenes, path)
+        ends = bodies.ended(), scenes.ended()
         built_moved(tree, libraries())
-    right, wrong = played(missing)
-    passed, failed = passed + refused + right, failed + through + wrong
+    passed, failed = (sum(each) for each in zip((passed, failed), *ends))
     print(f'{watch.table()}\n{passed} passed, {failed} failed', flush=True)
     return 1 if failed else 0
 

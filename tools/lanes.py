@@ -3,17 +3,24 @@ import contextlib, os, re, signal, subprocess, sys, tempfile, threading, time
 
 from crates import copied_tree, libraries
 
-# Crates of the critical path, lowest first: each is proved in a tree of its own.
-ON_PATH = ('esc_apply', 'esc_store', 'esc_desk')
-# How many checks run side by side of the crates beside that path.
+# The critical path: crates that are each proved in a tree of its own, in this order, and the crate that is proved before the tree is begun:
+# as few others as can be look for the same, and memory is free.
+ON_PATH = {'esc_envelope': None, 'esc_apply': None, 'esc_store': None, 'esc_desk': 'esc_envelope', 'esc_http': 'esc_store',
+           'restore': 'esc_store', 'desk_harness': 'esc_store'}
+# What is proved before the `rt ci` over all crates begins, and before the trees beside the path do.
+ALL_AFTER, BESIDE_AFTER = 'esc_events', 'esc_envelope'
+# A crate that the store waits for: no other tree has room for it as soon as it can be proved.
+ALONE = 'esc_record'
+# How many checks run side by side of the crates beside the path that its end waits for; of those that nothing waits for one runs.
 BESIDE = 2
 # In seconds: an `rt ci` looks once a second whether what it waits for is proved.
-HELD_BACK = 4
-# The programs that are proved last.
-LAST = ('restore', 'desk_harness')
+HELD_BACK = 3
+# By how much the priority of proofs is lowered: of what the end of the path waits for beside the desk, and of what nothing waits for.
+LATER, LATEST = 5, 8
 
 # What `rt ci` says of a crate that has ended. Of one whose files an earlier run on this machine proved it says that it is kept.
 ENDED = re.compile(r'rt: (\w+) (proved|is kept|NOT PROVED)\b')
+PROVED = ('proved', 'is kept')
 
 
 def memory():
@@ -40,12 +47,12 @@ class Ahead:
     finds itself.
 
     `rt ci` gives a proof more than one process only where its lanes aren't given, where few others could begin, and where memory allows by
-    its own estimate, which it makes as it starts. So a large crate is proved in a tree that has what is below it alone, and that run starts
-    on an idle machine. What was proved here the others take as kept; where two come to a crate at once one of them waits. What couldn't be
-    proved here the one over all crates tries again, and reports. `note` is called with each crate that was proved here."""
+    its own estimate, which it makes as it starts. So a large crate is proved in a tree that has what is below it alone. What was proved here
+    the others take as kept; where two come to a crate at once one of them waits. What couldn't be proved here the one over all crates tries
+    again, and reports. `note` is called with each crate that has ended, and with the verdict, or none where there is none."""
 
     def __init__(self, crates, note, lanes=None):
-        self.crates, self.note, self.ended, self.at_last = crates, note, set(), threading.Event()
+        self.crates, self.note = crates, note
         self.tree = tempfile.TemporaryDirectory(prefix='ahead-')
         copied_tree(self.tree.name, self.crates)
         own = {name: value for name, value in os.environ.items() if name != 'RT_JOBS'}
@@ -59,18 +66,9 @@ class Ahead:
     def run(self):
         for line in self.ran.stdout:
             if found := ENDED.match(line):
-                self.ended.add(found[1])
-                if found[2] != 'NOT PROVED':
-                    self.note(found[1])
-                if self.ended.issuperset(self.crates[:-1]):
-                    self.at_last.set()
-        self.at_last.set()
-
-    def hold_back(self):
-        """Stops the `rt ci` for some seconds, but not the proofs that it runs, so that another one comes first to what both wait for."""
-        self.ran.send_signal(signal.SIGSTOP)
-        time.sleep(HELD_BACK)
-        self.ran.send_signal(signal.SIGCONT)
+                self.note(found[1], found[2])
+        for crate in self.crates:
+            self.note(crate, None)
 
     def end(self):
         self.ran.send_signal(signal.SIGCONT)
@@ -80,6 +78,92 @@ class Ahead:
         self.tree.cleanup()
 
 
+class Path:
+    """The `rt ci` of the critical path, each by the crate that its tree is for, and the others that come to the same crates.
+
+    Whoever has proved a crate is the first to see it; the others look once a second. So another one could come to the next crate of the path
+    before its own tree does, and prove it with one process. Where such a crate can begin, all but its tree are held back."""
+
+    def __init__(self, told):
+        self.told, self.trees, self.others, self.environment = told, {}, [], os.environ
+        self.proved, self.ended, self.is_over, self.changed = set(), set(), False, threading.Condition()
+        self.ends = contextlib.ExitStack()
+
+    def begin(self, crates, on_path=None, lanes=None):
+        """Begins a tree of some crates, if there are any, and of all that are below them, unless all is over."""
+        with self.changed:
+            if self.is_over or not crates:
+                return
+            ahead = Ahead(with_below(crates), self.note_ahead, lanes)
+            self.ends.callback(ahead.end)
+            if on_path:
+                self.trees[on_path] = ahead.ran
+            else:
+                self.others.append(ahead.ran)
+
+    def begin_all(self, crates):
+        """Begins the trees of the path, and those of the crates beside it, each once the crate is proved that is to be proved before."""
+        try:
+            for name in filter(crates.__contains__, ON_PATH):
+                self.wait_for(ON_PATH[name])
+                self.begin([name], on_path=name)
+                if ON_PATH[name] == BESIDE_AFTER:
+                    self.begin([ALONE])
+                    self.begin(beside_path(crates), lanes=BESIDE)
+                    self.begin([it for it in crates if it not in with_below(ON_PATH)], lanes=1)
+        except BaseException:
+            self.stop()
+            raise
+
+    def wait_for(self, crate):
+        """Waits until a crate has ended, or all is over."""
+        with self.changed:
+            self.changed.wait_for(lambda: self.is_over or crate is None or crate in self.ended)
+
+    def stop(self):
+        """Begins no more trees, and has nobody wait any more."""
+        with self.changed:
+            self.is_over = True
+            self.changed.notify_all()
+
+    def end(self):
+        self.stop()
+        self.ends.close()
+
+    def note_ahead(self, crate, verdict):
+        """Takes note of a crate that has ended ahead, and tells of it once."""
+        with self.changed:
+            is_new = verdict in PROVED and crate not in self.proved
+        if is_new:
+            self.told(crate)
+        self.note(crate, verdict)
+
+    def note(self, crate, verdict):
+        """Takes note of a crate that has ended. (One that is kept was proved a moment ago by another, which tells of it too, or long ago.)"""
+        with self.changed:
+            self.ended.add(crate)
+            if verdict in PROVED:
+                self.proved.add(crate)
+            if verdict == 'proved' and (first := self.first_after(crate)):
+                self.hold_back([it for it in (*self.others, *self.trees.values()) if it is not first])
+            self.changed.notify_all()
+
+    def first_after(self, crate):
+        """Who is to come first to what can be proved now that a crate is: the tree of the next crate of the path, or that of a crate which
+        waited for this one alone."""
+        left, below = [it for it in self.trees if it not in self.proved], libraries()
+        ready = left if crate in self.trees else [it for it in left if crate in below[it] and self.proved.issuperset(below[it])]
+        return self.trees[ready[0]] if ready else None
+
+    def hold_back(self, runs):
+        """Stops some `rt ci` for some seconds, but not the proofs that they run."""
+        for ran in runs:
+            ran.send_signal(signal.SIGSTOP)
+        time.sleep(HELD_BACK)
+        for ran in runs:
+            ran.send_signal(signal.SIGCONT)
+
+
 def with_below(crates):
     """Some crates and all that are below them, lowest first."""
     below = libraries()
@@ -87,42 +171,30 @@ def with_below(crates):
 
 
 def beside_path(crates):
-    """Those of some crates that don't stand on the store, and that the desk doesn't stand on: they can be proved while the store is."""
+    """Those of some crates that the end of the path waits for, that don't stand on the store, and that the desk doesn't stand on: they can be
+    proved while the store is."""
     below = libraries()
-    _, store, desk = ON_PATH
-    return [it for it in crates if store not in (it, *below[it]) and it not in below[desk]]
+    return [it for it in with_below(ON_PATH) if it in crates and 'esc_store' not in (it, *below[it]) and it not in below['esc_desk']]
 
 
-def is_urgent(crate):
-    """Whether a program that is proved last waits for a crate: each of those that it stands on waits for those below it."""
-    return any(crate in (last, *libraries()[last]) for last in LAST)
+def lowered(crate):
+    """By how much the priority of a crate's proof is lowered: not, if it is of the path, or the desk waits for it."""
+    if crate in (*ON_PATH, *with_below(['esc_desk'])):
+        return 0
+    return LATER if crate in with_below(ON_PATH) else LATEST
 
 
 @contextlib.contextmanager
-def path_ahead(crates, lanes, note, is_anew=False):
-    """Has the crates of the critical path proved ahead of an `rt ci` over these crates, and gives the environment of that one once nothing
-    but the last of them is left to prove there: it would come to that one sooner, and prove it with one process. With fewer than four lanes
-    it is alone; and where all is proved anew nothing is kept."""
-    on_path = [it for it in ON_PATH if it in crates]
-    if lanes < 4 or is_anew or not on_path:
-        yield os.environ
-        return
-    lowest, _, desk = ON_PATH
-    noted, trees = set(), {}
-
-    def note_once(crate):
-        if crate not in noted:
-            noted.add(crate)
-            note(crate)
-            # The desk's tree would else come to the store as soon as that of the store, and prove it with one process.
-            if crate == lowest and desk in trees:
-                trees[desk].hold_back()
-
-    with contextlib.ExitStack() as ends:
-        for name in on_path:
-            trees[name] = ahead = Ahead(with_below([name]), note_once)
-            ends.callback(ahead.end)
-        if beside := beside_path(crates):
-            ends.callback(Ahead(with_below(beside), note_once, BESIDE).end)
-        ahead.at_last.wait()
-        yield {**os.environ, 'RT_JOBS': str(lanes)}
+def path_ahead(crates, lanes, told, is_anew=False):
+    """Has the crates of the critical path proved ahead of an `rt ci` over these crates, and gives that path once this one may begin: earlier
+    it would prove them with one process each. `told` is called with each crate that was proved ahead. With fewer than four lanes nothing
+    goes ahead; nor where all is proved anew, since nothing is kept then."""
+    path = Path(told)
+    try:
+        if lanes >= 4 and not is_anew and ALL_AFTER in crates:
+            path.environment = {**os.environ, 'RT_JOBS': str(lanes + 1 + BESIDE)}
+            threading.Thread(target=path.begin_all, args=[crates], daemon=True).start()
+            path.wait_for(ALL_AFTER)
+        yield path
+    finally:
+        path.end()

@@ -26,15 +26,17 @@ class Told:
         print(f'{minutes}:{seconds:02d} {said}: {crate} ({len(self.ended)} of {self.count})', file=sys.stderr, flush=True)
 
 
-def proved(tree, told, environment):
+def proved(tree, told, path):
     """Runs `rt ci` in a tree, and says whether all of its crates passed."""
     said = []
-    with subprocess.Popen(['rt', 'ci'], cwd=tree, env=environment, stdin=subprocess.DEVNULL, stdout=subprocess.PIPE,
+    with subprocess.Popen(['rt', 'ci'], cwd=tree, env=path.environment, stdin=subprocess.DEVNULL, stdout=subprocess.PIPE,
                           stderr=subprocess.STDOUT, text=True, errors='replace') as ran:
+        path.others.append(ran)
         for line in ran.stdout:
             said.append(line)
             if found := ENDED.match(line):
                 told(found[1], found[2])
+                path.note(found[1], found[2])
     if ran.returncode:
         sys.stderr.writelines(said)
     return ran.returncode == 0
@@ -48,8 +50,8 @@ def main():
     with tempfile.TemporaryDirectory(prefix='prove-') as tree:
         copied_tree(tree, crates)
         told = Told(len(crates))
-        with path_ahead(crates, lanes(), told) as environment:
-            passed = proved(tree, told, environment)
+        with path_ahead(crates, lanes(), told) as path:
+            passed = proved(tree, told, path)
         built_moved(tree, crates)
     return 0 if passed and os.path.exists(f'{TOP}/crates/{program}/out/{program}') else 1
 

@@ -8,7 +8,7 @@ class Harness:
     """The program in the folder of a stage. It is there in a `with` statement, and has to end with status 0."""
 
     def __init__(self, stage):
-        self.child = subprocess.Popen([stage.programs.harness], cwd=stage.room.name, stdin=subprocess.PIPE, stdout=subprocess.PIPE,
+        self.child = subprocess.Popen([stage.program('desk_harness')], cwd=stage.room.name, stdin=subprocess.PIPE, stdout=subprocess.PIPE,
                                       stderr=subprocess.PIPE, bufsize=0)
         self.pieces, self.rest, self.told = pieces_of(self.child.stdout), b'', ''
 

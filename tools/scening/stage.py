@@ -70,16 +70,12 @@ def pieces_of(pipe):
     raise Failed(f'nothing has come for {SECONDS} seconds')
 
 
-@dataclass(frozen=True)
-class Programs:
-    """Where the programs are that were built."""
-    restore: str
-    harness: str
-    pack: str
+class NotBuilt(Exception):
+    """A scene runs a program that isn't built yet."""
 
 
 class Stage:
-    """An empty folder, which is there in a `with` statement, and the programs."""
+    """An empty folder, which is there in a `with` statement, and where the programs are that were built, by their names."""
 
     def __init__(self, programs):
         self.programs, self.room, self.children = programs, tempfile.TemporaryDirectory(prefix='scene-'), []
@@ -101,9 +97,14 @@ class Stage:
         with open(self.at(path), 'wb') as file:
             file.write(content)
 
+    def program(self, name):
+        if name not in self.programs:
+            raise NotBuilt(name)
+        return self.programs[name]
+
     def begin(self, words, program='restore', out=subprocess.PIPE, err=subprocess.PIPE, prepare=None):
         """Starts `restore`, or another program. The child becomes the program after it has prepared itself."""
-        self.children.append(subprocess.Popen([getattr(self.programs, program), *words], cwd=self.room.name, stdin=subprocess.DEVNULL,
+        self.children.append(subprocess.Popen([self.program(program), *words], cwd=self.room.name, stdin=subprocess.DEVNULL,
                                               stdout=out, stderr=err, bufsize=0, preexec_fn=prepare))
         return self.children[-1]
 
