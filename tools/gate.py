@@ -5,10 +5,10 @@
 earlier run on this machine proved it keeps, but with --anew it proves all from nothing. With four lanes or more others prove the critical
 path ahead of it (tools/lanes.py). The wrong bodies are tried over the libraries that it built, as tools/wrong_bodies.py says: `rt ci`
 would check a crate once more for each of them. The scenes are played on each program as soon as it is proved and built, as tools/scenes.py
-says; and at last what was built is moved to the tree. It prints what `rt ci` prints, the verdict on each wrong body and on each scene, a table as in docs/GATE.md, and at
-last 'N passed, M failed', the sums of all three. The table has processor seconds for each crate's proof, tests and wrong bodies, as /proc
-shows them once a second (what lives shorter is in the sum alone); below it stand the whole gate's time, its processor minutes and the
-most memory that was in use beyond that at its start."""
+says; and at last what was built is moved to the tree. It prints what `rt ci` prints, the verdict on each wrong body and on each scene, a
+table as in docs/GATE.md, and at last 'N passed, M failed', the sums of all three. The table has processor seconds for each crate's proof,
+tests and wrong bodies, as /proc shows them once a second (what lives shorter is in the sum alone); below it stand the whole gate's time, its
+processor minutes and the most memory that was in use beyond that at its start."""
 import contextlib, os, re, resource, shutil, subprocess, sys, tempfile, threading, time
 
 from crates import TOP, built_moved, copied_tree, libraries, locked
@@ -17,8 +17,6 @@ from wrong_bodies import edits_of, tried
 
 TICK = os.sysconf('SC_CLK_TCK')
 PARTS = ('proof', 'tests', 'edits')
-# The programs on which the scenes are played.
-PROGRAMS = ('restore', 'desk_harness', 'pack')
 
 
 def memory_in_use():
@@ -188,15 +186,16 @@ class Scenes:
     def run(self):
         self.counts = counts_of(self.ran.stdout)
 
-    def built(self, program, file):
-        """Takes note of a program that is proved and built."""
+    def built(self, crate, file):
+        """Takes note of a crate that is proved, and of its program, if it is one that was built."""
         with self.lock:
-            if program not in PROGRAMS or program in self.told or not os.path.isfile(file):
+            if crate in self.told or not os.path.isfile(file):
                 return
-            self.told.add(program)
-            shutil.copy(file, f'{self.room.name}/{program}')
+            shutil.copy(file, f'{self.room.name}/{crate}')
+            # (Where the copy fails, it is made once `rt ci` says that the program is proved.)
+            self.told.add(crate)
             with contextlib.suppress(BrokenPipeError):
-                self.ran.stdin.write(f'{program}\n'.encode())
+                self.ran.stdin.write(f'{crate}\n'.encode())
                 self.ran.stdin.flush()
 
     def ended(self):
