@@ -3,10 +3,11 @@ import contextlib, os, re, signal, subprocess, sys, tempfile, threading, time
 
 from crates import copied_tree, libraries
 
-# The critical path: crates that are each proved in a tree of its own, in this order, and the crate that is proved before the tree is begun:
-# as few others as can be look for the same, and memory is free.
-ON_PATH = {'esc_envelope': None, 'esc_apply': None, 'esc_store': None, 'esc_desk': 'esc_envelope', 'esc_http': 'esc_store',
-           'restore': 'esc_store', 'desk_harness': 'esc_store'}
+# The critical path: crates that are each proved in a tree of its own, by the crate that is proved before these trees are begun (none: they are
+# at once). Till then as few others as can be look for the same, and memory is free.
+TREES = {None: ('esc_envelope', 'esc_apply', 'esc_store'), 'esc_envelope': ('esc_desk',), 'esc_apply': ('store_lines',),
+         'esc_store': ('esc_http', 'desk_lines', 'restore', 'desk_harness')}
+ON_PATH = [name for names in TREES.values() for name in names]
 # What is proved before the `rt ci` over all crates begins, and before the trees beside the path do.
 ALL_AFTER, BESIDE_AFTER = 'esc_events', 'esc_envelope'
 # A crate that the store waits for: no other tree has room for it as soon as it can be proved.
@@ -104,10 +105,13 @@ class Path:
     def begin_all(self, crates):
         """Begins the trees of the path, and those of the crates beside it, each once the crate is proved that is to be proved before."""
         try:
-            for name in filter(crates.__contains__, ON_PATH):
-                self.wait_for(ON_PATH[name])
-                self.begin([name], on_path=name)
-                if ON_PATH[name] == BESIDE_AFTER:
+            for after, names in TREES.items():
+                self.wait_for(after)
+                for name in filter(crates.__contains__, names):
+                    self.begin([name], on_path=name)
+                if after is None:
+                    self.begin(lowest_beside(crates), lanes=1)
+                if after == BESIDE_AFTER:
                     self.begin([ALONE])
                     self.begin(beside_path(crates), lanes=BESIDE)
                     self.begin([it for it in crates if it not in with_below(ON_PATH)], lanes=1)
@@ -145,15 +149,16 @@ class Path:
             if verdict in PROVED:
                 self.proved.add(crate)
             if verdict == 'proved' and (first := self.first_after(crate)):
-                self.hold_back([it for it in (*self.others, *self.trees.values()) if it is not first])
+                self.hold_back([it for it in (*self.others, *self.trees.values()) if it not in first])
             self.changed.notify_all()
 
     def first_after(self, crate):
-        """Who is to come first to what can be proved now that a crate is: the tree of the next crate of the path, or that of a crate which
-        waited for this one alone."""
+        """Who is to come first to what can be proved now that a crate is: the trees of the crates which waited for this one alone, and where it
+        is of the path, that of the next one which has to wait for more, but for none of these."""
         left, below = [it for it in self.trees if it not in self.proved], libraries()
-        ready = left if crate in self.trees else [it for it in left if crate in below[it] and self.proved.issuperset(below[it])]
-        return self.trees[ready[0]] if ready else None
+        ready = [it for it in left if crate in below[it] and self.proved.issuperset(below[it])]
+        later = [it for it in left if crate in self.trees and not {it, *below[it]}.intersection(ready)]
+        return [self.trees[it] for it in (*ready, *later[:1])]
 
     def hold_back(self, runs):
         """Stops some `rt ci` for some seconds, but not the proofs that they run."""
@@ -177,11 +182,19 @@ def beside_path(crates):
     return [it for it in with_below(ON_PATH) if it in crates and 'esc_store' not in (it, *below[it]) and it not in below['esc_desk']]
 
 
+def lowest_beside(crates):
+    """Those of them that stand on no other crate: they can be proved while the path has little that can."""
+    below = libraries()
+    return [it for it in beside_path(crates) if not below[it]]
+
+
 def lowered(crate):
-    """By how much the priority of a crate's proof is lowered: not, if it is of the path, or the desk waits for it."""
-    if crate in (*ON_PATH, *with_below(['esc_desk'])):
-        return 0
-    return LATER if crate in with_below(ON_PATH) else LATEST
+    """By how much the priority of a crate's proof is lowered: not, if it is of the path, if the desk waits for it, or if it stands on the desk and
+    the end of the path waits for it."""
+    if crate not in with_below(ON_PATH):
+        return LATEST
+    below = libraries()
+    return 0 if crate in (*ON_PATH, *below['esc_desk']) or 'esc_desk' in below[crate] else LATER
 
 
 @contextlib.contextmanager
