@@ -6,7 +6,7 @@ from crates import copied_tree, libraries
 # The critical path: crates that are each proved in a tree of its own, by the crate that is proved before these trees are begun (none: they are
 # at once). Till then as few others as can be look for the same, and memory is free.
 TREES = {None: ('esc_envelope', 'esc_apply', 'esc_store'), 'esc_envelope': ('esc_desk',), 'esc_apply': ('store_lines',),
-         'esc_store': ('esc_http', 'desk_lines', 'restore', 'desk_harness')}
+         'esc_store': ('restore', 'desk_harness')}
 ON_PATH = [name for names in TREES.values() for name in names]
 # What is proved before the `rt ci` over all crates begins, and before the trees beside the path do.
 ALL_AFTER, BESIDE_AFTER = 'esc_events', 'esc_envelope'

@@ -1,10 +1,11 @@
 //! A database, or a desk over it, and what lines ask of these.
 
+use crate::requests::request;
+use crate::waits::wait;
 use desk_lines::{answer_of_desk, answer_of_store_below, connection_of, migrated_desk};
 use esc_desk::{Desk, SFault};
 use esc_kept::{new_desk, open_desk};
 use esc_manifest::read_manifest;
-use request_lines::{request, wait};
 use sqlite::{Alter, Connection};
 use std::fmt::Write;
 use std::fs;

@@ -74,8 +74,8 @@
 //! It ends with its input. Where memory runs out, a statement is refused or a file can't be read,
 //! it ends with a line on standard error and status 1.
 //!
-//! What needs no desk is done by `store_lines`, what needs a desk, but not its files or a request,
-//! by `desk_lines`, and requests are served by `request_lines`.
+//! What needs no desk is done by `store_lines`, and what needs a desk, but not its files or a
+//! request, by `desk_lines`.
 //!
 //! By proof: that no call is unsafe and that each ends. The functions have no clause.
 //!
@@ -101,6 +101,8 @@
 
 mod desks;
 mod lines;
+mod requests;
+mod waits;
 
 use lines::play;
 use std::test::Fail;

@@ -1,8 +1,8 @@
 //! What a program for tests alone is told of a desk, line by line.
 //!
-//! `desk_harness` reads lines, and does what they say. What needs a desk is here, what needs its
-//! files too in `desk_harness`, and what needs requests in `request_lines`; so most of it is proved
-//! side by side. The page of `desk_harness` says which lines there are.
+//! `desk_harness` reads lines, and does what they say. What needs a desk is here, and what needs its
+//! files or requests too in `desk_harness`: so this is proved beside what that waits for. The page
+//! of `desk_harness` says which lines there are.
 //!
 //! What goes in are words, a desk (`esc_desk`), and a text. What comes out is what was done, and
 //! the answer at the end of the text.

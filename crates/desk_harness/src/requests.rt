@@ -23,7 +23,7 @@ struct Client {
 }
 
 /// More bytes than a request or a response has.
-pub(crate) const PLENTY: usize = 100_000_000;
+pub const PLENTY: usize = 100_000_000;
 
 const OPEN: Client = Client {
     piece: PLENTY,
