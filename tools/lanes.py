@@ -3,8 +3,8 @@ import contextlib, os, re, signal, subprocess, sys, tempfile, threading, time
 
 from crates import copied_tree, libraries
 
-# The critical path: crates that are each proved in a tree of its own, by the crate that is proved before these trees are begun (none: they are
-# at once). Till then as few others as can be look for the same, and memory is free.
+# The critical path: the crates that have a tree of their own, by the crate after which these trees are begun (`None`: at the start). The later
+# one begins, the fewer look for the same crates, and the more memory is free.
 TREES = {None: ('esc_envelope', 'esc_apply', 'esc_store'), 'esc_envelope': ('esc_desk',), 'esc_apply': ('store_lines',),
          'esc_store': ('restore', 'desk_harness')}
 ON_PATH = [name for names in TREES.values() for name in names]
