@@ -12,7 +12,7 @@ processor minutes and the most memory that was in use beyond that at its start."
 import contextlib, os, re, resource, shutil, subprocess, sys, tempfile, threading, time
 
 from crates import TOP, built_moved, copied_tree, libraries, locked
-from lanes import lanes, lowered, memory, path_ahead
+from lanes import ALLOCATOR, lanes, lowered, memory, path_ahead
 from wrong_bodies import edits_of, tried
 
 TICK = os.sysconf('SC_CLK_TCK')
@@ -259,6 +259,7 @@ def main():
         sys.exit(f'gate.py takes --anew alone: {" ".join(sys.argv[1:])}')
     count = lanes()
     print(f'check: lanes: {count}', flush=True)
+    os.environ.update(ALLOCATOR)
     scenes = Scenes()
     watch = Watch(count, scenes.built)
     with tempfile.TemporaryDirectory(prefix='gate-') as tree:

@@ -8,7 +8,7 @@ follows."""
 import os, subprocess, sys, tempfile, time
 
 from crates import TOP, built_moved, copied_tree, libraries, locked
-from lanes import ENDED, lanes, path_ahead
+from lanes import ALLOCATOR, ENDED, lanes, path_ahead
 
 
 class Told:
@@ -46,6 +46,7 @@ def main():
     if len(sys.argv) != 2 or sys.argv[1] not in libraries():
         sys.exit('prove.py takes the name of a program')
     program = sys.argv[1]
+    os.environ.update(ALLOCATOR)
     crates = [*libraries()[program], program]
     with tempfile.TemporaryDirectory(prefix='prove-') as tree:
         copied_tree(tree, crates)
