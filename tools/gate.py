@@ -9,13 +9,15 @@ says; and at last what was built is moved to the tree. It prints what `rt ci` pr
 table as in docs/GATE.md, and at last 'N passed, M failed', the sums of all three. The table has processor seconds for each crate's proof,
 tests and wrong bodies, as /proc shows them once a second (what lives shorter is in the sum alone); below it stand the whole gate's time, its
 processor minutes and the most memory that was in use beyond that at its start."""
-import contextlib, os, re, resource, shutil, subprocess, sys, tempfile, threading, time
+import collections, contextlib, os, re, resource, shutil, subprocess, sys, tempfile, threading, time
 
 from crates import TOP, built_moved, copied_tree, libraries, locked
-from lanes import ALLOCATOR, lanes, lowered, memory, path_ahead
+from lanes import ALLOCATOR, Path, lanes, lowered, memory, path_ahead
 from wrong_bodies import edits_of, tried
 
 TICK = os.sysconf('SC_CLK_TCK')
+# By so many looks it is told how many processors are busy.
+LOOKS = 5
 PARTS = ('proof', 'tests', 'edits')
 
 
@@ -23,6 +25,13 @@ def memory_in_use():
     """In kilobytes."""
     total, free = memory()
     return total - free
+
+
+def busy_seconds():
+    """How long processors have been busy since the system began, in seconds of one."""
+    with open('/proc/stat') as file:
+        user, nice, system, _idle, _waiting, *others = map(int, file.readline().split()[1:9])
+    return (user + nice + system + sum(others)) / TICK
 
 
 def stat_of(pid):
@@ -59,6 +68,8 @@ class Watch:
     def __init__(self, lanes, built):
         self.lanes, self.built, self.parts, self.seconds, self.memory = lanes, built, {}, {}, 0
         self.before, self.begun, self.ended = memory_in_use(), time.monotonic(), threading.Event()
+        # When it looked last, and how long processors had been busy then.
+        self.looks = collections.deque([(self.begun, busy_seconds())], maxlen=LOOKS)
         self.thread = threading.Thread(target=self.run, daemon=True)
         self.thread.start()
 
@@ -70,6 +81,12 @@ class Watch:
                     self.look(pid)
                 except (OSError, ValueError):
                     pass  # it ended meanwhile
+            self.looks.append((time.monotonic(), busy_seconds()))
+
+    def busy(self):
+        """How many processors have been busy in the last seconds."""
+        (begun, before), (ended, after) = self.looks[0], self.looks[-1]
+        return (after - before) / max(ended - begun, 1)
 
     def look(self, pid):
         stat = stat_of(pid)
@@ -111,49 +128,59 @@ def has_tests(crate):
 
 
 class WrongBodies:
-    """Tries the wrong bodies of each crate over the libraries of a tree, once `rt ci` has proved it, the crates with the most of them
-    first. They take the lanes that `rt ci` leaves idle: where fewer of its tasks can run than there are lanes."""
+    """Tries the wrong bodies of each crate, the crates with the most of them first, once some `rt ci` has proved it: over the libraries that
+    this one has built in its tree. They take the lanes that are idle. Where one `rt ci` alone runs, fewer of its tasks can run then than there
+    are lanes. Where others go ahead, with lanes of their own, the processor of a lane has been idle for some seconds."""
 
-    def __init__(self, tree, lanes):
-        self.tree, self.lanes, self.below = tree, lanes, libraries()
+    def __init__(self, lanes, watch, path):
+        self.lanes, self.watch, self.path, self.below = lanes, watch, path, libraries()
         self.edits = {it: edits_of(it, 'must-fail') for it in self.below}
         self.left = sorted((it for it in self.edits if self.edits[it]), key=lambda it: -len(self.edits[it]))
         # The tasks of `rt ci` that have not ended: the proof of each crate, and that of its tests.
         self.tasks = {(it, part) for it in self.below for part in ('proof', 'tests') if part == 'proof' or has_tests(it)}
-        self.proved, self.running, self.is_over, self.changed = set(), 0, False, threading.Condition()
-        self.counts = []
+        # The trees in which the crates are proved.
+        self.trees, self.running, self.is_over, self.changed = {}, 0, False, threading.Condition()
+        self.counts, self.begun = [], 0
         self.threads = [threading.Thread(target=self.run, daemon=True) for _ in range(lanes)]
         for thread in self.threads:
             thread.start()
 
-    def note(self, crate, part, is_proved):
-        """Takes note of a task of `rt ci` that has ended."""
+    def note(self, crate, part, tree):
+        """Takes note of a task of `rt ci` that has ended; of a crate that isn't proved there is no tree."""
         with self.changed:
             self.tasks.discard((crate, part))
-            if part == 'proof' and is_proved:
-                self.proved.add(crate)
+            if part == 'proof' and tree:
+                self.trees.setdefault(crate, tree)
             self.changed.notify_all()
 
+    def note_ahead(self, crate, tree):
+        """Takes note of a crate that was proved ahead, and says so."""
+        print(f'check: proved ahead: {crate}', flush=True)
+        self.note(crate, 'proof', tree)
+
     def has_idle_lane(self):
-        """Whether fewer checks run, or could run now in `rt ci`, than there are lanes."""
+        if self.path.is_ahead:
+            # (That a lane works is seen some seconds after it has begun.)
+            is_idle = time.monotonic() > self.begun + LOOKS and self.watch.busy() < self.lanes - 0.8
+            return is_idle and self.running < self.path.room(self.lanes)
         ready = [crate for crate, _ in self.tasks if not any((it, 'proof') in self.tasks for it in self.below[crate])]
-        return self.is_over or len(ready) + self.running < self.lanes
+        return len(ready) + self.running < self.lanes
 
     def next(self):
         """The crate that a lane is to try, once there is one; None where no one is left."""
         with self.changed:
-            self.changed.wait_for(
-                lambda: self.is_over or not self.left or self.has_idle_lane() and self.proved.intersection(self.left))
-            crate = next((it for it in self.left if it in self.proved), None)
+            while self.left and not (self.is_over or self.has_idle_lane() and any(it in self.trees for it in self.left)):
+                self.changed.wait(1)
+            crate = next((it for it in self.left if it in self.trees), None)
             if crate:
                 self.left.remove(crate)
-                self.running += 1
+                self.running, self.begun = self.running + 1, time.monotonic()
             self.changed.notify_all()
             return crate
 
     def run(self):
         while crate := self.next():
-            verdicts = tried(self.tree, crate, self.edits[crate])
+            verdicts = tried(self.trees[crate], crate, self.edits[crate])
             with self.changed:
                 for name, verdict in sorted(verdicts.items()):
                     said = 'refused, as it must be' if verdict.is_refused else 'NOT REFUSED'
@@ -207,7 +234,8 @@ class Scenes:
         return self.counts
 
 
-# What `rt ci` says of a crate, or of its tests, that has ended. Of a crate whose files an earlier run proved it says that it is kept.
+# What `rt ci` says of a crate, or of its tests, that has ended. Of a crate whose files an earlier run proved it says that it is kept. Two of
+# its threads may say something at once, on one line.
 ENDED = re.compile(r'rt: (\w+)(: its tests are)? (NOT PROVED|proved|is kept)\b')
 
 
@@ -227,13 +255,14 @@ def counts_of(lines, take_note=lambda line: None):
 def proved(tree, bodies, scenes, path):
     """Runs `rt ci` in a tree, and gives its numbers. It tells the others what has ended."""
     def take_note(line):
-        if not (done := ENDED.match(line)):
-            return
-        crate, of_tests, verdict = done.groups()
-        bodies.note(crate, 'tests' if of_tests else 'proof', verdict != 'NOT PROVED')
+        for crate, of_tests, verdict in ENDED.findall(line):
+            take_verdict(crate, of_tests, verdict)
+
+    def take_verdict(crate, of_tests, verdict):
+        bodies.note(crate, 'tests' if of_tests else 'proof', None if verdict == 'NOT PROVED' else tree)
         if verdict == 'is kept':
             # Of tests that are kept nothing is said. Where they are not, one task more runs than is counted.
-            bodies.note(crate, 'tests', True)
+            bodies.note(crate, 'tests', tree)
         if not of_tests:
             path.note(crate, verdict)
             if verdict != 'NOT PROVED':
@@ -250,24 +279,21 @@ def proved(tree, bodies, scenes, path):
             raise
 
 
-def told_ahead(crate):
-    print(f'check: proved ahead: {crate}', flush=True)
-
-
 def main():
     if sys.argv[1:] not in ([], ['--anew']):
         sys.exit(f'gate.py takes --anew alone: {" ".join(sys.argv[1:])}')
-    count = lanes()
+    count, is_anew = lanes(), bool(sys.argv[1:])
     print(f'check: lanes: {count}', flush=True)
     os.environ.update(ALLOCATOR)
     scenes = Scenes()
     watch = Watch(count, scenes.built)
     with tempfile.TemporaryDirectory(prefix='gate-') as tree:
         copied_tree(tree, libraries())
-        bodies = WrongBodies(tree, count)
-        with path_ahead(libraries(), count, told_ahead, is_anew=bool(sys.argv[1:])) as path:
+        path = Path(lambda crate, ahead: bodies.note_ahead(crate, ahead))
+        bodies = WrongBodies(count, watch, path)
+        with path_ahead(path, libraries(), count, is_anew):
             passed, failed = proved(tree, bodies, scenes, path)
-        ends = bodies.ended(), scenes.ended()
+            ends = bodies.ended(), scenes.ended()
         built_moved(tree, libraries())
     passed, failed = (sum(each) for each in zip((passed, failed), *ends))
     print(f'{watch.table()}\n{passed} passed, {failed} failed', flush=True)

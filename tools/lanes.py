@@ -19,7 +19,7 @@ HELD_BACK = 3
 # By how much the priority of proofs is lowered: of what the end of the path waits for beside the desk, and of what nothing waits for.
 LATER, LATEST = 5, 8
 # The prover's allocator gives freed memory back to the system after so many milliseconds. After one second, which is its default, most of
-# that memory is taken anew soon: the system's work for that was 5 % of a long proof's time, and is 2 % so.
+# that memory is taken anew soon: the system's work for that was 5 % of a long proof's time, and is 3 % so.
 ALLOCATOR = {'MIMALLOC_PURGE_DELAY': '20000'}
 
 # What `rt ci` says of a crate that has ended. Of one whose files an earlier run on this machine proved it says that it is kept.
@@ -53,10 +53,11 @@ class Ahead:
     `rt ci` gives a proof more than one process only where its lanes aren't given, where few others could begin, and where memory allows by
     its own estimate, which it makes as it starts. So a large crate is proved in a tree that has what is below it alone. What was proved here
     the others take as kept; where two come to a crate at once one of them waits. What couldn't be proved here the one over all crates tries
-    again, and reports. `note` is called with each crate that has ended, and with the verdict, or none where there is none."""
+    again, and reports. `note` is called with each crate that has ended, with the verdict, or none where there is none, and with the tree. It
+    has begun, and knows how much memory is free, once it says something."""
 
     def __init__(self, crates, note, lanes=None):
-        self.crates, self.note = crates, note
+        self.crates, self.note, self.has_begun = crates, note, False
         self.tree = tempfile.TemporaryDirectory(prefix='ahead-')
         copied_tree(self.tree.name, self.crates)
         own = {name: value for name, value in os.environ.items() if name != 'RT_JOBS'}
@@ -69,10 +70,11 @@ class Ahead:
 
     def run(self):
         for line in self.ran.stdout:
+            self.has_begun = True
             if found := ENDED.match(line):
-                self.note(found[1], found[2])
+                self.note(found[1], found[2], self.tree.name)
         for crate in self.crates:
-            self.note(crate, None)
+            self.note(crate, None, self.tree.name)
 
     def end(self):
         self.ran.send_signal(signal.SIGCONT)
@@ -86,10 +88,11 @@ class Path:
     """The `rt ci` of the critical path, each by the crate that its tree is for, and the others that come to the same crates.
 
     Whoever has proved a crate is the first to see it; the others look once a second. So another one could come to the next crate of the path
-    before its own tree does, and prove it with one process. Where such a crate can begin, all but its tree are held back."""
+    before its own tree does, and prove it with one process. Where such a crate can begin, all but its tree are held back. `told` is called
+    with each crate that was proved ahead, and with the tree there."""
 
     def __init__(self, told):
-        self.told, self.trees, self.others, self.environment = told, {}, [], os.environ
+        self.told, self.is_ahead, self.ahead, self.others, self.environment = told, False, {}, [], os.environ
         self.proved, self.ended, self.is_over, self.changed = set(), set(), False, threading.Condition()
         self.ends = contextlib.ExitStack()
 
@@ -101,7 +104,7 @@ class Path:
             ahead = Ahead(with_below(crates), self.note_ahead, lanes)
             self.ends.callback(ahead.end)
             if on_path:
-                self.trees[on_path] = ahead.ran
+                self.ahead[on_path] = ahead
             else:
                 self.others.append(ahead.ran)
 
@@ -122,6 +125,12 @@ class Path:
             self.stop()
             raise
 
+    def room(self, lanes):
+        """For how many checks besides there is memory: each `rt ci` of the path gives its proofs as many processes as the memory has room for
+        that is free as it begins. The desk's needs most of it."""
+        begun = [name for name, ahead in list(self.ahead.items()) if ahead.has_begun]
+        return lanes if len(begun) == len(ON_PATH) else 1 if 'esc_desk' in begun else 0
+
     def wait_for(self, crate):
         """Waits until a crate has ended, or all is over."""
         with self.changed:
@@ -137,12 +146,12 @@ class Path:
         self.stop()
         self.ends.close()
 
-    def note_ahead(self, crate, verdict):
-        """Takes note of a crate that has ended ahead, and tells of it once."""
+    def note_ahead(self, crate, verdict, tree):
+        """Takes note of a crate that has ended ahead, and tells of it once, and in which tree it and what is below it are built."""
         with self.changed:
             is_new = verdict in PROVED and crate not in self.proved
         if is_new:
-            self.told(crate)
+            self.told(crate, tree)
         self.note(crate, verdict)
 
     def note(self, crate, verdict):
@@ -152,16 +161,16 @@ class Path:
             if verdict in PROVED:
                 self.proved.add(crate)
             if verdict == 'proved' and (first := self.first_after(crate)):
-                self.hold_back([it for it in (*self.others, *self.trees.values()) if it not in first])
+                self.hold_back([it for it in (*self.others, *(it.ran for it in self.ahead.values())) if it not in first])
             self.changed.notify_all()
 
     def first_after(self, crate):
         """Who is to come first to what can be proved now that a crate is: the trees of the crates which waited for this one alone, and where it
-        is of the path, that of the next one which has to wait for more, but for none of these."""
-        left, below = [it for it in self.trees if it not in self.proved], libraries()
+        is of the path, those of the next ones which have to wait for more, but for none of these nor for one another."""
+        left, below = [it for it in self.ahead if it not in self.proved], libraries()
         ready = [it for it in left if crate in below[it] and self.proved.issuperset(below[it])]
-        later = [it for it in left if crate in self.trees and not {it, *below[it]}.intersection(ready)]
-        return [self.trees[it] for it in (*ready, *later[:1])]
+        later = [it for it in left if crate in self.ahead and not {it, *below[it]}.intersection(ready)]
+        return [self.ahead[it].ran for it in (*ready, *(it for it in later if not set(below[it]).intersection(later)))]
 
     def hold_back(self, runs):
         """Stops some `rt ci` for some seconds, but not the proofs that they run."""
@@ -201,16 +210,16 @@ def lowered(crate):
 
 
 @contextlib.contextmanager
-def path_ahead(crates, lanes, told, is_anew=False):
-    """Has the crates of the critical path proved ahead of an `rt ci` over these crates, and gives that path once this one may begin: earlier
-    it would prove them with one process each. `told` is called with each crate that was proved ahead. With fewer than four lanes nothing
-    goes ahead; nor where all is proved anew, since nothing is kept then."""
-    path = Path(told)
+def path_ahead(path, crates, lanes, is_anew=False):
+    """Has the crates of the critical path proved ahead of an `rt ci` over these crates, which may begin then: earlier it would prove them with
+    one process each. What goes ahead has its trees until the end. With fewer than four lanes nothing does; nor where all is proved anew,
+    since nothing is kept then."""
     try:
-        if lanes >= 4 and not is_anew and ALL_AFTER in crates:
+        path.is_ahead = lanes >= 4 and not is_anew and ALL_AFTER in crates
+        if path.is_ahead:
             path.environment = {**os.environ, 'RT_JOBS': str(lanes + 1 + BESIDE)}
             threading.Thread(target=path.begin_all, args=[crates], daemon=True).start()
             path.wait_for(ALL_AFTER)
-        yield path
+        yield
     finally:
         path.end()

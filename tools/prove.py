@@ -8,7 +8,7 @@ follows."""
 import os, subprocess, sys, tempfile, time
 
 from crates import TOP, built_moved, copied_tree, libraries, locked
-from lanes import ALLOCATOR, ENDED, lanes, path_ahead
+from lanes import ALLOCATOR, ENDED, Path, lanes, path_ahead
 
 
 class Told:
@@ -51,7 +51,8 @@ def main():
     with tempfile.TemporaryDirectory(prefix='prove-') as tree:
         copied_tree(tree, crates)
         told = Told(len(crates))
-        with path_ahead(crates, lanes(), told) as path:
+        path = Path(lambda crate, _: told(crate))
+        with path_ahead(path, crates, lanes()):
             passed = proved(tree, told, path)
         built_moved(tree, crates)
     return 0 if passed and os.path.exists(f'{TOP}/crates/{program}/out/{program}') else 1

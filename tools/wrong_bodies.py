@@ -84,9 +84,13 @@ class Edit:
         """Whether a change is made in the wrong function that is written below the right one."""
         return self.right is not None and change.old in self.right.text
 
+    def changed(self):
+        """What it changes or adds: methods of traits, which a check is asked for by their module, each by itself."""
+        return {it.line.pattern for it in self.functions} | set(self.added)
+
     def fits(self, other):
         """Whether both can be tried in one check."""
-        return not (self.asked() & other.asked() or self.hides(other) or other.hides(self))
+        return not (self.changed() & other.changed() or self.hides(other) or other.hides(self))
 
 
 @dataclass

@@ -5,13 +5,13 @@ use esc_flaky::{FailingReader, FailingWriter};
 use esc_http::{ServeFault, serve_one};
 use sqlite::Alter;
 use std::alloc::Global;
-use std::fmt::Write;
 use std::fs;
+use std::io::Read;
 use std::test::Fail;
 use store_lines::{split, tell_bytes};
 
 /// How a client sends a request, and takes the response.
-#[derive(Clone, Copy, Debug)]
+#[derive(Clone, Copy)]
 struct Client {
     /// A read and a write move at most so many bytes.
     piece: usize,
@@ -32,6 +32,13 @@ const OPEN: Client = Client {
     is_stuck: false,
 };
 
+impl Client {
+    // What takes the response.
+    fn writer(self, alloc: Global) -> FailingWriter {
+        FailingWriter::new(alloc, self.piece, self.writable, self.is_stuck)
+    }
+}
+
 // The client of these words.
 fn client_of(words: &str) -> Result<Client, Fail> {
     if words.is_empty() {
@@ -48,16 +55,14 @@ fn client_of(words: &str) -> Result<Client, Fail> {
     })
 }
 
-// Why the response did not go out whole, if it didn't, and what of it did.
-fn served<S: Alter>(
+/// Why the response did not go out whole, if it didn't, and what of it did.
+pub fn served<S: Alter, R: Read>(
     alloc: Global,
     desk: &mut Desk<S>,
-    input: &[u8],
-    client: Client,
+    reader: &mut R,
+    mut writer: FailingWriter,
 ) -> Result<(Option<ServeFault>, Vec<u8>), Fail> {
-    let mut reader = FailingReader::new(input, client.piece, client.readable);
-    let mut writer = FailingWriter::new(alloc, client.piece, client.writable, client.is_stuck);
-    let fault = serve_one(alloc, desk, &mut reader, &mut writer).err();
+    let fault = serve_one(alloc, desk, reader, &mut writer).err();
     if writer.wants_memory() {
         return Err(Fail::new("a writer: OutOfMemory"));
     }
@@ -68,7 +73,7 @@ fn served<S: Alter>(
 pub fn tell_served(text: &mut String, fault: Option<ServeFault>) -> Result<(), Fail> {
     match fault {
         None => text.push_str("served")?,
-        Some(fault) => write!(text, "{fault}")?,
+        Some(fault) => text.push_str(fault.words())?,
     }
     Ok(())
 }
@@ -95,6 +100,8 @@ pub fn request<S: Alter + Drop>(
     let (path, words) = split(rest);
     let input = fs::read(rt, path)?;
     let client = client_of(words)?;
-    let (fault, response) = served(rt.alloc(), desk, input.as_slice(), client)?;
+    let mut reader = FailingReader::new(input.as_slice(), client.piece, client.readable);
+    let writer = client.writer(rt.alloc());
+    let (fault, response) = served(rt.alloc(), desk, &mut reader, writer)?;
     tell_response(text, fault, response.as_slice())
 }

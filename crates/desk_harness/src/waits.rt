@@ -1,6 +1,6 @@
 //! Clients that are waited for, by a clock that moves only while one is.
 
-use crate::requests::{PLENTY, tell_served};
+use crate::requests::{PLENTY, served, tell_served};
 use esc_client::{Client, Patience, Timed};
 use esc_desk::Desk;
 use esc_flaky::FailingWriter;
@@ -101,7 +101,7 @@ impl Write for Slow<'_> {
 }
 
 // The client of these words, which gives these bytes.
-fn client_of<'a>(hands: &'a Hands, words: &str, rest: &'a [u8]) -> Result<Slow<'a>, Fail> {
+fn slow_client<'a>(hands: &'a Hands, words: &str, rest: &'a [u8]) -> Result<Slow<'a>, Fail> {
     let (millis, at_once) = split(words);
     Ok(Slow {
         hands,
@@ -121,13 +121,10 @@ fn tell_slow<S: Alter + Drop>(
     client: Slow<'_>,
 ) -> Result<(), Fail> {
     let mut reader = Client::new(hands, client, Patience::for_request());
-    let mut writer = FailingWriter::new(alloc, PLENTY, PLENTY, false);
-    let fault = serve_one(alloc, desk, &mut reader, &mut writer).err();
-    if writer.wants_memory() {
-        return Err(Fail::new("a writer: OutOfMemory"));
-    }
+    let writer = FailingWriter::new(alloc, PLENTY, PLENTY, false);
+    let (fault, response) = served(alloc, desk, &mut reader, writer)?;
     tell_served(text, fault)?;
-    write!(text, ", {} bytes", writer.into_text().len())?;
+    write!(text, ", {} bytes", response.len())?;
     Ok(())
 }
 
@@ -168,7 +165,7 @@ pub fn wait<S: Alter + Drop>(
     let (path, words) = split(rest);
     let input = fs::read(rt, path)?;
     let hands = Hands::new();
-    let client = client_of(&hands, words, input.as_slice())?;
+    let client = slow_client(&hands, words, input.as_slice())?;
     match word {
         "slow" => tell_slow(rt.alloc(), text, desk, &hands, client)?,
         "taken" => tell_taken(rt.alloc(), text, desk, &hands, client)?,

@@ -30,14 +30,23 @@ pub enum ServeFault {
     Write,
 }
 
+impl ServeFault {
+    /// Its words, as it prints.
+    pub fn words(self) -> &'static str
+        ensures { result.now ≡ serve_fault_text self }
+    {
+        match self {
+            ServeFault::Read => "read fault",
+            ServeFault::Write => "write fault",
+        }
+    }
+}
+
 impl fmt::Display for ServeFault {
     ghost output = { λ fault. Some (serve_fault_text fault) };
 
     fn fmt<W: fmt::Write>(&self, f: &mut fmt::Formatter<W>) -> fmt::Result {
-        f.write_str(match *self {
-            ServeFault::Read => "read fault",
-            ServeFault::Write => "write fault",
-        })
+        f.write_str(self.words())
     }
 }
 

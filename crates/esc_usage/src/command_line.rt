@@ -244,8 +244,13 @@ static PROGRAM: Program = Program {
 /// What the words ask for; the first of them is the program's name. A request for help or for the
 /// version is an `Err`, too.
 pub fn parse<'a>(alloc: Global, words: &'a [String]) -> Result<Option<Invocation<'a>>, Error> {
-    let matches = PROGRAM.matches_of(alloc, words)?;
+    let matches = program().matches_of(alloc, words)?;
     Ok(invocation_of(&matches))
+}
+
+// The table of commands. (A function in which so large a value stands is proved slowly: this one does nothing else.)
+fn program() -> &'static Program {
+    &PROGRAM
 }
 
 /// Prints the help or the version that was asked for on `out`, or what is wrong with the words on
@@ -290,15 +295,8 @@ fn task_named<'a>(name: &str, given: &ArgMatches<'a>) -> Option<Task<'a>> {
             Some(Task::Take { folder })
         }
         "serve" => serve_task(given),
-        "report" => {
-            let report = report_named(given.get_str("report")?)?;
-            Some(Task::Tell { report })
-        }
-        "export" => {
-            let kind = Kind::from_name(given.get_str("kind")?)?;
-            let report = Report::Export(kind);
-            Some(Task::Tell { report })
-        }
+        "report" => report_task(given),
+        "export" => export_task(given),
         _ => None,
     }
 }
@@ -307,6 +305,17 @@ fn serve_task<'a>(given: &ArgMatches<'_>) -> Option<Task<'a>> {
     let port = given.get_one::<u16>("port")?;
     let count = given.get_one::<u32>("count")?;
     Some(Task::Serve { port, count })
+}
+
+fn report_task<'a>(given: &ArgMatches<'_>) -> Option<Task<'a>> {
+    let report = report_named(given.get_str("report")?)?;
+    Some(Task::Tell { report })
+}
+
+fn export_task<'a>(given: &ArgMatches<'_>) -> Option<Task<'a>> {
+    let kind = Kind::from_name(given.get_str("kind")?)?;
+    let report = Report::Export(kind);
+    Some(Task::Tell { report })
 }
 
 fn report_named(name: &str) -> Option<Report> {

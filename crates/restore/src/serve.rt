@@ -46,7 +46,7 @@ where
     ) -> Result<(), Error> {
         match listener.accept() {
             Ok((stream, _address)) => self.serve_connection(desk, &stream),
-            Err(error) if is_of_connection(&error) => self.tell_fault(&ServeFault::Read),
+            Err(error) if is_of_connection(&error) => self.tell_fault(ServeFault::Read),
             Err(error) => return Err(error),
         }
         Ok(())
@@ -58,12 +58,13 @@ where
         let mut writer = Client::new(self.rt, stream, Patience::for_response());
         match serve_one(self.rt.alloc(), desk, &mut reader, &mut writer) {
             Ok(()) => drain(self.rt, stream),
-            Err(fault) => self.tell_fault(&fault),
+            Err(fault) => self.tell_fault(fault),
         }
     }
 
-    fn tell_fault(&mut self, fault: &ServeFault) {
+    fn tell_fault(&mut self, fault: ServeFault) {
         // A failure of standard error is ignored: there is nowhere to report it.
-        let _ = writeln!(self.err, "{fault}");
+        let _ = self.err.write_all(fault.words().as_bytes());
+        let _ = self.err.write_all(b"\n");
     }
 }

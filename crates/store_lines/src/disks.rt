@@ -11,7 +11,7 @@ use std::test::Fail;
 pub type File = FlakyDisk<Fuse<Memory>>;
 
 /// How much of a database is kept in memory, so that it isn't asked of the disk.
-#[derive(Clone, Copy, Debug)]
+#[derive(Clone, Copy)]
 pub struct Room {
     /// How many pages that were read.
     pub cache_pages: usize,
@@ -26,7 +26,7 @@ const PLENTY: Room = Room {
 };
 
 /// Which calls of a file fail.
-#[derive(Clone, Copy, Debug)]
+#[derive(Clone, Copy)]
 pub enum Failing {
     Never,
     /// The one after this number of calls.
@@ -36,7 +36,7 @@ pub enum Failing {
 }
 
 /// What happens to the files while no database is open over them.
-#[derive(Clone, Copy, Debug)]
+#[derive(Clone, Copy)]
 pub enum DiskChange {
     /// Calls of them fail from now on. All their bytes are synced.
     Failing { log: Failing, database: Failing },

@@ -17,14 +17,21 @@ fn tell_if<T: Display + Drop>(text: &mut String, value: Option<T>) -> Result<(),
     Ok(())
 }
 
+fn word_of(verdict: Verdict) -> &'static str {
+    match verdict {
+        Verdict::A1 => "A1",
+        Verdict::A2 => "A2",
+        Verdict::A3(_) => "A3",
+        Verdict::A4 => "A4",
+        Verdict::A5 => "A5",
+    }
+}
+
 // A verdict, and the fault after a comma.
 fn tell_verdict(text: &mut String, verdict: Verdict) -> Result<(), Fail> {
-    match verdict {
-        Verdict::A1 => text.push_str("A1,")?,
-        Verdict::A2 => text.push_str("A2,")?,
-        Verdict::A3(fault) => write!(text, "A3,U{fault}")?,
-        Verdict::A4 => text.push_str("A4,")?,
-        Verdict::A5 => text.push_str("A5,")?,
+    write!(text, "{},", word_of(verdict))?;
+    if let Verdict::A3(fault) = verdict {
+        write!(text, "U{fault}")?;
     }
     Ok(())
 }
