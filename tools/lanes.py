@@ -22,7 +22,8 @@ LATER, LATEST = 5, 8
 # that memory is taken anew soon: the system's work for that was 5 % of a long proof's time, and is 3 % so.
 ALLOCATOR = {'MIMALLOC_PURGE_DELAY': '20000'}
 
-# What `rt ci` says of a crate that has ended. Of one whose files an earlier run on this machine proved it says that it is kept.
+# What `rt ci` says of a crate that has ended. Of one whose files an earlier run on this machine proved it says that it is kept. Two of its
+# threads may say something at once, on one line.
 ENDED = re.compile(r'rt: (\w+) (proved|is kept|NOT PROVED)\b')
 PROVED = ('proved', 'is kept')
 
@@ -71,8 +72,8 @@ class Ahead:
     def run(self):
         for line in self.ran.stdout:
             self.has_begun = True
-            if found := ENDED.match(line):
-                self.note(found[1], found[2], self.tree.name)
+            for crate, verdict in ENDED.findall(line):
+                self.note(crate, verdict, self.tree.name)
         for crate in self.crates:
             self.note(crate, None, self.tree.name)
 

@@ -34,9 +34,9 @@ def proved(tree, told, path):
         path.others.append(ran)
         for line in ran.stdout:
             said.append(line)
-            if found := ENDED.match(line):
-                told(found[1], found[2])
-                path.note(found[1], found[2])
+            for crate, verdict in ENDED.findall(line):
+                told(crate, verdict)
+                path.note(crate, verdict)
     if ran.returncode:
         sys.stderr.writelines(said)
     return ran.returncode == 0
