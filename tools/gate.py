@@ -12,7 +12,7 @@ processor minutes and the most memory that was in use beyond that at its start."
 import collections, contextlib, os, re, resource, shutil, subprocess, sys, tempfile, threading, time
 
 from crates import TOP, built_moved, copied_tree, libraries, locked
-from lanes import ALLOCATOR, Path, lanes, lowered, memory, path_ahead
+from lanes import ALLOCATOR, ENDED, Path, lanes, lowered, memory, path_ahead
 from wrong_bodies import edits_of, tried
 
 TICK = os.sysconf('SC_CLK_TCK')
@@ -159,6 +159,7 @@ class WrongBodies:
         self.note(crate, 'proof', tree)
 
     def has_idle_lane(self):
+        """Whether one check more may run."""
         if self.path.is_ahead:
             # (That a lane works is seen some seconds after it has begun.)
             is_idle = time.monotonic() > self.begun + LOOKS and self.watch.busy() < self.lanes - 0.8
@@ -232,11 +233,6 @@ class Scenes:
         self.ran.wait()
         self.room.cleanup()
         return self.counts
-
-
-# What `rt ci` says of a crate, or of its tests, that has ended. Of a crate whose files an earlier run proved it says that it is kept. Two of
-# its threads may say something at once, on one line.
-ENDED = re.compile(r'rt: (\w+)(: its tests are)? (NOT PROVED|proved|is kept)\b')
 
 
 def counts_of(lines, take_note=lambda line: None):

@@ -22,9 +22,9 @@ LATER, LATEST = 5, 8
 # that memory is taken anew soon: the system's work for that was 5 % of a long proof's time, and is 3 % so.
 ALLOCATOR = {'MIMALLOC_PURGE_DELAY': '20000'}
 
-# What `rt ci` says of a crate that has ended. Of one whose files an earlier run on this machine proved it says that it is kept. Two of its
-# threads may say something at once, on one line.
-ENDED = re.compile(r'rt: (\w+) (proved|is kept|NOT PROVED)\b')
+# What `rt ci` says of a crate, or of its tests, that has ended. Of a crate whose files an earlier run on this machine proved it says that it is
+# kept. Two of its threads may say something at once, on one line.
+ENDED = re.compile(r'rt: (\w+)(: its tests are)? (NOT PROVED|proved|is kept)\b')
 PROVED = ('proved', 'is kept')
 
 
@@ -72,8 +72,9 @@ class Ahead:
     def run(self):
         for line in self.ran.stdout:
             self.has_begun = True
-            for crate, verdict in ENDED.findall(line):
-                self.note(crate, verdict, self.tree.name)
+            for crate, of_tests, verdict in ENDED.findall(line):
+                if not of_tests:
+                    self.note(crate, verdict, self.tree.name)
         for crate in self.crates:
             self.note(crate, None, self.tree.name)
 

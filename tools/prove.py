@@ -34,9 +34,10 @@ def proved(tree, told, path):
         path.others.append(ran)
         for line in ran.stdout:
             said.append(line)
-            for crate, verdict in ENDED.findall(line):
-                told(crate, verdict)
-                path.note(crate, verdict)
+            for crate, of_tests, verdict in ENDED.findall(line):
+                if not of_tests:
+                    told(crate, verdict)
+                    path.note(crate, verdict)
     if ran.returncode:
         sys.stderr.writelines(said)
     return ran.returncode == 0
