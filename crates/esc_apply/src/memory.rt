@@ -114,18 +114,18 @@ impl Registry for MemRegistry {
 
     ghost was_honest = { λ a b p h. tt };
 
-    fn get(&mut self, alloc: Global, k: &Key) -> Result<Option<Object>, NoMemory> {
-        copied(alloc, self.objects.get(k))
+    fn get(&mut self, alloc: Global, key: &Key) -> Result<Option<Object>, NoMemory> {
+        copied(alloc, self.objects.get(key))
     }
 
-    fn put(&mut self, alloc: Global, k: &Key, o: &Object) -> Result<(), NoMemory> {
-        self.objects.insert(k.copy(alloc)?, o.copy(alloc)?)?;
+    fn put(&mut self, alloc: Global, key: &Key, object: &Object) -> Result<(), NoMemory> {
+        self.objects.insert(key.copy(alloc)?, object.copy(alloc)?)?;
         self.count = self.count.saturating_add(1);
         Ok(())
     }
 
-    fn remove(&mut self, k: &Key) -> Result<(), NoMemory> {
-        self.objects.remove(k);
+    fn remove(&mut self, key: &Key) -> Result<(), NoMemory> {
+        self.objects.remove(key);
         self.count = self.count.saturating_add(1);
         Ok(())
     }
@@ -140,11 +140,11 @@ impl Registry for MemRegistry {
         &mut self,
         alloc: Global,
         step: u32,
-        k: &Key,
+        key: &Key,
         before: Option<&Object>,
     ) -> Result<(), NoMemory> {
         let before = copied(alloc, before)?;
-        note(alloc, &mut self.notes, step, k.copy(alloc)?, before)
+        note(alloc, &mut self.notes, step, key.copy(alloc)?, before)
     }
 
     fn put_all(

@@ -65,28 +65,28 @@ pub trait Registry {
     ghost follows: { Self → Self → Type 0 };
 
     /// The object at a key, if there is one.
-    fn get(&mut self, alloc: Global, k: &Key) -> Result<Option<Object>, Self::Error>
+    fn get(&mut self, alloc: Global, key: &Key) -> Result<Option<Object>, Self::Error>
         ensures follows { follows self.old self.new }
         ensures cause { IfErr result fails }
         ensures counted { OnOk result (count self.new ≡ count self.old) }
         ensures found { IfOk result (λ o. is_honest self.new → (s : State) → holds self.old s
-            → (o ≡ s.content k.now) × holds self.new s) };
+            → (o ≡ s.content key.now) × holds self.new s) };
 
     /// Writes the object of a key, in place of an earlier one.
-    fn put(&mut self, alloc: Global, k: &Key, o: &Object) -> Result<(), Self::Error>
+    fn put(&mut self, alloc: Global, key: &Key, object: &Object) -> Result<(), Self::Error>
         ensures follows { follows self.old self.new }
         ensures cause { IfErr result fails }
         ensures counted { OnOk result (count self.new ≡ saturated (count self.old + 1)) }
         ensures written { OnOk result (is_honest self.new → (s : State) → holds self.old s
-            → holds self.new (written s k.now (Some o.now))) };
+            → holds self.new (written s key.now (Some object.now))) };
 
     /// Removes the object of a key, if it has one. This is a write in either case.
-    fn remove(&mut self, k: &Key) -> Result<(), Self::Error>
+    fn remove(&mut self, key: &Key) -> Result<(), Self::Error>
         ensures follows { follows self.old self.new }
         ensures cause { IfErr result fails }
         ensures counted { OnOk result (count self.new ≡ saturated (count self.old + 1)) }
         ensures written { OnOk result (is_honest self.new → (s : State) → holds self.old s
-            → holds self.new (written s k.now None)) };
+            → holds self.new (written s key.now None)) };
 
     /// Removes all objects and all before-images, which is no write.
     fn clear(&mut self) -> Result<(), Self::Error>
@@ -102,15 +102,15 @@ pub trait Registry {
         &mut self,
         alloc: Global,
         step: u32,
-        k: &Key,
+        key: &Key,
         before: Option<&Object>,
     ) -> Result<(), Self::Error>
         ensures follows { follows self.old self.new }
         ensures cause { IfErr result fails }
         ensures counted { OnOk result (count self.new ≡ count self.old) }
         ensures noted { OnOk result (is_honest self.new → (s : State) → holds self.old s
-            → s.undo step k.now ≡ None
-            → holds self.new (noted s step k.now (option_copied before.entry))) };
+            → s.undo step key.now ≡ None
+            → holds self.new (noted s step key.now (option_copied before.entry))) };
 
     /// Puts objects, in place of earlier ones, and notes for the step what each of their keys had;
     /// nothing may be noted for this step and any of them yet, and with `Targets::Free` none may

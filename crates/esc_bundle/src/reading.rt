@@ -104,16 +104,16 @@ fn split_at_byte(bytes: &[u8], separator: u8) -> Option<(&[u8], &[u8])>
     }
 }
 
-fn is_name_byte(b: u8) -> bool
-    ensures { result ≡ is_name_byte b }
+fn is_name_byte(byte: u8) -> bool
+    ensures { result ≡ is_name_byte byte }
 {
-    matches!(b, b'a'..=b'z' | b'0'..=b'9' | b'.' | b'_' | b'-')
+    matches!(byte, b'a'..=b'z' | b'0'..=b'9' | b'.' | b'_' | b'-')
 }
 
 fn are_name_bytes(name: &[u8]) -> bool
     ensures { result ≡ list_all is_name_byte name.now }
 {
-    name.iter().all(|b| is_name_byte(*b))
+    name.iter().all(|byte| is_name_byte(*byte))
 }
 
 fn is_name(name: &[u8]) -> bool

@@ -15,10 +15,10 @@ use std::alloc::Global;
 use std::collections::{BTreeMap, BTreeSet};
 
 // How many objects are of a kind.
-fn count_of(t: &BTreeMap<Key, Object>, kind: Kind) -> u64
-    ensures { result ≡ count_of (keys_of t.now.entries) kind }
+fn count_of(tables: &BTreeMap<Key, Object>, kind: Kind) -> u64
+    ensures { result ≡ count_of (keys_of tables.now.entries) kind }
 {
-    t.keys().filter(|key| key.kind == kind).count() as u64
+    tables.keys().filter(|key| key.kind == kind).count() as u64
 }
 
 fn decimal_text(alloc: Global, number: u64) -> Result<String, NoMemory>
@@ -51,14 +51,14 @@ fn add_miscounted(
 fn check_count(
     alloc: Global,
     found: &mut Vec<Finding>,
-    t: &BTreeMap<Key, Object>,
+    tables: &BTreeMap<Key, Object>,
     kind: Kind,
     declared: u64,
 ) -> Result<(), NoMemory>
     ensures { OnOk result (found.new.items ≡ found.old.items
-        ++ count_findings (keys_of t.now.entries) (kind, declared)) }
+        ++ count_findings (keys_of tables.now.entries) (kind, declared)) }
 {
-    let count = count_of(t, kind);
+    let count = count_of(tables, kind);
     if count == declared {
         return Ok(());
     }
@@ -109,14 +109,14 @@ pub fn check_met(
 pub fn check_counts(
     alloc: Global,
     found: &mut Vec<Finding>,
-    t: &BTreeMap<Key, Object>,
+    tables: &BTreeMap<Key, Object>,
     counts: &BTreeMap<Kind, u64>,
 ) -> Result<(), NoMemory>
     ensures { OnOk result (found.new.items ≡ found.old.items
-        ++ flat_map (count_findings (keys_of t.now.entries)) counts.now.entries) }
+        ++ flat_map (count_findings (keys_of tables.now.entries)) counts.now.entries) }
 {
     for (kind, declared) in counts.iter() {
-        check_count(alloc, found, t, *kind, *declared)?;
+        check_count(alloc, found, tables, *kind, *declared)?;
     }
     Ok(())
 }

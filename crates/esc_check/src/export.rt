@@ -45,14 +45,14 @@ use std::collections::BTreeMap;
 /// declared order.
 pub fn export_rows(
     alloc: Global,
-    t: &BTreeMap<Key, Object>,
+    tables: &BTreeMap<Key, Object>,
     kind: Kind,
 ) -> Result<Vec<u8>, NoMemory>
-    ensures { IfOk result (λ text. text.items ≡ export_text kind t.now.entries) }
+    ensures { IfOk result (λ text. text.items ≡ export_text kind tables.now.entries) }
 {
     let mut lines = Lines::new(alloc);
     write_heading(&mut lines)?;
-    for (key, object) in t.iter() {
+    for (key, object) in tables.iter() {
         if !is_of(key, kind) {
             continue;
         }
@@ -65,19 +65,19 @@ pub fn export_rows(
 /// the source failed, or it is out of memory.
 pub fn export_from<O: Objects>(
     alloc: Global,
-    o: &mut O,
+    objects: &mut O,
     kind: Kind,
 ) -> Result<Vec<u8>, StreamFault<O::Error>>
-    ensures follows { O.follows o.old o.new }
-    ensures source { IfErr result (λ fault. IfSource fault (O.has_failed o.new)) }
+    ensures follows { O.follows objects.old objects.new }
+    ensures source { IfErr result (λ fault. IfSource fault (O.has_failed objects.new)) }
     ensures cause { IfErr result (OfSource O.fails) }
-    ensures text { IfOk result (λ text. O.is_honest o.new → (es : List Entry)
-        → O.lists o.old es
+    ensures text { IfOk result (λ text. O.is_honest objects.new → (es : List Entry)
+        → O.lists objects.old es
         → text.items ≡ export_text kind es) }
 {
     let mut lines = Lines::new(alloc);
     write_heading(&mut lines)?;
-    while let Some((key, object)) = o.next().map_err(StreamFault::Source)? {
+    while let Some((key, object)) = objects.next().map_err(StreamFault::Source)? {
         if !is_of(&key, kind) {
             continue;
         }

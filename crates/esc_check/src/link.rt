@@ -113,10 +113,10 @@ pub fn add_links(
     add_of_children(alloc, links, key, &object.children)
 }
 
-fn is_missing(t: &BTreeMap<Key, Object>, link: &Link) -> bool
-    ensures { result ≡ not (is_present t.now.entries link.now.to) }
+fn is_missing(tables: &BTreeMap<Key, Object>, link: &Link) -> bool
+    ensures { result ≡ not (is_present tables.now.entries link.now.to) }
 {
-    !t.contains_key(&link.to)
+    !tables.contains_key(&link.to)
 }
 
 fn add_missing(alloc: Global, found: &mut Vec<Finding>, link: &Link) -> Result<(), NoMemory>
@@ -137,14 +137,14 @@ fn add_missing(alloc: Global, found: &mut Vec<Finding>, link: &Link) -> Result<(
 pub fn check_links(
     alloc: Global,
     found: &mut Vec<Finding>,
-    t: &BTreeMap<Key, Object>,
+    tables: &BTreeMap<Key, Object>,
     links: &[Link],
 ) -> Result<(), NoMemory>
     ensures { OnOk result (found.new.items ≡ found.old.items
-        ++ link_findings (is_present t.now.entries) links.now) }
+        ++ link_findings (is_present tables.now.entries) links.now) }
 {
     for link in links {
-        if !is_missing(t, link) {
+        if !is_missing(tables, link) {
             continue;
         }
         add_missing(alloc, found, link)?;

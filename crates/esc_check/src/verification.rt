@@ -48,47 +48,47 @@ pub fn check_own(
 fn check_linked(
     alloc: Global,
     found: &mut Vec<Finding>,
-    t: &BTreeMap<Key, Object>,
+    tables: &BTreeMap<Key, Object>,
     key: &Key,
     object: &Object,
 ) -> Result<(), NoMemory>
     ensures { OnOk result (found.new.items ≡ found.old.items
-        ++ link_findings (is_present t.now.entries) (links_of key.now object.now)) }
+        ++ link_findings (is_present tables.now.entries) (links_of key.now object.now)) }
 {
     let mut links = Vec::new(alloc);
     add_links(alloc, &mut links, key, object)?;
-    check_links(alloc, found, t, &links)
+    check_links(alloc, found, tables, &links)
 }
 
 fn check_object(
     alloc: Global,
     found: &mut Vec<Finding>,
-    t: &BTreeMap<Key, Object>,
+    tables: &BTreeMap<Key, Object>,
     limit: &Limit,
     key: &Key,
     object: &Object,
 ) -> Result<(), NoMemory>
     ensures { OnOk result (found.new.items ≡ found.old.items
-        ++ object_findings (is_present t.now.entries) limit.now.moment (string_bytes limit.now.text)
-        (key.now, object.now)) }
+        ++ object_findings (is_present tables.now.entries) limit.now.moment
+        (string_bytes limit.now.text) (key.now, object.now)) }
 {
-    check_linked(alloc, found, t, key, object)?;
+    check_linked(alloc, found, tables, key, object)?;
     check_own(alloc, found, limit, key, object)
 }
 
 fn check_objects(
     alloc: Global,
     found: &mut Vec<Finding>,
-    t: &BTreeMap<Key, Object>,
+    tables: &BTreeMap<Key, Object>,
     limit: &Limit,
 ) -> Result<(), NoMemory>
-    ensures ordered { OnOk result (IsStrictlySortedBy key_cmp (keys_of t.now.entries)) }
+    ensures ordered { OnOk result (IsStrictlySortedBy key_cmp (keys_of tables.now.entries)) }
     ensures added { OnOk result (found.new.items ≡ found.old.items
-        ++ flat_map (object_findings (is_present t.now.entries) limit.now.moment
-        (string_bytes limit.now.text)) t.now.entries) }
+        ++ flat_map (object_findings (is_present tables.now.entries) limit.now.moment
+        (string_bytes limit.now.text)) tables.now.entries) }
 {
-    for (key, object) in t.iter() {
-        check_object(alloc, found, t, limit, key, object)?;
+    for (key, object) in tables.iter() {
+        check_object(alloc, found, tables, limit, key, object)?;
     }
     Ok(())
 }
@@ -99,18 +99,18 @@ fn check_objects(
 /// memory.
 pub fn verify(
     alloc: Global,
-    t: &BTreeMap<Key, Object>,
+    tables: &BTreeMap<Key, Object>,
     watermark: i64,
     counts: &BTreeMap<Kind, u64>,
 ) -> Result<Vec<Finding>, NoMemory>
     ensures ordered { IfOk result (λ found. IsStrictlySortedBy listing_cmp found.items) }
     ensures each { IfOk result (λ found. (f : FindingValue)
-        → Contains found.items f ↔ IsFinding (tables_of t.now.entries) watermark counts.now.entries
-        f) }
+        → Contains found.items f
+        ↔ IsFinding (tables_of tables.now.entries) watermark counts.now.entries f) }
 {
     let limit = limit_at(alloc, watermark)?;
     let mut found = Vec::new(alloc);
-    check_objects(alloc, &mut found, t, &limit)?;
-    check_counts(alloc, &mut found, t, counts)?;
+    check_objects(alloc, &mut found, tables, &limit)?;
+    check_counts(alloc, &mut found, tables, counts)?;
     Ok(settle(found))
 }

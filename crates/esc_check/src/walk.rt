@@ -51,21 +51,21 @@ fn start(alloc: Global) -> Gathering
 // already, so that these links need not be kept.
 fn take_in(
     alloc: Global,
-    g: &mut Gathering,
+    gathering: &mut Gathering,
     limit: &Limit,
     key: Key,
     object: &Object,
 ) -> Result<(), NoMemory>
     ensures { OnOk result ((left whole : List Entry) → InOrder whole
-        → Leads limit.now.moment (string_bytes limit.now.text) g.old
+        → Leads limit.now.moment (string_bytes limit.now.text) gathering.old
         ((key, object.now) ∷ left) whole
-        → Leads limit.now.moment (string_bytes limit.now.text) g.new left whole) }
+        → Leads limit.now.moment (string_bytes limit.now.text) gathering.new left whole) }
 {
-    check_own(alloc, &mut g.found, limit, &key, object)?;
+    check_own(alloc, &mut gathering.found, limit, &key, object)?;
     let mut links = Vec::new(alloc);
     add_links(alloc, &mut links, &key, object)?;
-    g.waiting.append(&mut unmet(&g.met, links))?;
-    g.met.insert(key)?;
+    gathering.waiting.append(&mut unmet(&gathering.met, links))?;
+    gathering.met.insert(key)?;
     Ok(())
 }
 
@@ -73,19 +73,19 @@ fn take_in(
 // twice: then findings may differ only in `other`, and one of them is listed.
 fn finish(
     alloc: Global,
-    g: Gathering,
+    gathering: Gathering,
     counts: &BTreeMap<Kind, u64>,
 ) -> Result<Vec<Finding>, NoMemory>
     ensures ordered { IfOk result (λ found. IsStrictlySortedBy listing_cmp found.items) }
     ensures each { IfOk result (λ found. (es : List Entry) (w : ℤ) → InOrder es
-        → Leads w (printed w) g [] es → (f : FindingValue)
+        → Leads w (printed w) gathering [] es → (f : FindingValue)
         → Contains found.items f ↔ IsFinding (tables_of es) w counts.now.entries f) }
 {
     let Gathering {
         mut found,
         met,
         waiting,
-    } = g;
+    } = gathering;
     add_all_missing(alloc, &mut found, &unmet(&met, waiting))?;
     check_met(alloc, &mut found, &met, counts)?;
     Ok(listed(settle(found)))
@@ -94,17 +94,18 @@ fn finish(
 // Takes in all objects of a source.
 fn gather<O: Objects>(
     alloc: Global,
-    o: &mut O,
+    objects: &mut O,
     limit: &Limit,
 ) -> Result<Gathering, StreamFault<O::Error>>
-    ensures follows { O.follows o.old o.new }
-    ensures source { IfErr result (λ fault. IfSource fault (O.has_failed o.new)) }
+    ensures follows { O.follows objects.old objects.new }
+    ensures source { IfErr result (λ fault. IfSource fault (O.has_failed objects.new)) }
     ensures cause { IfErr result (OfSource O.fails) }
-    ensures leads { IfOk result (λ g. O.is_honest o.new → (es : List Entry) → O.lists o.old es
+    ensures leads { IfOk result (λ g. O.is_honest objects.new → (es : List Entry)
+        → O.lists objects.old es
         → InOrder es × Leads limit.now.moment (string_bytes limit.now.text) g [] es) }
 {
     let mut gathered = start(alloc);
-    while let Some((key, object)) = o.next().map_err(StreamFault::Source)? {
+    while let Some((key, object)) = objects.next().map_err(StreamFault::Source)? {
         take_in(alloc, &mut gathered, limit, key, &object)?;
     }
     Ok(gathered)
@@ -115,20 +116,20 @@ fn gather<O: Objects>(
 /// come when the links did. At `Err` the source failed, or it is out of memory.
 pub fn verify_from<O: Objects>(
     alloc: Global,
-    o: &mut O,
+    objects: &mut O,
     watermark: i64,
     counts: &BTreeMap<Kind, u64>,
 ) -> Result<Vec<Finding>, StreamFault<O::Error>>
-    ensures follows { O.follows o.old o.new }
-    ensures source { IfErr result (λ fault. IfSource fault (O.has_failed o.new)) }
+    ensures follows { O.follows objects.old objects.new }
+    ensures source { IfErr result (λ fault. IfSource fault (O.has_failed objects.new)) }
     ensures cause { IfErr result (OfSource O.fails) }
     ensures ordered { IfOk result (λ found. IsStrictlySortedBy listing_cmp found.items) }
-    ensures each { IfOk result (λ found. O.is_honest o.new → (es : List Entry)
-        → O.lists o.old es
+    ensures each { IfOk result (λ found. O.is_honest objects.new → (es : List Entry)
+        → O.lists objects.old es
         → (f : FindingValue) → Contains found.items f ↔ IsFinding
         (tables_of es) watermark counts.now.entries f) }
 {
     let limit = limit_at(alloc, watermark)?;
-    let gathered = gather(alloc, o, &limit)?;
+    let gathered = gather(alloc, objects, &limit)?;
     Ok(finish(alloc, gathered, counts)?)
 }

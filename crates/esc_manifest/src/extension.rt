@@ -51,14 +51,14 @@ fn is_same_prev(a: &Option<String>, b: &Option<String>) -> bool
 }
 
 // Whether two rows are equal in all six values.
-fn is_same_row(q: &MRow, r: &MRow) -> bool
-    ensures { result ≡ same_row q.now r.now }
+fn is_same_row(other: &MRow, row: &MRow) -> bool
+    ensures { result ≡ same_row other.now row.now }
 {
-    q.header.id.as_str() == r.header.id.as_str()
-        && is_same_place(q.header.place, r.header.place)
-        && is_same_prev(&q.header.prev, &r.header.prev)
-        && q.header.resend == r.header.resend
-        && q.digest == r.digest
+    other.header.id.as_str() == row.header.id.as_str()
+        && is_same_place(other.header.place, row.header.place)
+        && is_same_prev(&other.header.prev, &row.header.prev)
+        && other.header.resend == row.header.resend
+        && other.digest == row.digest
 }
 
 fn is_listed(rows: &[MRow], row: &MRow) -> bool

@@ -81,45 +81,45 @@ pub(crate) fn is_same_place(a: Place, b: Place) -> bool
     a == b
 }
 
-fn is_same_revision(q: &MRow, r: &MRow) -> bool
-    ensures { result ≡ same_revision q.now r.now }
+fn is_same_revision(other: &MRow, row: &MRow) -> bool
+    ensures { result ≡ same_revision other.now row.now }
 {
-    if q.header.resend != r.header.resend {
+    if other.header.resend != row.header.resend {
         return false;
     }
-    is_same_place(q.header.place, r.header.place)
+    is_same_place(other.header.place, row.header.place)
 }
 
-fn has_moved_id(q: &MRow, r: &MRow) -> bool
-    ensures { result ≡ moved_id q.now r.now }
+fn has_moved_id(other: &MRow, row: &MRow) -> bool
+    ensures { result ≡ moved_id other.now row.now }
 {
-    if q.header.id.as_str() != r.header.id.as_str() {
+    if other.header.id.as_str() != row.header.id.as_str() {
         return false;
     }
-    !is_same_place(q.header.place, r.header.place)
+    !is_same_place(other.header.place, row.header.place)
 }
 
-pub(crate) fn follows_later(q: &MRow, r: &MRow) -> bool
-    ensures { result ≡ follows_later q.now r.now }
+pub(crate) fn follows_later(other: &MRow, row: &MRow) -> bool
+    ensures { result ≡ follows_later other.now row.now }
 {
-    if r.header.place.kind != DepositType::Diff {
+    if row.header.place.kind != DepositType::Diff {
         return false;
     }
-    match &r.header.prev {
+    match &row.header.prev {
         Some(prev) => {
-            if prev.as_str() != q.header.id.as_str() {
+            if prev.as_str() != other.header.id.as_str() {
                 return false;
             }
-            q.header.place.watermark >= r.header.place.watermark
+            other.header.place.watermark >= row.header.place.watermark
         }
         None => false,
     }
 }
 
-fn has_same_digest(q: &MRow, r: &MRow) -> bool
-    ensures { result ≡ same_digest q.now r.now }
+fn has_same_digest(other: &MRow, row: &MRow) -> bool
+    ensures { result ≡ same_digest other.now row.now }
 {
-    q.digest == r.digest
+    other.digest == row.digest
 }
 
 pub(crate) fn repeats_revision(earlier: &[MRow], row: &MRow) -> bool

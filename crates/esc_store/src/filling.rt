@@ -23,14 +23,15 @@ use std::alloc::Global;
 use std::collections::BTreeMap;
 
 // The row of a key and its object. `S1` where the object has no record; `S2`.
-fn new_row<'k>(alloc: Global, k: &'k Key, o: &Object) -> Result<NewObject<'k>, SFault>
-    ensures row { IfOk result (λ row. entry_row (k.now, o.now) ≡ stored_row (new_entry row)) }
+fn new_row<'k>(alloc: Global, key: &'k Key, object: &Object) -> Result<NewObject<'k>, SFault>
+    ensures row { IfOk result (λ row. entry_row (key.now, object.now)
+        ≡ stored_row (new_entry row)) }
     ensures cause { IfErr result IsS1OrS2 }
 {
-    let record = record_bytes(alloc, o)?;
+    let record = record_bytes(alloc, object)?;
     Ok(NewObject {
-        kind: kind_number(k.kind),
-        key: k.text.as_bytes(),
+        kind: kind_number(key.kind),
+        key: key.text.as_bytes(),
         record,
     })
 }

@@ -31,20 +31,24 @@ impl<'a, S: Alter> Registry for Change<'a, S> {
 
     ghost follows = { λ a b. Follows S.Store a b };
 
-    fn get(&mut self, alloc: Global, k: &Key) -> Result<Option<Object>, SFault> {
-        let found = self.find_stored(kind_number(k.kind), k.text.as_bytes())?;
+    fn get(&mut self, alloc: Global, key: &Key) -> Result<Option<Object>, SFault> {
+        let found = self.find_stored(kind_number(key.kind), key.text.as_bytes())?;
         object_in(alloc, found)
     }
 
-    fn put(&mut self, alloc: Global, k: &Key, o: &Object) -> Result<(), SFault> {
-        let record = record_bytes(alloc, o)?;
-        self.put_stored(kind_number(k.kind), k.text.as_bytes(), record.as_slice())?;
+    fn put(&mut self, alloc: Global, key: &Key, object: &Object) -> Result<(), SFault> {
+        let record = record_bytes(alloc, object)?;
+        self.put_stored(
+            kind_number(key.kind),
+            key.text.as_bytes(),
+            record.as_slice(),
+        )?;
         self.count = self.count.saturating_add(1);
         Ok(())
     }
 
-    fn remove(&mut self, k: &Key) -> Result<(), SFault> {
-        self.remove_stored(kind_number(k.kind), k.text.as_bytes())?;
+    fn remove(&mut self, key: &Key) -> Result<(), SFault> {
+        self.remove_stored(kind_number(key.kind), key.text.as_bytes())?;
         self.count = self.count.saturating_add(1);
         Ok(())
     }
@@ -58,10 +62,10 @@ impl<'a, S: Alter> Registry for Change<'a, S> {
         &mut self,
         alloc: Global,
         step: u32,
-        k: &Key,
+        key: &Key,
         before: Option<&Object>,
     ) -> Result<(), SFault> {
-        let (kind, text) = (kind_number(k.kind), k.text.as_bytes());
+        let (kind, text) = (kind_number(key.kind), key.text.as_bytes());
         match before {
             Some(object) => {
                 let record = record_bytes(alloc, object)?;

@@ -244,13 +244,8 @@ static PROGRAM: Program = Program {
 /// What the words ask for; the first of them is the program's name. A request for help or for the
 /// version is an `Err`, too.
 pub fn parse<'a>(alloc: Global, words: &'a [String]) -> Result<Option<Invocation<'a>>, Error> {
-    let matches = program().matches_of(alloc, words)?;
+    let matches = PROGRAM.matches_of(alloc, words)?;
     Ok(invocation_of(&matches))
-}
-
-// The table of commands. (A function in which so large a value stands is proved slowly: this one does nothing else.)
-fn program() -> &'static Program {
-    &PROGRAM
 }
 
 /// Prints the help or the version that was asked for on `out`, or what is wrong with the words on

@@ -124,7 +124,7 @@ fn steps_of(alloc: Global, deposits: &[Deposit]) -> Result<Vec<Step>, NoMemory> 
 // new steps.
 fn move_along(
     alloc: Global,
-    r: &mut Stopping,
+    registry: &mut Stopping,
     old: &[Step],
     new: &[Step],
     deposits: &[Deposit],
@@ -134,31 +134,40 @@ fn move_along(
     if old.len() > 4096 || new.len() > 4096 || new.len().checked_sub(front) != Some(late.len()) {
         return Err(Stopped::NoMemory);
     }
-    move_chain(alloc, r, old, new, late)
+    move_chain(alloc, registry, old, new, late)
 }
 
-fn go(alloc: Global, r: &mut Stopping, old: &[Deposit], new: &[Deposit]) -> Result<Work, Stopped> {
+fn go(
+    alloc: Global,
+    registry: &mut Stopping,
+    old: &[Deposit],
+    new: &[Deposit],
+) -> Result<Work, Stopped> {
     let from = steps_of(alloc, old)?;
     let to = steps_of(alloc, new)?;
-    move_along(alloc, r, &from, &to, new)
+    move_along(alloc, registry, &from, &to, new)
 }
 
 fn push_domain(
     text: &mut String,
     alloc: Global,
-    r: &mut MemRegistry,
+    registry: &mut MemRegistry,
     name: &str,
 ) -> Result<(), NoMemory> {
     let key = Key::named(alloc, Kind::Domain, name)?;
-    match r.get(alloc, &key)? {
+    match registry.get(alloc, &key)? {
         Some(object) => push_object(text, &object),
         None => Ok(()),
     }
 }
 
-fn push_domains(text: &mut String, alloc: Global, r: &mut MemRegistry) -> Result<(), NoMemory> {
+fn push_domains(
+    text: &mut String,
+    alloc: Global,
+    registry: &mut MemRegistry,
+) -> Result<(), NoMemory> {
     for name in NAMES.split_whitespace() {
-        push_domain(text, alloc, r, name)?;
+        push_domain(text, alloc, registry, name)?;
     }
     Ok(())
 }
@@ -167,14 +176,14 @@ fn push_domains(text: &mut String, alloc: Global, r: &mut MemRegistry) -> Result
 fn push_run(
     text: &mut String,
     alloc: Global,
-    r: &mut Stopping,
+    registry: &mut Stopping,
     moved: Result<Work, Stopped>,
 ) -> Result<bool, NoMemory> {
-    let writes = r.writes();
+    let writes = registry.writes();
     match moved {
         Ok(work) => {
             writeln!(text, "{work:?}, {writes} in all")?;
-            push_domains(text, alloc, &mut r.inner)?;
+            push_domains(text, alloc, &mut registry.inner)?;
             Ok(true)
         }
         Err(Stopped::Here) => {

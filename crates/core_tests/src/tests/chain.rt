@@ -208,44 +208,54 @@ fn push_line(
 }
 
 // The resend of the row that is used of a place.
-fn used_resend(m: &Manifest, held: &Held, place: Place) -> Option<u32>
-    requires { InRange m.now held.now }
+fn used_resend(manifest: &Manifest, held: &Held, place: Place) -> Option<u32>
+    requires { InRange manifest.now held.now }
 {
-    let row = m.rows().get(used(m, held, place)?)?;
+    let row = manifest.rows().get(used(manifest, held, place)?)?;
     Some(row.header.resend)
 }
 
 // The latest chain, by the plain call or by the one that goes by a moment, without one.
-fn chain_of(alloc: Global, m: &Manifest, held: &Held, plain: bool) -> Result<Vec<usize>, NoMemory>
-    requires { InRange m.now held.now }
+fn chain_of(
+    alloc: Global,
+    manifest: &Manifest,
+    held: &Held,
+    plain: bool,
+) -> Result<Vec<usize>, NoMemory>
+    requires { InRange manifest.now held.now }
 {
     if plain {
-        latest_chain(alloc, m, held)
+        latest_chain(alloc, manifest, held)
     } else {
-        latest_chain_at(alloc, m, held, None)
+        latest_chain_at(alloc, manifest, held, None)
     }
 }
 
 // The lines of gaps, by such calls.
-fn lines_of(alloc: Global, m: &Manifest, held: &Held, plain: bool) -> Result<Vec<GapLine>, NoMemory>
-    requires { InRange m.now held.now }
+fn lines_of(
+    alloc: Global,
+    manifest: &Manifest,
+    held: &Held,
+    plain: bool,
+) -> Result<Vec<GapLine>, NoMemory>
+    requires { InRange manifest.now held.now }
 {
     if plain {
-        gaps(alloc, m, held)
+        gaps(alloc, manifest, held)
     } else {
-        gaps_at(alloc, m, held, None)
+        gaps_at(alloc, manifest, held, None)
     }
 }
 
 // What is said of held rows: by the plain calls, or by those that go by a moment and by look-ups.
-fn text_of(alloc: Global, m: &Manifest, held: &Held, plain: bool) -> Result<String, NoMemory>
-    requires { InRange m.now held.now }
+fn text_of(alloc: Global, manifest: &Manifest, held: &Held, plain: bool) -> Result<String, NoMemory>
+    requires { InRange manifest.now held.now }
 {
-    let chain = chain_of(alloc, m, held, plain)?;
+    let chain = chain_of(alloc, manifest, held, plain)?;
     let mut text = format!(in alloc; "{chain:?}\n")?;
-    for line in &lines_of(alloc, m, held, plain)? {
+    for line in &lines_of(alloc, manifest, held, plain)? {
         let used = if plain {
-            used_resend(m, held, line.place)
+            used_resend(manifest, held, line.place)
         } else {
             line.used
         };

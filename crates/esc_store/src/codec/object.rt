@@ -85,11 +85,11 @@ pub(crate) fn key_of(alloc: Global, kind: u32, text: &[u8]) -> Result<Key, SFaul
 }
 
 // The record of an object. `S1` where it has none; `S2`.
-pub(crate) fn record_bytes(alloc: Global, o: &Object) -> Result<Vec<u8>, SFault>
-    ensures record { IfOk result (λ bytes. record_of o.now ≡ Some bytes.items) }
+pub(crate) fn record_bytes(alloc: Global, object: &Object) -> Result<Vec<u8>, SFault>
+    ensures record { IfOk result (λ bytes. record_of object.now ≡ Some bytes.items) }
     ensures cause { IfErr result IsS1OrS2 }
 {
-    match to_record(alloc, o)? {
+    match to_record(alloc, object)? {
         Some(record) => Ok(record),
         None => Err(SFault::S1),
     }

@@ -51,25 +51,25 @@ impl Registry for Stopping {
 
     ghost follows = { λ a b. Unit {0} };
 
-    fn get(&mut self, alloc: Global, k: &Key) -> Result<Option<Object>, Stopped> {
+    fn get(&mut self, alloc: Global, key: &Key) -> Result<Option<Object>, Stopped> {
         if stops(&mut self.left) {
             return Err(Stopped::Here);
         }
-        Ok(self.inner.get(alloc, k)?)
+        Ok(self.inner.get(alloc, key)?)
     }
 
-    fn put(&mut self, alloc: Global, k: &Key, o: &Object) -> Result<(), Stopped> {
+    fn put(&mut self, alloc: Global, key: &Key, object: &Object) -> Result<(), Stopped> {
         if stops(&mut self.left) {
             return Err(Stopped::Here);
         }
-        Ok(self.inner.put(alloc, k, o)?)
+        Ok(self.inner.put(alloc, key, object)?)
     }
 
-    fn remove(&mut self, k: &Key) -> Result<(), Stopped> {
+    fn remove(&mut self, key: &Key) -> Result<(), Stopped> {
         if stops(&mut self.left) {
             return Err(Stopped::Here);
         }
-        Ok(self.inner.remove(k)?)
+        Ok(self.inner.remove(key)?)
     }
 
     fn clear(&mut self) -> Result<(), Stopped> {
@@ -83,13 +83,13 @@ impl Registry for Stopping {
         &mut self,
         alloc: Global,
         step: u32,
-        k: &Key,
+        key: &Key,
         before: Option<&Object>,
     ) -> Result<(), Stopped> {
         if stops(&mut self.left) {
             return Err(Stopped::Here);
         }
-        Ok(self.inner.put_undo(alloc, step, k, before)?)
+        Ok(self.inner.put_undo(alloc, step, key, before)?)
     }
 
     fn put_all(

@@ -8,9 +8,9 @@ abbrev pub invariant-loop-lines : goal.invariant-loop-lines
 invariant-loop-lines g l =
     let objects = g.O.Objects in
     record {
-      follows : objects.follows l.fn.o l.o;
-      written : objects.is_honest l.o → (es : List Entry) → objects.lists l.fn.o es → (left : List Entry) × objects.lists l.o left × (l.lines ++ text_of (export_lines l.kind left) ≡ export_text l.kind es);
+      follows : objects.follows l.fn.objects l.objects;
+      written : objects.is_honest l.objects → (es : List Entry) → objects.lists l.fn.objects es → (left : List Entry) × objects.lists l.objects left × (l.lines ++ text_of (export_lines l.kind left) ≡ export_text l.kind es);
     }
 
 abbrev pub decreases-loop-lines : goal.decreases-loop-lines
-decreases-loop-lines g l = g.O.Objects.bound l.o
+decreases-loop-lines g l = g.O.Objects.bound l.objects

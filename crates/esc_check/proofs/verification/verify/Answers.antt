@@ -14,4 +14,4 @@ returns-clause-each c =
 
 pub returns-clause-ordered : goal.returns-clause-ordered
 returns-clause-ordered c =
-    in_order c.args.t.now.entries c.args.watermark c.args.counts.now.entries c.settle.result.items c.in_ok-check_objects.ensures.ordered (returns-clause-each c) c.settle.ensures.ordered
+    in_order c.args.tables.now.entries c.args.watermark c.args.counts.now.entries c.settle.result.items c.in_ok-check_objects.ensures.ordered (returns-clause-each c) c.settle.ensures.ordered

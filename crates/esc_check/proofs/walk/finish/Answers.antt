@@ -12,7 +12,7 @@ use Rattle.esc_check.proofs.walk.finish.Goals as goal
 
 pub returns-clause-each : goal.returns-clause-each
 returns-clause-each c = λ es w ordered leads.
-    let g = c.args.g in
+    let g = c.args.gathering in
     let counts = c.args.counts.now.entries in
     let missing = c.in_ok-add_all_missing.ensures ∙ ap (λ (ls : List LinkValue). g.found.items ++ map missing_target ls) (c.deref.ensures.value ∙ c.unmet.ensures) in
     let all = c.in_ok-check_met.ensures ∙ ap (λ (l : List FindingValue). l ++ flat_map (count_findings g.met.keys) counts) missing in

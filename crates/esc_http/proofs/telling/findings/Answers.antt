@@ -12,7 +12,7 @@ use Rattle.esc_http.proofs.telling.findings.Goals as goal
 
 pub returns-in-Ok-clause-found : goal.returns-in-Ok-clause-found
 returns-in-Ok-clause-found g c = λ clean e serves apart.
-    let at_end : IsHonest g.S.Store c.verify_from.new.o.desk.now.store = search rules in
+    let at_end : IsHonest g.S.Store c.verify_from.new.objects.desk.now.store = search rules in
     let entries = listing g.S.Store c.args.desk.now.store e c.tables_are_listed.ensures
     c.tables_are_of_events.ensures serves apart in
     let at_walk = was_honest c.in-Ok.ensures.follows.same at_end in

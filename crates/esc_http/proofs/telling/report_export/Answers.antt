@@ -6,7 +6,7 @@ use Rattle.esc_http.proofs.telling.report_export.Goals as goal
 
 pub returns-in-Ok-clause-text : goal.returns-in-Ok-clause-text
 returns-in-Ok-clause-text g c = λ clean e serves apart.
-    let at_end : IsHonest g.S.Store c.export_from.new.o.desk.now.store = search rules in
+    let at_end : IsHonest g.S.Store c.export_from.new.objects.desk.now.store = search rules in
     let entries = listing g.S.Store c.args.desk.now.store e c.tables_are_listed.ensures
     c.tables_are_of_events.ensures serves apart in
     let at_walk = was_honest c.in-Ok.ensures.follows.same at_end in
