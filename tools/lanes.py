@@ -6,7 +6,7 @@ from crates import copied_tree, libraries
 # The critical path: the crates that have a tree of their own, by the crate after which these trees are begun (`None`: at the start). The later
 # one begins, the fewer look for the same crates, and the more memory is free.
 TREES = {None: ('esc_envelope', 'esc_apply', 'esc_store'), 'esc_envelope': ('esc_desk',), 'esc_apply': ('store_lines',),
-         'esc_store': ('restore', 'desk_harness')}
+         'esc_store': ('esc_commands', 'restore', 'desk_harness')}
 ON_PATH = [name for names in TREES.values() for name in names]
 # What is proved before the `rt ci` over all crates begins, and before the trees beside the path do.
 ALL_AFTER, BESIDE_AFTER = 'esc_events', 'esc_envelope'

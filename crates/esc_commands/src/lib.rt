@@ -1,0 +1,62 @@
+//! The commands of the program, each over a store in a file.
+//!
+//! [`run_words`] is the whole program but for its process: it is given the words of the
+//! process, of which the first is the program's name, and two streams to write to, does what the
+//! words ask for, and returns the exit status.
+//!
+//! What goes in: words, a release manifest and bundles in files, or HTTP requests on a port. What
+//! comes out: a store in a file, which the next command opens again; on standard output counts of
+//! listed rows, the end of the chain, receipts, reports, exports or help; on standard error
+//! refusals, one a line; and the status.
+//!
+//! | Module | Does |
+//! |---|---|
+//! | `commands` | the commands: from what is asked for to the status |
+//! | `jobs` | opens the file of a store and closes it, once for each command; what is done in between |
+//! | `store_file` | makes the store in the database of a file or opens it, and says why that failed |
+//! | `events` | arrivals, amendments and moments, each a run of the desk of its own |
+//! | `take` | takes the plain files of a folder, in byte order of names |
+//! | `serve` | serves connections on a port, one after the other, each within a time |
+//! | `run` | one run of the program: the runtime, the network and its two streams |
+//!
+//! What the words ask for, the reading of manifests and bodies, and what a command stops for are in
+//! [`esc_usage`]. What `pack` does alike is in [`esc_console`].
+//!
+//! # Example
+//!
+//! ```text
+//! let words = ["restore", "report", "--store", "desk.db", "gaps"];   // as a list of `String`
+//! let status = run_words(rt, net, &words, &mut rt.stdout(), &mut rt.stderr());
+//! // 0, and the report is printed; 3 and `S3` on standard error, if there is no store desk.db
+//! ```
+//!
+//! # Order of refusals
+//!
+//! The first of these that fails is reported: the words (status 2), the moment (`E3`, status 1),
+//! the manifest (`M1` to `M13`, status 1, or `E1` where it can't be read), the store as it is
+//! opened (`S1` to `S3`, or `E1` where its file can't be read and written), the union of an
+//! amendment with the listed rows (`M1`, `M10` to `M13`), the folder or the port (`E1`), then file
+//! by file (`N1`, `E1`, `E2`, `S4`, `S5`, and the verdict of the receipt, status 1). `S1` and `S2`
+//! may come at any point once the store is opened. `S1` to `S5` and `E1` stop a command with status
+//! 3; what was answered before stays. A report is printed once the store is closed.
+//!
+//! # What is promised
+//!
+//! By proof: that no call is unsafe and that each ends, whatever the words, files and requests are.
+//! What a store stands for after an arrival, an amendment or a moment is the contract of
+//! [`esc_desk::Desk::run_events`], and after a migration that of [`esc_store::Store::migrate`].
+//! What a request is answered is that of [`esc_http::serve_one`], how long its client is waited for
+//! that of [`esc_client::Client`], and the texts of reports are that of [`esc_http::report`]. No
+//! contract can say what a file holds or what is printed, so the texts, statuses and the order of
+//! refusals are tested on the built program, by the scenes in `scenes/`.
+#![tactic(auto)]
+
+mod commands;
+mod events;
+mod jobs;
+mod run;
+mod serve;
+mod store_file;
+mod take;
+
+pub use commands::run_words;
