@@ -6,8 +6,8 @@ The programs are those that `rt ci` built in this checkout (crates/restore/out/r
 
 A case is a folder of files, and command lines with the status, the standard output and the standard error that they must give, or lines
 that desk_harness is told with the answer to each. It is written in a transcript, tests/transcripts/FILE.txt (tests/support/transcripts.py
-has the form), or, where code is needed, as a function `test_..` in tests/cases/FILE.py, whose docstring is its title. The tests in
-tests/unit/, which unittest finds, are of the tests' own parts: they need no program.
+has the form), or, where code is needed, as a function `test_..` in tests/cases/FILE.py, whose docstring is its title, or in the table CASES
+there, by its title. The tests in tests/unit/, which unittest finds, are of the tests' own parts: they need no program.
 
 The cases are played side by side, RT_JOBS of them or one for each processor. Each that ends otherwise is printed as FAILED, with the first
 line that did, what was wanted and what came. The last line is `N passed, M failed`; the status is 0 where M is 0."""
@@ -56,8 +56,9 @@ def cases_of_transcript(name):
 
 
 def cases_of_module(name):
-    functions = vars(importlib.import_module(f'cases.{name}')).items()
-    return [Case(name, play.__doc__.partition('\n')[0].rstrip('.'), play) for of, play in functions if of.startswith('test_')]
+    module = vars(importlib.import_module(f'cases.{name}'))
+    cases = {play.__doc__.partition('\n')[0].rstrip('.'): play for of, play in module.items() if of.startswith('test_')}
+    return [Case(name, title, play) for title, play in (cases | module.get('CASES', {})).items()]
 
 
 def tests_in(suite):

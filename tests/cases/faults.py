@@ -5,18 +5,18 @@ An event is answered or refused by `S1`. Once the list is sent again the answers
 nothing happened to, which took the answered events and then the list. Where it is open whether a change was kept, as after a sync that
 failed, the desk refuses until its files are opened again, and the event of that change may have been taken in. How often the files have
 to be opened again is known of each list."""
-import re
+import functools, re
 from dataclasses import dataclass, field
 
-from support.events import NOON, TABLES, check, put_files, put_first_store, query, run, run_line
+from support.events import FILES, NOON, TABLES, check, put_files, put_first_store, query, run, run_line
 from support.harness import Harness
 from support.stage import Failed, Stage, difference
 from support.steps import Bodies
 
 # More calls than there are.
 MOST_CALLS = 5_000
-# The log is never copied into the database file, or before each commit.
-PLENTY, NO_LOG = 1_000, 1
+# How many pages the log may have where a call of a file fails: so it is never copied into the database file, or before each commit.
+ROOMS = {'log': 1_000, 'database': 1}
 
 
 @dataclass(frozen=True)
@@ -48,12 +48,10 @@ CLOSED = List(('script first.sql', 'reopen'), 'migrate', 'migrated\n', AGAIN)
 
 @dataclass(frozen=True)
 class Phase:
-    """When a call of a file fails: while a store is made and takes a list, or while one that took it is opened and takes it again. And
-    how many pages the log may have."""
+    """When a call of a file fails: while a store is made and takes a list, or while one that took it is opened and takes it again."""
     told: List
     file: str
-    room: int
-    is_again: bool = False
+    is_again: bool
 
 
 @dataclass(frozen=True)
@@ -146,7 +144,7 @@ def seen_at(stage, phase, calls):
     """What is seen where the call after so many others fails."""
     with Harness(stage) as desk:
         prepare(desk, phase)
-        check(desk, f'room {phase.room}', '')
+        check(desk, f'room {ROOMS[phase.file]}', '')
         check(desk, f'fail {phase.file} {calls}', '')
         return send_twice(desk, phase.told)
 
@@ -228,68 +226,24 @@ def check_calls(stage, phase, reopened):
         raise Failed(f'the files had to be opened again after {count} of {calls} calls of the {phase.file}: wanted {reopened}')
 
 
-# Each of the eight events is a commit. Of each commit it is open after two syncs, and the write between them.
-def test_a_list_and_the_log(stage):
-    """Each call of the log fails once, while a store is made and takes a list."""
-    check_calls(stage, Phase(WORKED, 'log', PLENTY), 24)
-
-
-# Before each of the eight commits the log is emptied, after a sync of the database file.
-def test_a_list_and_the_database_file(stage):
-    """Each call of the database file fails once, while a store is made and takes a list."""
-    check_calls(stage, Phase(WORKED, 'database', NO_LOG), 8)
-
-
-# Of a list that was taken in two events are commits: the moment is set, and taken back.
-def test_a_list_again_and_the_log(stage):
-    """Each call of the log fails once, while a store is opened and takes its list again."""
-    check_calls(stage, Phase(WORKED, 'log', PLENTY, is_again=True), 6)
-
-
-def test_a_list_again_and_the_database_file(stage):
-    """Each call of the database file fails once, while a store is opened and takes its list again."""
-    check_calls(stage, Phase(WORKED, 'database', NO_LOG, is_again=True), 2)
-
-
-# Each of the seven events is a commit.
-def test_moves_and_the_log(stage):
-    """Each call of the log fails once, while the chain is moved back and forward, and cleared."""
-    check_calls(stage, Phase(MOVED, 'log', PLENTY), 21)
-
-
-def test_moves_and_the_database_file(stage):
-    """Each call of the database file fails once, while the chain is moved back and forward, and cleared."""
-    check_calls(stage, Phase(MOVED, 'database', NO_LOG), 7)
-
-
-# Each of the four events is a commit. Where the migration is open, that is found as the store is made.
-def test_a_migrated_list_and_the_log(stage):
-    """Each call of the log fails once, while a store of version 1 that lies in it is migrated and takes a list."""
-    check_calls(stage, Phase(MIGRATED, 'log', PLENTY), 12)
-
-
-def test_a_migrated_list_and_the_database_file(stage):
-    """Each call of the database file fails once, while a store of version 1 that lies in the log is migrated and takes a list."""
-    check_calls(stage, Phase(MIGRATED, 'database', NO_LOG), 4)
-
-
-# No event of a list that was taken in changes a migrated store.
-def test_a_migrated_list_again_and_the_log(stage):
-    """Each call of the log fails once, while a store that was migrated from the log is opened and takes its list again."""
-    check_calls(stage, Phase(MIGRATED, 'log', PLENTY, is_again=True), 0)
-
-
-# The same, where the store of version 1 was closed, so that it lies in the database file.
-def test_a_closed_list_and_the_log(stage):
-    """Each call of the log fails once, while a store of version 1 that was closed is migrated and takes a list."""
-    check_calls(stage, Phase(CLOSED, 'log', PLENTY), 12)
-
-
-def test_a_closed_list_and_the_database_file(stage):
-    """Each call of the database file fails once, while a store of version 1 that was closed is migrated and takes a list."""
-    check_calls(stage, Phase(CLOSED, 'database', NO_LOG), 4)
-
-
-def test_a_closed_list_again_and_the_log(stage):
-    """Each call of the log fails once, while a store that was closed and migrated is opened and takes its list again."""
-    check_calls(stage, Phase(CLOSED, 'log', PLENTY, is_again=True), 0)
+# When a call fails: the list, whether it is sent again, and after how many calls of each file the files have to be opened again.
+PHASES = (
+    # Each of the eight events is a commit. Of each commit it is open after two syncs, and the write between them. Before each of them the
+    # log is emptied, after a sync of the database file.
+    ('a store is made and takes a list', WORKED, False, {'log': 24, 'database': 8}),
+    # Of a list that was taken in two events are commits: the moment is set, and taken back.
+    ('a store is opened and takes its list again', WORKED, True, {'log': 6, 'database': 2}),
+    # Each of the seven events is a commit.
+    ('the chain is moved back and forward, and cleared', MOVED, False, {'log': 21, 'database': 7}),
+    # Each of the four events is a commit. Where the migration is open, that is found as the store is made.
+    ('a store of version 1 that lies in it is migrated and takes a list', MIGRATED, False, {'log': 12}),
+    ('a store of version 1 that lies in the log is migrated and takes a list', MIGRATED, False, {'database': 4}),
+    # No event of a list that was taken in changes a migrated store.
+    ('a store that was migrated from the log is opened and takes its list again', MIGRATED, True, {'log': 0}),
+    # The same, where the store of version 1 was closed, so that it lies in the database file.
+    ('a store of version 1 that was closed is migrated and takes a list', CLOSED, False, {'log': 12, 'database': 4}),
+    ('a store that was closed and migrated is opened and takes its list again', CLOSED, True, {'log': 0}),
+)
+CASES = {
+    f'Each call of the {FILES[file]} fails once, while {when}': functools.partial(check_calls, phase=Phase(told, file, is_again), reopened=count)
+    for when, told, is_again, counts in PHASES for file, count in counts.items()}

@@ -5,7 +5,7 @@ store keeps, it is migrated, and then the events come, many of them arrivals tha
 from support.harness import Harness
 from support.model import begin, fault_of, latest_chain, parked_lines, state, take, work, work_text
 from support.model_store import first_store
-from support.stage import Failed
+from support.stage import Failed, text_of
 from support.universe import (
     Amendment, Arrival, Chance, Closing, History, Moment, draw_arrival, draw_bodies, draw_event, draw_first, draw_history, draw_rows,
     event_text, manifest_text, moment_text)
@@ -47,10 +47,6 @@ def draw_migrated(seed, closes):
 
 
 # ---- desks that play them
-
-def text_of(lines):
-    return ''.join(f'{it}\n' for it in lines)
-
 
 class Play:
     """A desk that plays a list, and the model's book. The events are noted, so that a failure shows the list."""
@@ -136,59 +132,21 @@ def play_all(stage, first, draw, play):
             raise Failed(f'{"".join(told)}{failure}') from None
 
 
-def play_lists(stage, first):
-    play_all(stage, first, lambda seed: draw_history(seed, EVENTS, closes=True), Play.one_by_one)
+def one_by_one(first, draw, *of):
+    return lambda stage: play_all(stage, first, lambda seed: draw(seed, *of, closes=True), Play.one_by_one)
 
 
-def play_runs(stage, first):
-    play_all(stage, first, lambda seed: draw_history(seed, RUN_EVENTS, closes=False), Play.in_one_call)
+def in_one_call(first, draw, *of):
+    return lambda stage: play_all(stage, first, lambda seed: draw(seed, *of, closes=False), Play.in_one_call)
 
 
-def play_migrated(stage, first):
-    play_all(stage, first, lambda seed: draw_migrated(seed, closes=True), Play.one_by_one)
-
-
-def play_migrated_runs(stage, first):
-    play_all(stage, first, lambda seed: draw_migrated(seed, closes=False), Play.in_one_call)
-
-
-# ---- cases
-
-def test_first_lists(stage):
-    """Lists of the first seeds."""
-    play_lists(stage, 0)
-
-
-def test_second_lists(stage):
-    """Lists of the second seeds."""
-    play_lists(stage, 100)
-
-
-def test_third_lists(stage):
-    """Lists of the third seeds."""
-    play_lists(stage, 200)
-
-
-def test_first_runs(stage):
-    """Runs of the first seeds."""
-    play_runs(stage, 1000)
-
-
-def test_second_runs(stage):
-    """Runs of the second seeds."""
-    play_runs(stage, 1100)
-
-
-def test_first_migrated_lists(stage):
-    """Lists of the first seeds over stores that were migrated."""
-    play_migrated(stage, 2000)
-
-
-def test_second_migrated_lists(stage):
-    """Lists of the second seeds over stores that were migrated."""
-    play_migrated(stage, 2100)
-
-
-def test_migrated_runs(stage):
-    """Runs over stores that were migrated."""
-    play_migrated_runs(stage, 2200)
+CASES = {
+    'Lists of the first seeds': one_by_one(0, draw_history, EVENTS),
+    'Lists of the second seeds': one_by_one(100, draw_history, EVENTS),
+    'Lists of the third seeds': one_by_one(200, draw_history, EVENTS),
+    'Runs of the first seeds': in_one_call(1000, draw_history, RUN_EVENTS),
+    'Runs of the second seeds': in_one_call(1100, draw_history, RUN_EVENTS),
+    'Lists of the first seeds over stores that were migrated': one_by_one(2000, draw_migrated),
+    'Lists of the second seeds over stores that were migrated': one_by_one(2100, draw_migrated),
+    'Runs over stores that were migrated': in_one_call(2200, draw_migrated),
+}

@@ -9,7 +9,7 @@ from dataclasses import dataclass
 
 from support import first_store
 from support.bodies import bytes_of, manifest_text
-from support.events import FIRST_TABLES, NOON, check, compare, is_answered, put_files, put_first_store, query, run, run_line
+from support.events import FILES, FIRST_TABLES, NOON, check, compare, is_answered, put_files, put_first_store, query, run, run_line
 from support.harness import Harness
 from support.stage import Failed, text_of
 from support.worked_rows import C1, DOMAIN_A, DOMAIN_B, DOMAIN_C, R1, RESENT, RESENT_IMAGES, told
@@ -94,18 +94,6 @@ def play_arrivals(desk, stop):
         check(desk, line, wanted)
     check_images(desk, RESENT_IMAGES)
     return count == len(RESENT.taken)
-
-
-def test_arrivals_and_the_log(stage):
-    """The log stops at each call, while bodies arrive."""
-    put_files(stage, listed=RESENT.listed)
-    check_stops(stage, 'log', play_arrivals)
-
-
-def test_arrivals_and_the_database_file(stage):
-    """The database file stops at each call, while bodies arrive."""
-    put_files(stage, listed=RESENT.listed)
-    check_stops(stage, 'database', play_arrivals)
 
 
 # ---- arrivals, an amendment and a moment
@@ -195,22 +183,6 @@ def play_events(desk, stop):
     return count == len(STEPS)
 
 
-def put_events(stage):
-    put_files(stage, first=('F1', 'D3', 'D2Resent'), amended=('F1', 'D2', 'Abc'))
-
-
-def test_events_and_the_log(stage):
-    """The log stops at each call, while bodies arrive, a manifest is amended and a moment is set."""
-    put_events(stage)
-    check_stops(stage, 'log', play_events)
-
-
-def test_events_and_the_database_file(stage):
-    """The database file stops at each call, while bodies arrive, a manifest is amended and a moment is set."""
-    put_events(stage)
-    check_stops(stage, 'database', play_events)
-
-
 # ---- a store of version 1, which is migrated
 
 # What version 1 did not keep: D2 came as number 2 before its row.
@@ -259,7 +231,7 @@ def look(desk, is_migrated):
     return is_first
 
 
-def check_migration(stage, file, *before):
+def over_migration(stage, file, *before):
     """Stops a file while a store is migrated, which both is still of version 1 and is migrated after some stop. These lines come before."""
     put_files(stage, amended=('F1', 'D2'))
     put_first_store(stage, LOST)
@@ -279,21 +251,29 @@ def check_migration(stage, file, *before):
         raise Failed(f'every store that was left is {"of version 1" if found == {True} else "migrated"}')
 
 
-def test_migration_and_the_log(stage):
-    """The log stops at each call, while a store of version 1 that lies in it is migrated."""
-    check_migration(stage, 'log')
+def over_closed_migration(stage, file):
+    over_migration(stage, file, 'reopen')
 
 
-def test_migration_and_the_database_file(stage):
-    """The database file stops at each call, while a store of version 1 that lies in the log is migrated."""
-    check_migration(stage, 'database')
+# ---- cases
 
 
-def test_migration_of_a_closed_store_and_the_log(stage):
-    """The log stops at each call, while a store of version 1 that was closed is migrated."""
-    check_migration(stage, 'log', 'reopen')
+def over_arrivals(stage, file):
+    put_files(stage, listed=RESENT.listed)
+    check_stops(stage, file, play_arrivals)
 
 
-def test_migration_of_a_closed_store_and_the_database_file(stage):
-    """The database file stops at each call, while a store of version 1 that was closed is migrated."""
-    check_migration(stage, 'database', 'reopen')
+def over_events(stage, file):
+    put_files(stage, first=('F1', 'D3', 'D2Resent'), amended=('F1', 'D2', 'Abc'))
+    check_stops(stage, file, play_events)
+
+
+# What is stopped, and the files whose calls are.
+PLAYS = (
+    ('bodies arrive', over_arrivals, FILES),
+    ('bodies arrive, a manifest is amended and a moment is set', over_events, FILES),
+    ('a store of version 1 that lies in it is migrated', over_migration, ['log']),
+    ('a store of version 1 that lies in the log is migrated', over_migration, ['database']),
+    ('a store of version 1 that was closed is migrated', over_closed_migration, FILES),
+)
+CASES = {f'The {FILES[file]} stops at each call, while {when}': functools.partial(play, file=file) for when, play, files in PLAYS for file in files}

@@ -16,6 +16,8 @@ FIRST_TABLES = {
 # Those and the others that a store of this version has.
 TABLES = {'info': ('id, version', 'id')} | FIRST_TABLES | {'parked': ('digest, body', 'digest'), 'moment': ('id, watermark', 'id')}
 NOON = '2024-03-04T12:00:00Z'
+# The files of a desk, as a harness is told of them, and their names.
+FILES = {'log': 'log', 'database': 'database file'}
 
 
 def put_files(stage, **listed):
