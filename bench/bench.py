@@ -1,5 +1,5 @@
 #!/usr/bin/env python3
-"""bench.py [--restore PROGRAM] [--keep FOLDER]: how long the program takes, and how much memory.
+"""bench/bench.py [--restore PROGRAM] [--keep FOLDER]: how long the program takes, and how much memory.
 
 Makes a large release (seeded: every run has the same bytes) and runs the program on it: takes of a Full, of Differentials,
 of a late revision, of an Incremental and of repeats, each report and two exports of what they made, and a desk of its own
@@ -10,15 +10,14 @@ for the status of the large store the processor time of the first response and o
 Differentials is taken in order: all processor time, and that of an arrival where so many rows are held, with the ratio to
 one where 100 are; and bodies that no row lists yet are parked, as many as there is place for, and adopted by an amendment:
 all processor time, with the ratio to taking the same bodies where they are listed. It needs python3 alone, and the program,
-which `./sample --proved` builds: `./sample --proved >/dev/null && bench/bench.py`. With --only chain, or --only adopted, that task alone is
+which `./build` builds: `./build && bench/bench.py`. With --only chain, or --only adopted, that task alone is
 run. Times of a busy machine say little; the ratios say more."""
 import argparse, os, re, shutil, subprocess, sys, tempfile, time
 
-from running import Program, arrivals_where, ask
+from running import HERE, RESTORE, Program, arrivals_where, ask, made_release
 
-HERE = os.path.dirname(os.path.abspath(__file__))
 arguments = argparse.ArgumentParser(description=__doc__)
-arguments.add_argument('--restore', default=os.path.join(HERE, '..', 'crates', 'restore', 'out', 'restore'))
+arguments.add_argument('--restore', default=RESTORE)
 arguments.add_argument('--keep', help='a folder to work in, which is kept')
 arguments.add_argument('--only', choices=['chain', 'adopted'], help='this task alone')
 given = arguments.parse_args()
@@ -117,7 +116,7 @@ def tell_run(task, *words):
 
 
 def main():
-    subprocess.run([sys.executable, os.path.join(HERE, 'release.py'), release], check=True)
+    made_release(release)
     if given.only == 'chain':
         return along_a_chain()
     if given.only == 'adopted':

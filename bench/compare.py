@@ -1,5 +1,5 @@
 #!/usr/bin/env python3
-"""compare.py BEFORE AFTER [--times N]: two builds of the program on the same large release, by processor time.
+"""bench/compare.py BEFORE AFTER [--times N]: two builds of the program on the same large release, by processor time.
 
 Makes the release of release.py and lets both builds do each task in turn, N times (3 by default), each in a store of its own. Prints for each
 task the least processor time of either build, the ratio of the second to the first, and the same of the peak memory. A task over a
@@ -9,9 +9,7 @@ rows are held, of the second build. It needs python3 alone."""
 import argparse, os, shutil, subprocess, sys, tempfile
 from dataclasses import dataclass, field
 
-from running import Program, arrivals_where
-
-HERE = os.path.dirname(os.path.abspath(__file__))
+from running import Program, arrivals_where, made_release
 
 
 class Release:
@@ -19,7 +17,7 @@ class Release:
 
     def __init__(self, work):
         self.folder = os.path.join(work, 'release')
-        subprocess.run([sys.executable, os.path.join(HERE, 'release.py'), self.folder], check=True)
+        made_release(self.folder)
 
     def path(self, *names):
         return os.path.join(self.folder, *names)

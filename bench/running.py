@@ -1,6 +1,10 @@
-"""Runs of the program that are measured: what bench.py and compare.py share."""
+"""Runs of the program that are measured: what bench.py, compare.py and statements.py share."""
 import http.client, os, socket, subprocess, sys, time
 from dataclasses import dataclass
+
+HERE = os.path.dirname(os.path.abspath(__file__))
+TOP = os.path.dirname(HERE)
+RESTORE = f'{TOP}/crates/restore/out/restore'
 
 
 @dataclass
@@ -67,6 +71,11 @@ class Program:
             clock.append(spent(child))
         ask(port, 'GET', '/status')
         return clock[1] - clock[0], (clock[-1] - clock[1]) / (asked - 1), ended()
+
+
+def made_release(folder):
+    """Makes the large release in a folder."""
+    subprocess.run([sys.executable, f'{HERE}/release.py', folder], check=True)
 
 
 def free_port():

@@ -1,5 +1,5 @@
 #!/usr/bin/env python3
-"""statements.py [--restore PROGRAM] [--release FOLDER] [--deposit full] [--times N] [--statements PROGRAM] [--keep FOLDER]
+"""bench/statements.py [--restore PROGRAM] [--release FOLDER] [--deposit full] [--times N] [--statements PROGRAM] [--keep FOLDER]
 
 What taking a large Full costs beside SQL statements that write the same objects row by row, by the program's own engine, in the same
 run. (The program writes 32 rows a statement where a Full comes first, so that it may take less than they do.)
@@ -14,11 +14,12 @@ least is steadier than the mean on a busy machine; ratios hold within one run.
 into a repository of its own, where `rt run` proves that it is safe and builds it; --statements names what an earlier run built."""
 import argparse, os, re, shutil, subprocess, sys, tempfile, time
 
-HERE = os.path.dirname(os.path.abspath(__file__))
+from running import HERE, RESTORE, TOP, made_release
+
 SOURCE = os.path.join(HERE, 'statements', 'main.txt')
-TEXTS = os.path.join(HERE, '..', 'crates', 'esc_rows', 'src')
+TEXTS = os.path.join(TOP, 'crates', 'esc_rows', 'src')
 arguments = argparse.ArgumentParser(description=__doc__, formatter_class=argparse.RawDescriptionHelpFormatter)
-arguments.add_argument('--restore', default=os.path.join(HERE, '..', 'crates', 'restore', 'out', 'restore'))
+arguments.add_argument('--restore', default=RESTORE)
 arguments.add_argument('--release', help='a folder that release.py made')
 arguments.add_argument('--deposit', default='full', help='its folder with one Full: full, or growth/N')
 arguments.add_argument('--statements', help='the program that an earlier run built')
@@ -86,7 +87,7 @@ def main():
     program = given.statements or build()
     release = given.release or os.path.join(work, 'release')
     if not given.release:
-        subprocess.run([sys.executable, os.path.join(HERE, 'release.py'), release], check=True)
+        made_release(release)
     manifest = os.path.join(release, given.deposit + '.csv' if '/' in given.deposit else 'manifest.csv')
     names = {'snui': 'SELECT, image, UPDATE, INSERT', 'sni': 'SELECT, image, INSERT', 'ni': 'image, INSERT'}
     takes, clocks, peaks, changes, each = [], [], [], {word: [] for word in names}, []

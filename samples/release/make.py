@@ -1,5 +1,5 @@
 #!/usr/bin/env python3
-"""Writes this sample release: the manifest, the deposits that arrived, and the one that is missing.
+"""samples/release/make.py: writes this sample release: the manifest, the deposits that arrived, and the one that is missing.
 
     F1  FULL  2024-03-01   all kinds of objects, with child tables
     D2  DIFF  2024-03-02   on F1
@@ -8,7 +8,7 @@
     D5  DIFF  2024-03-05   on I4, which is missing
     D6  DIFF  2024-03-06   on D5
 """
-import hashlib, json, os
+import argparse, hashlib, json, os
 
 HERE = os.path.dirname(os.path.abspath(__file__))
 
@@ -129,6 +129,7 @@ def write(folder, files):
 
 
 def main():
+    argparse.ArgumentParser(description=__doc__, formatter_class=argparse.RawDescriptionHelpFormatter).parse_args()
     manifest = 'id,type,watermark,prevId,resend,sha256\n'
     for id, type, day, prev, resend, body in ROWS:
         manifest += f'{id},{type},2024-03-{day:02d}T00:00:00Z,{prev},{resend},{hashlib.sha256(body).hexdigest()}\n'

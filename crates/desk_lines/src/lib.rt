@@ -24,7 +24,7 @@
 //! # What the contracts mean
 //!
 //! The functions have no clause: by proof no call is unsafe, and each ends. What they write is
-//! tested by the scenes of `scenes/`, on the built program.
+//! tested by the cases of `tests/`, on the built program.
 #![tactic(auto)]
 
 mod events;

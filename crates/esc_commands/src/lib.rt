@@ -48,7 +48,7 @@
 //! What a request is answered is that of [`esc_http::serve_one`], how long its client is waited for
 //! that of [`esc_client::Client`], and the texts of reports are that of [`esc_http::report`]. No
 //! contract can say what a file holds or what is printed, so the texts, statuses and the order of
-//! refusals are tested on the built program, by the scenes in `scenes/`.
+//! refusals are tested on the built program, by the cases of `tests/`.
 #![tactic(auto)]
 
 mod commands;

@@ -52,7 +52,7 @@
 //! [`plain_files`] gives are in byte order (`rising`); and that [`tell_answer`] gives status 0 for
 //! help and for a version (`asked`), and 2 for a mistake (`mistaken`). No contract can say what a
 //! file holds, which names a folder has, or what is printed, so these are tested on the built
-//! programs, by the scenes in `scenes/`.
+//! programs, by the cases of `tests/`.
 #![tactic(auto)]
 
 mod answers;

@@ -34,7 +34,7 @@
 //! says what two of them return: [`moment_named`] the moment that a word names and [`manifest_in`] the
 //! manifest that a text is read as, or the stop with the word or the refusal. No contract can say what
 //! a file holds or what is printed, so the texts, the statuses and the order of refusals are tested on
-//! the built program, by the scenes in `scenes/`.
+//! the built program, by the cases of `tests/`.
 #![tactic(auto)]
 
 mod command_line;

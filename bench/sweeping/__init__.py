@@ -1,1 +1,0 @@
-"""What `./sweep` is made of: the releases that are swept, the refusals, and what has to come of each."""

@@ -1,0 +1,76 @@
+"""Standard output and standard error that fail, and a file that is removed while its folder is taken."""
+import os
+
+from support.outputs import NarrowPipe, check_narrow
+from support.stage import Got, Wanted, pieces_of
+from support.steps import Copy, Folder, Text
+
+HEADING = 'receipt,number,verdict,fault,id,resend,copy,orphans\n'
+FIRST = f'{HEADING}1,n1,A1,,F1,0,new,0\n'
+INIT = 'init --store a.db --manifest listed.csv'
+TAKE = 'take --store a.db deposits'
+RECEIPTS = 'report --store a.db receipts'
+AMPLE = 10_000
+
+
+def set_up(stage, **bodies):
+    """A manifest, and a folder of deposits."""
+    for step in (Copy('listed.csv', 'fulls.csv'), Folder('deposits'), *(Copy(f'deposits/{it}', body) for it, body in bodies.items())):
+        step.do(stage)
+
+
+def test_standard_output_fails(stage):
+    """Standard output fails."""
+    set_up(stage, n1='f1.bundle', n2='f5.bundle')
+    check_narrow(stage, INIT, 0, Wanted(3, '', 'E1 -\n'))
+    # The store is there. Nothing is taken before the heading is printed.
+    check_narrow(stage, TAKE, 7, Wanted(3, 'receipt', 'E1 -\n'))
+    check_narrow(stage, RECEIPTS, AMPLE, Wanted(0, HEADING))
+    # What was answered is kept, and no later file is read.
+    check_narrow(stage, TAKE, len(HEADING), Wanted(3, HEADING, 'E1 -\n'))
+    check_narrow(stage, RECEIPTS, AMPLE, Wanted(0, FIRST))
+    check_narrow(stage, 'report --store a.db status', 10, Wanted(3, 'listed 2\nh', 'E1 -\n'))
+    check_narrow(stage, 'export --store a.db domain', 0, Wanted(3, '', 'E1 -\n'))
+    check_narrow(stage, '--help', 8, Wanted(3, 'Rebuilds', 'E1 -\n'))
+
+
+def test_whoever_reads_leaves(stage):
+    """Whoever reads standard output leaves after the heading."""
+    set_up(stage, n1='f1.bundle', n2='f5.bundle')
+    stage.check(INIT, Wanted(0, 'listed 2\n'))
+    with NarrowPipe(len(HEADING)) as pipe:
+        child = stage.begin(TAKE.split(), out=pipe.writer)
+        pipe.writer.close()
+        pipe.wait_until_full(child)
+        pipe.reader.close()
+        stage.compare(TAKE, Wanted(3, '', 'E1 -\n'), stage.end(child))
+    stage.check(RECEIPTS, Wanted(0, FIRST))
+
+
+def test_standard_error_fails(stage):
+    """If standard error fails all else is as usual: the status and standard output."""
+    set_up(stage, **{'a b': 'f5.bundle', 'n1': 'f1.bundle'})
+    Text('empty.csv', '').do(stage)
+    with open('/dev/full', 'wb') as full:
+        stage.check('export', Wanted(2), err=full)
+        stage.check('init --store a.db --manifest absent.csv', Wanted(3), err=full)
+        stage.check('init --store a.db --manifest empty.csv', Wanted(1), err=full)
+        stage.check(INIT, Wanted(0, 'listed 2\n'), err=full)
+        stage.check(TAKE, Wanted(1, FIRST), err=full)
+
+
+def test_a_file_that_goes(stage):
+    """A file that goes stops its folder."""
+    set_up(stage, n1='f1.bundle', n2='f1.bundle', n3='f5.bundle')
+    stage.check(INIT, Wanted(0, 'listed 2\n'))
+    # The second file is removed once the heading is written. There is no room for the row of the first one until then.
+    with NarrowPipe(len(HEADING)) as pipe:
+        child = stage.begin(TAKE.split(), out=pipe.writer)
+        pipe.writer.close()
+        pipe.wait_until_full(child)
+        os.remove(stage.at('deposits/n2'))
+        out = b''.join(pieces_of(pipe.reader))[pipe.filled:]
+    got = stage.end(child)
+    stage.compare(TAKE, Wanted(3, FIRST, 'E1 deposits/n2\n'), Got(got.status, out, got.err))
+    stage.check(RECEIPTS, Wanted(0, FIRST))
+    stage.check(TAKE, Wanted(0, f'{FIRST}2,n3,A1,,F5,0,new,0\n'))

@@ -1,0 +1,146 @@
+#!/usr/bin/env python3
+"""python3 tests/run.py [--restore FILE] [--harness FILE] [--pack FILE] [NAME ..]: plays the test cases on the programs `restore`,
+`desk_harness` and `pack`: all of them, or those whose file or title has one of these names in it.
+
+The programs are those that `rt ci` built in this checkout (crates/restore/out/restore and so on), if no others are named.
+
+A case is a folder of files, and command lines with the status, the standard output and the standard error that they must give, or lines
+that desk_harness is told with the answer to each. It is written in a transcript, tests/transcripts/FILE.txt (tests/support/transcripts.py
+has the form), or, where code is needed, as a function `test_..` in tests/cases/FILE.py, whose docstring is its title, or in the table CASES
+there, by its title. The tests in tests/unit/, which unittest finds, are of the tests' own parts: they need no program.
+
+The cases are played side by side, RT_JOBS of them or one for each processor. Each that ends otherwise is printed as FAILED, with the first
+line that did, what was wanted and what came. The last line is `N passed, M failed`; the status is 0 where M is 0."""
+import argparse, importlib, multiprocessing, os, sqlite3, sys, textwrap, traceback, unittest
+from dataclasses import dataclass
+from typing import Callable
+
+from support import TESTS, built
+from support.stage import Failed, Stage
+from support.transcripts import Misread, read_transcripts
+
+PROGRAMS = ('restore', 'desk_harness', 'pack')
+
+
+@dataclass(frozen=True)
+class Case:
+    file: str
+    title: str
+    play: Callable
+    has_programs: bool = True
+
+    def has(self, name):
+        return name in self.file or name in self.title
+
+
+# ---- the cases
+
+
+def names_in(folder, ending):
+    """The names of the files in a folder of tests/ that end so, without that."""
+    return sorted(it.removesuffix(ending) for it in os.listdir(f'{TESTS}/{folder}') if it.endswith(ending) and not it.startswith('_'))
+
+
+def failing(why):
+    """What is played of a file that can't be read."""
+    def play(_):
+        raise Failed(why)
+    return play
+
+
+def cases_of_transcript(name):
+    try:
+        return [Case(name, it.title, it.play) for it in read_transcripts(f'{TESTS}/transcripts/{name}.txt')]
+    except (Misread, UnicodeDecodeError) as error:
+        return [Case(name, 'it is read', failing(str(error)))]
+
+
+def cases_of_module(name):
+    module = vars(importlib.import_module(f'cases.{name}'))
+    cases = {play.__doc__.partition('\n')[0].rstrip('.'): play for of, play in module.items() if of.startswith('test_')}
+    return [Case(name, title, play) for title, play in (cases | module.get('CASES', {})).items()]
+
+
+def tests_in(suite):
+    for it in suite:
+        yield from tests_in(it) if isinstance(it, unittest.TestSuite) else [it]
+
+
+def case_of_test(test):
+    """A test of unittest."""
+    def play(_):
+        result = unittest.TestResult()
+        test.run(result)
+        wrong = [*result.errors, *result.failures, *result.skipped, *((it, 'it passed') for it in result.unexpectedSuccesses)]
+        if wrong:
+            raise Failed(wrong[0][1])
+    file, _, title = test.id().partition('.')
+    return Case(file, title, play, has_programs=False)
+
+
+def all_cases():
+    found = [it for name in names_in('transcripts', '.txt') for it in cases_of_transcript(name)]
+    found += [it for name in names_in('cases', '.py') for it in cases_of_module(name)]
+    return found + [case_of_test(it) for it in tests_in(unittest.defaultTestLoader.discover(f'{TESTS}/unit'))]
+
+
+def cases_named(names):
+    """The cases that have one of these names, or all where none is given."""
+    cases = all_cases()
+    for name in names:
+        if not any(it.has(name) for it in cases):
+            sys.exit(f'tests: no case has the name {name}')
+    return [it for it in cases if not names or any(map(it.has, names))]
+
+
+# ---- playing them
+
+
+def begin(cases, programs):
+    """What a process that plays cases is given as it begins."""
+    global given
+    given = cases, programs
+
+
+def failure_at(at):
+    """Plays the case with this index, and gives why it failed, if it did."""
+    cases, programs = given
+    try:
+        with Stage(programs) as stage:
+            cases[at].play(stage)
+    except (Failed, OSError, sqlite3.Error) as failure:
+        return f'{failure}'
+    except Exception:
+        return traceback.format_exc()
+    return None
+
+
+def count_passed(cases, programs):
+    """Plays cases, as many side by side as there are lanes, and tells in their order how each ended. Gives how many passed."""
+    lanes, passed = int(os.environ.get('RT_JOBS') or os.cpu_count() or 1), 0
+    with multiprocessing.get_context('fork').Pool(lanes, begin, (cases, programs)) as pool:
+        for case, failure in zip(cases, pool.imap(failure_at, range(len(cases)))):
+            passed += failure is None
+            print(f'{case.file}: {case.title}:', 'passed' if failure is None else 'FAILED', flush=True)
+            if failure is not None:
+                print(textwrap.indent(failure, '  '), flush=True)
+    return passed
+
+
+def main():
+    arguments = argparse.ArgumentParser(description=__doc__, formatter_class=argparse.RawDescriptionHelpFormatter)
+    for name in PROGRAMS:
+        arguments.add_argument(f'--{name.removeprefix("desk_")}', dest=name, default=built(name), metavar='FILE')
+    arguments.add_argument('names', nargs='*', metavar='NAME')
+    given = arguments.parse_args()
+    programs, cases = {it: os.path.abspath(getattr(given, it)) for it in PROGRAMS}, cases_named(given.names)
+    for program in programs.values():
+        if any(it.has_programs for it in cases) and not os.access(program, os.X_OK):
+            sys.exit(f'tests: there is no program {program}: `rt ci` builds it')
+    passed = count_passed(cases, programs)
+    print(f'{passed} passed, {len(cases) - passed} failed', flush=True)
+    return 0 if passed == len(cases) else 1
+
+
+if __name__ == '__main__':
+    sys.exit(main())

@@ -1,0 +1,71 @@
+"""What desks over files that fail are told, and what they must answer: for the modules whose files fail, and those that ask over HTTP."""
+import re
+
+from support.stage import Failed, difference
+from support.steps import Bodies, FirstScript, Manifest
+
+# The columns of each table that stores of both versions have, and those by which its rows are in order.
+FIRST_TABLES = {
+    'listed': ('row, id, type, watermark, prev, resend, digest', 'row'),
+    'receipt': ('receipt, number, digest, verdict, fault, row, again, orphans', 'receipt'),
+    'held': ('row, body', 'row'),
+    'step': ('pos, row', 'pos'),
+    'object': ('kind, key, record', 'kind, key'),
+    'undo': ('pos, kind, key, record', 'pos, kind, key'),
+}
+# Those and the others that a store of this version has.
+TABLES = {'info': ('id, version', 'id')} | FIRST_TABLES | {'parked': ('digest, body', 'digest'), 'moment': ('id, watermark', 'id')}
+NOON = '2024-03-04T12:00:00Z'
+# The files of a desk, as a harness is told of them, and their names.
+FILES = {'log': 'log', 'database': 'database file'}
+
+
+def put_files(stage, **listed):
+    """The bodies that arrive, each in a file of its name, and manifests, each with the bodies that it lists."""
+    Bodies(('F1', 'D2', 'D2Resent', 'D3', 'Abc', 'Empty')).do(stage)
+    for name, names in listed.items():
+        Manifest(f'{name}.csv', names).do(stage)
+
+
+def put_first_store(stage, lost):
+    """The statements that make a store of version 1, which lists F1, took it as number 1, and then gave A2 to bodies, each under its
+    number."""
+    Manifest('early.csv', ('F1',)).do(stage)
+    FirstScript('first.sql', 'early.csv', (('1', 'F1'), *lost)).do(stage)
+
+
+def query(table):
+    """The line that asks for all rows of a table, where no desk is open."""
+    columns, order = TABLES[table]
+    return f'query SELECT {columns} FROM {table} ORDER BY {order}'
+
+
+def compare(line, got, *wanted):
+    """What came of a line, which must be one of these."""
+    if got not in wanted:
+        found = [it for at, one in enumerate(wanted) for it in difference('or' if at else 'answer', one, got.encode())]
+        raise Failed('\n'.join([f'> {line}', *found]))
+    return got
+
+
+def check(desk, line, *wanted):
+    """The answer to a line, without the work of an event. It must be one of these."""
+    return compare(line, re.sub('; cleared .*', '', desk.ask(line)), *wanted)
+
+
+def is_answered(desk, line, wanted):
+    """Whether a line has this answer: a file that fails refuses it by `S1` alone."""
+    return check(desk, line, wanted, 'S1\n') == wanted
+
+
+def run_line(events):
+    """Events that come in one run, as a failure shows them."""
+    return f'run {len(events)}: {", ".join(events)}'
+
+
+def run(desk, events):
+    """What comes of events in one run."""
+    *told, last = f'run {len(events)}', *events
+    for line in told:
+        desk.tell(line)
+    return desk.ask(last)

@@ -1,0 +1,60 @@
+"""What a desk says of bodies that its manifest lists: those that are refused, in one store, and those that are held, each in a new one."""
+import contextlib, hashlib
+
+from support.bodies import HEADING
+from support.harness import Harness
+from support.stage import case, compare, text_of
+
+# What a row says of a Full, without the digest of its body.
+F1 = 'F1,FULL,2024-03-03T00:00:00Z,,0'
+
+
+def row_of(said, body):
+    """The line of a manifest that lists a body."""
+    return f'{said},{hashlib.sha256(body).hexdigest()}\n'
+
+
+@contextlib.contextmanager
+def desk_over(stage, rows):
+    """A desk over a new store of a manifest with these lines, in a `with` statement."""
+    stage.write('listed.csv', (HEADING + ''.join(rows)).encode())
+    with Harness(stage) as desk:
+        desk.check('create listed.csv', 'created\n')
+        yield desk
+
+
+def reply_to(stage, desk, number, body):
+    """The reply to a body that arrives, without its receipt and its number."""
+    stage.write('body', body)
+    return desk.ask(f'comes {number} body').partition(';')[0].split(',', 2)[-1]
+
+
+def check_faults(stage, cases):
+    """Compares the faults of bodies, which one store lists, each at a watermark of its own. A case is a name, a body and a fault."""
+    said = [f'B{at},FULL,2024-03-03T00:00:00.{at:09}Z,,0' for at in range(len(cases))]
+    with desk_over(stage, [row_of(it, body) for it, (_, body, _) in zip(said, cases)]) as desk:
+        for at, (name, body, fault) in enumerate(cases):
+            compare(f'reply to {name}', f'A3,{fault},B{at},0,,', reply_to(stage, desk, at, body))
+
+
+def check_held(stage, name, body, tables, said=F1, orphans=0, counts=()):
+    """Compares what a new store says of a body that is the deposit of its row: the reply, the objects, and the watermark and the counts of
+    its envelope."""
+    listed, _, watermark, _, resend = said.split(',')
+    with case(name), desk_over(stage, [row_of(said, body)]) as desk:
+        compare('reply', f'A1,,{listed},{resend},new,{orphans}', reply_to(stage, desk, 1, body))
+        compare('objects', text_of(tables), desk.ask('tables'))
+        compare('end', text_of([watermark, *counts]), desk.ask('end'))
+
+
+def text_of_rows(rows):
+    """A manifest of rows: what comes before the digest of each, and that as a number, or `-` where there is none."""
+    return (HEADING + ''.join(f'{said}\n' if digest == '-' else f'{said},{digest:0>64}\n' for said, digest in rows)).encode()
+
+
+def said_of(stage, text):
+    """What is said of a manifest: how many rows are listed, or its fault."""
+    stage.write('listed.csv', text)
+    with Harness(stage) as desk:
+        answer = desk.ask('create listed.csv')
+        return (desk.ask('status') if answer == 'created\n' else answer).split('\n')[0]

@@ -1,1 +1,0 @@
-"""The parts of the runner of the scenes, `tools/scenes.py`."""

@@ -1,0 +1,66 @@
+#!/usr/bin/env python3
+"""trials/fuzz.py [--bundles N] [--manifests N] [--requests N] [--seed N]: gives the program damaged input, and looks for what is not
+refused by its name.
+
+N bundles (2,000) are damaged by `fuzzing/bundles.py` and listed by their SHA-256, so that they are read, and taken in folders of
+100; N manifests (500) are given to `init`; N requests (2,000) are sent over a socket to `serve`, among good ones, in pieces,
+cut or broken off. `tests/support/formats.py` reads the same bytes by the definitions, in plain Python: from it comes, to the byte, what
+the program has to print or respond, and its status; where the outcome is plain from how the input was made that is asked
+too. So each crash, each other status, each other text is wrong, and so is what does not end in time. After each folder and
+each server the C library's `integrity_check` has to say ok and the folder, taken again, has to get the same receipts. Then
+a client of each kind holds its connection (`fuzzing/clients.py`), with a good one behind it, which has to get its response within a
+deadline. At last some bundles as large as a bundle may be are taken one by one, with their time and peak memory.
+
+It needs python3 alone, and the program, which `./build` builds. Each wrong input stays in a folder, with how to run it
+again. The last line is `N inputs, wrong K`."""
+import argparse, os, random, sys, time
+
+sys.path.append(f'{sys.path[0]}/../tests')
+from fuzzing.arrivals import mutated_release
+from fuzzing.clients import over_clients
+from fuzzing.desk import over_requests
+from fuzzing.folders import over_bundles
+from fuzzing.largest import over_largest
+from fuzzing.manifests import over_manifest
+from fuzzing.trial import Trial
+from support import built
+
+arguments = argparse.ArgumentParser(description=__doc__, formatter_class=argparse.RawDescriptionHelpFormatter)
+arguments.add_argument('--restore', default=built('restore'))
+arguments.add_argument('--bundles', type=int, default=2000)
+arguments.add_argument('--manifests', type=int, default=500)
+arguments.add_argument('--requests', type=int, default=2000)
+arguments.add_argument('--seed', type=int, default=1)
+arguments.add_argument('--memory', type=int, default=6, help='GB that a run may have')
+arguments.add_argument('--without-largest', action='store_true')
+arguments.add_argument('--without-clients', action='store_true', help='leave out those that hold their connection')
+arguments.add_argument('--keep', help='where wrong inputs are kept')
+given = arguments.parse_args()
+
+
+def main():
+    trial = Trial(given.restore, given.memory, given.keep)
+    rng, begun, counts = random.Random(given.seed), time.perf_counter(), trial.counts
+    said = lambda what: print(f'{time.perf_counter() - begun:5.0f} s: {what}', flush=True)
+    for batch in range(-(-given.bundles // 100)):
+        over_bundles(trial, batch, rng, min(100, given.bundles - 100 * batch))
+    said(f'{given.bundles} bundles: ' + ', '.join(f'{verdict} {counts[verdict]}' for verdict in ('A1', 'A3', 'A4')))
+    for number in range(given.manifests):
+        over_manifest(trial, rng, number)
+    said(f'{given.manifests} manifests, {counts["accepted manifests"]} accepted')
+    for batch in range(-(-given.requests // 250)):
+        over_requests(trial, batch, rng, mutated_release(rng, 25), min(250, given.requests - 250 * batch))
+    arrivals = 25 * -(-given.requests // 250)
+    said(f'{given.requests} requests and {arrivals} arrivals before them, the slowest {counts["slowest"]:.2f} s')
+    if not given.without_clients:
+        over_clients(trial)
+        said('clients that hold their connection')
+    if not given.without_largest:
+        over_largest(trial)
+        said('the largest bundles')
+    print(f'{counts["inputs"]} inputs, wrong {counts["wrong"]}')
+    trial.clean()
+    return 1 if counts['wrong'] else 0
+
+
+sys.exit(main())

@@ -1,0 +1,50 @@
+"""What arrives at a desk: the deposits of a seeded release, damaged, each with the row that lists it, and the numbers of
+arrivals."""
+import hashlib, sys
+
+from fuzzing import bundles
+from support import formats, registries
+
+
+class Listed:
+    """A mutated bundle with the row that lists it, which is that of the deposit it was made of."""
+
+    def __init__(self, mutation, known, body, row):
+        self.mutation, self.known, self.body, self.row = mutation, known, body, row
+        name, kind, watermark, prev = row
+        self.digest = hashlib.sha256(body).hexdigest()
+        self.line = registries.line(name, kind, watermark, prev or '', '', body)
+        self.verdict, self.orphans = formats.verdict(body, (name, (formats.moment(watermark), kind), prev, 0))
+        if known and known != self.verdict:
+            sys.exit(f'fuzz: {mutation}: {known} by how it was made, {self.verdict} by the definitions')
+
+
+def mutated_release(rng, many):
+    """So many mutated bundles of a seeded release, no two alike."""
+    rows, seen = [], set()
+    world = None
+    while len(rows) < many:
+        name, number = f'B{len(rows)}', len(rows)
+        watermark = f'2024-04-01T{number // 3600:02d}:{number // 60 % 60:02d}:{number % 60:02d}{".5" * (number % 7 == 6)}Z'
+        kind = 'FULL' if world is None else rng.choice(('FULL', 'DIFF', 'DIFF', 'INCR'))
+        prev = rows[-1].row[0] if kind == 'DIFF' else None
+        if kind == 'FULL':
+            world, body = registries.full(rng.random(), 40, name, watermark)
+        else:
+            told = dict(id=name, type=kind, watermark=watermark, **({'prevId': prev} if prev else {}))
+            body = registries.delta(world, told, 6)
+        mutation, body, known = bundles.bundle(rng, body)
+        made = Listed(mutation, known, body, (name, kind, watermark, prev))
+        if made.digest not in seen:
+            seen.add(made.digest)
+            rows.append(made)
+    return rows
+
+
+def names(rng, many):
+    """So many numbers of arrivals."""
+    letters = 'ABCXYZabcxyz019._-'
+    found = set()
+    while len(found) < many:
+        found.add(''.join(rng.choice(letters) for _ in range(rng.choice((1, 4, 8, 64)))))
+    return sorted(found - {'.', '..'} | {f'n{number}' for number in range(len(found & {'.', '..'}))})
