@@ -1,0 +1,115 @@
+"""The documents: links that lead somewhere, lines that fit, and how many words there are.
+
+    python3 -m unittest tests/unit/test_documents.py
+"""
+import pathlib
+import re
+import unittest
+
+TOP = pathlib.Path(__file__).resolve().parents[2]
+DOCUMENTS = [TOP / 'README.md', TOP / 'CONTRIBUTING.md', *sorted(TOP.glob('docs/*.md'))]
+
+MOST_COLUMNS = 100
+# All documents together. The goal is 24,000.
+MOST_WORDS = 36_000
+
+FENCE = re.compile(r' {0,3}(`{3,}|~{3,})')
+HEADING = re.compile(r'#{1,6} +(.*?) *#* *$')
+LINK = re.compile(r'!?\[(?:[^\[\]]|\[[^\]]*\])*\]\(\s*<?([^\s)>]+)>?[^)]*\)|^ {0,3}\[[^\]]+\]:\s*(\S+)')
+CODE_SPAN = re.compile(r'(`+)(?!`).*?(?<!`)\1(?!`)')
+SCHEME = re.compile(r'[a-z][a-z0-9+.-]*:', re.I)
+
+
+def prose(text):
+    """The lines of a document outside of fenced code, each with its number."""
+    fence = None
+    for number, line in enumerate(text.splitlines(), 1):
+        found = FENCE.match(line)
+        if fence:
+            if found and found[1].startswith(fence) and not line.strip(' `~'):
+                fence = None
+        elif found:
+            fence = found[1]
+        else:
+            yield number, line
+
+
+def anchors(text):
+    """The anchors of a document's headings, as GitHub makes them: in lower case, without
+    punctuation, dashes for spaces, and a number after one that was there before."""
+    found = {}
+    for _, line in prose(text):
+        heading = HEADING.match(line)
+        if heading:
+            title = re.sub(r'!?\[([^\]]*)\]\([^)]*\)', r'\1', heading[1])
+            name = re.sub(r'[^\w\- ]', '', title.lower()).replace(' ', '-')
+            found[name] = found.get(name, -1) + 1
+            if found[name]:
+                found[f'{name}-{found[name]}'] = 0
+    return set(found)
+
+
+def links(text):
+    """The targets of a document's links to other files and to headings, each with its line."""
+    for number, line in prose(text):
+        for found in LINK.finditer(CODE_SPAN.sub('', line)):
+            target = found[1] or found[2]
+            if not SCHEME.match(target):
+                yield number, target
+
+
+def fault_of(document, target):
+    """What is wrong with a link of a document, or None."""
+    path, _, anchor = target.partition('#')
+    file = (document.parent / path).resolve() if path else document
+    if not file.exists():
+        return 'there is no such file'
+    if anchor and (file.suffix != '.md' or anchor not in anchors(file.read_text('utf-8'))):
+        return 'there is no such heading'
+    return None
+
+
+class Documents(unittest.TestCase):
+    def test_links_lead_somewhere(self):
+        for document in DOCUMENTS:
+            for number, target in links(document.read_text('utf-8')):
+                with self.subTest(document=document.name, line=number, link=target):
+                    self.assertIsNone(fault_of(document, target))
+
+    def test_readme_fits(self):
+        for number, line in prose((TOP / 'README.md').read_text('utf-8')):
+            if not line.startswith('|'):
+                with self.subTest(line=number):
+                    self.assertLessEqual(len(line), MOST_COLUMNS)
+
+    def test_words(self):
+        counts = {it.name: len(it.read_text('utf-8').split()) for it in DOCUMENTS}
+        listed = ', '.join(f'{name} {count}' for name, count in counts.items())
+        self.assertLessEqual(sum(counts.values()), MOST_WORDS, listed)
+
+
+class Reading(unittest.TestCase):
+    """What the tests above read in a document."""
+
+    TEXT = '\n'.join([
+        '# What to do, when', '## `S1` and [S2](#a)', '## Twice', '## Twice',
+        '```sh', '# no heading', '[no](link.md)', '```',
+        'A [link](a.md#b), `[no](code.md)`, [two words](<c.md>) and [out](https://example.org).',
+        '[word]: d.md'])
+
+    def test_anchors(self):
+        self.assertEqual(anchors(self.TEXT), {'what-to-do-when', 's1-and-s2', 'twice', 'twice-1'})
+
+    def test_links(self):
+        self.assertEqual(list(links(self.TEXT)),
+                         [(2, '#a'), (9, 'a.md#b'), (9, 'c.md'), (10, 'd.md')])
+
+    def test_faults(self):
+        readme = TOP / 'README.md'
+        self.assertIsNone(fault_of(readme, 'docs'))
+        self.assertEqual(fault_of(readme, 'docs/no-such-page.md'), 'there is no such file')
+        self.assertEqual(fault_of(readme, '#no-such-heading'), 'there is no such heading')
+
+
+if __name__ == '__main__':
+    unittest.main()
