@@ -10,9 +10,11 @@ TOP = pathlib.Path(__file__).resolve().parents[2]
 DOCUMENTS = [TOP / 'README.md', TOP / 'CONTRIBUTING.md', *sorted(TOP.glob('docs/*.md'))]
 
 MOST_COLUMNS = 100
-# All documents together. The goal is 24,000.
+# Of all documents together. The goal is 24,000.
 MOST_WORDS = 36_000
 
+# What has a letter or a digit: the bars and rules of tables are no words.
+WORD = re.compile(r'\S*[^\W_]\S*')
 FENCE = re.compile(r' {0,3}(`{3,}|~{3,})')
 HEADING = re.compile(r'#{1,6} +(.*?) *#* *$')
 LINK = re.compile(r'!?\[(?:[^\[\]]|\[[^\]]*\])*\]\(\s*<?([^\s)>]+)>?[^)]*\)|^ {0,3}\[[^\]]+\]:\s*(\S+)')
@@ -83,7 +85,7 @@ class Documents(unittest.TestCase):
                     self.assertLessEqual(len(line), MOST_COLUMNS)
 
     def test_words(self):
-        counts = {it.name: len(it.read_text('utf-8').split()) for it in DOCUMENTS}
+        counts = {it.name: len(WORD.findall(it.read_text('utf-8'))) for it in DOCUMENTS}
         listed = ', '.join(f'{name} {count}' for name, count in counts.items())
         self.assertLessEqual(sum(counts.values()), MOST_WORDS, listed)
 
