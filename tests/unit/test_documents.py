@@ -9,6 +9,10 @@ import unittest
 TOP = pathlib.Path(__file__).resolve().parents[2]
 DOCUMENTS = [TOP / 'README.md', TOP / 'CONTRIBUTING.md', *sorted(TOP.glob('docs/*.md'))]
 
+# How many codes there are of each letter, and which of them FORMATS.md has in tables.
+CODES = {'E': 3, 'N': 1, 'M': 13, 'A': 5, 'U': 11, 'S': 5, 'V': 7}
+LISTED = 'UMAV'
+
 MOST_COLUMNS = 100
 # Of all documents together. The goal is 24,000.
 MOST_WORDS = 36_000
@@ -83,6 +87,16 @@ class Documents(unittest.TestCase):
             if not line.startswith('|'):
                 with self.subTest(line=number):
                     self.assertLessEqual(len(line), MOST_COLUMNS)
+
+    def test_each_code_has_its_place(self):
+        operating = (TOP / 'docs/OPERATING.md').read_text('utf-8').splitlines()
+        formats = (TOP / 'docs/FORMATS.md').read_text('utf-8').splitlines()
+        for letter, most in CODES.items():
+            for code in (f'{letter}{number}' for number in range(1, most + 1)):
+                with self.subTest(code=code):
+                    self.assertEqual(operating.count(f'### {code}'), 1)
+                    rows = [it for it in formats if it.startswith(f'| {code} |')]
+                    self.assertEqual(len(rows), int(letter in LISTED))
 
     def test_words(self):
         counts = {it.name: len(WORD.findall(it.read_text('utf-8'))) for it in DOCUMENTS}
