@@ -16,10 +16,11 @@ one with deposits that don't read or differ from their row, and one with N objec
 With --first, a program of version 1, its stores are migrated too, also one that was killed in the middle of a take: each has the same
 rows as the store that is made here. It needs python3 alone, and the program, which `./build` builds. The last line is
 'N passed, M failed'."""
-import argparse, contextlib, hashlib, io, json, os, random, shutil, sqlite3, subprocess, sys, tempfile, time
+import argparse, contextlib, io, os, random, shutil, sqlite3, subprocess, sys, tempfile, time
 
 sys.path.append(f'{sys.path[0]}/../tests')
 from support import TOP, built, formats
+from support.bundles import HEADING, row_of, sealed, table
 from support.first_store import First, write_store
 
 SAMPLES = os.path.join(TOP, 'samples')
@@ -229,27 +230,15 @@ def read_folder(*path):
     return [(name, read(*path, name)) for name in sorted(os.listdir(os.path.join(SAMPLES, *path)))]
 
 
-def bundle(header, tables, files):
-    envelope = json.dumps(header | {'contents': tables}).encode()
-    made = [b'escrow-bundle 1\n']
-    for name, data in [('envelope.json', envelope), *files]:
-        made.append(f'{name} {len(data)}\n'.encode() + data + b'\n')
-    return b''.join(made) + b'end\n'
-
-
 def of_domains(id, type, day, rows, statuses, prev=None):
     """A deposit of domains with a child table."""
-    parent = dict(name='domain', kind='domain', role='parent', key='name', fields=['name', 'clID'], file='d.csv')
-    child = dict(name='domainStatuses', kind='domain', role='child', key='domainName', fields=['domainName', 'status'], file='s.csv')
+    declared = [table('domainStatuses', 'domain', 'child', ['domainName', 'status'], 's.csv'), table('domain', 'domain', 'parent', ['name', 'clID'], 'd.csv')]
     header = dict(id=id, type=type, watermark=f'2024-03-{day:02d}T00:00:00Z') | ({'prevId': prev} if prev else {})
-    return bundle(header, [child, parent], [('s.csv', statuses.encode()), ('d.csv', rows.encode())])
+    return sealed(header | {'contents': declared}, [('s.csv', statuses.encode()), ('d.csv', rows.encode())])
 
 
 def line(id, type, day, prev, body, resend=''):
-    return f'{id},{type},2024-03-{day:02d}T00:00:00Z,{prev},{resend},{hashlib.sha256(body).hexdigest()}\n'
-
-
-HEADING = 'id,type,watermark,prevId,resend,sha256\n'
+    return row_of(f'{id},{type},2024-03-{day:02d}T00:00:00Z,{prev},{resend}', body)
 
 
 def unheld():

@@ -1,31 +1,23 @@
 """Registries that look real, made from a seed, and the deposits of their objects: Fulls, and Differentials or Incrementals on these."""
-import hashlib, json, random
+import random
 
-PREFIX = 'escrow-bundle 1\n'
-
-
-def bundle(env, files):
-    out = [PREFIX.encode()]
-    for name, b in [('envelope.json', json.dumps(env, separators=(',', ':')).encode())] + files:
-        out.append(f'{name} {len(b)}\n'.encode() + b + b'\n')
-    return b''.join(out) + b'end\n'
-
+from support.bundles import sealed, table
 
 FIELDS = {
-    'registrar': ('parent', 'registrar', 'id', 'id,name,gurid,status,street,city,cc,voice,email,url,crDate,upDate'),
-    'contact': ('parent', 'contact', 'id', 'id,roid,voice,fax,email,clID,crRR,crID,crDate,upRR,upID,upDate'),
-    'contactPostal': ('child', 'contact', 'id', 'id,type,name,org,street1,street2,city,sp,pc,cc'),
-    'contactStatuses': ('child', 'contact', 'id', 'id,status,rgpStatus,reason'),
-    'host': ('parent', 'host', 'name', 'name,roid,clID,crRR,crID,crDate,upRR,upID,upDate'),
-    'hostAddresses': ('child', 'host', 'name', 'name,address,ipVersion'),
-    'hostStatuses': ('child', 'host', 'name', 'name,status,reason'),
-    'domain': ('parent', 'domain', 'name', 'name,roid,uName,idnTableId,originalName,registrant,clID,crRR,crID,crDate,exDate,upRR,upID,upDate,note'),
-    'domainContacts': ('child', 'domain', 'domainName', 'domainName,contactType,contactId'),
-    'domainNs': ('child', 'domain', 'domainName', 'domainName,hostName'),
-    'domainStatuses': ('child', 'domain', 'domainName', 'domainName,status,rgpStatus,reason'),
-    'secDNS': ('child', 'domain', 'domainName', 'domainName,maxSigLife,keyTag,alg,digestType,digest'),
-    'idn': ('parent', 'idn', 'id', 'id,url'),
-    'nndn': ('parent', 'nndn', 'aName', 'aName,uName,idnTableId,originalName,nameState,crDate'),
+    'registrar': ('parent', 'registrar', 'id,name,gurid,status,street,city,cc,voice,email,url,crDate,upDate'),
+    'contact': ('parent', 'contact', 'id,roid,voice,fax,email,clID,crRR,crID,crDate,upRR,upID,upDate'),
+    'contactPostal': ('child', 'contact', 'id,type,name,org,street1,street2,city,sp,pc,cc'),
+    'contactStatuses': ('child', 'contact', 'id,status,rgpStatus,reason'),
+    'host': ('parent', 'host', 'name,roid,clID,crRR,crID,crDate,upRR,upID,upDate'),
+    'hostAddresses': ('child', 'host', 'name,address,ipVersion'),
+    'hostStatuses': ('child', 'host', 'name,status,reason'),
+    'domain': ('parent', 'domain', 'name,roid,uName,idnTableId,originalName,registrant,clID,crRR,crID,crDate,exDate,upRR,upID,upDate,note'),
+    'domainContacts': ('child', 'domain', 'domainName,contactType,contactId'),
+    'domainNs': ('child', 'domain', 'domainName,hostName'),
+    'domainStatuses': ('child', 'domain', 'domainName,status,rgpStatus,reason'),
+    'secDNS': ('child', 'domain', 'domainName,maxSigLife,keyTag,alg,digestType,digest'),
+    'idn': ('parent', 'idn', 'id,url'),
+    'nndn': ('parent', 'nndn', 'aName,uName,idnTableId,originalName,nameState,crDate'),
 }
 WORDS = 'alpha bravo cedar delta ember frost grove haven islet juniper karst ledge maple north ocean pine quartz river stone tundra umber valley willow xenon yarrow zephyr'.split()
 
@@ -128,19 +120,19 @@ class World:
 def write(world, header, tables, deletes, counts=None):
     contents, dels, files = [], [], []
     for name, rows in tables.items():
-        role, kind, key, fields = FIELDS[name]
+        role, kind, fields = FIELDS[name]
         fields = fields.split(',')
         f = name.lower() + '.csv'
-        contents.append(dict(name=name, kind=kind, role=role, key=key, fields=fields, file=f))
+        contents.append(table(name, kind, role, fields, f))
         files.append((f, ''.join(','.join(r) + '\n' for r in rows).encode()))
     for kind, keys in deletes.items():
         f = f'del-{kind}.csv'
-        dels.append(dict(name=kind, kind=kind, role='parent', key='k', fields=['k'], file=f))
+        dels.append(table(kind, kind, 'parent', ['k'], f))
         files.append((f, ''.join(k + '\n' for k in keys).encode()))
     e = dict(header, tld='example', contents=contents, deletes=dels)
     if counts:
         e['counts'] = counts
-    return bundle(e, files)
+    return sealed(e, files)
 
 
 def full(seed, rows, id, watermark, flat=False, words=0):
@@ -199,10 +191,3 @@ def delta(w, header, touch):
         if what >= 0.5:
             w.ids[kind].append(k)
     return write(w, header, {n: t for n, t in tables.items() if t}, deletes)
-
-
-def line(id, typ, wm, prev, resend, body):
-    return f'{id},{typ},{wm},{prev},{resend},{hashlib.sha256(body).hexdigest()}\n'
-
-
-HEADING = 'id,type,watermark,prevId,resend,sha256\n'

@@ -7,7 +7,8 @@ import concurrent.futures, os, shutil, socket, subprocess, threading, time
 
 from fuzzing.sections import table_of
 from fuzzing.trial import put
-from support import formats, registries
+from support import formats
+from support.bundles import HEADING, row_of
 
 FIRST_SECONDS, BYTES_A_SECOND, REST_SECONDS = 10, 65_536, 10
 MARGIN = 5
@@ -143,7 +144,7 @@ def over_clients(trial):
     number = 60_000
     body = table_of(b''.join(b'%059d\n' % key for key in range(number)))
     store, folder = trial.at('held'), trial.at('held-folder')
-    put(store + '.csv', (registries.HEADING + registries.line('L', 'FULL', '2024-04-01T00:00:00Z', '', '', body)).encode())
+    put(store + '.csv', (HEADING + row_of('L,FULL,2024-04-01T00:00:00Z,,', body)).encode())
     put(os.path.join(folder, 'n1'), body)
     trial.run('init', '--store', store, '--manifest', store + '.csv')
     trial.run('take', '--store', store, folder)

@@ -5,7 +5,8 @@ from fuzzing import requests
 from fuzzing.arrivals import names
 from fuzzing.receipts import Receipts, expected_take
 from fuzzing.trial import PATIENCE, put
-from support import formats, registries
+from support import formats
+from support.bundles import HEADING
 
 # Of a response with a reply, by its verdict; any other is 422.
 STATUSES = {'A1': 200, 'A5': 202}
@@ -20,7 +21,7 @@ class Desk:
         self.receipts, self.faults = Receipts(rows), 0
         self.bodies = [row.body for row in rows] + [b'', b'abc', rng.randbytes(5000)]
         self.numbers = names(rng, 6) + ['n1']
-        put(self.store + '.csv', (registries.HEADING + ''.join(row.line for row in rows)).encode())
+        put(self.store + '.csv', (HEADING + ''.join(row.line for row in rows)).encode())
         for number, row in enumerate(rows):
             put(os.path.join(self.twin + '-folder', f'n{number}'), row.body)
         for store in (self.store, self.twin):
