@@ -2,9 +2,9 @@
 which the last takes two steps back, a release in two parts, and a store of version 1."""
 import os
 
+from stores import copy, rows
 from support import first_store
 from support.bundles import HEADING, row_of, sealed, table
-from sweeping.stores import copy, told
 
 # The four arrivals: a Full, two Differentials, and the first of these once more, at resend 1.
 
@@ -57,7 +57,7 @@ class Release:
         self.listed = sweep.run('init', '--store', self.fresh, '--manifest', self.manifest)
         copy(self.fresh, self.taken)
         self.lines = sweep.run('take', '--store', self.taken, self.deposits)
-        self.told = told(self.taken)
+        self.told = rows(self.taken)
         assert self.listed[0] == self.lines[0] == 0, (self.listed, self.lines)
 
 
@@ -86,9 +86,9 @@ class Unkept:
         migrated = sweep.run('migrate', '--store', self.fresh)
         copy(self.fresh, taken)
         self.lines = sweep.run('take', '--store', taken, self.deposits)
-        self.told = told(taken)
+        self.told = rows(taken)
         assert migrated == (0, 'migrated\n', '') and self.lines[1].count(',A2,') == 3, (migrated, self.lines)
-        assert len(dict(self.told)['parked']) == 3, self.told
+        assert len(self.told['parked']) == 3, self.told
 
 
 def write_first(store, manifest, deposits):
