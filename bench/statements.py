@@ -84,7 +84,8 @@ def main():
     print(f'take {given.deposit}: {take:.0f} ms of processor time, {clock:.0f} ms by the clock, {peak:.0f} MB')
     for word, found in changes.items():
         whole, change = min(whole for whole, _ in found), min(change for _, change in found)
-        print(f'{names[word] + ", body, COMMIT, close":51} {whole:7.0f} ms: take is {take / whole:.2f} times that, and {take / change:.2f} times it without the closing')
+        print(f'{names[word] + ", body, COMMIT, close":51} {whole:7.0f} ms: take is {take / whole:.2f} times that, '
+              f'and {take / change:.2f} times it without the closing')
     for name in ('select', 'image', 'update', 'insert', 'body', 'commit', 'close'):
         print(f'  {name:8} {each[0][name][0]:7} calls {min(told[name][1] for told in each):7.0f} ms')
     if not given.keep:

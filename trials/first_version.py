@@ -1,5 +1,6 @@
 #!/usr/bin/env python3
-"""trials/first_version.py [--restore PROGRAM] [--first PROGRAM] [--objects N] [--only NAME] [--keep FOLDER]: that stores of version 1 are migrated.
+"""trials/first_version.py [--restore PROGRAM] [--first PROGRAM] [--objects N] [--only NAME] [--keep FOLDER]: that stores of
+version 1 are migrated.
 
 Makes stores of version 1 with the C library (python's sqlite3) and nothing of the program: the seven tables as the format words them,
 and in them what that version kept of a manifest and of arrivals, worked out here by the words of docs/DEFINITIONS.md, with the records of
@@ -61,7 +62,8 @@ def texts_of(store):
 
 def as_later(printed):
     """What a later version says: A5, where version 1 said A2."""
-    return {what: (status, out.replace(',A2,', ',A5,') if what == 'report receipts' else out, err) for what, (status, out, err) in printed.items()}
+    status, out, err = printed['report receipts']
+    return printed | {'report receipts': (status, out.replace(',A2,', ',A5,'), err)}
 
 
 def rows_as_later(rows):
@@ -113,8 +115,8 @@ class Release:
 def refused(release, store):
     """Every other command says S3 of a store of version 1, and leaves it as it was."""
     before = contents(store)[0]
-    others = [('init', '--manifest', release.manifest), ('amend', '--manifest', release.manifest), ('as-of', 'latest'), ('take', release.taken),
-              ('serve', '--port', '18080', '--count', '1'), ('report', 'status'), ('export', 'domain')]
+    others = [('init', '--manifest', release.manifest), ('amend', '--manifest', release.manifest), ('as-of', 'latest'),
+              ('take', release.taken), ('serve', '--port', '18080', '--count', '1'), ('report', 'status'), ('export', 'domain')]
     for command, *words in others:
         check(f'{release.name}: {command} of version 1', run(command, '--store', store, *words), (3, '', 'S3\n'))
     check(f'{release.name}: the file after refusals', contents(store)[0], before)
@@ -162,7 +164,8 @@ def go_on(release, start, fresh, is_listed_first):
             check(f'{release.name}, {order}: the same arrivals', again, release.lines)
             check(f'{release.name}, {order}: once more', take(release, store, path), again)
         else:
-            check(f'{release.name}, {order}: amend', run('amend', '--store', store, '--manifest', path), run('amend', '--store', own, '--manifest', path))
+            amended, wanted = (run('amend', '--store', it, '--manifest', path) for it in (store, own))
+            check(f'{release.name}, {order}: amend', amended, wanted)
     compare(release, store, own, f'once all is sent, {order}')
     if release.more:
         check(f'{release.name}, {order}: later arrivals', take(release, store, release.later), take(release, own, release.later))
@@ -199,7 +202,8 @@ def read_folder(*path):
 
 def of_domains(id, type, day, rows, statuses, prev=None):
     """A deposit of domains with a child table."""
-    declared = [table('domainStatuses', 'domain', 'child', ['domainName', 'status'], 's.csv'), table('domain', 'domain', 'parent', ['name', 'clID'], 'd.csv')]
+    declared = [table('domainStatuses', 'domain', 'child', ['domainName', 'status'], 's.csv'),
+                table('domain', 'domain', 'parent', ['name', 'clID'], 'd.csv')]
     header = dict(id=id, type=type, watermark=f'2024-03-{day:02d}T00:00:00Z') | ({'prevId': prev} if prev else {})
     return sealed(header | {'contents': declared}, [('s.csv', statuses.encode()), ('d.csv', rows.encode())])
 
@@ -213,7 +217,8 @@ def unheld():
     a deposit, as one that doesn't read, and as one that differs from its row; one stays unlisted."""
     full = of_domains('F1', 'FULL', 1, 'a.example,R1\nB.example,R1\n', 'a.example,ok\nb.example,clientHold\na.example,linked\nz.example,ok\n')
     next_one = of_domains('D2', 'DIFF', 2, 'c.example,R2\n', 'c.example,ok\nd.example,ok\n', 'F1')
-    cut, other, broken = full[:-5], of_domains('D9', 'DIFF', 3, 'x.example,R1\n', '', 'F1'), next_one.replace(b'c.example,R2', b'c.example R2')
+    cut, broken = full[:-5], next_one.replace(b'c.example,R2', b'c.example R2')
+    other = of_domains('D9', 'DIFF', 3, 'x.example,R1\n', '', 'F1')
     missed = of_domains('D4', 'DIFF', 4, 'e.example,R2\n', 'e.example,ok\n', 'D2')
     first = HEADING + line('F1', 'FULL', 1, '', full) + line('F1', 'FULL', 1, '', cut, '1') + line('D3', 'DIFF', 3, 'F1', other)
     second = HEADING + line('D2', 'DIFF', 2, 'F1', next_one) + line('D2', 'DIFF', 2, 'F1', broken, '1')

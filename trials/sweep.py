@@ -1,5 +1,6 @@
 #!/usr/bin/env python3
-"""trials/sweep.py [OPTION ..] [TESTS ..]: refuses one growth of memory after the other, then lets one call of the database after the other fail.
+"""trials/sweep.py [OPTION ..] [TESTS ..]: refuses one growth of memory after the other, then lets one call of the database after the other
+fail.
 
 Looked for is an answer that changes in place of the error.
 

@@ -86,8 +86,9 @@ def envelope(bundle):
     # (A delete table has keys alone.)
     deletes = [table(it, *SHAPES[it][:2], SHAPES[it][2][:1], f'd{at}') for at, it in enumerate(bundle.deletes)]
     contents = [table(it, *SHAPES[it], f'c{at}') for at, it in enumerate(bundle.contents)]
-    return {'id': name, 'type': kind, 'watermark': watermark, 'prevId': prev,
-            'resend': resend if bundle.says_resend is None else bundle.says_resend, 'counts': bundle.counts, 'deletes': deletes, 'contents': contents}
+    said = resend if bundle.says_resend is None else bundle.says_resend
+    return {'id': name, 'type': kind, 'watermark': watermark, 'prevId': prev, 'resend': said, 'counts': bundle.counts, 'deletes': deletes,
+            'contents': contents}
 
 
 @functools.cache
