@@ -14,10 +14,11 @@ which `./build` builds: `./build && bench/bench.py`. With --only chain, or --onl
 run. Times of a busy machine say little; the ratios say more."""
 import argparse, os, re, shutil, subprocess, sys, tempfile, time
 
-from running import HERE, RESTORE, Program, arrivals_where, ask, made_release
+from running import Program, arrivals_where, ask, made_release
+from support import TOP, built
 
 arguments = argparse.ArgumentParser(description=__doc__)
-arguments.add_argument('--restore', default=RESTORE)
+arguments.add_argument('--restore', default=built('restore'))
 arguments.add_argument('--keep', help='a folder to work in, which is kept')
 arguments.add_argument('--only', choices=['chain', 'adopted'], help='this task alone')
 given = arguments.parse_args()
@@ -28,7 +29,7 @@ restore = Program(given.restore, work)
 
 def raw(store):
     """The milliseconds that the SQL statements of a store's content take alone."""
-    text = subprocess.run([sys.executable, os.path.join(HERE, 'raw.py'), '--store', store], check=True,
+    text = subprocess.run([sys.executable, f'{TOP}/bench/raw.py', '--store', store], check=True,
                           capture_output=True, text=True).stdout
     return float(re.search(r'before-images and body: .*?([0-9.]+) ms', text).group(1))
 

@@ -6,7 +6,7 @@ task the least processor time of either build, the ratio of the second to the fi
 desk that is open leaves out the opening: its time runs from the heading that `take` prints to the last receipt. Of the status that is
 asked for again and again it is the mean of the responses after the first. At last stand the times of an arrival where 100 and 4,000
 rows are held, of the second build. It needs python3 alone."""
-import argparse, os, shutil, subprocess, sys, tempfile
+import argparse, os, shutil, tempfile
 from dataclasses import dataclass, field
 
 from running import Program, arrivals_where, made_release

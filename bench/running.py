@@ -1,10 +1,10 @@
 """Runs of the program that are measured: what bench.py, compare.py and statements.py share."""
-import http.client, os, socket, subprocess, sys, time
+import http.client, os, subprocess, sys, time
 from dataclasses import dataclass
 
-HERE = os.path.dirname(os.path.abspath(__file__))
-TOP = os.path.dirname(HERE)
-RESTORE = f'{TOP}/crates/restore/out/restore'
+sys.path.append(f'{sys.path[0]}/../tests')
+from support import TOP
+from support.sockets import HOST, free_port
 
 
 @dataclass
@@ -56,7 +56,7 @@ class Program:
         port, begun = free_port(), time.perf_counter()
         words = ['serve', '--store', store, '--port', str(port), '--count', str(count)]
         child = subprocess.Popen([self.path, *words], stdout=subprocess.PIPE, text=True)
-        if child.stdout.readline() != f'listening 127.0.0.1:{port}\n':
+        if child.stdout.readline() != f'listening {HOST}:{port}\n':
             sys.exit(f'{self.path}: the desk does not listen')
         return child, port, lambda: self.ended(child, words, begun)
 
@@ -75,18 +75,12 @@ class Program:
 
 def made_release(folder):
     """Makes the large release in a folder."""
-    subprocess.run([sys.executable, f'{HERE}/release.py', folder], check=True)
-
-
-def free_port():
-    with socket.socket() as listener:
-        listener.bind(('127.0.0.1', 0))
-        return listener.getsockname()[1]
+    subprocess.run([sys.executable, f'{TOP}/bench/release.py', folder], check=True)
 
 
 def ask(port, method, path, body=None):
     """Sends one request by a connection of its own, and reads the whole response."""
-    connection = http.client.HTTPConnection('127.0.0.1', port)
+    connection = http.client.HTTPConnection(HOST, port)
     connection.request(method, path, body)
     response = connection.getresponse()
     response.read()

@@ -12,14 +12,15 @@ least is steadier than the mean on a busy machine; ratios hold within one run.
 
 `statements/main.txt` is Rattle's source. The gate proves what stands in `crates/` and takes no other `.rt` file, so it is copied
 into a repository of its own, where `rt run` proves that it is safe and builds it; --statements names what an earlier run built."""
-import argparse, os, re, shutil, subprocess, sys, tempfile, time
+import argparse, os, re, shutil, subprocess, sys, tempfile
 
-from running import HERE, RESTORE, TOP, made_release
+from running import Program, made_release
+from support import TOP, built
 
-SOURCE = os.path.join(HERE, 'statements', 'main.txt')
+SOURCE = os.path.join(TOP, 'bench', 'statements', 'main.txt')
 TEXTS = os.path.join(TOP, 'crates', 'esc_rows', 'src')
 arguments = argparse.ArgumentParser(description=__doc__, formatter_class=argparse.RawDescriptionHelpFormatter)
-arguments.add_argument('--restore', default=RESTORE)
+arguments.add_argument('--restore', default=built('restore'))
 arguments.add_argument('--release', help='a folder that release.py made')
 arguments.add_argument('--deposit', default='full', help='its folder with one Full: full, or growth/N')
 arguments.add_argument('--statements', help='the program that an earlier run built')
@@ -28,6 +29,7 @@ arguments.add_argument('--keep', help='a folder to work in, which is kept')
 given = arguments.parse_args()
 work = given.keep or tempfile.mkdtemp(prefix='restore-statements-')
 os.makedirs(work, exist_ok=True)
+restore = Program(given.restore, work)
 
 
 def check_texts():
@@ -54,56 +56,36 @@ def build():
     return made
 
 
-def spend(*words):
-    """Runs a program, and answers its output, its processor and clock milliseconds, and its peak memory in MB."""
-    begun = time.perf_counter()
-    with open(os.path.join(work, 'out'), 'w+') as out:
-        child = subprocess.Popen(words, stdout=out)
-        _, status, usage = os.wait4(child.pid, 0)
-        took = (time.perf_counter() - begun) * 1000
-        if os.waitstatus_to_exitcode(status) != 0:
-            sys.exit(f'statements: {" ".join(words)}: status {os.waitstatus_to_exitcode(status)}')
-        out.seek(0)
-        return out.read(), (usage.ru_utime + usage.ru_stime) * 1000, took, usage.ru_maxrss / 1024
-
-
-def fresh(name, manifest):
-    store = os.path.join(work, name)
-    for path in (store, store + '-wal'):
-        if os.path.exists(path):
-            os.remove(path)
-    spend(given.restore, 'init', '--store', store, '--manifest', manifest)
-    return store
-
-
 def alone(program, store, manifest, word):
     """The statements of an intake by themselves: each one's calls and milliseconds, and the change's processor time."""
-    text, *_ = spend(program, store, fresh('alone', manifest), word, '-')
-    return {name: (int(calls), int(micros) / 1000) for name, calls, micros in (line.split() for line in text.splitlines())}
+    program.run(store, restore.fresh('alone', manifest), word, '-')
+    with open(os.path.join(work, 'out')) as out:
+        return {name: (int(calls), int(micros) / 1000) for name, calls, micros in map(str.split, out)}
 
 
 def main():
     check_texts()
-    program = given.statements or build()
+    program = Program(given.statements or build(), work)
     release = given.release or os.path.join(work, 'release')
     if not given.release:
         made_release(release)
     manifest = os.path.join(release, given.deposit + '.csv' if '/' in given.deposit else 'manifest.csv')
     names = {'snui': 'SELECT, image, UPDATE, INSERT', 'sni': 'SELECT, image, INSERT', 'ni': 'image, INSERT'}
-    takes, clocks, peaks, changes, each = [], [], [], {word: [] for word in names}, []
+    uses, changes, each = [], {word: [] for word in names}, []
     for _ in range(given.times):
-        store = fresh('taken', manifest)
-        _, processor, clock, peak = spend(given.restore, 'take', '--store', store, os.path.join(release, given.deposit))
-        takes.append(processor), clocks.append(clock), peaks.append(peak)
+        store = restore.fresh('taken', manifest)
+        uses.append(restore.run('take', '--store', store, os.path.join(release, given.deposit)))
         for word, found in changes.items():
             told = alone(program, store, manifest, word)
             found.append((told['processor'][1] + told['close'][1], told['processor'][1]))
             if word == 'snui':
                 each.append(told)
-    print(f'take {given.deposit}: {min(takes):.0f} ms of processor time, {min(clocks):.0f} ms by the clock, {max(peaks):.0f} MB')
+    take, clock, peak = min(it.processor for it in uses), min(it.took for it in uses), max(it.memory for it in uses)
+    print(f'take {given.deposit}: {take:.0f} ms of processor time, {clock:.0f} ms by the clock, {peak:.0f} MB')
     for word, found in changes.items():
         whole, change = min(whole for whole, _ in found), min(change for _, change in found)
-        print(f'{names[word] + ", body, COMMIT, close":51} {whole:7.0f} ms: take is {min(takes) / whole:.2f} times that, and {min(takes) / change:.2f} times it without the closing')
+        print(f'{names[word] + ", body, COMMIT, close":51} {whole:7.0f} ms: take is {take / whole:.2f} times that, '
+              f'and {take / change:.2f} times it without the closing')
     for name in ('select', 'image', 'update', 'insert', 'body', 'commit', 'close'):
         print(f'  {name:8} {each[0][name][0]:7} calls {min(told[name][1] for told in each):7.0f} ms')
     if not given.keep:

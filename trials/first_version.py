@@ -1,5 +1,6 @@
 #!/usr/bin/env python3
-"""trials/first_version.py [--restore PROGRAM] [--first PROGRAM] [--objects N] [--only NAME] [--keep FOLDER]: that stores of version 1 are migrated.
+"""trials/first_version.py [--restore PROGRAM] [--first PROGRAM] [--objects N] [--only NAME] [--keep FOLDER]: that stores of
+version 1 are migrated.
 
 Makes stores of version 1 with the C library (python's sqlite3) and nothing of the program: the seven tables as the format words them,
 and in them what that version kept of a manifest and of arrivals, worked out here by the words of docs/DEFINITIONS.md, with the records of
@@ -16,15 +17,16 @@ one with deposits that don't read or differ from their row, and one with N objec
 With --first, a program of version 1, its stores are migrated too, also one that was killed in the middle of a take: each has the same
 rows as the store that is made here. It needs python3 alone, and the program, which `./build` builds. The last line is
 'N passed, M failed'."""
-import argparse, contextlib, hashlib, io, json, os, random, shutil, sqlite3, subprocess, sys, tempfile, time
+import argparse, os, random, shutil, subprocess, sys, tempfile, time
 
 sys.path.append(f'{sys.path[0]}/../tests')
-from support import TOP, built, formats
+from stores import Program, contents, copy, is_whole, opened, rows, told
+from support import TOP, built
+from support.bundles import HEADING, row_of, sealed, table
 from support.first_store import First, write_store
 
 SAMPLES = os.path.join(TOP, 'samples')
 NEW_TABLES = ('parked', 'moment')
-REPORTS = ('status', 'gaps', 'links', 'receipts', 'parked')
 
 arguments = argparse.ArgumentParser(description=__doc__, formatter_class=argparse.RawDescriptionHelpFormatter)
 arguments.add_argument('--restore', default=built('restore'))
@@ -33,6 +35,7 @@ arguments.add_argument('--objects', type=int, default=3000)
 arguments.add_argument('--only', default='', help='the releases whose names have this in them')
 arguments.add_argument('--keep', help='a folder to work in, which is kept')
 given = arguments.parse_args()
+run = Program(given.restore).run
 work = given.keep or tempfile.mkdtemp(prefix='first-version-')
 os.makedirs(work, exist_ok=True)
 counts = {'passed': 0, 'failed': 0}
@@ -47,59 +50,26 @@ def check(what, found, wanted):
 
 def rows_of(store):
     """The rows of a store's tables, after the C library's checks of the file."""
-    with contextlib.closing(sqlite3.connect(f'file:{store}?mode=ro', uri=True)) as database:
-        checks = database.execute('PRAGMA integrity_check').fetchall(), database.execute('PRAGMA foreign_key_check').fetchall()
-        check(f'the checks of {os.path.basename(store)}', checks, ([('ok',)], []))
-        names = [name for name, in database.execute("SELECT name FROM sqlite_master WHERE type = 'table'")]
-        return {name: sorted(database.execute(f'SELECT * FROM {name}').fetchall(), key=repr) for name in names}
+    check(f'the checks of {os.path.basename(store)}', is_whole(store), True)
+    return rows(store)
 
 
 def texts_of(store):
     """The texts that made a store's tables, in order."""
-    with contextlib.closing(sqlite3.connect(f'file:{store}?mode=ro', uri=True)) as database:
+    with opened(store) as database:
         return [it for it, in database.execute("SELECT sql FROM sqlite_master WHERE type = 'table' ORDER BY rowid")]
-
-
-# Runs.
-
-def run(*words, program=None):
-    ran = subprocess.run([program or given.restore, *words], capture_output=True, text=True, errors='replace')
-    return ran.returncode, ran.stdout, ran.stderr
-
-
-def told(store):
-    """What every report and export prints."""
-    printed = {what: run('report', '--store', store, what) for what in REPORTS}
-    return printed | {kind: run('export', '--store', store, kind) for kind in formats.KINDS}
 
 
 def as_later(printed):
     """What a later version says: A5, where version 1 said A2."""
-    return {what: (status, out.replace(',A2,', ',A5,') if what == 'receipts' else out, err) for what, (status, out, err) in printed.items()}
+    status, out, err = printed['report receipts']
+    return printed | {'report receipts': (status, out.replace(',A2,', ',A5,'), err)}
 
 
 def rows_as_later(rows):
     later = {table: list(found) for table, found in rows.items()}
     later['receipt'] = [(*it[:3], 5 if it[3] == 2 else it[3], *it[4:]) for it in rows['receipt']]
     return {table: sorted(found, key=repr) for table, found in later.items()}
-
-
-def copied(source, target):
-    for end in ('', '-wal'):
-        if os.path.exists(target + end):
-            os.remove(target + end)
-        if os.path.exists(source + end):
-            shutil.copy(source + end, target + end)
-    return target
-
-
-def contents(store):
-    """The bytes of a store's two files. After a command that ended by itself the second has nothing of the store."""
-    found = []
-    for end in ('', '-wal'):
-        with open(store + end, 'rb') if os.path.exists(store + end) else io.BytesIO(b'') as file:
-            found.append(file.read())
-    return found
 
 
 class Release:
@@ -145,8 +115,8 @@ class Release:
 def refused(release, store):
     """Every other command says S3 of a store of version 1, and leaves it as it was."""
     before = contents(store)[0]
-    others = [('init', '--manifest', release.manifest), ('amend', '--manifest', release.manifest), ('as-of', 'latest'), ('take', release.taken),
-              ('serve', '--port', '18080', '--count', '1'), ('report', 'status'), ('export', 'domain')]
+    others = [('init', '--manifest', release.manifest), ('amend', '--manifest', release.manifest), ('as-of', 'latest'),
+              ('take', release.taken), ('serve', '--port', '18080', '--count', '1'), ('report', 'status'), ('export', 'domain')]
     for command, *words in others:
         check(f'{release.name}: {command} of version 1', run(command, '--store', store, *words), (3, '', 'S3\n'))
     check(f'{release.name}: the file after refusals', contents(store)[0], before)
@@ -169,7 +139,7 @@ def migrated(release, store):
 
 def compare(release, store, fresh, what):
     """A migrated store against a fresh desk: reports, exports and rows."""
-    there, here = as_later(told(fresh)), as_later(told(store))
+    there, here = as_later(told(run, fresh)), as_later(told(run, store))
     for name in there:
         check(f'{release.name}: {name} {what}', here[name], there[name])
     check(f'{release.name}: texts of tables {what}', texts_of(store), texts_of(fresh))
@@ -186,7 +156,7 @@ def take(release, store, folder):
 def go_on(release, start, fresh, is_listed_first):
     """The rest of the release, on a migrated store and on the fresh desk."""
     order = 'listed first' if is_listed_first else 'sent first'
-    store, own = copied(start, release.store('going-on.db')), copied(fresh, release.store('fresh-on.db'))
+    store, own = copy(start, release.store('going-on.db')), copy(fresh, release.store('fresh-on.db'))
     steps = [('take', release.taken), *(('amend', it) for it in release.amendments)]
     for command, path in (steps[1:] + steps[:1] if is_listed_first else steps):
         if command == 'take':
@@ -194,7 +164,8 @@ def go_on(release, start, fresh, is_listed_first):
             check(f'{release.name}, {order}: the same arrivals', again, release.lines)
             check(f'{release.name}, {order}: once more', take(release, store, path), again)
         else:
-            check(f'{release.name}, {order}: amend', run('amend', '--store', store, '--manifest', path), run('amend', '--store', own, '--manifest', path))
+            amended, wanted = (run('amend', '--store', it, '--manifest', path) for it in (store, own))
+            check(f'{release.name}, {order}: amend', amended, wanted)
     compare(release, store, own, f'once all is sent, {order}')
     if release.more:
         check(f'{release.name}, {order}: later arrivals', take(release, store, release.later), take(release, own, release.later))
@@ -206,10 +177,10 @@ def play(release, store):
     refused(release, store)
     seconds = migrated(release, store)
     fresh = release.fresh()
-    there, here = as_later(told(fresh)), as_later(told(store))
+    there, here = as_later(told(run, fresh)), as_later(told(run, store))
     for name in there:
         # Version 1 kept no body that no row lists.
-        wanted = (0, 'sha256,bytes\n', '') if name == 'parked' else there[name]
+        wanted = (0, 'sha256,bytes\n', '') if name == 'report parked' else there[name]
         check(f'{release.name}: {name} once migrated', here[name], wanted)
     for is_listed_first in (False, True) if release.amendments else (False,):
         go_on(release, store, fresh, is_listed_first)
@@ -229,27 +200,16 @@ def read_folder(*path):
     return [(name, read(*path, name)) for name in sorted(os.listdir(os.path.join(SAMPLES, *path)))]
 
 
-def bundle(header, tables, files):
-    envelope = json.dumps(header | {'contents': tables}).encode()
-    made = [b'escrow-bundle 1\n']
-    for name, data in [('envelope.json', envelope), *files]:
-        made.append(f'{name} {len(data)}\n'.encode() + data + b'\n')
-    return b''.join(made) + b'end\n'
-
-
 def of_domains(id, type, day, rows, statuses, prev=None):
     """A deposit of domains with a child table."""
-    parent = dict(name='domain', kind='domain', role='parent', key='name', fields=['name', 'clID'], file='d.csv')
-    child = dict(name='domainStatuses', kind='domain', role='child', key='domainName', fields=['domainName', 'status'], file='s.csv')
+    declared = [table('domainStatuses', 'domain', 'child', ['domainName', 'status'], 's.csv'),
+                table('domain', 'domain', 'parent', ['name', 'clID'], 'd.csv')]
     header = dict(id=id, type=type, watermark=f'2024-03-{day:02d}T00:00:00Z') | ({'prevId': prev} if prev else {})
-    return bundle(header, [child, parent], [('s.csv', statuses.encode()), ('d.csv', rows.encode())])
+    return sealed(header | {'contents': declared}, [('s.csv', statuses.encode()), ('d.csv', rows.encode())])
 
 
 def line(id, type, day, prev, body, resend=''):
-    return f'{id},{type},2024-03-{day:02d}T00:00:00Z,{prev},{resend},{hashlib.sha256(body).hexdigest()}\n'
-
-
-HEADING = 'id,type,watermark,prevId,resend,sha256\n'
+    return row_of(f'{id},{type},2024-03-{day:02d}T00:00:00Z,{prev},{resend}', body)
 
 
 def unheld():
@@ -257,7 +217,8 @@ def unheld():
     a deposit, as one that doesn't read, and as one that differs from its row; one stays unlisted."""
     full = of_domains('F1', 'FULL', 1, 'a.example,R1\nB.example,R1\n', 'a.example,ok\nb.example,clientHold\na.example,linked\nz.example,ok\n')
     next_one = of_domains('D2', 'DIFF', 2, 'c.example,R2\n', 'c.example,ok\nd.example,ok\n', 'F1')
-    cut, other, broken = full[:-5], of_domains('D9', 'DIFF', 3, 'x.example,R1\n', '', 'F1'), next_one.replace(b'c.example,R2', b'c.example R2')
+    cut, broken = full[:-5], next_one.replace(b'c.example,R2', b'c.example R2')
+    other = of_domains('D9', 'DIFF', 3, 'x.example,R1\n', '', 'F1')
     missed = of_domains('D4', 'DIFF', 4, 'e.example,R2\n', 'e.example,ok\n', 'D2')
     first = HEADING + line('F1', 'FULL', 1, '', full) + line('F1', 'FULL', 1, '', cut, '1') + line('D3', 'DIFF', 3, 'F1', other)
     second = HEADING + line('D2', 'DIFF', 2, 'F1', next_one) + line('D2', 'DIFF', 2, 'F1', broken, '1')
@@ -294,28 +255,28 @@ def releases():
 
 # Stores of a program of version 1.
 
-def own_store(release):
+def own_store(release, first):
     """A store that the program of version 1 made."""
     store = release.store('of-first.db')
-    run('init', '--store', store, '--manifest', release.manifest, program=given.first)
-    run('take', '--store', store, release.taken, program=given.first)
+    first.run('init', '--store', store, '--manifest', release.manifest)
+    first.run('take', '--store', store, release.taken)
     return store
 
 
-def killed(release, at):
+def killed(release, first, at):
     """A store whose take was killed: what the program of version 1 says of its receipts is what is migrated."""
     store = release.store(f'killed{at}.db')
-    run('init', '--store', store, '--manifest', release.manifest, program=given.first)
-    with subprocess.Popen([given.first, 'take', '--store', store, release.taken], stdout=subprocess.PIPE) as ran:
+    first.run('init', '--store', store, '--manifest', release.manifest)
+    with subprocess.Popen([first.path, 'take', '--store', store, release.taken], stdout=subprocess.PIPE) as ran:
         for _ in range(at):
             ran.stdout.readline()
         ran.kill()
         ran.stdout.read()
-    before, same = contents(store), copied(store, release.store('same.db'))
-    told_first = run('report', '--store', same, 'receipts', program=given.first)
+    before, same = contents(store), copy(store, release.store('same.db'))
+    told_first = first.run('report', '--store', same, 'receipts')
     check(f'{release.name}: migrate a killed one', run('migrate', '--store', store), (0, 'migrated\n', ''))
     check(f'{release.name}: receipts of a killed one', run('report', '--store', store, 'receipts'), told_first)
-    return len(before[1])
+    return len(before[1] or b'')
 
 
 def main():
@@ -326,8 +287,9 @@ def main():
         write_store(made, release.kept.rows())
         play(release, made)
         if given.first:
-            play(release, own_store(release))
-            logs = [killed(release, at) for at in range(1, len(release.arrivals) + 1)]
+            first = Program(given.first)
+            play(release, own_store(release, first))
+            logs = [killed(release, first, at) for at in range(1, len(release.arrivals) + 1)]
             print(f'{release.name}: {len(logs)} killed takes, logs of {min(logs, default=0)} to {max(logs, default=0)} bytes', flush=True)
     print(f'{counts["passed"]} passed, {counts["failed"]} failed')
 

@@ -13,7 +13,7 @@ deadline. At last some bundles as large as a bundle may be are taken one by one,
 
 It needs python3 alone, and the program, which `./build` builds. Each wrong input stays in a folder, with how to run it
 again. The last line is `N inputs, wrong K`."""
-import argparse, os, random, sys, time
+import argparse, random, sys, time
 
 sys.path.append(f'{sys.path[0]}/../tests')
 from fuzzing.arrivals import mutated_release

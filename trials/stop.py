@@ -7,11 +7,11 @@ not fit until the last. After each stop the folder is taken again, for a disk on
 stop is there again, the receipts and exports are those of an undisturbed run, and the C library's `PRAGMA integrity_check` says ok.
 The disks need root and mkfs.ext2; without them they are left out. It needs python3, and the program, which `./build` builds. The
 last line is 'N stops, M undisturbed, wrong K'."""
-import argparse, os, random, shutil, sqlite3, subprocess, sys, tempfile, time
+import argparse, os, random, shutil, subprocess, sys, tempfile, time
 
 sys.path.append(f'{sys.path[0]}/../tests')
+from stores import Program, copy, is_whole, told
 from support import TOP, built
-from support.formats import KINDS
 
 arguments = argparse.ArgumentParser(description=__doc__.split('\n')[0])
 arguments.add_argument('--restore', default=built('restore'))
@@ -21,11 +21,8 @@ arguments.add_argument('--seed', type=int, default=1)
 given = arguments.parse_args()
 work = tempfile.mkdtemp(prefix='stop-')
 folder, manifest = os.path.join(work, 'deposits'), os.path.join(work, 'release', 'manifest.csv')
+run = Program(given.restore).run
 counts = {'stops': 0, 'undisturbed': 0, 'wrong': 0}
-
-
-def run(*words):
-    return subprocess.run([given.restore, *words], capture_output=True, text=True, errors='replace')
 
 
 def made_release():
@@ -38,28 +35,16 @@ def made_release():
         shutil.copy(os.path.join(work, 'release', 'diffs', name), os.path.join(folder, f'b-{name}'))
 
 
-def told(store):
-    """What a store tells: receipts, status and gaps, and the exports of all kinds."""
-    reports = [run('report', '--store', store, what) for what in ('receipts', 'status', 'gaps', 'parked')]
-    exports = [run('export', '--store', store, kind) for kind in KINDS]
-    return [(it.returncode, it.stdout, it.stderr) for it in [*reports, *exports]]
-
-
-def is_whole(store):
-    with sqlite3.connect(f'file:{store}?mode=ro', uri=True) as database:
-        return database.execute('PRAGMA integrity_check').fetchall() == [('ok',)]
-
-
 def judge(what, store, printed, whole, undisturbed):
     """Takes the folder again after a stop, and compares."""
     again = run('take', '--store', store, folder)
     lines = printed.rpartition('\n')[0].split('\n') if '\n' in printed else []
     failures = []
-    if (again.returncode, again.stdout, again.stderr) != (0, whole, ''):
-        failures.append(f'taken again: status {again.returncode} {again.stderr!r}')
+    if again != (0, whole, ''):
+        failures.append(f'taken again: status {again[0]} {again[2]!r}')
     if lines != whole.split('\n')[:len(lines)]:
         failures.append('lines printed before the stop')
-    if told(store) != undisturbed:
+    if told(run, store) != undisturbed:
         failures.append('receipts, reports or exports')
     if not is_whole(store):
         failures.append('integrity_check')
@@ -68,18 +53,10 @@ def judge(what, store, printed, whole, undisturbed):
         print(f'WRONG {what}: {"; ".join(failures)}', flush=True)
 
 
-def copied(source, target):
-    for end in ('', '-wal'):
-        if os.path.exists(target + end):
-            os.remove(target + end)
-        if os.path.exists(source + end):
-            shutil.copy(source + end, target + end)
-
-
 def kills(fresh, whole, undisturbed, seconds):
     moments, store = random.Random(given.seed), os.path.join(work, 'killed.db')
     for number in range(given.kills):
-        copied(fresh, store)
+        copy(fresh, store)
         after = moments.uniform(0, seconds)
         with open(os.path.join(work, 'printed'), 'w') as out:
             child = subprocess.Popen([given.restore, 'take', '--store', store, folder], stdout=out)
@@ -101,41 +78,41 @@ def on_disk(size, whole, undisturbed):
     try:
         there = os.path.join(disk, 'desk.db')
         made = run('init', '--store', there, '--manifest', manifest)
-        taken = run('take', '--store', there, folder) if made.returncode == 0 else made
-        copied(there, store)
+        status, out, refusals = run('take', '--store', there, folder) if made[0] == 0 else made
+        copy(there, store)
     finally:
         subprocess.run(['umount', disk], check=True)
-    counts['undisturbed' if taken.returncode == 0 else 'stops'] += 1
-    if taken.returncode and (taken.returncode, taken.stderr) != (3, 'S1\n'):
+    counts['undisturbed' if status == 0 else 'stops'] += 1
+    if status and (status, refusals) != (3, 'S1\n'):
         counts['wrong'] += 1
-        print(f'WRONG disk of {size} KB: status {taken.returncode} {taken.stderr!r}', flush=True)
-    if made.returncode:
-        once_more = run('init', '--store', store, '--manifest', manifest)
-        if (once_more.returncode, once_more.stderr) not in ((0, ''), (3, 'S3\n')):
+        print(f'WRONG disk of {size} KB: status {status} {refusals!r}', flush=True)
+    if made[0]:
+        status, _, refusals = run('init', '--store', store, '--manifest', manifest)
+        if (status, refusals) not in ((0, ''), (3, 'S3\n')):
             counts['wrong'] += 1
-            print(f'WRONG disk of {size} KB: init again: {once_more.returncode} {once_more.stderr!r}', flush=True)
-    judge(f'disk of {size} KB', store, taken.stdout if made.returncode == 0 else '', whole, undisturbed)
+            print(f'WRONG disk of {size} KB: init again: {status} {refusals!r}', flush=True)
+    judge(f'disk of {size} KB', store, out if made[0] == 0 else '', whole, undisturbed)
 
 
 def main():
     made_release()
     fresh, store = os.path.join(work, 'fresh.db'), os.path.join(work, 'whole.db')
-    assert run('init', '--store', fresh, '--manifest', manifest).returncode == 0
-    copied(fresh, store)
+    assert run('init', '--store', fresh, '--manifest', manifest)[0] == 0
+    copy(fresh, store)
     begun = time.perf_counter()
-    taken = run('take', '--store', store, folder)
+    status, whole, refusals = run('take', '--store', store, folder)
     seconds = time.perf_counter() - begun
-    assert taken.returncode == 0, taken.stderr
-    undisturbed = told(store)
+    assert status == 0, refusals
+    undisturbed = told(run, store)
     print(f'a take of {len(os.listdir(folder))} deposits: {seconds:.2f} s, a store of {os.path.getsize(store) // 1024} KB', flush=True)
-    kills(fresh, taken.stdout, undisturbed, seconds)
+    kills(fresh, whole, undisturbed, seconds)
     if os.geteuid() or not shutil.which('mkfs.ext2'):
         print('no root or no mkfs.ext2: the disks are left out')
     else:
         # (the log grows to about the size of the store)
         most = os.path.getsize(store) * 5 // 2 // 1024
         for number in range(given.disks):
-            on_disk(60 + most * number // max(1, given.disks - 1), taken.stdout, undisturbed)
+            on_disk(60 + most * number // max(1, given.disks - 1), whole, undisturbed)
     print(f'{counts["stops"]} stops, {counts["undisturbed"]} undisturbed, wrong {counts["wrong"]}')
     shutil.rmtree(work)
     return 1 if counts['wrong'] else 0

@@ -1,5 +1,6 @@
 #!/usr/bin/env python3
-"""trials/sweep.py [OPTION ..] [TESTS ..]: refuses one growth of memory after the other, then lets one call of the database after the other fail.
+"""trials/sweep.py [OPTION ..] [TESTS ..]: refuses one growth of memory after the other, then lets one call of the database after the other
+fail.
 
 Looked for is an answer that changes in place of the error.
 
@@ -46,12 +47,12 @@ def over_program(sweep):
     assert four.lines[1].endswith('1,1,A1,,F1,0,new,0\n2,2,A1,,D2,0,new,0\n3,3,A1,,D3,0,new,0\n4,4,A1,,D2,1,new,0\n'), four.lines
     over_commands(sweep, first)
     over_routes(sweep, first)
-    over_init(sweep, four, 'S2', False)
-    over_take(sweep, four, 'S2', False)
+    over_init(sweep, four, 'S2')
+    over_take(sweep, four, 'S2')
     over_commands(sweep, second)
-    over_init(sweep, four, 'S1', True)
-    over_take(sweep, four, 'S1', True)
-    over_reading(sweep, four, 'S1', True, 'export', 'domain')
+    over_init(sweep, four, 'S1')
+    over_take(sweep, four, 'S1')
+    over_reading(sweep, four, 'S1', 'export', 'domain')
     parts = Parts(sweep)
     over_parts(sweep, parts)
     over_parked(sweep, parts)
@@ -59,14 +60,14 @@ def over_program(sweep):
 
 def over_parts(sweep, parts):
     unkept = Unkept(sweep, parts)
-    over_reading(sweep, parts, 'S2', False, 'report', 'parked')
-    over_reading(sweep, parts, 'S2', False, 'as-of', 'soon')
-    over_reading(sweep, parts, 'S2', False, 'amend', '--manifest', os.path.join(TOP, 'README.md'))
-    for fault, disk in (('S2', False), ('S1', True)):
-        over_change(sweep, parts, fault, disk, parts.taken, 'amend', '--manifest', parts.more)
-        over_change(sweep, parts, fault, disk, parts.taken, 'as-of', '2024-03-01T00:00:00Z')
-        over_migrate(sweep, parts, fault, disk, parts.first)
-        over_take(sweep, unkept, fault, disk)
+    over_reading(sweep, parts, 'S2', 'report', 'parked')
+    over_reading(sweep, parts, 'S2', 'as-of', 'soon')
+    over_reading(sweep, parts, 'S2', 'amend', '--manifest', os.path.join(TOP, 'README.md'))
+    for fault in ('S2', 'S1'):
+        over_change(sweep, parts, fault, parts.taken, 'amend', '--manifest', parts.more)
+        over_change(sweep, parts, fault, parts.taken, 'as-of', '2024-03-01T00:00:00Z')
+        over_migrate(sweep, parts, fault, parts.first)
+        over_take(sweep, unkept, fault)
 
 
 def check_needs(given):

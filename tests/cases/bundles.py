@@ -1,5 +1,5 @@
 """Bundles as they arrive: what their sections have, and what is refused for its frame."""
-from support.bundles import CHILD, ENVELOPE, FILES, FIRST_LINE, FRONT, SAMPLE, bundle_of, envelope_of, section
+from support.bundles import CHILD, FILES, FIRST_LINE, FRONT, SAMPLE, bundle_of, envelope_of, section
 from support.stage import compare
 from support.verdicts import check_faults, check_held
 from support.worked_rows import C1

@@ -1,9 +1,9 @@
 """Deposits: what bundles hold, what is refused, what deletes take away, and how long keys and how many rows there may be."""
 from dataclasses import dataclass
 
-from support.bundles import FIRST_LINE, bundle_of, section
+from support.bundles import FIRST_LINE, bundle_of, row_of, section
 from support.stage import case, compare, text_of
-from support.verdicts import F1, check_faults, check_held, desk_over, reply_to, row_of
+from support.verdicts import F1, check_faults, check_held, desk_over, reply_to
 from support.worked_rows import C1, DOMAIN_A, DOMAIN_B
 
 DECLARED = {

@@ -3,9 +3,9 @@ import re
 from dataclasses import dataclass
 
 from support.bodies import bytes_of, line_of
-from support.bundles import ENVELOPE, SAMPLE, bundle_of, section
+from support.bundles import ENVELOPE, SAMPLE, bundle_of, row_of, section
 from support.stage import case, compare
-from support.verdicts import F1, check_faults, check_held, desk_over, reply_to, row_of
+from support.verdicts import F1, check_faults, check_held, desk_over, reply_to
 from support.worked_rows import C1
 
 # A Differential without tables, on the worked body F5.
@@ -143,7 +143,7 @@ def test_what_envelopes_say(stage):
     check_held(stage, 'the Full', SAMPLE, [C1])
     body = bundle_of(COUNTED)
     for row, reply, end in ROWS:
-        with case(f'listed as {row}'), desk_over(stage, [f'{line_of("F5")}\n', row_of(row, body)]) as desk:
+        with case(f'listed as {row}'), desk_over(stage, [line_of('F5'), row_of(row, body)]) as desk:
             compare('reply to F5', 'A1,,F5,0,new,0', reply_to(stage, desk, 1, bytes_of('F5')))
             compare('reply to the Differential', reply, reply_to(stage, desk, 2, body))
             compare('end', end, desk.ask('end'))

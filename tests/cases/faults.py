@@ -244,6 +244,6 @@ PHASES = (
     ('a store of version 1 that was closed is migrated and takes a list', CLOSED, False, {'log': 12, 'database': 4}),
     ('a store that was closed and migrated is opened and takes its list again', CLOSED, True, {'log': 0}),
 )
-CASES = {
-    f'Each call of the {FILES[file]} fails once, while {when}': functools.partial(check_calls, phase=Phase(told, file, is_again), reopened=count)
-    for when, told, is_again, counts in PHASES for file, count in counts.items()}
+CASES = {f'Each call of the {FILES[file]} fails once, while {when}':
+         functools.partial(check_calls, phase=Phase(told, file, is_again), reopened=count)
+         for when, told, is_again, counts in PHASES for file, count in counts.items()}

@@ -222,7 +222,7 @@ def desk_of(stage, registry, watermark=NEW_YEAR, counts=None):
 
 
 def record_of(it):
-    return record([(row.table.encode(), [(field.encode(), text.encode()) for field, text in row.cells]) for row in it.rows])
+    return record([(row.table, row.cells) for row in it.rows])
 
 
 def put(desk, objects):

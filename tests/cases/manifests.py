@@ -1,5 +1,5 @@
 """Manifests: the least fault of a text, the values of its rows, how many rows and bytes it may have, and the union of two."""
-from support.bodies import HEADING
+from support.bundles import HEADING
 from support.harness import Harness
 from support.stage import case, compare, text_of
 from support.verdicts import said_of, text_of_rows

@@ -3,7 +3,7 @@ from support.bodies import bytes_of, line_of
 from support.stage import compare, text_of
 from support.steps import literal
 from support.worked_rows import (
-    C1, CLOSINGS, COUNTED, DOMAIN_A, DOMAIN_B, FORWARD, IMAGES, IMAGES_OF_ROWS, NO_ARRIVALS, R1, RESENT, ROWS, TAKEN_D2, TAKEN_F1,
+    CLOSINGS, COUNTED, DOMAIN_A, DOMAIN_B, FORWARD, IMAGES, IMAGES_OF_ROWS, NO_ARRIVALS, R1, RESENT, ROWS, TAKEN_D2, TAKEN_F1,
     check_state, desk_after, desk_of, open_again, take, told)
 
 # Under which number what arrives, and then its verdict and fault, and the rows that are held.
@@ -117,4 +117,4 @@ def test_a_run(stage):
 
 def test_the_empty_body(_):
     """The empty body is listed by its published digest."""
-    compare('row', 'E0,FULL,2024-03-01T00:00:00Z,,0,e3b0c44298fc1c149afbf4c8996fb92427ae41e4649b934ca495991b7852b855', line_of('Empty'))
+    compare('row', 'E0,FULL,2024-03-01T00:00:00Z,,0,e3b0c44298fc1c149afbf4c8996fb92427ae41e4649b934ca495991b7852b855\n', line_of('Empty'))

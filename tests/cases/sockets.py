@@ -1,12 +1,12 @@
 """The desk on a socket."""
-import contextlib, os, resource, socket, struct, time
+import contextlib, os, resource, socket, time
 
 from support.messages import CONTACT, get, put, response
 from support.outputs import check_narrow, run_narrow
+from support.sockets import HOST, breaks_off, free_port, received
 from support.stage import SECONDS, Failed, Got, Wanted, difference, pieces_of
 from support.steps import Copy
 
-HOST = '127.0.0.1'
 # How many ports are tried.
 PORTS = 5
 INIT = 'init --store a.db --manifest listed.csv'
@@ -32,12 +32,6 @@ EXCHANGES = (
     (get('/arrivals/n1'), NOT_ALLOWED),
     (get('/status', 33 * 'A: b\r\n'), BAD_REQUEST),
 )
-
-
-def free_port():
-    """A port on which nothing listens."""
-    with socket.create_server((HOST, 0)) as listener:
-        return listener.getsockname()[1]
 
 
 def is_taken(port, got):
@@ -74,16 +68,11 @@ def call(port, request):
     return client
 
 
-def response_of(client):
-    """What comes over a connection until its end."""
-    return b''.join(iter(lambda: client.recv(65_536), b''))
-
-
 def responses_of(port, requests):
     """The responses to requests. All requests are sent before a response is read."""
     with contextlib.ExitStack() as calls:
         clients = [calls.enter_context(call(port, it)) for it in requests]
-        return list(map(response_of, clients))
+        return list(map(received, clients))
 
 
 def serving(store, port, count):
@@ -151,7 +140,7 @@ def break_call(port, request):
     """Sends a request over a connection of its own, and breaks that."""
     with socket.create_connection((HOST, port), SECONDS) as client:
         client.sendall(request.encode())
-        client.setsockopt(socket.SOL_SOCKET, socket.SO_LINGER, struct.pack('ii', 1, 0))
+        breaks_off(client)
 
 
 def responses_around_broken(port):
@@ -161,7 +150,7 @@ def responses_around_broken(port):
             break_call(port, request)
         first.sendall(AROUND[0].encode())
         first.shutdown(socket.SHUT_WR)
-        return [response_of(first), *responses_of(port, AROUND[:1])]
+        return [received(first), *responses_of(port, AROUND[:1])]
 
 
 def test_broken_connections(stage):
@@ -235,6 +224,6 @@ def test_no_more_files(stage):
         resource.prlimit(child.pid, resource.RLIMIT_NOFILE, (most, most))
         client.sendall(AROUND[0].encode())
         client.shutdown(socket.SHUT_WR)
-        compare_responses((AROUND,), [response_of(client)])
+        compare_responses((AROUND,), [received(client)])
     got = stage.end(child)
     stage.compare(line, Wanted(3, listening, f'E1 {HOST}:{port}\n'), Got(got.status, said + got.out, got.err))

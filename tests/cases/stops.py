@@ -276,4 +276,5 @@ PLAYS = (
     ('a store of version 1 that lies in the log is migrated', over_migration, ['database']),
     ('a store of version 1 that was closed is migrated', over_closed_migration, FILES),
 )
-CASES = {f'The {FILES[file]} stops at each call, while {when}': functools.partial(play, file=file) for when, play, files in PLAYS for file in files}
+CASES = {f'The {FILES[file]} stops at each call, while {when}': functools.partial(play, file=file)
+         for when, play, files in PLAYS for file in files}

@@ -10,9 +10,9 @@ AMPLE = 1_000_000
 
 def object_of(table, row):
     """The line of an object that has no child rows, by its parent row."""
-    kind, _, key, more = SHAPES[table]
+    kind, _, fields = SHAPES[table]
     cells = row.split(',')
-    told = ' '.join(f'{name}={cell}' for name, cell in zip((key, *more), cells, strict=True))
+    told = ' '.join(f'{name}={cell}' for name, cell in zip(fields, cells, strict=True))
     return f'{kind} {cells[0]}: {table} {told}'
 
 

@@ -1,11 +1,11 @@
 """The words of manifests and envelopes: the moments of watermarks, places, types, kinds and ids."""
 import datetime
 
-from support.bundles import bundle_of, envelope_of, section
+from support.bundles import bundle_of, envelope_of, row_of, section
 from support.formats import KINDS
 from support.harness import Harness
 from support.stage import Wanted, case, compare, text_of
-from support.verdicts import F1, desk_over, reply_to, row_of, said_of, text_of_rows
+from support.verdicts import F1, desk_over, reply_to, said_of, text_of_rows
 
 # Texts, and the nanoseconds of their moments.
 MOMENTS = (

@@ -1,25 +1,23 @@
 """The worked bodies, and the manifests that list them.
 
 `bytes_of(name)` gives the bytes of a body, and `manifest_text(names, more)` a manifest that lists bodies, and then further rows."""
-import functools, hashlib
+import functools
 from dataclasses import dataclass, field
 
-HEADING = 'id,type,watermark,prevId,resend,sha256\n'
-# The kind, the role, the key field and the further fields of each table.
+from support.bundles import HEADING, SAMPLE, row_of, sealed, table
+
+# The kind, the role and the fields of each table. The first field is the key.
 SHAPES = {
-    'registrar': ('registrar', 'parent', 'id', ()),
-    'contact': ('contact', 'parent', 'id', ('clID',)),
-    'host': ('host', 'parent', 'name', ('clID',)),
-    'domain': ('domain', 'parent', 'name', ('clID', 'registrant')),
-    'domainNs': ('domain', 'child', 'domainName', ('hostName',)),
+    'registrar': ('registrar', 'parent', ('id',)),
+    'contact': ('contact', 'parent', ('id', 'clID')),
+    'host': ('host', 'parent', ('name', 'clID')),
+    'domain': ('domain', 'parent', ('name', 'clID', 'registrant')),
+    'domainNs': ('domain', 'child', ('domainName', 'hostName')),
 }
 # What a manifest says of the deposits: type, watermark, previous id and resend.
 F1 = ('F1', 'FULL', '2024-03-03T00:00:00Z', '', 0)
 D2 = ('D2', 'DIFF', '2024-03-04T00:00:00Z', 'F1', 0)
 F5 = ('F5', 'FULL', '2024-03-10T00:00:00Z', '', 0)
-# A bundle of one contact, without its last byte.
-CUT = (b'escrow-bundle 1\nenvelope.json 174\n{"id":"F1","type":"FULL","watermark":"2024-03-03T00:00:00Z","contents":[{"name":"contact",'
-       b'"kind":"contact","role":"parent","key":"id","fields":["id","clID"],"file":"c.csv"}]}\nc.csv 6\nC1,R1\n\nend')
 
 
 @dataclass(frozen=True)
@@ -29,7 +27,7 @@ class Bundle:
     listed: tuple
     contents: dict = field(default_factory=dict)
     deletes: dict = field(default_factory=dict)
-    counts: str = ''
+    counts: dict = field(default_factory=dict)
     says_resend: int | None = None
 
 
@@ -57,7 +55,7 @@ BODIES = {
     'F5': Bundle(F5, {'registrar': 'R1\n', 'contact': 'C1,R1\n', 'host': 'ns1.e.example,R1\n', 'domain': 'e.example,R1,C1\n',
                       'domainNs': 'e.example,ns1.e.example\n'}),
     'D6': Bundle(('D6', 'DIFF', '2024-03-11T00:00:00Z', 'F5', 0), {'domain': 'f.example,R1,C9\n'}, {'host': 'ns1.e.example\n'},
-                 counts='"registrar":1,"contact":1,"host":0,"domain":3'),
+                 counts={'registrar': 1, 'contact': 1, 'host': 0, 'domain': 3}),
     # D2 that deletes the domain a.example, in other letters, and has it with clID R2.
     'Both': Bundle(D2, {'domain': 'a.example,R2,C1\n'}, {'domain': 'A.EXAMPLE\n'}),
     # A Full at the watermark of D2.
@@ -67,8 +65,8 @@ BODIES = {
     # F1 that says resend 1, where the manifest says 0.
     'Unequal': Bundle(F1, FIRST, says_resend=1),
     'Empty': Raw(('E0', 'FULL', '2024-03-01T00:00:00Z', '', 0), b''),
-    # A bundle without its last byte.
-    'Cut': Raw(F1, CUT),
+    # The bundle of one contact without its last byte.
+    'Cut': Raw(F1, SAMPLE[:-1]),
     # A bundle whose envelope would be too long.
     'Long': Raw(F5, b'escrow-bundle 1\nenvelope.json 16777217\n'),
     # Three bytes.
@@ -83,25 +81,14 @@ BODIES = {
 }
 
 
-def declared(table, fields, file):
-    """A table's declaration in an envelope."""
-    kind, role, key, _ = SHAPES[table]
-    names = ','.join(f'"{it}"' for it in fields)
-    return f'{{"name":"{table}","kind":"{kind}","role":"{role}","key":"{key}","fields":[{names}],"file":"{file}"}}'
-
-
 def envelope(bundle):
     name, kind, watermark, prev, resend = bundle.listed
-    said = resend if bundle.says_resend is None else bundle.says_resend
     # (A delete table has keys alone.)
-    deletes = [declared(table, SHAPES[table][2:3], f'd{at}') for at, table in enumerate(bundle.deletes)]
-    contents = [declared(table, (SHAPES[table][2], *SHAPES[table][3]), f'c{at}') for at, table in enumerate(bundle.contents)]
-    return (f'{{"id":"{name}","type":"{kind}","watermark":"{watermark}","prevId":"{prev}","resend":{said},"counts":{{{bundle.counts}}},'
-            f'"deletes":[{",".join(deletes)}],"contents":[{",".join(contents)}]}}')
-
-
-def section(name, text):
-    return f'{name} {len(text)}\n{text}\n'
+    deletes = [table(it, *SHAPES[it][:2], SHAPES[it][2][:1], f'd{at}') for at, it in enumerate(bundle.deletes)]
+    contents = [table(it, *SHAPES[it], f'c{at}') for at, it in enumerate(bundle.contents)]
+    said = resend if bundle.says_resend is None else bundle.says_resend
+    return {'id': name, 'type': kind, 'watermark': watermark, 'prevId': prev, 'resend': said, 'counts': bundle.counts, 'deletes': deletes,
+            'contents': contents}
 
 
 @functools.cache
@@ -110,21 +97,16 @@ def bytes_of(name):
     body = BODIES[name]
     if isinstance(body, Raw):
         return body.body
-    tables = [section(f'{prefix}{at}', rows) for prefix, tables in (('d', body.deletes), ('c', body.contents))
-              for at, rows in enumerate(tables.values())]
-    return ''.join(['escrow-bundle 1\n', section('envelope.json', envelope(body)), *tables, 'end\n']).encode()
-
-
-def digest_of(name):
-    """The SHA-256 of a body, in hexadecimal digits."""
-    return hashlib.sha256(bytes_of(name)).hexdigest()
+    files = [(f'{prefix}{at}', rows.encode()) for prefix, tables in (('d', body.deletes), ('c', body.contents))
+             for at, rows in enumerate(tables.values())]
+    return sealed(envelope(body), files)
 
 
 def line_of(name):
-    """The row of a manifest that lists a body, without the end of its line."""
-    return ','.join(map(str, [*BODIES[name].listed, digest_of(name)]))
+    """The row of a manifest that lists a body."""
+    return row_of(','.join(map(str, BODIES[name].listed)), bytes_of(name))
 
 
 def manifest_text(names, more=''):
     """The text of a manifest that lists bodies, and then further rows."""
-    return HEADING + ''.join(f'{line_of(it)}\n' for it in names) + more
+    return HEADING + ''.join(map(line_of, names)) + more

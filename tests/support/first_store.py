@@ -24,6 +24,7 @@ def number(value):
 
 
 def text(value):
+    value = value.encode() if isinstance(value, str) else value
     return number(len(value)) + value
 
 

@@ -1,32 +1,16 @@
 """A store of version 1, as the plain model says that it is kept: statements of SQL that make it."""
 import calendar
 
+from support.first_store import record
 from support.model import held_rows, latest_chain, mentions, receipts, tables
 from support.steps import first_script
 from support.universe import KEYS, is_contact, prev_text
 
 # ---- records
 
-def number(value):
-    return value.to_bytes(4, 'big')
-
-
-def text(value):
-    return number(len(value)) + value.encode()
-
-
-def cells_record(cells):
-    return number(len(cells)) + b''.join(text(field) + text(value) for field, value in cells.items())
-
-
-def record(rows):
-    """The record of an object: its rows, each of a table with its cells, the parent first."""
-    return number(len(rows)) + b''.join(text(table) + cells_record(cells) for table, cells in rows)
-
-
 def records(chain):
     """The record of each key that has an object under a chain, by kind and key."""
-    return {kind_and_key(key): record(rows) for key, rows in tables(chain).items()}
+    return {kind_and_key(key): record([(table, cells.items()) for table, cells in rows]) for key, rows in tables(chain).items()}
 
 
 def kind_and_key(key):

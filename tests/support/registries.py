@@ -1,208 +1,209 @@
-"""Registries that look real, made from a seed, and the deposits of their objects: Fulls, and Differentials or Incrementals on these."""
-import hashlib, json, random
+"""Registries that look real, made from a seed, and deposits of their objects: Fulls, and Differentials or Incrementals on these."""
+import random
 
-PREFIX = 'escrow-bundle 1\n'
+from support.bundles import sealed, table
 
-
-def bundle(env, files):
-    out = [PREFIX.encode()]
-    for name, b in [('envelope.json', json.dumps(env, separators=(',', ':')).encode())] + files:
-        out.append(f'{name} {len(b)}\n'.encode() + b + b'\n')
-    return b''.join(out) + b'end\n'
-
-
-FIELDS = {
-    'registrar': ('parent', 'registrar', 'id', 'id,name,gurid,status,street,city,cc,voice,email,url,crDate,upDate'),
-    'contact': ('parent', 'contact', 'id', 'id,roid,voice,fax,email,clID,crRR,crID,crDate,upRR,upID,upDate'),
-    'contactPostal': ('child', 'contact', 'id', 'id,type,name,org,street1,street2,city,sp,pc,cc'),
-    'contactStatuses': ('child', 'contact', 'id', 'id,status,rgpStatus,reason'),
-    'host': ('parent', 'host', 'name', 'name,roid,clID,crRR,crID,crDate,upRR,upID,upDate'),
-    'hostAddresses': ('child', 'host', 'name', 'name,address,ipVersion'),
-    'hostStatuses': ('child', 'host', 'name', 'name,status,reason'),
-    'domain': ('parent', 'domain', 'name', 'name,roid,uName,idnTableId,originalName,registrant,clID,crRR,crID,crDate,exDate,upRR,upID,upDate,note'),
-    'domainContacts': ('child', 'domain', 'domainName', 'domainName,contactType,contactId'),
-    'domainNs': ('child', 'domain', 'domainName', 'domainName,hostName'),
-    'domainStatuses': ('child', 'domain', 'domainName', 'domainName,status,rgpStatus,reason'),
-    'secDNS': ('child', 'domain', 'domainName', 'domainName,maxSigLife,keyTag,alg,digestType,digest'),
-    'idn': ('parent', 'idn', 'id', 'id,url'),
-    'nndn': ('parent', 'nndn', 'aName', 'aName,uName,idnTableId,originalName,nameState,crDate'),
-}
-WORDS = 'alpha bravo cedar delta ember frost grove haven islet juniper karst ledge maple north ocean pine quartz river stone tundra umber valley willow xenon yarrow zephyr'.split()
+# Of each table: kind, role and fields. The first field is the key.
+TABLES = {name: (kind, role, fields.split()) for name, kind, role, fields in (
+    ('registrar', 'registrar', 'parent', 'id name gurid status street city cc voice email url crDate upDate'),
+    ('contact', 'contact', 'parent', 'id roid voice fax email clID crRR crID crDate upRR upID upDate'),
+    ('contactPostal', 'contact', 'child', 'id type name org street1 street2 city sp pc cc'),
+    ('contactStatuses', 'contact', 'child', 'id status rgpStatus reason'),
+    ('host', 'host', 'parent', 'name roid clID crRR crID crDate upRR upID upDate'),
+    ('hostAddresses', 'host', 'child', 'name address ipVersion'),
+    ('hostStatuses', 'host', 'child', 'name status reason'),
+    ('domain', 'domain', 'parent', 'name roid uName idnTableId originalName registrant clID crRR crID crDate exDate upRR upID upDate note'),
+    ('domainContacts', 'domain', 'child', 'domainName contactType contactId'),
+    ('domainNs', 'domain', 'child', 'domainName hostName'),
+    ('domainStatuses', 'domain', 'child', 'domainName status rgpStatus reason'),
+    ('secDNS', 'domain', 'child', 'domainName maxSigLife keyTag alg digestType digest'),
+    ('idn', 'idn', 'parent', 'id url'),
+    ('nndn', 'nndn', 'parent', 'aName uName idnTableId originalName nameState crDate'),
+)}
+WORDS = ('alpha bravo cedar delta ember frost grove haven islet juniper karst ledge maple north ocean pine quartz river stone tundra umber '
+         'valley willow xenon yarrow zephyr').split()
 
 
-class World:
-    """Row makers over a seeded generator, and the key sets that links point to."""
+class Registry:
+    """The keys of a registry's objects by kind, and rows of objects."""
 
     def __init__(self, seed, words=0):
-        self.r = random.Random(seed)
-        self.words = words  # extra words in a domain's note
-        self.ids = {k: [] for k in ('registrar', 'contact', 'host', 'domain', 'idn', 'nndn')}
-        self.n = 0
+        self.random, self.count = random.Random(seed), 0
+        # How many more words a domain's note has; below 0 it has none.
+        self.words = words
+        self.keys = {kind: [] for kind in ('registrar', 'contact', 'host', 'domain', 'idn', 'nndn')}
 
-    def fresh(self):
-        self.n += 1
-        return self.n
+    def number(self, least, most):
+        return self.random.randint(least, most)
 
-    def date(self):
-        r = self.r
-        return f'20{r.randint(10, 23)}-{r.randint(1, 12):02d}-{r.randint(1, 28):02d}T{r.randint(0, 23):02d}:{r.randint(0, 59):02d}:{r.randint(0, 59):02d}Z'
+    def is_one_of(self, share):
+        return self.random.random() < share
 
     def word(self):
-        return self.r.choice(WORDS)
+        return self.random.choice(WORDS)
+
+    def name(self):
+        return self.word().title()
+
+    def date(self):
+        year, month, day = self.number(10, 23), self.number(1, 12), self.number(1, 28)
+        return f'20{year}-{month:02d}-{day:02d}T{self.number(0, 23):02d}:{self.number(0, 59):02d}:{self.number(0, 59):02d}Z'
+
+    def phone(self):
+        return f'+31.{self.number(10**8, 10**9)}'
+
+    def operator(self):
+        return f'op-{self.number(1, 99)}'
 
     def some(self, kind):
-        return self.r.choice(self.ids[kind])
-
-    def registrar(self, k):
-        w = self.word()
-        return [k, f'"Registrar {w.title()}, Inc. {k}"', str(self.r.randint(100, 9999)), 'ok', f'{self.r.randint(1, 999)} {w.title()} Street', self.word().title(), 'NL', f'+31.{self.r.randint(10**8, 10**9)}', f'desk@{w}.example', f'https://www.{w}.example/{k}', self.date(), self.date()]
-
-    def contact(self, k):
-        rr = self.some('registrar')
-        return [k, f'{k}-ROID-EXAMPLE', f'+31.{self.r.randint(10**8, 10**9)}', f'+31.{self.r.randint(10**8, 10**9)}', f'{self.word()}.{k.lower()}@mail.{self.word()}.example', rr, rr, f'op-{self.r.randint(1, 99)}', self.date(), rr, f'op-{self.r.randint(1, 99)}', self.date()]
-
-    def contactPostal(self, k):
-        r = self.r
-        return [k, r.choice(['int', 'loc']), f'{self.word().title()} {self.word().title()} Jänsen', f'"{self.word().title()}, {self.word().title()} & Sons B.V."', f'{r.randint(1, 999)} {self.word().title()} {self.word().title()} Avenue', f'Floor {r.randint(1, 40)}, Wing {self.word().title()}'.replace(',', ''), f'{self.word().title()} upon {self.word().title()}', 'Noord-Holland', f'{r.randint(1000, 9999)} AB', 'NL']
-
-    def host(self, k):
-        rr = self.some('registrar')
-        return [k, f'H{self.r.randint(10**7, 10**8)}-EXAMPLE', rr, rr, f'op-{self.r.randint(1, 99)}', self.date(), rr, f'op-{self.r.randint(1, 99)}', self.date()]
-
-    def domain(self, k):
-        rr = self.some('registrar')
-        y = self.r.randint(24, 33)
-        idn = self.some('idn') if self.ids['idn'] and self.r.random() < 0.1 else ''
-        note = f'transferred in from {self.some("registrar")} by {self.word()} {self.word()} desk; locked for review {self.word()}'
-        note = '' if self.words < 0 else note + ''.join(f' {self.word()}' for _ in range(self.words))
-        return [k, f'D{self.r.randint(10**8, 10**9)}-EXAMPLE', k if idn else '', idn, '', self.some('contact') if self.r.random() < 0.999 else 'GONE-1', rr, rr, f'op-{self.r.randint(1, 99)}', self.date(), f'20{y}-0{self.r.randint(1, 9)}-15T00:00:00Z', rr, f'op-{self.r.randint(1, 99)}', self.date(), note]
-
-    def children(self, kind, k):
-        """(table, row) pairs of one object"""
-        r = self.r
-        if kind == 'contact':
-            yield 'contactPostal', self.contactPostal(k)
-            if r.random() < 0.2:
-                yield 'contactStatuses', [k, r.choice(['ok', 'linked', 'clientDeleteProhibited']), '', '']
-        elif kind == 'host':
-            yield 'hostAddresses', [k, f'192.0.{r.randint(0, 255)}.{r.randint(1, 254)}', 'v4']
-            if r.random() < 0.3:
-                yield 'hostAddresses', [k, f'2001:db8:{r.randint(0, 65535):x}:{r.randint(0, 65535):x}::{r.randint(1, 65535):x}', 'v6']
-            if r.random() < 0.3:
-                yield 'hostStatuses', [k, r.choice(['ok', 'linked']), '']
-        elif kind == 'domain':
-            for t in ('admin', 'tech')[:r.randint(0, 2)]:
-                yield 'domainContacts', [k, t, self.some('contact')]
-            for _ in range(r.randint(0, 2)):
-                h = self.some('host') if r.random() < 0.999 else 'ns.gone.example'
-                yield 'domainNs', [k, h.upper() if r.random() < 0.05 else h]
-            p = r.random()
-            if p < 0.5:
-                yield 'domainStatuses', [k, 'ok' if p < 0.3 else 'clientTransferProhibited', '', 'by request of the holder']
-                if p > 0.498:
-                    yield 'domainStatuses', [k, 'unheardOf', '', '']
-            if r.random() < 0.2:
-                yield 'secDNS', [k, '604800', str(r.randint(1, 65535)), '13', '2', '%064X' % r.getrandbits(256)]
+        """A key of this kind."""
+        return self.random.choice(self.keys[kind])
 
     def new_key(self, kind):
-        n = self.fresh()
-        if kind == 'registrar':
-            return f'RAR-{n}'
-        if kind == 'contact':
-            return f'C{self.r.randint(100, 999)}-{n}'
-        if kind == 'host':
-            return f'ns{n}.{self.word()}-{self.word()}.example'
-        if kind in ('domain', 'nndn'):
-            k = f'{self.word()}-{self.word()}-{n}.example'
-            return k
-        return f'IDN-{n}'
+        self.count += 1
+        match kind:
+            case 'registrar':
+                return f'RAR-{self.count}'
+            case 'contact':
+                return f'C{self.number(100, 999)}-{self.count}'
+            case 'host':
+                return f'ns{self.count}.{self.word()}-{self.word()}.example'
+            case 'idn':
+                return f'IDN-{self.count}'
+        return f'{self.word()}-{self.word()}-{self.count}.example'
 
-    def row(self, kind, k):
-        if kind == 'idn':
-            return [k, f'https://www.iana.example/domains/idn-tables/{k}.html']
-        if kind == 'nndn':
-            return [k, k, self.some('idn'), '', 'blocked', self.date()]
-        return getattr(self, kind)(k)
+    def add(self, kind):
+        """A new object: its key, which links may lead to from now on."""
+        self.keys[kind].append(self.new_key(kind))
+        return self.keys[kind][-1]
+
+    # ---- the parent row of an object
+
+    def row(self, kind, key):
+        return getattr(self, kind)(key)
+
+    def registrar(self, key):
+        word = self.word()
+        return [key, f'"Registrar {word.title()}, Inc. {key}"', str(self.number(100, 9999)), 'ok', f'{self.number(1, 999)} {word.title()} Street',
+                self.name(), 'NL', self.phone(), f'desk@{word}.example', f'https://www.{word}.example/{key}', self.date(), self.date()]
+
+    def history(self, sponsor):
+        """The last fields of a contact and of a host: the sponsor, and who made and changed it when."""
+        return [sponsor, sponsor, self.operator(), self.date(), sponsor, self.operator(), self.date()]
+
+    def contact(self, key):
+        sponsor = self.some('registrar')
+        return [key, f'{key}-ROID-EXAMPLE', self.phone(), self.phone(), f'{self.word()}.{key.lower()}@mail.{self.word()}.example',
+                *self.history(sponsor)]
+
+    def host(self, key):
+        sponsor = self.some('registrar')
+        return [key, f'H{self.number(10**7, 10**8)}-EXAMPLE', *self.history(sponsor)]
+
+    def note(self):
+        front = f'transferred in from {self.some("registrar")} by {self.word()} {self.word()} desk; locked for review {self.word()}'
+        return '' if self.words < 0 else front + ''.join(f' {self.word()}' for _ in range(self.words))
+
+    def domain(self, key):
+        sponsor, year = self.some('registrar'), self.number(24, 33)
+        idn = self.some('idn') if self.keys['idn'] and self.is_one_of(0.1) else ''
+        note = self.note()
+        return [key, f'D{self.number(10**8, 10**9)}-EXAMPLE', key if idn else '', idn, '',
+                self.some('contact') if self.is_one_of(0.999) else 'GONE-1', sponsor, sponsor, self.operator(), self.date(),
+                f'20{year}-0{self.number(1, 9)}-15T00:00:00Z', sponsor, self.operator(), self.date(), note]
+
+    def idn(self, key):
+        return [key, f'https://www.iana.example/domains/idn-tables/{key}.html']
+
+    def nndn(self, key):
+        return [key, key, self.some('idn'), '', 'blocked', self.date()]
+
+    # ---- the child rows of an object: of each its table
+
+    def children(self, kind, key):
+        return getattr(self, f'{kind}_children', lambda _: ())(key)
+
+    def contact_children(self, key):
+        yield 'contactPostal', [
+            key, self.random.choice(['int', 'loc']), f'{self.name()} {self.name()} Jänsen', f'"{self.name()}, {self.name()} & Sons B.V."',
+            f'{self.number(1, 999)} {self.name()} {self.name()} Avenue', f'Floor {self.number(1, 40)} Wing {self.name()}',
+            f'{self.name()} upon {self.name()}', 'Noord-Holland', f'{self.number(1000, 9999)} AB', 'NL']
+        if self.is_one_of(0.2):
+            yield 'contactStatuses', [key, self.random.choice(['ok', 'linked', 'clientDeleteProhibited']), '', '']
+
+    def host_children(self, key):
+        yield 'hostAddresses', [key, f'192.0.{self.number(0, 255)}.{self.number(1, 254)}', 'v4']
+        if self.is_one_of(0.3):
+            yield 'hostAddresses', [key, f'2001:db8:{self.number(0, 65535):x}:{self.number(0, 65535):x}::{self.number(1, 65535):x}', 'v6']
+        if self.is_one_of(0.3):
+            yield 'hostStatuses', [key, self.random.choice(['ok', 'linked']), '']
+
+    def domain_children(self, key):
+        for role in ('admin', 'tech')[:self.number(0, 2)]:
+            yield 'domainContacts', [key, role, self.some('contact')]
+        for _ in range(self.number(0, 2)):
+            host = self.some('host') if self.is_one_of(0.999) else 'ns.gone.example'
+            yield 'domainNs', [key, host.upper() if self.is_one_of(0.05) else host]
+        chance = self.random.random()
+        if chance < 0.5:
+            yield 'domainStatuses', [key, 'ok' if chance < 0.3 else 'clientTransferProhibited', '', 'by request of the holder']
+        if 0.498 < chance < 0.5:
+            yield 'domainStatuses', [key, 'unheardOf', '', '']
+        if self.is_one_of(0.2):
+            yield 'secDNS', [key, '604800', str(self.number(1, 65535)), '13', '2', '%064X' % self.random.getrandbits(256)]
 
 
-def write(world, header, tables, deletes, counts=None):
-    contents, dels, files = [], [], []
-    for name, rows in tables.items():
-        role, kind, key, fields = FIELDS[name]
-        fields = fields.split(',')
-        f = name.lower() + '.csv'
-        contents.append(dict(name=name, kind=kind, role=role, key=key, fields=fields, file=f))
-        files.append((f, ''.join(','.join(r) + '\n' for r in rows).encode()))
-    for kind, keys in deletes.items():
-        f = f'del-{kind}.csv'
-        dels.append(dict(name=kind, kind=kind, role='parent', key='k', fields=['k'], file=f))
-        files.append((f, ''.join(k + '\n' for k in keys).encode()))
-    e = dict(header, tld='example', contents=contents, deletes=dels)
-    if counts:
-        e['counts'] = counts
-    return bundle(e, files)
+def deposit(header, tables, deletes, counts=None):
+    """The bundle of a deposit with these rows of tables, and these deleted keys of kinds."""
+    contents = [table(name, *TABLES[name], f'{name.lower()}.csv') for name in tables]
+    files = [(f'{name.lower()}.csv', ''.join(','.join(it) + '\n' for it in rows).encode()) for name, rows in tables.items()]
+    gone = [table(kind, kind, 'parent', ['k'], f'del-{kind}.csv') for kind in deletes]
+    files += [(f'del-{kind}.csv', ''.join(f'{it}\n' for it in keys).encode()) for kind, keys in deletes.items()]
+    return sealed({**header, 'tld': 'example', 'contents': contents, 'deletes': gone} | ({'counts': counts} if counts else {}), files)
 
 
 def full(seed, rows, id, watermark, flat=False, words=0):
-    w = World(seed, words)
-    tables = {n: [] for n in FIELDS}
-    total = 0
-    shares = [('registrar', max(2, rows // 1000)), ('idn', 5)]
-    for kind, n in shares:
-        for _ in range(n):
-            k = w.new_key(kind)
-            w.ids[kind].append(k)
-            tables[kind].append(w.row(kind, k))
-            total += 1
-    # contacts and hosts first, so that links have targets; then domains to the last row
+    """A registry of a seed, and a Full of its objects with so many rows. Where it is flat each row is an object."""
+    registry, tables = Registry(seed, words), {it: [] for it in TABLES}
+    for kind, count in (('registrar', max(2, rows // 1000)), ('idn', 5)):
+        tables[kind] = [registry.row(kind, registry.add(kind)) for _ in range(count)]
+    total = sum(map(len, tables.values()))
+    # Contacts and hosts come first, so that links have targets; then domains to the last row.
     for kind, until in (('contact', 0.36), ('host', 0.56), ('nndn', 0.565), ('domain', 1.0)):
-        while total < int(rows * until):
-            k = w.new_key(kind)
-            w.ids[kind].append(k)
-            tables[kind].append(w.row(kind, k))
-            total += 1
-            for name, row in [] if flat else w.children(kind, k):
-                if total >= int(rows * until):
+        most = int(rows * until)
+        while total < most:
+            key = registry.add(kind)
+            made = [(kind, registry.row(kind, key))]
+            for it in () if flat else registry.children(kind, key):
+                if total + len(made) >= most:
                     break
+                made.append(it)
+            for name, row in made:
                 tables[name].append(row)
-                total += 1
-    for t in tables.values():
-        w.r.shuffle(t)
-    counts = {k: len(tables[k]) for k in ('registrar', 'contact', 'host', 'domain')}
-    return w, write(w, dict(id=id, type='FULL', watermark=watermark), tables, {}, counts)
+            total += len(made)
+    for it in tables.values():
+        registry.random.shuffle(it)
+    counts = {kind: len(tables[kind]) for kind in ('registrar', 'contact', 'host', 'domain')}
+    return registry, deposit({'id': id, 'type': 'FULL', 'watermark': watermark}, tables, {}, counts)
 
 
-def delta(w, header, touch):
-    """`touch` objects: a half changed, a third new, the rest deleted"""
-    tables = {n: [] for n in FIELDS if n not in ('registrar', 'idn')}
-    deletes = {'domain': [], 'contact': [], 'host': []}
-    done = set()
-    for i in range(touch):
-        kind = w.r.choices(['domain', 'contact', 'host'], [6, 3, 1])[0]
-        what = w.r.random()
-        if what < 0.5:
-            k = w.some(kind)
-        elif what < 0.83:
-            k = w.new_key(kind)
-        else:
-            k = w.some(kind)
-            if k not in done:
-                deletes[kind].append(k)
-            done.add(k)
+def delta(registry, header, touch):
+    """A deposit of so many objects: a half changed, a third new, the rest deleted."""
+    tables = {it: [] for it in TABLES if it not in ('registrar', 'idn')}
+    deletes, done = {'domain': [], 'contact': [], 'host': []}, set()
+    for _ in range(touch):
+        kind = registry.random.choices(['domain', 'contact', 'host'], [6, 3, 1])[0]
+        what = registry.random.random()
+        key = registry.new_key(kind) if 0.5 <= what < 0.83 else registry.some(kind)
+        if what >= 0.83:
+            deletes[kind] += [] if key in done else [key]
+            done.add(key)
             continue
-        if k in done:
-            k = w.new_key(kind)
-        done.add(k)
-        tables[kind].append(w.row(kind, k))
-        for name, row in w.children(kind, k):
+        if key in done:
+            key = registry.new_key(kind)
+        done.add(key)
+        for name, row in ((kind, registry.row(kind, key)), *registry.children(kind, key)):
             tables[name].append(row)
         if what >= 0.5:
-            w.ids[kind].append(k)
-    return write(w, header, {n: t for n, t in tables.items() if t}, deletes)
-
-
-def line(id, typ, wm, prev, resend, body):
-    return f'{id},{typ},{wm},{prev},{resend},{hashlib.sha256(body).hexdigest()}\n'
-
-
-HEADING = 'id,type,watermark,prevId,resend,sha256\n'
+            registry.keys[kind].append(key)
+    return deposit(header, {name: rows for name, rows in tables.items() if rows}, deletes)

@@ -1,11 +1,12 @@
 """A tiny universe: bodies, rows that list them, and events, all of them drawn by a seed.
 
 Of a body its values are kept beside its bytes. A model speaks of the values alone, a desk is given the bytes."""
-import hashlib, json
+import hashlib
 from dataclasses import dataclass, replace
 from enum import IntEnum
 
-HEADING = 'id,type,watermark,prevId,resend,sha256\n'
+from support.bundles import HEADING, compact, sealed, table
+
 # The keys of objects, in their order, and names of some that are the same keys.
 CONTACTS, DOMAINS = ('C1', 'C2'), ('a.example', 'b.example', 'c.example')
 KEYS = CONTACTS + DOMAINS
@@ -156,10 +157,6 @@ def event_text(event):
 
 # ---- the bytes of bodies: bundles, some of which read as no deposit
 
-def table(name, kind, role, fields, file):
-    return {'name': name, 'kind': kind, 'role': role, 'key': fields[0], 'fields': fields, 'file': file}
-
-
 DELETE_TABLES = [table('contact', 'contact', 'parent', ['id'], 'd0'), table('domain', 'domain', 'parent', ['name'], 'd1')]
 CONTENT_TABLES = [table('contact', 'contact', 'parent', ['id', 'clID'], 'c0'), table('domain', 'domain', 'parent', ['name', 'clID'], 'c1'),
                   table('domainNs', 'domain', 'child', ['domainName', 'hostName'], 'c2')]
@@ -169,9 +166,9 @@ FAULTY_ROWS = {9: 'C1\n', 10: ',r\n'}
 
 def envelope(index, header):
     """The envelope of the body with this index. What it counts is the index, so that no two bodies are the same."""
-    return json.dumps({
+    return compact({
         'id': f'N{header.id}', 'type': header.place.form.name, 'watermark': day_text(header.place.day), 'prevId': prev_text(header.prev),
-        'resend': header.resend, 'counts': {'domain': index}, 'deletes': DELETE_TABLES, 'contents': CONTENT_TABLES}, separators=(',', ':'))
+        'resend': header.resend, 'counts': {'domain': index}, 'deletes': DELETE_TABLES, 'contents': CONTENT_TABLES})
 
 
 def lines_text(lines, of_contacts, word):
@@ -185,16 +182,16 @@ def deletes_text(keys, of_contacts):
 
 def bundle(index, header, contents, fault):
     """The bundle of the body with this index."""
-    sections = {
-        'envelope.json': ('[' if fault == 5 else '') + envelope(index, header),
+    files = {
         'd0': deletes_text(contents.deletes, True),
         'd1': deletes_text(contents.deletes, False),
         'c0': FAULTY_ROWS.get(fault, '') + lines_text(contents.parents, True, 'r'),
         'c1': lines_text(contents.parents, False, 'r'),
         'c2': lines_text(contents.children, False, 'ns'),
     }
-    text = ''.join(f'{name} {len(text)}\n{text}\n' for name, text in sections.items())
-    return f'escrow-bundle 1\n{text}end'.encode() + (b'' if fault == 1 else b'\n')
+    text = (b'[' if fault == 5 else b'') + envelope(index, header)
+    whole = sealed(text, [(name, text.encode()) for name, text in files.items()])
+    return whole[:-1] if fault == 1 else whole
 
 
 # ---- chance

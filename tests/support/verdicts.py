@@ -1,17 +1,12 @@
 """What a desk says of bodies that its manifest lists: those that are refused, in one store, and those that are held, each in a new one."""
-import contextlib, hashlib
+import contextlib
 
-from support.bodies import HEADING
+from support.bundles import HEADING, row_of
 from support.harness import Harness
 from support.stage import case, compare, text_of
 
 # What a row says of a Full, without the digest of its body.
 F1 = 'F1,FULL,2024-03-03T00:00:00Z,,0'
-
-
-def row_of(said, body):
-    """The line of a manifest that lists a body."""
-    return f'{said},{hashlib.sha256(body).hexdigest()}\n'
 
 
 @contextlib.contextmanager

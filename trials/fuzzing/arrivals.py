@@ -4,6 +4,7 @@ import hashlib, sys
 
 from fuzzing import bundles
 from support import formats, registries
+from support.bundles import row_of
 
 
 class Listed:
@@ -13,7 +14,7 @@ class Listed:
         self.mutation, self.known, self.body, self.row = mutation, known, body, row
         name, kind, watermark, prev = row
         self.digest = hashlib.sha256(body).hexdigest()
-        self.line = registries.line(name, kind, watermark, prev or '', '', body)
+        self.line = row_of(f'{name},{kind},{watermark},{prev or ""},', body)
         self.verdict, self.orphans = formats.verdict(body, (name, (formats.moment(watermark), kind), prev, 0))
         if known and known != self.verdict:
             sys.exit(f'fuzz: {mutation}: {known} by how it was made, {self.verdict} by the definitions')

@@ -5,7 +5,8 @@ were made, or None. The row that lists a bundle is always that of the undamaged 
 import json
 
 from fuzzing.damage import damaged
-from fuzzing.sections import frame, opened, opened_sections, sealed
+from fuzzing.sections import frame, opened, opened_sections
+from support.bundles import compact, sealed
 
 DEEPEST = 127
 MOST_NUMBER = 2**64 - 1
@@ -111,7 +112,7 @@ def nested(random, body):
 
 
 def with_member(envelope, member):
-    return json.dumps(envelope, separators=(',', ':')).encode()[:-1] + b',' + member.encode() + b'}'
+    return compact(envelope)[:-1] + b',' + member.encode() + b'}'
 
 
 def other_number(random, body):

@@ -3,11 +3,14 @@
 The desk grants a client 10 seconds, and one more for each 65,536 bytes that came or went, and reads for 10 seconds what comes
 after the response. So the good client has to get its whole response within that time, and a margin for the machine; the desk
 has to tell each client that it gave up, and to end by itself with its store as it was."""
-import concurrent.futures, os, shutil, socket, subprocess, threading, time
+import concurrent.futures, os, socket, threading, time
 
 from fuzzing.sections import table_of
 from fuzzing.trial import put
-from support import formats, registries
+from stores import copy
+from support import formats
+from support.bundles import HEADING, row_of
+from support.sockets import HOST, received
 
 FIRST_SECONDS, BYTES_A_SECOND, REST_SECONDS = 10, 65_536, 10
 MARGIN = 5
@@ -74,43 +77,25 @@ def connection(port, seconds):
     # (a small window, so that what the system keeps of a response for its client is little)
     client.setsockopt(socket.SOL_SOCKET, socket.SO_RCVBUF, 4096)
     client.settimeout(seconds)
-    client.connect(('127.0.0.1', port))
+    client.connect((HOST, port))
     return client
-
-
-def listening(program, store, prepare):
-    with socket.socket() as listener:
-        listener.bind(('127.0.0.1', 0))
-        port = listener.getsockname()[1]
-    words = [program, 'serve', '--store', store, '--port', str(port), '--count', '2']
-    server = subprocess.Popen(words, stdout=subprocess.PIPE, stderr=subprocess.PIPE, preexec_fn=prepare)
-    assert server.stdout.readline() == f'listening 127.0.0.1:{port}\n'.encode()
-    return server, port
 
 
 def asked(port, path, seconds):
     """A good client's response, and how long it took."""
     begun = time.perf_counter()
-    got = b''
     try:
-        with socket.create_connection(('127.0.0.1', port), seconds) as client:
+        with socket.create_connection((HOST, port), seconds) as client:
             client.sendall(f'GET {path} HTTP/1.1\r\n\r\n'.encode())
-            while True:
-                more = client.recv(65_536)
-                if not more:
-                    break
-                got += more
+            got = received(client)
     except OSError as fault:
         got = repr(fault).encode()
     return got, time.perf_counter() - begun
 
 
-def over_one(program, base, what, kind, expected, prepare):
+def over_one(trial, base, what, kind, expected):
     """Holds one connection, and asks on one that comes after it. Says what came, how long it took, and whether that is right."""
-    store = f'{base}-{abs(hash(what))}'
-    for end in ('', '-wal'):
-        shutil.copy(base + end, store + end)
-    server, port = listening(program, store, prepare)
+    server, port = trial.serve(copy(base, f'{base}-{abs(hash(what))}'), 2)
     done = threading.Event()
     with connection(port, 2 * kind.most) as client:
         holder = threading.Thread(target=hold, args=(kind, client, done))
@@ -119,21 +104,17 @@ def over_one(program, base, what, kind, expected, prepare):
         got, seconds = asked(port, '/gaps', 2 * kind.most)
         done.set()
         holder.join()
-    try:
-        _, told = server.communicate(timeout=kind.most)
-    except subprocess.TimeoutExpired:
-        server.kill()
-        told = b'it does not end'
-    is_right = got == expected and seconds <= kind.most and (server.returncode, told) == (0, kind.fault)
-    return what, (got[-200:], told, server.returncode), seconds, kind.most, is_right
+    end = trial.end(server, kind.most)
+    is_right = got == expected and seconds <= kind.most and end == (0, kind.fault)
+    return what, (got[-200:], *end), seconds, kind.most, is_right
 
 
-def over_each(program, base, told, prepare):
+def over_each(trial, base, told):
     """All kinds, side by side."""
     expected = formats.response(200, told['/gaps'], 'text/csv')
     longest = len(told['/export/contact'])
     with concurrent.futures.ThreadPoolExecutor(20) as pool:
-        begun = [pool.submit(over_one, program, base, what, kind, expected, prepare) for what, kind in kinds(longest).items()]
+        begun = [pool.submit(over_one, trial, base, what, kind, expected) for what, kind in kinds(longest).items()]
         for it in begun:
             yield it.result()
 
@@ -143,13 +124,11 @@ def over_clients(trial):
     number = 60_000
     body = table_of(b''.join(b'%059d\n' % key for key in range(number)))
     store, folder = trial.at('held'), trial.at('held-folder')
-    put(store + '.csv', (registries.HEADING + registries.line('L', 'FULL', '2024-04-01T00:00:00Z', '', '', body)).encode())
+    put(store + '.csv', (HEADING + row_of('L,FULL,2024-04-01T00:00:00Z,,', body)).encode())
     put(os.path.join(folder, 'n1'), body)
     trial.run('init', '--store', store, '--manifest', store + '.csv')
     trial.run('take', '--store', store, folder)
-    told = {f'/{what}': trial.run('report', '--store', store, what)[1].decode() for what in ('status', 'gaps')}
-    told['/export/contact'] = trial.run('export', '--store', store, 'contact')[1].decode()
-    for what, got, seconds, most, is_right in over_each(trial.program, store, told, trial.bounded):
+    for what, got, seconds, most, is_right in over_each(trial, store, trial.texts(store)):
         line = f'{what:56} the next client after {seconds:5.1f} s of at most {most:5.1f}'
         print(line, flush=True)
         if not is_right:

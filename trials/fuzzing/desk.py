@@ -1,11 +1,13 @@
 """A desk on a socket, what it has to answer, and the requests that it gets."""
-import json, os, re, socket, struct, subprocess, sys, time
+import json, os, re, socket, sys, time
 
 from fuzzing import requests
 from fuzzing.arrivals import names
 from fuzzing.receipts import Receipts, expected_take
 from fuzzing.trial import PATIENCE, put
-from support import formats, registries
+from support import formats
+from support.bundles import HEADING
+from support.sockets import HOST, breaks_off, received
 
 # Of a response with a reply, by its verdict; any other is 422.
 STATUSES = {'A1': 200, 'A5': 202}
@@ -20,7 +22,7 @@ class Desk:
         self.receipts, self.faults = Receipts(rows), 0
         self.bodies = [row.body for row in rows] + [b'', b'abc', rng.randbytes(5000)]
         self.numbers = names(rng, 6) + ['n1']
-        put(self.store + '.csv', (registries.HEADING + ''.join(row.line for row in rows)).encode())
+        put(self.store + '.csv', (HEADING + ''.join(row.line for row in rows)).encode())
         for number, row in enumerate(rows):
             put(os.path.join(self.twin + '-folder', f'n{number}'), row.body)
         for store in (self.store, self.twin):
@@ -30,14 +32,7 @@ class Desk:
 
     def open(self, many):
         """Listens for so many connections."""
-        with socket.socket() as listener:
-            listener.bind(('127.0.0.1', 0))
-            self.port = listener.getsockname()[1]
-        words = ['serve', '--store', self.store, '--port', str(self.port), '--count', str(many)]
-        self.server = subprocess.Popen([self.trial.program, *words], stdout=subprocess.PIPE, stderr=subprocess.PIPE,
-                                       preexec_fn=self.trial.bounded)
-        if self.server.stdout.readline() != f'listening 127.0.0.1:{self.port}\n'.encode():
-            sys.exit(f'fuzz: {self.name} does not listen')
+        self.server, self.port = self.trial.serve(self.store, many)
 
     def answer(self, text):
         """The bytes that have to answer a request. An arrival is taken."""
@@ -77,20 +72,15 @@ class Desk:
     def break_off(self, rng):
         """Sends the front of a PUT, and breaks the connection: nothing arrives, and a read fault is told."""
         text = requests.put_request(rng, 'broken', rng.choice(self.bodies) + b'more')
-        with socket.create_connection(('127.0.0.1', self.port), PATIENCE) as client:
+        with socket.create_connection((HOST, self.port), PATIENCE) as client:
             client.sendall(text[:rng.randrange(1, len(text))])
-            client.setsockopt(socket.SOL_SOCKET, socket.SO_LINGER, struct.pack('ii', 1, 0))
+            breaks_off(client)
         self.faults += 1
 
     def close(self):
         """The server has ended by itself, told each connection that broke, and left a whole store."""
-        try:
-            _, told = self.server.communicate(timeout=PATIENCE)
-        except subprocess.TimeoutExpired:
-            self.server.kill()
-            told = b'it does not end'
-        if (self.server.returncode, told) != (0, b'read fault\n' * self.faults):
-            self.trial.wrong(f'the end of {self.name}', (0, self.faults), (self.server.returncode, told))
+        if (end := self.trial.end(self.server)) != (0, b'read fault\n' * self.faults):
+            self.trial.wrong(f'the end of {self.name}', (0, self.faults), end)
         self.trial.check_store(self.name, self.store)
         if self.trial.run('report', '--store', self.store, 'receipts') != (0, self.receipts.text().encode(), b''):
             self.trial.wrong(f'receipts of {self.name}', self.receipts.text(),
@@ -113,19 +103,14 @@ def pieces(rng, text):
 
 def sent(port, text):
     """Sends pieces by a connection of its own, ends it, and answers all that comes."""
-    with socket.create_connection(('127.0.0.1', port), PATIENCE) as client:
+    with socket.create_connection((HOST, port), PATIENCE) as client:
         client.setsockopt(socket.IPPROTO_TCP, socket.TCP_NODELAY, 1)
         for piece in text:
             client.sendall(piece)
             if len(text) > 1:
                 time.sleep(0.0005)
         client.shutdown(socket.SHUT_WR)
-        got = b''
-        while True:
-            more = client.recv(65536)
-            if not more:
-                return got
-            got += more
+        return received(client)
 
 
 def over_requests(trial, batch, rng, rows, many):

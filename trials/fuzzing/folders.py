@@ -5,7 +5,7 @@ from fuzzing.arrivals import mutated_release, names
 from fuzzing.damage import flipped
 from fuzzing.receipts import Receipts, expected_take
 from fuzzing.trial import put
-from support import registries
+from support.bundles import HEADING
 
 
 def folder_of(rng, rows):
@@ -23,7 +23,7 @@ def folder_of(rng, rows):
 
 def blame(trial, batch, rows, files, expected, got):
     """Says which bundles of a folder are wrong: those of other lines, or the one at which the program stopped."""
-    manifest = registries.HEADING.encode() + b''.join(row.line.encode() for row in rows)
+    manifest = HEADING.encode() + b''.join(row.line.encode() for row in rows)
     lines, found = expected[1].splitlines(), got[1].splitlines()
     others = [(want, is_line) for want, is_line in zip(lines, found) if want != is_line]
     if not others and len(found) < len(lines):
@@ -43,7 +43,7 @@ def over_bundles(trial, batch, rng, many):
     files, receipts = folder_of(rng, rows), Receipts(rows)
     for name, body in files.items():
         put(os.path.join(os.fsencode(folder), name), body)
-    put(store + '.csv', (registries.HEADING + ''.join(row.line for row in rows)).encode())
+    put(store + '.csv', (HEADING + ''.join(row.line for row in rows)).encode())
     expected = expected_take(files, receipts)
     made = trial.run('init', '--store', store, '--manifest', store + '.csv')
     if made != (0, f'listed {many}\n'.encode(), b''):

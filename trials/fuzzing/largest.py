@@ -2,9 +2,9 @@
 import json, os, subprocess, sys, time
 
 from fuzzing.receipts import RECEIPTS
-from fuzzing.sections import sealed, table_of
+from fuzzing.sections import table_of
 from fuzzing.trial import put
-from support import registries
+from support.bundles import HEADING, row_of, sealed
 
 
 def envelope_with(member):
@@ -57,7 +57,7 @@ def over_large(trial, name, body, known):
     for path in (store, store + '-wal'):
         if os.path.exists(path):
             os.remove(path)
-    manifest = (registries.HEADING + registries.line('L', 'FULL', '2024-04-01T00:00:00Z', '', '', body)).encode()
+    manifest = (HEADING + row_of('L,FULL,2024-04-01T00:00:00Z,,', body)).encode()
     put(store + '.csv', manifest)
     put(os.path.join(folder, 'n1'), body)
     trial.run('init', '--store', store, '--manifest', store + '.csv')

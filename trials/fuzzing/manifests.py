@@ -6,9 +6,9 @@ import os, sys
 
 from fuzzing.damage import damaged
 from fuzzing.trial import put
-from support import formats
+from support import bundles, formats
 
-HEADING = b'id,type,watermark,prevId,resend,sha256\n'
+HEADING = bundles.HEADING.encode()
 
 
 def good_rows(random, many):

@@ -1,6 +1,8 @@
 """A bundle by its sections: taken apart, and put together again, of whatever sections."""
 import json
 
+from support.bundles import FIRST_LINE, compact, sealed, table
+
 
 def opened(body):
     """The envelope of an undamaged bundle, and its other sections."""
@@ -15,25 +17,18 @@ def opened(body):
 
 def frame(sections, length=None, of=None):
     """A bundle of sections. Of one of them another length is told."""
-    out = b'escrow-bundle 1\n'
+    out = FIRST_LINE
     for index, (name, text) in enumerate(sections):
         told = length if index == of else str(len(text))
         out += name.encode() + b' ' + told.encode() + b'\n' + text + b'\n'
     return out + b'end\n'
 
 
-def sealed(envelope, files):
-    text = envelope if isinstance(envelope, bytes) else json.dumps(envelope, separators=(',', ':')).encode()
-    return frame([('envelope.json', text), *files])
-
-
 def opened_sections(envelope, files):
-    return [('envelope.json', json.dumps(envelope, separators=(',', ':')).encode()), *files]
+    return [('envelope.json', compact(envelope)), *files]
 
 
 def table_of(text, fields=1):
     """A bundle with one table of contacts with these bytes."""
-    told = dict(id='L', type='FULL', watermark='2024-04-01T00:00:00Z')
-    contact = dict(name='contact', kind='contact', role='parent', key='f0', fields=[f'f{number}' for number in range(fields)],
-                   file='c')
-    return sealed({**told, 'contents': [contact]}, [('c', text)])
+    contact = table('contact', 'contact', 'parent', [f'f{number}' for number in range(fields)], 'c')
+    return sealed({'id': 'L', 'type': 'FULL', 'watermark': '2024-04-01T00:00:00Z', 'contents': [contact]}, [('c', text)])

@@ -1,7 +1,8 @@
 """A trial of the program: where it is, the folders in which it works, and what was counted."""
-import collections, os, resource, shutil, sqlite3, subprocess, tempfile
+import collections, os, resource, shutil, subprocess, sys, tempfile
 
-from support import formats
+from stores import READINGS, is_whole
+from support.sockets import HOST, free_port
 
 PATIENCE = 60
 
@@ -31,6 +32,24 @@ class Trial:
         except subprocess.TimeoutExpired as late:
             return None, late.stdout or b'', late.stderr or b''
 
+    def serve(self, store, count):
+        """A desk that serves so many connections, and its port."""
+        port = free_port()
+        words = ['serve', '--store', store, '--port', str(port), '--count', str(count)]
+        server = subprocess.Popen([self.program, *words], stdout=subprocess.PIPE, stderr=subprocess.PIPE, preexec_fn=self.bounded)
+        if server.stdout.readline() != f'listening {HOST}:{port}\n'.encode():
+            sys.exit(f'fuzz: {store} is not served')
+        return server, port
+
+    def end(self, server, seconds=PATIENCE):
+        """The status of a desk that has to end by itself, and what it told of its connections."""
+        try:
+            _, told = server.communicate(timeout=seconds)
+        except subprocess.TimeoutExpired:
+            server.kill()
+            told = b'it does not end'
+        return server.returncode, told
+
     def wrong(self, what, expected, got, **files):
         """Keeps a wrong input, and how to run it again."""
         self.counts['wrong'] += 1
@@ -43,20 +62,17 @@ class Trial:
 
     def check_store(self, what, store):
         """The C library's checks of a store's file."""
-        database = sqlite3.connect(f'file:{store}?mode=ro', uri=True)
-        found = database.execute('pragma integrity_check').fetchall(), database.execute('pragma foreign_key_check').fetchall()
-        database.close()
-        if found != ([('ok',)], []):
-            self.wrong(f'{what}: integrity_check', 'ok', found)
+        if not is_whole(store):
+            self.wrong(f'{what}: the checks of the C library', True, False)
 
     def texts(self, store):
-        """What the reports and exports print, by their paths over HTTP."""
-        told = {f'/{what}': self.run('report', '--store', store, what) for what in ('status', 'gaps', 'links')}
-        told |= {f'/export/{kind}': self.run('export', '--store', store, kind) for kind in formats.KINDS}
-        for path, (status, text, refusals) in told.items():
+        """What the reports and exports print but those of arrivals, by their paths over HTTP."""
+        said = {f'/export/{what}' if command == 'export' else f'/{what}': self.run(command, '--store', store, what)
+                for command, what in READINGS if what not in ('receipts', 'parked')}
+        for path, (status, _, refusals) in said.items():
             if (status, refusals) != (0, b''):
                 self.wrong(f'{path} of {store}', (0, b''), (status, refusals))
-        return {path: text for path, (status, text, refusals) in told.items()}
+        return {path: text for path, (_, text, _) in said.items()}
 
     def clean(self):
         """Removes the folder for work."""

@@ -1,9 +1,9 @@
 """A folder whose files change while it is taken: once it is listed, or while one of them is read."""
 import os, shutil
 
-from .answers import refused
-from .files import DEPOSITS, MANIFEST, bytes_of, linked, put, rewriting, slow_file, sparse
-from .trial import is_whole
+from odd_paths.answers import refused
+from odd_paths.files import DEPOSITS, MANIFEST, bytes_of, linked, put, rewriting, slow_file, sparse
+from stores import is_whole
 
 
 def try_all(trial):

@@ -1,9 +1,9 @@
 """The folder: something else in its place, one that holds what are no plain files, odd names, or the store itself."""
 import os, shutil, stat
 
-from .answers import HEADING, NOTHING_TAKEN, refused, stopped
-from .files import DEPOSITS, MANIFEST, linked, not_files, pipe, put, slow_file
-from .trial import is_whole
+from odd_paths.answers import HEADING, NOTHING_TAKEN, refused, stopped
+from odd_paths.files import DEPOSITS, MANIFEST, linked, not_files, pipe, put, slow_file
+from stores import is_whole
 
 
 def take(trial, what, folder, *expected):

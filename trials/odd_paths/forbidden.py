@@ -1,8 +1,8 @@
 """What may not be read, searched or written: the program runs as another user, which asks for root."""
 import os, shutil
 
-from .answers import refused
-from .files import DEPOSITS, MANIFEST, bytes_of, put
+from odd_paths.answers import refused
+from odd_paths.files import DEPOSITS, MANIFEST, bytes_of, put
 
 NOBODY = 65534
 

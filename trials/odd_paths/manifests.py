@@ -1,8 +1,8 @@
 """The manifest: links, pipes and devices in its place, one that is far too large, and one that changes while it is read."""
 import os, threading, time
 
-from .answers import LISTED, refused
-from .files import MANIFEST, bytes_of, linked, not_files, pipe, put, rewriting, sparse
+from odd_paths.answers import LISTED, refused
+from odd_paths.files import MANIFEST, bytes_of, linked, not_files, pipe, put, rewriting, sparse
 
 
 def init(trial, what, manifest, *expected):

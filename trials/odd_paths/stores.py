@@ -1,8 +1,9 @@
 """The store: what is no store in its place, something else beside it in place of its log, and a link to it."""
 import os, socket
 
-from .answers import LISTED, NOTHING_TAKEN, refused, stopped
-from .files import DEPOSITS, MANIFEST, linked, not_files, pipe, put
+from odd_paths.answers import LISTED, NOTHING_TAKEN, refused, stopped
+from odd_paths.files import DEPOSITS, MANIFEST, linked, not_files, pipe, put
+from support.sockets import HOST, free_port
 
 
 def opened(trial, what, store, init_says, report_says):
@@ -44,7 +45,7 @@ def log_beside(trial):
         os.remove(store + '-wal')
         make(store + '-wal')
         got = trial.run('report', '--store', store, 'receipts')
-        trial.judge(f'store: its log is {what}', got, before[0], stopped('S1'))
+        trial.judge(f'store: its log is {what}', got, before['report receipts'], stopped('S1'))
         if os.path.isdir(store + '-wal') and not os.path.islink(store + '-wal'):
             os.rmdir(store + '-wal')
         else:
@@ -58,9 +59,9 @@ def through_a_link(trial):
     link = linked(trial.at('by-link.db'), store)
     trial.judge('store: a link, taken', trial.run('take', '--store', link, DEPOSITS),
                 trial.run('take', '--store', trial.made('other.db', None), DEPOSITS))
-    server = serving(trial, link)
+    server, port = serving(trial, link)
     trial.judge('store: by its name, while it is served by a link', trial.run('report', '--store', store, 'status'), stopped('S1'))
-    put_one(trial, server, 'killed', b'a body')
+    put_one(trial, port, 'killed', b'a body')
     server.kill()
     server.communicate()
     by_link, by_name = (trial.run('report', '--store', path, 'receipts') for path in (link, store))
@@ -69,16 +70,14 @@ def through_a_link(trial):
 
 
 def serving(trial, store):
-    with socket.socket() as listener:
-        listener.bind(('127.0.0.1', 0))
-        port = listener.getsockname()[1]
+    """A desk that serves a store, and its port."""
+    port = free_port()
     server = trial.begin('serve', '--store', store, '--port', str(port), '--count', '9')
-    server.port = port
-    assert server.stdout.readline() == f'listening 127.0.0.1:{port}\n'.encode()
-    return server
+    assert server.stdout.readline() == f'listening {HOST}:{port}\n'.encode()
+    return server, port
 
 
-def put_one(trial, server, number, body):
-    with socket.create_connection(('127.0.0.1', server.port), trial.seconds) as client:
+def put_one(trial, port, number, body):
+    with socket.create_connection((HOST, port), trial.seconds) as client:
         client.sendall(f'PUT /arrivals/{number} HTTP/1.1\r\nContent-Length: {len(body)}\r\n\r\n'.encode() + body)
         return client.recv(65536)

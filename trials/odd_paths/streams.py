@@ -1,8 +1,8 @@
 """What a run gets from the system beside its paths: its standard streams, its words, and limits of files."""
 import os, resource, signal, subprocess
 
-from .answers import refused
-from .files import DEPOSITS, MANIFEST
+from odd_paths.answers import refused
+from odd_paths.files import DEPOSITS, MANIFEST
 
 
 def try_all(trial):

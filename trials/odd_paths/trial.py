@@ -1,9 +1,9 @@
 """One trial of the program: the folder it works in, runs with their limits, and what came of the cases."""
-import contextlib, os, resource, shutil, sqlite3, subprocess, tempfile
+import os, resource, shutil, sqlite3, subprocess, tempfile
 
-from .answers import HEADING, LISTED
-from .files import DEPOSITS, MANIFEST
-from support.formats import KINDS
+from odd_paths.answers import HEADING, LISTED
+from odd_paths.files import DEPOSITS, MANIFEST
+from stores import copy, is_whole, told
 
 GIGABYTE = 2**30
 
@@ -18,11 +18,6 @@ def bounded(user, most, closed):
         for stream in closed:
             os.close(stream)
     return prepare
-
-
-def is_whole(store):
-    with contextlib.closing(sqlite3.connect(f'file:{store}?mode=ro', uri=True)) as database:
-        return database.execute('PRAGMA integrity_check').fetchall() == [('ok',)]
 
 
 class Trial:
@@ -78,11 +73,7 @@ class Trial:
 
     def fresh(self, name):
         """The path of a store that is not there, or no longer."""
-        store = self.at(name)
-        for path in (store, store + '-wal'):
-            if os.path.lexists(path):
-                os.remove(path)
-        return store
+        return copy(None, self.at(name))
 
     def made(self, name, folder=DEPOSITS):
         """A store of the second sample, with its folder taken."""
@@ -94,14 +85,13 @@ class Trial:
 
     def told(self, store):
         """What a store tells."""
-        reports = [self.run('report', '--store', store, what) for what in ('receipts', 'status', 'gaps', 'links', 'parked')]
-        return reports + [self.run('export', '--store', store, kind) for kind in KINDS]
+        return told(self.run, store)
 
     def still(self, what, store, before):
         """Looks for something lost."""
         after = self.told(store)
         if after != before or not is_whole(store):
-            self.found_wrong(f'{what}: the store has changed: {[got for was, got in zip(before, after) if was != got]!r:.200}')
+            self.found_wrong(f'{what}: the store has changed: {[got for what, got in after.items() if got != before[what]]!r:.200}')
 
     def is_readable(self, store):
         try:

@@ -1,9 +1,8 @@
 """What a command does where a call is refused: what it does undisturbed, or the fault after a beginning of what it prints. The same
-again, undisturbed, gives what it gives at first, and leaves the same rows."""
+again, undisturbed, gives what it gives at first, and leaves the same rows. The fault says what is refused: S1 a call of the database's
+files, S2 memory."""
+from stores import REPORTS, rows
 from support.formats import KINDS
-from sweeping.stores import Again, copy, told
-
-REPORTS = ('status', 'gaps', 'links', 'receipts', 'parked')
 
 
 def stops(said, whole, fault):
@@ -11,146 +10,76 @@ def stops(said, whole, fault):
     return said == whole or said[0] == 3 and said[2] == f'{fault}\n' and whole[1].startswith(said[1])
 
 
+def running(sweep, *words):
+    """What runs a command on a store."""
+    return lambda store, **refused: sweep.run(words[0], '--store', store, *words[1:], **refused)
+
+
 def over_commands(sweep, release):
-    over_init(sweep, release, 'S2', False)
-    over_take(sweep, release, 'S2', False)
+    over_init(sweep, release, 'S2')
+    over_take(sweep, release, 'S2')
     for report in REPORTS:
-        over_reading(sweep, release, 'S2', False, 'report', report)
+        over_reading(sweep, release, 'S2', 'report', report)
     for kind in KINDS:
-        over_reading(sweep, release, 'S2', False, 'export', kind)
+        over_reading(sweep, release, 'S2', 'export', kind)
 
 
-def over_init(sweep, release, fault, disk):
-    words = ('init', '--manifest', release.manifest, '--store')
-    once_more = Again(lambda store: sweep.run(*words, store))
+def over_init(sweep, release, fault):
+    play, is_there = running(sweep, 'init', '--manifest', release.manifest), (3, '', 'S3\n')
 
-    def judge(at):
-        store = sweep.own()
-        said = sweep.run(*words, store, at=at, disk=disk)
-        again = once_more(store)
-        copy(None, store)
-        if said == release.listed and again == (3, '', 'S3\n'):
-            return None
-        if said == (3, '', f'{fault}\n') and again == release.listed:
-            return None
+    def is_right(said, again):
+        if said == release.listed:
+            return again == is_there
         # Where a sync fails it is open whether the commit stands: the store may be there.
-        if disk and said == (3, '', 'S1\n') and again == (3, '', 'S3\n'):
-            return None
-        return said, again
-
-    def tell(path):
-        store = sweep.own()
-        sweep.run(*words, store, count=path, disk=disk)
-        copy(None, store)
-    sweep.refuse(f'init, {release.name}, {fault}', tell, judge, release.is_whole)
+        return said == (3, '', f'{fault}\n') and (again == release.listed or fault == 'S1' and again == is_there)
+    sweep.refuse_over(f'init, {release.name}', fault, None, play, play, is_right, release.is_whole)
 
 
-def over_take(sweep, release, fault, disk):
-    once_more = Again(lambda store: (sweep.run('take', '--store', store, release.deposits), told(store)))
+def over_take(sweep, release, fault):
+    play = running(sweep, 'take', release.deposits)
 
-    def judge(at):
-        store = sweep.own()
-        copy(release.fresh, store)
-        said = sweep.run('take', '--store', store, release.deposits, at=at, disk=disk)
-        again, tables = once_more(store)
-        copy(None, store)
-        if stops(said, release.lines, fault) and again == release.lines and tables == release.told:
-            return None
-        return said, again, tables == release.told
-
-    def tell(path):
-        store = sweep.own()
-        copy(release.fresh, store)
-        sweep.run('take', '--store', store, release.deposits, count=path, disk=disk)
-        copy(None, store)
-    sweep.refuse(f'take, {release.name}, {fault}', tell, judge, release.is_whole)
+    def is_right(said, afterwards):
+        return stops(said, release.lines, fault) and afterwards == (release.lines, True)
+    sweep.refuse_over(f'take, {release.name}', fault, release.fresh, play, lambda store: (play(store), rows(store) == release.told),
+                      is_right, release.is_whole)
 
 
-def over_reading(sweep, release, fault, disk, *words):
-    def command(store):
-        return words[0], '--store', store, *words[1:]
-
-    whole = sweep.run(*command(release.taken))
-    once_more = Again(lambda store: sweep.run(*command(store)))
-
-    def judge(at):
-        store = sweep.own()
-        copy(release.taken, store)
-        said = sweep.run(*command(store), at=at, disk=disk)
-        again = once_more(store)
-        copy(None, store)
-        return None if stops(said, whole, fault) and again == whole else (said, again)
-
-    def tell(path):
-        store = sweep.own()
-        copy(release.taken, store)
-        sweep.run(*command(store), count=path, disk=disk)
-        copy(None, store)
-    sweep.refuse(f'{words[0]} {words[1]}, {release.name}, {fault}', tell, judge, release.is_whole)
+def over_reading(sweep, release, fault, *words):
+    play = running(sweep, *words)
+    whole = play(release.taken)
+    sweep.refuse_over(f'{words[0]} {words[1]}, {release.name}', fault, release.taken, play, play,
+                      lambda said, again: stops(said, whole, fault) and again == whole, release.is_whole)
 
 
-def over_change(sweep, release, fault, disk, before, command, *words):
+def over_change(sweep, release, fault, before, *words):
     """A command that changes a store, and once more says what it says then: either way the store is the same after it."""
-    after = sweep.own()
-    copy(before, after)
-    whole, repeated = sweep.run(command, '--store', after, *words), sweep.run(command, '--store', after, *words)
-    tables = told(after)
-    copy(None, after)
+    play = running(sweep, *words)
+    with sweep.copied(before) as after:
+        whole, repeated, tables = play(after), play(after), rows(after)
     assert whole[0] == repeated[0] == 0, (whole, repeated)
-    once_more = Again(lambda store: (sweep.run(command, '--store', store, *words), told(store)))
 
-    def judge(at):
-        store = sweep.own()
-        copy(before, store)
-        said = sweep.run(command, '--store', store, *words, at=at, disk=disk)
-        again, rows = once_more(store)
-        copy(None, store)
-        if stops(said, whole, fault) and again in ((repeated,) if said == whole else (whole, repeated)) and rows == tables:
-            return None
-        return said, again, rows == tables
-
-    def tell(path):
-        store = sweep.own()
-        copy(before, store)
-        sweep.run(command, '--store', store, *words, count=path, disk=disk)
-        copy(None, store)
-    sweep.refuse(f'{command}, {release.name}, {fault}', tell, judge, release.is_whole or disk)
+    def is_right(said, afterwards):
+        return stops(said, whole, fault) and afterwards in [(it, True) for it in ((repeated,) if said == whole else (whole, repeated))]
+    sweep.refuse_over(f'{words[0]}, {release.name}', fault, before, play, lambda store: (play(store), rows(store) == tables),
+                      is_right, release.is_whole or fault == 'S1')
 
 
-def over_migrate(sweep, release, fault, disk, before):
+def over_migrate(sweep, release, fault, before):
     """A store of version 1 is one of that version after a refusal, or one of this version. Once more it is migrated, or S3."""
-    after = sweep.own()
-    copy(before, after)
-    first, whole = told(after), sweep.run('migrate', '--store', after)
-    tables, repeated = told(after), sweep.run('migrate', '--store', after)
-    copy(None, after)
+    play = running(sweep, 'migrate')
+    with sweep.copied(before) as after:
+        first, whole, tables, repeated = rows(after), play(after), rows(after), play(after)
     assert (whole, repeated) == ((0, 'migrated\n', ''), (3, '', 'S3\n')), (whole, repeated)
 
-    def play(store):
+    def play_again(store):
         # What is in the log is in the file once a command has opened and closed it.
-        same = sweep.own()
-        copy(store, same)
-        sweep.run('report', '--store', same, 'status')
-        left = told(same)
-        copy(None, same)
-        return left, sweep.run('migrate', '--store', store), told(store)
-    once_more = Again(play)
+        with sweep.copied(store) as same:
+            sweep.run('report', '--store', same, 'status')
+            left = rows(same)
+        return left == first, left == tables, play(store), rows(store) == tables
 
-    def judge(at):
-        store = sweep.own()
-        copy(before, store)
-        said = sweep.run('migrate', '--store', store, at=at, disk=disk)
-        left, again, rows = once_more(store)
-        copy(None, store)
-        is_done = left == tables and again == repeated
-        is_left = left == first and again == whole
+    def is_right(said, afterwards):
+        is_left, is_done = (afterwards == it for it in ((True, False, whole, True), (False, True, repeated, True)))
         # Where a sync fails it is open whether the commit stands.
-        is_right = is_done if said == whole else said == (3, '', f'{fault}\n') and (is_left or disk and is_done)
-        return None if is_right and rows == tables else (said, again, left == first, left == tables, rows == tables)
-
-    def tell(path):
-        store = sweep.own()
-        copy(before, store)
-        sweep.run('migrate', '--store', store, count=path, disk=disk)
-        copy(None, store)
-    sweep.refuse(f'migrate, {release.name}, {fault}', tell, judge, release.is_whole or disk)
+        return is_done if said == whole else said == (3, '', f'{fault}\n') and (is_left or fault == 'S1' and is_done)
+    sweep.refuse_over(f'migrate, {release.name}', fault, before, play, play_again, is_right, release.is_whole or fault == 'S1')

@@ -1,7 +1,9 @@
 """The refusals: a program runs with `refuse.c` loaded into it, once so that its calls are counted, then once for each call that is refused.
 
 Refusals are judged side by side, in processes of their own; what they find wrong comes back to the one that prints."""
-import contextlib, os, pickle, signal, subprocess, tempfile
+import contextlib, hashlib, os, pickle, signal, subprocess, tempfile
+
+from stores import contents, copy
 
 HERE = os.path.dirname(os.path.abspath(__file__))
 LIMIT = 400
@@ -87,6 +89,29 @@ class Sweep:
             print(f'    {at}: {it}', flush=True)
 
 
+    @contextlib.contextmanager
+    def copied(self, before):
+        """A copy of a store, or none where there is none, in a `with` statement."""
+        store = copy(before, self.own())
+        yield store
+        copy(None, store)
+
+    def refuse_over(self, name, fault, before, play, play_again, is_right, is_whole):
+        """Refuses calls while something is played on a copy of a store, and says whether that is right, and what is played on the copy then.
+        At the fault S1 it is calls of the database's files, else growths of memory."""
+        once_more, disk = Again(play_again), fault == 'S1'
+
+        def judge(at):
+            with self.copied(before) as store:
+                found = play(store, at=at, disk=disk), once_more(store)
+            return None if is_right(*found) else found
+
+        def tell(path):
+            with self.copied(before) as store:
+                play(store, count=path, disk=disk)
+        self.refuse(f'{name}, {fault}', tell, judge, is_whole)
+
+
 @contextlib.contextmanager
 def ended_in(seconds, ran):
     """Kills what runs longer."""
@@ -116,3 +141,16 @@ def begin(judge, numbers):
         os.waitpid(job, 0)
         return pickle.loads(text) if text else [(at, 'not judged') for at in numbers]
     return wait
+
+
+class Again:
+    """What comes of the same again, undisturbed. It goes by the contents of the store's files, and is run once for each."""
+
+    def __init__(self, play):
+        self.play, self.known = play, {}
+
+    def __call__(self, store):
+        key = hashlib.sha256(repr(contents(store)).encode()).digest()
+        if key not in self.known:
+            self.known[key] = self.play(store)
+        return self.known[key]

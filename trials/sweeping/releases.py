@@ -1,25 +1,19 @@
 """The releases that are swept, in stores, with what the program says of each undisturbed: those of the samples, four arrivals of
 which the last takes two steps back, a release in two parts, and a store of version 1."""
-import hashlib, json, os
+import os
 
+from stores import copy, rows
 from support import first_store
-from sweeping.stores import copy, told
+from support.bundles import HEADING, row_of, sealed, table
 
 # The four arrivals: a Full, two Differentials, and the first of these once more, at resend 1.
 
-def bundle(header, contents, deletes=()):
-    tables = {'contents': [], 'deletes': []}
-    files = []
-    for part, named in (('contents', contents), ('deletes', deletes)):
-        for name, fields, rows in named:
-            file = f'{part[0]}{len(files)}'
-            tables[part].append(dict(name=name, kind=name, role='parent', key=fields[0], fields=fields, file=file))
-            files.append((file, rows.encode()))
-    envelope = json.dumps(header | tables).encode()
-    text = b'escrow-bundle 1\n'
-    for name, body in [('envelope.json', envelope), *files]:
-        text += f'{name} {len(body)}\n'.encode() + body + b'\n'
-    return text + b'end\n'
+def bundle(header, contents, deletes):
+    """A deposit of parent tables: of each its kind, its fields, and its rows."""
+    declared = {part: [table(kind, kind, 'parent', fields, f'{part}-{kind}') for kind, fields, _ in tables]
+                for part, tables in (('contents', contents), ('deletes', deletes))}
+    files = [(f'{part}-{kind}', rows.encode()) for part, tables in (('contents', contents), ('deletes', deletes)) for kind, _, rows in tables]
+    return sealed(header | declared, files)
 
 
 def header(id, type, day, prev='', resend=0):
@@ -42,15 +36,14 @@ def write_four(work):
     ]
     folder = os.path.join(work, 'four')
     os.makedirs(os.path.join(folder, 'deposits'))
-    lines = ['id,type,watermark,prevId,resend,sha256']
+    lines = [HEADING]
     for at, (head, contents, deletes) in enumerate(bodies, 1):
         body = bundle(head, contents, deletes)
         with open(os.path.join(folder, 'deposits', str(at)), 'wb') as file:
             file.write(body)
-        digest = hashlib.sha256(body).hexdigest()
-        lines.append(f'{head["id"]},{head["type"]},{head["watermark"]},{head.get("prevId", "")},{head["resend"]},{digest}')
+        lines.append(row_of(f'{head["id"]},{head["type"]},{head["watermark"]},{head.get("prevId", "")},{head["resend"]}', body))
     with open(os.path.join(folder, 'manifest.csv'), 'w') as file:
-        file.write('\n'.join(lines) + '\n')
+        file.writelines(lines)
     return folder
 
 
@@ -64,7 +57,7 @@ class Release:
         self.listed = sweep.run('init', '--store', self.fresh, '--manifest', self.manifest)
         copy(self.fresh, self.taken)
         self.lines = sweep.run('take', '--store', self.taken, self.deposits)
-        self.told = told(self.taken)
+        self.told = rows(self.taken)
         assert self.listed[0] == self.lines[0] == 0, (self.listed, self.lines)
 
 
@@ -93,9 +86,9 @@ class Unkept:
         migrated = sweep.run('migrate', '--store', self.fresh)
         copy(self.fresh, taken)
         self.lines = sweep.run('take', '--store', taken, self.deposits)
-        self.told = told(taken)
+        self.told = rows(taken)
         assert migrated == (0, 'migrated\n', '') and self.lines[1].count(',A2,') == 3, (migrated, self.lines)
-        assert len(dict(self.told)['parked']) == 3, self.told
+        assert len(self.told['parked']) == 3, self.told
 
 
 def write_first(store, manifest, deposits):

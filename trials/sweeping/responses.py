@@ -2,10 +2,10 @@
 then gets the whole response, and the store has the same rows."""
 import os, socket, subprocess
 
+from stores import REPORTS, rows
 from support.formats import KINDS
-from sweeping.commands import REPORTS
+from support.sockets import HOST, received
 from sweeping.refusals import ended_in
-from sweeping.stores import Again, copy, told
 
 REFUSED = (b'HTTP/1.1 503 Service Unavailable\r\nContent-Type: text/plain\r\nContent-Length: 3\r\n'
            b'Connection: close\r\n\r\nS2\n')
@@ -14,13 +14,10 @@ REFUSED = (b'HTTP/1.1 503 Service Unavailable\r\nContent-Type: text/plain\r\nCon
 def exchange(port, request):
     """What a client sees: nothing where it is not served."""
     try:
-        with socket.create_connection(('127.0.0.1', port), timeout=60) as client:
+        with socket.create_connection((HOST, port), timeout=60) as client:
             client.sendall(request)
             client.shutdown(socket.SHUT_WR)
-            text = b''
-            while part := client.recv(1 << 16):
-                text += part
-            return text
+            return received(client)
     except OSError:
         return b''
 
@@ -30,7 +27,7 @@ def serve(sweep, store, request, **given_settings):
     for _ in range(5):
         port = sweep.next_port()
         responses, status, error = serve_at(sweep, port, store, request, given_settings)
-        if error != f'E1 127.0.0.1:{port}\n':
+        if error != f'E1 {HOST}:{port}\n':
             break
     return responses, status, error
 
@@ -47,35 +44,24 @@ def serve_at(sweep, port, store, request, given_settings):
 
 
 def over_serve(sweep, release, name, request, before):
-    clean = sweep.own()
-    copy(before, clean)
-    (whole, second), status, _ = serve(sweep, clean, request)
-    assert whole == second and status == 0, (whole, second, status)
-    tables = told(clean)
-    copy(None, clean)
-    once_more = Again(lambda store: (serve(sweep, store, request)[0], told(store) == tables))
+    def play(store, **refused):
+        return serve(sweep, store, request, **refused)
 
-    def judge(at):
-        store = sweep.own()
-        copy(before, store)
-        responses, status, error = serve(sweep, store, request, at=at)
-        afterwards, is_told = once_more(store)
-        copy(None, store)
+    with sweep.copied(before) as clean:
+        (whole, second), status, _ = play(clean)
+        tables = rows(clean)
+    assert whole == second and status == 0, (whole, second, status)
+
+    def is_right(said, afterwards):
+        responses, status, error = said
         # One growth is refused: that of one response at most.
         answered = [it for it in responses if it]
-        is_right = all(it in (whole, REFUSED) for it in answered) and answered.count(REFUSED) <= 1
+        is_response = all(it in (whole, REFUSED) for it in answered) and answered.count(REFUSED) <= 1
         is_done = (status, error) == (0, '') and len(answered) == 2
         is_stopped = (status, error) == (3, 'S2\n') and REFUSED not in answered
-        if is_right and (is_done or is_stopped) and afterwards == [whole, whole] and is_told:
-            return None
-        return responses, status, error, afterwards, is_told
-
-    def tell(path):
-        store = sweep.own()
-        copy(before, store)
-        serve(sweep, store, request, count=path)
-        copy(None, store)
-    sweep.refuse(f'serve {name}, {release.name}, S2', tell, judge, release.is_whole)
+        return is_response and (is_done or is_stopped) and afterwards == ([whole, whole], True)
+    sweep.refuse_over(f'serve {name}, {release.name}', 'S2', before, play, lambda store: (play(store)[0], rows(store) == tables),
+                      is_right, release.is_whole)
 
 
 def over_routes(sweep, release):
