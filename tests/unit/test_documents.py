@@ -21,47 +21,45 @@ MOST_WORDS = 36_000
 WORD = re.compile(r'\S*[^\W_]\S*')
 FENCE = re.compile(r' {0,3}(`{3,}|~{3,})')
 HEADING = re.compile(r'#{1,6} +(.*?) *#* *$')
-LINK = re.compile(r'!?\[(?:[^\[\]]|\[[^\]]*\])*\]\(\s*<?([^\s)>]+)>?[^)]*\)|^ {0,3}\[[^\]]+\]:\s*(\S+)')
-CODE_SPAN = re.compile(r'(`+)(?!`).*?(?<!`)\1(?!`)')
+CODE_SPAN = re.compile(r'(?<!`)(`+)(?!`)(?:(?!\n\s*\n).)+?(?<!`)\1(?!`)', re.S)
+# [text](target), also where the text goes on in the next line, and [name]: target.
+LINK = re.compile(r'\[(?:[^\[\]]|\[[^\[\]]*\])*\]\(<?([^\s()<>]+)>?\)|^\[[^\[\]]+\]: *(\S+)', re.M)
 SCHEME = re.compile(r'[a-z][a-z0-9+.-]*:', re.I)
 
 
 def prose(text):
-    """The lines of a document outside of fenced code, each with its number."""
-    fence = None
-    for number, line in enumerate(text.splitlines(), 1):
+    """The lines of a document, those of fenced code left empty."""
+    fence, lines = None, []
+    for line in text.splitlines():
         found = FENCE.match(line)
-        if fence:
-            if found and found[1].startswith(fence) and not line.strip(' `~'):
-                fence = None
-        elif found:
-            fence = found[1]
-        else:
-            yield number, line
+        lines.append('' if fence or found else line)
+        if not fence:
+            fence = found and found[1]
+        elif found and found[1].startswith(fence):
+            fence = None
+    return lines
 
 
 def anchors(text):
     """The anchors of a document's headings, as GitHub makes them: in lower case, without
     punctuation, dashes for spaces, and a number after one that was there before."""
     found = {}
-    for _, line in prose(text):
-        heading = HEADING.match(line)
-        if heading:
-            title = re.sub(r'!?\[([^\]]*)\]\([^)]*\)', r'\1', heading[1])
-            name = re.sub(r'[^\w\- ]', '', title.lower()).replace(' ', '-')
-            found[name] = found.get(name, -1) + 1
-            if found[name]:
-                found[f'{name}-{found[name]}'] = 0
+    for heading in filter(None, map(HEADING.match, prose(text))):
+        title = re.sub(r'\[([^\]]*)\]\([^)]*\)', r'\1', heading[1])
+        name = re.sub(r'[^\w\- ]', '', title.lower()).replace(' ', '-')
+        found[name] = found.get(name, -1) + 1
+        if found[name]:
+            found[f'{name}-{found[name]}'] = 0
     return set(found)
 
 
 def links(text):
     """The targets of a document's links to other files and to headings, each with its line."""
-    for number, line in prose(text):
-        for found in LINK.finditer(CODE_SPAN.sub('', line)):
-            target = found[1] or found[2]
-            if not SCHEME.match(target):
-                yield number, target
+    text = CODE_SPAN.sub(lambda span: re.sub(r'[^\n]', ' ', span[0]), '\n'.join(prose(text)))
+    for found in LINK.finditer(text):
+        target = found[1] or found[2]
+        if not SCHEME.match(target):
+            yield text.count('\n', 0, found.end()) + 1, target
 
 
 def fault_of(document, target):
@@ -76,17 +74,20 @@ def fault_of(document, target):
 
 
 class Documents(unittest.TestCase):
+    maxDiff = None
+
     def test_links_lead_somewhere(self):
-        for document in DOCUMENTS:
-            for number, target in links(document.read_text('utf-8')):
-                with self.subTest(document=document.name, line=number, link=target):
-                    self.assertIsNone(fault_of(document, target))
+        broken = [f'{document.name}:{number}: {target}: {fault}'
+                  for document in DOCUMENTS
+                  for number, target in links(document.read_text('utf-8'))
+                  if (fault := fault_of(document, target))]
+        self.assertEqual(broken, [])
 
     def test_readme_fits(self):
-        for number, line in prose((TOP / 'README.md').read_text('utf-8')):
-            if not line.startswith('|'):
-                with self.subTest(line=number):
-                    self.assertLessEqual(len(line), MOST_COLUMNS)
+        lines = prose((TOP / 'README.md').read_text('utf-8'))
+        long = [f'{number}: {len(line)} columns' for number, line in enumerate(lines, 1)
+                if not line.startswith('|') and len(line) > MOST_COLUMNS]
+        self.assertEqual(long, [])
 
     def test_each_code_has_its_place(self):
         operating = (TOP / 'docs/OPERATING.md').read_text('utf-8').splitlines()
@@ -94,9 +95,9 @@ class Documents(unittest.TestCase):
         for letter, most in CODES.items():
             for code in (f'{letter}{number}' for number in range(1, most + 1)):
                 with self.subTest(code=code):
-                    self.assertEqual(operating.count(f'### {code}'), 1)
+                    self.assertEqual(operating.count(f'### {code}'), 1, code)
                     rows = [it for it in formats if it.startswith(f'| {code} |')]
-                    self.assertEqual(len(rows), int(letter in LISTED))
+                    self.assertEqual(len(rows), int(letter in LISTED), code)
 
     def test_words(self):
         counts = {it.name: len(WORD.findall(it.read_text('utf-8'))) for it in DOCUMENTS}
@@ -110,7 +111,8 @@ class Reading(unittest.TestCase):
     TEXT = '\n'.join([
         '# What to do, when', '## `S1` and [S2](#a)', '## Twice', '## Twice',
         '```sh', '# no heading', '[no](link.md)', '```',
-        'A [link](a.md#b), `[no](code.md)`, [two words](<c.md>) and [out](https://example.org).',
+        'A [link](a.md#b), `[no](code.md)`, [two',
+        '`words`](<c.md>) and [out](https://example.org).',
         '[word]: d.md'])
 
     def test_anchors(self):
@@ -118,7 +120,7 @@ class Reading(unittest.TestCase):
 
     def test_links(self):
         self.assertEqual(list(links(self.TEXT)),
-                         [(2, '#a'), (9, 'a.md#b'), (9, 'c.md'), (10, 'd.md')])
+                         [(2, '#a'), (9, 'a.md#b'), (10, 'c.md'), (11, 'd.md')])
 
     def test_faults(self):
         readme = TOP / 'README.md'
