@@ -12,13 +12,12 @@ one where 100 are; and bodies that no row lists yet are parked, as many as there
 all processor time, with the ratio to taking the same bodies where they are listed. It needs python3 alone, and the program,
 which `./build` builds: `./build && bench/bench.py`. With --only chain, or --only adopted, that task alone is
 run. Times of a busy machine say little; the ratios say more."""
-import argparse, os, re, shutil, subprocess, sys, tempfile, time
+import os, re, shutil, subprocess, sys, tempfile, time
 
 from running import Program, arrivals_where, ask, made_release
-from support import TOP, built
+from support import TOP, arguments_over_restore
 
-arguments = argparse.ArgumentParser(description=__doc__)
-arguments.add_argument('--restore', default=built('restore'))
+arguments = arguments_over_restore(__doc__)
 arguments.add_argument('--keep', help='a folder to work in, which is kept')
 arguments.add_argument('--only', choices=['chain', 'adopted'], help='this task alone')
 given = arguments.parse_args()

@@ -7,14 +7,13 @@ not fit until the last. After each stop the folder is taken again, for a disk on
 stop is there again, the receipts and exports are those of an undisturbed run, and the C library's `PRAGMA integrity_check` says ok.
 The disks need root and mkfs.ext2; without them they are left out. It needs python3, and the program, which `./build` builds. The
 last line is 'N stops, M undisturbed, wrong K'."""
-import argparse, os, random, shutil, subprocess, sys, tempfile, time
+import os, random, shutil, subprocess, sys, tempfile, time
 
 sys.path.append(f'{sys.path[0]}/../tests')
 from stores import Program, copy, is_whole, told
-from support import TOP, built
+from support import TOP, arguments_over_restore
 
-arguments = argparse.ArgumentParser(description=__doc__.split('\n')[0])
-arguments.add_argument('--restore', default=built('restore'))
+arguments = arguments_over_restore(__doc__)
 arguments.add_argument('--kills', type=int, default=100)
 arguments.add_argument('--disks', type=int, default=100)
 arguments.add_argument('--seed', type=int, default=1)
