@@ -20,7 +20,7 @@ rows as the store that is made here. It needs python3 alone, and the program, wh
 import os, random, shutil, subprocess, sys, tempfile, time
 
 sys.path.append(f'{sys.path[0]}/../tests')
-from stores import Program, contents, copy, is_whole, opened, rows, told
+from stores import Program, contents, copy, is_whole, opened, readings, rows
 from support import TOP, arguments_over_restore
 from support.bundles import HEADING, row_of, sealed, table
 from support.first_store import First, write_store
@@ -138,7 +138,7 @@ def migrated(release, store):
 
 def compare(release, store, fresh, what):
     """A migrated store against a fresh desk: reports, exports and rows."""
-    there, here = as_later(told(run, fresh)), as_later(told(run, store))
+    there, here = as_later(readings(run, fresh)), as_later(readings(run, store))
     for name in there:
         check(f'{release.name}: {name} {what}', here[name], there[name])
     check(f'{release.name}: texts of tables {what}', texts_of(store), texts_of(fresh))
@@ -176,7 +176,7 @@ def play(release, store):
     refused(release, store)
     seconds = migrated(release, store)
     fresh = release.fresh()
-    there, here = as_later(told(run, fresh)), as_later(told(run, store))
+    there, here = as_later(readings(run, fresh)), as_later(readings(run, store))
     for name in there:
         # Version 1 kept no body that no row lists.
         wanted = (0, 'sha256,bytes\n', '') if name == 'report parked' else there[name]

@@ -10,7 +10,7 @@ what differs."""
 import contextlib, os, shutil, sqlite3, sys, tempfile
 
 sys.path.append(f'{sys.path[0]}/../tests')
-from stores import Program, is_whole, rows, told
+from stores import Program, is_whole, readings, rows
 from support import TOP, arguments_over_restore, first_store
 
 SAMPLE = os.path.join(TOP, 'samples', 'first')
@@ -52,7 +52,7 @@ def own_store(name):
 def used(store):
     """What each command says of a store, where the sample's deposits are taken twice."""
     takes = {it: run('take', '--store', store, os.path.join(SAMPLE, 'deposits')) for it in ('take', 'take again')}
-    return takes | told(run, store)
+    return takes | readings(run, store)
 
 
 def content(store):

@@ -10,7 +10,7 @@ last line is 'N stops, M undisturbed, wrong K'."""
 import os, random, shutil, subprocess, sys, tempfile, time
 
 sys.path.append(f'{sys.path[0]}/../tests')
-from stores import Program, copy, is_whole, told
+from stores import Program, copy, is_whole, readings
 from support import TOP, arguments_over_restore
 
 arguments = arguments_over_restore(__doc__)
@@ -43,7 +43,7 @@ def judge(what, store, printed, whole, undisturbed):
         failures.append(f'taken again: status {again[0]} {again[2]!r}')
     if lines != whole.split('\n')[:len(lines)]:
         failures.append('lines printed before the stop')
-    if told(run, store) != undisturbed:
+    if readings(run, store) != undisturbed:
         failures.append('receipts, reports or exports')
     if not is_whole(store):
         failures.append('integrity_check')
@@ -102,7 +102,7 @@ def main():
     status, whole, refusals = run('take', '--store', store, folder)
     seconds = time.perf_counter() - begun
     assert status == 0, refusals
-    undisturbed = told(run, store)
+    undisturbed = readings(run, store)
     print(f'a take of {len(os.listdir(folder))} deposits: {seconds:.2f} s, a store of {os.path.getsize(store) // 1024} KB', flush=True)
     kills(fresh, whole, undisturbed, seconds)
     if os.geteuid() or not shutil.which('mkfs.ext2'):
