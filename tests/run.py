@@ -136,7 +136,7 @@ def main():
     programs, cases = {it: os.path.abspath(getattr(given, it)) for it in PROGRAMS}, cases_named(given.names)
     for program in programs.values():
         if any(it.has_programs for it in cases) and not os.access(program, os.X_OK):
-            sys.exit(f'tests: there is no program {program}: `rt ci` builds it')
+            sys.exit(f'tests: there is no program {program}: `./check` builds it')
     passed = count_passed(cases, programs)
     print(f'{passed} passed, {len(cases) - passed} failed', flush=True)
     return 0 if passed == len(cases) else 1
