@@ -6,10 +6,11 @@ task the least processor time of either build, the ratio of the second to the fi
 desk that is open leaves out the opening: its time runs from the heading that `take` prints to the last receipt. Of the status that is
 asked for again and again it is the mean of the responses after the first. At last stand the times of an arrival where 100 and 4,000
 rows are held, of the second build. It needs python3 alone."""
-import argparse, os, shutil, tempfile
+import os, shutil, tempfile
 from dataclasses import dataclass, field
 
 from running import Program, arrivals_where, made_release
+from support import arguments_of, program
 
 
 class Release:
@@ -107,9 +108,9 @@ TASKS = {
 
 
 def main():
-    arguments = argparse.ArgumentParser(description=__doc__.split('\n')[0])
-    arguments.add_argument('before')
-    arguments.add_argument('after')
+    arguments = arguments_of(__doc__)
+    arguments.add_argument('before', type=program, metavar='BEFORE')
+    arguments.add_argument('after', type=program, metavar='AFTER')
     arguments.add_argument('--times', type=int, default=3)
     given = arguments.parse_args()
     work = tempfile.mkdtemp(prefix='restore-compare-')
@@ -118,7 +119,7 @@ def main():
         both = []
         for name, path in (('before', given.before), ('after', given.after)):
             os.mkdir(os.path.join(work, name))
-            both.append(Program(os.path.abspath(path), os.path.join(work, name)))
+            both.append(Program(path, os.path.join(work, name)))
         for task, measured in TASKS.items():
             # The slow task of the chain says enough in one run.
             times = 1 if measured is along_a_chain else given.times

@@ -12,15 +12,14 @@ least is steadier than the mean on a busy machine; ratios hold within one run.
 
 `statements/main.txt` is Rattle's source. The gate proves what stands in `crates/` and takes no other `.rt` file, so it is copied
 into a repository of its own, where `rt run` proves that it is safe and builds it; --statements names what an earlier run built."""
-import argparse, os, re, shutil, subprocess, sys, tempfile
+import os, re, shutil, subprocess, sys, tempfile
 
 from running import Program, made_release
-from support import TOP, built
+from support import TOP, arguments_over_restore
 
 SOURCE = os.path.join(TOP, 'bench', 'statements', 'main.txt')
 TEXTS = os.path.join(TOP, 'crates', 'esc_rows', 'src')
-arguments = argparse.ArgumentParser(description=__doc__, formatter_class=argparse.RawDescriptionHelpFormatter)
-arguments.add_argument('--restore', default=built('restore'))
+arguments = arguments_over_restore(__doc__)
 arguments.add_argument('--release', help='a folder that release.py made')
 arguments.add_argument('--deposit', default='full', help='its folder with one Full: full, or growth/N')
 arguments.add_argument('--statements', help='the program that an earlier run built')

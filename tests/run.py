@@ -11,11 +11,11 @@ there, by its title. The tests in tests/unit/, which unittest finds, are of the 
 
 The cases are played side by side, RT_JOBS of them or one for each processor. Each that ends otherwise is printed as FAILED, with the first
 line that did, what was wanted and what came. The last line is `N passed, M failed`; the status is 0 where M is 0."""
-import argparse, importlib, multiprocessing, os, sqlite3, sys, textwrap, traceback, unittest
+import importlib, multiprocessing, os, sqlite3, sys, textwrap, traceback, unittest
 from dataclasses import dataclass
 from typing import Callable
 
-from support import TESTS, built
+from support import TESTS, arguments_of, built
 from support.stage import Failed, Stage
 from support.transcripts import Misread, read_transcripts
 
@@ -128,7 +128,7 @@ def count_passed(cases, programs):
 
 
 def main():
-    arguments = argparse.ArgumentParser(description=__doc__, formatter_class=argparse.RawDescriptionHelpFormatter)
+    arguments = arguments_of(__doc__)
     for name in PROGRAMS:
         arguments.add_argument(f'--{name.removeprefix("desk_")}', dest=name, default=built(name), metavar='FILE')
     arguments.add_argument('names', nargs='*', metavar='NAME')
@@ -136,7 +136,7 @@ def main():
     programs, cases = {it: os.path.abspath(getattr(given, it)) for it in PROGRAMS}, cases_named(given.names)
     for program in programs.values():
         if any(it.has_programs for it in cases) and not os.access(program, os.X_OK):
-            sys.exit(f'tests: there is no program {program}: `rt ci` builds it')
+            sys.exit(f'tests: there is no program {program}: `./check` builds it')
     passed = count_passed(cases, programs)
     print(f'{passed} passed, {len(cases) - passed} failed', flush=True)
     return 0 if passed == len(cases) else 1

@@ -17,19 +17,18 @@ one with deposits that don't read or differ from their row, and one with N objec
 With --first, a program of version 1, its stores are migrated too, also one that was killed in the middle of a take: each has the same
 rows as the store that is made here. It needs python3 alone, and the program, which `./build` builds. The last line is
 'N passed, M failed'."""
-import argparse, os, random, shutil, subprocess, sys, tempfile, time
+import os, random, shutil, subprocess, sys, tempfile, time
 
 sys.path.append(f'{sys.path[0]}/../tests')
-from stores import Program, contents, copy, is_whole, opened, rows, told
-from support import TOP, built
+from stores import Program, contents, copy, is_whole, opened, readings, rows
+from support import TOP, arguments_over_restore
 from support.bundles import HEADING, row_of, sealed, table
 from support.first_store import First, write_store
 
 SAMPLES = os.path.join(TOP, 'samples')
 NEW_TABLES = ('parked', 'moment')
 
-arguments = argparse.ArgumentParser(description=__doc__, formatter_class=argparse.RawDescriptionHelpFormatter)
-arguments.add_argument('--restore', default=built('restore'))
+arguments = arguments_over_restore(__doc__)
 arguments.add_argument('--first', help='a program of version 1')
 arguments.add_argument('--objects', type=int, default=3000)
 arguments.add_argument('--only', default='', help='the releases whose names have this in them')
@@ -139,7 +138,7 @@ def migrated(release, store):
 
 def compare(release, store, fresh, what):
     """A migrated store against a fresh desk: reports, exports and rows."""
-    there, here = as_later(told(run, fresh)), as_later(told(run, store))
+    there, here = as_later(readings(run, fresh)), as_later(readings(run, store))
     for name in there:
         check(f'{release.name}: {name} {what}', here[name], there[name])
     check(f'{release.name}: texts of tables {what}', texts_of(store), texts_of(fresh))
@@ -177,7 +176,7 @@ def play(release, store):
     refused(release, store)
     seconds = migrated(release, store)
     fresh = release.fresh()
-    there, here = as_later(told(run, fresh)), as_later(told(run, store))
+    there, here = as_later(readings(run, fresh)), as_later(readings(run, store))
     for name in there:
         # Version 1 kept no body that no row lists.
         wanted = (0, 'sha256,bytes\n', '') if name == 'report parked' else there[name]

@@ -13,7 +13,7 @@ deadline. At last some bundles as large as a bundle may be are taken one by one,
 
 It needs python3 alone, and the program, which `./build` builds. Each wrong input stays in a folder, with how to run it
 again. The last line is `N inputs, wrong K`."""
-import argparse, random, sys, time
+import random, sys, time
 
 sys.path.append(f'{sys.path[0]}/../tests')
 from fuzzing.arrivals import mutated_release
@@ -23,10 +23,9 @@ from fuzzing.folders import over_bundles
 from fuzzing.largest import over_largest
 from fuzzing.manifests import over_manifest
 from fuzzing.trial import Trial
-from support import built
+from support import arguments_over_restore
 
-arguments = argparse.ArgumentParser(description=__doc__, formatter_class=argparse.RawDescriptionHelpFormatter)
-arguments.add_argument('--restore', default=built('restore'))
+arguments = arguments_over_restore(__doc__)
 arguments.add_argument('--bundles', type=int, default=2000)
 arguments.add_argument('--manifests', type=int, default=500)
 arguments.add_argument('--requests', type=int, default=2000)

@@ -12,17 +12,16 @@ without an end would show.
 
 It needs python3, and the program, which `./build` builds; what asks for root (files that may not be read, device nodes) is
 left out without it. The last line is `N cases, M without end, K ended by a signal, wrong W`."""
-import argparse, os, shutil, sys
+import os, shutil, sys
 
 sys.path.append(f'{sys.path[0]}/../tests')
 from odd_paths import changes, folders, forbidden, manifests, stores, streams
 from odd_paths.trial import Trial
-from support import built
+from support import arguments_over_restore
 
 
 def words():
-    arguments = argparse.ArgumentParser(description=__doc__, formatter_class=argparse.RawDescriptionHelpFormatter)
-    arguments.add_argument('--restore', default=built('restore'))
+    arguments = arguments_over_restore(__doc__)
     arguments.add_argument('--seconds', type=float, default=10)
     return arguments.parse_args()
 

@@ -7,11 +7,11 @@ tables as the format words them, the version and the manifest's rows. Then it ru
 bytes, hold the same rows, and pass the C library's checks. A store with its tables in another order is no store of this version:
 it is S3, and left as it was. It needs python3 alone, and the program, which `./build` builds. Prints one line, or stops at
 what differs."""
-import argparse, contextlib, os, shutil, sqlite3, sys, tempfile
+import contextlib, os, shutil, sqlite3, sys, tempfile
 
 sys.path.append(f'{sys.path[0]}/../tests')
-from stores import Program, is_whole, rows, told
-from support import TOP, built, first_store
+from stores import Program, is_whole, readings, rows
+from support import TOP, arguments_over_restore, first_store
 
 SAMPLE = os.path.join(TOP, 'samples', 'first')
 # Of version 1 and of version 2, here in small letters.
@@ -21,8 +21,7 @@ TABLES = {name: columns.lower() for name, columns in first_store.TABLES.items()}
 }
 ANOTHER_ORDER = ('listed', 'info', *list(TABLES)[2:])
 
-arguments = argparse.ArgumentParser(description=__doc__, formatter_class=argparse.RawDescriptionHelpFormatter)
-arguments.add_argument('--restore', default=built('restore'))
+arguments = arguments_over_restore(__doc__)
 arguments.add_argument('--keep', help='a folder to work in, which is kept')
 given = arguments.parse_args()
 run = Program(given.restore).run
@@ -53,7 +52,7 @@ def own_store(name):
 def used(store):
     """What each command says of a store, where the sample's deposits are taken twice."""
     takes = {it: run('take', '--store', store, os.path.join(SAMPLE, 'deposits')) for it in ('take', 'take again')}
-    return takes | told(run, store)
+    return takes | readings(run, store)
 
 
 def content(store):

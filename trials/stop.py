@@ -7,14 +7,13 @@ not fit until the last. After each stop the folder is taken again, for a disk on
 stop is there again, the receipts and exports are those of an undisturbed run, and the C library's `PRAGMA integrity_check` says ok.
 The disks need root and mkfs.ext2; without them they are left out. It needs python3, and the program, which `./build` builds. The
 last line is 'N stops, M undisturbed, wrong K'."""
-import argparse, os, random, shutil, subprocess, sys, tempfile, time
+import os, random, shutil, subprocess, sys, tempfile, time
 
 sys.path.append(f'{sys.path[0]}/../tests')
-from stores import Program, copy, is_whole, told
-from support import TOP, built
+from stores import Program, copy, is_whole, readings
+from support import TOP, arguments_over_restore
 
-arguments = argparse.ArgumentParser(description=__doc__.split('\n')[0])
-arguments.add_argument('--restore', default=built('restore'))
+arguments = arguments_over_restore(__doc__)
 arguments.add_argument('--kills', type=int, default=100)
 arguments.add_argument('--disks', type=int, default=100)
 arguments.add_argument('--seed', type=int, default=1)
@@ -44,7 +43,7 @@ def judge(what, store, printed, whole, undisturbed):
         failures.append(f'taken again: status {again[0]} {again[2]!r}')
     if lines != whole.split('\n')[:len(lines)]:
         failures.append('lines printed before the stop')
-    if told(run, store) != undisturbed:
+    if readings(run, store) != undisturbed:
         failures.append('receipts, reports or exports')
     if not is_whole(store):
         failures.append('integrity_check')
@@ -103,7 +102,7 @@ def main():
     status, whole, refusals = run('take', '--store', store, folder)
     seconds = time.perf_counter() - begun
     assert status == 0, refusals
-    undisturbed = told(run, store)
+    undisturbed = readings(run, store)
     print(f'a take of {len(os.listdir(folder))} deposits: {seconds:.2f} s, a store of {os.path.getsize(store) // 1024} KB', flush=True)
     kills(fresh, whole, undisturbed, seconds)
     if os.geteuid() or not shutil.which('mkfs.ext2'):

@@ -48,7 +48,7 @@ def rows(store):
         return {table: sorted(database.execute(f'select * from {table}').fetchall(), key=repr) for table in tables}
 
 
-def told(run, store):
+def readings(run, store):
     """What each report and export says, by what runs the program."""
     return {f'{command} {what}': run(command, '--store', store, what) for command, what in READINGS}
 

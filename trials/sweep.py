@@ -19,17 +19,17 @@ prints; a client of `serve` has to see the whole response, or 503 `S2`. The same
 first, and to leave the same rows: it is run once for each content of the store's two files that a refusal leaves. A test has to
 pass, or to say that memory was refused. The files are in memory (/dev/shm). It needs gcc, python3 and the program, which `./build`
 builds. The last line is 'N passed, M failed': each refusal counts once."""
-import argparse, os, shutil, sys
+import os, shutil, sys
 
 sys.path.append(f'{sys.path[0]}/../tests')
-from support import TOP, built
+from support import TOP, arguments_of, built
 from sweeping.commands import over_change, over_commands, over_init, over_migrate, over_reading, over_take
 from sweeping.refusals import Sweep
 from sweeping.releases import Parts, Release, Unkept, write_four
 from sweeping.responses import over_parked, over_routes
 from sweeping.test_programs import HARNESS, over_harness, over_tests
 
-arguments = argparse.ArgumentParser(description=__doc__.split('\n')[0])
+arguments = arguments_of(__doc__)
 arguments.add_argument('--restore', default=built('restore'))
 arguments.add_argument('--every', type=int, default=0, help='beyond the 400th growth, every N-th')
 arguments.add_argument('--beyond', type=int, default=200, help='beyond the 400th growth, at most so many, evenly')

@@ -5,9 +5,11 @@ A walk borrows the desk, so a program that does it is refused by the borrow chec
 the prover refuses, and has no place for one that doesn't compile; so this is run by hand. It writes a crate beside copies of the
 repository's, once with the arrival behind the walk's end and once with it between two objects, and checks both. Run it where the
 crates were proved (`./check`): their kept work is copied too."""
-import argparse, os, re, shutil, subprocess, sys, tempfile
+import os, re, shutil, subprocess, sys, tempfile
 
-TOP = os.path.dirname(os.path.dirname(os.path.abspath(__file__)))
+sys.path.append(f'{sys.path[0]}/../tests')
+from support import TOP, arguments_of
+
 WALK = """//! A walk over a desk's objects, and an arrival.
 #![tactic(auto)]
 
@@ -42,7 +44,7 @@ def check(top, between, behind):
 
 
 def main():
-    argparse.ArgumentParser(description=__doc__, formatter_class=argparse.RawDescriptionHelpFormatter).parse_args()
+    arguments_of(__doc__).parse_args()
     with tempfile.TemporaryDirectory(prefix='walk-alone-') as top:
         shutil.copytree(os.path.join(TOP, 'crates'), os.path.join(top, 'crates'))
         shutil.copy(os.path.join(TOP, 'HANDLES'), top)

@@ -1,10 +1,8 @@
 """Desks where as many bodies are parked as there is place for."""
-import hashlib
-
 from support.bodies import bytes_of, manifest_text
 from support.harness import Harness
 from support.stage import compare
-from support.steps import FirstScript, insertion
+from support.steps import FirstScript, parked_script
 from support.worked_rows import desk_of
 
 # How many small bodies there are, `p0` to `p1022`: with one more as many as are parked at most.
@@ -46,21 +44,10 @@ COMES_AGAIN = (
 )
 
 
-def small_script(receipt):
-    """The statements that park the small bodies, each with its receipt, as their arrivals would. The first of them has this receipt."""
-    made = []
-    for at in range(SMALL):
-        body = f'p{at}'.encode()
-        digest = hashlib.sha256(body).digest()
-        made.append(insertion('receipt (receipt, number, digest, verdict)', (receipt + at, f'p{at}', digest, 5)))
-        made.append(insertion('parked (digest, body)', (digest, body)))
-    return ''.join(made)
-
-
 def set_up(stage, receipt):
-    """The files that come, and the statements that park the small bodies."""
+    """The files that come, and the statements that park the small bodies, the first of which has this receipt."""
     files = {name: bytes_of(name) for name in ('F1', 'D2', 'Abc')} | {name: name.encode() for name in ('more', 'other', 'p7')}
-    files |= {'d2.csv': manifest_text(['D2']).encode(), 'small.sql': small_script(receipt).encode()}
+    files |= {'d2.csv': manifest_text(['D2']).encode(), 'small.sql': parked_script(receipt, [f'p{at}' for at in range(SMALL)]).encode()}
     for path, content in files.items():
         stage.write(path, content)
 

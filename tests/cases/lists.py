@@ -1,11 +1,12 @@
 """Random lists of events over desks, against the plain model: each answer, and the whole state whenever the store is closed.
 
-Some desks are given the events one by one, others all of them in one call. Some stores were made by version 1: the model says what such a
-store keeps, it is migrated, and then the events come, many of them arrivals that version 1 answered."""
+Some desks are given the events one by one, others all of them in one call. Some stores are of version 1: each is migrated, and then
+the events come, many of them arrivals that version 1 answered."""
+from support.first_store import First
 from support.harness import Harness
 from support.model import begin, fault_of, latest_chain, parked_lines, state, take, work, work_text
-from support.model_store import first_store
 from support.stage import Failed, text_of
+from support.steps import first_script
 from support.universe import (
     Amendment, Arrival, Chance, Closing, History, Moment, draw_arrival, draw_bodies, draw_event, draw_first, draw_history, draw_rows,
     event_text, manifest_text, moment_text)
@@ -59,7 +60,8 @@ class Play:
     def start(self, history):
         """Opens a desk over a new store of the first rows, or over one of version 1, which is migrated."""
         if history.early:
-            self.stage.write('first.sql', first_store(self.book).encode())
+            kept = First(manifest_text(history.first).encode(), [(f'n{it.number}', it.body.bytes) for it in history.early])
+            self.stage.write('first.sql', first_script(kept.rows()).encode())
             self.desk.check('script first.sql', '')
             self.desk.check('migrate', 'migrated\n')
         else:

@@ -3,10 +3,10 @@ again has the response of a desk that nothing happened to."""
 from dataclasses import dataclass
 
 from support.clients import (
-    AMPLE, HELD, READ_FAULT, RECEIPTS, SAMPLE, WRITE_FAULT, RequestDesk, Wire, export, gaps, get, lines, links, list_sample, moment,
+    AMPLE, HELD, READ_FAULT, RECEIPTS, SAMPLE, WRITE_FAULT, RequestDesk, Wire, export, gaps, get, links, list_sample, moment,
     new_desk, parked, parked_bodies, receipts, refusal, status)
 from support.events import check
-from support.stage import Failed
+from support.stage import Failed, text_of
 
 
 @dataclass(frozen=True)
@@ -104,7 +104,7 @@ def refusals_of(desk, route):
     refuses each call tells none."""
     if is_answered(desk, route):
         return 0
-    check(desk, 'receipts', lines(*RECEIPTS[:route.before]), 'S1\n')
+    check(desk, 'receipts', text_of(RECEIPTS[:route.before]), 'S1\n')
     return 1 if is_answered(desk, route) else 2
 
 

@@ -9,7 +9,7 @@ from dataclasses import dataclass
 
 from support import first_store
 from support.bodies import bytes_of, manifest_text
-from support.events import FILES, FIRST_TABLES, NOON, check, compare, is_answered, put_files, put_first_store, query, run, run_line
+from support.events import FILES, FIRST_TABLES, NOON, check, compare_any, is_answered, put_files, put_first_store, query, run, run_line
 from support.harness import Harness
 from support.stage import Failed, text_of
 from support.worked_rows import C1, DOMAIN_A, DOMAIN_B, DOMAIN_C, R1, RESENT, RESENT_IMAGES, told
@@ -148,7 +148,7 @@ def count_events(desk):
     if not is_answered(desk, 'create first.csv', 'created\n'):
         return None
     for count, step in enumerate(STEPS):
-        if compare(step.line, run(desk, [step.line]), text_of([step.answer]), 'S1\n') == 'S1\n':
+        if compare_any(step.line, run(desk, [step.line]), text_of([step.answer]), 'S1\n') == 'S1\n':
             return count
     return len(STEPS)
 
@@ -156,7 +156,7 @@ def count_events(desk):
 def state_in(desk, *wanted):
     """What the desk has, which must be one of these."""
     asked = ('parked', 'moment', 'receipts', 'held', 'tables')
-    return compare(', '.join(asked), ''.join(map(desk.ask, asked)), *wanted)
+    return compare_any(', '.join(asked), ''.join(map(desk.ask, asked)), *wanted)
 
 
 def check_rest(desk, count):
@@ -168,7 +168,7 @@ def check_rest(desk, count):
     if state_in(desk, *states) != states[0]:
         wanted[0] = rest[0].again or rest[0].answer
     events = [it.line for it in rest]
-    compare(run_line(events), run(desk, events), text_of(wanted))
+    compare_any(run_line(events), run(desk, events), text_of(wanted))
 
 
 def play_events(desk, stop):

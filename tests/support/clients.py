@@ -3,19 +3,15 @@ import contextlib
 from dataclasses import dataclass
 
 from support import messages
-from support.events import check, compare
+from support.events import check, compare_any
 from support.harness import Harness
+from support.stage import text_of
 from support.steps import Copy
 
 # More bytes than a request or a response has.
 AMPLE = 100_000
 # What comes of a request: its response goes out whole, a read fails, or else a write or the flush does.
 SERVED, READ_FAULT, WRITE_FAULT = 'served', 'read fault', 'write fault'
-
-
-def lines(*told):
-    """Lines, each with its end."""
-    return ''.join(f'{it}\n' for it in told)
 
 
 # ---- messages
@@ -54,7 +50,7 @@ def parked(receipt, number):
 
 def table(heading, *rows):
     """A report in rows."""
-    return response('200 OK', 'text/csv', lines(heading, *rows))
+    return response('200 OK', 'text/csv', text_of([heading, *rows]))
 
 
 def export(*rows):
@@ -78,14 +74,14 @@ def parked_bodies(*rows):
 
 
 def moment(word):
-    return response('200 OK', 'text/plain', lines(word))
+    return response('200 OK', 'text/plain', text_of([word]))
 
 
 def status(listed, held, receipts, chain, end, *objects):
     """The status of a desk: how many rows it lists and holds, its receipts, the steps of its chain, where that ends, and the objects."""
     kinds = zip(('registrar', 'contact', 'host', 'domain', 'idn', 'nndn'), objects, strict=True)
-    return response('200 OK', 'text/plain', lines(f'listed {listed}', f'held {held}', f'receipts {receipts}', f'chain {chain}',
-                                                  f'end {end}', *(f'{kind} {count}' for kind, count in kinds)))
+    return response('200 OK', 'text/plain', text_of([f'listed {listed}', f'held {held}', f'receipts {receipts}', f'chain {chain}',
+                                                     f'end {end}', *(f'{kind} {count}' for kind, count in kinds)]))
 
 
 # ---- the sample
@@ -147,11 +143,11 @@ class RequestDesk(Harness):
 
     def check_served(self, wire, *responses, came=SERVED):
         """Sends a request, and compares what comes of it. Its response must be one of these: which one it is."""
-        got = compare(f'{wire.line()}\n{wire.request!r:.400}', self.serve(wire), *(f'{came}\n{it}' for it in responses))
+        got = compare_any(f'{wire.line()}\n{wire.request!r:.400}', self.serve(wire), *(f'{came}\n{it}' for it in responses))
         return got.removeprefix(f'{came}\n')
 
     def check_receipts(self, *receipts):
-        check(self, 'receipts', lines(*receipts))
+        check(self, 'receipts', text_of(receipts))
 
 
 @contextlib.contextmanager

@@ -40,7 +40,7 @@ def query(table):
     return f'query SELECT {columns} FROM {table} ORDER BY {order}'
 
 
-def compare(line, got, *wanted):
+def compare_any(line, got, *wanted):
     """What came of a line, which must be one of these."""
     if got not in wanted:
         found = [it for at, one in enumerate(wanted) for it in difference('or' if at else 'answer', one, got.encode())]
@@ -50,7 +50,7 @@ def compare(line, got, *wanted):
 
 def check(desk, line, *wanted):
     """The answer to a line, without the work of an event. It must be one of these."""
-    return compare(line, re.sub('; cleared .*', '', desk.ask(line)), *wanted)
+    return compare_any(line, re.sub('; cleared .*', '', desk.ask(line)), *wanted)
 
 
 def is_answered(desk, line, wanted):

@@ -120,10 +120,8 @@ class Parked:
     count: int
 
     def do(self, stage):
-        bodies = [(number, f'{number:04}', hashlib.sha256(f'{number:04}'.encode()).digest()) for number in range(1, self.count + 1)]
-        with contextlib.closing(sqlite3.connect(stage.at(self.path))) as database, database:
-            database.executemany('INSERT INTO receipt (receipt, number, digest, verdict) VALUES (?, ?, ?, 5)', bodies)
-            database.executemany('INSERT INTO parked (digest, body) VALUES (?, ?)', [(digest, body.encode()) for _, body, digest in bodies])
+        parked = parked_script(1, [f'{number:04}' for number in range(1, self.count + 1)])
+        Statements(self.path, f'BEGIN;\n{parked}COMMIT;\n').do(stage)
 
 
 def write_new(stage, path, content):
@@ -144,6 +142,17 @@ def literal(value):
 def insertion(table, row):
     """The statement that inserts a row into a table. Names of columns may follow the table's name."""
     return f'INSERT INTO {table} VALUES ({", ".join(map(literal, row))});\n'
+
+
+def parked_script(receipt, bodies):
+    """The statements that park bodies, each under a number that is its text, with its receipt, as their arrivals would. The first of them
+    has this receipt."""
+    made = []
+    for at, body in enumerate(bodies, receipt):
+        digest = hashlib.sha256(body.encode()).digest()
+        made.append(insertion('receipt (receipt, number, digest, verdict)', (at, body, digest, 5)))
+        made.append(insertion('parked (digest, body)', (digest, body.encode())))
+    return ''.join(made)
 
 
 def first_script(rows):

@@ -9,7 +9,7 @@ from stores import is_whole
 def take(trial, what, folder, *expected):
     """`take` of such a DIR, over a store that has something."""
     store = trial.made('taking.db')
-    before = trial.told(store)
+    before = trial.readings(store)
     trial.judge(f'folder: {what}', trial.run('take', '--store', store, folder), *expected)
     return store, before
 

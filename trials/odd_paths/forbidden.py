@@ -42,7 +42,7 @@ def store_commands(trial):
     """Commands over a store that may not be read, or not be written."""
     for mode, what in ((0o600, 'may not be read: the store'), (0o644, 'may not be written: the store')):
         store = trial.made('forbidden.db')
-        before = trial.told(store)
+        before = trial.readings(store)
         for path in (store, store + '-wal'):
             os.chmod(path, mode)
         for words in (('report', '--store', store, 'receipts'), ('take', '--store', store, trial.at('closed')),

@@ -41,7 +41,7 @@ def log_beside(trial):
                        ('a link to nothing', lambda path: linked(path, trial.at('no-log'))),
                        ('a loop of links', lambda path: linked(path, path)), ('bytes', lambda path: put(path, os.urandom(5000)))):
         store = trial.made('logged')
-        before = trial.told(store)
+        before = trial.readings(store)
         os.remove(store + '-wal')
         make(store + '-wal')
         got = trial.run('report', '--store', store, 'receipts')

@@ -16,7 +16,7 @@ def try_all(trial):
 def standard_output(trial):
     """Standard output is full, or not read."""
     store = trial.made('streams.db')
-    before = trial.told(store)
+    before = trial.readings(store)
     for what, out in (('full', open('/dev/full', 'wb')), ('a pipe that nobody reads', unread())):
         for words in (('report', '--store', store, 'receipts'), ('take', '--store', store, DEPOSITS)):
             trial.judge(f'standard output is {what}, {words[0]}', trial.run(*words, out=out), (3, '', 'E1 -\n'))

@@ -3,7 +3,7 @@ import os, resource, shutil, sqlite3, subprocess, tempfile
 
 from odd_paths.answers import HEADING, LISTED
 from odd_paths.files import DEPOSITS, MANIFEST
-from stores import copy, is_whole, told
+from stores import copy, is_whole, readings
 
 GIGABYTE = 2**30
 
@@ -83,13 +83,12 @@ class Trial:
             assert self.run('take', '--store', store, folder)[0] == 0
         return store
 
-    def told(self, store):
-        """What a store tells."""
-        return told(self.run, store)
+    def readings(self, store):
+        return readings(self.run, store)
 
     def still(self, what, store, before):
         """Looks for something lost."""
-        after = self.told(store)
+        after = self.readings(store)
         if after != before or not is_whole(store):
             self.found_wrong(f'{what}: the store has changed: {[got for what, got in after.items() if got != before[what]]!r:.200}')
 
