@@ -4,6 +4,7 @@ use Rattle.std.specs.Prelude.{
   ℕ,
   ◌-◌,
   ◌^◌,
+  ◌<◌,
   min,
   ◌==◌,
   if◌then◌else◌,
@@ -13,6 +14,7 @@ use Rattle.std.specs.Prelude.{
   Some,
   None,
 }
+use Rattle.std.proofs.Common.{arith}
 use Rattle.std.specs.List.{IsDistinct}
 use Rattle.std.specs.Map.{lookup, keys_of}
 use Rattle.std.specs.Option.{unwrap_or}
@@ -99,3 +101,7 @@ HasSize {X} f n = (es : List (KeyName × X)) × IsEntriesOf f es × (length es �
 -- a count of 64 bits, which stays at 2^64 - 1 once there
 abbrev pub saturated : ℕ → ℕ
 saturated n = min n (2 ^ 64 - 1)
+
+-- such a count fits 64 bits
+pub saturated_fits : (n : ℕ) → saturated n < 2 ^ 64
+saturated_fits n = omega arith

@@ -88,8 +88,7 @@ impl MemRegistry {
 }
 
 impl Registry for MemRegistry {
-    ghost use Rattle.std.proofs.Common.{arith};
-    ghost use Rattle.esc_apply.specs.Registry.{saturated};
+    ghost use Rattle.esc_apply.specs.Registry.{saturated, saturated_fits};
     ghost use Rattle.esc_apply.specs.Memory.{Keeps};
 
     type Error = NoMemory;
@@ -106,7 +105,7 @@ impl Registry for MemRegistry {
 
     ghost follows = { λ a b. Unit {0} };
 
-    ghost bounded = { λ r. Prim.omega arith };
+    ghost bounded = { λ r. saturated_fits r.count };
 
     ghost stays = { λ r. tt };
 

@@ -1,12 +1,12 @@
 -- From a row there is one way back, and there is one latest chain.
-use Rattle.std.proofs.Common.{◌≡◌, ◌↔◌, ℕ, ℤ, Bool, true, false, IsTrue, List, [], ◌∷◌, reverse, Option, None, refl, sym, ap, subst, ◌∙◌}
+use Rattle.std.proofs.Common.{◌≡◌, ◌↔◌, ℕ, ℤ, Bool, true, false, IsTrue, List, [], ◌∷◌, reverse, Option, refl, sym, ap, subst, ◌∙◌}
 use Rattle.std.specs.FinSet as set
 use Rattle.std.specs.Cmp.{nat_cmp_total}
 use Rattle.std.proofs.lemmas.List.{reverse-reverse}
 use Rattle.esc_manifest.specs.declared.row.MRow.{MRow}
 use Rattle.esc_manifest.specs.ManifestRows.{place_at}
 use Rattle.esc_manifest.specs.Accepted.{IsAccepted}
-use Rattle.esc_chain.specs.Chain.{Rows, IsHeld, InRange, LeadsBack, IsLatestChain, IsLatestBackAt, IsLatestChainAt}
+use Rattle.esc_chain.specs.Chain.{Rows, IsHeld, InRange, LeadsBack, IsLatestBackAt, IsLatestChainAt}
 use Rattle.esc_chain.proofs.Chains.{used_same, base_same, base_not_full}
 use Rattle.esc_chain.proofs.Places.{up_to_both}
 
@@ -48,7 +48,3 @@ latest_at_is_one m h g t c d ok range same a b =
     let other = subst (λ (x : Rows). IsLatestChainAt m x t d) (sym (same_rows h g same)) b in
     let back = latest_same m h ok range t (reverse c) (reverse d) a other in
     sym (reverse-reverse c) ∙ ap reverse back ∙ reverse-reverse d
-
-pub latest_is_one : (m : List MRow) (h g : Rows) (c d : List ℕ) → IsAccepted m → InRange m h
-    → ((r : ℕ) → IsHeld h r ↔ IsHeld g r) → IsLatestChain m h c → IsLatestChain m g d → c ≡ d
-latest_is_one m h g = latest_at_is_one m h g None

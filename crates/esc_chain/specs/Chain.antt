@@ -66,14 +66,10 @@ abbrev pub LeadsBack : List MRow → Rows → ℕ → List ℕ → Type 0
 LeadsBack m h r [] = kind_at m r ≡ Full
 LeadsBack m h r (s ∷ rest) = IsBase m r (At (place_at m s)) × IsUsed m h s × LeadsBack m h s rest
 
--- a chain from its end back
+-- a chain, listed from its end back to its Full
 abbrev pub IsChainBack : List MRow → Rows → List ℕ → Type 0
 IsChainBack m h [] = ⊥
 IsChainBack m h (r ∷ rest) = IsUsed m h r × LeadsBack m h r rest
-
--- a chain, from its Full to its end
-abbrev pub IsChain : List MRow → Rows → List ℕ → Type 0
-IsChain m h c = IsChainBack m h (reverse c)
 
 -- the watermark is not later than the moment, if there is one
 abbrev pub IsBy : Option ℤ → ℤ → Type 0

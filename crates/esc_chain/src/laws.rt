@@ -1,22 +1,14 @@
 //! What follows from the definitions of the latest chain and of the lines on gaps alone.
 
 ghost use Rattle.esc_chain.specs.Laws.{
-  OneLatestChain,
   OneLatestChainAt,
   ChainsAreOfRows,
-  LatestChainsAreHeldRows,
   LatestChainsAtAreHeldRows,
   OneListOfLines,
 };
 
-/// A manifest has one latest chain, which depends on nothing but which rows are held. There is
-/// nothing to run: a caller calls it for what it ensures.
-pub fn latest_chain_is_one()
-    ensures { OneLatestChain }
-{}
-
-/// A manifest has one latest chain up to a moment, which depends on nothing but the moment and
-/// which rows are held. There is nothing to run: a caller calls it for what it ensures.
+/// A manifest has one latest chain, up to a moment if there is one, which depends on nothing but the
+/// moment and which rows are held. There is nothing to run: a caller calls it for what it ensures.
 pub fn latest_chain_at_is_one()
     ensures { OneLatestChainAt }
 {}
@@ -28,14 +20,8 @@ pub fn chains_are_of_rows()
     ensures { ChainsAreOfRows }
 {}
 
-/// The rows of the latest chain are held; each occurs once, and there are at most 4,096. There is
-/// nothing to run: a caller calls it for what it ensures.
-pub fn latest_chain_rows_are_held()
-    ensures { LatestChainsAreHeldRows }
-{}
-
-/// The rows of the latest chain up to a moment are held; each occurs once, and there are at most
-/// 4,096. There is nothing to run: a caller calls it for what it ensures.
+/// The rows of the latest chain, up to a moment if there is one, are held; each occurs once, and
+/// there are at most 4,096. There is nothing to run: a caller calls it for what it ensures.
 pub fn latest_chain_at_rows_are_held()
     ensures { LatestChainsAtAreHeldRows }
 {}

@@ -38,9 +38,8 @@
 //! has used rows and chains, `specs/Gap` has the lines. The one error is out of memory, and after
 //! it nothing has changed. `base_of` and `used` don't allocate.
 //!
-//! Laws without a body say what follows from the definitions alone: [`latest_chain_is_one`],
-//! [`latest_chain_rows_are_held`], the same two up to a moment, [`latest_chain_at_is_one`] and
-//! [`latest_chain_at_rows_are_held`], and [`gap_lines_are_one`]. By [`chains_are_of_rows`], two
+//! Laws without a body say what follows from the definitions alone: [`latest_chain_at_is_one`],
+//! [`latest_chain_at_rows_are_held`] and [`gap_lines_are_one`]. By [`chains_are_of_rows`], two
 //! manifests that list the same rows, in whatever order, have latest chains of the same rows where
 //! the same are held.
 #![tactic(auto)]
@@ -64,6 +63,5 @@ pub use held::Held;
 pub use latest::{latest_chain, latest_chain_at};
 pub use laws::{
     chains_are_of_rows, gap_lines_are_one, latest_chain_at_is_one, latest_chain_at_rows_are_held,
-    latest_chain_is_one, latest_chain_rows_are_held,
 };
 pub use revision::used;

@@ -1,9 +1,9 @@
 //! A client's connection.
 
-ghost use Rattle.std.specs.Prelude.{◌≡◌, None, IsErr, IfOk, OnOk};
+ghost use Rattle.std.specs.Prelude.{◌≡◌, IsErr, IfOk};
 ghost use Rattle.std.specs.Duration.{as_nanos};
 ghost use Rattle.std.specs.Io.{ReadsAtMost, WritesAtMost};
-ghost use Rattle.std.specs.Io.KnownBytes.{ReadConsumes, WriteAppends};
+ghost use Rattle.std.specs.Io.KnownBytes.{Keeps, ReadConsumes, WriteAppends};
 ghost use Rattle.esc_client.specs.Patience.{IsOver, HasMoved, next_wait};
 
 use crate::patience::Patience;
@@ -59,25 +59,29 @@ impl<'a, C: Clock, S: Timed + Drop> Client<'a, C, S> {
         }
     }
 
-    // Counts a wait that began at `begun`, with the bytes that came or went in it.
-    fn count(&mut self, begun: Instant, moved: &Result<usize>) -> Result<()>
-        ensures { OnOk result
-            (IfOk moved.now (λ bytes. HasMoved bytes self.old.patience self.new.patience)) }
+    // Counts a wait that began at `begun`, with the bytes that came or went in it. Where the clock
+    // fails, the patience is over from then on: the bytes have moved, and are not lost.
+    fn count(&mut self, begun: Instant, moved: &Result<usize>)
+        ensures moved { IfOk moved.now
+            (λ bytes. HasMoved bytes self.old.patience self.new.patience) }
+        ensures stream { self.new.stream ≡ self.old.stream }
     {
         let bytes = match moved {
             Ok(bytes) => *bytes,
             Err(_) => 0,
         };
-        let time = begun.elapsed(self.clock)?;
+        let time = begun.elapsed(self.clock).unwrap_or(Duration::MAX);
         self.patience.count(time, bytes);
-        Ok(())
     }
 }
 
 impl<C: Clock, S: Read + Timed + Drop> Read for Client<'_, C, S> {
+    ghost remaining = { λ client. S.remaining client.stream };
+
     fn read(&mut self, buf: &mut [u8]) -> Result<usize>
         ensures bound { ReadsAtMost result buf.new }
-        ensures bytes { ReadConsumes None None result buf.new }
+        ensures bytes { ReadConsumes (S.remaining self.old.stream) (S.remaining self.new.stream)
+            result buf.new }
         ensures over { IsOver self.old.patience → IsErr result }
         ensures moved { IfOk result
             (λ bytes. HasMoved bytes self.old.patience self.new.patience) }
@@ -85,15 +89,18 @@ impl<C: Clock, S: Read + Timed + Drop> Read for Client<'_, C, S> {
         self.stream.limit_reads(self.next_wait()?)?;
         let begun = Instant::now(self.clock)?;
         let moved = self.stream.read(buf);
-        self.count(begun, &moved)?;
+        self.count(begun, &moved);
         moved
     }
 }
 
 impl<C: Clock, S: Write + Timed + Drop> Write for Client<'_, C, S> {
+    ghost contents = { λ client. S.contents client.stream };
+
     fn write(&mut self, buf: &[u8]) -> Result<usize>
         ensures bound { WritesAtMost result buf.now }
-        ensures bytes { WriteAppends None None result buf.now }
+        ensures bytes { WriteAppends (S.contents self.old.stream) (S.contents self.new.stream)
+            result buf.now }
         ensures over { IsOver self.old.patience → IsErr result }
         ensures moved { IfOk result
             (λ bytes. HasMoved bytes self.old.patience self.new.patience) }
@@ -101,7 +108,7 @@ impl<C: Clock, S: Write + Timed + Drop> Write for Client<'_, C, S> {
         self.stream.limit_writes(self.next_wait()?)?;
         let begun = Instant::now(self.clock)?;
         let moved = self.stream.write(buf);
-        self.count(begun, &moved)?;
+        self.count(begun, &moved);
         moved
     }
 

@@ -33,10 +33,13 @@
 //! `specs/Patience.antt` has the rule: `granted`, the time for the bytes so far; `waited`, the time
 //! that its calls have taken; and `IsOver`, that the time waited is no less than the time granted.
 //! Once its patience is over, a read or a write of a `Client` fails. The bytes that a read or a
-//! write moved are counted (`HasMoved`). No contract says that the time of each is counted, nor
-//! that the stream is limited to `next_wait` before it: a clock and a stream have no model that
-//! could say it. Both are tested, and so is that a limited read ends in time, which is up to the
-//! system. `is_of_connection` and `drain` have no clause: what a system reports of a connection, and
+//! write moved are counted (`HasMoved`), and they are the stream's: what a `Client` has left to read
+//! (`remaining`) and what it was given to write (`contents`) is what its stream has and was given.
+//! Where the clock fails after bytes have moved, they are told, and the patience is over.
+//!
+//! No contract says that the time of each is counted, nor that the stream is limited to `next_wait`
+//! before it: a clock and a stream have no model that could say it. Both are tested, and so is that
+//! a limited read ends in time, which is up to the system. `is_of_connection` and `drain` have no clause: what a system reports of a connection, and
 //! what a stream is told, no contract can say. Scenes over sockets test them.
 #![tactic(auto)]
 

@@ -37,8 +37,8 @@
 //! text that begins with a byte order mark loses it. `fields_are_no_longer_than_the_text`, another
 //! law, says that no field is longer than the text.
 //!
-//! Out of memory, a call returns `NoMemory`. From then on `Records` has no more records, and each
-//! call of `Lines` returns `NoMemory`.
+//! Out of memory, a call returns `NoMemory`. From then on `Records` has no more records. Of `Lines`
+//! nothing is said then: they are to be dropped.
 //!
 //! # Cost
 //!

@@ -10,11 +10,10 @@ use std::marker::Model;
 
 /// The text of CSV lines (RFC 4180), each ended by LF, with quotes only where a field needs them.
 /// Contracts see it as its bytes.
-///
-/// After an `Err` each later call returns `Err`.
 #[derive(Drop)]
 pub struct Lines {
     writer: Writer<Vec<u8>>,
+    /// Whether a write failed: the writer may stand within a line since then.
     failed: bool,
 }
 
@@ -43,7 +42,7 @@ impl Lines {
         }
     }
 
-    /// Adds a line with these fields. `NoMemory` out of memory, and then at each later call.
+    /// Adds a line with these fields. `NoMemory` out of memory: nothing is said then of the text.
     pub fn write(&mut self, fields: &[&[u8]]) -> Result<(), NoMemory>
         ensures { OnOk result (self.new ≡ self.old ++ line_text (map (λ f. f.now) fields.now)) }
     {
@@ -59,7 +58,7 @@ impl Lines {
         }
     }
 
-    /// The whole text; `Err` if an earlier call returned it.
+    /// The whole text; `NoMemory` out of memory.
     pub fn into_text(self) -> Result<Vec<u8>, NoMemory>
         ensures { IfOk result (λ text. text.items ≡ self) }
     {

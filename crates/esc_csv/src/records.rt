@@ -1,6 +1,6 @@
 //! The records of a text, one at a time.
 
-ghost use Rattle.std.specs.Prelude.{◌≡◌, ◌∷◌, [], IfOk, MatchBool};
+ghost use Rattle.std.specs.Prelude.{◌≡◌, ◌≢◌, ◌∷◌, [], true, Ok, IfOk, MatchBool};
 ghost use Rattle.csv.specs.Records.{fields_of};
 ghost use Rattle.esc_csv.specs.Records.{records_of};
 
@@ -45,15 +45,17 @@ impl<'a> Records<'a> {
     /// Reads the next record into `target`, and returns whether there was one. Once it has returned
     /// `Err` or `false`, there are no more records.
     pub fn next(&mut self, target: &mut Record) -> Result<bool, NoMemory>
-        ensures { IfOk result (λ found.
+        ensures next { IfOk result (λ found.
             MatchBool found (self.old ≡ target.new ∷ self.new) (self.old ≡ [])) }
+        ensures ended { result ≢ Ok true → self.new ≡ [] }
     {
         self.read(&mut target.fields)
     }
 
     fn read(&mut self, fields: &mut ByteRecord) -> Result<bool, NoMemory>
-        ensures { IfOk result (λ found.
+        ensures next { IfOk result (λ found.
             MatchBool found (self.old ≡ fields_of fields.new ∷ self.new) (self.old ≡ [])) }
+        ensures ended { result ≢ Ok true → self.new ≡ [] }
     {
         if self.has_ended {
             return Ok(false);

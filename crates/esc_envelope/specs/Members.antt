@@ -23,7 +23,6 @@ use Rattle.std.specs.Str.{bytes_eq}
 use Rattle.serde_json.specs.Data.{Data, Items, no_items, item}
 use Rattle.serde_json.specs.Find.{get, as_null, as_str, as_number, as_u64, as_array, as_object}
 use Rattle.esc_envelope.specs.declared.kind.Kind.{Kind}
-use Rattle.esc_envelope.specs.declared.members.TheConstants.{MOST_RESEND}
 use Rattle.esc_envelope.specs.declared.place.DepositType.{DepositType}
 use Rattle.esc_envelope.specs.declared.place.DepositType.TheVariants.{Diff, Incr, Full}
 use Rattle.esc_envelope.specs.HeaderValue.{HeaderValue}
@@ -82,9 +81,12 @@ prev_of json = prev_from (get (codes "prevId") json)
 abbrev pub whole_number : Data → Option ℕ
 whole_number value = option_and_then as_u64 (as_number value)
 
--- a resend is at most 999999
+-- the greatest resend
+abbrev pub most_resend : ℕ
+most_resend = 999_999
+
 abbrev pub if_resend : ℕ → Option ℕ
-if_resend n = if nat_le n MOST_RESEND then Some n else None
+if_resend n = if nat_le n most_resend then Some n else None
 
 abbrev pub resend_from : Option Data → Option ℕ
 resend_from None = Some 0

@@ -3,10 +3,8 @@
 ghost use Rattle.std.specs.Prelude.{
   ◌≡◌,
   ◌⊎◌,
-  ◌↔◌,
   ◌≤◌,
   ℕ,
-  List,
   Ok,
   Err,
   Some,
@@ -17,7 +15,7 @@ ghost use Rattle.std.specs.Prelude.{
 };
 ghost use Rattle.serde_json.specs.View.{view};
 ghost use Rattle.esc_envelope.specs.Envelope.{json_of, envelope_in, envelope_of};
-ghost use Rattle.esc_envelope.specs.EnvelopeFaults.{Stands, IsLeast};
+ghost use Rattle.esc_envelope.specs.EnvelopeFaults.{IsLeast};
 
 use crate::counts::counts_of;
 use crate::header::Header;
@@ -146,11 +144,3 @@ pub fn read_envelope(alloc: Global, json: &[u8]) -> Result<Envelope, Fault>
 {
     envelope_from(alloc, json)
 }
-
-/// `envelope_of` refuses a text with a number exactly if that is the least of U5 to U7 that
-/// applies: a law of the definitions.
-pub fn refusals_are_least()
-    ensures least { (text : List ℕ) (n : ℕ)
-        → (envelope_of text ≡ Err n) ↔ IsLeast text n }
-    ensures numbers { (text : List ℕ) (n : ℕ) → Stands text n → (5 ≤ n) × (n ≤ 7) }
-{}

@@ -3,10 +3,26 @@
 //! The functions here do nothing. Each has a law as its contract: a caller who needs the law calls
 //! it.
 
-ghost use Rattle.std.specs.Prelude.{◌≡◌, ◌≤◌, ◌++◌, ℕ, List, All, Ok, Err};
-ghost use Rattle.esc_envelope.specs.EnvelopeValue.{EnvelopeValue};
-ghost use Rattle.esc_envelope.specs.Envelope.{envelope_of};
+ghost use Rattle.std.specs.Prelude.{
+  ◌≡◌,
+  ◌≤◌,
+  ◌↔◌,
+  ◌++◌,
+  ℕ,
+  ℤ,
+  List,
+  All,
+  Ok,
+  Err,
+  Some,
+  IsSome,
+};
 ghost use Rattle.esc_envelope.specs.DeclaredTables.{IsTable, AreContents, AreDeletes};
+ghost use Rattle.esc_envelope.specs.Envelope.{envelope_of};
+ghost use Rattle.esc_envelope.specs.EnvelopeFaults.{Stands, IsLeast};
+ghost use Rattle.esc_envelope.specs.EnvelopeValue.{EnvelopeValue};
+ghost use Rattle.esc_envelope.specs.Moment.{IsWatermark};
+ghost use Rattle.esc_envelope.specs.Watermark.{IsInYears, watermark_of, watermark_text_of};
 
 /// What an envelope that is read declares: each table has its form, and the tables are compatible
 /// with one another.
@@ -23,4 +39,25 @@ pub fn declared_tables_have_their_forms()
 pub fn envelope_refusals_are_5_to_7()
     ensures { (text : List ℕ) (n : ℕ) → envelope_of text ≡ Err n
         → (5 ≤ n) × (n ≤ 7) }
+{}
+
+/// `envelope_of` refuses a text with a number exactly if that is the least of U5 to U7 that
+/// applies.
+pub fn refusals_are_least()
+    ensures least { (text : List ℕ) (n : ℕ)
+        → (envelope_of text ≡ Err n) ↔ IsLeast text n }
+    ensures numbers { (text : List ℕ) (n : ℕ) → Stands text n → (5 ≤ n) × (n ≤ 7) }
+{}
+
+/// The texts that `watermark` reads are exactly those of moments.
+pub fn watermarks_are_moments()
+    ensures { (text : List ℕ) (w : ℤ)
+        → (watermark_of text ≡ Some w) ↔ IsWatermark text w }
+{}
+
+/// What is printed is read back as the same moment, and every moment of these years has a text.
+pub fn printed_watermarks_are_read()
+    ensures read { (w : ℤ) (text : List ℕ) → watermark_text_of w ≡ Some text
+        → watermark_of text ≡ Some w }
+    ensures printed { (w : ℤ) → IsInYears w → IsSome (watermark_text_of w) }
 {}

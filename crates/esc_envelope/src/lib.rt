@@ -60,16 +60,16 @@ mod table;
 mod tables;
 mod texts;
 
-pub use envelope::{Envelope, read_envelope, refusals_are_least};
+pub use envelope::{Envelope, read_envelope};
 pub use header::Header;
 pub use id::{LONGEST_ID, is_id};
 pub use kind::Kind;
-pub use laws::{declared_tables_have_their_forms, envelope_refusals_are_5_to_7};
-pub use members::{MOST_RESEND, text_at};
-pub use moment::{
-    END_OF_YEARS, moment_text, printed_watermarks_are_read, watermark, watermark_text,
-    watermarks_are_moments,
+pub use laws::{
+    declared_tables_have_their_forms, envelope_refusals_are_5_to_7, printed_watermarks_are_read,
+    refusals_are_least, watermarks_are_moments,
 };
+pub use members::{MOST_RESEND, text_at};
+pub use moment::{END_OF_YEARS, moment_text, watermark, watermark_text};
 pub use place::{DepositType, Place};
 pub use table::Table;
 pub use tables::LONGEST_TABLE_NAME;

@@ -3,14 +3,9 @@
 ghost use Rattle.std.specs.Prelude.{
   ◌≡◌,
   ◌<◌,
-  ◌↔◌,
-  ℕ,
-  ℤ,
-  List,
   Some,
   None,
   Ok,
-  IsSome,
   IfOk,
   IfSome,
   option_map,
@@ -18,7 +13,6 @@ ghost use Rattle.std.specs.Prelude.{
   pos,
 };
 ghost use Rattle.jiff.specs.Words.{civil_nanos, IsBetween};
-ghost use Rattle.esc_envelope.specs.Moment.{IsWatermark};
 ghost use Rattle.esc_envelope.specs.Watermark.{
   IsInYears,
   value_if,
@@ -127,17 +121,3 @@ pub fn watermark_text(alloc: Global, watermark: i64) -> Result<Option<String>, N
     let text = moment_text(alloc, watermark)?;
     Ok(Some(text))
 }
-
-/// The texts that `watermark` reads are exactly those of moments: a law of the definitions.
-pub fn watermarks_are_moments()
-    ensures { (text : List ℕ) (w : ℤ)
-        → (watermark_of text ≡ Some w) ↔ IsWatermark text w }
-{}
-
-/// What is printed is read back as the same moment, and every moment of these years has a text:
-/// laws of the definitions.
-pub fn printed_watermarks_are_read()
-    ensures read { (w : ℤ) (text : List ℕ) → watermark_text_of w ≡ Some text
-        → watermark_of text ≡ Some w }
-    ensures printed { (w : ℤ) → IsInYears w → IsSome (watermark_text_of w) }
-{}

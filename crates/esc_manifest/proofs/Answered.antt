@@ -1,14 +1,17 @@
 -- What is promised of refusals, from what they are by the definitions' functions.
-use Rattle.std.proofs.Common.{◌≡◌, ℕ, ◌≤◌, List, Option, Some, None, Result, Ok, Err, refl, sym, ap, ◌∙◌}
+use Rattle.std.proofs.Common.{◌≡◌, ℕ, ◌≤◌, List, Option, Some, None, Result, Ok, Err, refl, sym, ap, subst, ◌∙◌}
 use Rattle.esc_manifest.specs.declared.row.MRow.{MRow}
 use Rattle.esc_manifest.specs.declared.fault.MFault.{MFault}
 use Rattle.esc_manifest.specs.declared.fault.MFault.TheVariants.{Refused}
 use Rattle.esc_manifest.specs.Extension.{extended, blamed, union_or, extension}
-use Rattle.esc_manifest.specs.LeastFault.{IsLeast, IsLeastInText, IsLeastOfUnion}
+use Rattle.esc_manifest.specs.Accepted.{IsAccepted}
+use Rattle.esc_manifest.specs.LeastFault.{IsLeast, IsLeastInText, IsReportedAt, IsLeastOfUnion}
 use Rattle.esc_manifest.specs.Manifest.{manifest_of}
 use Rattle.esc_manifest.specs.RowFaults.{rows_fault}
 use Rattle.esc_manifest.proofs.RowLeast.{rows_least, least_rows, numbers}
 use Rattle.esc_manifest.proofs.TextLeast.{text_least, text_numbers}
+use Rattle.esc_manifest.proofs.Extensions.{extension_refused}
+use Rattle.esc_manifest.proofs.UnionLeast.{reported_at, reported_once}
 
 pub record RowsAnswered (m : List MRow) (result : Result (List MRow) MFault) : Type 0 where
   pub accepted : rows_fault m ≡ None → result ≡ Ok m
@@ -58,25 +61,32 @@ abbrev fault_in : Result (List MRow) (ℕ × ℕ) → ℕ × ℕ
 fault_in (Ok m) = (0, 0)
 fault_in (Err fault) = fault
 
-union_fault : (m more : List MRow) (o : Option (ℕ × ℕ)) → rows_fault (extended m more) ≡ o → (code row : ℕ) → union_or m more o ≡ Err (code, row) → IsLeastOfUnion m more code row
-union_fault m more None is code row e = absurd cc
-union_fault m more (Some f) is code row e =
+union_fault : (m more : List MRow) → IsAccepted m → IsAccepted more → (o : Option (ℕ × ℕ)) → rows_fault (extended m more) ≡ o → (code row : ℕ) → union_or m more o ≡ Err (code, row) → IsLeastOfUnion m more code row
+union_fault m more listed added None is code row e = absurd cc
+union_fault m more listed added (Some f) is code row e =
     let number : f.0 ≡ code = ap (λ (r : Result (List MRow) (ℕ × ℕ)). (fault_in r).0) e in
     let at : blamed f.0 m more ≡ row = ap (λ (r : Result (List MRow) (ℕ × ℕ)). (fault_in r).1) e in
     let fault : rows_fault (extended m more) ≡ Some (code, f.1) = is ∙ ap (λ (c : ℕ). Some (c, f.1)) number in
-    (f.1, rows_least (extended m more) code f.1 fault, sym at ∙ ap (λ (c : ℕ). blamed c m more) number)
+    let least : IsLeast (extended m more) code f.1 = rows_least (extended m more) code f.1 fault in
+    let row_is : blamed code m more ≡ row = ap (λ (c : ℕ). blamed c m more) (sym number) ∙ at in
+    ((f.1, least), subst (IsReportedAt m more code) row_is (reported_at m more listed added code f.1 least.0))
 
-pub union_least : (m more : List MRow) (code row : ℕ) → extension m more ≡ Err (code, row) → IsLeastOfUnion m more code row
+pub union_least : (m more : List MRow) → IsAccepted m → IsAccepted more → (code row : ℕ) → extension m more ≡ Err (code, row) → IsLeastOfUnion m more code row
 unfolding extension
-union_least m more = union_fault m more (rows_fault (extended m more)) refl
+union_least m more listed added = union_fault m more listed added (rows_fault (extended m more)) refl
 
-pub union_told : (m more : List MRow) (result : Result (List MRow) MFault) → ((code row : ℕ) → result ≡ Err (Refused code row) → extension m more ≡ Err (code, row))
+pub least_union : (m more : List MRow) → IsAccepted m → IsAccepted more → (code row : ℕ) → IsLeastOfUnion m more code row → extension m more ≡ Err (code, row)
+least_union m more listed added code row ((s, least), at) =
+    extension_refused m more code s (least_rows (extended m more) code s least)
+    ∙ ap (λ (r : ℕ). Err (code, r)) (reported_once m more code (blamed code m more) row (reported_at m more listed added code s least.0) at)
+
+pub union_told : (m more : List MRow) → IsAccepted m → IsAccepted more → (result : Result (List MRow) MFault) → ((code row : ℕ) → result ≡ Err (Refused code row) → extension m more ≡ Err (code, row))
     → (code row : ℕ) → result ≡ Err (Refused code row) → IsLeastOfUnion m more code row
-union_told m more result refused code row e = union_least m more code row (refused code row e)
+union_told m more listed added result refused code row e = union_least m more listed added code row (refused code row e)
 
-pub union_in_range : (m more : List MRow) (result : Result (List MRow) MFault) → ((code row : ℕ) → result ≡ Err (Refused code row) → extension m more ≡ Err (code, row))
+pub union_in_range : (m more : List MRow) → IsAccepted m → IsAccepted more → (result : Result (List MRow) MFault) → ((code row : ℕ) → result ≡ Err (Refused code row) → extension m more ≡ Err (code, row))
     → ((code row : ℕ) → result ≡ Err (Refused code row) → row ≤ 4096) → (code row : ℕ) → result ≡ Err (Refused code row) → (1 ≤ code) × (code ≤ 13) × (row ≤ 4096)
-union_in_range m more result refused within code row e =
-    let told = union_least m more code row (refused code row e) in
-    let range = numbers (extended m more) code told.0 told.1 in
+union_in_range m more listed added result refused within code row e =
+    let told = union_least m more listed added code row (refused code row e) in
+    let range = numbers (extended m more) code told.0.0 told.0.1 in
     (range.0, range.1, within code row e)

@@ -25,7 +25,7 @@ use Rattle.std.specs.Prelude.{
 use Rattle.std.specs.List.{list_any}
 use Rattle.esc_manifest.specs.declared.row.MRow.{MRow}
 use Rattle.esc_csv.specs.Records.{records_of}
-use Rattle.esc_manifest.specs.Extension.{extended, blamed}
+use Rattle.esc_manifest.specs.Extension.{is_listed, extended}
 use Rattle.esc_manifest.specs.Fields.{row_of}
 use Rattle.esc_manifest.specs.Manifest.{
   most_bytes,
@@ -126,7 +126,32 @@ IsLeastInText text code row =
     ⊎ (((k s : ℕ) → StandsInText text k s → ⊥)
     × (m : List MRow) × (map row_of (records_below text) ≡ map Some m) × IsLeast m code row)
 
--- the least fault of the union of m and more, reported at the row of `more` that is blamed
+-- two rows of a union have the fault of this number: the same place and resend (M10), one id at two
+-- places (M11), or the same digest (M13); for M12 one of them is a Differential that names the
+-- other, which isn't earlier
+abbrev pub Contradict : ℕ → MRow → MRow → Type 0
+Contradict code q r =
+    ((code ≡ 10) × (same_revision q r ≡ true))
+    ⊎ ((code ≡ 11) × (moved_id q r ≡ true))
+    ⊎ ((code ≡ 12) × ((follows_later q r ≡ true) ⊎ (follows_later r q ≡ true)))
+    ⊎ ((code ≡ 13) × (same_digest q r ≡ true))
+
+-- row r of `more`, counted from 0, isn't listed in m yet, and has this fault with a row of m (as
+-- `more` is accepted by itself, it has none with another row of `more`)
+abbrev pub IsBlamed : List MRow → List MRow → ℕ → ℕ → Type 0
+IsBlamed m more code r =
+    (r < length more) × (is_listed m (row_at more r) ≡ false)
+    × ((q : ℕ) × (q < length m) × Contradict code (row_at m q) (row_at more r))
+
+-- where the least fault of the union of m and more is reported: M1 at row 0, the whole; any other,
+-- M10 to M13, at the least row of `more` that has it with a row of m, counted from 1
+abbrev pub IsReportedAt : List MRow → List MRow → ℕ → ℕ → Type 0
+IsReportedAt m more code row =
+    ((code ≡ 1) × (row ≡ 0))
+    ⊎ ((r : ℕ) × (row ≡ suc r) × IsBlamed m more code r
+    × ((k : ℕ) → IsBlamed m more code k → r ≤ k))
+
+-- the least fault of the union of m and more, and where it is reported
 abbrev pub IsLeastOfUnion : List MRow → List MRow → ℕ → ℕ → Type 0
 IsLeastOfUnion m more code row =
-    (s : ℕ) × IsLeast (extended m more) code s × (row ≡ blamed code m more)
+    ((s : ℕ) × IsLeast (extended m more) code s) × IsReportedAt m more code row

@@ -18,6 +18,7 @@ ghost use Rattle.std.specs.Prelude.{
 };
 ghost use Rattle.std.specs.List.{list_any};
 ghost use Rattle.esc_manifest.specs.declared.fault.MFault.TheVariants as MFault;
+ghost use Rattle.esc_manifest.specs.Accepted.{IsAccepted};
 ghost use Rattle.esc_manifest.specs.LeastFault.{IsLeastOfUnion};
 ghost use Rattle.esc_manifest.specs.RowFaults.{follows_later};
 ghost use Rattle.esc_manifest.specs.Extension.{
@@ -133,6 +134,7 @@ impl Manifest {
             → row ≤ 4096 }
         ensures refused { (code row : ℕ) → result ≡ Err (MFault.Refused code row) →
             extension self.now more.now ≡ Err (code, row) }
+        ensures both { IsAccepted self.now × IsAccepted more.now }
     {
         let rows = self.rows();
         let added = more.rows();

@@ -48,7 +48,7 @@
 //! which each `Manifest` carries and `Manifest::rows` returns; by a law it holds of exactly the
 //! rows without a fault. `specs/Extension.antt` has the union of two manifests, or its fault:
 //! `Manifest::extend` returns exactly that, and `IsLeastOfUnion` says which fault it is, by the
-//! faults that the union has.
+//! faults that the union has, and at which row it is reported, by the rows that contradict others.
 //!
 //! # Time
 //!

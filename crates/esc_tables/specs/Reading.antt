@@ -24,7 +24,6 @@ use Rattle.esc_bundle.specs.Frame.{frame}
 use Rattle.esc_bundle.specs.Tests.{◌>>=◌, check}
 use Rattle.esc_envelope.specs.EnvelopeValue.{TableValue, EnvelopeValue}
 use Rattle.esc_envelope.specs.Envelope.{envelope_of}
-use Rattle.esc_tables.specs.declared.survey.TheConstants.{MOST_ROWS}
 use Rattle.esc_tables.specs.DepositValue.{DepositValue}
 use Rattle.esc_tables.specs.KeyName.{KeyName}
 use Rattle.esc_tables.specs.ObjectValue.{RowValue}
@@ -41,7 +40,7 @@ use Rattle.esc_tables.specs.Objects.{objects_of, orphans_of}
 
 -- the most rows of a bundle
 abbrev pub most_rows : ℕ
-most_rows = MOST_ROWS
+most_rows = 100_000
 
 -- all tables that an envelope declares
 abbrev pub tables_of : EnvelopeValue → List TableValue

@@ -8,6 +8,6 @@ returns c =
       accepted = u.accepted;
       union = u.union;
       refused = u.refused;
-      least = union_told c.args.self.now c.args.more.now c.union_with.result u.refused;
-      numbers = union_in_range c.args.self.now c.args.more.now c.union_with.result u.refused u.within;
+      least = union_told c.args.self.now c.args.more.now u.both.0 u.both.1 c.union_with.result u.refused;
+      numbers = union_in_range c.args.self.now c.args.more.now u.both.0 u.both.1 c.union_with.result u.refused u.within;
     }
