@@ -1,5 +1,5 @@
 -- A manifest is taken in: from what is kept before it to what is kept after it, by a plan.
-use Rattle.std.proofs.Common.{◌≡◌, ℕ, ℤ, ◌<◌, ◌≤◌, Bool, true, cond, List, [], ◌∷◌, ◌++◌, length, nat_lt, Option, Some, None, sym, ap, subst, ◌∙◌, arith, length-append}
+use Rattle.std.proofs.Common.{◌≡◌, ℕ, ℤ, ◌<◌, Bool, true, cond, List, [], ◌∷◌, ◌++◌, length, nat_lt, Option, Some, None, sym, ap, ap₂, subst, ◌∙◌, arith, length-append}
 use Rattle.std.proofs.lemmas.Bool.Decides.{nat_tests}
 use Rattle.sha2.specs.Sha256.{sha256}
 use Rattle.esc_tables.specs.Reading.{reading}
@@ -8,26 +8,28 @@ use Rattle.esc_manifest.specs.ManifestRows.{row_at}
 use Rattle.esc_manifest.specs.Accepted.{IsAccepted}
 use Rattle.esc_manifest.specs.Extension.{new_rows, extended}
 use Rattle.esc_chain.specs.Laws.{LatestChainsAtAreHeldRows}
-use Rattle.esc_apply.specs.declared.moves.Work.{Work}
 use Rattle.esc_store.specs.Kept.{Kept, AreHeld, AreHeldBy, with_listed}
 use Rattle.esc_store.specs.ReplyValue.{ReceiptValue}
 use Rattle.esc_events.specs.declared.known.Known.{Known}
 use Rattle.esc_events.specs.declared.plan.Plan.{Plan}
-use Rattle.esc_events.specs.Amended.{judged, adopted_rows, amended_bodies, amended_kept}
+use Rattle.esc_events.specs.Amended.{judged, adopted_rows, dropped_rows, amended_bodies, amended_kept, with_all_adopted, with_all_dropped}
 use Rattle.esc_events.specs.Events.{EventValue, union}
 use Rattle.esc_events.specs.Events.EventValue.{listed}
 use Rattle.esc_events.specs.Known.{IsKnown}
-use Rattle.esc_events.specs.Plans.{AreLatestSteps, IsPlanned, IsMovedFrom, IsCostOfMove, moved_by}
-use Rattle.esc_events.specs.Stands.{StandsFor, AreBooks, deposits_of}
-use Rattle.esc_events.specs.Works.{IsWorkOf, MentionsFew}
+use Rattle.esc_events.specs.Plans.{AreLatestSteps, IsPlanned}
+use Rattle.esc_events.specs.Stands.{StandsFor, AreBooks}
+use Rattle.esc_events.specs.Works.{MentionsFew}
 use Rattle.esc_desk.proofs.AmendedBooks.{kept_bodies, books_amended}
 use Rattle.esc_desk.proofs.AmendingKept.{StayBesides, rest_stays}
-use Rattle.esc_desk.proofs.Moving.{moved_from, stands_moved, works_moved}
+use Rattle.esc_desk.proofs.Deciding.{decided_moved, decision_by}
 use Rattle.esc_desk.proofs.MovingLemmas.{held_within}
 use Rattle.esc_desk.specs.declared.judging.Judged.{Judged}
-use Rattle.esc_desk.specs.Amendments.{AreApartRows, IsAmendmentOf}
+use Rattle.esc_desk.specs.declared.edit.Storing.TheVariants.{Nothing}
+use Rattle.esc_desk.specs.Decisions.{IsDecided}
+use Rattle.esc_desk.specs.Edits.{IsSoundPlan}
+use Rattle.esc_desk.specs.EventLaws.{IsMove}
 use Rattle.esc_desk.specs.DepositSources.{AreJudged}
-use Rattle.esc_desk.proofs.AmendedRows.{adopted_apart, held_with_adopted}
+use Rattle.esc_desk.proofs.AmendedRows.{held_with_adopted}
 
 -- ---- what is known when the rows of a union are to be listed: the store stands for e, n is the union of its rows and more, this was
 -- judged of the parked bodies, these are the rows of which a body is held then, and the plan goes to the latest steps of those
@@ -82,31 +84,19 @@ module _ {e : List EventValue} {k : Kept} {more n : List MRow} {known : Known} {
       subst (λ (t : Option ℤ). AreLatestSteps l.listed rows t plan.new.items) (sym stays.2)
       (subst (λ (m : List MRow). AreLatestSteps m rows k.moment plan.new.items) (is.is_union ∙ sym stays.0) is.latest)
 
-  -- the bodies that are adopted, and let go
-  pub is_amendment : IsAmendmentOf k more n told
-  is_amendment = record {
-    is_union = is.is_union;
-    are_judged = is.are_judged;
-    apart = subst (AreApartRows k) (sym is.are_judged.adopted) (adopted_apart n k few);
-  }
+  -- what a change makes that lists the rows, and then adopts and drops the bodies as they were judged
+  amend_made : with_all_dropped n (with_all_adopted n (with_listed k n) told.adopted.items) told.dropped.items ≡ l
+  amend_made =
+      ap₂ (λ (a d : List ℕ). with_all_dropped n (with_all_adopted n (with_listed k n) a) d) is.are_judged.adopted is.are_judged.dropped
+      ∙ ap (λ (m : List MRow). with_all_dropped m (with_all_adopted m (with_listed k m) (adopted_rows m k.parked from)) (dropped_rows m k.parked from)) is.is_union
 
-  pub is_moved_from : IsMovedFrom k (deposits_of reading k.bodies k.steps) plan
-  is_moved_from = moved_from e k (amended_bodies n k.parked from k.bodies) plan is.stood is.planned
+  amend_move : IsMove e (listed more) k l (new_rows k.listed more) rows (amended_bodies n k.parked from k.bodies) plan
+  amend_move = record { stood = is.stood; books = books; begins = stays.0; keeps = keeps; held = held; same = same; latest = latest; planned = is.planned }
 
-  pub stands_then : LatestChainsAtAreHeldRows → StandsFor sha256 reading (e ++ listed more ∷ []) (moved_by plan l (deposits_of reading k.bodies k.steps))
-  stands_then law = stands_moved law e (listed more) k l is.stood books (new_rows k.listed more) stays.0 keeps
-      rows held (amended_bodies n k.parked from k.bodies) same plan latest is.planned
-
-  pub works_then : LatestChainsAtAreHeldRows → MentionsFew → length plan.old.items ≤ 4096 → length plan.new.items ≤ 4096 → (work : Work)
-      → IsCostOfMove plan (deposits_of reading k.bodies k.steps) work → IsWorkOf e (listed more) work
-  works_then law mentions few_old few_new work cost = works_moved law e (listed more) k l is.stood books (new_rows k.listed more) stays.0 keeps
-      rows held (amended_bodies n k.parked from k.bodies) same plan latest is.planned mentions few_old few_new work cost
-
-  -- what is known of the rows then: the receipts are those that there were
-  pub knows_then : (then : Known) → then.held.items ≡ rows → then.told.items ≡ known.told.items → then.chain.items ≡ plan.new.items
-      → IsKnown (moved_by plan l (deposits_of reading k.bodies k.steps)) then
-  knows_then then held_is told_is chain_is = record {
-    held = subst (AreHeld l.bodies) (sym held_is) held;
-    told = subst (λ (rs : List ReceiptValue). AreHeldBy rs then.told.items) (sym stays.1) (subst (AreHeldBy k.receipts) (sym told_is) is.knows.told);
-    chain = chain_is ∙ latest.are_steps;
-  }
+  pub decided_amended : LatestChainsAtAreHeldRows → MentionsFew → IsSoundPlan plan → (then : Known) → then.held.items ≡ rows → then.told.items ≡ known.told.items
+      → IsDecided e (listed more) k (decision_by None (Some (record { union = n; judged = told })) Nothing None (Some then) (Some plan))
+  decided_amended law few sound then held_is told_is =
+      decided_moved None (Some (record { union = n; judged = told })) Nothing None then law few sound
+      (subst (λ (m : Kept). IsMove e (listed more) k m (new_rows k.listed more) rows (amended_bodies n k.parked from k.bodies) plan) (sym amend_made) amend_move) held_is
+      (subst (λ (m : Kept). AreHeldBy m.receipts then.told.items) (sym amend_made)
+      (subst (λ (rs : List ReceiptValue). AreHeldBy rs then.told.items) (sym stays.1) (subst (AreHeldBy k.receipts) (sym told_is) is.knows.told)))

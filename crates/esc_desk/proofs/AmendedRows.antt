@@ -1,5 +1,5 @@
 -- New rows whose parked bodies are adopted: no body was held of them, each is there once, and after the rows that had a body they are those that have one then.
-use Rattle.std.proofs.Common.{◌≡◌, ◌≢◌, ◌⊎◌, inl, inr, ℕ, zero, suc, ◌+◌, ◌-◌, ◌<◌, ◌≤◌, Bool, true, false, cond, filter, List, [], ◌∷◌, ◌++◌, length, nat_lt}
+use Rattle.std.proofs.Common.{◌≡◌, ◌⊎◌, inl, inr, ℕ, zero, suc, ◌+◌, ◌-◌, ◌<◌, ◌≤◌, Bool, true, false, cond, filter, List, [], ◌∷◌, ◌++◌, length, nat_lt}
 use Rattle.std.proofs.Common.{Option, Some, None, is_some, IsSome, refl, sym, ap, ap₂, ◌∙◌, arith, true≢false}
 use Rattle.std.specs.List.{All, Contains}
 use Rattle.std.proofs.lemmas.Bool.Decides.{nat_tests}
@@ -10,7 +10,6 @@ use Rattle.esc_manifest.specs.ManifestRows.{row_at}
 use Rattle.esc_store.specs.Kept.{Kept, IsRising, AreHeld}
 use Rattle.esc_store.specs.ListLaws.{first_or_later, later}
 use Rattle.esc_events.specs.Amended.{judged, numbers_from, is_adopted, adopted_rows, amended_bodies}
-use Rattle.esc_desk.specs.Amendments.{AreApartRows}
 
 -- ---- numbers that rise by one
 
@@ -67,16 +66,6 @@ rises_on b (x ∷ xs) ys up more below above =
       rises_on b xs ys up.1 more (All-tail (λ q. q < b) x xs below) above,
     )
 
--- ---- rows of which no body is held
-
-apart_of : (k : Kept) (rows : List ℕ) → IsRising rows → All (λ r. k.bodies r ≡ None) rows → AreApartRows k rows
-apart_of k [] up none = tt
-apart_of k (r ∷ rows) up none = (
-  All-head (λ q. k.bodies q ≡ None) r rows none,
-  All-weaker (λ q. r < q) (λ q. r ≢ q) (λ q lt same. omega (arith, lt, same)) rows up.0,
-  apart_of k rows up.1 (All-tail (λ q. k.bodies q ≡ None) r rows none),
-)
-
 -- ---- n is listed where fewer rows were, and no body is held of a row that is new
 module _ (n : List MRow) (k : Kept) (few : (r : ℕ) (body : List ℕ) → k.bodies r ≡ Some body → r < length k.listed) where
   abbrev from : ℕ
@@ -85,21 +74,11 @@ module _ (n : List MRow) (k : Kept) (few : (r : ℕ) (body : List ℕ) → k.bod
   abbrev pub adopted : List ℕ
   adopted = adopted_rows n k.parked from
 
-  none_new : (r : ℕ) → from ≤ r → k.bodies r ≡ None
-  none_new r new = by_body (k.bodies r) refl
-    where
-      by_body : (o : Option (List ℕ)) → k.bodies r ≡ o → o ≡ None
-      by_body None is = refl
-      by_body (Some body) is = absurd (let at = few r body is in omega (arith, at, new))
-
   adopted_within : All (IsWithin from (length n - from)) adopted
   adopted_within = All-filter (is_adopted n k.parked) (IsWithin from (length n - from)) (numbers_from from (length n - from)) (numbers_within from (length n - from))
 
   adopted_rise : IsRising adopted
   adopted_rise = filter_rises (is_adopted n k.parked) (numbers_from from (length n - from)) (numbers_rise from (length n - from))
-
-  pub adopted_apart : AreApartRows k adopted
-  adopted_apart = apart_of k adopted adopted_rise (All-weaker (IsWithin from (length n - from)) (λ q. k.bodies q ≡ None) (λ q at. none_new q at.0) adopted adopted_within)
 
   pub held_with_adopted : (held : List ℕ) → AreHeld k.bodies held → AreHeld (amended_bodies n k.parked from k.bodies) (held ++ adopted)
   held_with_adopted held are = record {

@@ -1,87 +1,30 @@
 -- An arrival that comes again after it was answered A2: its body is there or needn't be, or it is taken in.
-use Rattle.std.proofs.Common.{
-  ◌≡◌,
-  ◌⊎◌,
-  inl,
-  inr,
-  ℕ,
-  ℤ,
-  true,
-  List,
-  [],
-  ◌∷◌,
-  ◌++◌,
-  Option,
-  Some,
-  None,
-  IsSome,
-  IfSome,
-  is_some,
-  Result,
-  Ok,
-  Err,
-  IfOk,
-  refl,
-  sym,
-  ap,
-  subst,
-  ◌∙◌,
-  true≢false,
-}
-use Rattle.std.specs.Prelude.{OnOk}
+use Rattle.std.proofs.Common.{◌≡◌, ◌⊎◌, inl, inr, ℕ, true, List, [], Option, Some, None, IsSome, is_some, refl, sym, ap, subst, ◌∙◌, true≢false}
 use Rattle.std.specs.List.{list_any}
 use Rattle.std.specs.Str.{bytes_eq}
 use Rattle.std.specs.Cmp.Lexicographic.{bytes_decides}
 use Rattle.std.proofs.lemmas.Bool.{and_parts}
 use Rattle.std.proofs.lemmas.Option.{none-some}
 use Rattle.sha2.specs.Sha256.{sha256}
-use Rattle.sqlite_trees.specs.declared.store.Store.{Ghosts}
-use Rattle.sqlite.specs.Held.{Held, state}
-use Rattle.sqlite.specs.State.{Survives}
-use Rattle.esc_tables.specs.DepositValue.{DepositValue}
 use Rattle.esc_tables.specs.Reading.{reading}
-use Rattle.esc_manifest.specs.declared.row.MRow.{MRow}
-use Rattle.esc_apply.specs.declared.moves.Work.{Work}
-use Rattle.esc_store.specs.declared.fault.SFault.{SFault}
 use Rattle.esc_store.specs.declared.reply.Verdict.{Verdict}
 use Rattle.esc_store.specs.declared.reply.Verdict.TheVariants.{A1, A2, A3, A4, A5}
-use Rattle.esc_store.specs.declared.store.Store.{Store}
-use Rattle.esc_store.specs.Kept.{Kept, AreHeld, body_put, with_body, with_parked}
+use Rattle.esc_store.specs.Kept.{Kept}
 use Rattle.esc_store.specs.ReplyValue.{ReplyValue, reply_alike}
-use Rattle.esc_store.specs.Standing.{Stands}
-use Rattle.esc_store.specs.StandingLaws.{survives_same}
 use Rattle.esc_events.specs.declared.assessment.Assessment.{Assessment}
 use Rattle.esc_events.specs.declared.assessment.Assessment.TheVariants.{Unlisted, Unreadable, Differing, Holding}
-use Rattle.esc_events.specs.declared.known.Known.{Known}
-use Rattle.esc_events.specs.declared.plan.Plan.{Plan}
-use Rattle.esc_events.specs.Apart.{WhereApart}
 use Rattle.esc_events.specs.ArrivalValue.{ArrivalValue, an_arrival}
 use Rattle.esc_events.specs.Events.{EventValue, union, coming, comings}
-use Rattle.esc_events.specs.Events.EventValue.{arrived}
 use Rattle.esc_events.specs.Assessment.{assessment, row_of, held_row}
-use Rattle.esc_events.specs.Known.{IsKnown}
-use Rattle.esc_desk.specs.EventLaws.{IsMove}
-use Rattle.esc_events.specs.Plans.{AreLatestSteps, IsPlanned}
 use Rattle.esc_events.specs.Receipts.{distinct, reply_to}
 use Rattle.esc_events.specs.Stands.{StandsFor, AreBooks, IsApart, kept_arrivals, holds_by, has_digest, held_body, parked_body}
 use Rattle.esc_events.specs.Taking.{IsAgain}
-use Rattle.esc_events.specs.Works.{IsIdle, no_work}
-use Rattle.esc_desk.proofs.EventLemmas.{union-arrived}
 use Rattle.esc_desk.proofs.HeldRows.{is_row_of, listed_row}
 use Rattle.esc_desk.proofs.Lost.{alike_counts, came_counts}
 use Rattle.esc_desk.proofs.Members.{any_of, distinct_among}
-use Rattle.esc_desk.proofs.Moving.{stands_still, no_work_of}
-use Rattle.esc_desk.specs.declared.desk.Desk.{Desk}
-use Rattle.esc_desk.specs.declared.plan.Source.TheVariants.{Arrived}
-use Rattle.esc_desk.specs.Again.{IsUnkept, IsMissing, IsMissingAfter}
-use Rattle.esc_desk.specs.Crashes.{LeavesOnlyFor}
-use Rattle.esc_desk.specs.DepositSources.{IsSource}
-use Rattle.esc_desk.specs.Takings.{LeavesWith, IsTakenAgain, IsAnsweredAgain}
-use Rattle.esc_desk.proofs.CrashLemmas.{leaves_with_nothing, leaves_with_only, leaves_with_then}
-use Rattle.esc_desk.proofs.Holding.{IsRefused, refused_listed, refused_row, source_of, move_to}
-use Rattle.esc_desk.proofs.Likeness.{AddsNothing, seen, still_stands}
-use Rattle.esc_desk.proofs.RunLemmas.{reply_stays}
-use Rattle.esc_desk.proofs.Working.{idle_by}
+use Rattle.esc_desk.specs.Again.{IsMissing, IsMissingAfter}
+use Rattle.esc_desk.proofs.Holding.{IsRefused, refused_listed, refused_row}
+use Rattle.esc_desk.proofs.Likeness.{AddsNothing, seen}
 
 -- ---- where it adds nothing
 
@@ -167,67 +110,6 @@ missing_of e a k books apart missing = by_found (assessment sha256 reading (unio
     by_found (Differing r) is = is
     by_found (Holding r d) is = books.bodies apart r ∙ is
 
--- a body of which a refusal was found isn't missing
-pub refused_there : (bodies : ℕ → Option (List ℕ)) (parked : List ℕ → Option (List ℕ)) (d : List ℕ) (found : Assessment)
-    → IsRefused found → IsMissing bodies parked d found → ⊥
-refused_there bodies parked d found (inl (r, n, is)) missing = subst (IsMissing bodies parked d) is missing
-refused_there bodies parked d found (inr (r, is)) missing = subst (IsMissing bodies parked d) is missing
-
--- ---- what is known of a store that took it in without a change
-
-pub nothing_taken : {S : Type 0} (g : Ghosts S) (old new : Store S) (e : List EventValue) (a : ArrivalValue) (k : Kept) (found : Assessment) (known : Known)
-    → StandsFor sha256 reading e k → AddsNothing e a → IsKnown k known → Stands g new k → LeavesWith g old.conn new.conn e a
-    → (IsMissing k.bodies k.parked (sha256 a.body) found → LeavesOnlyFor g new.conn (e ++ arrived a ∷ []))
-    → IsTakenAgain g old new e a k found known no_work
-nothing_taken g old new e a k found known stood none knows stands leaves left =
-    let stands_for = still_stands e a k none stood in
-    record {
-      serves = record { kept = k; stands = stands; stands_for = stands_for };
-      knows = knows;
-      works = no_work_of e (arrived a) k k stood stands_for (union-arrived e a) refl;
-      idle = λ apart same. refl;
-      leaves = leaves;
-      left = left;
-    }
-
--- ---- where its deposit is held
-
-module _ (e : List EventValue) (a : ArrivalValue) (k : Kept) (row : ℕ) (d : DepositValue) (reply : ReplyValue) (is : IsAgain e a k (Holding row d) reply) where
-  pub again_source : IsSource (Arrived row (Some d)) k (body_put k.bodies row a.body)
-  again_source = source_of e a k row d (sym is.found_is)
-
-  module _ (none : k.bodies row ≡ None) (books : AreBooks sha256 reading (e ++ arrived a ∷ []) (with_body k row a.body)) where
-    pub again_move : (rows : List ℕ) (plan : Plan) (moment : Option ℤ) (listed : List MRow)
-        → AreHeld (body_put k.bodies row a.body) rows → listed ≡ k.listed → moment ≡ k.moment
-        → AreLatestSteps listed rows moment plan.new.items → IsPlanned k (body_put k.bodies row a.body) plan
-        → IsMove e (arrived a) k (with_body k row a.body) [] rows (body_put k.bodies row a.body) plan
-    again_move rows plan moment listed = move_to e a k row k.receipts none is.stood books
-
-    pub again_idle : (work : Work) → IsIdle e (arrived a) work
-    again_idle = idle_by e a k row is.stood none (λ apart. books.bodies apart row)
-
--- ---- where it is parked
-
-abbrev with_body_parked : Kept → ArrivalValue → Kept
-with_body_parked k a = with_parked k (sha256 a.body) (Some a.body)
-
-module _ (e : List EventValue) (a : ArrivalValue) (k : Kept) (reply : ReplyValue) (is : IsAgain e a k Unlisted reply)
-    (books : AreBooks sha256 reading (e ++ arrived a ∷ []) (with_body_parked k a)) where
-  pub parked_stands : StandsFor sha256 reading (e ++ arrived a ∷ []) (with_body_parked k a)
-  parked_stands = stands_still e (e ++ arrived a ∷ []) k (with_body_parked k a) is.stood books refl refl refl refl refl
-
-  pub parked_taken : {S : Type 0} (g : Ghosts S) (old new : Store S) (known : Known)
-      → IsKnown k known → Stands g new (with_body_parked k a) → LeavesOnlyFor g new.conn (e ++ arrived a ∷ [])
-      → IsTakenAgain g old new e a k Unlisted known no_work
-  parked_taken g old new known knows stands left = record {
-    serves = record { kept = with_body_parked k a; stands = stands; stands_for = parked_stands };
-    knows = record { held = knows.held; told = knows.told; chain = knows.chain };
-    works = no_work_of e (arrived a) k (with_body_parked k a) is.stood parked_stands (union-arrived e a) refl;
-    idle = λ apart same. refl;
-    leaves = leaves_with_only g old.conn new.conn e a left;
-    left = λ missing. left;
-  }
-
 -- ---- what a desk answers
 
 -- an arrival whose kept reply is A2
@@ -249,39 +131,3 @@ no_verdict v (inl is) same = let never : ⊥ = cc in never
 no_verdict v (inr (inl (n, is))) same = let never : ⊥ = cc in never
 no_verdict v (inr (inr (inl is))) same = let never : ⊥ = cc in never
 no_verdict v (inr (inr (inr is))) same = let never : ⊥ = cc in never
-
--- one whose kept reply is another changes nothing
-pub answered_nothing : {S : Type 0} (g : Ghosts S) (desk : Desk S) (e : List EventValue) (n body : List ℕ) (k : Kept) (reply : ReplyValue) (digest : List ℕ)
-    → digest ≡ sha256 body → Stands g desk.store k → StandsFor sha256 reading e k → IfSome desk.known (IsKnown k)
-    → reply_alike (union e) 1 n digest k.receipts ≡ Some reply → (reply.verdict ≡ A2 → ⊥)
-    → IsAnsweredAgain g desk desk e (an_arrival n body) k reply no_work
-answered_nothing g desk e n body k reply digest same stood stands known there other =
-    let a = an_arrival n body in
-    let at = subst (λ (d : List ℕ). reply_alike (union e) 1 n d k.receipts ≡ Some reply) same there in
-    let none = nothing_repeated e a k stands.books reply at other in
-    let stands_for = still_stands e a k none stands in
-    let told = ap (reply_alike (union e) 1 n (sha256 body)) (sym stands.books.receipts) ∙ at in
-    record {
-      answers = record {
-        serves = record { serves = record { kept = k; stands = stood; stands_for = stands_for }; remembers = known };
-        told = reply_stays e (arrived a) a reply told;
-      };
-      works = no_work_of e (arrived a) k k stands stands_for (union-arrived e a) refl;
-      idle = λ apart same. refl;
-      rests = λ other. refl;
-      leaves = leaves_with_nothing g desk.store.conn desk.store.conn none survives_same;
-      left = λ is. absurd (other is);
-    }
-
--- what a crash leaves once it was answered
-pub left_again : {S : Type 0} (g : Ghosts S) (old new : Desk S) (first : Held S) (e : List EventValue) (a : ArrivalValue) (k : Kept) (r : ReplyValue)
-    (result : Result (ReplyValue × Work) SFault)
-    → StandsFor sha256 reading e k → reply_to sha256 reading e a ≡ Some r → Survives (state g first) (state g old.store.conn) (λ _. ⊥)
-    → IfOk result (λ p. p.0 ≡ r) → IfOk result (λ p. IsAnsweredAgain g old new e a k p.0 p.1)
-    → OnOk result (LeavesWith g first new.store.conn e a
-    × (IsUnkept e a → WhereApart e (IsMissingAfter e a → LeavesOnlyFor g new.store.conn (e ++ arrived a ∷ []))))
-left_again g old new first e a k r (Ok p) stood told s same done = (
-  leaves_with_then g first old.store.conn new.store.conn e a s done.leaves,
-  λ unkept apart missing. done.left (ap (λ (x : ReplyValue). x.verdict) same ∙ unkept r told) (missing_of e a k stood.books apart missing),
-)
-left_again g old new first e a k r (Err f) stood told s same done = tt

@@ -1,6 +1,5 @@
 -- What a crash leaves by the events that a store stands for, from one call to the next.
-use Rattle.std.proofs.Common.{◌≡◌, ◌≢◌, inl, inr, List, [], ◌∷◌, ◌++◌, Option, Some, None, Result, Ok, Err, refl, sym, subst, arith}
-use Rattle.std.specs.Prelude.{OnOk}
+use Rattle.std.proofs.Common.{◌≡◌, ◌≢◌, inl, inr, List, [], ◌∷◌, ◌++◌, Result, Err, refl, sym, subst, arith}
 use Rattle.sha2.specs.Sha256.{sha256}
 use Rattle.sqlite_trees.specs.declared.store.Store.{Ghosts}
 use Rattle.sqlite_trees.specs.Tree.{Trees}
@@ -11,18 +10,13 @@ use Rattle.esc_store.specs.declared.fault.SFault.{SFault}
 use Rattle.esc_store.specs.declared.fault.SFault.TheVariants.{S1, S2, S3, S4, S5}
 use Rattle.esc_store.specs.declared.store.Store.{Store}
 use Rattle.esc_store.specs.Kept.{Kept}
-use Rattle.esc_store.specs.ReplyValue.{ReplyValue}
 use Rattle.esc_store.specs.Standing.{LeavesOnly}
-use Rattle.esc_events.specs.Apart.{WhereApart}
 use Rattle.esc_events.specs.ArrivalValue.{ArrivalValue}
 use Rattle.esc_events.specs.Events.{EventValue}
 use Rattle.esc_events.specs.Events.EventValue.{arrived}
-use Rattle.esc_events.specs.Receipts.{reply_to}
 use Rattle.esc_events.specs.Stands.{StandsFor}
-use Rattle.esc_desk.specs.Again.{IsUnkept, IsMissingAfter}
-use Rattle.esc_desk.specs.Crashes.{IsStoreFor, IsStoreForOneOf, CrashLeaves, LeavesOnlyFor, LeavesTaken, LeavesMade, still_doubtful, doubtful_with, AddsStoreFor}
+use Rattle.esc_desk.specs.Crashes.{IsStoreFor, IsStoreForOneOf, CrashLeaves, LeavesOnlyFor, LeavesTaken, LeavesMade, doubtful_with, AddsStoreFor}
 use Rattle.esc_desk.proofs.CrashSteps.{adds_none}
-use Rattle.esc_desk.specs.Takings.{LeavesWith}
 use Rattle.esc_desk.proofs.Likeness.{AddsNothing, still_stands, still_stands_with}
 
 -- ---- an arrival that adds nothing
@@ -72,22 +66,9 @@ module _ {S : Type 0} (g : Ghosts S) where
       | inr made ↦ one_more trees e doubtful x f made.0 made.1
     ]
 
-  pub leaves_new : (new : Held S) (e doubtful : List EventValue) (a : ArrivalValue) → reply_to sha256 reading e a ≡ None → LeavesOnlyFor g new (e ++ arrived a ∷ [])
-      → CrashLeaves g new (e ++ arrived a ∷ []) (still_doubtful (reply_to sha256 reading e a) doubtful)
-  unfolding CrashLeaves LeavesOnlyFor
-  leaves_new new e doubtful a none only = subst (λ (o : Option ReplyValue). CrashLeaves g new (e ++ arrived a ∷ []) (still_doubtful o doubtful)) (sym none) only
-
-  -- an arrival that came again: it adds nothing, or a crash leaves it taken in
-  pub leaves_with_nothing : (old new : Held S) {e : List EventValue} {a : ArrivalValue} → AddsNothing e a → Survives (state g old) (state g new) (λ _. ⊥) → LeavesWith g old new e a
-  leaves_with_nothing old new {e = e} none s doubtful left = leaves_nothing old new e doubtful left none s
-
-  pub leaves_with_only : (old new : Held S) (e : List EventValue) (a : ArrivalValue) → LeavesOnlyFor g new (e ++ arrived a ∷ []) → LeavesWith g old new e a
+  pub leaves_with_only : (old new : Held S) (e : List EventValue) (a : ArrivalValue) → LeavesOnlyFor g new (e ++ arrived a ∷ []) → (doubtful : List EventValue) → CrashLeaves g old e doubtful → CrashLeaves g new (e ++ arrived a ∷ []) doubtful
   unfolding CrashLeaves LeavesOnlyFor
   leaves_with_only old new e a only doubtful left clean trees may = one_at_least trees (e ++ arrived a ∷ []) doubtful (only clean trees may)
-
-  -- what a call before it left
-  pub leaves_with_then : (old mid new : Held S) (e : List EventValue) (a : ArrivalValue) → Survives (state g old) (state g mid) (λ _. ⊥) → LeavesWith g mid new e a → LeavesWith g old new e a
-  leaves_with_then old mid new e a s with doubtful left = with doubtful (leaves_as old mid e doubtful left s)
 
   -- no event is in doubt
   pub leaves_only : (new : Held S) (e : List EventValue) → LeavesOnlyFor g new e → CrashLeaves g new e []
@@ -99,34 +80,17 @@ module _ {S : Type 0} (g : Ghosts S) where
   unfolding CrashLeaves
   if_clean conn e doubtful h clean = h clean clean
 
-  -- an arrival like none before it, by what came of it
-  pub leaves_taken : {X : Type 0} (old new : Held S) (e doubtful : List EventValue) (a : ArrivalValue) (result : Result X SFault) → CrashLeaves g old e doubtful
-      → (HasCleanDisk (state g new) → reply_to sha256 reading e a ≡ None) → (HasCleanDisk (state g new) → AddsStoreFor g old new result (e ++ arrived a ∷ []))
-      → (HasCleanDisk (state g new) → OnOk result (LeavesOnlyFor g new (e ++ arrived a ∷ [])))
-      → LeavesTaken g new e doubtful a result
-  leaves_taken {X = X} old new e doubtful a (Ok x) left none adds only = record {
-    answered = if_clean new (e ++ arrived a ∷ []) _ (λ clean. leaves_new new e doubtful a (none clean) (only clean));
-    missing = λ unkept apart missing. if_clean new (e ++ arrived a ∷ []) [] (λ clean. leaves_only new (e ++ arrived a ∷ []) (only clean));
-  }
-  leaves_taken {X = X} old new e doubtful a (Err f) left none adds only = if_clean new e _ (λ clean. leaves_refused old new e doubtful left X (arrived a) f (adds clean))
-
-  -- one that came again, by what came of it
-  pub leaves_again : {X : Type 0} (old new : Held S) (e doubtful : List EventValue) (a : ArrivalValue) {r : ReplyValue} (result : Result X SFault) → CrashLeaves g old e doubtful
-      → (HasCleanDisk (state g new) → reply_to sha256 reading e a ≡ Some r) → (HasCleanDisk (state g new) → AddsStoreFor g old new result (e ++ arrived a ∷ []))
-      → (HasCleanDisk (state g new) → OnOk result (LeavesWith g old new e a × (IsUnkept e a → WhereApart e (IsMissingAfter e a → LeavesOnlyFor g new (e ++ arrived a ∷ [])))))
-      → LeavesTaken g new e doubtful a result
-  leaves_again {X = X} old new e doubtful a (Ok x) left told adds with = record {
-    answered = if_clean new (e ++ arrived a ∷ []) _ (λ clean.
-        subst (λ (o : Option ReplyValue). CrashLeaves g new (e ++ arrived a ∷ []) (still_doubtful o doubtful)) (sym (told clean)) ((with clean).0 doubtful left));
-    missing = λ unkept apart missing. if_clean new (e ++ arrived a ∷ []) [] (λ clean. leaves_only new (e ++ arrived a ∷ []) ((with clean).1 unkept apart missing));
-  }
-  leaves_again {X = X} old new e doubtful a (Err f) left told adds with = if_clean new e _ (λ clean. leaves_refused old new e doubtful left X (arrived a) f (adds clean))
-
   -- one that was refused before anything was begun
   pub leaves_early : {X : Type 0} (old new : Held S) (e doubtful : List EventValue) (a : ArrivalValue) {result : Result X SFault} (f : SFault) → result ≡ Err f
       → CrashLeaves g old e doubtful → Survives (state g old) (state g new) (λ _. ⊥) → LeavesTaken g new e doubtful a result
   unfolding AddsStoreFor
   leaves_early {X = X} old new e doubtful a f is left s = rw is (leaves_refused old new e doubtful left X (arrived a) f (adds_none s))
+
+  -- one that was refused by the commit or after it was begun
+  pub leaves_untaken : {X : Type 0} (old new : Held S) (e doubtful : List EventValue) (a : ArrivalValue) {result : Result X SFault} (f : SFault) → result ≡ Err f → CrashLeaves g old e doubtful
+      → (HasCleanDisk (state g new) → AddsStoreFor g old new result (e ++ arrived a ∷ [])) → LeavesTaken g new e doubtful a result
+  leaves_untaken {X = X} old new e doubtful a f is left adds = subst (λ (r : Result X SFault). LeavesTaken g new e doubtful a r) (sym is)
+      (if_clean new e (doubtful_with f (arrived a) doubtful) (λ clean. leaves_refused old new e doubtful left X (arrived a) f (subst (λ (r : Result X SFault). AddsStoreFor g old new r (e ++ arrived a ∷ [])) is (adds clean))))
 
   -- an event that changes a table, and was refused
   pub leaves_unmade : {X : Type 0} (old new : Held S) (e doubtful : List EventValue) (x : EventValue) {result : Result X SFault} (f : SFault) → result ≡ Err f → CrashLeaves g old e doubtful

@@ -1,6 +1,6 @@
 -- What a crash may leave, from one call of the store to the next.
 use Rattle.std.proofs.Common.{◌≡◌, ◌≢◌, inl, inr, List, Result, Ok, Err}
-use Rattle.std.specs.Prelude.{IfOk, IfErr, OnOk}
+use Rattle.std.specs.Prelude.{IfErr}
 use Rattle.sha2.specs.Sha256.{sha256}
 use Rattle.sqlite_trees.specs.declared.store.Store.{Ghosts}
 use Rattle.sqlite_trees.specs.Tree.{Trees}
@@ -59,8 +59,3 @@ module _ {S : Type 0} (g : Ghosts S) where
   pub holds_when : (change : ChangeOf S) (tables : Tables) → (IsHonest g change.store.now → HoldsNow g change tables) → HoldsNow g change tables
   unfolding HoldsIn
   holds_when change tables h clean = h clean clean
-
--- what follows of a result's value, where P is so only under a premise that the conclusion gives
-pub on_ok_where : {X E : Type 0} (r : Result X E) (U P : Type 0) (A B C : Type 0) → (P → X → A → B → C) → (A → B → U) → (U → OnOk r P) → IfOk r (λ _. A → B → C)
-on_ok_where (Ok x) U P A B C f u p = λ a b. f (p (u a b)) x a b
-on_ok_where (Err e) U P A B C f u p = tt

@@ -4,6 +4,7 @@ pub mod AmendedRows
 pub mod AmendingEvents
 pub mod AmendingKept
 pub mod AmendingLemmas
+pub mod Answered
 pub mod Arriving
 pub mod AtFirst
 pub mod CauseLemmas
@@ -11,9 +12,12 @@ pub mod ChangeSteps
 pub mod ComingAgain
 pub mod CrashLemmas
 pub mod CrashSteps
+pub mod Deciding
+pub mod DecidingArrivals
 pub mod Distinct
 pub mod EarlyEvents
 pub mod EarlyStores
+pub mod EditSteps
 pub mod EntryLists
 pub mod EventLemmas
 pub mod FoundRows
@@ -24,7 +28,6 @@ pub mod Holding
 pub mod JudgedRows
 pub mod KnownRows
 pub mod Likeness
-pub mod ListingSteps
 pub mod Lost
 pub mod Members
 pub mod Moving

@@ -1,16 +1,12 @@
 -- The work of an arrival whose deposit is held, and the move to a moment.
-use Rattle.std.proofs.Common.{◌≡◌, ℕ, ℤ, List, [], ◌∷◌, ◌++◌, Option, None, is_some, Result, Ok, Err, refl, sym, ap, subst, ◌∙◌, append-nil, true≢false}
-use Rattle.std.specs.Prelude.{IfOk, OnOk}
+use Rattle.std.proofs.Common.{◌≡◌, ℕ, ℤ, List, [], ◌∷◌, ◌++◌, Option, None, is_some, refl, sym, ap, subst, ◌∙◌, append-nil, true≢false}
 use Rattle.std.specs.FinSet as set
 use Rattle.sha2.specs.Sha256.{sha256}
-use Rattle.esc_tables.specs.DepositValue.{DepositValue}
 use Rattle.esc_tables.specs.Reading.{reading}
 use Rattle.esc_manifest.specs.declared.row.MRow.{MRow}
 use Rattle.esc_chain.specs.Chain.{Rows}
 use Rattle.esc_apply.specs.declared.moves.Work.{Work}
 use Rattle.esc_store.specs.Kept.{Kept, with_moment, body_put}
-use Rattle.esc_store.specs.ReplyValue.{ReceiptValue}
-use Rattle.esc_events.specs.declared.assessment.Assessment.TheVariants.{Holding}
 use Rattle.esc_events.specs.declared.known.Known.{Known}
 use Rattle.esc_events.specs.declared.plan.Plan.{Plan}
 use Rattle.esc_events.specs.ArrivalValue.{ArrivalValue}
@@ -20,18 +16,11 @@ use Rattle.esc_events.specs.Known.{IsKnown}
 use Rattle.esc_desk.specs.EventLaws.{IsMove}
 use Rattle.esc_events.specs.Plans.{AreLatestSteps, IsPlanned}
 use Rattle.esc_events.specs.Stands.{StandsFor, IsApart, held_body}
-use Rattle.esc_events.specs.Taking.{IsNew}
 use Rattle.esc_events.specs.Works.{IsIdle}
 use Rattle.esc_desk.proofs.AmendedBooks.{books_of_moment}
-use Rattle.esc_desk.proofs.Arriving.{books_held}
 use Rattle.esc_desk.proofs.Moving.{apart_before}
 use Rattle.esc_desk.proofs.MovingLemmas.{contains_held}
 use Rattle.esc_desk.proofs.KnownRows.{put_at}
-
--- what is so where a call succeeds, and what is so of its answer
-pub both_ok : {X E : Type 0} (r : Result X E) (P : Type 0) (Q : X → Type 0) → OnOk r P → IfOk r Q → IfOk r (λ x. P × Q x)
-both_ok (Ok x) P Q p q = (p, q)
-both_ok (Err e) P Q p q = tt
 
 -- an arrival that adds a row: nothing is said of one that adds none
 pub idle_by : (e : List EventValue) (a : ArrivalValue) (k : Kept) (row : ℕ) → StandsFor sha256 reading e k → k.bodies row ≡ None
@@ -46,11 +35,6 @@ idle_by e a k row stood none held work apart same =
     ∙ ap (λ (h : Rows). set.contains h row) same
     ∙ contains_held sha256 reading e row
     ∙ ap is_some (sym before ∙ none)))
-
-pub idle_held : {e : List EventValue} {a : ArrivalValue} {k : Kept} {row : ℕ} {d : DepositValue} {known : Known} {receipt : ReceiptValue} → IsNew e a k (Holding row d) known receipt
-    → k.bodies row ≡ None → (work : Work) → IsIdle e (arrived a) work
-idle_held {e = e} {a = a} {k = k} {row = row} {d = d} {known = known} {receipt = receipt} is none =
-    idle_by e a k row is.stood none (λ apart. (books_held e a k row d known receipt is none).bodies apart row)
 
 -- ---- another moment is set
 

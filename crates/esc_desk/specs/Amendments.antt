@@ -1,12 +1,9 @@
 -- What a desk returns for an amendment.
 use Rattle.std.specs.Prelude.{
   ◌≡◌,
-  ◌≢◌,
   ◌⊎◌,
   ◌≤◌,
   ◌==◌,
-  All,
-  None,
   ℕ,
   List,
   [],
@@ -27,17 +24,14 @@ use Rattle.esc_manifest.specs.Manifest.{manifest_of}
 use Rattle.esc_manifest.specs.RowFaults.{most_rows}
 use Rattle.esc_apply.specs.declared.moves.Work.{Work}
 use Rattle.esc_store.specs.Faults.{IsS1OrS2}
-use Rattle.esc_store.specs.Kept.{Kept}
 use Rattle.esc_events.specs.Events.{EventValue, union}
 use Rattle.esc_events.specs.Works.{IsWorkOf, no_work}
 use Rattle.esc_desk.specs.declared.amendment.AmendFault.{AmendFault}
 use Rattle.esc_desk.specs.declared.amendment.AmendFault.TheVariants.{M, Store as OfStore}
 use Rattle.esc_desk.specs.declared.desk.Desk.{Desk}
-use Rattle.esc_desk.specs.declared.judging.Judged.{Judged}
 use Rattle.esc_desk.specs.Asked.{amendment_of}
 use Rattle.esc_desk.specs.Crashes.{CrashLeaves, LeavesRefused}
 use Rattle.esc_desk.specs.Serving.{DeskServes}
-use Rattle.esc_desk.specs.DepositSources.{AreJudged}
 
 -- a text reads as an accepted manifest; the union with it is accepted, and has this many rows more
 pub record AddsRows (e : List EventValue) (text : List ℕ) (count : ℕ) : Type 0 where
@@ -103,15 +97,3 @@ pub record IsUnionWith (m : List MRow) (text : List ℕ) (united : List MRow) : 
   pub read : manifest_of text ≡ Ok rows
   pub accepted : extension m rows ≡ Ok united
   pub is_union : united ≡ extended m rows
-
--- none of these rows has a body, and each occurs once
-abbrev pub AreApartRows : Kept → List ℕ → Type 0
-AreApartRows k [] = Unit {0}
-AreApartRows k (r ∷ rows) = (k.bodies r ≡ None) × (All (λ q. r ≢ q) rows) × AreApartRows k rows
-
--- a union is that of the rows that are kept and more; this is what was judged of the bodies that
--- are parked for the new rows; and no row that is to be adopted has a body
-pub record IsAmendmentOf (k : Kept) (more united : List MRow) (told : Judged) : Type 0 where
-  pub is_union : united ≡ extended k.listed more
-  pub are_judged : AreJudged united k.parked (length k.listed) told
-  pub apart : AreApartRows k told.adopted.items

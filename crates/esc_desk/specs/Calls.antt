@@ -127,20 +127,20 @@ pub record HasNoPlace (e : List EventValue) (a : ArrivalValue) : Type 0 where
   pub to_be_parked : IsToBeParked e a
   pub full : IsFull (parked_body sha256 reading e)
 
+-- if an arrival is no duplicate, there was room for its receipt
+abbrev pub HadRoom : List EventValue → ArrivalValue → Type 0
+HadRoom e a = reply_to sha256 reading e a ≡ None
+    → length (receipts_of sha256 reading e) < MOST_RECEIPTS
+
 -- why an arrival may be lost: the database failed (S1), memory was refused (S2), there is no room
--- for its receipt (S4), or no place to park its body (S5; said if no two different bodies have the
--- same digest)
+-- for its receipt (S4), or there is room for its receipt, but no place to park its body (S5; said if
+-- no two different bodies have the same digest)
 abbrev pub IsCause : List EventValue → ArrivalValue → SFault → Type 0
 IsCause e a S1 = Unit {0}
 IsCause e a S2 = Unit {0}
 IsCause e a S3 = ⊥
 IsCause e a S4 = HasNoRoom e a
-IsCause e a S5 = WhereApart e (HasNoPlace e a)
-
--- if an arrival is no duplicate, there was room for its receipt
-abbrev pub HadRoom : List EventValue → ArrivalValue → Type 0
-HadRoom e a = reply_to sha256 reading e a ≡ None
-    → length (receipts_of sha256 reading e) < MOST_RECEIPTS
+IsCause e a S5 = HadRoom e a × WhereApart e (HasNoPlace e a)
 
 -- there was a place to park its body, if it was to be parked; said if no two different bodies have
 -- the same digest

@@ -1,5 +1,5 @@
--- Why the store refuses an arrival.
-use Rattle.std.specs.Prelude.{◌≡◌, ◌⊎◌, ◌≤◌, ℕ, List, None, length}
+-- Why an edit of the store is refused, and why an arrival isn't decided.
+use Rattle.std.specs.Prelude.{◌≡◌, ◌⊎◌, ◌<◌, ◌≤◌, ℕ, List, Option, Some, None, IfSome, length}
 use Rattle.sqlite_trees.specs.declared.store.Store.{Ghosts}
 use Rattle.esc_store.specs.declared.books.TheConstants.{MOST_RECEIPTS}
 use Rattle.esc_store.specs.declared.fault.SFault.{SFault}
@@ -7,11 +7,10 @@ use Rattle.esc_store.specs.declared.fault.SFault.TheVariants.{S4, S5}
 use Rattle.esc_store.specs.declared.store.Store.{Store}
 use Rattle.esc_store.specs.Faults.{IsS1OrS2}
 use Rattle.esc_store.specs.Kept.{Kept, IsFull}
+use Rattle.esc_store.specs.ReplyValue.{ReceiptValue}
 use Rattle.esc_store.specs.Standing.{ChangeOf, IsHonest, Stands, Rest}
 use Rattle.esc_events.specs.declared.assessment.Assessment.{Assessment}
 use Rattle.esc_events.specs.declared.assessment.Assessment.TheVariants.{Unlisted}
-use Rattle.esc_events.specs.declared.parking.Parking.{Parking}
-use Rattle.esc_events.specs.declared.parking.Parking.TheVariants.{Crowded}
 use Rattle.esc_events.specs.Assessment.{row_of}
 
 -- no row lists a body with this digest, it isn't parked, and 1,024 others are
@@ -19,6 +18,10 @@ pub record IsCrowded (k : Kept) (digest : List ℕ) : Type 0 where
   pub unlisted : row_of k.listed digest ≡ None
   pub not_parked : k.parked digest ≡ None
   pub full : IsFull k.parked
+
+-- there is room for one more receipt, if one is to be kept
+abbrev pub HasRoomFor : Kept → Option ReceiptValue → Type 0
+HasRoomFor k receipt = IfSome receipt (λ r. length k.receipts < MOST_RECEIPTS)
 
 module _ {S : Type 0} (g : Ghosts S) where
   -- S1 or S2; or S4, where the store had 1,000,000,000 receipts
@@ -33,45 +36,21 @@ module _ {S : Type 0} (g : Ghosts S) where
       ⊎ ((fault ≡ S4) × (IsHonest g new.store.now → (before k : Kept) → Rest g old before k
       → MOST_RECEIPTS ≤ length k.receipts))
 
-  -- the same; or S5, where there was no place to park the body
-  abbrev pub IsNoteFault : Store S → Store S → Parking → SFault → Type 0
-  IsNoteFault old new parking fault = ((fault ≡ S5) × (parking ≡ Crowded))
-      ⊎ IsStoreFault old new fault
+  -- why an edit is refused: S4 may be only where it has a receipt
+  abbrev pub IsEditFault : Option ReceiptValue → Store S → Store S → SFault → Type 0
+  IsEditFault None old new fault = IsS1OrS2 fault
+  IsEditFault (Some r) old new fault = IsStoreFault old new fault
 
-  abbrev pub IsNoteChangeFault : ChangeOf S → ChangeOf S → Parking → SFault → Type 0
-  IsNoteChangeFault old new parking fault = ((fault ≡ S5) × (parking ≡ Crowded))
-      ⊎ IsChangeFault old new fault
+  -- the same of a change
+  abbrev pub IsFillFault : Option ReceiptValue → ChangeOf S → ChangeOf S → SFault → Type 0
+  IsFillFault None old new fault = IsS1OrS2 fault
+  IsFillFault (Some r) old new fault = IsChangeFault old new fault
 
-  -- the same of a body with this digest that no row lists
-  abbrev pub IsParkFault : Store S → Store S → List ℕ → SFault → Type 0
-  IsParkFault old new digest fault = ((fault ≡ S5) × (IsHonest g new → (k : Kept) → Stands g old k
-      → (k.parked digest ≡ None) × IsFull k.parked)) ⊎ IsStoreFault old new fault
-
-  -- the same of a body of which this was found
-  abbrev pub IsKeepFault : Store S → Store S → Assessment → List ℕ → SFault → Type 0
-  IsKeepFault old new found digest fault = ((found ≡ Unlisted) × IsParkFault old new digest fault)
-      ⊎ IsStoreFault old new fault
-
-  -- the same of an arrival with this digest
-  abbrev pub IsArrivalFault : Store S → Store S → List ℕ → SFault → Type 0
-  IsArrivalFault old new digest fault = ((fault ≡ S5)
-      × (IsHonest g new → (k : Kept) → Stands g old k → IsCrowded k digest))
-      ⊎ IsStoreFault old new fault
-
-  -- ---- of an arrival that comes again with its reply A2
-
-  -- S1 or S2; or S5, where there was no place to park the body with this digest
-  abbrev pub IsParkLateFault : Store S → Store S → List ℕ → SFault → Type 0
-  IsParkLateFault old new digest fault = ((fault ≡ S5)
+  -- why an arrival isn't decided, of which this was found: S5, where no row lists its body and there
+  -- is no place to park it, but room for its receipt, if it has one; else as an edit is refused
+  abbrev pub IsPlaceFault : Option ReceiptValue → Store S → Store S → Assessment → List ℕ → SFault
+      → Type 0
+  IsPlaceFault receipt old new found digest fault = ((fault ≡ S5) × (found ≡ Unlisted)
       × (IsHonest g new → (k : Kept) → Stands g old k
-      → (k.parked digest ≡ None) × IsFull k.parked)) ⊎ IsS1OrS2 fault
-
-  -- the same of a body of which this was found
-  abbrev pub IsTakeAgainFault : Store S → Store S → Assessment → List ℕ → SFault → Type 0
-  IsTakeAgainFault old new found digest fault =
-      ((found ≡ Unlisted) × IsParkLateFault old new digest fault) ⊎ IsS1OrS2 fault
-
-  -- the same of the arrival
-  abbrev pub IsAgainFault : Store S → Store S → List ℕ → SFault → Type 0
-  IsAgainFault old new digest fault = ((fault ≡ S5)
-      × (IsHonest g new → (k : Kept) → Stands g old k → IsCrowded k digest)) ⊎ IsS1OrS2 fault
+      → (k.parked digest ≡ None) × IsFull k.parked × HasRoomFor k receipt))
+      ⊎ IsEditFault receipt old new fault

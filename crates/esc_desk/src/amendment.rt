@@ -4,13 +4,13 @@ ghost use Rattle.std.specs.Prelude.{
   ◌≡◌,
   ◌+◌,
   ◌<◌,
-  ◌≤◌,
   ◌++◌,
   ◌∷◌,
   [],
   ℕ,
   List,
   None,
+  false,
   Err,
   IfSome,
   length,
@@ -21,35 +21,27 @@ ghost use Rattle.std.specs.Prelude.{
   OnErr,
 };
 ghost use Rattle.sha2.specs.Sha256.{sha256};
-ghost use Rattle.esc_tables.specs.DepositValue.{DepositValue};
 ghost use Rattle.esc_tables.specs.Reading.{reading};
+ghost use Rattle.esc_manifest.specs.declared.fault.MFault.TheVariants as MFault;
 ghost use Rattle.esc_manifest.specs.declared.row.MRow.{MRow};
 ghost use Rattle.esc_manifest.specs.Extension.{extended};
-ghost use Rattle.esc_apply.specs.Registry.{saturated, State};
+ghost use Rattle.esc_manifest.specs.Manifest.{most_bytes};
+ghost use Rattle.esc_apply.specs.Registry.{saturated};
 ghost use Rattle.esc_store.specs.Faults.{IsS1OrS2};
 ghost use Rattle.esc_store.specs.Kept.{Kept};
-ghost use Rattle.esc_store.specs.Standing.{
-  Stands,
-  IsHonest,
-  LeavesOnly,
-  Rest,
-  HoldsNow,
-  GoesOn,
-  IsUncommitted,
-  listed_by,
-  rows_of,
-};
+ghost use Rattle.esc_store.specs.Standing.{Stands, IsHonest, IsAsBefore, rows_of};
 ghost use Rattle.esc_events.specs.declared.known.Known.{Known};
-ghost use Rattle.esc_events.specs.Amended.{with_all_adopted, with_all_dropped, amended_kept};
 ghost use Rattle.esc_events.specs.Events.{EventValue, union as union_of};
 ghost use Rattle.esc_events.specs.Events.EventValue.{listed};
 ghost use Rattle.esc_events.specs.Known.{IsKnown};
-ghost use Rattle.esc_events.specs.Plans.{HasDepositsPast, IsMovedFrom, IsCostOfMove, moved_by};
 ghost use Rattle.esc_events.specs.Stands.{StandsFor};
 ghost use Rattle.esc_desk.specs.Amendments.{
   IsAmended,
   IsAmendCause,
   IsAmendFault,
+  IsRefusal,
+  IsRefusedUnion,
+  IsUnionWith,
   DeskLeavesAmended,
 };
 ghost use Rattle.esc_desk.specs.Calls.{
@@ -61,20 +53,21 @@ ghost use Rattle.esc_desk.specs.Calls.{
   WasHonest,
   ServesStill,
 };
-ghost use Rattle.esc_desk.specs.Crashes.{AddsStore, AddsStoreFor};
-ghost use Rattle.esc_desk.specs.Filled.{IsFilled};
-ghost use Rattle.esc_desk.specs.Takings.{IsMade, IsListedNow};
+ghost use Rattle.esc_desk.specs.Crashes.{AddsStoreFor};
+ghost use Rattle.esc_desk.specs.Decisions.{IsDecided, IsSound, IsMade};
+ghost use Rattle.esc_desk.specs.Edits.{is_empty};
 
-use crate::changes::{commit_filled, move_in};
+use crate::decision::Decision;
 use crate::desk::{Desk, NO_WORK};
-use crate::judging::{Judged, judge_rows};
+use crate::edit::{Edit, Listing, Storing};
+use crate::judging::judge_rows;
 use crate::plan::{Source, latest_steps, plan_move};
 use esc_apply::{Work, read_deposits_mention_few};
 use esc_bundle::NoMemory;
 use esc_chain::latest_chain_at_rows_are_held;
-use esc_events::{Known, Plan};
-use esc_manifest::{MFault, MRow, Manifest, copy_rows, read_manifest};
-use esc_store::{Change, SFault, Store};
+use esc_events::Known;
+use esc_manifest::{MFault, Manifest, read_manifest};
+use esc_store::{SFault, Store};
 use sqlite::Alter;
 use std::alloc::Global;
 use std::{fmt, mem};
@@ -187,46 +180,34 @@ impl<S: Alter> Desk<S> {
         ensures honest { IsHonest S.Store self.new.store → IsHonest S.Store self.old.store }
         ensures cause { IfErr result IsS1OrS2 }
     {
-        let mut known = self.take_known(alloc)?;
-        let work = list_in(&mut self.store, alloc, union, &mut known)?;
-        self.known = Some(known);
+        let known = self.take_known(alloc)?;
+        let decision = decide_union(&mut self.store, alloc, union, known)?;
+        let (_number, work) = self.make(alloc, decision)?;
         Ok(work)
     }
 }
 
-ghost use Rattle.std.specs.Prelude.{Err};
-ghost use Rattle.esc_manifest.specs.declared.fault.MFault.TheVariants as MFault;
-ghost use Rattle.esc_manifest.specs.Manifest.{most_bytes};
-ghost use Rattle.esc_desk.specs.Amendments.{IsUnionWith, IsRefusal, IsRefusedUnion};
-
-// Lists the rows of a union. `known` is what is known of the store's rows, and is updated; after an
-// `Err` it has no meaning.
-#[tactic(auto, using(esc_store::specs::StandingLaws::was_honest))]
-fn list_in<S: Alter>(
+// What it comes to that the rows of a union are listed. `known` is what is known of the store's rows.
+fn decide_union<'n, 'b, S: Alter>(
     store: &mut Store<S>,
     alloc: Global,
     union: Manifest,
-    known: &mut Known,
-) -> Result<Work, SFault>
+    known: Known,
+) -> Result<Decision<'n, 'b>, SFault>
     requires begins { take (length store.old.manifest) union ≡ store.old.manifest }
-    ensures listed { IsHonest S.Store store.new → (e : List EventValue) (k : Kept)
+    ensures same { IsAsBefore S.Store store.old store.new }
+    ensures sound { IfOk result (IsSound store.new.manifest) }
+    ensures none { IfOk result (λ d. d.edit.receipt ≡ None) }
+    ensures some { IfOk result (λ d. is_empty d.edit ≡ false) }
+    ensures decided { IsHonest S.Store store.new → (e : List EventValue) (k : Kept)
         (more : List MRow) → Stands S.Store store.old k → StandsFor sha256 reading e k
-        → IsKnown k known.old → union ≡ extended (union_of e) more
-        → IfOk result (IsListedNow S.Store store.new e more known.new) }
-    ensures counted { IfOk result (λ work. store.new.writes
-        ≡ saturated (store.old.writes + work.writes)) }
-    ensures uncounted { OnErr result (store.new.writes ≡ store.old.writes) }
-    ensures lost { OnErr result ((k : Kept) → Stands S.Store store.old k
-        → Stands S.Store store.new k) }
-    ensures crash { IsHonest S.Store store.new → (e : List EventValue) (k : Kept)
-        (more : List MRow) → Stands S.Store store.old k → StandsFor sha256 reading e k
-        → IsKnown k known.old → union ≡ extended (union_of e) more
-        → AddsStoreFor S.Store store.old.conn store.new.conn result (e ++ listed more ∷ []) }
-    ensures honest { IsHonest S.Store store.new → IsHonest S.Store store.old }
+        → IsKnown k known → union ≡ extended (union_of e) more
+        → IfOk result (IsDecided e (listed more) k) }
     ensures cause { IfErr result IsS1OrS2 }
 {
     latest_chain_at_rows_are_held();
     read_deposits_mention_few();
+    let mut known = known;
     let from = store.manifest().rows().len();
     let judged = judge_rows(store, alloc, union.rows(), from)?;
     append_rows(&mut known.held, &judged.adopted)?;
@@ -234,9 +215,16 @@ fn list_in<S: Alter>(
     let new = latest_steps(alloc, &union, &known.held, moment)?;
     let old = mem::replace(&mut known.chain, Vec::new(alloc));
     let plan = plan_move(store, alloc, old, new, Source::Listed(union.rows(), from))?;
-    let work = list_rows(store, alloc, union, &judged, &plan);
-    known.chain = plan.new;
-    work
+    Ok(Decision {
+        edit: Edit {
+            receipt: None,
+            listing: Some(Listing { union, judged }),
+            body: Storing::Nothing,
+            moment: None,
+            plan: Some(plan),
+        },
+        known: Some(known),
+    })
 }
 
 fn append_rows(rows: &mut Vec<usize>, more: &[usize]) -> Result<(), NoMemory>
@@ -244,133 +232,6 @@ fn append_rows(rows: &mut Vec<usize>, more: &[usize]) -> Result<(), NoMemory>
 {
     for row in more {
         rows.push(*row)?;
-    }
-    Ok(())
-}
-
-// Lists the rows of a union, with the bodies that are parked for them as they were judged, and
-// moves the chain.
-#[tactic(auto, using(esc_store::specs::StandingLaws::was_clean))]
-fn list_rows<S: Alter>(
-    store: &mut Store<S>,
-    alloc: Global,
-    union: Manifest,
-    judged: &Judged,
-    plan: &Plan,
-) -> Result<Work, SFault>
-    requires begins { take (length store.old.manifest) union ≡ store.old.manifest }
-    requires few_old { length plan.now.old.items ≤ 4096 }
-    requires few_new { length plan.now.new.items ≤ 4096 }
-    requires deposits { HasDepositsPast plan.now }
-    ensures honest { IsHonest S.Store store.new → IsHonest S.Store store.old }
-    ensures listed { OnOk result (IsHonest S.Store store.new → (k : Kept) (c : List DepositValue)
-        (more : List MRow) → IsAmendmentOf k more union judged.now → IsMovedFrom k c plan.now
-        → Stands S.Store store.old k
-        → Stands S.Store store.new (moved_by plan.now (amended_kept k more) c)) }
-    ensures left { OnOk result (IsHonest S.Store store.new → (k : Kept) (c : List DepositValue)
-        (more : List MRow) → IsAmendmentOf k more union judged.now → IsMovedFrom k c plan.now
-        → Stands S.Store store.old k
-        → LeavesOnly S.Store store.new (moved_by plan.now (amended_kept k more) c)) }
-    ensures crash { IsHonest S.Store store.new → (k : Kept) (c : List DepositValue)
-        (more : List MRow) → IsAmendmentOf k more union judged.now → IsMovedFrom k c plan.now
-        → Stands S.Store store.old k → AddsStore S.Store store.old.conn store.new.conn result
-        (moved_by plan.now (amended_kept k more) c) }
-    ensures worked { IfOk result (λ work. IsHonest S.Store store.new
-        → (k : Kept) (c : List DepositValue) → IsMovedFrom k c plan.now
-        → Stands S.Store store.old k → IsCostOfMove plan.now c work) }
-    ensures counted { IfOk result (λ work. store.new.writes
-        ≡ saturated (store.old.writes + work.writes)) }
-    ensures uncounted { OnErr result (store.new.writes ≡ store.old.writes) }
-    ensures kept { OnErr result ((k : Kept) → Stands S.Store store.old k
-        → Stands S.Store store.new k) }
-    ensures cause { IfErr result IsS1OrS2 }
-{
-    let mut change = store.begin()?;
-    let work = fill_listing(&mut change, alloc, union, judged, plan)?;
-    commit_filled(change)?;
-    Ok(work)
-}
-
-ghost use Rattle.esc_desk.specs.Amendments.{IsAmendmentOf};
-
-// Makes all of an amendment's change but its commit. The rows are listed first, since the table of
-// bodies refers to that of listed rows.
-fn fill_listing<S: Alter>(
-    change: &mut Change<'_, S>,
-    alloc: Global,
-    union: Manifest,
-    judged: &Judged,
-    plan: &Plan,
-) -> Result<Work, SFault>
-    requires begins { take (length (listed_by change.now)) union ≡ listed_by change.now }
-    requires few_old { length plan.now.old.items ≤ 4096 }
-    requires few_new { length plan.now.new.items ≤ 4096 }
-    requires deposits { HasDepositsPast plan.now }
-    ensures goes_on { IsUncommitted S.Store change.old change.new }
-    ensures filled { OnOk result (IsHonest S.Store change.new.store.now → (k : Kept)
-        (c : List DepositValue) (more : List MRow)
-        → IsAmendmentOf k more union judged.now → IsMovedFrom k c plan.now
-        → Rest S.Store change.old k k → HoldsNow S.Store change.old k.registry
-        → IsFilled S.Store change.new k (moved_by plan.now (amended_kept k more) c)) }
-    ensures worked { IfOk result (λ work. IsHonest S.Store change.new.store.now
-        → (k : Kept) (c : List DepositValue) → IsMovedFrom k c plan.now
-        → HoldsNow S.Store change.old k.registry → IsCostOfMove plan.now c work) }
-    ensures counted { IfOk result (λ work. saturated change.new.count
-        ≡ saturated (saturated change.old.count + work.writes)) }
-    ensures cause { IfErr result IsS1OrS2 }
-{
-    let rows = copy_rows(alloc, union.rows())?;
-    change.list(union)?;
-    adopt_rows(change, &rows, &judged.adopted)?;
-    drop_rows(change, &rows, &judged.dropped)?;
-    move_in(change, alloc, plan)
-}
-
-// Holds, for each of these rows, the body that is parked under its digest.
-fn adopt_rows<S: Alter>(
-    change: &mut Change<'_, S>,
-    rows: &[MRow],
-    adopted: &[usize],
-) -> Result<(), SFault>
-    ensures goes_on { GoesOn S.Store change.old change.new }
-    ensures count { change.new.count ≡ change.old.count }
-    ensures adopted { OnOk result (IsHonest S.Store change.new.store.now → (before k : Kept)
-        → AreApartRows k adopted.now → Rest S.Store change.old before k
-        → Rest S.Store change.new before (with_all_adopted rows.now k adopted.now)) }
-    ensures holds { OnOk result ((s : State) → HoldsNow S.Store change.old s
-        → HoldsNow S.Store change.new s) }
-    ensures cause { IfErr result IsS1OrS2 }
-{
-    for row in adopted {
-        let Some(listed) = rows.get(*row) else {
-            return Err(SFault::S1);
-        };
-        change.adopt(*row, &listed.digest)?;
-    }
-    Ok(())
-}
-
-ghost use Rattle.esc_desk.specs.Amendments.{AreApartRows};
-
-// Drops, for each of these rows, the body that is parked under its digest.
-fn drop_rows<S: Alter>(
-    change: &mut Change<'_, S>,
-    rows: &[MRow],
-    dropped: &[usize],
-) -> Result<(), SFault>
-    ensures goes_on { GoesOn S.Store change.old change.new }
-    ensures count { change.new.count ≡ change.old.count }
-    ensures dropped { OnOk result ((before k : Kept) → Rest S.Store change.old before k
-        → Rest S.Store change.new before (with_all_dropped rows.now k dropped.now)) }
-    ensures holds { OnOk result ((s : State) → HoldsNow S.Store change.old s
-        → HoldsNow S.Store change.new s) }
-    ensures cause { IfErr result IsS1OrS2 }
-{
-    for row in dropped {
-        let Some(listed) = rows.get(*row) else {
-            return Err(SFault::S1);
-        };
-        change.unpark(&listed.digest)?;
     }
     Ok(())
 }

@@ -1,290 +1,269 @@
-//! What an event changes in the store, whole or not at all.
+//! How an edit is made: in one transaction of the store, whole or not at all.
 
 ghost use Rattle.std.specs.Prelude.{
   ◌≡◌,
   ◌+◌,
-  ◌<◌,
   ◌≤◌,
-  ◌-◌,
-  ◌++◌,
-  List,
-  None,
+  Some,
   length,
   take,
-  ◌^◌,
-  sum_by,
   IfOk,
   IfErr,
+  IfSome,
   OnOk,
   OnErr,
 };
-ghost use Rattle.esc_tables.specs.DepositValue.{DepositValue};
 ghost use Rattle.esc_apply.specs.Registry.{saturated};
-ghost use Rattle.esc_apply.specs.Tables.{mention_count};
-ghost use Rattle.esc_apply.specs.Moves.{cost};
-ghost use Rattle.esc_apply.specs.Images.{chain_state};
-ghost use Rattle.esc_apply.specs.Front.{common_front};
+ghost use Rattle.esc_store.specs.Faults.{IsS1OrS2};
 ghost use Rattle.esc_store.specs.Kept.{Kept};
 ghost use Rattle.esc_store.specs.Standing.{
   Stands,
   IsHonest,
   LeavesOnly,
-  LeavesNoMore,
   Began,
   Rest,
   HoldsNow,
-  GoesOn,
-  Follows,
+  IsUncommitted,
   listed_by,
 };
-ghost use Rattle.esc_store.specs.Faults.{IsS1OrS2};
-ghost use Rattle.esc_events.specs.declared.parking.Parking.TheVariants.{Crowded};
-ghost use Rattle.esc_events.specs.Notes.{noted_by, held_by};
-ghost use Rattle.esc_events.specs.Plans.{HasDepositsPast, IsMovedFrom, IsCostOfMove, moved_by};
-ghost use Rattle.esc_desk.specs.Causes.{
-  IsStoreFault,
-  IsChangeFault,
-  IsNoteFault,
-  IsNoteChangeFault,
-};
+ghost use Rattle.esc_events.specs.Amended.{with_all_adopted, with_all_dropped};
+ghost use Rattle.esc_desk.specs.Causes.{IsEditFault, IsFillFault};
 ghost use Rattle.esc_desk.specs.Crashes.{AddsStore};
-ghost use Rattle.esc_desk.specs.Filled.{IsFilled};
+ghost use Rattle.esc_desk.specs.Edits.{
+  noted,
+  stored,
+  timed,
+  listed_more,
+  edited,
+  chain_deposits,
+  IsSoundPlan,
+  Begins,
+  IsFromChainOf,
+  IsCostIf,
+  IsPart,
+  IsFilled,
+};
 
-use esc_apply::{Step, Work, move_chain};
-use esc_events::{Parking, Plan};
+use crate::edit::{Edit, Listing, Storing};
+use crate::moves::move_if_planned;
+use esc_apply::Work;
+use esc_events::Plan;
+use esc_manifest::{MRow, copy_rows};
 use esc_store::{Change, MOST_RECEIPTS, Receipt, SFault, Store};
-use esc_tables::Deposit;
 use sqlite::Alter;
 use std::alloc::Global;
 
-/// Stores a receipt, and its body if that is to be parked. Returns the receipt's number. Where both
-/// `S4` and `S5` apply, it is `S4`.
-#[tactic(auto, using(esc_store::specs::StandingLaws::was_clean))]
-pub(crate) fn note_receipt<S: Alter>(
-    store: &mut Store<S>,
-    receipt: &Receipt<'_>,
-    parking: Parking,
-    body: &[u8],
-) -> Result<u64, SFault>
-    ensures manifest { store.new.manifest ≡ store.old.manifest }
-    ensures honest { IsHonest S.Store store.new → IsHonest S.Store store.old }
-    ensures counted { OnOk result (store.new.writes ≡ saturated store.old.writes) }
-    ensures uncounted { OnErr result (store.new.writes ≡ store.old.writes) }
-    ensures recorded { OnOk result (IsHonest S.Store store.new → (k : Kept)
-        → Stands S.Store store.old k
-        → Stands S.Store store.new (noted_by receipt.now parking body.now k)) }
-    ensures numbered { IfOk result (λ n. IsHonest S.Store store.new → (k : Kept)
-        → Stands S.Store store.old k → n ≡ length k.receipts + 1) }
-    ensures room { IfOk result (λ n. n ≤ MOST_RECEIPTS) }
-    ensures place { OnOk result (parking ≡ Crowded → ⊥) }
-    ensures left { OnOk result ((k : Kept) → Stands S.Store store.old k
-        → LeavesOnly S.Store store.new (noted_by receipt.now parking body.now k)) }
-    ensures crash { (k : Kept) → Stands S.Store store.old k
-        → AddsStore S.Store store.old.conn store.new.conn result
-        (noted_by receipt.now parking body.now k) }
-    ensures crowded { parking ≡ Crowded
-        → LeavesNoMore S.Store store.old.conn store.new.conn }
-    ensures kept { OnErr result ((k : Kept) → Stands S.Store store.old k
-        → Stands S.Store store.new k) }
-    ensures cause { IfErr result (IsNoteFault S.Store store.old store.new parking) }
-{
-    let mut change = store.begin()?;
-    let number = fill_note(&mut change, receipt, parking, body)?;
-    commit_filled(change)?;
-    Ok(number)
+/// What came of an edit: the number of its receipt, if it has one, the work of its move, and its
+/// plan.
+#[derive(Drop)]
+pub(crate) struct Committed {
+    pub(crate) number: u64,
+    pub(crate) work: Work,
+    pub(crate) plan: Option<Plan>,
 }
 
-// Makes the change of a receipt, all but its commit.
-#[tactic(auto, using(esc_store::specs::StandingLaws::goes_then))]
-fn fill_note<S: Alter>(
-    change: &mut Change<'_, S>,
-    receipt: &Receipt<'_>,
-    parking: Parking,
-    body: &[u8],
-) -> Result<u64, SFault>
-    ensures goes_on { GoesOn S.Store change.old change.new }
-    ensures count { change.new.count ≡ change.old.count }
-    ensures filled { OnOk result ((k : Kept)
-        → Rest S.Store change.old k k → HoldsNow S.Store change.old k.registry
-        → IsFilled S.Store change.new k (noted_by receipt.now parking body.now k)) }
-    ensures numbered { IfOk result (λ n. IsHonest S.Store change.new.store.now
-        → (before k : Kept)
-        → Rest S.Store change.old before k → n ≡ length k.receipts + 1) }
-    ensures room { IfOk result (λ n. n ≤ MOST_RECEIPTS) }
-    ensures place { OnOk result (parking ≡ Crowded → ⊥) }
-    ensures cause { IfErr result (IsNoteChangeFault S.Store change.old change.new parking) }
-{
-    let number = change.record_receipt(receipt)?;
-    match parking {
-        Parking::Needless => {}
-        Parking::Free => change.park(&receipt.digest, body)?,
-        Parking::Crowded => return Err(SFault::S5),
-    }
-    Ok(number)
-}
-
-/// Stores a receipt and the body of a row that has none yet, and moves the chain. Returns the
-/// receipt's number and the work.
+/// Makes an edit in one transaction of the store, whole or not at all.
 #[tactic(auto, using(esc_store::specs::StandingLaws::was_clean))]
-pub(crate) fn hold_deposit<S: Alter>(
+pub(crate) fn commit<S: Alter>(
     store: &mut Store<S>,
     alloc: Global,
-    receipt: &Receipt<'_>,
-    row: usize,
-    body: &[u8],
-    plan: &Plan,
-) -> Result<(u64, Work), SFault>
-    requires few_old { length plan.now.old.items ≤ 4096 }
-    requires few_new { length plan.now.new.items ≤ 4096 }
-    requires deposits { HasDepositsPast plan.now }
-    ensures manifest { store.new.manifest ≡ store.old.manifest }
+    edit: Edit<'_, '_>,
+) -> Result<Committed, SFault>
+    requires begins { Begins edit.listing store.old.manifest }
+    requires sound { IfSome edit.plan IsSoundPlan }
     ensures honest { IsHonest S.Store store.new → IsHonest S.Store store.old }
-    ensures held { OnOk result (IsHonest S.Store store.new → (k : Kept) (c : List DepositValue)
-        → k.bodies row ≡ None → IsMovedFrom k c plan.now → Stands S.Store store.old k
-        → Stands S.Store store.new (moved_by plan.now (held_by receipt.now row body.now k) c)) }
-    ensures left { OnOk result ((k : Kept) (c : List DepositValue)
-        → k.bodies row ≡ None → IsMovedFrom k c plan.now → Stands S.Store store.old k
-        → LeavesOnly S.Store store.new
-        (moved_by plan.now (held_by receipt.now row body.now k) c)) }
-    ensures crash { (k : Kept) (c : List DepositValue)
-        → k.bodies row ≡ None → IsMovedFrom k c plan.now → Stands S.Store store.old k
-        → AddsStore S.Store store.old.conn store.new.conn result
-        (moved_by plan.now (held_by receipt.now row body.now k) c) }
-    ensures numbered { IfOk result (λ p. IsHonest S.Store store.new → (k : Kept)
-        → Stands S.Store store.old k → p.0 ≡ length k.receipts + 1) }
-    ensures room { IfOk result (λ p. p.0 ≤ MOST_RECEIPTS) }
-    ensures worked { IfOk result (λ p. IsHonest S.Store store.new
-        → (k : Kept) (c : List DepositValue) → IsMovedFrom k c plan.now
-        → Stands S.Store store.old k → IsCostOfMove plan.now c p.1) }
-    ensures counted { IfOk result (λ p. store.new.writes
-        ≡ saturated (store.old.writes + p.1.writes)) }
-    ensures uncounted { OnErr result (store.new.writes ≡ store.old.writes) }
+    ensures made { OnOk result (IsHonest S.Store store.new → (k : Kept)
+        → IsFromChainOf k edit.entry.plan → Stands S.Store store.old k
+        → Stands S.Store store.new (edited edit.entry k)) }
+    ensures left { OnOk result (IsHonest S.Store store.new → (k : Kept)
+        → IsFromChainOf k edit.entry.plan → Stands S.Store store.old k
+        → LeavesOnly S.Store store.new (edited edit.entry k)) }
     ensures kept { OnErr result ((k : Kept) → Stands S.Store store.old k
         → Stands S.Store store.new k) }
-    ensures cause { IfErr result (IsStoreFault S.Store store.old store.new) }
+    ensures crash { IsHonest S.Store store.new → (k : Kept)
+        → IsFromChainOf k edit.entry.plan → Stands S.Store store.old k
+        → AddsStore S.Store store.old.conn store.new.conn result (edited edit.entry k) }
+    ensures worked { IfOk result (λ done. IsHonest S.Store store.new → (k : Kept)
+        → IsFromChainOf k edit.entry.plan → Stands S.Store store.old k
+        → IsCostIf edit.entry.plan (chain_deposits k) done.work) }
+    ensures numbered { IfOk result (λ done. IfSome edit.entry.receipt (λ r.
+        IsHonest S.Store store.new → (k : Kept) → Stands S.Store store.old k
+        → done.number ≡ length k.receipts + 1)) }
+    ensures room { IfOk result (λ done. done.number ≤ MOST_RECEIPTS) }
+    ensures plan { IfOk result (λ done. done.plan ≡ edit.entry.plan) }
+    ensures counted { IfOk result (λ done. store.new.writes
+        ≡ saturated (store.old.writes + done.work.writes)) }
+    ensures uncounted { OnErr result (store.new.writes ≡ store.old.writes) }
+    ensures cause { IfErr result
+        (IsEditFault S.Store edit.entry.receipt store.old store.new) }
 {
     let mut change = store.begin()?;
-    let filled = fill_deposit(&mut change, alloc, receipt, row, body, plan)?;
+    let done = fill(&mut change, alloc, edit)?;
     commit_filled(change)?;
-    Ok(filled)
+    Ok(done)
 }
 
-// Makes all of a deposit's change but its commit.
-#[tactic(auto, using(esc_store::specs::StandingLaws::goes_then))]
-fn fill_deposit<S: Alter>(
+// Makes all of an edit's change but its commit. The rows are listed before a body is held, since
+// the table of bodies refers to that of listed rows.
+fn fill<S: Alter>(
     change: &mut Change<'_, S>,
     alloc: Global,
-    receipt: &Receipt<'_>,
-    row: usize,
-    body: &[u8],
-    plan: &Plan,
-) -> Result<(u64, Work), SFault>
-    requires few_old { length plan.now.old.items ≤ 4096 }
-    requires few_new { length plan.now.new.items ≤ 4096 }
-    requires deposits { HasDepositsPast plan.now }
-    ensures goes_on { GoesOn S.Store change.old change.new }
-    ensures filled { OnOk result ((k : Kept) (c : List DepositValue)
-        → k.bodies row ≡ None → IsMovedFrom k c plan.now
+    edit: Edit<'_, '_>,
+) -> Result<Committed, SFault>
+    requires begins { Begins edit.listing (listed_by change.now) }
+    requires sound { IfSome edit.plan IsSoundPlan }
+    ensures goes_on { IsUncommitted S.Store change.old change.new }
+    ensures filled { OnOk result (IsHonest S.Store change.new.store.now → (k : Kept)
+        → IsFromChainOf k edit.entry.plan
         → Rest S.Store change.old k k → HoldsNow S.Store change.old k.registry
-        → IsFilled S.Store change.new k
-        (moved_by plan.now (held_by receipt.now row body.now k) c)) }
-    ensures numbered { IfOk result (λ p. IsHonest S.Store change.new.store.now
-        → (before k : Kept)
-        → Rest S.Store change.old before k → p.0 ≡ length k.receipts + 1) }
-    ensures room { IfOk result (λ p. p.0 ≤ MOST_RECEIPTS) }
-    ensures worked { IfOk result (λ p. IsHonest S.Store change.new.store.now
-        → (k : Kept) (c : List DepositValue) → IsMovedFrom k c plan.now
-        → HoldsNow S.Store change.old k.registry → IsCostOfMove plan.now c p.1) }
-    ensures counted { IfOk result (λ p. saturated change.new.count
-        ≡ saturated (saturated change.old.count + p.1.writes)) }
-    ensures cause { IfErr result (IsChangeFault S.Store change.old change.new) }
+        → IsFilled S.Store change.new k (edited edit.entry k)) }
+    ensures worked { IfOk result (λ done. IsHonest S.Store change.new.store.now
+        → (k : Kept) → IsFromChainOf k edit.entry.plan → HoldsNow S.Store change.old k.registry
+        → IsCostIf edit.entry.plan (chain_deposits k) done.work) }
+    ensures numbered { IfOk result (λ done. IfSome edit.entry.receipt (λ r.
+        IsHonest S.Store change.new.store.now → (before k : Kept)
+        → Rest S.Store change.old before k → done.number ≡ length k.receipts + 1)) }
+    ensures room { IfOk result (λ done. done.number ≤ MOST_RECEIPTS) }
+    ensures plan { IfOk result (λ done. done.plan ≡ edit.entry.plan) }
+    ensures counted { IfOk result (λ done. saturated change.new.count
+        ≡ saturated (saturated change.old.count + done.work.writes)) }
+    ensures cause { IfErr result
+        (IsFillFault S.Store edit.entry.receipt change.old change.new) }
 {
-    let number = change.record_receipt(receipt)?;
-    change.hold(row, body)?;
-    let work = move_in(change, alloc, plan)?;
-    Ok((number, work))
+    let Edit {
+        receipt,
+        listing,
+        body,
+        moment,
+        plan,
+    } = edit;
+    let number = add_receipt(change, &receipt)?;
+    list_rows(change, alloc, listing)?;
+    store_body(change, &body)?;
+    set_moment(change, moment)?;
+    let work = move_if_planned(change, alloc, &plan)?;
+    Ok(Committed { number, work, plan })
 }
 
-/// Moves the tables of a change by a plan, and sets its new chain.
-#[tactic(auto, using(esc_store::specs::StandingLaws::goes_then))]
-pub(crate) fn move_in<S: Alter>(
+// Adds the receipt, if there is one. Returns its number, or 0.
+fn add_receipt<S: Alter>(
     change: &mut Change<'_, S>,
-    alloc: Global,
-    plan: &Plan,
-) -> Result<Work, SFault>
-    requires few_old { length plan.now.old.items ≤ 4096 }
-    requires few_new { length plan.now.new.items ≤ 4096 }
-    requires deposits { HasDepositsPast plan.now }
-    ensures goes_on { GoesOn S.Store change.old change.new }
-    ensures filled { OnOk result ((before k made : Kept) (c : List DepositValue)
-        → IsMovedFrom k c plan.now → made.steps ≡ k.steps → Rest S.Store change.old before made
-        → HoldsNow S.Store change.old k.registry
-        → IsFilled S.Store change.new before (moved_by plan.now made c)) }
-    ensures worked { IfOk result (λ work. IsHonest S.Store change.new.store.now
-        → (k : Kept) (c : List DepositValue) → IsMovedFrom k c plan.now
-        → HoldsNow S.Store change.old k.registry → IsCostOfMove plan.now c work) }
-    ensures counted { IfOk result (λ work. saturated change.new.count
-        ≡ saturated (saturated change.old.count + work.writes)) }
-    ensures cause { IfErr result IsS1OrS2 }
+    receipt: &Option<Receipt<'_>>,
+) -> Result<u64, SFault>
+    ensures part { IsPart S.Store change.old change.new result (noted receipt.now) }
+    ensures listed { listed_by change.new ≡ listed_by change.old }
+    ensures numbered { IfOk result (λ n. IfSome receipt.now (λ r.
+        IsHonest S.Store change.new.store.now → (before k : Kept)
+        → Rest S.Store change.old before k → n ≡ length k.receipts + 1)) }
+    ensures room { IfOk result (λ n. n ≤ MOST_RECEIPTS) }
+    ensures cause { IfErr result (IsFillFault S.Store receipt.now change.old change.new) }
 {
-    let work = move_here(change, alloc, &plan.old, &plan.new, &plan.deposits)?;
-    let front = same_rows(&plan.old, &plan.new);
-    change.continue_chain(front, &plan.new[front..])?;
-    Ok(work)
-}
-
-// How many steps of the same rows both chains begin with, up to the first pair of steps whose rows
-// differ. The table of steps keeps rows, and `common_front` compares places and resends, which tell
-// rows of an accepted manifest alone.
-fn same_rows(old: &[Step], new: &[Step]) -> usize
-    ensures in_old { result ≤ length old.now }
-    ensures in_new { result ≤ length new.now }
-    ensures same { take result (rows_in old.now) ≡ take result (rows_in new.now) }
-    ensures longest { IfSome (slice_get old.now result)
-        (λ a. IfSome (slice_get new.now result) (λ b. a.row ≢ b.row)) }
-{
-    for at in 0..old.len() {
-        if at >= new.len() || old[at].row != new[at].row {
-            return at;
-        }
+    match receipt {
+        Some(receipt) => change.record_receipt(receipt),
+        None => Ok(0),
     }
-    old.len()
 }
 
-ghost use Rattle.std.specs.Prelude.{◌≢◌, IfSome, slice_get};
-ghost use Rattle.esc_events.specs.Plans.{rows_in};
-
-// Moves the tables from one chain to the other.
-fn move_here<S: Alter>(
+// Lists the rows of a union, if there is one.
+fn list_rows<S: Alter>(
     change: &mut Change<'_, S>,
     alloc: Global,
-    old: &[Step],
-    new: &[Step],
-    deposits: &[Deposit],
-) -> Result<Work, SFault>
-    requires few_old { length old.now ≤ 4096 }
-    requires few_new { length new.now ≤ 4096 }
-    requires deposits { length deposits.now ≡ length new.now - common_front old.now new.now }
-    ensures follows { Follows S.Store change.old change.new }
-    ensures counted { IfOk result (λ work. saturated change.new.count
-        ≡ saturated (saturated change.old.count + work.writes)) }
-    ensures moved { OnOk result (IsHonest S.Store change.new.store.now
-        → (c : List DepositValue) → length c ≡ length old.now
-        → HoldsNow S.Store change.old (chain_state c)
-        → HoldsNow S.Store change.new
-        (chain_state (take (common_front old.now new.now) c ++ deposits.now))) }
-    ensures cost { IfOk result (λ work. IsHonest S.Store change.new.store.now
-        → (c : List DepositValue) → length c ≡ length old.now
-        → HoldsNow S.Store change.old (chain_state c)
-        → sum_by mention_count (c ++ deposits.now) < 2 ^ 64
-        → work ≡ cost c old.now new.now deposits.now) }
+    listing: Option<Listing>,
+) -> Result<(), SFault>
+    requires begins { Begins listing (listed_by change.now) }
+    ensures part { IsPart S.Store change.old change.new result (listed_more listing) }
     ensures cause { IfErr result IsS1OrS2 }
 {
-    move_chain(alloc, change, old, new, deposits)
+    match listing {
+        Some(listing) => list_union(change, alloc, listing),
+        None => Ok(()),
+    }
 }
 
-/// Commits a change that has all its parts.
-pub(crate) fn commit_filled<S: Alter>(change: Change<'_, S>) -> Result<(), SFault>
+// Lists the rows of a union. Of the bodies that are parked for them those that are their deposits
+// are held, and the others are let go.
+fn list_union<S: Alter>(
+    change: &mut Change<'_, S>,
+    alloc: Global,
+    listing: Listing,
+) -> Result<(), SFault>
+    requires begins { take (length (listed_by change.now)) listing.union ≡ listed_by change.now }
+    ensures part { IsPart S.Store change.old change.new result (listed_more (Some listing)) }
+    ensures cause { IfErr result IsS1OrS2 }
+{
+    let Listing { union, judged } = listing;
+    let rows = copy_rows(alloc, union.rows())?;
+    change.list(union)?;
+    adopt_rows(change, &rows, &judged.adopted)?;
+    drop_rows(change, &rows, &judged.dropped)
+}
+
+// Holds, for each of these rows, the body that is parked under its digest.
+fn adopt_rows<S: Alter>(
+    change: &mut Change<'_, S>,
+    rows: &[MRow],
+    adopted: &[usize],
+) -> Result<(), SFault>
+    ensures part { IsPart S.Store change.old change.new result
+        (λ k. with_all_adopted rows.now k adopted.now) }
+    ensures cause { IfErr result IsS1OrS2 }
+{
+    for row in adopted {
+        let Some(listed) = rows.get(*row) else {
+            return Err(SFault::S1);
+        };
+        change.adopt(*row, &listed.digest)?;
+    }
+    Ok(())
+}
+
+// Lets go, for each of these rows, the body that is parked under its digest.
+fn drop_rows<S: Alter>(
+    change: &mut Change<'_, S>,
+    rows: &[MRow],
+    dropped: &[usize],
+) -> Result<(), SFault>
+    ensures part { IsPart S.Store change.old change.new result
+        (λ k. with_all_dropped rows.now k dropped.now) }
+    ensures cause { IfErr result IsS1OrS2 }
+{
+    for row in dropped {
+        let Some(listed) = rows.get(*row) else {
+            return Err(SFault::S1);
+        };
+        change.unpark(&listed.digest)?;
+    }
+    Ok(())
+}
+
+// Stores the body, if there is one.
+fn store_body<S: Alter>(change: &mut Change<'_, S>, body: &Storing<'_>) -> Result<(), SFault>
+    ensures part { IsPart S.Store change.old change.new result (stored body.now) }
+    ensures cause { IfErr result IsS1OrS2 }
+{
+    match body {
+        Storing::Nothing => Ok(()),
+        Storing::Hold(row, body) => change.hold(*row, body),
+        Storing::Park(digest, body) => change.park(digest, body),
+    }
+}
+
+// Sets the moment, if there is one to be set.
+fn set_moment<S: Alter>(
+    change: &mut Change<'_, S>,
+    moment: Option<Option<i64>>,
+) -> Result<(), SFault>
+    ensures part { IsPart S.Store change.old change.new result (timed moment) }
+    ensures cause { IfErr result IsS1OrS2 }
+{
+    match moment {
+        Some(moment) => change.set_moment(moment),
+        None => Ok(()),
+    }
+}
+
+// Commits a change that has all its parts.
+fn commit_filled<S: Alter>(change: Change<'_, S>) -> Result<(), SFault>
     ensures manifest { OnOk result (change.exit.0.now.manifest ≡ listed_by change.entry) }
     ensures unlisted { OnErr result
         (change.exit.0.now.manifest ≡ change.entry.store.now.manifest) }

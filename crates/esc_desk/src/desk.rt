@@ -3,19 +3,12 @@
 ghost use Rattle.std.specs.Prelude.{
   ◌≡◌,
   ◌+◌,
-  ◌<◌,
-  ◌++◌,
-  ◌∷◌,
   [],
   List,
-  length,
-  false,
-  Some,
   None,
   IfOk,
   IfErr,
   IfSome,
-  OnOk,
   OnErr,
 };
 ghost use Rattle.sha2.specs.Sha256.{sha256};
@@ -23,15 +16,13 @@ ghost use Rattle.esc_tables.specs.Reading.{reading};
 ghost use Rattle.esc_apply.specs.Registry.{saturated};
 ghost use Rattle.esc_store.specs.Faults.{IsS1OrS2, IsS1OrS2OrS4OrS5};
 ghost use Rattle.esc_store.specs.Kept.{Kept};
-ghost use Rattle.esc_store.specs.ReplyValue.{reply_alike};
 ghost use Rattle.esc_store.specs.Standing.{Stands, IsHonest, IsAsBefore, LeavesOnly};
 ghost use Rattle.esc_events.specs.ArrivalValue.{an_arrival};
-ghost use Rattle.esc_events.specs.Events.{EventValue, union};
+ghost use Rattle.esc_events.specs.Events.{EventValue};
 ghost use Rattle.esc_events.specs.Events.EventValue.{arrived};
 ghost use Rattle.esc_events.specs.Known.{IsKnown};
 ghost use Rattle.esc_events.specs.Stands.{StandsFor};
 ghost use Rattle.esc_events.specs.Works.{IsWorkOf, IsIdle};
-ghost use Rattle.esc_events.specs.declared.known.Known.{Known};
 ghost use Rattle.esc_desk.specs.Calls.{
   store_of,
   writes_of,
@@ -47,17 +38,14 @@ ghost use Rattle.esc_desk.specs.Calls.{
   HadPlace,
   IsCause,
 };
-ghost use Rattle.esc_desk.specs.Causes.{IsCrowded, IsArrivalFault};
-ghost use Rattle.esc_desk.specs.Crashes.{AddsStoreFor};
 ghost use Rattle.esc_desk.specs.Serving.{Serves, DeskServes, Answers};
-ghost use Rattle.esc_desk.specs.Takings.{IsTakenIn};
 
-use crate::keeping::take_in;
-use crate::knowing::known_of;
+use crate::answering::{Answer, answer_arrival, numbered};
+use crate::knowing::known_or;
 use crate::reread::Reread;
 use esc_apply::Work;
 use esc_events::Known;
-use esc_store::{MOST_RECEIPTS, Number, Reply, SFault, Store};
+use esc_store::{Number, Reply, SFault, Store};
 use sha2::{Digest, Sha256};
 use sqlite::Alter;
 use std::alloc::Global;
@@ -152,62 +140,15 @@ impl<S: Alter> Desk<S> {
         let digest = Sha256::digest(body);
         // Read for the proof alone: it shows that the count is below 2^64.
         let _writes = self.store.writes();
-        match self.store.receipt_of(alloc, number, &digest)? {
-            Some(reply) => self.answer_again(alloc, reply, &digest, body),
-            None => self.take_new(alloc, number, digest, body),
-        }
-    }
-
-    // Takes in an arrival for which no receipt is kept. What is remembered is forgotten first, and
-    // is only remembered again once the arrival was taken in.
-    #[tactic(auto, using(esc_store::specs::StandingLaws::was_honest))]
-    fn take_new(
-        &mut self,
-        alloc: Global,
-        number: &Number<'_>,
-        digest: [u8; 32],
-        body: &[u8],
-    ) -> Result<(Reply, Work), SFault>
-        requires { digest ≡ sha256 body.now }
-        ensures answered { IsHonest S.Store self.new.store → (e : List EventValue) (k : Kept)
-            → Stands S.Store self.old.store k → StandsFor sha256 reading e k
-            → IfSome self.old.known (IsKnown k)
-            → reply_alike (union e) 1 number.now digest k.receipts ≡ None
-            → IfOk result (λ p. IsTakenIn S.Store self.new e
-            (an_arrival number.now body.now) p.0 p.1) }
-        ensures room { IsHonest S.Store self.new.store → (k : Kept)
-            → Stands S.Store self.old.store k → OnOk result (length k.receipts < MOST_RECEIPTS) }
-        ensures place { IsHonest S.Store self.new.store → (k : Kept)
-            → Stands S.Store self.old.store k → OnOk result (IsCrowded k digest → ⊥) }
-        ensures counted { IfOk result (λ p. self.new.store.writes
-            ≡ saturated (self.old.store.writes + p.1.writes)) }
-        ensures uncounted { OnErr result (self.new.store.writes ≡ self.old.store.writes) }
-        ensures lost { OnErr result ((k : Kept) → Stands S.Store self.old.store k
-            → Stands S.Store self.new.store k) }
-        ensures forgotten { OnErr result (self.new.known ≡ None) }
-        ensures crash { IsHonest S.Store self.new.store
-            → (e : List EventValue) (k : Kept)
-            → Stands S.Store self.old.store k → StandsFor sha256 reading e k
-            → IfSome self.old.known (IsKnown k)
-            → reply_alike (union e) 1 number.now digest k.receipts ≡ None
-            → AddsStoreFor S.Store self.old.store.conn self.new.store.conn result
-            (e ++ arrived (an_arrival number.now body.now) ∷ []) }
-        ensures honest { IsHonest S.Store self.new.store → IsHonest S.Store self.old.store }
-        ensures cause { IfErr result
-            (IsArrivalFault S.Store self.old.store self.new.store digest) }
-    {
-        let mut known = self.take_known(alloc)?;
-        let taken = take_in(
-            &mut self.store,
-            alloc,
-            number,
-            digest,
-            body,
-            &mut known,
-            &mut self.reread,
-        )?;
-        self.known = Some(known);
-        Ok(taken)
+        let kept = self.store.receipt_of(alloc, number, &digest)?;
+        let known = self.known.take();
+        let last = &mut self.reread;
+        let store = &mut self.store;
+        let answer = answer_arrival(store, alloc, kept, number, digest, body, known, last)?;
+        let Answer { reply, decision } = answer;
+        let is_new = decision.edit.receipt.is_some();
+        let (number, work) = self.make(alloc, decision)?;
+        Ok((numbered(reply, is_new, number), work))
     }
 
     /// What is known of the store's rows: what was remembered, which is forgotten, or else what the
@@ -220,9 +161,7 @@ impl<S: Alter> Desk<S> {
             → IfSome self.old.known (IsKnown k) → IfOk result (IsKnown k) }
         ensures cause { IfErr result IsS1OrS2 }
     {
-        match self.known.take() {
-            Some(known) => Ok(known),
-            None => known_of(&mut self.store, alloc),
-        }
+        let known = self.known.take();
+        known_or(&mut self.store, alloc, known)
     }
 }

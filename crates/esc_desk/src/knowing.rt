@@ -1,7 +1,7 @@
 //! Which rows a store holds, and its chain: what a desk remembers, so that an arrival needn't ask
 //! for them.
 
-ghost use Rattle.std.specs.Prelude.{ℕ, List, IfOk, IfErr, OnOk};
+ghost use Rattle.std.specs.Prelude.{ℕ, List, IfOk, IfErr, IfSome, OnOk};
 ghost use Rattle.sha2.specs.Sha256.{sha256};
 ghost use Rattle.esc_tables.specs.Reading.{reading};
 ghost use Rattle.esc_store.specs.Faults.{IsS1OrS2};
@@ -29,6 +29,24 @@ pub(crate) fn known_of<S: Alter>(store: &mut Store<S>, alloc: Global) -> Result<
     let (held, told) = known_rows(store, alloc)?;
     let chain = store.chain(alloc)?;
     Ok(Known { held, told, chain })
+}
+
+/// What is known of a store, or if that is `None`, what the store reports.
+pub(crate) fn known_or<S: Alter>(
+    store: &mut Store<S>,
+    alloc: Global,
+    known: Option<Known>,
+) -> Result<Known, SFault>
+    ensures same { IsAsBefore S.Store store.old store.new }
+    ensures known { IsHonest S.Store store.new → (e : List EventValue) (k : Kept)
+        → Stands S.Store store.old k → StandsFor sha256 reading e k → IfSome known (IsKnown k)
+        → IfOk result (IsKnown k) }
+    ensures cause { IfErr result IsS1OrS2 }
+{
+    match known {
+        Some(known) => Ok(known),
+        None => known_of(store, alloc),
+    }
 }
 
 /// The rows that have a body, and those that a receipt says are held. Of each row that has a body

@@ -108,18 +108,48 @@
 //! that a store of version 1 lost. What is said of replies, listed rows and the moment holds
 //! without that.
 //!
+//! # How an event is taken in
+//!
+//! Each event goes one way. It is *decided*, by reads alone: what it comes to, by what the store
+//! keeps (`Decision`). A decision has an *edit*, a value that says what is to change (`Edit`): one
+//! more receipt, the rows of a union, a body that is held or parked, a moment, the plan of the
+//! chain's move. What the store keeps then is said by the definition `edited`
+//! (`specs/Edits.antt`). The edit is *committed*: one transaction makes all of it, or nothing is
+//! changed (`commit`). `Desk::make` does so for every event, and then remembers what is known of
+//! the rows; an edit that changes nothing is not committed.
+//!
+//! An arrival is decided by `answer_arrival`: a duplicate of an earlier one has that one's reply,
+//! and an empty edit unless the reply is `A2`; a new one is judged, and gets its receipt and its
+//! reply (`receive`); what either makes of its body is found by `decide_arrival`. An amendment is
+//! decided by `decide_union`, a moment by `decide_moment`.
+//!
+//! A further kind of event, once `EventValue` and its books are defined in `esc_events`, needs
+//!
+//! - where it changes what no other event does, a field of `Edit`, its step in `books_edited`, and
+//!   a function in `src/changes.rt` that makes it, with the clause `IsPart`;
+//! - a function that decides it, with the clauses `same` (it only reads), `sound` (`IsSound`),
+//!   `decided` (`IsDecided`) and `cause`;
+//! - one lemma for that: the edited books are those with the event, as `IsMove` says, for
+//!   `decided_moved` of `proofs/Deciding.antt`, or as `StandsFor` does, for `decided_still`;
+//! - a call of [`Desk`] that decides and makes it, and its variants of [`Event`] and
+//!   [`EventOutcome`].
+//!
+//! What a commit changes, what a crash leaves, what is counted and what a failure leaves is proved
+//! by `commit` and `Desk::make`, and stays as it is.
+//!
 //! # Cost
 //!
 //! A duplicate of an earlier arrival costs a SHA-256 and a look-up, unless that one's reply is
 //! `A2`. The body of any other arrival is parsed once, if a row lists it. Where the last such
-//! arrival had the very same body, of 64 KiB at most, and was the deposit of a row that was held
-//! already, its deposit is remembered, and the bodies are compared in place of that. Of the new
-//! chain's steps only the bodies past the front that both chains have in common are parsed
-//! again. Each [`Desk::held`] and [`Desk::status`] asks the store which rows are held; so do a
-//! desk's first event that may change the store, and the next one after such an event failed.
-//! Receipts with `A1` say so. A row that has a body, and that no such receipt names, lists the
-//! digest of a receipt with `A2` or `A5`: its body is read, once, however many receipts have that
-//! digest.
+//! arrival, answered or lost, had the very same body, of 64 KiB at most, and was the deposit of a
+//! row that was held already, its deposit is remembered, and the bodies are compared in place of
+//! that. Of the new chain's steps only the bodies past the front that both chains have in common
+//! are parsed again. A transaction is begun only for an event that changes something, and none for
+//! one that is refused by `S5`. Each [`Desk::held`] and [`Desk::status`] asks the store which rows
+//! are held; so do a desk's first event that may change the store, and the next one after such an
+//! event failed. Receipts with `A1` say so. A row that has a body, and that no such receipt names,
+//! lists the digest of a receipt with `A2` or `A5`: its body is read, once, however many receipts
+//! have that digest.
 //!
 //! [`Desk::end`] reads the body of the chain's last step, and parses its envelope alone, no row.
 //!
@@ -128,24 +158,27 @@
 //! between.
 #![tactic(auto)]
 
-mod again;
 mod amendment;
+mod answering;
 mod arrival;
 mod assessment;
-mod bodies;
 mod changes;
+mod decision;
 mod desk;
+mod edit;
 mod event;
 mod event_laws;
+mod intake;
 mod judging;
-mod keeping;
 mod knowing;
 mod laws;
 mod moment;
+mod moves;
 mod parking;
 mod plan;
 mod reads;
 mod receipt;
+mod receiving;
 mod reread;
 mod running;
 mod status;

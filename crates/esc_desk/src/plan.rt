@@ -1,6 +1,18 @@
 //! How the registry gets from the chain that the store keeps to another one.
 
-ghost use Rattle.std.specs.Prelude.{◌≡◌, ◌≤◌, ◌<◌, ℕ, List, Option, length, IfOk, IfErr, OnOk};
+ghost use Rattle.std.specs.Prelude.{
+  ◌≡◌,
+  ◌≤◌,
+  ◌<◌,
+  ℕ,
+  List,
+  Option,
+  length,
+  map,
+  IfOk,
+  IfErr,
+  OnOk,
+};
 ghost use Rattle.esc_tables.specs.Reading.{reading};
 ghost use Rattle.esc_manifest.specs.declared.row.MRow.{MRow};
 ghost use Rattle.esc_store.specs.Faults.{IsS1OrS2};
@@ -16,17 +28,19 @@ ghost use Rattle.esc_events.specs.Plans.{
   HasDepositsPast,
 };
 ghost use Rattle.esc_desk.specs.DepositSources.{IsSource};
+ghost use Rattle.esc_desk.specs.Edits.{IsSoundPlan};
 
 use crate::judging::{Judgement, judge};
 use esc_apply::{Step, common_front};
 use esc_bundle::{Fault, NoMemory};
 use esc_chain::{Held, latest_chain_at};
-use esc_events::Plan;
+use esc_events::{Known, Plan};
 use esc_manifest::{MOST_ROWS, MRow, Manifest};
 use esc_store::{SFault, Store};
 use esc_tables::{Deposit, read_deposit};
 use sqlite::Alter;
 use std::alloc::Global;
+use std::mem;
 
 /// Where the deposits of a plan's new steps are read from.
 #[derive(Drop)]
@@ -69,8 +83,6 @@ fn steps_of(alloc: Global, rows: &[MRow], chain: &[usize]) -> Result<Vec<Step>, 
     Ok(steps)
 }
 
-ghost use Rattle.std.specs.Prelude.{map};
-
 fn step_of(rows: &[MRow], row: usize) -> Step
     requires { row < length rows.now }
     ensures { result ≡ step_at rows.now row }
@@ -81,6 +93,31 @@ fn step_of(rows: &[MRow], row: usize) -> Step
         place: header.place,
         resend: header.resend,
     }
+}
+
+/// Plans the move from the known chain to the latest chain of the known rows of which a body is held,
+/// up to a moment. The known chain is taken.
+pub(crate) fn plan_latest<S: Alter>(
+    store: &mut Store<S>,
+    alloc: Global,
+    known: &mut Known,
+    moment: Option<i64>,
+    source: Source<'_>,
+) -> Result<Plan, SFault>
+    ensures same { IsAsBefore S.Store store.old store.new }
+    ensures held { known.new.held ≡ known.old.held }
+    ensures told { known.new.told ≡ known.old.told }
+    ensures sound { IfOk result IsSoundPlan }
+    ensures latest { (k : Kept) → Stands S.Store store.old k → IfOk result
+        (λ p. AreLatestSteps k.listed known.old.held.items moment p.new.items) }
+    ensures planned { IsHonest S.Store store.new → (k : Kept) (bodies : ℕ → Option (List ℕ))
+        → Stands S.Store store.old k → IsSource source.entry k bodies
+        → known.old.chain.items ≡ kept_chain k → IfOk result (IsPlanned k bodies) }
+    ensures cause { IfErr result IsS1OrS2 }
+{
+    let new = latest_steps(alloc, store.manifest(), &known.held, moment)?;
+    let old = mem::replace(&mut known.chain, Vec::new(alloc));
+    plan_move(store, alloc, old, new, source)
 }
 
 /// Plans the move from the steps `old`, those of the chain that the store keeps, to the steps

@@ -1,0 +1,216 @@
+-- What an arrival is answered, why it is lost, and what a crash leaves of it.
+use Rattle.std.proofs.Common.{◌≡◌, ◌+◌, ◌<◌, ◌≤◌, inl, inr, ℕ, Bool, true, false, List, [], ◌∷◌, ◌++◌, length, Option, Some, None, IfSome, is_some, refl, sym, ap, ap₂, subst, ◌∙◌, true≢false, arith}
+use Rattle.std.proofs.lemmas.Option.{same_Some, none-some}
+use Rattle.sha2.specs.Sha256.{sha256}
+use Rattle.sqlite_trees.specs.declared.store.Store.{Ghosts}
+use Rattle.sqlite.specs.Held.{Held, state}
+use Rattle.sqlite.specs.State.{HasCleanDisk}
+use Rattle.esc_tables.specs.Reading.{reading}
+use Rattle.esc_manifest.specs.declared.row.MRow.{MRow}
+use Rattle.esc_apply.specs.declared.moves.Work.{Work}
+use Rattle.esc_store.specs.declared.books.TheConstants.{MOST_RECEIPTS}
+use Rattle.esc_store.specs.declared.fault.SFault.{SFault}
+use Rattle.esc_store.specs.declared.reply.Verdict.{Verdict}
+use Rattle.esc_store.specs.declared.reply.Verdict.TheVariants.{A1, A2, A3, A4, A5}
+use Rattle.esc_store.specs.declared.store.Store.{Store}
+use Rattle.esc_store.specs.Kept.{Kept, IsFull}
+use Rattle.esc_store.specs.ReplyValue.{ReceiptValue, ReplyValue, reply_alike, reply_kept}
+use Rattle.esc_store.specs.Standing.{IsAsBefore, IsHonest, Stands, LeavesNoMore}
+use Rattle.esc_events.specs.declared.assessment.Assessment.{Assessment}
+use Rattle.esc_events.specs.declared.assessment.Assessment.TheVariants.{Unlisted}
+use Rattle.esc_events.specs.declared.known.Known.{Known}
+use Rattle.esc_events.specs.Apart.{WhereApart}
+use Rattle.esc_events.specs.ArrivalValue.{ArrivalValue}
+use Rattle.esc_events.specs.Assessment.{assessment, found_at, row_of}
+use Rattle.esc_events.specs.Events.{EventValue, union}
+use Rattle.esc_events.specs.Events.EventValue.{arrived}
+use Rattle.esc_events.specs.Known.{IsKnown}
+use Rattle.esc_events.specs.Receipts.{reply_to}
+use Rattle.esc_events.specs.Stands.{AreBooks, StandsFor}
+use Rattle.esc_events.specs.Taking.{IsAgain}
+use Rattle.esc_desk.specs.declared.answering.Answer.{Answer}
+use Rattle.esc_desk.specs.declared.decision.Decision.{Decision}
+use Rattle.esc_desk.specs.declared.desk.Desk.{Desk}
+use Rattle.esc_desk.specs.declared.edit.Storing.TheVariants.{Nothing}
+use Rattle.esc_desk.specs.declared.receiving.Received.{Received}
+use Rattle.esc_desk.specs.Again.{IsMissing, IsMissingAfter, IsUnkept}
+use Rattle.esc_desk.specs.Answering.{IsAnswer, IsAsked, numbered}
+use Rattle.esc_desk.specs.Serving.{DeskServes}
+use Rattle.esc_desk.specs.Calls.{HadPlace, HasNoPlace, IsCause}
+use Rattle.esc_desk.specs.Crashes.{CrashLeaves, LeavesAnswered, still_doubtful}
+use Rattle.esc_desk.specs.Decisions.{IsDecidedArrival, still_by, IsDone, IsMade}
+use Rattle.esc_desk.specs.Causes.{IsPlaceFault}
+use Rattle.esc_desk.specs.Edits.{is_empty}
+use Rattle.esc_desk.specs.Receiving.{IsReceived}
+use Rattle.esc_desk.proofs.Arriving.{new_receipt}
+use Rattle.esc_desk.proofs.CauseLemmas.{cause_by, crowded_of, no_place_of}
+use Rattle.esc_desk.proofs.ComingAgain.{missing_of, nothing_repeated, told_again}
+use Rattle.esc_desk.proofs.CrashLemmas.{if_clean, leaves_as, leaves_nothing, leaves_only, leaves_with_only}
+use Rattle.esc_desk.proofs.Deciding.{decided_still, is_none_of}
+use Rattle.esc_desk.proofs.DecidingArrivals.{nothing_again}
+use Rattle.esc_desk.proofs.EventLemmas.{union-arrived}
+use Rattle.esc_desk.proofs.HeldRows.{unlisted_row}
+use Rattle.esc_desk.proofs.Likeness.{AddsNothing, still_stands}
+use Rattle.esc_desk.proofs.OneArrival.{new_reply}
+use Rattle.esc_desk.proofs.RunLemmas.{reply_stays}
+
+-- what was made is made, where it was anything
+pub done_made : {S : Type 0} {g : Ghosts S} {old : Held S} {new : Desk S} {e : List EventValue} {x : EventValue} {d : Decision} {work : Work}
+    → IsDone g old new e x d work → is_empty d.edit ≡ false → IsMade g new e x work
+done_made is some = record { serves = is.serves; works = is.works; left = is.left some }
+
+-- what a store was asked
+pub asked_of : {S : Type 0} (g : Ghosts S) (desk : Desk S) (mid : Store S) (known : Option Known) (n digest : List ℕ) (kept : Option ReplyValue) (e : List EventValue) (served : DeskServes g desk e)
+    → IsAsBefore g desk.store mid → known ≡ desk.known → kept ≡ reply_alike served.serves.kept.listed 1 n digest served.serves.kept.receipts
+    → IsAsked g mid known n digest kept e served.serves.kept
+asked_of g desk mid known n digest kept e served same is found =
+    let k = served.serves.kept in
+    record {
+      stood = same.stands k served.serves.stands;
+      stands_for = served.serves.stands_for;
+      known_is = subst (λ (o : Option Known). IfSome o (IsKnown k)) (sym is) served.remembers;
+      kept_is = sym (found ∙ ap (λ (m : List MRow). reply_alike m 1 n digest k.receipts) served.serves.stands_for.books.listed);
+    }
+
+-- ---- what is answered
+
+-- there was a place, if there is one where no row lists the body
+had_place : (e : List EventValue) (a : ArrivalValue) (k : Kept) (found : Assessment) → AreBooks sha256 reading e k → found ≡ assessment sha256 reading (union e) a.body
+    → (found ≡ Unlisted → (k.parked (sha256 a.body) ≡ None) × IsFull k.parked → ⊥) → HadPlace e a
+had_place e a k found books is place apart full =
+    let crowded = crowded_of e a k books apart full in
+    place (is ∙ ap (λ (o : Option ℕ). found_at (union e) o (reading a.body)) full.to_be_parked.unlisted) (crowded.not_parked, crowded.full)
+
+-- a new arrival
+pub new_answer : {e : List EventValue} {a : ArrivalValue} {k : Kept} {before : Known} {r : Received} {d : Decision} {m : List MRow} → IsReceived e a k before r
+    → IsDecidedArrival e a k r.found d → d.edit.receipt ≡ Some r.receipt → r.reply ≡ reply_kept m 0 r.receipt → m ≡ union e
+    → (r.found ≡ Unlisted → (k.parked (sha256 a.body) ≡ None) × IsFull k.parked → ⊥) → IsAnswer e a k (record { reply = r.reply; decision = d })
+new_answer {e = e} {a = a} {k = k} {before = before} {r = r} {d = d} got done receipt reply listed place =
+    let is = got.is_new in
+    let none : reply_to sha256 reading e a ≡ None = ap (reply_alike (union e) 1 a.number (sha256 a.body)) (sym is.stood.books.receipts) ∙ is.none in
+    record {
+      decided = done.decided;
+      idle = done.idle;
+      told = λ n counted.
+          let last = subst (λ (o : Option ReceiptValue). IfSome o (λ (x : ReceiptValue). n ≡ length k.receipts + 1)) receipt counted in
+          let count : 1 + length k.receipts ≡ n = omega (arith, last) in
+          let same = ap (λ (v : ReplyValue). record v { receipt = n }) (reply ∙ ap (λ (x : List MRow). reply_kept x 0 r.receipt) listed) in
+          let kept = ap₂ (reply_kept (union e)) (sym count) (new_receipt e a k r.found before r.receipt is) in
+          new_reply sha256 reading e k a is.stood.books is.none ∙ ap Some (sym (same ∙ kept))
+          ∙ ap (λ (o : Option ReceiptValue). Some (numbered (is_some o) n r.reply)) (sym receipt);
+      is_new = λ new. ap is_some receipt;
+      again = λ x told. absurd (none-some _ (sym none ∙ told));
+      there = λ empty unkept missing. done.there empty (subst (IsMissing k.bodies k.parked (sha256 a.body)) (sym is.found_is) missing);
+      place = had_place e a k r.found is.stood.books is.found_is place;
+    }
+
+-- one that comes again with its reply A2
+pub again_answer : {e : List EventValue} {a : ArrivalValue} {k : Kept} {found : Assessment} {reply : ReplyValue} {d : Decision} → IsAgain e a k found reply
+    → IsDecidedArrival e a k found d → d.edit.receipt ≡ None
+    → (found ≡ Unlisted → (k.parked (sha256 a.body) ≡ None) × IsFull k.parked → ⊥) → IsAnswer e a k (record { reply = reply; decision = d })
+again_answer {e = e} {a = a} {k = k} {found = found} {reply = reply} {d = d} is done receipt place =
+    let at = told_again e a k found reply is in
+    record {
+      decided = done.decided;
+      idle = done.idle;
+      told = λ n counted. reply_stays e (arrived a) a reply at ∙ ap (λ (o : Option ReceiptValue). Some (numbered (is_some o) n reply)) (sym receipt);
+      is_new = λ none. absurd (none-some _ (sym none ∙ at));
+      again = λ r told.
+          let same = same_Some _ _ (sym at ∙ told) in
+          record { same = same; no_receipt = receipt; rests = λ other. absurd (other (ap (λ (x : ReplyValue). x.verdict) (sym same) ∙ is.verdict)) };
+      there = λ empty unkept missing. done.there empty (subst (IsMissing k.bodies k.parked (sha256 a.body)) (sym is.found_is) missing);
+      place = had_place e a k found is.stood.books is.found_is place;
+    }
+
+-- one that comes again with another reply
+pub other_answer : (e : List EventValue) (a : ArrivalValue) (k : Kept) (reply : ReplyValue) (known : Option Known) → StandsFor sha256 reading e k → IfSome known (IsKnown k)
+    → reply_alike (union e) 1 a.number (sha256 a.body) k.receipts ≡ Some reply → (reply.verdict ≡ A2 → ⊥)
+    → IsAnswer e a k (record { reply = reply; decision = still_by None known Nothing })
+other_answer e a k reply known stands knows there other =
+    let none = nothing_repeated e a k stands.books reply there other in
+    let at : reply_to sha256 reading e a ≡ Some reply = ap (reply_alike (union e) 1 a.number (sha256 a.body)) (sym stands.books.receipts) ∙ there in
+    record {
+      decided = decided_still None None Nothing None known stands (still_stands e a k none stands) (union-arrived e a) knows;
+      idle = λ work cost. λ apart same. cost;
+      told = λ n counted. reply_stays e (arrived a) a reply at;
+      is_new = λ new. absurd (none-some _ (sym new ∙ at));
+      again = λ r told. record { same = same_Some _ _ (sym at ∙ told); no_receipt = refl; rests = λ other. refl };
+      there = λ empty unkept missing. other (unkept reply at);
+      place = λ apart full. other (full.to_be_parked.unkept reply at);
+    }
+
+-- ---- why one is lost
+
+module _ {S : Type 0} (g : Ghosts S) (mid new : Store S) (found : Assessment) (digest : List ℕ) (f : SFault) where
+  module _ (e : List EventValue) (a : ArrivalValue) (k : Kept) (clean : IsHonest g new) (stood : Stands g mid k) (books : AreBooks sha256 reading e k)
+      (same : digest ≡ sha256 a.body) (is : found ≡ assessment sha256 reading (union e) a.body) where
+    no_place : IsUnkept e a → found ≡ Unlisted → k.parked digest ≡ None → IsFull k.parked → WhereApart e (HasNoPlace e a)
+    no_place unkept unlisted free full = no_place_of e a k books unkept (record {
+      unlisted = ap (λ (m : List MRow). row_of m (sha256 a.body)) books.listed ∙ unlisted_row (union e) (row_of (union e) (sha256 a.body)) (reading a.body) (sym is ∙ unlisted);
+      not_parked = ap k.parked (sym same) ∙ free;
+      full = full;
+    })
+
+    pub cause_new : (r : ReceiptValue) → reply_to sha256 reading e a ≡ None → IsPlaceFault g (Some r) mid new found digest f → IsCause e a f
+    cause_new r none (inl full) =
+        let at = full.2 clean k stood in
+        subst (IsCause e a) (sym full.0)
+        (λ never. subst (λ (rs : List ReceiptValue). length rs < MOST_RECEIPTS) books.receipts at.2, no_place (λ x told. absurd (none-some _ (sym none ∙ told))) full.1 at.0 at.1)
+    cause_new r none (inr (inl is)) = cause_by e a f is
+    cause_new r none (inr (inr full)) = subst (IsCause e a) (sym full.0) (none, subst (λ (rs : List ReceiptValue). MOST_RECEIPTS ≤ length rs) books.receipts (full.1 clean k stood))
+
+    pub cause_again : (reply : ReplyValue) → reply_to sha256 reading e a ≡ Some reply → reply.verdict ≡ A2 → IsPlaceFault g None mid new found digest f → IsCause e a f
+    cause_again reply at a2 (inl full) =
+        let free = full.2 clean k stood in
+        subst (IsCause e a) (sym full.0)
+        (λ none. absurd (none-some _ (sym none ∙ at)), no_place (λ x told. ap (λ (y : ReplyValue). y.verdict) (same_Some _ _ (sym told ∙ at)) ∙ a2) full.1 free.0 free.1)
+    cause_again reply at a2 (inr is) = cause_by e a f is
+
+-- ---- what a crash leaves
+
+is_unkept : (e : List EventValue) (a : ArrivalValue) (r : ReplyValue) → reply_to sha256 reading e a ≡ Some r → r.verdict ≡ A2 → IsUnkept e a
+is_unkept e a r told a2 x other = ap (λ (y : ReplyValue). y.verdict) (same_Some _ _ (sym other ∙ told)) ∙ a2
+
+-- one that comes again, and for which nothing is done, adds nothing
+adds_nothing : {e : List EventValue} {a : ArrivalValue} {k : Kept} {p : Answer} (r : ReplyValue) → StandsFor sha256 reading e k → IsAnswer e a k p → is_empty p.decision.edit ≡ true
+    → reply_to sha256 reading e a ≡ Some r → AddsNothing e a
+adds_nothing {e = e} {a = a} {k = k} {p = p} r stood is empty told = by_verdict r.verdict refl
+  where
+    at : reply_alike (union e) 1 a.number (sha256 a.body) k.receipts ≡ Some r
+    at = ap (reply_alike (union e) 1 a.number (sha256 a.body)) stood.books.receipts ∙ told
+
+    by_verdict : (v : Verdict) → r.verdict ≡ v → AddsNothing e a
+    by_verdict A2 a2 = nothing_again (assessment sha256 reading (union e) a.body) (record { stood = stood; kept = at; verdict = a2; found_is = refl }) (is.there empty (is_unkept e a r told a2))
+    by_verdict A1 other = nothing_repeated e a k stood.books r at (λ a2. let never : ⊥ = cc in never)
+    by_verdict (A3 n) other = nothing_repeated e a k stood.books r at (λ a2. let never : ⊥ = cc in never)
+    by_verdict A4 other = nothing_repeated e a k stood.books r at (λ a2. let never : ⊥ = cc in never)
+    by_verdict A5 other = nothing_repeated e a k stood.books r at (λ a2. let never : ⊥ = cc in never)
+
+module _ {S : Type 0} (g : Ghosts S) (first old : Held S) (new : Desk S) (e doubtful : List EventValue) (a : ArrivalValue) (k : Kept) (p : Answer) (work : Work)
+    (stood : StandsFor sha256 reading e k) (left : CrashLeaves g first e doubtful) (leaves : LeavesNoMore g first old) where
+  abbrev IsAnswered : Type 0
+  IsAnswered = IsAnswer e a k p × IsDone g old new e (arrived a) p.decision work
+
+  answered : IsAnswered → CrashLeaves g new.store.conn (e ++ arrived a ∷ []) (still_doubtful (reply_to sha256 reading e a) doubtful)
+  answered done = by_reply (reply_to sha256 reading e a) refl (is_empty p.decision.edit) refl
+    where
+      by_reply : (o : Option ReplyValue) → reply_to sha256 reading e a ≡ o → (b : Bool) → is_empty p.decision.edit ≡ b
+          → CrashLeaves g new.store.conn (e ++ arrived a ∷ []) (still_doubtful o doubtful)
+      by_reply None told true empty = absurd (true≢false (sym (done.0.is_new told) ∙ ap is_some (is_none_of p.decision.edit empty).receipt))
+      by_reply None told false some = leaves_only g new.store.conn (e ++ arrived a ∷ []) (done.1.left some)
+      by_reply (Some r) told true empty =
+          leaves_nothing g old new.store.conn e doubtful (leaves_as g first old e doubtful left leaves) (adds_nothing r stood done.0 empty told) (done.1.rests empty).1
+      by_reply (Some r) told false some = leaves_with_only g old new.store.conn e a (done.1.left some) doubtful (leaves_as g first old e doubtful left leaves)
+
+  taken : IsAnswered → IsUnkept e a → WhereApart e (IsMissingAfter e a → CrashLeaves g new.store.conn (e ++ arrived a ∷ []) [])
+  taken done unkept apart missing = by_empty (is_empty p.decision.edit) refl
+    where
+      by_empty : (b : Bool) → is_empty p.decision.edit ≡ b → CrashLeaves g new.store.conn (e ++ arrived a ∷ []) []
+      by_empty true empty = absurd (done.0.there empty unkept (missing_of e a k stood.books apart missing))
+      by_empty false some = leaves_only g new.store.conn (e ++ arrived a ∷ []) (done.1.left some)
+
+  pub leaves_answered : (HasCleanDisk (state g new.store.conn) → IsAnswered) → LeavesAnswered g new.store.conn e doubtful a
+  leaves_answered done = record {
+    answered = if_clean g new.store.conn (e ++ arrived a ∷ []) _ (λ clean. answered (done clean));
+    missing = λ unkept apart missing. if_clean g new.store.conn (e ++ arrived a ∷ []) [] (λ clean. taken (done clean) unkept apart missing);
+  }

@@ -1,0 +1,178 @@
+-- What an arrival comes to, with a receipt or without one: nothing is stored, or its body is parked or held.
+use Rattle.std.proofs.Common.{◌≡◌, inl, inr, ℕ, ℤ, true, false, List, [], ◌∷◌, ◌++◌, Option, Some, None, IsSome, is_some, refl, sym, ap, ap₂, subst, ◌∙◌, true≢false, map}
+use Rattle.std.proofs.lemmas.Option.{same_Some}
+use Rattle.sha2.specs.Sha256.{sha256}
+use Rattle.esc_tables.specs.Reading.{reading}
+use Rattle.esc_manifest.specs.declared.row.MRow.{MRow}
+use Rattle.esc_apply.specs.declared.moves.Work.{Work}
+use Rattle.esc_store.specs.Kept.{Kept, AreHeld, AreHeldBy, body_put, step_at, with_body, with_parked, with_receipt}
+use Rattle.esc_store.specs.ReplyValue.{ReceiptValue, ReplyValue}
+use Rattle.esc_events.specs.declared.assessment.Assessment.{Assessment}
+use Rattle.esc_events.specs.declared.assessment.Assessment.TheVariants.{Unlisted, Unreadable, Differing, Holding}
+use Rattle.esc_events.specs.declared.known.Known.{Known}
+use Rattle.esc_events.specs.declared.parking.Parking.TheVariants.{Needless, Free, Crowded}
+use Rattle.esc_events.specs.declared.plan.Plan.{Plan}
+use Rattle.esc_events.specs.ArrivalValue.{ArrivalValue}
+use Rattle.esc_events.specs.Events.{EventValue}
+use Rattle.esc_events.specs.Events.EventValue.{arrived}
+use Rattle.esc_events.specs.Assessment.{held_row}
+use Rattle.esc_events.specs.HeldLaws.{holding_listed}
+use Rattle.esc_events.specs.Known.{IsKnown}
+use Rattle.esc_events.specs.Parks.{IsParking}
+use Rattle.esc_events.specs.Plans.{AreLatestSteps, IsPlanned}
+use Rattle.esc_events.specs.Stands.{AreBooks}
+use Rattle.esc_events.specs.Taking.{IsNew, IsAgain}
+use Rattle.esc_events.specs.Works.{IsIdle}
+use Rattle.esc_desk.specs.declared.edit.Edit.{Edit}
+use Rattle.esc_desk.specs.declared.edit.Storing.{Storing}
+use Rattle.esc_desk.specs.declared.edit.Storing.TheVariants.{Nothing}
+use Rattle.esc_desk.specs.declared.receiving.Received.{Received}
+use Rattle.esc_desk.specs.Again.{IsMissing}
+use Rattle.esc_desk.specs.Decisions.{IsArriving, IsDecidedArrival, still_by}
+use Rattle.esc_desk.specs.Edits.{is_empty, is_nothing, noted, stored}
+use Rattle.esc_desk.specs.EventLaws.{IsMove}
+use Rattle.esc_desk.specs.Receiving.{IsReceived}
+use Rattle.esc_desk.proofs.Arriving.{books_noted, books_parked, books_held, books_known_again, books_parked_again, books_held_again}
+use Rattle.esc_desk.proofs.ComingAgain.{nothing_listed, nothing_parked, nothing_refused}
+use Rattle.esc_desk.proofs.Deciding.{decided_still, is_none_of}
+use Rattle.esc_desk.proofs.EventLemmas.{union-arrived}
+use Rattle.esc_desk.proofs.Holding.{move_to}
+use Rattle.esc_desk.proofs.Likeness.{AddsNothing}
+use Rattle.esc_desk.proofs.Moving.{stands_still}
+use Rattle.esc_desk.proofs.Working.{idle_by}
+
+-- a body that is held or parked is something
+pub stores_something : (edit : Edit) → is_nothing edit.body ≡ false → is_empty edit ≡ true → ⊥
+stores_something edit some is = true≢false (sym (ap is_nothing (is_none_of edit is).body) ∙ some)
+
+some_where : (o : Option (List ℕ)) → (o ≡ None → ⊥) → IsSome o
+some_where None not = absurd (not refl)
+some_where (Some body) not = refl
+
+-- ---- what stays beside the receipts
+
+pub record IsBesides (r : Option ReceiptValue) (k later : Kept) : Type 0 where
+  pub listed : later.listed ≡ k.listed
+  pub receipts : later.receipts ≡ (noted r k).receipts
+  pub bodies : later.bodies ≡ k.bodies
+  pub moment : later.moment ≡ k.moment
+  pub steps : later.steps ≡ k.steps
+  pub registry : later.registry ≡ k.registry
+
+noted_besides : (r : Option ReceiptValue) (k : Kept) → IsBesides r k (noted r k)
+noted_besides None k = record { listed = refl; receipts = refl; bodies = refl; moment = refl; steps = refl; registry = refl }
+noted_besides (Some r) k = record { listed = refl; receipts = refl; bodies = refl; moment = refl; steps = refl; registry = refl }
+
+noted_is : (r : Option ReceiptValue) (k : Kept) → noted r k ≡ record k { receipts = (noted r k).receipts }
+noted_is None k = refl
+noted_is (Some r) k = refl
+
+there_not_missing : (bodies : ℕ → Option (List ℕ)) (parked : List ℕ → Option (List ℕ)) (d : List ℕ) (found : Assessment) → (found ≡ Unlisted → IsSome (parked d))
+    → ((q : ℕ) → held_row found ≡ Some q → IsSome (bodies q)) → IsMissing bodies parked d found → ⊥
+there_not_missing bodies parked key Unlisted waits held missing = true≢false (sym (waits refl) ∙ ap is_some missing)
+there_not_missing bodies parked key (Unreadable r n) waits held missing = missing
+there_not_missing bodies parked key (Differing r) waits held missing = missing
+there_not_missing bodies parked key (Holding r d) waits held missing = true≢false (sym (held r refl) ∙ ap is_some missing)
+
+module _ {e : List EventValue} {a : ArrivalValue} {k : Kept} {found : Assessment} {known : Known} {receipt : Option ReceiptValue} (is : IsArriving e a k found known receipt) where
+  still : (b : Storing) → IsBesides receipt k (stored b (noted receipt k)) → AreBooks sha256 reading (e ++ arrived a ∷ []) (stored b (noted receipt k))
+      → (is_empty (still_by receipt (Some known) b).edit ≡ true → IsMissing k.bodies k.parked (sha256 a.body) found → ⊥) → IsDecidedArrival e a k found (still_by receipt (Some known) b)
+  still b besides books there =
+      let made = stored b (noted receipt k) in
+      let stands = stands_still e (e ++ arrived a ∷ []) k made is.stood books besides.listed besides.bodies besides.moment besides.steps besides.registry in
+      record {
+        decided = decided_still receipt None b None (Some known) is.stood stands (union-arrived e a) (record {
+          held = subst (λ (bodies : ℕ → Option (List ℕ)). AreHeld bodies known.held.items) (sym besides.bodies) is.held;
+          told = subst (λ (rs : List ReceiptValue). AreHeldBy rs known.told.items) (sym besides.receipts) is.told;
+          chain = is.chain ∙ ap₂ (λ (m : List MRow) (steps : List ℕ). map (step_at m) steps) (sym besides.listed) (sym besides.steps);
+        });
+        idle = λ work none. λ apart same. none;
+        there = there;
+      }
+
+  -- nothing is stored: the body is there, or it is no row's deposit
+  pub decided_there : (found ≡ Unlisted → IsSome (k.parked (sha256 a.body))) → ((q : ℕ) → held_row found ≡ Some q → IsSome (k.bodies q))
+      → IsDecidedArrival e a k found (still_by receipt (Some known) Nothing)
+  decided_there waits held = still Nothing (noted_besides receipt k) (is.there waits held) (λ empty. there_not_missing k.bodies k.parked (sha256 a.body) found waits held)
+
+  -- the body is parked
+  pub decided_parked : (b : Storing) → is_nothing b ≡ false → IsBesides receipt k (stored b (noted receipt k))
+      → AreBooks sha256 reading (e ++ arrived a ∷ []) (stored b (noted receipt k)) → IsDecidedArrival e a k found (still_by receipt (Some known) b)
+  decided_parked b some besides books = still b besides books (λ empty missing. stores_something (still_by receipt (Some known) b).edit some empty)
+
+  pub parked_besides : (d body : List ℕ) → IsBesides receipt k (with_parked (noted receipt k) d (Some body))
+  parked_besides d body =
+      let at = noted_besides receipt k in
+      record { listed = at.listed; receipts = refl; bodies = at.bodies; moment = at.moment; steps = at.steps; registry = at.registry }
+
+  -- ---- the body is held for a row that has none
+  module _ (row : ℕ) (none : k.bodies row ≡ None) (books : AreBooks sha256 reading (e ++ arrived a ∷ []) (with_body (noted receipt k) row a.body)) where
+    books_late : AreBooks sha256 reading (e ++ arrived a ∷ []) (with_body (record k { receipts = (noted receipt k).receipts }) row a.body)
+    books_late = subst (λ (m : Kept). AreBooks sha256 reading (e ++ arrived a ∷ []) (with_body m row a.body)) (noted_is receipt k) books
+
+    pub late_move : {rows : List ℕ} {plan : Plan} {moment : Option ℤ} → AreHeld (body_put k.bodies row a.body) rows → moment ≡ k.moment
+        → AreLatestSteps k.listed rows moment plan.new.items → IsPlanned k (body_put k.bodies row a.body) plan
+        → IsMove e (arrived a) k (with_body (noted receipt k) row a.body) [] rows (body_put k.bodies row a.body) plan
+    late_move {rows = rows} {plan = plan} held moment latest planned =
+        subst (λ (m : Kept). IsMove e (arrived a) k (with_body m row a.body) [] rows (body_put k.bodies row a.body) plan) (sym (noted_is receipt k))
+        (move_to e a k row (noted receipt k).receipts none is.stood books_late held refl moment latest planned)
+
+    pub late_idle : (work : Work) → IsIdle e (arrived a) work
+    late_idle = idle_by e a k row is.stood none (λ apart. books_late.bodies apart row)
+
+-- ---- a new arrival, and one that comes again
+
+free_place : Free ≡ Crowded → ⊥
+free_place full = let no : ⊥ = cc in no
+
+needless_place : Needless ≡ Crowded → ⊥
+needless_place full = let no : ⊥ = cc in no
+
+pub arriving_new : {e : List EventValue} {a : ArrivalValue} {k : Kept} {before : Known} {r : Received} → IsReceived e a k before r → IsArriving e a k r.found r.known (Some r.receipt)
+arriving_new {e = e} {a = a} {k = k} {before = before} {r = r} got =
+    let is = got.is_new in
+    record {
+      stood = is.stood;
+      found_is = is.found_is;
+      held = subst (AreHeld k.bodies) (sym (ap (λ v. v.items) got.held)) is.known_is.held;
+      told = got.told;
+      chain = ap (λ v. v.items) got.chain ∙ is.known_is.chain;
+      there = λ waits held. by_found r.found refl is waits held;
+      parked = λ unlisted free. by_digest (subst (λ (f : Assessment). IsNew e a k f before r.receipt) unlisted is) free;
+      late = λ row d holding none. books_held e a k row d before r.receipt (subst (λ (f : Assessment). IsNew e a k f before r.receipt) holding is) none;
+    }
+  where
+    by_digest : IsNew e a k Unlisted before r.receipt → IsParking k.parked (sha256 a.body) Free → AreBooks sha256 reading (e ++ arrived a ∷ []) (with_parked (with_receipt k r.receipt) (sha256 a.body) (Some a.body))
+    by_digest is free =
+        let digest : r.receipt.digest ≡ sha256 a.body = ap (λ (x : ReceiptValue). x.digest) is.receipt_is in
+        subst (λ (d : List ℕ). AreBooks sha256 reading (e ++ arrived a ∷ []) (with_parked (with_receipt k r.receipt) d (Some a.body))) digest
+        (books_parked e a k before r.receipt is Free free free_place)
+
+    by_found : (f : Assessment) → r.found ≡ f → IsNew e a k f before r.receipt → (f ≡ Unlisted → IsSome (k.parked (sha256 a.body)))
+        → ((q : ℕ) → held_row f ≡ Some q → IsSome (k.bodies q)) → AreBooks sha256 reading (e ++ arrived a ∷ []) (with_receipt k r.receipt)
+    by_found Unlisted same is waits held = books_parked e a k before r.receipt is Needless (waits refl) needless_place
+    by_found (Unreadable q n) same is waits held = books_noted e a k (Unreadable q n) before r.receipt is (λ no. let never : ⊥ = cc in never) held
+    by_found (Differing q) same is waits held = books_noted e a k (Differing q) before r.receipt is (λ no. let never : ⊥ = cc in never) held
+    by_found (Holding q d) same is waits held = books_noted e a k (Holding q d) before r.receipt is (holding_listed q d) held
+
+pub arriving_again : {e : List EventValue} {a : ArrivalValue} {k : Kept} {found : Assessment} {known : Known} {reply : ReplyValue} → IsAgain e a k found reply → IsKnown k known
+    → IsArriving e a k found known None
+arriving_again {e = e} {a = a} {k = k} {found = found} {reply = reply} is knows = record {
+  stood = is.stood;
+  found_is = is.found_is;
+  held = knows.held;
+  told = knows.told;
+  chain = knows.chain;
+  there = λ waits held. books_known_again e a k found reply is held waits;
+  parked = λ unlisted free. books_parked_again e a k reply (subst (λ (f : Assessment). IsAgain e a k f reply) unlisted is) Free free free_place;
+  late = λ row d holding none. books_held_again e a k row d reply (subst (λ (f : Assessment). IsAgain e a k f reply) holding is) none;
+}
+
+-- one whose body isn't missing adds nothing
+pub nothing_again : {e : List EventValue} {a : ArrivalValue} {k : Kept} (found : Assessment) {reply : ReplyValue} → IsAgain e a k found reply
+    → (IsMissing k.bodies k.parked (sha256 a.body) found → ⊥) → AddsNothing e a
+nothing_again {e = e} {a = a} {k = k} Unlisted {reply = reply} is there = nothing_parked e a k Unlisted reply is (some_where (k.parked (sha256 a.body)) there)
+nothing_again {e = e} {a = a} {k = k} (Unreadable r n) {reply = reply} is there = nothing_refused e a k (Unreadable r n) reply is (inl (r, n, refl))
+nothing_again {e = e} {a = a} {k = k} (Differing r) {reply = reply} is there = nothing_refused e a k (Differing r) reply is (inr (r, refl))
+nothing_again {e = e} {a = a} {k = k} (Holding r d) {reply = reply} is there =
+    nothing_listed e a k (Holding r d) reply is (holding_listed r d) (λ q here. subst (λ (x : ℕ). IsSome (k.bodies x)) (same_Some _ _ here) (some_where (k.bodies r) there))

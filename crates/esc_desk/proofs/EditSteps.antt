@@ -1,0 +1,96 @@
+-- The parts of a change, one after another.
+use Rattle.std.proofs.Common.{inl, inr, ℤ, Option, Some, None, Result, Ok, refl, ◌∙◌}
+use Rattle.std.proofs.lemmas.Result.{on_ok_weaker}
+use Rattle.sqlite.proofs.StateLemmas.{survives_then}
+use Rattle.sqlite_trees.specs.declared.store.Store.{Ghosts}
+use Rattle.esc_store.specs.declared.fault.SFault.{SFault}
+use Rattle.esc_store.specs.declared.store.Store.{Store}
+use Rattle.esc_store.specs.Kept.{Kept, with_listed}
+use Rattle.esc_store.specs.ReplyValue.{ReceiptValue}
+use Rattle.esc_store.specs.Standing.{ChangeOf, IsHonest, IsUncommitted, GoesOn, Rest, Stands}
+use Rattle.esc_store.specs.StandingLaws.{was_clean}
+use Rattle.esc_events.specs.Amended.{with_all_adopted}
+use Rattle.esc_desk.specs.declared.edit.Edit.{Edit}
+use Rattle.esc_desk.specs.declared.edit.Listing.{Listing}
+use Rattle.esc_desk.specs.declared.edit.Storing.{Storing}
+use Rattle.esc_desk.specs.declared.edit.Storing.TheVariants.{Nothing, Hold, Park}
+use Rattle.esc_desk.specs.Edits.{noted, stored, listed_more, timed, books_edited, IsPart, StaysPut}
+use Rattle.esc_desk.specs.Causes.{IsEditFault, IsFillFault}
+use Rattle.esc_desk.proofs.AmendingKept.{adopted_stay, dropped_stay}
+
+module _ {S : Type 0} {g : Ghosts S} where
+  -- a part that lists no rows
+  pub uncommitted : {a b : ChangeOf S} → GoesOn g a b → IsUncommitted g a b
+  uncommitted h = record { same_reference = h.same_reference; manifest = h.manifest; writes = h.writes; survives = h.survives; began = h.began }
+
+  pub uncommitted_then : {a b c : ChangeOf S} → IsUncommitted g a b → IsUncommitted g b c → IsUncommitted g a c
+  uncommitted_then p q = record {
+    same_reference = q.same_reference ∙ p.same_reference;
+    manifest = q.manifest ∙ p.manifest;
+    writes = q.writes ∙ p.writes;
+    survives = survives_then _ _ _ _ _ _ (λ _ db none. none) (λ _ db none. none) p.survives q.survives;
+    began = λ k h. q.began k (p.began k h);
+  }
+
+  -- the change was honest before a part if it is after it
+  pub part_was : {X : Type 0} {a b : ChangeOf S} {r : Result X SFault} {f : Kept → Kept} → IsPart g a b r f → IsHonest g b.store.now → IsHonest g a.store.now
+  part_was p = was_clean p.goes_on.survives
+
+  -- one part that succeeded, and then another
+  pub part_then : {X Y : Type 0} {a b c : ChangeOf S} {x : X} {q : Result Y SFault} {f h : Kept → Kept} → IsPart g a b (Ok x) f → IsPart g b c q h → IsPart g a c q (λ k. h (f k))
+  part_then {q = q} p r = record {
+    goes_on = uncommitted_then p.goes_on r.goes_on;
+    count = r.count ∙ p.count;
+    makes = on_ok_weaker q (λ makes clean before k rest. makes clean before _ (p.makes (part_was r clean) before k rest)) r.makes;
+    holds = on_ok_weaker q (λ holds s h. holds s (p.holds s h)) r.holds;
+  }
+
+module _ {S : Type 0} (g : Ghosts S) where
+  -- why a change was refused is why the edit is
+  pub edit_fault : (old new : Store S) (a b : ChangeOf S) (r : Option ReceiptValue) (f : SFault) → (IsHonest g new → IsHonest g b.store.now) → ((k : Kept) → Stands g old k → Rest g a k k)
+      → IsFillFault g r a b f → IsEditFault g r old new f
+  edit_fault old new a b None f was rest fault = fault
+  edit_fault old new a b (Some r) f was rest (inl is) = inl is
+  edit_fault old new a b (Some r) f was rest (inr full) = inr (full.0, λ clean k stood. full.1 (was clean) k k (rest k stood))
+
+module _ {S : Type 0} (g : Ghosts S) where
+  -- the same where the store was as before first, and where it is as before last
+  pub edit_fault_then : (old mid new : Store S) (r : Option ReceiptValue) (f : SFault) → ((k : Kept) → Stands g old k → Stands g mid k) → IsEditFault g r mid new f → IsEditFault g r old new f
+  edit_fault_then old mid new None f still fault = fault
+  edit_fault_then old mid new (Some r) f still (inl is) = inl is
+  edit_fault_then old mid new (Some r) f still (inr full) = inr (full.0, λ clean k stood. full.1 clean k (still k stood))
+
+-- ---- the chain and its tables stay where the books are edited
+
+stays_noted : (r : Option ReceiptValue) (k : Kept) → StaysPut k (noted r k)
+stays_noted None k = record { steps = refl; registry = refl }
+stays_noted (Some r) k = record { steps = refl; registry = refl }
+
+stays_stored : (b : Storing) (k : Kept) → StaysPut k (stored b k)
+stays_stored Nothing k = record { steps = refl; registry = refl }
+stays_stored (Hold row body) k = record { steps = refl; registry = refl }
+stays_stored (Park digest body) k = record { steps = refl; registry = refl }
+
+stays_timed : (t : Option (Option ℤ)) (k : Kept) → StaysPut k (timed t k)
+stays_timed None k = record { steps = refl; registry = refl }
+stays_timed (Some t) k = record { steps = refl; registry = refl }
+
+stays_listed : (l : Option Listing) (k : Kept) → StaysPut k (listed_more l k)
+stays_listed None k = record { steps = refl; registry = refl }
+stays_listed (Some l) k =
+    let n = l.union in
+    let first = with_all_adopted n (with_listed k n) l.judged.adopted.items in
+    record {
+      steps = (dropped_stay n first l.judged.dropped.items).3 ∙ (adopted_stay n (with_listed k n) l.judged.adopted.items).3;
+      registry = (dropped_stay n first l.judged.dropped.items).4 ∙ (adopted_stay n (with_listed k n) l.judged.adopted.items).4;
+    }
+
+pub stays_then : {a b c : Kept} → StaysPut a b → StaysPut b c → StaysPut a c
+stays_then p q = record { steps = q.steps ∙ p.steps; registry = q.registry ∙ p.registry }
+
+pub stays_put : (edit : Edit) (k : Kept) → StaysPut k (books_edited edit k)
+stays_put edit k =
+    let a = noted edit.receipt k in
+    let b = listed_more edit.listing a in
+    let c = stored edit.body b in
+    stays_then (stays_then (stays_then (stays_noted edit.receipt k) (stays_listed edit.listing a)) (stays_stored edit.body b)) (stays_timed edit.moment c)

@@ -1,0 +1,121 @@
+-- What an event changes of what a store keeps, and what is kept then.
+use Rattle.std.specs.Prelude.{◌≡◌, ◌≤◌, Bool, true, false, ◌&&◌, is_none, ℤ, List, length, take, Option, Some, None, Result, OnOk, IfSome}
+use Rattle.sqlite_trees.specs.declared.store.Store.{Ghosts}
+use Rattle.esc_tables.specs.DepositValue.{DepositValue}
+use Rattle.esc_tables.specs.Reading.{reading}
+use Rattle.esc_manifest.specs.declared.row.MRow.{MRow}
+use Rattle.esc_apply.specs.Registry.{State}
+use Rattle.esc_apply.specs.declared.moves.Work.{Work}
+use Rattle.esc_store.specs.declared.fault.SFault.{SFault}
+use Rattle.esc_store.specs.Kept.{Kept, with_body, with_listed, with_moment, with_parked, with_receipt, with_registry}
+use Rattle.esc_store.specs.ReplyValue.{ReceiptValue}
+use Rattle.esc_store.specs.Standing.{ChangeOf, IsHonest, IsUncommitted, Rest, HoldsNow}
+use Rattle.esc_events.specs.declared.plan.Plan.{Plan}
+use Rattle.esc_events.specs.Amended.{with_all_adopted, with_all_dropped}
+use Rattle.esc_events.specs.Plans.{HasDepositsPast, IsMovedFrom, IsCostOfMove, moved_by}
+use Rattle.esc_events.specs.Stands.{deposits_of}
+use Rattle.esc_events.specs.Works.{no_work}
+use Rattle.esc_desk.specs.declared.edit.Edit.{Edit}
+use Rattle.esc_desk.specs.declared.edit.Listing.{Listing}
+use Rattle.esc_desk.specs.declared.edit.Storing.{Storing}
+use Rattle.esc_desk.specs.declared.edit.Storing.TheVariants.{Nothing, Hold, Park}
+
+-- ---- what is kept once each part was made, if it is there
+
+-- one more receipt
+abbrev pub noted : Option ReceiptValue → Kept → Kept
+noted None k = k
+noted (Some r) k = with_receipt k r
+
+-- a body, held for a row or parked
+abbrev pub stored : Storing → Kept → Kept
+stored Nothing k = k
+stored (Hold row body) k = with_body k row body.now
+stored (Park digest body) k = with_parked k digest (Some body.now)
+
+-- the rows of a union, where the bodies that are parked for them are held or let go
+abbrev pub listed_more : Option Listing → Kept → Kept
+listed_more None k = k
+listed_more (Some l) k =
+    with_all_dropped l.union (with_all_adopted l.union (with_listed k l.union) l.judged.adopted.items)
+    l.judged.dropped.items
+
+-- a moment, or none
+abbrev pub timed : Option (Option ℤ) → Kept → Kept
+timed None k = k
+timed (Some moment) k = with_moment k moment
+
+-- a chain and its tables, where c are the deposits of the chain before
+abbrev pub moved_if : Option Plan → List DepositValue → Kept → Kept
+moved_if None c k = k
+moved_if (Some plan) c k = moved_by plan k c
+
+-- ---- what is kept once an edit was made
+
+-- but for the chain and its tables
+abbrev pub books_edited : Edit → Kept → Kept
+books_edited edit k = timed edit.moment (stored edit.body (listed_more edit.listing (noted edit.receipt k)))
+
+-- the deposits of the chain that is kept
+abbrev pub chain_deposits : Kept → List DepositValue
+chain_deposits k = deposits_of reading k.bodies k.steps
+
+abbrev pub edited : Edit → Kept → Kept
+edited edit k = moved_if edit.plan (chain_deposits k) (books_edited edit k)
+
+-- nothing is changed
+abbrev pub is_nothing : Storing → Bool
+is_nothing Nothing = true
+is_nothing (Hold row body) = false
+is_nothing (Park digest body) = false
+
+abbrev pub is_empty : Edit → Bool
+is_empty edit = is_none edit.receipt && is_none edit.listing && is_nothing edit.body && is_none edit.moment
+    && is_none edit.plan
+
+-- ---- what an edit has to be
+
+-- a plan has few steps, and the deposits past the common front
+pub record IsSoundPlan (plan : Plan) : Type 0 where
+  pub few_old : length plan.old.items ≤ 4096
+  pub few_new : length plan.new.items ≤ 4096
+  pub deposits : HasDepositsPast plan
+
+-- a union begins with these rows, if one is listed
+abbrev pub Begins : Option Listing → List MRow → Type 0
+Begins listing rows = IfSome listing (λ l. take (length rows) l.union ≡ rows)
+
+-- the chain moves from the one that is kept, if it does
+abbrev pub IsFromChainOf : Kept → Option Plan → Type 0
+IsFromChainOf k plan = IfSome plan (IsMovedFrom k (chain_deposits k))
+
+-- this is the work of a move, where c are the deposits of the chain before; there is none without a
+-- move
+abbrev pub IsCostIf : Option Plan → List DepositValue → Work → Type 0
+IsCostIf None c work = work ≡ no_work
+IsCostIf (Some plan) c work = IsCostOfMove plan c work
+
+-- what stays where only the books are edited: the chain and its tables
+pub record StaysPut (k made : Kept) : Type 0 where
+  pub steps : made.steps ≡ k.steps
+  pub registry : made.registry ≡ k.registry
+
+-- ---- the parts of a change
+
+-- a part of a change was made, where it succeeded, and nothing is committed: of what is kept it has
+-- made this, and the tables are as they were
+pub record IsPart {S X : Type 0} (g : Ghosts S) (old new : ChangeOf S) (result : Result X SFault)
+    (made : Kept → Kept) : Type 0 where
+  pub goes_on : IsUncommitted g old new
+  pub count : new.count ≡ old.count
+  pub makes : OnOk result (IsHonest g new.store.now → (before k : Kept) → Rest g old before k
+      → Rest g new before (made k))
+  pub holds : OnOk result ((s : State) → HoldsNow g old s → HoldsNow g new s)
+
+-- a change of a store that stood for `before` has made k: its rows, receipts, bodies and chain, and
+-- its tables
+pub record IsFilled {S : Type 0} (g : Ghosts S) (change : ChangeOf S) (before k : Kept)
+    : Type 0 where
+  pub tables : State
+  pub rest : Rest g change before (with_registry k tables)
+  pub holds : IsHonest g change.store.now → HoldsNow g change k.registry

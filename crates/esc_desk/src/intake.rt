@@ -1,0 +1,190 @@
+//! What an arrival comes to, of whose body this was found: with a receipt, if it is new, or with
+//! none, if it comes again.
+
+ghost use Rattle.std.specs.Prelude.{
+  ◌≡◌,
+  ◌⊎◌,
+  ℕ,
+  List,
+  Ok,
+  None,
+  IfOk,
+  IfErr,
+  OnOk,
+};
+ghost use Rattle.sha2.specs.Sha256.{sha256};
+ghost use Rattle.esc_tables.specs.DepositValue.{DepositValue};
+ghost use Rattle.esc_tables.specs.Reading.{reading};
+ghost use Rattle.esc_store.specs.Faults.{IsS1OrS2};
+ghost use Rattle.esc_store.specs.Kept.{Kept, IsFull};
+ghost use Rattle.esc_store.specs.Standing.{Stands, IsHonest, IsAsBefore};
+ghost use Rattle.esc_events.specs.declared.assessment.Assessment.TheVariants.{Unlisted, Holding};
+ghost use Rattle.esc_events.specs.ArrivalValue.{an_arrival};
+ghost use Rattle.esc_events.specs.Events.{EventValue};
+ghost use Rattle.esc_desk.specs.Causes.{HasRoomFor, IsEditFault, IsPlaceFault};
+ghost use Rattle.esc_desk.specs.Decisions.{IsSound, IsArriving, IsDecidedArrival};
+
+use crate::decision::Decision;
+use crate::edit::{Edit, Storing};
+use crate::knowing::insert_row;
+use crate::parking::parking_of;
+use crate::plan::{Source, plan_latest};
+use crate::reread::Reread;
+use esc_apply::read_deposits_mention_few;
+use esc_chain::latest_chain_at_rows_are_held;
+use esc_events::{Assessment, Known, Parking};
+use esc_store::{MOST_RECEIPTS, Receipt, SFault, Store};
+use esc_tables::Deposit;
+use sqlite::Alter;
+use std::alloc::Global;
+
+/// What an arrival comes to, of which this was found. Its deposit becomes `last`, where the row had
+/// a body before.
+pub(crate) fn decide_arrival<'n, 'b, S: Alter>(
+    store: &mut Store<S>,
+    alloc: Global,
+    receipt: Option<Receipt<'n>>,
+    known: Known,
+    found: Assessment,
+    digest: [u8; 32],
+    body: &'b [u8],
+    last: &mut Option<Reread>,
+) -> Result<Decision<'n, 'b>, SFault>
+    requires digest { digest ≡ sha256 body.now }
+    requires read { (r : ℕ) (d : DepositValue) → found ≡ Holding r d → reading body.now ≡ Ok d }
+    ensures same { IsAsBefore S.Store store.old store.new }
+    ensures sound { IfOk result (IsSound store.new.manifest) }
+    ensures receipt { IfOk result (λ d. d.edit.receipt ≡ receipt.entry) }
+    ensures decided { IsHonest S.Store store.new → (e : List EventValue) (n : List ℕ) (k : Kept)
+        → Stands S.Store store.old k
+        → IsArriving e (an_arrival n body.now) k found known receipt.entry
+        → IfOk result (IsDecidedArrival e (an_arrival n body.now) k found) }
+    ensures place { IsHonest S.Store store.new → (k : Kept) → Stands S.Store store.old k
+        → found ≡ Unlisted → OnOk result ((k.parked digest ≡ None) × IsFull k.parked → ⊥) }
+    ensures cause { IfErr result
+        (IsPlaceFault S.Store receipt.entry store.old store.new found digest) }
+{
+    match found {
+        Assessment::Unlisted => decide_unlisted(store, alloc, receipt, known, digest, body),
+        Assessment::Unreadable(..) | Assessment::Differing(_) => {
+            Ok(Decision::still(receipt, Some(known), Storing::Nothing))
+        }
+        Assessment::Holding(row, deposit) => {
+            decide_held(store, alloc, receipt, known, row, deposit, body, last)
+        }
+    }
+}
+
+// What an arrival comes to whose body no row lists.
+fn decide_unlisted<'n, 'b, S: Alter>(
+    store: &mut Store<S>,
+    alloc: Global,
+    receipt: Option<Receipt<'n>>,
+    known: Known,
+    digest: [u8; 32],
+    body: &'b [u8],
+) -> Result<Decision<'n, 'b>, SFault>
+    requires digest { digest ≡ sha256 body.now }
+    ensures same { IsAsBefore S.Store store.old store.new }
+    ensures sound { IfOk result (IsSound store.new.manifest) }
+    ensures receipt { IfOk result (λ d. d.edit.receipt ≡ receipt.entry) }
+    ensures decided { IsHonest S.Store store.new → (e : List EventValue) (n : List ℕ) (k : Kept)
+        → Stands S.Store store.old k
+        → IsArriving e (an_arrival n body.now) k Unlisted known receipt.entry
+        → IfOk result (IsDecidedArrival e (an_arrival n body.now) k Unlisted) }
+    ensures place { IsHonest S.Store store.new → (k : Kept) → Stands S.Store store.old k
+        → OnOk result ((k.parked digest ≡ None) × IsFull k.parked → ⊥) }
+    ensures cause { IfErr result
+        (IsPlaceFault S.Store receipt.entry store.old store.new Unlisted digest) }
+{
+    match parking_of(store, alloc, &digest)? {
+        Parking::Needless => Ok(Decision::still(receipt, Some(known), Storing::Nothing)),
+        Parking::Free => Ok(Decision::still(receipt, Some(known), Storing::Park(digest, body))),
+        Parking::Crowded => Err(crowded_fault(store, &receipt)),
+    }
+}
+
+// Why a body can't be parked, since 1,024 others are: where there is no room for the receipt either,
+// it is `S4`.
+fn crowded_fault<S: Alter>(store: &mut Store<S>, receipt: &Option<Receipt<'_>>) -> SFault
+    ensures same { IsAsBefore S.Store store.old store.new }
+    ensures cause { ((result ≡ SFault.S5) × (IsHonest S.Store store.new → (k : Kept)
+        → Stands S.Store store.old k → HasRoomFor k receipt.now))
+        ⊎ IsEditFault S.Store receipt.now store.old store.new result }
+{
+    match receipt {
+        Some(_) => match store.receipt_count() {
+            Ok(count) if count < u64::from(MOST_RECEIPTS) => SFault::S5,
+            Ok(_) => SFault::S4,
+            Err(fault) => fault,
+        },
+        None => SFault::S5,
+    }
+}
+
+// What an arrival comes to that is the deposit of a row.
+fn decide_held<'n, 'b, S: Alter>(
+    store: &mut Store<S>,
+    alloc: Global,
+    receipt: Option<Receipt<'n>>,
+    known: Known,
+    row: usize,
+    deposit: Deposit,
+    body: &'b [u8],
+    last: &mut Option<Reread>,
+) -> Result<Decision<'n, 'b>, SFault>
+    requires read { reading body.now ≡ Ok deposit }
+    ensures same { IsAsBefore S.Store store.old store.new }
+    ensures sound { IfOk result (IsSound store.new.manifest) }
+    ensures receipt { IfOk result (λ d. d.edit.receipt ≡ receipt.entry) }
+    ensures decided { IsHonest S.Store store.new → (e : List EventValue) (n : List ℕ) (k : Kept)
+        → Stands S.Store store.old k
+        → IsArriving e (an_arrival n body.now) k (Holding row deposit) known receipt.entry
+        → IfOk result (IsDecidedArrival e (an_arrival n body.now) k (Holding row deposit)) }
+    ensures cause { IfErr result IsS1OrS2 }
+{
+    if known.held.contains(&row) {
+        *last = Reread::of(alloc, body, deposit);
+        return Ok(Decision::still(receipt, Some(known), Storing::Nothing));
+    }
+    decide_late(store, alloc, receipt, known, row, deposit, body)
+}
+
+// What an arrival comes to that is the deposit of a row that has no body yet.
+fn decide_late<'n, 'b, S: Alter>(
+    store: &mut Store<S>,
+    alloc: Global,
+    receipt: Option<Receipt<'n>>,
+    known: Known,
+    row: usize,
+    deposit: Deposit,
+    body: &'b [u8],
+) -> Result<Decision<'n, 'b>, SFault>
+    ensures same { IsAsBefore S.Store store.old store.new }
+    ensures sound { IfOk result (IsSound store.new.manifest) }
+    ensures receipt { IfOk result (λ d. d.edit.receipt ≡ receipt.entry) }
+    ensures decided { IsHonest S.Store store.new → (e : List EventValue) (n : List ℕ) (k : Kept)
+        → Stands S.Store store.old k
+        → IsArriving e (an_arrival n body.now) k (Holding row deposit) known receipt.entry
+        → k.bodies row ≡ None
+        → IfOk result (IsDecidedArrival e (an_arrival n body.now) k (Holding row deposit)) }
+    ensures cause { IfErr result IsS1OrS2 }
+{
+    latest_chain_at_rows_are_held();
+    read_deposits_mention_few();
+    let mut known = known;
+    insert_row(&mut known.held, row)?;
+    let moment = store.moment()?;
+    let source = Source::Arrived(row, Some(deposit));
+    let plan = plan_latest(store, alloc, &mut known, moment, source)?;
+    Ok(Decision {
+        edit: Edit {
+            receipt,
+            listing: None,
+            body: Storing::Hold(row, body),
+            moment: None,
+            plan: Some(plan),
+        },
+        known: Some(known),
+    })
+}
