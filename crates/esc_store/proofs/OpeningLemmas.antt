@@ -5,9 +5,19 @@ use Rattle.std.proofs.lemmas.Bool.Decides.{Decides-int_eq}
 use Rattle.std.proofs.Common.{rules}
 use Rattle.sqlite_value.specs.declared.value.Value.TheVariants.{Int}
 use Rattle.esc_rows.specs.Schema.{IsOfSomeVersion}
-use Rattle.esc_store.specs.FirstVersion.{IsFirstAtRest, IsFirstStore, IsOfFirstVersion, SeesFirst}
+use Rattle.esc_store.specs.FirstVersion.{IsFirstAtRest, IsFirstStore, IsOfFirstVersion, SeesFirst, LeavesFirstOr}
 use Rattle.esc_store.specs.StoreTables.{IsOfVersion}
 use Rattle.esc_store.proofs.Ends.{still_stands, unchanged_settled}
+use Rattle.std.proofs.Common.{inl, inr, Result, Err, IfErr}
+use Rattle.sqlite_schema.specs.declared.schema.Schema.{Schema}
+use Rattle.sqlite_trees.specs.declared.store.Store.{Ghosts}
+use Rattle.sqlite.specs.Held.{Held, state}
+use Rattle.esc_rows.specs.Schema.{no_schema}
+use Rattle.esc_store.specs.declared.fault.SFault.{SFault}
+use Rattle.esc_store.specs.declared.fault.SFault.TheVariants.{S1, S2, S3}
+use Rattle.esc_store.specs.Faults.{IsS1OrS2, IsS1ToS3}
+use Rattle.esc_store.specs.Opening.{IsOpeningFault, IsFoundingFault}
+use Rattle.esc_store.specs.Standing.{LeavesOr}
 
 -- a database whose last commit is a store of a version has its tables
 pub tables_refused : (Has : Trees → Content → Type 0) (content : Trees → Content) {Holds : Content → Type 0} {Up : Type 0} {now committed : Database} {has : Bool} → (Up → (c : Content) → Has now.trees c → IsTrue has × Holds c)
@@ -56,3 +66,37 @@ sees_committed s settled stored clean up = rw (settled.1 up) stored
 -- with its schema, once that was found
 pub tested : {old mid : State} {k : Kept} → Survives old mid (λ _. ⊥) → (HasCleanDisk mid → IsUnchanged old mid × IsOfFirstVersion old.now) → SeesFirst old k → HasCleanDisk mid → IsFirstDatabase mid.now k
 tested survives version sees clean = let it = version clean in rw it.0.0.now_is (record { schema = it.1.schema; kept = sees (was_clean survives clean) it.0.0.was_open })
+
+-- ---- why a database is not opened or made a store
+
+-- a call that answers one of three faults, and S1 only where it tested the tables
+pub opening_fault : {tables : Schema} {s : State} {fault : SFault} → IsS1ToS3 fault → (fault ≡ S1 → s.now.schema ≡ tables) → IsOpeningFault tables s fault
+opening_fault kinds tested = record { kinds = kinds; tested = λ is. inr (tested is) }
+
+-- in a transaction it answers S1
+pub busy_fault : {tables : Schema} {s : State} → true ≡ not (not s.in_transaction) → IsOpeningFault tables s S1
+busy_fault busy = record { kinds = inr (inl refl); tested = λ _. inl (grind arith) }
+
+-- where there was nothing, it fails by S1 or S2
+pub founding_fault : {db : Database} {fault : SFault} → db.schema ≡ no_schema → IsS1OrS2 fault → IsFoundingFault db fault
+founding_fault unused kinds = record { kinds = inr kinds; unused = λ _. unused; used = λ is. absurd (elim kinds [ inl s1 ↦ cc | inr s2 ↦ cc ]) }
+
+-- and where there was something, by S3
+pub used_fault : {db : Database} → (db.schema ≡ no_schema → ⊥) → IsFoundingFault db S3
+used_fault used = record { kinds = inl refl; unused = λ is. cc; used = λ _. used }
+
+-- what a crash leaves of a store of version 1 that was just opened
+pub first_or : {S : Type 0} (g : Ghosts S) → ((s : S) (trees : Trees) → IsTrue (g.view s).is_open → g.recovers s trees → trees ≡ (g.view s).committed) → (old new : Held S) (k : Kept)
+    → IsFirstStore (state g old).committed.trees k → LeavesOr g old new k → LeavesFirstOr g old new k
+unfolding LeavesOr
+first_or g settled old new k first survives = record {
+  adds = survives;
+  opened = λ opens clean trees may. elim (survives.crash clean trees may) [
+    | inl was ↦ inl (subst (λ t. IsFirstStore t k) (sym (settled old.store trees opens.is_open was)) first)
+    | inr made ↦ inr made
+  ];
+}
+
+-- what holds of the error that a call passes on
+pub if_err_is : {X E : Type 0} (r : Result X E) (f : E) (P : E → Type 0) → r ≡ Err f → P f → IfErr r P
+if_err_is r f P is holds = subst (λ s. IfErr s P) (sym is) holds

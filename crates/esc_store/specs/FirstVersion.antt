@@ -1,16 +1,18 @@
 -- Stores of version 1, which keep no body that no row lists, and no moment.
-use Rattle.std.specs.Prelude.{◌≡◌, ◌≤◌, pos, false, length, slice_get, Some, option_map, IsTrue}
+use Rattle.std.specs.Prelude.{◌≡◌, ◌⊎◌, ◌≤◌, pos, false, length, slice_get, Some, option_map, IsTrue}
 use Rattle.sqlite_value.specs.declared.value.Value.TheVariants.{Int}
 use Rattle.sqlite_value.specs.Order.{Row, column}
 use Rattle.sqlite_trees.specs.declared.store.Store.{Ghosts}
 use Rattle.sqlite_trees.specs.Tree.{Trees}
 use Rattle.sqlite.specs.Effect.{Database}
 use Rattle.sqlite.specs.Held.{Held, state}
-use Rattle.sqlite.specs.State.{State, HasCleanDisk}
+use Rattle.sqlite.specs.State.{State, HasCleanDisk, Opens}
 use Rattle.esc_rows.specs.Schema.{first_schema, info_tree}
 use Rattle.esc_rows.specs.FirstVersion.{first_content_in}
 use Rattle.esc_rows.specs.FirstVersion.{IsFirstStore as HasFirstTables}
 use Rattle.esc_store.specs.Kept.{Kept}
+use Rattle.esc_store.specs.Standing.{LeavesOr}
+use Rattle.esc_store.specs.StoreTables.{IsStore}
 use Rattle.esc_store.specs.TypedRows.{IsBooks, IsRegistry}
 
 -- trees are the seven tables of version 1, in order and sound, and hold exactly this; so no body is
@@ -51,3 +53,11 @@ HoldsFirst g conn k = HasCleanDisk (state g conn) → IsTrue (state g conn).is_o
 -- written to it, and the connection is open
 abbrev pub SeesFirst : State → Kept → Type 0
 SeesFirst s k = HasCleanDisk s → IsTrue s.is_open → IsFirstKept s.now.trees k
+
+-- a crash after a call leaves what it might leave before, or a store that keeps k; so of a
+-- connection that was just opened on a store of version 1 it leaves this store, or one of this
+-- version that keeps the same
+pub record LeavesFirstOr {S : Type 0} (g : Ghosts S) (old new : Held S) (k : Kept) : Type 0 where
+  pub adds : LeavesOr g old new k
+  pub opened : Opens (state g old) → HasCleanDisk (state g new) → (trees : Trees)
+      → (state g new).may_leave trees → IsFirstStore trees k ⊎ IsStore trees k

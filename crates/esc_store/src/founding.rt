@@ -6,7 +6,7 @@ ghost use Rattle.sqlite.specs.Held.{state};
 ghost use Rattle.sqlite.specs.State.{HasCleanDisk, KeepsCommit, Survives};
 ghost use Rattle.esc_rows.specs.Schema.{no_schema};
 ghost use Rattle.esc_rows.specs.Entries.{listed_row as stored_row};
-ghost use Rattle.esc_store.specs.Faults.{IsS1ToS3};
+ghost use Rattle.esc_store.specs.Faults.{IsS1OrS2};
 ghost use Rattle.esc_store.specs.Kept.{fresh};
 ghost use Rattle.esc_store.specs.Opening.{IsAsItWas};
 ghost use Rattle.esc_store.specs.TypedRows.{listed_from};
@@ -16,7 +16,6 @@ ghost use Rattle.esc_store.specs.Standing.{RestsAt, IsGivenUp};
 use crate::fault::SFault;
 use esc_rows::create::build;
 use esc_rows::listed::Listed;
-use esc_rows::open::is_unused;
 use esc_rows::transaction::{abandon_in, begin_in, commit_in};
 use sqlite::{Alter, Connection, Error};
 
@@ -62,9 +61,10 @@ fn found_whole<S: Alter>(conn: &mut Connection<S>, rows: &[Listed]) -> Result<()
     commit_in(conn)
 }
 
-// Makes a store of a manifest's rows. `S3` where there is any table, index or view; `S1` also in a
+// Makes a store of a manifest's rows, where there is no table, index or view. `S1` also in a
 // transaction, which goes on.
 pub(crate) fn found_here<S: Alter>(conn: &mut Connection<S>, rows: &[Listed]) -> Result<(), SFault>
+    requires unused { (state S.Store conn.old).now.schema ≡ no_schema }
     ensures survives { (m : _) → map stored_row rows.now ≡ listed_from 0 m
         → Survives (state S.Store conn.old) (state S.Store conn.new)
         (λ trees. IsStore trees (fresh m)) }
@@ -75,15 +75,9 @@ pub(crate) fn found_here<S: Alter>(conn: &mut Connection<S>, rows: &[Listed]) ->
     ensures left { OnOk result ((m : _) → map stored_row rows.now ≡ listed_from 0 m
         → HasCleanDisk (state S.Store conn.new) → (trees : Trees)
         → (state S.Store conn.new).may_leave trees → IsStore trees (fresh m)) }
-    ensures blank { OnOk result ((state S.Store conn.old).now.schema ≡ no_schema) }
-    ensures refused { IfErr result (λ fault. fault ≡ SFault.S3
-        → (state S.Store conn.old).now.schema ≡ no_schema → ⊥) }
     ensures unchanged { OnErr result (IsAsItWas (state S.Store conn.old) (state S.Store conn.new)) }
-    ensures cause { IfErr result IsS1ToS3 }
+    ensures cause { IfErr result IsS1OrS2 }
 {
-    if !is_unused(conn) {
-        return Err(SFault::S3);
-    }
     if !conn.is_autocommit() {
         return Err(SFault::S1);
     }

@@ -6,13 +6,12 @@ ghost use Rattle.sqlite.specs.Held.{state};
 ghost use Rattle.sqlite.specs.State.{HasCleanDisk, Survives, KeepsCommit, IsUnchanged};
 ghost use Rattle.esc_store.specs.Faults.{IsS1OrS2, IsS1ToS3};
 ghost use Rattle.esc_store.specs.Kept.{Kept};
-ghost use Rattle.esc_store.specs.Opening.{IsSettled, IsAsItWas};
+ghost use Rattle.esc_store.specs.Opening.{IsSettled, IsAsItWas, IsOpeningFault};
 ghost use Rattle.esc_store.specs.StoreTables.{IsStore, IsStoreDatabase};
 ghost use Rattle.esc_store.specs.Standing.{
   Stands,
   IsStanding,
   LeavesOnly,
-  LeavesOr,
   IsHonest,
   connection_of,
   writes_of,
@@ -23,7 +22,9 @@ ghost use Rattle.esc_store.specs.FirstVersion.{
   IsOfFirstVersion,
   HoldsFirst,
   SeesFirst,
+  LeavesFirstOr,
 };
+ghost use Rattle.esc_rows.specs.Schema.{first_schema};
 
 use crate::codec::manifest::kept_manifest;
 use crate::fault::SFault;
@@ -41,8 +42,9 @@ use std::alloc::Global;
 /// The version of the stores that become those of this version.
 pub(crate) const FIRST_VERSION: i64 = 1;
 
-// Tests that the database has the tables of version 1. `S3` where it has not.
+// Tests that a database with the seven tables is of version 1. `S3` where it is not.
 fn test_first<S: Alter>(conn: &mut Connection<S>) -> Result<(), SFault>
+    requires tables { (state S.Store conn.old).now.schema ≡ first_schema }
     ensures survives { Survives (state S.Store conn.old) (state S.Store conn.new) (λ _. ⊥) }
     ensures kept { HasCleanDisk (state S.Store conn.new)
         → KeepsCommit (state S.Store conn.old) (state S.Store conn.new) }
@@ -55,9 +57,6 @@ fn test_first<S: Alter>(conn: &mut Connection<S>) -> Result<(), SFault>
         → IsFirstStore (state S.Store conn.old).committed.trees k → ⊥) }
     ensures cause { IfErr result IsS1ToS3 }
 {
-    if !has_first_tables(conn) {
-        return Err(SFault::S3);
-    }
     if find_version(conn)? != Some(FIRST_VERSION) {
         return Err(SFault::S3);
     }
@@ -117,9 +116,9 @@ fn commit_upgraded<S: Alter>(alloc: Global, conn: &mut Connection<S>) -> Result<
     Ok(manifest)
 }
 
-// The same as `commit_upgraded`, where the database is tested first: `S3` if it is no store of
-// version 1.
+// The same as `commit_upgraded`, where the version is tested first: `S3` if it is not 1.
 fn migrate_whole<S: Alter>(alloc: Global, conn: &mut Connection<S>) -> Result<Manifest, SFault>
+    requires tables { (state S.Store conn.old).now.schema ≡ first_schema }
     ensures survives { (k : Kept) → SeesFirst (state S.Store conn.old) k
         → Survives (state S.Store conn.old) (state S.Store conn.new) (λ trees. IsStore trees k) }
     ensures kept { HasCleanDisk (state S.Store conn.new)
@@ -142,8 +141,8 @@ fn migrate_whole<S: Alter>(alloc: Global, conn: &mut Connection<S>) -> Result<Ma
     commit_upgraded(alloc, conn)
 }
 
-// The same as `migrate_whole`, on a connection without a transaction: where it fails the connection
-// is as it was. `S1` also in a transaction, which goes on.
+// The same as `migrate_whole`, on a connection without a transaction, if the database has the seven
+// tables (else `S3`): where it fails the connection is as it was. `S1` also in a transaction, which goes on.
 fn migrate_here<S: Alter>(alloc: Global, conn: &mut Connection<S>) -> Result<Manifest, SFault>
     ensures survives { (k : Kept) → IsFirstStore (state S.Store conn.old).committed.trees k
         → Survives (state S.Store conn.old) (state S.Store conn.new) (λ trees. IsStore trees k) }
@@ -162,10 +161,13 @@ fn migrate_here<S: Alter>(alloc: Global, conn: &mut Connection<S>) -> Result<Man
         → IsTrue (state S.Store conn.new).is_open → (k : Kept)
         → IsFirstStore (state S.Store conn.old).committed.trees k → ⊥) }
     ensures unchanged { OnErr result (IsAsItWas (state S.Store conn.old) (state S.Store conn.new)) }
-    ensures cause { IfErr result IsS1ToS3 }
+    ensures cause { IfErr result (IsOpeningFault first_schema (state S.Store conn.old)) }
 {
     if !conn.is_autocommit() {
         return Err(SFault::S1);
+    }
+    if !has_first_tables(conn) {
+        return Err(SFault::S3);
     }
     match migrate_whole(alloc, conn) {
         Ok(manifest) => Ok(manifest),
@@ -204,10 +206,12 @@ impl<S: Alter> Store<S> {
             → IsFirstStore (state S.Store connection).committed.trees k → ⊥) }
         ensures unchanged { IfErr result
             (λ e. IsAsItWas (state S.Store connection) (state S.Store e.1)) }
-        ensures cause { IfErr result (λ e. IsS1ToS3 e.0) }
+        ensures cause { IfErr result
+            (λ e. IsOpeningFault first_schema (state S.Store connection) e.0) }
         ensures crash { (k : Kept) → IsFirstStore (state S.Store connection).committed.trees k
-            → MatchResult result (λ store. LeavesOr S.Store connection (connection_of store) k)
-            (λ e. LeavesOr S.Store connection e.1 k) }
+            → MatchResult result
+            (λ store. LeavesFirstOr S.Store connection (connection_of store) k)
+            (λ e. LeavesFirstOr S.Store connection e.1 k) }
     {
         let mut connection = connection;
         match migrate_here(alloc, &mut connection) {

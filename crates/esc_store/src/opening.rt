@@ -5,7 +5,8 @@ ghost use Rattle.sqlite.specs.Held.{state};
 ghost use Rattle.sqlite.specs.State.{HasCleanDisk, Survives, KeepsCommit, IsUnchanged};
 ghost use Rattle.esc_store.specs.Faults.{IsS1ToS3};
 ghost use Rattle.esc_store.specs.Kept.{Kept};
-ghost use Rattle.esc_store.specs.Opening.{IsSettled, IsAsItWas};
+ghost use Rattle.esc_rows.specs.Schema.{store_schema};
+ghost use Rattle.esc_store.specs.Opening.{IsSettled, IsAsItWas, IsOpeningFault};
 ghost use Rattle.esc_store.specs.StoreTables.{IsStore, IsStoreDatabase, IsOfVersion};
 
 use crate::codec::manifest::kept_manifest;
@@ -21,8 +22,9 @@ use std::alloc::Global;
 /// The version of the stores that this crate makes and opens.
 pub(crate) const VERSION: i64 = 2;
 
-// Tests that the database has the tables of this version. `S3` where it has not.
+// Tests that a database with the nine tables is of this version. `S3` where it is not.
 fn test_version<S: Alter>(conn: &mut Connection<S>) -> Result<(), SFault>
+    requires tables { (state S.Store conn.old).now.schema ≡ store_schema }
     ensures survives { Survives (state S.Store conn.old) (state S.Store conn.new) (λ _. ⊥) }
     ensures kept { HasCleanDisk (state S.Store conn.new)
         → KeepsCommit (state S.Store conn.old) (state S.Store conn.new) }
@@ -35,9 +37,6 @@ fn test_version<S: Alter>(conn: &mut Connection<S>) -> Result<(), SFault>
         → IsStore (state S.Store conn.old).committed.trees k → ⊥) }
     ensures cause { IfErr result IsS1ToS3 }
 {
-    if !has_tables(conn) {
-        return Err(SFault::S3);
-    }
     if find_version(conn)? != Some(VERSION) {
         return Err(SFault::S3);
     }
@@ -46,6 +45,7 @@ fn test_version<S: Alter>(conn: &mut Connection<S>) -> Result<(), SFault>
 
 // The manifest of the store that the database is.
 fn read_manifest<S: Alter>(alloc: Global, conn: &mut Connection<S>) -> Result<Manifest, SFault>
+    requires tables { (state S.Store conn.old).now.schema ≡ store_schema }
     ensures survives { Survives (state S.Store conn.old) (state S.Store conn.new) (λ _. ⊥) }
     ensures kept { HasCleanDisk (state S.Store conn.new)
         → KeepsCommit (state S.Store conn.old) (state S.Store conn.new) }
@@ -85,10 +85,13 @@ pub(crate) fn find_manifest<S: Alter>(
         → IsTrue (state S.Store conn.new).is_open → (k : Kept)
         → IsStore (state S.Store conn.old).committed.trees k → ⊥) }
     ensures unchanged { OnErr result (IsAsItWas (state S.Store conn.old) (state S.Store conn.new)) }
-    ensures cause { IfErr result IsS1ToS3 }
+    ensures cause { IfErr result (IsOpeningFault store_schema (state S.Store conn.old)) }
 {
     if !conn.is_autocommit() {
         return Err(SFault::S1);
+    }
+    if !has_tables(conn) {
+        return Err(SFault::S3);
     }
     match read_manifest(alloc, conn) {
         Ok(manifest) => Ok(manifest),

@@ -18,9 +18,10 @@ ghost use Rattle.std.specs.Prelude.{
 ghost use Rattle.std.specs.Borrow.{sem, RestsIfErr};
 ghost use Rattle.std.specs.Option.{unwrap_or};
 ghost use Rattle.sqlite.specs.Held.{state};
-ghost use Rattle.esc_store.specs.Faults.{IsS1OrS2, IsS1ToS3};
+ghost use Rattle.esc_rows.specs.Schema.{store_schema};
+ghost use Rattle.esc_store.specs.Faults.{IsS1OrS2};
 ghost use Rattle.esc_manifest.specs.declared.row.MRow.{MRow};
-ghost use Rattle.esc_store.specs.Opening.{IsAsItWas};
+ghost use Rattle.esc_store.specs.Opening.{IsAsItWas, IsFoundingFault, IsOpeningFault};
 ghost use Rattle.esc_store.specs.Kept.{Kept, fresh, with_registry};
 ghost use Rattle.esc_apply.specs.Registry.{State};
 ghost use Rattle.esc_store.specs.StoreTables.{IsBlank, IsStore, IsOfVersion};
@@ -57,6 +58,7 @@ use crate::fault::SFault;
 use crate::founding::{found_here, give_up_in};
 use crate::opening::find_manifest;
 use esc_manifest::Manifest;
+use esc_rows::open::is_unused;
 use esc_rows::transaction::{begin_in, commit_in};
 use sqlite::{Alter, Connection, Error};
 use std::alloc::Global;
@@ -94,16 +96,16 @@ impl<S: Alter> Store<S> {
         ensures left { IfOk result (λ store. LeavesOnly S.Store store (fresh manifest.now)) }
         ensures writes { IfOk result (λ store. writes_of store ≡ 0) }
         ensures blank { OnOk result (IsBlank (state S.Store connection).now) }
-        ensures refused { IfErr result (λ e. HasCleanDisk (state S.Store e.1)
-            → IsTrue (state S.Store e.1).is_open → (e.0 ≡ SFault.S3)
-            → IsBlank (state S.Store connection).now → ⊥) }
         ensures unchanged { IfErr result
             (λ e. IsAsItWas (state S.Store connection) (state S.Store e.1)) }
-        ensures cause { IfErr result (λ e. IsS1ToS3 e.0) }
+        ensures cause { IfErr result (λ e. IsFoundingFault (state S.Store connection).now e.0) }
         ensures crash { MatchResult result
             (λ store. LeavesOr S.Store connection (connection_of store) (fresh manifest.now))
             (λ e. LeavesOr S.Store connection e.1 (fresh manifest.now)) }
     {
+        if !is_unused(&connection) {
+            return Err((SFault::S3, connection));
+        }
         let (own, rows) = match both_forms(alloc, manifest) {
             Ok(forms) => forms,
             Err(fault) => return Err((fault, connection)),
@@ -146,7 +148,8 @@ impl<S: Alter> Store<S> {
             → IsStore (state S.Store connection).committed.trees k → ⊥) }
         ensures unchanged { IfErr result
             (λ e. IsAsItWas (state S.Store connection) (state S.Store e.1)) }
-        ensures cause { IfErr result (λ e. IsS1ToS3 e.0) }
+        ensures cause { IfErr result
+            (λ e. IsOpeningFault store_schema (state S.Store connection) e.0) }
         ensures survives { MatchResult result
             (λ store. LeavesNoMore S.Store connection (connection_of store))
             (λ e. LeavesNoMore S.Store connection e.1) }

@@ -17,7 +17,10 @@ pub returns-in-Ok-clause-left : goal.returns-in-Ok-clause-left
 returns-in-Ok-clause-left g c = c.open.ensures.left (listed c.args.manifest.now ∷ []) (fresh c.args.manifest.now) c.in-Ok.ensures.left (c.new_store_stands_for_its_manifest.ensures.stands_for c.args.manifest.now)
 
 pub returns-in-Err-clause-refused : goal.returns-in-Err-clause-refused
-returns-in-Err-clause-refused g c = λ is clean up blank. c.in-Err.ensures.refused clean up is blank
+returns-in-Err-clause-refused g c = λ is clean up blank. c.in-Err.ensures.cause.used is blank
+
+pub returns-in-Err-clause-cause : goal.returns-in-Err-clause-cause
+returns-in-Err-clause-cause g c = c.in-Err.ensures.cause.kinds
 
 pub returns-in-Err-clause-crash : goal.returns-in-Err-clause-crash
 returns-in-Err-clause-crash g c = blank_or g.S.Store g.met.S.Store.settled c.args.connection _ (fresh c.args.manifest.now) c.in-Err.ensures.crash

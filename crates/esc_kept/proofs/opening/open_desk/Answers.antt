@@ -22,3 +22,6 @@ returns-in-Ok-clause-version g c = λ honest. c.in-Ok.ensures.version (subst (λ
 
 pub returns-in-Err-clause-never : goal.returns-in-Err-clause-never
 returns-in-Err-clause-never g c = λ is clean up events it. c.in-Err.ensures.never is clean up it.kept it.store
+
+pub returns-in-Err-clause-cause : goal.returns-in-Err-clause-cause
+returns-in-Err-clause-cause g c = c.in-Err.ensures.cause.kinds

@@ -1,15 +1,9 @@
-use Rattle.esc_store.proofs.Common.{inl, refl, IfOk-at_ok, content_in, IsStore}
-use Rattle.esc_rows.specs.Content.{IsStore as HasTables}
-use Rattle.esc_store.proofs.OpeningLemmas.{tables_refused, version_refused}
+use Rattle.esc_store.proofs.Common.{inl, refl, IfOk-at_ok, IsStore}
+use Rattle.esc_store.proofs.OpeningLemmas.{version_refused}
 use Rattle.esc_store.proofs.opening.test_version.Goals as goal
-
-pub returns-then-not-has_tables-clause-never : goal.returns-then-not-has_tables-clause-never
-unfolding IsStore
-returns-then-not-has_tables-clause-never g c = λ is clean up settled k stored.
-    tables_refused HasTables content_in c.has_tables.ensures.found (settled.1 up) c.if-not-has_tables.true up stored.tables
 
 pub returns-then-ne-clause-never : goal.returns-then-ne-clause-never
 unfolding IsStore
 returns-then-ne-clause-never g c = λ is clean up settled k stored.
     let said = IfOk-at_ok _ c.in_ok-find_version.was (c.find_version.ensures.read.said clean) in
-    version_refused c.in_ok-find_version.field-0 (settled.1 said.1.0.was_open) said.0 (inl (c.has_tables.ensures.tables.0 c.if-not-has_tables.false)) stored.tables.rows.info refl c.if-ne.ensures
+    version_refused c.in_ok-find_version.field-0 (settled.1 said.1.0.was_open) said.0 (inl c.requires.tables) stored.tables.rows.info refl c.if-ne.ensures
