@@ -14,7 +14,7 @@ use Rattle.sqlite_trees.specs.declared.store.Store.{Ghosts}
 use Rattle.sqlite.specs.Held.{Held, state}
 use Rattle.esc_rows.specs.Schema.{no_schema}
 use Rattle.esc_store.specs.declared.fault.SFault.{SFault}
-use Rattle.esc_store.specs.declared.fault.SFault.TheVariants.{S1, S2, S3}
+use Rattle.esc_store.specs.declared.fault.SFault.TheVariants.{S1, S3}
 use Rattle.esc_store.specs.Faults.{IsS1OrS2, IsS1ToS3}
 use Rattle.esc_store.specs.Opening.{IsOpeningFault, IsFoundingFault}
 use Rattle.esc_store.specs.Standing.{LeavesOr}
