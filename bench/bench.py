@@ -17,6 +17,7 @@ import os, shutil, subprocess, sys, tempfile, time
 import raw
 from running import Program, arrivals_where, ask, made_release
 from support import arguments_over_restore
+from support.files import read
 
 arguments = arguments_over_restore(__doc__)
 arguments.add_argument('--keep', help='a folder to work in, which is kept')
@@ -38,8 +39,7 @@ def over_a_socket():
     restore.run('take', '--store', store, os.path.join(small, 'full'))
     bodies = []
     for name in sorted(os.listdir(os.path.join(small, 'puts'))):
-        with open(os.path.join(small, 'puts', name), 'rb') as file:
-            bodies.append((f'/arrivals/{name}', file.read()))
+        bodies.append((f'/arrivals/{name}', read(os.path.join(small, 'puts', name))))
     asked = [('PUT of a small Differential', 'PUT', bodies)]
     asked += [(f'GET {path}', 'GET', [(path, None)] * len(bodies)) for path in ('/status', '/gaps', '/export/domain')]
     _, port, ended = restore.serve(store, len(bodies) * len(asked))

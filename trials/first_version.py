@@ -23,6 +23,7 @@ sys.path.append(f'{sys.path[0]}/../tests')
 from stores import Program, contents, copy, is_whole, opened, readings, rows
 from support import TOP, arguments_over_restore
 from support.bundles import HEADING, row_of, sealed, table
+from support.files import read, write
 from support.first_store import First, write_store
 
 SAMPLES = os.path.join(TOP, 'samples')
@@ -79,31 +80,25 @@ class Release:
         self.folder = os.path.join(work, name.replace(' ', '-'))
         shutil.rmtree(self.folder, ignore_errors=True)
         os.makedirs(self.folder)
-        self.manifest = self.write('manifest.csv', manifest)
+        self.manifest = write(self.at('manifest.csv'), manifest)
         self.taken = self.write_folder('taken', arrivals)
         self.later = self.write_folder('later', more)
-        self.amendments = [self.write(f'part{at}.csv', part) for at, part in enumerate(parts)]
+        self.amendments = [write(self.at(f'part{at}.csv'), part) for at, part in enumerate(parts)]
         self.kept = First(manifest, arrivals)
         self.unlisted = [it[1] for it in self.kept.receipts if it[3] == 2]
 
-    def write(self, name, data):
-        path = os.path.join(self.folder, name)
-        with open(path, 'wb') as file:
-            file.write(data)
-        return path
+    def at(self, name):
+        return os.path.join(self.folder, name)
 
     def write_folder(self, name, arrivals):
-        os.makedirs(os.path.join(self.folder, name))
+        os.makedirs(self.at(name))
         for number, body in arrivals:
-            self.write(os.path.join(name, number), body)
-        return os.path.join(self.folder, name)
-
-    def store(self, name):
-        return os.path.join(self.folder, name)
+            write(os.path.join(self.at(name), number), body)
+        return self.at(name)
 
     def fresh(self):
         """A desk of the program's own that took the same arrivals."""
-        store = self.store('fresh.db')
+        store = self.at('fresh.db')
         if os.path.exists(store):
             return store
         check(f'{self.name}: init', run('init', '--store', store, '--manifest', self.manifest), (0, f'listed {len(self.kept.listed)}\n', ''))
@@ -155,7 +150,7 @@ def take(release, store, folder):
 def go_on(release, start, fresh, is_listed_first):
     """The rest of the release, on a migrated store and on the fresh desk."""
     order = 'listed first' if is_listed_first else 'sent first'
-    store, own = copy(start, release.store('going-on.db')), copy(fresh, release.store('fresh-on.db'))
+    store, own = copy(start, release.at('going-on.db')), copy(fresh, release.at('fresh-on.db'))
     steps = [('take', release.taken), *(('amend', it) for it in release.amendments)]
     for command, path in (steps[1:] + steps[:1] if is_listed_first else steps):
         if command == 'take':
@@ -190,13 +185,12 @@ def play(release, store):
 
 # Releases.
 
-def read(*path):
-    with open(os.path.join(SAMPLES, *path), 'rb') as file:
-        return file.read()
+def sample(path):
+    return read(os.path.join(SAMPLES, path))
 
 
-def read_folder(*path):
-    return [(name, read(*path, name)) for name in sorted(os.listdir(os.path.join(SAMPLES, *path)))]
+def sample_folder(path):
+    return [(name, sample(f'{path}/{name}')) for name in sorted(os.listdir(os.path.join(SAMPLES, path)))]
 
 
 def of_domains(id, type, day, rows, statuses, prev=None):
@@ -242,12 +236,12 @@ def large(count):
 
 
 def releases():
-    first, release = read('first', 'manifest.csv'), read('release', 'manifest.csv')
-    deposits, missing = read_folder('release', 'deposits'), read_folder('release', 'missing')
-    yield Release('first sample', first, read_folder('first', 'deposits'))
-    yield Release('nothing yet', first, [], read_folder('first', 'deposits'))
+    first, release = sample('first/manifest.csv'), sample('release/manifest.csv')
+    deposits, missing = sample_folder('release/deposits'), sample_folder('release/missing')
+    yield Release('first sample', first, sample_folder('first/deposits'))
+    yield Release('nothing yet', first, [], sample_folder('first/deposits'))
     yield Release('second sample', release, deposits, missing)
-    yield Release('parts', read('parts', 'first.csv'), deposits, missing, [read('parts', 'second.csv')])
+    yield Release('parts', sample('parts/first.csv'), deposits, missing, [sample('parts/second.csv')])
     yield unheld()
     yield large(given.objects)
 
@@ -256,7 +250,7 @@ def releases():
 
 def own_store(release, first):
     """A store that the program of version 1 made."""
-    store = release.store('of-first.db')
+    store = release.at('of-first.db')
     first.run('init', '--store', store, '--manifest', release.manifest)
     first.run('take', '--store', store, release.taken)
     return store
@@ -264,14 +258,14 @@ def own_store(release, first):
 
 def killed(release, first, at):
     """A store whose take was killed: what the program of version 1 says of its receipts is what is migrated."""
-    store = release.store(f'killed{at}.db')
+    store = release.at(f'killed{at}.db')
     first.run('init', '--store', store, '--manifest', release.manifest)
     with subprocess.Popen([first.path, 'take', '--store', store, release.taken], stdout=subprocess.PIPE) as ran:
         for _ in range(at):
             ran.stdout.readline()
         ran.kill()
         ran.stdout.read()
-    before, same = contents(store), copy(store, release.store('same.db'))
+    before, same = contents(store), copy(store, release.at('same.db'))
     told_first = first.run('report', '--store', same, 'receipts')
     check(f'{release.name}: migrate a killed one', run('migrate', '--store', store), (0, 'migrated\n', ''))
     check(f'{release.name}: receipts of a killed one', run('report', '--store', store, 'receipts'), told_first)
@@ -282,7 +276,7 @@ def main():
     for release in releases():
         if given.only not in release.name:
             continue
-        made = release.store('made.db')
+        made = release.at('made.db')
         write_store(made, release.kept.rows())
         play(release, made)
         if given.first:

@@ -12,6 +12,7 @@ import contextlib, os, shutil, sqlite3, sys, tempfile
 sys.path.append(f'{sys.path[0]}/../tests')
 from stores import Program, is_whole, readings, rows
 from support import TOP, arguments_over_restore, first_store
+from support.files import read
 
 SAMPLE = os.path.join(TOP, 'samples', 'first')
 # Of version 1 and of version 2, here in small letters.
@@ -32,8 +33,7 @@ os.makedirs(work, exist_ok=True)
 def plain_store(name, order):
     """Makes a store from the texts of the tables, made in this order."""
     store = os.path.join(work, name)
-    with open(os.path.join(SAMPLE, 'manifest.csv'), 'rb') as file:
-        listed = first_store.First(file.read(), []).rows()['listed']
+    listed = first_store.First(read(os.path.join(SAMPLE, 'manifest.csv')), []).rows()['listed']
     with contextlib.closing(sqlite3.connect(store)) as database, database:
         for table in order:
             database.execute(f'create table {table} ({TABLES[table]})')

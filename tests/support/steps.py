@@ -4,6 +4,7 @@ from dataclasses import dataclass
 
 from support import TESTS, first_store
 from support.bodies import bytes_of, manifest_text
+from support.files import read
 
 FILES = f'{TESTS}/files'
 
@@ -108,8 +109,7 @@ class FirstScript:
     bodies: tuple
 
     def do(self, stage):
-        with open(stage.at(self.manifest), 'rb') as file:
-            kept = first_store.First(file.read(), [(number, bytes_of(name)) for number, name in self.bodies])
+        kept = first_store.First(read(stage.at(self.manifest)), [(number, bytes_of(name)) for number, name in self.bodies])
         write_new(stage, self.path, first_script(kept.rows()).encode())
 
 
@@ -162,5 +162,4 @@ def first_script(rows):
 
 
 def contents(name):
-    with open(f'{FILES}/{name}', 'rb') as file:
-        return file.read()
+    return read(f'{FILES}/{name}')

@@ -6,10 +6,10 @@ has to tell each client that it gave up, and to end by itself with its store as 
 import concurrent.futures, os, socket, threading, time
 
 from fuzzing.sections import table_of
-from fuzzing.trial import put
 from stores import copy
 from support import formats
 from support.bundles import HEADING, row_of
+from support.files import write
 from support.sockets import HOST, received
 
 FIRST_SECONDS, BYTES_A_SECOND, REST_SECONDS = 10, 65_536, 10
@@ -124,8 +124,8 @@ def over_clients(trial):
     number = 60_000
     body = table_of(b''.join(b'%059d\n' % key for key in range(number)))
     store, folder = trial.at('held'), trial.at('held-folder')
-    put(store + '.csv', (HEADING + row_of('L,FULL,2024-04-01T00:00:00Z,,', body)).encode())
-    put(os.path.join(folder, 'n1'), body)
+    write(store + '.csv', (HEADING + row_of('L,FULL,2024-04-01T00:00:00Z,,', body)).encode())
+    write(os.path.join(folder, 'n1'), body)
     trial.run('init', '--store', store, '--manifest', store + '.csv')
     trial.run('take', '--store', store, folder)
     for what, got, seconds, most, is_right in over_each(trial, store, trial.texts(store)):

@@ -4,9 +4,10 @@ import json, os, re, socket, sys, time
 from fuzzing import requests
 from fuzzing.arrivals import names
 from fuzzing.receipts import Receipts, expected_take
-from fuzzing.trial import PATIENCE, put
+from fuzzing.trial import PATIENCE
 from support import formats
 from support.bundles import HEADING
+from support.files import write
 from support.sockets import HOST, breaks_off, received
 
 # Of a response with a reply, by its verdict; any other is 422.
@@ -22,9 +23,9 @@ class Desk:
         self.receipts, self.faults = Receipts(rows), 0
         self.bodies = [row.body for row in rows] + [b'', b'abc', rng.randbytes(5000)]
         self.numbers = names(rng, 6) + ['n1']
-        put(self.store + '.csv', (HEADING + ''.join(row.line for row in rows)).encode())
+        write(self.store + '.csv', (HEADING + ''.join(row.line for row in rows)).encode())
         for number, row in enumerate(rows):
-            put(os.path.join(self.twin + '-folder', f'n{number}'), row.body)
+            write(os.path.join(self.twin + '-folder', f'n{number}'), row.body)
         for store in (self.store, self.twin):
             trial.run('init', '--store', store, '--manifest', self.store + '.csv')
         trial.run('take', '--store', self.twin, self.twin + '-folder')

@@ -4,8 +4,8 @@ import os, shutil
 from fuzzing.arrivals import mutated_release, names
 from fuzzing.damage import flipped
 from fuzzing.receipts import Receipts, expected_take
-from fuzzing.trial import put
 from support.bundles import HEADING
+from support.files import write
 
 
 def folder_of(rng, rows):
@@ -42,8 +42,8 @@ def over_bundles(trial, batch, rng, many):
     folder, store = trial.at(f'folder-{batch}'), trial.at(f'store-{batch}')
     files, receipts = folder_of(rng, rows), Receipts(rows)
     for name, body in files.items():
-        put(os.path.join(os.fsencode(folder), name), body)
-    put(store + '.csv', (HEADING + ''.join(row.line for row in rows)).encode())
+        write(os.path.join(os.fsencode(folder), name), body)
+    write(store + '.csv', (HEADING + ''.join(row.line for row in rows)).encode())
     expected = expected_take(files, receipts)
     made = trial.run('init', '--store', store, '--manifest', store + '.csv')
     if made != (0, f'listed {many}\n'.encode(), b''):

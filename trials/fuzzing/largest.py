@@ -3,8 +3,8 @@ import json, os, subprocess, sys, time
 
 from fuzzing.receipts import RECEIPTS
 from fuzzing.sections import table_of
-from fuzzing.trial import put
 from support.bundles import HEADING, row_of, sealed
+from support.files import write
 
 
 def envelope_with(member):
@@ -58,8 +58,8 @@ def over_large(trial, name, body, known):
         if os.path.exists(path):
             os.remove(path)
     manifest = (HEADING + row_of('L,FULL,2024-04-01T00:00:00Z,,', body)).encode()
-    put(store + '.csv', manifest)
-    put(os.path.join(folder, 'n1'), body)
+    write(store + '.csv', manifest)
+    write(os.path.join(folder, 'n1'), body)
     trial.run('init', '--store', store, '--manifest', store + '.csv')
     begun = time.perf_counter()
     taken = subprocess.run([sys.executable, '-c', MEASURE, trial.program, 'take', '--store', store, folder], capture_output=True,

@@ -5,8 +5,8 @@ they were made, or None."""
 import os, sys
 
 from fuzzing.damage import damaged
-from fuzzing.trial import put
 from support import bundles, formats
+from support.files import write
 
 HEADING = bundles.HEADING.encode()
 
@@ -113,7 +113,7 @@ def over_manifest(trial, rng, number):
     """Gives a mutated manifest to `init`."""
     mutation, text, known = manifest(rng)
     store = trial.at(f'made-{number}')
-    put(store + '.csv', text)
+    write(store + '.csv', text)
     try:
         told = f'listed {len(formats.manifest(text))}'
         expected = 0, told.encode() + b'\n', b''

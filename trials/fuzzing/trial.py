@@ -2,6 +2,7 @@
 import collections, os, resource, shutil, subprocess, sys, tempfile
 
 from stores import READINGS, is_whole
+from support.files import write
 from support.sockets import HOST, free_port
 
 PATIENCE = 60
@@ -56,8 +57,8 @@ class Trial:
         folder = os.path.join(self.kept, f'{self.counts["wrong"]:04d}')
         os.makedirs(folder)
         for name, content in files.items():
-            put(os.path.join(folder, name), content)
-        put(os.path.join(folder, 'how'), f'{what}\nexpected {expected!r}\ngot {got!r}\n'.encode())
+            write(os.path.join(folder, name), content)
+        write(os.path.join(folder, 'how'), f'{what}\nexpected {expected!r}\ngot {got!r}\n'.encode())
         print(f'WRONG {what}: {expected!r:.300}, got {got!r:.300}: {folder}', flush=True)
 
     def check_store(self, what, store):
@@ -77,9 +78,3 @@ class Trial:
     def clean(self):
         """Removes the folder for work."""
         shutil.rmtree(self.work)
-
-
-def put(path, content):
-    os.makedirs(os.path.dirname(path), exist_ok=True)
-    with open(path, 'wb') as file:
-        file.write(content)

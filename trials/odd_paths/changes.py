@@ -2,8 +2,9 @@
 import os, shutil
 
 from odd_paths.answers import refused
-from odd_paths.files import DEPOSITS, MANIFEST, bytes_of, linked, put, rewriting, slow_file, sparse
+from odd_paths.files import DEPOSITS, MANIFEST, linked, rewriting, slow_file, sparse
 from stores import is_whole
+from support.files import read, write
 
 
 def try_all(trial):
@@ -19,7 +20,7 @@ def changed(trial, what, change, expected):
     os.mkdir(folder)
     for number in range(8):
         slow_file(os.path.join(folder, f'a{number}'))
-    last = put(os.path.join(folder, 'z'), b'abc')
+    last = write(os.path.join(folder, 'z'), b'abc')
     child = trial.begin('take', '--store', store, folder)
     heading = child.stdout.readline().decode()
     change(last)
@@ -50,12 +51,12 @@ def rewritten(trial):
     """A listed deposit that is written anew while it is read: it is held, or another body comes."""
     folder, store = trial.at('rewriting'), trial.made('rewriting.db', None)
     os.mkdir(folder)
-    path, body, seen = os.path.join(folder, 'n1'), bytes_of(os.path.join(DEPOSITS, 'n1')), set()
+    path, body, seen = os.path.join(folder, 'n1'), read(os.path.join(DEPOSITS, 'n1')), set()
     with rewriting(path, body, 100):
         for _ in range(100):
             status, out, refusals = trial.run('take', '--store', store, folder)
             seen.add((status, ','.join(out.splitlines()[1].split(',')[1:3]) if status in (0, 1) else out, refusals))
-    put(path, body)
+    write(path, body)
     trial.judge(f'folder: a file rewritten while 100 times read: {sorted(seen)}',
                 (0, '', '') if seen <= {(0, 'n1,A1', ''), (1, 'n1,A5', '')} else (1, repr(seen), ''), (0, '', ''))
     trial.judge('folder: that file, whole again', (trial.run('take', '--store', store, folder)[0], '', ''), (0, '', ''))

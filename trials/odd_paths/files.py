@@ -3,21 +3,11 @@ read."""
 import contextlib, os, socket, threading
 
 from support import TOP
+from support.files import write
 
 RELEASE = os.path.join(TOP, 'samples', 'release')
 MANIFEST = os.path.join(RELEASE, 'manifest.csv')
 DEPOSITS = os.path.join(RELEASE, 'deposits')
-
-
-def bytes_of(path):
-    with open(path, 'rb') as file:
-        return file.read()
-
-
-def put(path, content):
-    with open(path, 'wb') as file:
-        file.write(content)
-    return path
 
 
 def linked(path, target):
@@ -54,7 +44,7 @@ def not_files(folder):
     inside = lambda name: os.path.join(folder, name)
     return {'a link to nothing': linked(inside('nothing'), inside('gone')),
             'a loop of links': linked(inside('loop'), inside('loop')),
-            'a socket': listening(inside('socket')), 'a path through a file': os.path.join(put(inside('file'), b''), 'x'),
+            'a socket': listening(inside('socket')), 'a path through a file': os.path.join(write(inside('file'), b''), 'x'),
             'a name of 300 bytes': inside('n' * 300), 'a path of 5,000 bytes': inside('n/' * 2500),
             'a path that is not there': inside('absent')}
 
@@ -65,9 +55,9 @@ def rewriting(path, whole, part):
     going = True
     def rewrite():
         while going:
-            put(path, whole)
-            put(path, whole[:part])
-    put(path, whole)
+            write(path, whole)
+            write(path, whole[:part])
+    write(path, whole)
     writer = threading.Thread(target=rewrite)
     writer.start()
     try:

@@ -2,8 +2,9 @@
 import os, shutil, stat
 
 from odd_paths.answers import HEADING, NOTHING_TAKEN, refused, stopped
-from odd_paths.files import DEPOSITS, MANIFEST, linked, not_files, pipe, put, slow_file
+from odd_paths.files import DEPOSITS, MANIFEST, linked, not_files, pipe, slow_file
 from stores import is_whole
+from support.files import write
 
 
 def take(trial, what, folder, *expected):
@@ -33,7 +34,7 @@ def named(trial):
     folder = trial.at('named')
     os.mkdir(folder)
     for name in (b'a\nS1', b'b\x1b[2J', b'c\\', b'd\\\t', b'e\xff'):
-        put(os.path.join(os.fsencode(folder), name), b'abc')
+        write(os.path.join(os.fsencode(folder), name), b'abc')
     told = 'N1 (a name that is no UTF-8)\nN1 a\\nS1\nN1 b\\u{1b}[2J\nN1 c\\\nN1 d\\\\\\t\n'
     trial.still('folder: names of all kinds', *take(trial, 'names with line ends and other bytes in it', folder, (1, HEADING, told)))
 

@@ -2,7 +2,8 @@
 import os, shutil
 
 from odd_paths.answers import refused
-from odd_paths.files import DEPOSITS, MANIFEST, bytes_of, put
+from odd_paths.files import DEPOSITS, MANIFEST
+from support.files import read, write
 
 NOBODY = 65534
 
@@ -20,12 +21,12 @@ def try_all(trial):
 
 def init(trial):
     """`init` by a manifest that may not be read, by one in a folder that may not be searched, and into that folder."""
-    store, secret = trial.at('nobody.db'), put(trial.at('secret.csv'), bytes_of(MANIFEST))
+    store, secret = trial.at('nobody.db'), write(trial.at('secret.csv'), read(MANIFEST))
     os.chmod(secret, 0o600)
     trial.judge('may not be read: the manifest', trial.run('init', '--store', store, '--manifest', secret, user=NOBODY),
                 refused(secret))
     os.mkdir(trial.at('closed'), 0o700)
-    inside, new = put(trial.at('closed', 'manifest.csv'), b''), trial.at('closed', 'new.db')
+    inside, new = write(trial.at('closed', 'manifest.csv'), b''), trial.at('closed', 'new.db')
     trial.judge('may not be searched: the manifest\'s folder',
                 trial.run('init', '--store', store, '--manifest', inside, user=NOBODY), refused(inside))
     trial.judge('may not be written: the store\'s folder',
@@ -33,7 +34,7 @@ def init(trial):
 
 
 def readable_manifest(trial):
-    path = put(trial.at('readable.csv'), bytes_of(MANIFEST))
+    path = write(trial.at('readable.csv'), read(MANIFEST))
     os.chmod(path, 0o644)
     return path
 
@@ -62,7 +63,7 @@ def folders(trial, store):
     for mode, what in ((0o300, 'may not be read: the folder'), (0o700, 'may not be searched: the folder')):
         folder = trial.at(f'folder-{mode:o}')
         os.mkdir(folder)
-        put(os.path.join(folder, 'n1'), b'abc')
+        write(os.path.join(folder, 'n1'), b'abc')
         os.chmod(folder, mode if mode == 0o300 else 0o744)
         os.chown(folder, NOBODY if mode == 0o300 else 0, -1)
         trial.judge(what, trial.run('take', '--store', store, folder, user=NOBODY), refused(folder), refused(folder + '/n1'))

@@ -2,7 +2,8 @@
 import os, threading, time
 
 from odd_paths.answers import LISTED, refused
-from odd_paths.files import MANIFEST, bytes_of, linked, not_files, pipe, put, rewriting, sparse
+from odd_paths.files import MANIFEST, linked, not_files, pipe, rewriting, sparse
+from support.files import read, write
 
 
 def init(trial, what, manifest, *expected):
@@ -24,7 +25,7 @@ def written_late(path, text, wait):
 
 
 def try_all(trial):
-    text = bytes_of(MANIFEST)
+    text = read(MANIFEST)
     init(trial, 'a link', linked(trial.at('link.csv'), MANIFEST), LISTED)
     init(trial, 'a link to a link', linked(trial.at('link2.csv'), trial.at('link.csv')), LISTED)
     for what, path in not_files(trial.at('manifests')).items():
@@ -60,7 +61,7 @@ def pipes(trial, text):
 
 def growing(trial, text):
     """A manifest that grows while it is read, faster than that."""
-    path, going, seen = put(trial.at('growing.csv'), text), True, set()
+    path, going, seen = write(trial.at('growing.csv'), text), True, set()
     def grow():
         with open(path, 'ab') as file:
             while going and file.tell() < 10**9:

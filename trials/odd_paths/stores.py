@@ -2,7 +2,8 @@
 import os, socket
 
 from odd_paths.answers import LISTED, NOTHING_TAKEN, refused, stopped
-from odd_paths.files import DEPOSITS, MANIFEST, linked, not_files, pipe, put
+from odd_paths.files import DEPOSITS, MANIFEST, linked, not_files, pipe
+from support.files import write
 from support.sockets import HOST, free_port
 
 
@@ -24,8 +25,8 @@ def try_all(trial):
             # A plain file has nothing below it, so there is no store.
             there = [s3] if what == 'a path through a file' else [refused(path)]
             opened(trial, what, path, expected, [NOTHING_TAKEN] if expected == [LISTED] else there)
-    opened(trial, 'an empty file', put(trial.at('empty.db'), b''), [LISTED], [NOTHING_TAKEN])
-    opened(trial, 'a text', put(trial.at('text.db'), b'words\n' * 1000), [s1], [s1])
+    opened(trial, 'an empty file', write(trial.at('empty.db'), b''), [LISTED], [NOTHING_TAKEN])
+    opened(trial, 'a text', write(trial.at('text.db'), b'words\n' * 1000), [s1], [s1])
     opened(trial, '/dev/null', '/dev/null', [s1, s3], [s1, s3])
     opened(trial, '/dev/zero', '/dev/zero', [s1, s3], [s1, s3])
     opened(trial, 'a pipe', pipe(trial.at('pipe.db')), [s1, s3], [s1, s3])
@@ -39,7 +40,7 @@ def log_beside(trial):
     """FILE-wal is something else than a log."""
     for what, make in (('a folder', os.mkdir), ('a pipe', os.mkfifo),
                        ('a link to nothing', lambda path: linked(path, trial.at('no-log'))),
-                       ('a loop of links', lambda path: linked(path, path)), ('bytes', lambda path: put(path, os.urandom(5000)))):
+                       ('a loop of links', lambda path: linked(path, path)), ('bytes', lambda path: write(path, os.urandom(5000)))):
         store = trial.made('logged')
         before = trial.readings(store)
         os.remove(store + '-wal')

@@ -5,6 +5,7 @@ import os
 from stores import copy, rows
 from support import first_store
 from support.bundles import HEADING, row_of, sealed, table
+from support.files import read, write
 
 # The four arrivals: a Full, two Differentials, and the first of these once more, at resend 1.
 
@@ -35,15 +36,12 @@ def write_four(work):
         (header('D2', 'DIFF', 4, 'F1', 1), [domains('b.example,R1,C1', 'c.example,R1,C1')], []),
     ]
     folder = os.path.join(work, 'four')
-    os.makedirs(os.path.join(folder, 'deposits'))
     lines = [HEADING]
     for at, (head, contents, deletes) in enumerate(bodies, 1):
         body = bundle(head, contents, deletes)
-        with open(os.path.join(folder, 'deposits', str(at)), 'wb') as file:
-            file.write(body)
+        write(os.path.join(folder, 'deposits', str(at)), body)
         lines.append(row_of(f'{head["id"]},{head["type"]},{head["watermark"]},{head.get("prevId", "")},{head["resend"]}', body))
-    with open(os.path.join(folder, 'manifest.csv'), 'w') as file:
-        file.writelines(lines)
+    write(os.path.join(folder, 'manifest.csv'), ''.join(lines).encode())
     return folder
 
 
@@ -93,8 +91,5 @@ class Unkept:
 
 def write_first(store, manifest, deposits):
     """A store of version 1, as it kept this manifest and these arrivals."""
-    def read(path):
-        with open(path, 'rb') as file:
-            return file.read()
     arrivals = [(name, read(os.path.join(deposits, name))) for name in sorted(os.listdir(deposits))]
     first_store.write_store(store, first_store.First(read(manifest), arrivals).rows())

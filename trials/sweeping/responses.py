@@ -3,6 +3,7 @@ then gets the whole response, and the store has the same rows."""
 import os, socket, subprocess
 
 from stores import REPORTS, rows
+from support.files import read
 from support.formats import KINDS
 from support.sockets import HOST, received
 from sweeping.refusals import ended_in
@@ -66,8 +67,7 @@ def over_serve(sweep, release, name, request, before):
 
 def over_routes(sweep, release):
     first = sorted(os.listdir(release.deposits))[0]
-    with open(os.path.join(release.deposits, first), 'rb') as file:
-        body = file.read()
+    body = read(os.path.join(release.deposits, first))
     put = f'PUT /arrivals/{first} HTTP/1.1\r\nContent-Length: {len(body)}\r\n\r\n'.encode() + body
     over_serve(sweep, release, 'PUT /arrivals', put, release.fresh)
     for path in (*(f'/{it}' for it in REPORTS), *(f'/export/{it}' for it in KINDS)):
