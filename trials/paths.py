@@ -5,7 +5,7 @@ it reads.
 FILE, DIR and the manifest are in turn a link, a loop of links, a folder, a device, a pipe, a socket, a file that may not be
 read or written, one that is far too large, one that another process rewrites; a folder holds all of these, or the store
 itself; standard output is closed, full or not read; the system allows no more bytes in a file, or no more open files. Looked
-for: each run ends within N seconds (10) with a status and a refusal of README.md, and a store that was there still has its
+for: each run ends within N seconds (10) with a status and a refusal of docs/OPERATING.md, and a store that was there still has its
 receipts and tables and passes the C library's `integrity_check`. What doesn't end by itself (a pipe that nobody writes) is
 said as WAITS, and ended; what the system ends by a signal as SIGNAL. A run has at most 1 GB of memory, so that what is read
 without an end would show.

@@ -1,4 +1,4 @@
-"""What the program answers, by the words of README.md: its status, its output and its refusals."""
+"""What the program answers, by docs/OPERATING.md: its status, its output and its refusals."""
 
 HEADING = 'receipt,number,verdict,fault,id,resend,copy,orphans\n'
 LISTED = 0, 'listed 7\n', ''

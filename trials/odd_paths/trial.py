@@ -52,7 +52,7 @@ class Trial:
         return self.finish(self.begin(*words, **settings))
 
     def judge(self, what, got, *expected):
-        """Says what came of a case, and whether it is one of what the README has."""
+        """Says what came of a case, and whether it is one of what docs/OPERATING.md has."""
         self.cases += 1
         status, out, refusals = got
         line = f'{what}: {status} {(out[len(HEADING):] if out.startswith(HEADING) else out)!r:.60} {refusals!r:.90}'
