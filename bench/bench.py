@@ -12,11 +12,10 @@ one where 100 are; and bodies that no row lists yet are parked, as many as there
 all processor time, with the ratio to taking the same bodies where they are listed. It needs python3 alone, and the program,
 which `./build` builds: `./build && bench/bench.py`. With --only chain, or --only adopted, that task alone is
 run. Times of a busy machine say little; the ratios say more."""
-import os, shutil, subprocess, sys, tempfile, time
+import os, re, shutil, subprocess, sys, tempfile, time
 
-import raw
 from running import Program, arrivals_where, ask, made_release
-from support import arguments_over_restore
+from support import TOP, arguments_over_restore
 from support.files import read
 
 arguments = arguments_over_restore(__doc__)
@@ -26,6 +25,13 @@ given = arguments.parse_args()
 work = given.keep or tempfile.mkdtemp(prefix='restore-bench-')
 release = os.path.join(work, 'release')
 restore = Program(given.restore, work)
+
+
+def raw(store):
+    """The milliseconds that the SQL statements of a store's content take alone. They run in a process of its own: the peak memory of a run
+    begins with the size of the process that starts it."""
+    said = subprocess.run([sys.executable, f'{TOP}/bench/raw.py', '--store', store], check=True, capture_output=True, text=True).stdout
+    return float(re.search(r'before-images and body: .*?([0-9.]+) ms', said)[1])
 
 
 def tell(task, took, memory, ratio=None, to='raw'):
@@ -101,7 +107,7 @@ def adoptions():
 
 def take(task, store, folder, want=0, compare=False):
     use = restore.run('take', '--store', store, os.path.join(release, folder), want=want)
-    tell(task, use.took, use.memory, use.took / raw.medians(store)[1]['objects, before-images and body'] if compare else None)
+    tell(task, use.took, use.memory, use.took / raw(store) if compare else None)
 
 
 def tell_run(task, *words):

@@ -88,7 +88,6 @@ class Sweep:
         for at, it in wrong[:5]:
             print(f'    {at}: {it}', flush=True)
 
-
     @contextlib.contextmanager
     def copied(self, before):
         """A copy of a store, or none where there is none, in a `with` statement."""
@@ -97,8 +96,8 @@ class Sweep:
         copy(None, store)
 
     def refuse_over(self, name, fault, before, play, play_again, is_right, is_whole):
-        """Refuses calls while something is played on a copy of a store, and says whether that is right, and what is played on the copy then.
-        At the fault S1 it is calls of the database's files, else growths of memory."""
+        """Refuses calls while something is played on a copy of a store: calls of the database's files at the fault S1, else growths of memory.
+        `is_right` judges what comes of it, and of what is played on the copy then."""
         once_more, disk = Again(play_again), fault == 'S1'
 
         def judge(at):
