@@ -1,1 +1,2 @@
+pub mod Client
 pub mod Patience

@@ -4,6 +4,7 @@ ghost use Rattle.std.specs.Prelude.{◌≡◌, IsErr, IfOk};
 ghost use Rattle.std.specs.Duration.{as_nanos};
 ghost use Rattle.std.specs.Io.{ReadsAtMost, WritesAtMost};
 ghost use Rattle.std.specs.Io.KnownBytes.{Keeps, ReadConsumes, WriteAppends};
+ghost use Rattle.esc_client.specs.Client.{stream_of, patience_of};
 ghost use Rattle.esc_client.specs.Patience.{IsOver, HasMoved, next_wait};
 
 use crate::patience::Patience;
@@ -40,7 +41,10 @@ pub struct Client<'a, C, S: Drop> {
 
 impl<'a, C: Clock, S: Timed + Drop> Client<'a, C, S> {
     /// A client that has not been waited for.
-    pub fn new(clock: &'a C, stream: S, patience: Patience) -> Client<'a, C, S> {
+    pub fn new(clock: &'a C, stream: S, patience: Patience) -> Client<'a, C, S>
+        ensures stream { stream_of result ≡ stream }
+        ensures patience { patience_of result ≡ patience }
+    {
         Client {
             clock,
             stream,
@@ -50,8 +54,8 @@ impl<'a, C: Clock, S: Timed + Drop> Client<'a, C, S> {
 
     // How long the next wait may last.
     fn next_wait(&self) -> Result<Duration>
-        ensures over { IsOver self.now.patience → IsErr result }
-        ensures time { IfOk result (λ time. as_nanos time ≡ next_wait self.now.patience) }
+        ensures over { IsOver (patience_of self.now) → IsErr result }
+        ensures time { IfOk result (λ time. as_nanos time ≡ next_wait (patience_of self.now)) }
     {
         match self.patience.next_wait() {
             Some(time) => Ok(time),
@@ -63,8 +67,8 @@ impl<'a, C: Clock, S: Timed + Drop> Client<'a, C, S> {
     // fails, the patience is over from then on: the bytes have moved, and are not lost.
     fn count(&mut self, begun: Instant, moved: &Result<usize>)
         ensures moved { IfOk moved.now
-            (λ bytes. HasMoved bytes self.old.patience self.new.patience) }
-        ensures stream { self.new.stream ≡ self.old.stream }
+            (λ bytes. HasMoved bytes (patience_of self.old) (patience_of self.new)) }
+        ensures stream { stream_of self.new ≡ stream_of self.old }
     {
         let bytes = match moved {
             Ok(bytes) => *bytes,
@@ -76,15 +80,15 @@ impl<'a, C: Clock, S: Timed + Drop> Client<'a, C, S> {
 }
 
 impl<C: Clock, S: Read + Timed + Drop> Read for Client<'_, C, S> {
-    ghost remaining = { λ client. S.remaining client.stream };
+    ghost remaining = { λ client. S.remaining (stream_of client) };
 
     fn read(&mut self, buf: &mut [u8]) -> Result<usize>
         ensures bound { ReadsAtMost result buf.new }
-        ensures bytes { ReadConsumes (S.remaining self.old.stream) (S.remaining self.new.stream)
-            result buf.new }
-        ensures over { IsOver self.old.patience → IsErr result }
+        ensures bytes { ReadConsumes (S.remaining (stream_of self.old))
+            (S.remaining (stream_of self.new)) result buf.new }
+        ensures over { IsOver (patience_of self.old) → IsErr result }
         ensures moved { IfOk result
-            (λ bytes. HasMoved bytes self.old.patience self.new.patience) }
+            (λ bytes. HasMoved bytes (patience_of self.old) (patience_of self.new)) }
     {
         self.stream.limit_reads(self.next_wait()?)?;
         let begun = Instant::now(self.clock)?;
@@ -95,15 +99,15 @@ impl<C: Clock, S: Read + Timed + Drop> Read for Client<'_, C, S> {
 }
 
 impl<C: Clock, S: Write + Timed + Drop> Write for Client<'_, C, S> {
-    ghost contents = { λ client. S.contents client.stream };
+    ghost contents = { λ client. S.contents (stream_of client) };
 
     fn write(&mut self, buf: &[u8]) -> Result<usize>
         ensures bound { WritesAtMost result buf.now }
-        ensures bytes { WriteAppends (S.contents self.old.stream) (S.contents self.new.stream)
-            result buf.now }
-        ensures over { IsOver self.old.patience → IsErr result }
+        ensures bytes { WriteAppends (S.contents (stream_of self.old))
+            (S.contents (stream_of self.new)) result buf.now }
+        ensures over { IsOver (patience_of self.old) → IsErr result }
         ensures moved { IfOk result
-            (λ bytes. HasMoved bytes self.old.patience self.new.patience) }
+            (λ bytes. HasMoved bytes (patience_of self.old) (patience_of self.new)) }
     {
         self.stream.limit_writes(self.next_wait()?)?;
         let begun = Instant::now(self.clock)?;
