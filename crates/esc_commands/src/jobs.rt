@@ -1,12 +1,11 @@
 //! What the commands do with the database of a file, and with the desk of its store.
 
-use crate::events;
 use crate::run::Run;
 use crate::store_file::{
     Used, connection_of, create_store, migrate_store, open_desk, why_not_opened,
 };
 use esc_console::DONE;
-use esc_desk::{Desk, SFault};
+use esc_desk::{AmendFault, Desk, SFault};
 use esc_http::{Report, report};
 use esc_manifest::Manifest;
 use esc_texts::end_line;
@@ -192,7 +191,11 @@ fn told(alloc: Global, status: Result<u8, Stop>) -> Result<Ended, Stop> {
 
 // Lists the rows of a manifest with a desk. The text says how many are new.
 fn list_rows<S: Alter>(alloc: Global, desk: &mut Desk<S>, text: &[u8]) -> Result<Ended, Stop> {
-    let count = events::amend(alloc, desk, text)?;
+    let count = match desk.amend(alloc, text) {
+        Ok((count, _work)) => count,
+        Err(AmendFault::M(fault)) => return Err(Stop::Manifest(fault)),
+        Err(AmendFault::Store(fault)) => return Err(Stop::Store(fault)),
+    };
     let line = format!(in alloc; "added {count}\n")?;
     Ok(Ended::done(line.into_bytes()))
 }
@@ -203,7 +206,7 @@ fn move_to<S: Alter>(
     desk: &mut Desk<S>,
     moment: Option<i64>,
 ) -> Result<Ended, Stop> {
-    events::move_to(alloc, desk, moment)?;
+    desk.as_of(alloc, moment)?;
     let status = desk.status(alloc)?;
     let line = end_line(alloc, status.end)?;
     Ok(Ended::done(line.into_bytes()))

@@ -44,7 +44,8 @@
 //!
 //! By proof: that no call is unsafe and that each ends, whatever the words, files and requests are.
 //! What a store stands for after an arrival, an amendment or a moment is the contract of
-//! [`esc_desk::Desk::run_events`], and after a migration that of [`esc_store::Store::migrate`].
+//! [`esc_desk::Desk::arrive`], [`esc_desk::Desk::amend`] and [`esc_desk::Desk::as_of`], and after a
+//! migration that of [`esc_store::Store::migrate`].
 //! What a request is answered is that of [`esc_http::serve_one`], how long its client is waited for
 //! that of [`esc_client::Client`], and the texts of reports are that of [`esc_http::report`]. No
 //! contract can say what a file holds or what is printed, so the texts, statuses and the order of
@@ -52,7 +53,6 @@
 #![tactic(auto)]
 
 mod commands;
-mod events;
 mod jobs;
 mod run;
 mod serve;

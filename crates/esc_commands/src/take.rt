@@ -1,9 +1,8 @@
 //! Taking a folder of deposits.
 
-use crate::events;
 use crate::run::Run;
 use esc_console::{DONE, path_in, plain_files};
-use esc_desk::{Arrival, Desk, Verdict, number};
+use esc_desk::{Desk, Verdict, number};
 use esc_texts::{receipt_line, receipts_heading};
 use esc_usage::{REFUSED, Stop, or_stop, read_body};
 use sqlite::Alter;
@@ -65,11 +64,7 @@ impl<N, O: Write, E: Write> Run<'_, N, O, E> {
             self.tell("E2", name)?;
             return Ok(false);
         };
-        let arrival = Arrival {
-            number,
-            body: &body,
-        };
-        let reply = events::take(alloc, desk, arrival)?;
+        let (reply, _work) = desk.arrive(alloc, &number, &body)?;
         self.print(&receipt_line(alloc, &reply)?)?;
         Ok(reply.verdict == Verdict::A1)
     }

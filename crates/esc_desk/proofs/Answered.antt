@@ -1,9 +1,9 @@
 -- What an arrival is answered, why it is lost, and what a crash leaves of it.
-use Rattle.std.proofs.Common.{◌≡◌, ◌+◌, ◌<◌, ◌≤◌, inl, inr, ℕ, Bool, true, false, List, [], ◌∷◌, ◌++◌, length, Option, Some, None, IfSome, is_some, refl, sym, ap, ap₂, subst, ◌∙◌, true≢false, arith}
+use Rattle.std.proofs.Common.{◌≡◌, ◌+◌, ◌<◌, ◌≤◌, inl, inr, ℕ, Bool, true, false, List, [], ◌∷◌, ◌++◌, length, Option, Some, None, IfSome, IsSome, is_some, refl, sym, ap, ap₂, subst, ◌∙◌, true≢false, arith}
 use Rattle.std.proofs.lemmas.Option.{same_Some, none-some}
 use Rattle.sha2.specs.Sha256.{sha256}
 use Rattle.sqlite_trees.specs.declared.store.Store.{Ghosts}
-use Rattle.sqlite.specs.Held.{Held, state}
+use Rattle.sqlite.specs.Held.{state}
 use Rattle.sqlite.specs.State.{HasCleanDisk}
 use Rattle.esc_tables.specs.Reading.{reading}
 use Rattle.esc_manifest.specs.declared.row.MRow.{MRow}
@@ -15,7 +15,7 @@ use Rattle.esc_store.specs.declared.reply.Verdict.TheVariants.{A1, A2, A3, A4, A
 use Rattle.esc_store.specs.declared.store.Store.{Store}
 use Rattle.esc_store.specs.Kept.{Kept, IsFull}
 use Rattle.esc_store.specs.ReplyValue.{ReceiptValue, ReplyValue, reply_alike, reply_kept}
-use Rattle.esc_store.specs.Standing.{IsAsBefore, IsHonest, Stands, LeavesNoMore}
+use Rattle.esc_store.specs.Standing.{IsAsBefore, IsHonest, Stands, StoreLeavesNoMore}
 use Rattle.esc_events.specs.declared.assessment.Assessment.{Assessment}
 use Rattle.esc_events.specs.declared.assessment.Assessment.TheVariants.{Unlisted}
 use Rattle.esc_events.specs.declared.known.Known.{Known}
@@ -25,7 +25,7 @@ use Rattle.esc_events.specs.Assessment.{assessment, found_at, row_of}
 use Rattle.esc_events.specs.Events.{EventValue, union}
 use Rattle.esc_events.specs.Events.EventValue.{arrived}
 use Rattle.esc_events.specs.Known.{IsKnown}
-use Rattle.esc_events.specs.Receipts.{reply_to}
+use Rattle.esc_events.specs.Receipts.{receipts_of, reply_to}
 use Rattle.esc_events.specs.Stands.{AreBooks, StandsFor}
 use Rattle.esc_events.specs.Taking.{IsAgain}
 use Rattle.esc_desk.specs.declared.answering.Answer.{Answer}
@@ -36,9 +36,9 @@ use Rattle.esc_desk.specs.declared.receiving.Received.{Received}
 use Rattle.esc_desk.specs.Again.{IsMissing, IsMissingAfter, IsUnkept}
 use Rattle.esc_desk.specs.Answering.{IsAnswer, IsAsked, numbered}
 use Rattle.esc_desk.specs.Serving.{DeskServes}
-use Rattle.esc_desk.specs.Calls.{HadPlace, HasNoPlace, IsCause}
+use Rattle.esc_desk.specs.Calls.{HadPlace, HadRoom, HasNoPlace, IsCause}
 use Rattle.esc_desk.specs.Crashes.{CrashLeaves, LeavesAnswered, still_doubtful}
-use Rattle.esc_desk.specs.Decisions.{IsDecidedArrival, still_by, IsDone, IsMade}
+use Rattle.esc_desk.specs.Decisions.{IsDecidedArrival, IsDone, still_by}
 use Rattle.esc_desk.specs.Causes.{IsPlaceFault}
 use Rattle.esc_desk.specs.Edits.{is_empty}
 use Rattle.esc_desk.specs.Receiving.{IsReceived}
@@ -53,11 +53,6 @@ use Rattle.esc_desk.proofs.HeldRows.{unlisted_row}
 use Rattle.esc_desk.proofs.Likeness.{AddsNothing, still_stands}
 use Rattle.esc_desk.proofs.OneArrival.{new_reply}
 use Rattle.esc_desk.proofs.RunLemmas.{reply_stays}
-
--- what was made is made, where it was anything
-pub done_made : {S : Type 0} {g : Ghosts S} {old : Held S} {new : Desk S} {e : List EventValue} {x : EventValue} {d : Decision} {work : Work}
-    → IsDone g old new e x d work → is_empty d.edit ≡ false → IsMade g new e x work
-done_made is some = record { serves = is.serves; works = is.works; left = is.left some }
 
 -- what a store was asked
 pub asked_of : {S : Type 0} (g : Ghosts S) (desk : Desk S) (mid : Store S) (known : Option Known) (n digest : List ℕ) (kept : Option ReplyValue) (e : List EventValue) (served : DeskServes g desk e)
@@ -139,6 +134,15 @@ other_answer e a k reply known stands knows there other =
       place = λ apart full. other (full.to_be_parked.unkept reply at);
     }
 
+-- a new arrival has a receipt, for which there was room
+pub had_room : {e : List EventValue} {a : ArrivalValue} {k : Kept} {p : Answer} (n : ℕ) → StandsFor sha256 reading e k → IsAnswer e a k p
+    → IfSome p.decision.edit.receipt (λ r. (n ≡ length k.receipts + 1) × (n ≤ MOST_RECEIPTS)) → HadRoom e a
+had_room {e = e} {a = a} {k = k} {p = p} n stood is counted none = by_receipt p.decision.edit.receipt (is.is_new none) counted
+  where
+    by_receipt : (r : Option ReceiptValue) → IsSome r → IfSome r (λ x. (n ≡ length k.receipts + 1) × (n ≤ MOST_RECEIPTS)) → length (receipts_of sha256 reading e) < MOST_RECEIPTS
+    by_receipt None some h = absurd (true≢false (sym some))
+    by_receipt (Some r) some h = subst (λ (rs : List ReceiptValue). length rs < MOST_RECEIPTS) stood.books.receipts (omega (arith, h.0, h.1))
+
 -- ---- why one is lost
 
 module _ {S : Type 0} (g : Ghosts S) (mid new : Store S) (found : Assessment) (digest : List ℕ) (f : SFault) where
@@ -157,7 +161,7 @@ module _ {S : Type 0} (g : Ghosts S) (mid new : Store S) (found : Assessment) (d
         subst (IsCause e a) (sym full.0)
         (λ never. subst (λ (rs : List ReceiptValue). length rs < MOST_RECEIPTS) books.receipts at.2, no_place (λ x told. absurd (none-some _ (sym none ∙ told))) full.1 at.0 at.1)
     cause_new r none (inr (inl is)) = cause_by e a f is
-    cause_new r none (inr (inr full)) = subst (IsCause e a) (sym full.0) (none, subst (λ (rs : List ReceiptValue). MOST_RECEIPTS ≤ length rs) books.receipts (full.1 clean k stood))
+    cause_new r none (inr (inr full)) = subst (IsCause e a) (sym full.0) (none, subst (λ (rs : List ReceiptValue). MOST_RECEIPTS ≤ length rs) books.receipts (full.1.full clean k stood))
 
     pub cause_again : (reply : ReplyValue) → reply_to sha256 reading e a ≡ Some reply → reply.verdict ≡ A2 → IsPlaceFault g None mid new found digest f → IsCause e a f
     cause_again reply at a2 (inl full) =
@@ -186,31 +190,31 @@ adds_nothing {e = e} {a = a} {k = k} {p = p} r stood is empty told = by_verdict 
     by_verdict A4 other = nothing_repeated e a k stood.books r at (λ a2. let never : ⊥ = cc in never)
     by_verdict A5 other = nothing_repeated e a k stood.books r at (λ a2. let never : ⊥ = cc in never)
 
-module _ {S : Type 0} (g : Ghosts S) (first old : Held S) (new : Desk S) (e doubtful : List EventValue) (a : ArrivalValue) (k : Kept) (p : Answer) (work : Work)
-    (stood : StandsFor sha256 reading e k) (left : CrashLeaves g first e doubtful) (leaves : LeavesNoMore g first old) where
+module _ {S : Type 0} (g : Ghosts S) (first old : Store S) (new : Desk S) (e doubtful : List EventValue) (a : ArrivalValue) (k : Kept) (p : Answer) (done : ℕ × Work)
+    (stood : StandsFor sha256 reading e k) (left : CrashLeaves g first.conn e doubtful) (leaves : StoreLeavesNoMore g first old) where
   abbrev IsAnswered : Type 0
-  IsAnswered = IsAnswer e a k p × IsDone g old new e (arrived a) p.decision work
+  IsAnswered = IsAnswer e a k p × IsDone g old new e (arrived a) k p.decision done
 
   answered : IsAnswered → CrashLeaves g new.store.conn (e ++ arrived a ∷ []) (still_doubtful (reply_to sha256 reading e a) doubtful)
-  answered done = by_reply (reply_to sha256 reading e a) refl (is_empty p.decision.edit) refl
+  answered is = by_reply (reply_to sha256 reading e a) refl (is_empty p.decision.edit) refl
     where
       by_reply : (o : Option ReplyValue) → reply_to sha256 reading e a ≡ o → (b : Bool) → is_empty p.decision.edit ≡ b
           → CrashLeaves g new.store.conn (e ++ arrived a ∷ []) (still_doubtful o doubtful)
-      by_reply None told true empty = absurd (true≢false (sym (done.0.is_new told) ∙ ap is_some (is_none_of p.decision.edit empty).receipt))
-      by_reply None told false some = leaves_only g new.store.conn (e ++ arrived a ∷ []) (done.1.left some)
+      by_reply None told true empty = absurd (true≢false (sym (is.0.is_new told) ∙ ap is_some (is_none_of p.decision.edit empty).receipt))
+      by_reply None told false some = leaves_only g new.store.conn (e ++ arrived a ∷ []) (is.1.left some)
       by_reply (Some r) told true empty =
-          leaves_nothing g old new.store.conn e doubtful (leaves_as g first old e doubtful left leaves) (adds_nothing r stood done.0 empty told) (done.1.rests empty).1
-      by_reply (Some r) told false some = leaves_with_only g old new.store.conn e a (done.1.left some) doubtful (leaves_as g first old e doubtful left leaves)
+          leaves_nothing g old.conn new.store.conn e doubtful (leaves_as g first.conn old.conn e doubtful left leaves) (adds_nothing r stood is.0 empty told) (is.1.rests empty).1
+      by_reply (Some r) told false some = leaves_with_only g old.conn new.store.conn e a (is.1.left some) doubtful (leaves_as g first.conn old.conn e doubtful left leaves)
 
   taken : IsAnswered → IsUnkept e a → WhereApart e (IsMissingAfter e a → CrashLeaves g new.store.conn (e ++ arrived a ∷ []) [])
-  taken done unkept apart missing = by_empty (is_empty p.decision.edit) refl
+  taken is unkept apart missing = by_empty (is_empty p.decision.edit) refl
     where
       by_empty : (b : Bool) → is_empty p.decision.edit ≡ b → CrashLeaves g new.store.conn (e ++ arrived a ∷ []) []
-      by_empty true empty = absurd (done.0.there empty unkept (missing_of e a k stood.books apart missing))
-      by_empty false some = leaves_only g new.store.conn (e ++ arrived a ∷ []) (done.1.left some)
+      by_empty true empty = absurd (is.0.there empty unkept (missing_of e a k stood.books apart missing))
+      by_empty false some = leaves_only g new.store.conn (e ++ arrived a ∷ []) (is.1.left some)
 
   pub leaves_answered : (HasCleanDisk (state g new.store.conn) → IsAnswered) → LeavesAnswered g new.store.conn e doubtful a
-  leaves_answered done = record {
-    answered = if_clean g new.store.conn (e ++ arrived a ∷ []) _ (λ clean. answered (done clean));
-    missing = λ unkept apart missing. if_clean g new.store.conn (e ++ arrived a ∷ []) [] (λ clean. taken (done clean) unkept apart missing);
+  leaves_answered made = record {
+    answered = if_clean g new.store.conn (e ++ arrived a ∷ []) _ (λ clean. answered (made clean));
+    missing = λ unkept apart missing. if_clean g new.store.conn (e ++ arrived a ∷ []) [] (λ clean. taken (made clean) unkept apart missing);
   }

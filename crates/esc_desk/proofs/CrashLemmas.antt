@@ -1,5 +1,5 @@
 -- What a crash leaves by the events that a store stands for, from one call to the next.
-use Rattle.std.proofs.Common.{◌≡◌, ◌≢◌, inl, inr, List, [], ◌∷◌, ◌++◌, Result, Err, refl, sym, subst, arith}
+use Rattle.std.proofs.Common.{inl, inr, List, [], ◌∷◌, ◌++◌, Option, Some, None, Result, Ok, Err, ◌≡◌, sym, subst, arith}
 use Rattle.sha2.specs.Sha256.{sha256}
 use Rattle.sqlite_trees.specs.declared.store.Store.{Ghosts}
 use Rattle.sqlite_trees.specs.Tree.{Trees}
@@ -10,13 +10,15 @@ use Rattle.esc_store.specs.declared.fault.SFault.{SFault}
 use Rattle.esc_store.specs.declared.fault.SFault.TheVariants.{S1, S2, S3, S4, S5}
 use Rattle.esc_store.specs.declared.store.Store.{Store}
 use Rattle.esc_store.specs.Kept.{Kept}
-use Rattle.esc_store.specs.Standing.{LeavesOnly}
+use Rattle.esc_store.specs.Faults.{IsS1OrS2}
+use Rattle.esc_store.specs.ReplyValue.{ReceiptValue}
+use Rattle.esc_store.specs.Standing.{LeavesOnly, LeavesOr}
 use Rattle.esc_events.specs.ArrivalValue.{ArrivalValue}
 use Rattle.esc_events.specs.Events.{EventValue}
 use Rattle.esc_events.specs.Events.EventValue.{arrived}
 use Rattle.esc_events.specs.Stands.{StandsFor}
-use Rattle.esc_desk.specs.Crashes.{IsStoreFor, IsStoreForOneOf, CrashLeaves, LeavesOnlyFor, LeavesTaken, LeavesMade, doubtful_with, AddsStoreFor}
-use Rattle.esc_desk.proofs.CrashSteps.{adds_none}
+use Rattle.esc_desk.specs.Causes.{IsEditFault}
+use Rattle.esc_desk.specs.Crashes.{IsStoreFor, IsStoreForOneOf, CrashLeaves, LeavesOnlyFor, LeavesMade, LeavesRefused, LeavesTaken, doubtful_with}
 use Rattle.esc_desk.proofs.Likeness.{AddsNothing, still_stands, still_stands_with}
 
 -- ---- an arrival that adds nothing
@@ -40,12 +42,9 @@ one_with trees e doubtful x S3 one = inr one
 one_with trees e doubtful x S4 one = one
 one_with trees e doubtful x S5 one = one
 
-one_more : (trees : Trees) (e doubtful : List EventValue) (x : EventValue) (f : SFault) → (f ≢ S4) × (f ≢ S5) → IsStoreFor trees (e ++ x ∷ []) → IsStoreForOneOf trees e (doubtful_with f x doubtful)
-one_more trees e doubtful x S1 other stands = inl stands
-one_more trees e doubtful x S2 other stands = inl stands
-one_more trees e doubtful x S3 other stands = inl stands
-one_more trees e doubtful x S4 other stands = absurd (other.0 refl)
-one_more trees e doubtful x S5 other stands = absurd (other.1 refl)
+one_more : (trees : Trees) (e doubtful : List EventValue) (x : EventValue) (f : SFault) → IsS1OrS2 f → IsStoreFor trees (e ++ x ∷ []) → IsStoreForOneOf trees e (doubtful_with f x doubtful)
+one_more trees e doubtful x f (inl is) one = subst (λ (q : SFault). IsStoreForOneOf trees e (doubtful_with q x doubtful)) (sym is) (inl one)
+one_more trees e doubtful x f (inr is) one = subst (λ (q : SFault). IsStoreForOneOf trees e (doubtful_with q x doubtful)) (sym is) (inl one)
 
 -- ---- what a crash leaves after a call
 
@@ -59,11 +58,17 @@ module _ {S : Type 0} (g : Ghosts S) where
     unfolding CrashLeaves
     leaves_nothing {a = a} none s clean trees may = still_one trees e doubtful a none (leaves_as s clean trees may)
 
-    pub leaves_refused : (X : Type 0) (x : EventValue) (f : SFault) → AddsStoreFor {X = X} g old new (Err f) (e ++ x ∷ []) → CrashLeaves g new e (doubtful_with f x doubtful)
-    unfolding CrashLeaves AddsStoreFor
-    leaves_refused X x f s clean trees may = elim (s.crash clean trees may) [
+    -- an event that was refused before anything was begun
+    pub leaves_early : (x : EventValue) (f : SFault) → Survives (state g old) (state g new) (λ _. ⊥) → LeavesRefused g new e doubtful x f
+    unfolding CrashLeaves
+    leaves_early x f s clean trees may = one_with trees e doubtful x f (leaves_as s clean trees may)
+
+    -- one that was refused by S1 or S2, where a crash may leave a store that keeps k
+    leaves_refused : (x : EventValue) (f : SFault) {k : Kept} → IsS1OrS2 f → StandsFor sha256 reading (e ++ x ∷ []) k → LeavesOr g old new k → LeavesRefused g new e doubtful x f
+    unfolding CrashLeaves LeavesOr
+    leaves_refused x f {k = k} cause stands s clean trees may = elim (s.crash clean trees may) [
       | inl was ↦ one_with trees e doubtful x f (left (omega (arith, s.clean, clean)) trees was)
-      | inr made ↦ one_more trees e doubtful x f made.0 made.1
+      | inr store ↦ one_more trees e doubtful x f cause (record { kept = k; store = store; stands_for = stands })
     ]
 
   pub leaves_with_only : (old new : Held S) (e : List EventValue) (a : ArrivalValue) → LeavesOnlyFor g new (e ++ arrived a ∷ []) → (doubtful : List EventValue) → CrashLeaves g old e doubtful → CrashLeaves g new (e ++ arrived a ∷ []) doubtful
@@ -80,23 +85,27 @@ module _ {S : Type 0} (g : Ghosts S) where
   unfolding CrashLeaves
   if_clean conn e doubtful h clean = h clean clean
 
-  -- one that was refused before anything was begun
-  pub leaves_early : {X : Type 0} (old new : Held S) (e doubtful : List EventValue) (a : ArrivalValue) {result : Result X SFault} (f : SFault) → result ≡ Err f
-      → CrashLeaves g old e doubtful → Survives (state g old) (state g new) (λ _. ⊥) → LeavesTaken g new e doubtful a result
-  unfolding AddsStoreFor
-  leaves_early {X = X} old new e doubtful a f is left s = rw is (leaves_refused old new e doubtful left X (arrived a) f (adds_none s))
+  -- the same of the result of a call
+  pub refused_made : {X : Type 0} (new : Held S) (e doubtful : List EventValue) (x : EventValue) {result : Result X SFault} (f : SFault) → result ≡ Err f → LeavesRefused g new e doubtful x f → LeavesMade g new e doubtful x result
+  refused_made new e doubtful x f is left = rw is left
 
-  -- one that was refused by the commit or after it was begun
-  pub leaves_untaken : {X : Type 0} (old new : Held S) (e doubtful : List EventValue) (a : ArrivalValue) {result : Result X SFault} (f : SFault) → result ≡ Err f → CrashLeaves g old e doubtful
-      → (HasCleanDisk (state g new) → AddsStoreFor g old new result (e ++ arrived a ∷ [])) → LeavesTaken g new e doubtful a result
-  leaves_untaken {X = X} old new e doubtful a f is left adds = subst (λ (r : Result X SFault). LeavesTaken g new e doubtful a r) (sym is)
-      (if_clean new e (doubtful_with f (arrived a) doubtful) (λ clean. leaves_refused old new e doubtful left X (arrived a) f (subst (λ (r : Result X SFault). AddsStoreFor g old new r (e ++ arrived a ∷ [])) is (adds clean))))
+  pub made_at : {X : Type 0} (new : Held S) (e doubtful : List EventValue) (x : EventValue) {result : Result X SFault} {v : X} → result ≡ Ok v → LeavesMade g new e doubtful x result → CrashLeaves g new (e ++ x ∷ []) []
+  made_at {X} new e doubtful x is left = subst (λ (r : Result X SFault). LeavesMade g new e doubtful x r) is left
 
-  -- an event that changes a table, and was refused
-  pub leaves_unmade : {X : Type 0} (old new : Held S) (e doubtful : List EventValue) (x : EventValue) {result : Result X SFault} (f : SFault) → result ≡ Err f → CrashLeaves g old e doubtful
-      → (HasCleanDisk (state g new) → AddsStoreFor g old new result (e ++ x ∷ [])) → LeavesMade g new e doubtful x result
-  leaves_unmade {X = X} old new e doubtful x f is left adds = subst (λ (r : Result X SFault). LeavesMade g new e doubtful x r) (sym is)
-      (if_clean new e (doubtful_with f x doubtful) (λ clean. leaves_refused old new e doubtful left X x f (subst (λ (r : Result X SFault). AddsStoreFor g old new r (e ++ x ∷ [])) is (adds clean))))
+  pub refused_at : {X : Type 0} (new : Held S) (e doubtful : List EventValue) (x : EventValue) {result : Result X SFault} {f : SFault} → result ≡ Err f → LeavesMade g new e doubtful x result
+      → LeavesRefused g new e doubtful x f
+  refused_at {X} new e doubtful x is left = subst (λ (r : Result X SFault). LeavesMade g new e doubtful x r) is left
+
+  pub refused_taken : {X : Type 0} (new : Held S) (e doubtful : List EventValue) (a : ArrivalValue) {result : Result X SFault} (f : SFault) → result ≡ Err f → LeavesRefused g new e doubtful (arrived a) f
+      → LeavesTaken g new e doubtful a result
+  refused_taken new e doubtful a f is left = rw is left
+
+  -- an event whose edit was refused: where there was no room nothing was done
+  pub leaves_unmade : (old new : Store S) (e doubtful : List EventValue) (x : EventValue) (r : Option ReceiptValue) (f : SFault) {k : Kept} → CrashLeaves g old.conn e doubtful → IsEditFault g r old new f
+      → (HasCleanDisk (state g new.conn) → StandsFor sha256 reading (e ++ x ∷ []) k × LeavesOr g old.conn new.conn k) → LeavesRefused g new.conn e doubtful x f
+  leaves_unmade old new e doubtful x None f left cause made = if_clean new.conn e (doubtful_with f x doubtful) (λ clean. leaves_refused old.conn new.conn e doubtful left x f cause (made clean).0 (made clean).1)
+  leaves_unmade old new e doubtful x (Some r) f left (inl cause) made = if_clean new.conn e (doubtful_with f x doubtful) (λ clean. leaves_refused old.conn new.conn e doubtful left x f cause (made clean).0 (made clean).1)
+  leaves_unmade old new e doubtful x (Some r) f left (inr none) made = subst (λ (q : SFault). LeavesRefused g new.conn e doubtful x q) (sym none.0) (leaves_as old.conn new.conn e doubtful left none.1.leaves)
 
   -- ---- a store that was left alone
   pub leaves_for : (store : Store S) {k : Kept} {e : List EventValue} → StandsFor sha256 reading e k → LeavesOnly g store k → LeavesOnlyFor g store.conn e

@@ -1,14 +1,15 @@
 -- What an edit comes to by the events: the chain stays, or it moves by a plan.
-use Rattle.std.proofs.Common.{◌≡◌, ℕ, ℤ, true, List, [], ◌∷◌, ◌++◌, Option, Some, None, IfSome, refl, sym, ap, subst, ◌∙◌, true≢false}
+use Rattle.std.proofs.Common.{◌≡◌, ◌+◌, ◌≤◌, ℕ, ℤ, true, List, length, [], ◌∷◌, ◌++◌, Option, Some, None, IfSome, refl, sym, ap, subst, ◌∙◌, true≢false}
 use Rattle.sha2.specs.Sha256.{sha256}
 use Rattle.sqlite_trees.specs.declared.store.Store.{Ghosts}
-use Rattle.sqlite.specs.Held.{Held}
 use Rattle.esc_tables.specs.Reading.{reading}
 use Rattle.esc_manifest.specs.declared.row.MRow.{MRow}
 use Rattle.esc_chain.specs.Laws.{LatestChainsAtAreHeldRows}
 use Rattle.esc_store.specs.Kept.{Kept, AreHeld, AreHeldBy}
 use Rattle.esc_store.specs.ReplyValue.{ReceiptValue}
-use Rattle.esc_store.specs.Standing.{Stands, LeavesNoMore}
+use Rattle.esc_store.specs.declared.books.TheConstants.{MOST_RECEIPTS}
+use Rattle.esc_store.specs.declared.store.Store.{Store}
+use Rattle.esc_store.specs.Standing.{Stands, StoreLeavesNoMore}
 use Rattle.esc_events.specs.declared.known.Known.{Known}
 use Rattle.esc_events.specs.declared.plan.Plan.{Plan}
 use Rattle.esc_events.specs.Events.{EventValue, union}
@@ -87,18 +88,23 @@ nothing_edited edit k is =
     (λ i. record { receipt = is.receipt i; listing = is.listing i; body = is.body i; moment = is.moment i; plan = is.plan i })
 
 -- a decision that is empty: nothing is made
-pub nothing_done : {S : Type 0} (g : Ghosts S) (old : Held S) (new : Desk S) {e : List EventValue} {x : EventValue} {k : Kept} {d : Decision}
-    → IsDecided e x k d → is_empty d.edit ≡ true → Stands g new.store k → new.known ≡ d.known → LeavesNoMore g old new.store.conn → IsDone g old new e x d no_work
+pub nothing_done : {S : Type 0} (g : Ghosts S) (old : Store S) (new : Desk S) {e : List EventValue} {x : EventValue} {k : Kept} {d : Decision}
+    → IsDecided e x k d → is_empty d.edit ≡ true → Stands g new.store k → new.known ≡ d.known → StoreLeavesNoMore g old new.store → IsDone g old new e x k d (0, no_work)
 nothing_done g old new {e = e} {x = x} {k = k} {d = d} is empty stands known leaves =
     let none = is_none_of d.edit empty in
     let same = nothing_edited d.edit k none in
     let knows = subst (λ (m : Kept). IfSome d.known (IsKnown m)) same (subst (λ (p : Option Plan). IfSome (known_after p d.known) (IsKnown (edited d.edit k))) none.plan is.knows) in
+    let cost = subst (λ (p : Option Plan). IsCostIf p (chain_deposits k) no_work) (sym none.plan) refl in
     record {
       serves = record {
         serves = record { kept = k; stands = stands; stands_for = subst (StandsFor sha256 reading (e ++ x ∷ [])) same is.stands };
         remembers = subst (λ (o : Option Known). IfSome o (IsKnown k)) (sym known) knows;
       };
-      works = is.works no_work (subst (λ (p : Option Plan). IsCostIf p (chain_deposits k) no_work) (sym none.plan) refl);
+      works = is.works no_work cost;
+      result = record {
+        worked = cost;
+        numbered = subst (λ (r : Option ReceiptValue). IfSome r (λ q. (0 ≡ length k.receipts + 1) × (0 ≤ MOST_RECEIPTS))) (sym none.receipt) tt;
+      };
       left = λ some. absurd (true≢false (sym empty ∙ some));
       rests = λ empty. (refl, leaves);
     }

@@ -7,7 +7,7 @@ use Rattle.esc_store.specs.declared.fault.SFault.{SFault}
 use Rattle.esc_store.specs.declared.store.Store.{Store}
 use Rattle.esc_store.specs.Kept.{Kept, with_listed}
 use Rattle.esc_store.specs.ReplyValue.{ReceiptValue}
-use Rattle.esc_store.specs.Standing.{ChangeOf, IsHonest, IsUncommitted, GoesOn, Rest, Stands}
+use Rattle.esc_store.specs.Standing.{ChangeOf, IsAsBefore, IsHonest, IsUncommitted, GoesOn, Rest, Stands, StoreLeavesNoMore}
 use Rattle.esc_store.specs.StandingLaws.{was_clean}
 use Rattle.esc_events.specs.Amended.{with_all_adopted}
 use Rattle.esc_desk.specs.declared.edit.Edit.{Edit}
@@ -17,6 +17,7 @@ use Rattle.esc_desk.specs.declared.edit.Storing.TheVariants.{Nothing, Hold, Park
 use Rattle.esc_desk.specs.Edits.{noted, stored, listed_more, timed, books_edited, IsPart, StaysPut}
 use Rattle.esc_desk.specs.Causes.{IsEditFault, IsFillFault}
 use Rattle.esc_desk.proofs.AmendingKept.{adopted_stay, dropped_stay}
+use Rattle.esc_desk.proofs.CrashSteps.{adds_then}
 
 module _ {S : Type 0} {g : Ghosts S} where
   -- a part that lists no rows
@@ -46,19 +47,19 @@ module _ {S : Type 0} {g : Ghosts S} where
   }
 
 module _ {S : Type 0} (g : Ghosts S) where
-  -- why a change was refused is why the edit is
+  -- why a change was refused, of which nothing is committed, is why the edit is
   pub edit_fault : (old new : Store S) (a b : ChangeOf S) (r : Option ReceiptValue) (f : SFault) → (IsHonest g new → IsHonest g b.store.now) → ((k : Kept) → Stands g old k → Rest g a k k)
-      → IsFillFault g r a b f → IsEditFault g r old new f
-  edit_fault old new a b None f was rest fault = fault
-  edit_fault old new a b (Some r) f was rest (inl is) = inl is
-  edit_fault old new a b (Some r) f was rest (inr full) = inr (full.0, λ clean k stood. full.1 (was clean) k k (rest k stood))
+      → StoreLeavesNoMore g old new → IsFillFault g r a b f → IsEditFault g r old new f
+  edit_fault old new a b None f was rest leaves fault = fault
+  edit_fault old new a b (Some r) f was rest leaves (inl is) = inl is
+  edit_fault old new a b (Some r) f was rest leaves (inr full) = inr (full.0, record { full = λ clean k stood. full.1 (was clean) k k (rest k stood); leaves = leaves })
 
-module _ {S : Type 0} (g : Ghosts S) where
-  -- the same where the store was as before first, and where it is as before last
-  pub edit_fault_then : (old mid new : Store S) (r : Option ReceiptValue) (f : SFault) → ((k : Kept) → Stands g old k → Stands g mid k) → IsEditFault g r mid new f → IsEditFault g r old new f
-  edit_fault_then old mid new None f still fault = fault
-  edit_fault_then old mid new (Some r) f still (inl is) = inl is
-  edit_fault_then old mid new (Some r) f still (inr full) = inr (full.0, λ clean k stood. full.1 clean k (still k stood))
+  -- the same where the store was as before first
+  pub edit_fault_then : (old mid new : Store S) (r : Option ReceiptValue) (f : SFault) → IsAsBefore g old mid → IsEditFault g r mid new f → IsEditFault g r old new f
+  edit_fault_then old mid new None f same fault = fault
+  edit_fault_then old mid new (Some r) f same (inl is) = inl is
+  edit_fault_then old mid new (Some r) f same (inr none) =
+      inr (none.0, record { full = λ clean k stood. none.1.full clean k (same.stands k stood); leaves = adds_then same.survives none.1.leaves })
 
 -- ---- the chain and its tables stay where the books are edited
 

@@ -8,7 +8,6 @@ pub mod Answered
 pub mod Arriving
 pub mod AtFirst
 pub mod CauseLemmas
-pub mod ChangeSteps
 pub mod ComingAgain
 pub mod CrashLemmas
 pub mod CrashSteps
@@ -46,4 +45,5 @@ pub mod StoreFacts
 pub mod Telling
 pub mod WalkSteps
 pub mod Walks
+pub mod Whole
 pub mod Working

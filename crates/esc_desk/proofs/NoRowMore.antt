@@ -12,7 +12,6 @@ use Rattle.std.proofs.Common.{
   length,
   Result,
   Ok,
-  Err,
   refl,
   sym,
   ap,
@@ -45,9 +44,9 @@ use Rattle.esc_desk.proofs.AmendingEvents.{receipts_as, apart_as, held_as, parke
 use Rattle.esc_desk.proofs.EventLemmas.{union-arrived, comings-arrived, moment-arrived, union-listed, comings-listed, moment-listed, union-moved, comings-moved, moment-moved}
 use Rattle.esc_desk.proofs.Moving.{stands_still, no_work_of}
 use Rattle.esc_desk.specs.Asked.{rows_read, amendment_of}
-use Rattle.esc_desk.specs.Crashes.{IsStoreFor, IsStoreForOneOf, CrashLeaves, doubtful_with, AddsStoreFor}
+use Rattle.esc_desk.specs.Crashes.{IsStoreFor, IsStoreForOneOf, CrashLeaves, doubtful_with}
 use Rattle.esc_desk.proofs.EarlyEvents.{union-early, comings-early, moment-early}
-use Rattle.esc_desk.proofs.CrashLemmas.{one_with, leaves_refused}
+use Rattle.esc_desk.proofs.CrashLemmas.{one_with}
 
 -- ---- two lists of events with the same rows, arrivals and moment
 
@@ -148,9 +147,3 @@ module _ {S : Type 0} (g : Ghosts S) where
       → CrashLeaves g conn e doubtful → CrashLeaves g conn e (doubtful_with f x doubtful)
   unfolding CrashLeaves
   leaves_before conn e doubtful x f left clean trees may = one_with trees e doubtful x f (left clean trees may)
-
-  -- it was refused
-  pub leaves_lost : {X : Type 0} (old new : Held S) (e doubtful : List EventValue) (x : EventValue) (result : Result X SFault) (f : SFault)
-      → result ≡ Err f → CrashLeaves g old e doubtful → AddsStoreFor g old new result (e ++ x ∷ []) → CrashLeaves g new e (doubtful_with f x doubtful)
-  leaves_lost {X} old new e doubtful x result f is left s =
-      leaves_refused g old new e doubtful left X x f (subst (λ (r : Result X SFault). AddsStoreFor g old new r (e ++ x ∷ [])) is s)

@@ -47,12 +47,16 @@ use Rattle.esc_events.specs.Events.{EventValue, Coming, union, coming, early_com
 use Rattle.esc_events.specs.Events.EventValue.{listed, arrived, moved, arrived_early}
 use Rattle.esc_events.specs.Receipts.{alike, distinct, receipt_for, receipts_after, receipts_of, reply_to}
 use Rattle.esc_events.specs.Works.{IsWorkOf}
+use Rattle.esc_manifest.specs.declared.fault.MFault.TheVariants.{Refused as RefusedRow, NoMemory}
+use Rattle.esc_desk.specs.declared.amendment.AmendFault.{AmendFault}
+use Rattle.esc_desk.specs.declared.amendment.AmendFault.TheVariants.{M, Store as OfStore}
+use Rattle.esc_desk.specs.Amendments.{IsAmendCause, IsAmendFault}
 use Rattle.esc_desk.specs.Asked.{event_of, is_taken, taken_by, taken_in}
-use Rattle.esc_desk.specs.Calls.{DeskLeaves, DeskLeavesEvent, HadRoom, HadPlace}
+use Rattle.esc_desk.specs.Calls.{Answers, DeskLeaves, DeskLeavesEvent, writes_of}
 use Rattle.esc_desk.specs.Crashes.{doubtful_by, doubtful_after}
 use Rattle.esc_desk.specs.Outcomes.{IsOutcomeOf, AreOutcomesOf, AreWorksOf, writes_in, HasWorked}
 use Rattle.esc_desk.specs.Running.{IsAnswer, AreAnswers, Ran, Takes}
-use Rattle.esc_desk.specs.Serving.{DeskServes, Answers}
+use Rattle.esc_desk.specs.Serving.{DeskServes}
 use Rattle.esc_desk.proofs.AmendedBooks.{replies_stay}
 use Rattle.esc_desk.proofs.EventLemmas.{union-arrived, comings-arrived, union-moved, comings-moved}
 use Rattle.esc_desk.proofs.Searches.{alike-front}
@@ -212,19 +216,20 @@ module _ {S : Type 0} (g : Ghosts S) where
   leaves_without desk e doubtful left = subst (λ (k : List EventValue). DeskLeaves g desk k doubtful) (sym (append-nil e)) left
 
   -- an answer to an arrival is one to the same arrival
-  pub answers_same : (desk : Desk S) (e : List EventValue) (a b : ArrivalValue) (r : ReplyValue) → a ≡ b
-      → Answers g desk e a r → HadRoom e a → HadPlace e a → Takes g desk e (Arrival b) (Arrived (Done r))
-  answers_same desk e a b r same told room place =
-      let takes : Takes g desk e (Arrival a) (Arrived (Done r)) = record { serves = told.serves; answer = (told.told, room, place) } in
-      subst (λ (x : ArrivalValue). Takes g desk e (Arrival x) (Arrived (Done r))) same takes
+  pub answers_same : (old new : Desk S) (e : List EventValue) (a b : ArrivalValue) (r : ReplyValue) (w : Work) → a ≡ b
+      → Answers g new e a r w → writes_of new ≡ saturated (writes_of old + w.writes) → Takes g old new e (Arrival b) (Arrived (Done r))
+  answers_same old new e a b r w same told counted =
+      let takes : Takes g old new e (Arrival a) (Arrived (Done r)) =
+      record { serves = told.serves; answer = (told.told, told.room, told.place); worked = worked_once e (arrived a) w _ _ told.works counted } in
+      subst (λ (x : ArrivalValue). Takes g old new e (Arrival x) (Arrived (Done r))) same takes
 
   -- before the first event
-  pub ran_none : (desk : Desk S) (before : List EventValue) → DeskServes g desk before → Ran g desk before [] []
-  ran_none desk before serves = record { serves = serves_without desk before serves; answers = tt }
+  pub ran_none : (desk : Desk S) (before : List EventValue) → writes_of desk < 2 ^ 64 → DeskServes g desk before → Ran g desk desk before [] []
+  ran_none desk before fits serves = record { serves = serves_without desk before serves; answers = tt; worked = worked_none before (writes_of desk) fits }
 
-  pub ran_more : (old new : Desk S) (before : List EventValue) (xs : List Event) (os : List EventOutcome) (x : Event) (o : EventOutcome)
-      → Ran g old before xs os → ((e : List EventValue) → DeskServes g old e → Takes g new e x o) → Ran g new before (xs ++ x ∷ []) (os ++ o ∷ [])
-  ran_more old new before xs os x o ran step =
+  pub ran_more : (start old new : Desk S) (before : List EventValue) (xs : List Event) (os : List EventOutcome) (x : Event) (o : EventOutcome)
+      → Ran g start old before xs os → ((e : List EventValue) → DeskServes g old e → Takes g old new e x o) → Ran g start new before (xs ++ x ∷ []) (os ++ o ∷ [])
+  ran_more start old new before xs os x o ran step =
       let e = before ++ taken_in xs os in
       let more = e ++ taken_by x o in
       let now = step e ran.serves in
@@ -234,6 +239,7 @@ module _ {S : Type 0} (g : Ghosts S) where
         serves = subst (λ (k : List EventValue). DeskServes g new k) (sym all) now.serves;
         answers = subst (λ (k : List EventValue). AreAnswers before k (xs ++ x ∷ []) (os ++ o ∷ [])) (sym all)
             (answers_more x o more before xs os kept now.answer);
+        worked = worked_more before e xs os x o _ _ _ ran.answers ran.worked now.worked;
       }
 
   pub left_more : (new : Desk S) (before doubtful all : List EventValue) (xs : List Event) (os : List EventOutcome) (x : Event) (o : EventOutcome)
@@ -243,3 +249,9 @@ module _ {S : Type 0} (g : Ghosts S) where
       let events = along x o all before xs os are in
       let doubts = doubtful_more x o all before doubtful xs os are in
       subst₂ (λ (k d : List EventValue). DeskLeaves g new k d) (sym events) (sym doubts) after
+
+-- why an amendment isn't taken in is of the kind of its outcome
+pub amend_kind : (m : List MRow) (text : List ℕ) (f : AmendFault) → IsAmendCause m text f → IsAmendFault f
+amend_kind m text (M (RefusedRow code row)) is = is.0
+amend_kind m text (M NoMemory) is = is
+amend_kind m text (OfStore f) is = is

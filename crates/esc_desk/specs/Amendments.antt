@@ -55,16 +55,16 @@ IsRefusedUnion m text code row = (manifest_of text ≡ Err (code, row))
     ⊎ ((rows : List MRow) × (manifest_of text ≡ Ok rows)
     × (extension m rows ≡ Err (code, row)))
 
--- why an amendment isn't taken in: its text is refused, the database failed (S1), or memory was
--- refused (S2)
-abbrev pub IsAmendCause : List EventValue → List ℕ → AmendFault → Type 0
-IsAmendCause e text (M (RefusedRow code row)) = IsRefusedUnion (union e) text code row
-IsAmendCause e text (M NoMemory) = ⊥
-IsAmendCause e text (OfStore fault) = IsS1OrS2 fault
-
 -- a refusal is M1 to M13, at a row of a manifest or, as row 0, at none
 abbrev pub IsRefusal : ℕ → ℕ → Type 0
 IsRefusal code row = (1 ≤ code) × (code ≤ 13) × (row ≤ most_rows)
+
+-- why an amendment isn't taken in, where these rows are listed: its text is refused, or it is lost
+-- by S1 or S2
+abbrev pub IsAmendCause : List MRow → List ℕ → AmendFault → Type 0
+IsAmendCause m text (M (RefusedRow code row)) = IsRefusal code row × IsRefusedUnion m text code row
+IsAmendCause m text (M NoMemory) = ⊥
+IsAmendCause m text (OfStore fault) = IsS1OrS2 fault
 
 -- an amendment's text is refused, or it is lost by S1 or S2
 abbrev pub IsAmendFault : AmendFault → Type 0

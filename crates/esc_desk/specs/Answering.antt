@@ -24,8 +24,8 @@ use Rattle.esc_desk.specs.Calls.{HadPlace}
 use Rattle.esc_desk.specs.Decisions.{IsDecided}
 use Rattle.esc_desk.specs.Edits.{IsCostIf, chain_deposits, is_empty}
 
--- a store keeps k and stands for e, this is known of its rows, if anything is, and this is the reply
--- that it keeps for an arrival with this number and digest
+-- a store keeps k and stands for e, this is known of its rows, if anything is, and this is the
+-- reply that it keeps for an arrival with this number and digest
 pub record IsAsked {S : Type 0} (g : Ghosts S) (store : Store S) (known : Option Known)
     (n digest : List ℕ) (kept : Option ReplyValue) (e : List EventValue) (k : Kept)
     : Type 0 where

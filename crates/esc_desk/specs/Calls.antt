@@ -1,8 +1,9 @@
 -- The words of a desk's contracts: what a call says of whatever events the desk served before it.
-use Rattle.std.specs.Prelude.{◌≡◌, ◌≢◌, ℕ, ◌<◌, ◌≤◌, ◌++◌, List, length, Some, None, Result, IfOk}
+use Rattle.std.specs.Prelude.{◌≡◌, ◌≢◌, ℕ, ◌+◌, ◌<◌, ◌≤◌, ◌++◌, List, [], ◌∷◌, length, Some, None, Result, IfOk, OnErr}
 use Rattle.sha2.specs.Sha256.{sha256}
 use Rattle.sqlite_trees.specs.declared.store.Store.{Ghosts}
 use Rattle.esc_tables.specs.Reading.{reading}
+use Rattle.esc_apply.specs.Registry.{saturated}
 use Rattle.esc_apply.specs.declared.moves.Work.{Work}
 use Rattle.esc_store.specs.declared.books.TheConstants.{MOST_RECEIPTS}
 use Rattle.esc_store.specs.declared.fault.SFault.{SFault}
@@ -23,6 +24,7 @@ use Rattle.esc_desk.specs.Crashes.{
   doubtful_after,
 }
 use Rattle.esc_events.specs.Events.{EventValue, union}
+use Rattle.esc_events.specs.Events.EventValue.{arrived}
 use Rattle.esc_events.specs.Receipts.{receipts_of, reply_to}
 use Rattle.esc_desk.specs.Again.{IsUnkept}
 use Rattle.esc_desk.specs.Asked.{taken_by, taken_in}
@@ -30,7 +32,7 @@ use Rattle.esc_desk.specs.Serving.{Serves, DeskServes}
 use Rattle.esc_events.specs.Apart.{WhereApart}
 use Rattle.esc_events.specs.Assessment.{row_of}
 use Rattle.esc_events.specs.Stands.{parked_body}
-use Rattle.esc_events.specs.Works.{no_work}
+use Rattle.esc_events.specs.Works.{IsWorkOf, IsIdle, no_work}
 use Rattle.esc_store.specs.Kept.{IsFull}
 
 -- ---- a desk
@@ -86,6 +88,15 @@ module _ {S : Type 0} (g : Ghosts S) (old new : Desk S) where
   pub record Stays : Type 0 where
     pub same : IsAsBefore g old.store new.store
     pub serves : ServesStill
+
+  -- a call was whole or not at all: where it succeeded the desk counted the writes of its work;
+  -- where it failed it counted none, and serves what it served. A store that is honest after it was
+  -- so before
+  pub record IsWhole {X E : Type 0} (result : Result X E) (work : X → Work) : Type 0 where
+    pub honest : WasHonest
+    pub counted : IfOk result (λ x. writes_of new ≡ saturated (writes_of old + (work x).writes))
+    pub uncounted : OnErr result (writes_of new ≡ writes_of old)
+    pub lost : OnErr result ServesStill
 
   -- the desk remembers what it remembered before
   abbrev pub RemembersStill : Type 0
@@ -146,6 +157,18 @@ IsCause e a S5 = HadRoom e a × WhereApart e (HasNoPlace e a)
 -- the same digest
 abbrev pub HadPlace : List EventValue → ArrivalValue → Type 0
 HadPlace e a = WhereApart e (HasNoPlace e a → ⊥)
+
+-- an arrival was answered with this reply and this work: the desk serves the events with it; there
+-- was room for its receipt, and a place to park its body, if it was to be parked
+pub record Answers {S : Type 0} (g : Ghosts S) (desk : Desk S) (e : List EventValue)
+    (a : ArrivalValue) (reply : ReplyValue) (work : Work) : Type 0 where
+  pub serves : DeskServes g desk (e ++ arrived a ∷ [])
+  pub told : reply_to sha256 reading (e ++ arrived a ∷ []) a ≡ Some reply
+  pub repeats : RepeatsReply e a reply work
+  pub works : IsWorkOf e (arrived a) work
+  pub idle : IsIdle e (arrived a) work
+  pub room : HadRoom e a
+  pub place : HadPlace e a
 
 -- what a crash leaves after an event that changes a table, by its answer
 abbrev pub DeskLeavesMade : {S X : Type 0} → Ghosts S → Desk S → List EventValue → List EventValue

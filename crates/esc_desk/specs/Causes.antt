@@ -8,7 +8,7 @@ use Rattle.esc_store.specs.declared.store.Store.{Store}
 use Rattle.esc_store.specs.Faults.{IsS1OrS2}
 use Rattle.esc_store.specs.Kept.{Kept, IsFull}
 use Rattle.esc_store.specs.ReplyValue.{ReceiptValue}
-use Rattle.esc_store.specs.Standing.{ChangeOf, IsHonest, Stands, Rest}
+use Rattle.esc_store.specs.Standing.{ChangeOf, IsHonest, Stands, StoreLeavesNoMore, Rest}
 use Rattle.esc_events.specs.declared.assessment.Assessment.{Assessment}
 use Rattle.esc_events.specs.declared.assessment.Assessment.TheVariants.{Unlisted}
 use Rattle.esc_events.specs.Assessment.{row_of}
@@ -24,13 +24,16 @@ abbrev pub HasRoomFor : Kept → Option ReceiptValue → Type 0
 HasRoomFor k receipt = IfSome receipt (λ r. length k.receipts < MOST_RECEIPTS)
 
 module _ {S : Type 0} (g : Ghosts S) where
-  -- S1 or S2; or S4, where the store had 1,000,000,000 receipts
-  abbrev pub IsStoreFault : Store S → Store S → SFault → Type 0
-  IsStoreFault old new fault = IsS1OrS2 fault
-      ⊎ ((fault ≡ S4) × (IsHonest g new → (k : Kept) → Stands g old k
-      → MOST_RECEIPTS ≤ length k.receipts))
+  -- the store had 1,000,000,000 receipts, and nothing was done: a crash leaves nothing more
+  pub record IsWithoutRoom (old new : Store S) : Type 0 where
+    pub full : IsHonest g new → (k : Kept) → Stands g old k → MOST_RECEIPTS ≤ length k.receipts
+    pub leaves : StoreLeavesNoMore g old new
 
-  -- the same of a change
+  -- S1 or S2; or S4, where the store had no room for a receipt
+  abbrev pub IsStoreFault : Store S → Store S → SFault → Type 0
+  IsStoreFault old new fault = IsS1OrS2 fault ⊎ ((fault ≡ S4) × IsWithoutRoom old new)
+
+  -- the same of a change, of which nothing is committed
   abbrev pub IsChangeFault : ChangeOf S → ChangeOf S → SFault → Type 0
   IsChangeFault old new fault = IsS1OrS2 fault
       ⊎ ((fault ≡ S4) × (IsHonest g new.store.now → (before k : Kept) → Rest g old before k
@@ -46,8 +49,9 @@ module _ {S : Type 0} (g : Ghosts S) where
   IsFillFault None old new fault = IsS1OrS2 fault
   IsFillFault (Some r) old new fault = IsChangeFault old new fault
 
-  -- why an arrival isn't decided, of which this was found: S5, where no row lists its body and there
-  -- is no place to park it, but room for its receipt, if it has one; else as an edit is refused
+  -- why an arrival isn't decided, of which this was found: S5, where no row lists its body and
+  -- there is no place to park it, but room for its receipt, if it has one; else as an edit is
+  -- refused
   abbrev pub IsPlaceFault : Option ReceiptValue → Store S → Store S → Assessment → List ℕ → SFault
       → Type 0
   IsPlaceFault receipt old new found digest fault = ((fault ≡ S5) × (found ≡ Unlisted)

@@ -3,7 +3,6 @@
 -- An event that was refused by S1 or S2 is as one that never came, as long as there is no crash: a
 -- crash may leave it taken in. Until the next one that changes a table it is in doubt.
 use Rattle.std.specs.Prelude.{
-  ◌≢◌,
   ◌⊎◌,
   ◌==◌,
   ℕ,
@@ -25,7 +24,7 @@ use Rattle.sha2.specs.Sha256.{sha256}
 use Rattle.sqlite_trees.specs.declared.store.Store.{Ghosts}
 use Rattle.sqlite_trees.specs.Tree.{Trees}
 use Rattle.sqlite.specs.Held.{Held, state}
-use Rattle.sqlite.specs.State.{HasCleanDisk, Survives}
+use Rattle.sqlite.specs.State.{HasCleanDisk}
 use Rattle.esc_tables.specs.Reading.{reading}
 use Rattle.esc_store.specs.declared.fault.SFault.{SFault}
 use Rattle.esc_store.specs.declared.fault.SFault.TheVariants.{S1, S2, S3, S4, S5}
@@ -151,25 +150,6 @@ doubtful_after e doubtful (x ∷ xs) (o ∷ os) =
     doubtful_after (e ++ taken_by x o) (doubtful_by e doubtful x o) xs os
 
 -- ---- from one call to the next
-
--- the result is not that there is no room (S4, S5)
-abbrev pub IsNotFull : {X : Type 0} → Result X SFault → Type 0
-IsNotFull (Ok x) = Unit {0}
-IsNotFull (Err f) = (f ≢ S4) × (f ≢ S5)
-
--- a call adds at most a store of k to what a crash may leave, and nothing where it returns S4 or S5
-unfoldable pub AddsStore : {S X : Type 0} → Ghosts S → Held S → Held S → Result X SFault → Kept
-    → Type 0
-AddsStore g old new result k =
-    Survives (state g old) (state g new) (λ trees. IsNotFull result × IsStore trees k)
-
--- a call adds at most stores of these events to what a crash may leave, and nothing where it
--- returns S4 or S5
-unfoldable pub AddsStoreFor : {S X : Type 0} → Ghosts S → Held S → Held S → Result X SFault
-    → List EventValue
-    → Type 0
-AddsStoreFor g old new result e =
-    Survives (state g old) (state g new) (λ trees. IsNotFull result × IsStoreFor trees e)
 
 -- whatever a crash now leaves of a connection's database is a store of these events
 unfoldable pub LeavesOnlyFor : {S : Type 0} → Ghosts S → Held S → List EventValue → Type 0

@@ -2,15 +2,15 @@
 use Rattle.std.specs.Prelude.{◌≡◌, ℕ, true, false, IsSome, IfSome, List, [], ◌∷◌, ◌++◌, Option, Some, None, Result, IfOk}
 use Rattle.sha2.specs.Sha256.{sha256}
 use Rattle.sqlite_trees.specs.declared.store.Store.{Ghosts}
-use Rattle.sqlite.specs.Held.{Held}
 use Rattle.esc_tables.specs.DepositValue.{DepositValue}
 use Rattle.esc_tables.specs.Reading.{reading}
 use Rattle.esc_manifest.specs.declared.row.MRow.{MRow}
 use Rattle.esc_apply.specs.declared.moves.Work.{Work}
 use Rattle.esc_store.specs.declared.fault.SFault.{SFault}
+use Rattle.esc_store.specs.declared.store.Store.{Store}
 use Rattle.esc_store.specs.Kept.{Kept, AreHeld, AreHeldBy, kept_chain, with_body, with_parked}
 use Rattle.esc_store.specs.ReplyValue.{ReceiptValue}
-use Rattle.esc_store.specs.Standing.{LeavesNoMore}
+use Rattle.esc_store.specs.Standing.{StoreLeavesNoMore}
 use Rattle.esc_events.specs.declared.assessment.Assessment.{Assessment}
 use Rattle.esc_events.specs.declared.assessment.Assessment.TheVariants.{Unlisted, Holding}
 use Rattle.esc_events.specs.declared.known.Known.{Known}
@@ -30,7 +30,7 @@ use Rattle.esc_desk.specs.declared.edit.Storing.{Storing}
 use Rattle.esc_desk.specs.Again.{IsMissing}
 use Rattle.esc_desk.specs.Calls.{IsHonestDesk}
 use Rattle.esc_desk.specs.Crashes.{LeavesOnlyFor}
-use Rattle.esc_desk.specs.Edits.{Begins, IsSoundPlan, IsFromChainOf, IsCostIf, chain_deposits, edited, is_empty, noted}
+use Rattle.esc_desk.specs.Edits.{Begins, IsSoundPlan, IsFromChainOf, IsCostIf, IsResult, chain_deposits, edited, is_empty, noted}
 use Rattle.esc_desk.specs.Serving.{DeskServes}
 
 -- what is known of a store's rows once a plan was carried out, if there is one
@@ -87,29 +87,23 @@ pub record IsArriving (e : List EventValue) (a : ArrivalValue) (k : Kept) (found
   pub late : (row : ℕ) (d : DepositValue) → found ≡ Holding row d → k.bodies row ≡ None
       → AreBooks sha256 reading (e ++ arrived a ∷ []) (with_body (noted receipt k) row a.body)
 
--- a decision is what an arrival makes of a store that keeps k; it is empty only where its body isn't
--- missing
+-- a decision is what an arrival makes of a store that keeps k; it is empty only where its body
+-- isn't missing
 pub record IsDecidedArrival (e : List EventValue) (a : ArrivalValue) (k : Kept)
     (found : Assessment) (d : Decision) : Type 0 where
   pub decided : IsDecided e (arrived a) k d
-  pub idle : (work : Work) → IsCostIf d.edit.plan (chain_deposits k) work → IsIdle e (arrived a) work
+  pub idle : (work : Work) → IsCostIf d.edit.plan (chain_deposits k) work
+      → IsIdle e (arrived a) work
   pub there : is_empty d.edit ≡ true → IsMissing k.bodies k.parked (sha256 a.body) found → ⊥
 
--- ---- an event that was made
+-- ---- a decision that was carried out
 
-module _ {S : Type 0} (g : Ghosts S) where
-  -- an event was taken in by a desk with this work, and a crash leaves it taken in
-  pub record IsMade (desk : Desk S) (e : List EventValue) (x : EventValue)
-      (work : Work) : Type 0 where
-    pub serves : DeskServes g desk (e ++ x ∷ [])
-    pub works : IsWorkOf e x work
-    pub left : LeavesOnlyFor g desk.store.conn (e ++ x ∷ [])
-
-  -- a decision was carried out for an event by a desk whose store had this connection, with this
-  -- work: a crash leaves the event taken in, or else nothing was done
-  pub record IsDone (old : Held S) (new : Desk S) (e : List EventValue) (x : EventValue)
-      (d : Decision) (work : Work) : Type 0 where
-    pub serves : DeskServes g new (e ++ x ∷ [])
-    pub works : IsWorkOf e x work
-    pub left : is_empty d.edit ≡ false → LeavesOnlyFor g new.store.conn (e ++ x ∷ [])
-    pub rests : is_empty d.edit ≡ true → (work ≡ no_work) × LeavesNoMore g old new.store.conn
+-- a decision was carried out for an event by a desk over a store that kept k: the desk serves the
+-- events with it, this is its work, and a crash leaves it taken in, or else nothing was done
+pub record IsDone {S : Type 0} (g : Ghosts S) (old : Store S) (new : Desk S) (e : List EventValue)
+    (x : EventValue) (k : Kept) (d : Decision) (done : ℕ × Work) : Type 0 where
+  pub serves : DeskServes g new (e ++ x ∷ [])
+  pub works : IsWorkOf e x done.1
+  pub result : IsResult d.edit k done.0 done.1
+  pub left : is_empty d.edit ≡ false → LeavesOnlyFor g new.store.conn (e ++ x ∷ [])
+  pub rests : is_empty d.edit ≡ true → (done.1 ≡ no_work) × StoreLeavesNoMore g old new.store

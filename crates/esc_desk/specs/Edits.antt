@@ -1,20 +1,23 @@
 -- What an event changes of what a store keeps, and what is kept then.
-use Rattle.std.specs.Prelude.{◌≡◌, ◌≤◌, Bool, true, false, ◌&&◌, is_none, ℤ, List, length, take, Option, Some, None, Result, OnOk, IfSome}
+use Rattle.std.specs.Prelude.{◌≡◌, ◌≤◌, ◌+◌, ℕ, Bool, true, false, ◌&&◌, is_none, ℤ, List, length, take, Option, Some, None, Result, OnOk, IfSome}
 use Rattle.sqlite_trees.specs.declared.store.Store.{Ghosts}
 use Rattle.esc_tables.specs.DepositValue.{DepositValue}
 use Rattle.esc_tables.specs.Reading.{reading}
 use Rattle.esc_manifest.specs.declared.row.MRow.{MRow}
 use Rattle.esc_apply.specs.Registry.{State}
 use Rattle.esc_apply.specs.declared.moves.Work.{Work}
+use Rattle.esc_store.specs.declared.books.TheConstants.{MOST_RECEIPTS}
 use Rattle.esc_store.specs.declared.fault.SFault.{SFault}
+use Rattle.esc_store.specs.declared.store.Store.{Store}
 use Rattle.esc_store.specs.Kept.{Kept, with_body, with_listed, with_moment, with_parked, with_receipt, with_registry}
 use Rattle.esc_store.specs.ReplyValue.{ReceiptValue}
-use Rattle.esc_store.specs.Standing.{ChangeOf, IsHonest, IsUncommitted, Rest, HoldsNow}
+use Rattle.esc_store.specs.Standing.{ChangeOf, IsHonest, IsUncommitted, LeavesOnly, Rest, HoldsNow, Stands}
 use Rattle.esc_events.specs.declared.plan.Plan.{Plan}
 use Rattle.esc_events.specs.Amended.{with_all_adopted, with_all_dropped}
 use Rattle.esc_events.specs.Plans.{HasDepositsPast, IsMovedFrom, IsCostOfMove, moved_by}
 use Rattle.esc_events.specs.Stands.{deposits_of}
 use Rattle.esc_events.specs.Works.{no_work}
+use Rattle.esc_desk.specs.declared.changes.Committed.{Committed}
 use Rattle.esc_desk.specs.declared.edit.Edit.{Edit}
 use Rattle.esc_desk.specs.declared.edit.Listing.{Listing}
 use Rattle.esc_desk.specs.declared.edit.Storing.{Storing}
@@ -37,8 +40,8 @@ stored (Park digest body) k = with_parked k digest (Some body.now)
 abbrev pub listed_more : Option Listing → Kept → Kept
 listed_more None k = k
 listed_more (Some l) k =
-    with_all_dropped l.union (with_all_adopted l.union (with_listed k l.union) l.judged.adopted.items)
-    l.judged.dropped.items
+    with_all_dropped l.union
+    (with_all_adopted l.union (with_listed k l.union) l.judged.adopted.items) l.judged.dropped.items
 
 -- a moment, or none
 abbrev pub timed : Option (Option ℤ) → Kept → Kept
@@ -54,7 +57,8 @@ moved_if (Some plan) c k = moved_by plan k c
 
 -- but for the chain and its tables
 abbrev pub books_edited : Edit → Kept → Kept
-books_edited edit k = timed edit.moment (stored edit.body (listed_more edit.listing (noted edit.receipt k)))
+books_edited edit k =
+    timed edit.moment (stored edit.body (listed_more edit.listing (noted edit.receipt k)))
 
 -- the deposits of the chain that is kept
 abbrev pub chain_deposits : Kept → List DepositValue
@@ -70,7 +74,8 @@ is_nothing (Hold row body) = false
 is_nothing (Park digest body) = false
 
 abbrev pub is_empty : Edit → Bool
-is_empty edit = is_none edit.receipt && is_none edit.listing && is_nothing edit.body && is_none edit.moment
+is_empty edit =
+    is_none edit.receipt && is_none edit.listing && is_nothing edit.body && is_none edit.moment
     && is_none edit.plan
 
 -- ---- what an edit has to be
@@ -119,3 +124,28 @@ pub record IsFilled {S : Type 0} (g : Ghosts S) (change : ChangeOf S) (before k 
   pub tables : State
   pub rest : Rest g change before (with_registry k tables)
   pub holds : IsHonest g change.store.now → HoldsNow g change k.registry
+
+-- ---- an edit that was made
+
+-- what came of an edit by what was kept before: the work of its move, and the number of its
+-- receipt, for which there was room
+pub record IsResult (edit : Edit) (k : Kept) (number : ℕ) (work : Work) : Type 0 where
+  pub worked : IsCostIf edit.plan (chain_deposits k) work
+  pub numbered : IfSome edit.receipt
+      (λ r. (number ≡ length k.receipts + 1) × (number ≤ MOST_RECEIPTS))
+
+-- a change has all the parts of an edit, where the store kept k, and this came of them
+pub record Fills {S : Type 0} (g : Ghosts S) (change : ChangeOf S) (edit : Edit) (k : Kept)
+    (done : Committed) : Type 0 where
+  pub filled : IsFilled g change k (edited edit k)
+  pub result : IsResult edit k done.number done.work
+  pub plan : done.plan ≡ edit.plan
+
+-- an edit was committed in a store that kept k: it keeps what is edited, a crash leaves that, and
+-- this came of it
+pub record IsCommitted {S : Type 0} (g : Ghosts S) (store : Store S) (edit : Edit) (k : Kept)
+    (done : Committed) : Type 0 where
+  pub stands : Stands g store (edited edit k)
+  pub left : LeavesOnly g store (edited edit k)
+  pub result : IsResult edit k done.number done.work
+  pub plan : done.plan ≡ edit.plan

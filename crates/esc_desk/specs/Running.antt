@@ -11,11 +11,12 @@ use Rattle.esc_desk.specs.declared.event.EventOutcome.TheVariants.{Arrived, Amen
 use Rattle.esc_desk.specs.declared.event.Outcome.{Outcome}
 use Rattle.esc_desk.specs.declared.event.Outcome.TheVariants.{Done, Lost}
 use Rattle.esc_events.specs.ArrivalValue.{ArrivalValue}
-use Rattle.esc_events.specs.Events.{EventValue}
+use Rattle.esc_events.specs.Events.{EventValue, union}
 use Rattle.esc_events.specs.Receipts.{reply_to}
 use Rattle.esc_desk.specs.Amendments.{AddsRows, IsAmendCause}
 use Rattle.esc_desk.specs.Asked.{taken_by, taken_in}
-use Rattle.esc_desk.specs.Calls.{IsCause, HadRoom, HadPlace}
+use Rattle.esc_desk.specs.Calls.{IsCause, HadRoom, HadPlace, writes_of}
+use Rattle.esc_desk.specs.Outcomes.{HasWorked}
 use Rattle.esc_desk.specs.Serving.{DeskServes}
 
 -- an arrival after the events e got its reply by `all`, the events in the end, and there was room
@@ -33,7 +34,7 @@ IsAnswer e all (Arrival a) (Amended r) = ⊥
 IsAnswer e all (Arrival a) (Moved r) = ⊥
 IsAnswer e all (Amend text) (Arrived o) = ⊥
 IsAnswer e all (Amend text) (Amended (Ok count)) = AddsRows e text.now count
-IsAnswer e all (Amend text) (Amended (Err f)) = IsAmendCause e text.now f
+IsAnswer e all (Amend text) (Amended (Err f)) = IsAmendCause (union e) text.now f
 IsAnswer e all (Amend text) (Moved r) = ⊥
 IsAnswer e all (AsOf moment) (Arrived o) = ⊥
 IsAnswer e all (AsOf moment) (Amended r) = ⊥
@@ -47,15 +48,17 @@ AreAnswers e all [] (o ∷ os) = ⊥
 AreAnswers e all (x ∷ xs) [] = ⊥
 AreAnswers e all (x ∷ xs) (o ∷ os) = IsAnswer e all x o × AreAnswers (e ++ taken_by x o) all xs os
 
--- after a run the desk serves the events before it and those that were taken in, and each outcome
--- is right
-pub record Ran {S : Type 0} (g : Ghosts S) (desk : Desk S) (before : List EventValue)
+-- after a run the desk serves the events before it and those that were taken in, each outcome is
+-- right, and the writes of their works were counted
+pub record Ran {S : Type 0} (g : Ghosts S) (old new : Desk S) (before : List EventValue)
     (events : List Event) (outcomes : List EventOutcome) : Type 0 where
-  pub serves : DeskServes g desk (before ++ taken_in events outcomes)
+  pub serves : DeskServes g new (before ++ taken_in events outcomes)
   pub answers : AreAnswers before (before ++ taken_in events outcomes) events outcomes
+  pub worked : HasWorked before (taken_in events outcomes) (writes_of old) (writes_of new)
 
--- after one event the desk serves the events with it, if it was taken in, and its outcome is right
-pub record Takes {S : Type 0} (g : Ghosts S) (desk : Desk S) (e : List EventValue) (x : Event)
+-- the same of one event
+pub record Takes {S : Type 0} (g : Ghosts S) (old new : Desk S) (e : List EventValue) (x : Event)
     (o : EventOutcome) : Type 0 where
-  pub serves : DeskServes g desk (e ++ taken_by x o)
+  pub serves : DeskServes g new (e ++ taken_by x o)
   pub answer : IsAnswer e (e ++ taken_by x o) x o
+  pub worked : HasWorked e (taken_by x o) (writes_of old) (writes_of new)

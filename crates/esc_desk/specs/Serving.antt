@@ -1,18 +1,16 @@
 -- A store and a desk that serve a list of events.
-use Rattle.std.specs.Prelude.{◌≡◌, List, [], ◌∷◌, ◌++◌, Some, IfSome}
+use Rattle.std.specs.Prelude.{List, [], ◌∷◌, ◌++◌, IfSome}
 use Rattle.sha2.specs.Sha256.{sha256}
 use Rattle.sqlite_trees.specs.declared.store.Store.{Ghosts}
 use Rattle.esc_tables.specs.Reading.{reading}
+use Rattle.esc_apply.specs.declared.moves.Work.{Work}
 use Rattle.esc_store.specs.declared.store.Store.{Store}
-use Rattle.esc_store.specs.ReplyValue.{ReplyValue}
 use Rattle.esc_store.specs.Kept.{Kept}
 use Rattle.esc_store.specs.Standing.{Stands}
-use Rattle.esc_events.specs.ArrivalValue.{ArrivalValue}
 use Rattle.esc_events.specs.Events.{EventValue}
-use Rattle.esc_events.specs.Events.EventValue.{arrived}
 use Rattle.esc_events.specs.Known.{IsKnown}
-use Rattle.esc_events.specs.Receipts.{reply_to}
 use Rattle.esc_events.specs.Stands.{StandsFor}
+use Rattle.esc_events.specs.Works.{IsWorkOf}
 use Rattle.esc_desk.specs.declared.desk.Desk.{Desk}
 
 -- a store stands for this list of events
@@ -28,8 +26,8 @@ pub record DeskServes {S : Type 0} (g : Ghosts S) (desk : Desk S)
   pub serves : Serves g desk.store e
   pub remembers : IfSome desk.known (IsKnown serves.kept)
 
--- after an arrival that was answered the desk serves the list with it, and this is its reply
-pub record Answers {S : Type 0} (g : Ghosts S) (desk : Desk S) (e : List EventValue)
-    (a : ArrivalValue) (reply : ReplyValue) : Type 0 where
-  pub serves : DeskServes g desk (e ++ arrived a ∷ [])
-  pub told : reply_to sha256 reading (e ++ arrived a ∷ []) a ≡ Some reply
+-- an event was taken in: the desk serves the events with it, and this was its work
+pub record TakesIn {S : Type 0} (g : Ghosts S) (desk : Desk S) (e : List EventValue)
+    (x : EventValue) (work : Work) : Type 0 where
+  pub serves : DeskServes g desk (e ++ x ∷ [])
+  pub works : IsWorkOf e x work

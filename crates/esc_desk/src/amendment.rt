@@ -2,23 +2,18 @@
 
 ghost use Rattle.std.specs.Prelude.{
   ◌≡◌,
-  ◌+◌,
   ◌<◌,
   ◌++◌,
-  ◌∷◌,
-  [],
   ℕ,
   List,
   None,
   false,
   Err,
-  IfSome,
   length,
   take,
   IfOk,
   IfErr,
   OnOk,
-  OnErr,
 };
 ghost use Rattle.sha2.specs.Sha256.{sha256};
 ghost use Rattle.esc_tables.specs.Reading.{reading};
@@ -26,7 +21,6 @@ ghost use Rattle.esc_manifest.specs.declared.fault.MFault.TheVariants as MFault;
 ghost use Rattle.esc_manifest.specs.declared.row.MRow.{MRow};
 ghost use Rattle.esc_manifest.specs.Extension.{extended};
 ghost use Rattle.esc_manifest.specs.Manifest.{most_bytes};
-ghost use Rattle.esc_apply.specs.Registry.{saturated};
 ghost use Rattle.esc_store.specs.Faults.{IsS1OrS2};
 ghost use Rattle.esc_store.specs.Kept.{Kept};
 ghost use Rattle.esc_store.specs.Standing.{Stands, IsHonest, IsAsBefore, rows_of};
@@ -38,7 +32,6 @@ ghost use Rattle.esc_events.specs.Stands.{StandsFor};
 ghost use Rattle.esc_desk.specs.Amendments.{
   IsAmended,
   IsAmendCause,
-  IsAmendFault,
   IsRefusal,
   IsRefusedUnion,
   IsUnionWith,
@@ -46,16 +39,14 @@ ghost use Rattle.esc_desk.specs.Amendments.{
 };
 ghost use Rattle.esc_desk.specs.Calls.{
   store_of,
-  writes_of,
-  After,
   OkAfter,
   CrashAfter,
-  WasHonest,
-  ServesStill,
+  IsWhole,
+  DeskLeavesMade,
 };
-ghost use Rattle.esc_desk.specs.Crashes.{AddsStoreFor};
-ghost use Rattle.esc_desk.specs.Decisions.{IsDecided, IsSound, IsMade};
+ghost use Rattle.esc_desk.specs.Decisions.{IsDecided, IsSound};
 ghost use Rattle.esc_desk.specs.Edits.{is_empty};
+ghost use Rattle.esc_desk.specs.Serving.{TakesIn};
 
 use crate::decision::Decision;
 use crate::desk::{Desk, NO_WORK};
@@ -107,21 +98,12 @@ impl<S: Alter> Desk<S> {
     pub fn amend(&mut self, alloc: Global, text: &[u8]) -> Result<(u32, Work), AmendFault>
         ensures amended { OkAfter S.Store self.old self.new result
             (λ e p. IsAmended S.Store self.new e text.now p.0 p.1) }
-        ensures cause { After S.Store self.old self.new
-            (λ e. IfErr result (IsAmendCause e text.now)) }
-        ensures fault { IfErr result IsAmendFault }
-        ensures refused { (code row : ℕ)
-            → result ≡ Err (AmendFault.M (MFault.Refused code row))
-            → IsRefusedUnion (rows_of (store_of self.old)) text.now code row }
+        ensures cause { IfErr result (IsAmendCause (rows_of (store_of self.old)) text.now) }
         ensures unchanged { (code row : ℕ)
             → result ≡ Err (AmendFault.M (MFault.Refused code row)) → self.new ≡ self.old }
         ensures over_limit { most_bytes < length text.now
             → result ≡ Err (AmendFault.M (MFault.Refused 1 0)) }
-        ensures counted { IfOk result
-            (λ p. writes_of self.new ≡ saturated (writes_of self.old + p.1.writes)) }
-        ensures uncounted { OnErr result (writes_of self.new ≡ writes_of self.old) }
-        ensures honest { WasHonest S.Store self.old self.new }
-        ensures lost { OnErr result (ServesStill S.Store self.old self.new) }
+        ensures whole { IsWhole S.Store self.old self.new result (λ p. p.1) }
         ensures crash { CrashAfter S.Store self.old
             (λ e doubtful. DeskLeavesAmended S.Store self.new e doubtful text.now result) }
     {
@@ -148,9 +130,7 @@ impl<S: Alter> Desk<S> {
     fn union_with(&self, alloc: Global, text: &[u8]) -> Result<Manifest, MFault>
         ensures united { IfOk result (IsUnionWith self.now.store.manifest text.now) }
         ensures refused { (code row : ℕ) → result ≡ Err (MFault.Refused code row)
-            → IsRefusedUnion self.now.store.manifest text.now code row }
-        ensures numbers { (code row : ℕ) → result ≡ Err (MFault.Refused code row)
-            → IsRefusal code row }
+            → IsRefusal code row × IsRefusedUnion self.now.store.manifest text.now code row }
         ensures over_limit { most_bytes < length text.now → result ≡ Err (MFault.Refused 1 0) }
     {
         let more = read_manifest(alloc, text)?;
@@ -162,22 +142,13 @@ impl<S: Alter> Desk<S> {
     #[tactic(auto, using(esc_store::specs::StandingLaws::was_honest))]
     fn list_more(&mut self, alloc: Global, union: Manifest) -> Result<Work, SFault>
         requires begins { take (length self.old.store.manifest) union ≡ self.old.store.manifest }
-        ensures made { IsHonest S.Store self.new.store → (e : List EventValue) (k : Kept)
-            (more : List MRow) → Stands S.Store self.old.store k → StandsFor sha256 reading e k
-            → IfSome self.old.known (IsKnown k) → union ≡ extended (union_of e) more
-            → IfOk result (IsMade S.Store self.new e (listed more)) }
-        ensures counted { IfOk result (λ work. self.new.store.writes
-            ≡ saturated (self.old.store.writes + work.writes)) }
-        ensures uncounted { OnErr result (self.new.store.writes ≡ self.old.store.writes) }
-        ensures lost { OnErr result ((k : Kept) → Stands S.Store self.old.store k
-            → Stands S.Store self.new.store k) }
-        ensures forgotten { OnErr result (self.new.known ≡ None) }
-        ensures crash { IsHonest S.Store self.new.store → (e : List EventValue) (k : Kept)
-            (more : List MRow) → Stands S.Store self.old.store k → StandsFor sha256 reading e k
-            → IfSome self.old.known (IsKnown k) → union ≡ extended (union_of e) more
-            → AddsStoreFor S.Store self.old.store.conn self.new.store.conn result
-            (e ++ listed more ∷ []) }
-        ensures honest { IsHonest S.Store self.new.store → IsHonest S.Store self.old.store }
+        ensures made { (more : List MRow) → OkAfter S.Store self.old self.new result
+            (λ e work. union ≡ extended (union_of e) more
+            → TakesIn S.Store self.new e (listed more) work) }
+        ensures whole { IsWhole S.Store self.old self.new result (λ work. work) }
+        ensures crash { (more : List MRow) → CrashAfter S.Store self.old
+            (λ e doubtful. union ≡ extended (union_of e) more
+            → DeskLeavesMade S.Store self.new e doubtful (listed more) result) }
         ensures cause { IfErr result IsS1OrS2 }
     {
         let known = self.take_known(alloc)?;
@@ -187,7 +158,8 @@ impl<S: Alter> Desk<S> {
     }
 }
 
-// What it comes to that the rows of a union are listed. `known` is what is known of the store's rows.
+// What it comes to that the rows of a union are listed. `known` is what is known of the store's
+// rows.
 fn decide_union<'n, 'b, S: Alter>(
     store: &mut Store<S>,
     alloc: Global,

@@ -1,8 +1,8 @@
 //! What an arrival is answered, and what it comes to, found by reads alone.
 //!
-//! A duplicate of an earlier arrival gets that one's reply. A store of version 1 gave `A2` to a body
-//! that no row listed, and didn't keep it: the body of a duplicate with that reply is taken in as that
-//! of a new arrival would be, unless it is there.
+//! A duplicate of an earlier arrival gets that one's reply. A store of version 1 gave `A2` to a
+//! body that no row listed, and didn't keep it: the body of a duplicate with that reply is taken in
+//! as that of a new arrival would be, unless it is there.
 
 ghost use Rattle.std.specs.Prelude.{◌≡◌, ℕ, List, Some, None, IfOk, IfErr};
 ghost use Rattle.sha2.specs.Sha256.{sha256};

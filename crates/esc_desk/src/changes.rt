@@ -20,6 +20,7 @@ ghost use Rattle.esc_store.specs.Standing.{
   Stands,
   IsHonest,
   LeavesOnly,
+  StoreLeavesOr,
   Began,
   Rest,
   HoldsNow,
@@ -28,20 +29,19 @@ ghost use Rattle.esc_store.specs.Standing.{
 };
 ghost use Rattle.esc_events.specs.Amended.{with_all_adopted, with_all_dropped};
 ghost use Rattle.esc_desk.specs.Causes.{IsEditFault, IsFillFault};
-ghost use Rattle.esc_desk.specs.Crashes.{AddsStore};
 ghost use Rattle.esc_desk.specs.Edits.{
   noted,
   stored,
   timed,
   listed_more,
   edited,
-  chain_deposits,
   IsSoundPlan,
   Begins,
   IsFromChainOf,
-  IsCostIf,
   IsPart,
   IsFilled,
+  Fills,
+  IsCommitted,
 };
 
 use crate::edit::{Edit, Listing, Storing};
@@ -72,25 +72,14 @@ pub(crate) fn commit<S: Alter>(
     requires begins { Begins edit.listing store.old.manifest }
     requires sound { IfSome edit.plan IsSoundPlan }
     ensures honest { IsHonest S.Store store.new → IsHonest S.Store store.old }
-    ensures made { OnOk result (IsHonest S.Store store.new → (k : Kept)
-        → IsFromChainOf k edit.entry.plan → Stands S.Store store.old k
-        → Stands S.Store store.new (edited edit.entry k)) }
-    ensures left { OnOk result (IsHonest S.Store store.new → (k : Kept)
-        → IsFromChainOf k edit.entry.plan → Stands S.Store store.old k
-        → LeavesOnly S.Store store.new (edited edit.entry k)) }
+    ensures made { IsHonest S.Store store.new → (k : Kept) → IsFromChainOf k edit.entry.plan
+        → Stands S.Store store.old k
+        → IfOk result (IsCommitted S.Store store.new edit.entry k) }
     ensures kept { OnErr result ((k : Kept) → Stands S.Store store.old k
         → Stands S.Store store.new k) }
-    ensures crash { IsHonest S.Store store.new → (k : Kept)
-        → IsFromChainOf k edit.entry.plan → Stands S.Store store.old k
-        → AddsStore S.Store store.old.conn store.new.conn result (edited edit.entry k) }
-    ensures worked { IfOk result (λ done. IsHonest S.Store store.new → (k : Kept)
-        → IsFromChainOf k edit.entry.plan → Stands S.Store store.old k
-        → IsCostIf edit.entry.plan (chain_deposits k) done.work) }
-    ensures numbered { IfOk result (λ done. IfSome edit.entry.receipt (λ r.
-        IsHonest S.Store store.new → (k : Kept) → Stands S.Store store.old k
-        → done.number ≡ length k.receipts + 1)) }
-    ensures room { IfOk result (λ done. done.number ≤ MOST_RECEIPTS) }
-    ensures plan { IfOk result (λ done. done.plan ≡ edit.entry.plan) }
+    ensures crash { IsHonest S.Store store.new → (k : Kept) → IsFromChainOf k edit.entry.plan
+        → Stands S.Store store.old k
+        → StoreLeavesOr S.Store store.old store.new (edited edit.entry k) }
     ensures counted { IfOk result (λ done. store.new.writes
         ≡ saturated (store.old.writes + done.work.writes)) }
     ensures uncounted { OnErr result (store.new.writes ≡ store.old.writes) }
@@ -113,18 +102,10 @@ fn fill<S: Alter>(
     requires begins { Begins edit.listing (listed_by change.now) }
     requires sound { IfSome edit.plan IsSoundPlan }
     ensures goes_on { IsUncommitted S.Store change.old change.new }
-    ensures filled { OnOk result (IsHonest S.Store change.new.store.now → (k : Kept)
+    ensures fills { IsHonest S.Store change.new.store.now → (k : Kept)
         → IsFromChainOf k edit.entry.plan
         → Rest S.Store change.old k k → HoldsNow S.Store change.old k.registry
-        → IsFilled S.Store change.new k (edited edit.entry k)) }
-    ensures worked { IfOk result (λ done. IsHonest S.Store change.new.store.now
-        → (k : Kept) → IsFromChainOf k edit.entry.plan → HoldsNow S.Store change.old k.registry
-        → IsCostIf edit.entry.plan (chain_deposits k) done.work) }
-    ensures numbered { IfOk result (λ done. IfSome edit.entry.receipt (λ r.
-        IsHonest S.Store change.new.store.now → (before k : Kept)
-        → Rest S.Store change.old before k → done.number ≡ length k.receipts + 1)) }
-    ensures room { IfOk result (λ done. done.number ≤ MOST_RECEIPTS) }
-    ensures plan { IfOk result (λ done. done.plan ≡ edit.entry.plan) }
+        → IfOk result (Fills S.Store change.new edit.entry k) }
     ensures counted { IfOk result (λ done. saturated change.new.count
         ≡ saturated (saturated change.old.count + done.work.writes)) }
     ensures cause { IfErr result
@@ -264,22 +245,18 @@ fn set_moment<S: Alter>(
 
 // Commits a change that has all its parts.
 fn commit_filled<S: Alter>(change: Change<'_, S>) -> Result<(), SFault>
-    ensures manifest { OnOk result (change.exit.0.now.manifest ≡ listed_by change.entry) }
-    ensures unlisted { OnErr result
-        (change.exit.0.now.manifest ≡ change.entry.store.now.manifest) }
     ensures honest { IsHonest S.Store change.exit.0.now
         → IsHonest S.Store change.entry.store.now }
     ensures written { OnOk result (change.exit.0.now.writes
         ≡ saturated (change.entry.store.now.writes + change.entry.count)) }
     ensures unwritten { OnErr result (change.exit.0.now.writes ≡ change.entry.store.now.writes) }
-    ensures committed { OnOk result (IsHonest S.Store change.exit.0.now → (before k : Kept)
-        → IsFilled S.Store change.entry before k → Stands S.Store change.exit.0.now k) }
+    ensures made { OnOk result ((before k : Kept) → IsFilled S.Store change.entry before k
+        → LeavesOnly S.Store change.exit.0.now k
+        × (IsHonest S.Store change.exit.0.now → Stands S.Store change.exit.0.now k)) }
     ensures kept { OnErr result ((before : Kept) → Began S.Store change.entry before
         → Stands S.Store change.exit.0.now before) }
-    ensures left { OnOk result ((before k : Kept) → IsFilled S.Store change.entry before k
-        → LeavesOnly S.Store change.exit.0.now k) }
     ensures crash { (before k : Kept) → IsFilled S.Store change.entry before k
-        → AddsStore S.Store change.entry.store.now.conn change.exit.0.now.conn result k }
+        → StoreLeavesOr S.Store change.entry.store.now change.exit.0.now k }
     ensures cause { IfErr result IsS1OrS2 }
 {
     change.commit()

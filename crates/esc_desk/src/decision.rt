@@ -1,34 +1,20 @@
 //! Decisions: what an event comes to, found by reads alone, and how it is made.
 
-ghost use Rattle.std.specs.Prelude.{
-  ◌≡◌,
-  ◌+◌,
-  ◌≤◌,
-  ◌++◌,
-  ◌∷◌,
-  [],
-  List,
-  length,
-  IfOk,
-  IfErr,
-  IfSome,
-  OnErr,
-};
-ghost use Rattle.esc_apply.specs.Registry.{saturated};
+ghost use Rattle.std.specs.Prelude.{◌≡◌, List, IfOk, IfErr};
 ghost use Rattle.esc_store.specs.Kept.{Kept};
 ghost use Rattle.esc_store.specs.Standing.{Stands, IsHonest};
 ghost use Rattle.esc_events.specs.Events.{EventValue};
+ghost use Rattle.esc_desk.specs.Calls.{IsWhole};
 ghost use Rattle.esc_desk.specs.Causes.{IsEditFault};
-ghost use Rattle.esc_desk.specs.Crashes.{AddsStoreFor};
+ghost use Rattle.esc_desk.specs.Crashes.{CrashLeaves, LeavesRefused};
 ghost use Rattle.esc_desk.specs.Decisions.{known_after, still_by, IsSound, IsDecided, IsDone};
-ghost use Rattle.esc_desk.specs.Edits.{IsFromChainOf, IsCostIf, chain_deposits};
 
 use crate::changes::commit;
 use crate::desk::{Desk, NO_WORK};
 use crate::edit::{Edit, Storing};
 use esc_apply::Work;
 use esc_events::{Known, Plan};
-use esc_store::{MOST_RECEIPTS, Receipt, SFault};
+use esc_store::{Receipt, SFault};
 use sqlite::Alter;
 use std::alloc::Global;
 
@@ -72,27 +58,15 @@ impl<S: Alter> Desk<S> {
         decision: Decision<'_, '_>,
     ) -> Result<(u64, Work), SFault>
         requires sound { IsSound self.old.store.manifest decision }
+        ensures whole { IsWhole S.Store self.old self.new result (λ p. p.1) }
         ensures made { IsHonest S.Store self.new.store → (e : List EventValue) (x : EventValue)
             (k : Kept) → Stands S.Store self.old.store k → IsDecided e x k decision.entry
-            → IfOk result (λ p. IsDone S.Store self.old.store.conn self.new e x decision.entry
-            p.1) }
-        ensures crash { IsHonest S.Store self.new.store → (e : List EventValue) (x : EventValue)
-            (k : Kept) → Stands S.Store self.old.store k → IsDecided e x k decision.entry
-            → AddsStoreFor S.Store self.old.store.conn self.new.store.conn result (e ++ x ∷ []) }
-        ensures worked { IfOk result (λ p. IsHonest S.Store self.new.store → (k : Kept)
-            → IsFromChainOf k decision.entry.edit.plan → Stands S.Store self.old.store k
-            → IsCostIf decision.entry.edit.plan (chain_deposits k) p.1) }
-        ensures numbered { IfOk result (λ p. IfSome decision.entry.edit.receipt (λ r.
-            IsHonest S.Store self.new.store → (k : Kept) → Stands S.Store self.old.store k
-            → p.0 ≡ length k.receipts + 1)) }
-        ensures room { IfOk result (λ p. p.0 ≤ MOST_RECEIPTS) }
-        ensures counted { IfOk result (λ p. self.new.store.writes
-            ≡ saturated (self.old.store.writes + p.1.writes)) }
-        ensures uncounted { OnErr result (self.new.store.writes ≡ self.old.store.writes) }
-        ensures lost { OnErr result ((k : Kept) → Stands S.Store self.old.store k
-            → Stands S.Store self.new.store k) }
-        ensures same { OnErr result (self.new.known ≡ self.old.known) }
-        ensures honest { IsHonest S.Store self.new.store → IsHonest S.Store self.old.store }
+            → IfOk result (IsDone S.Store self.old.store self.new e x k decision.entry) }
+        ensures crash { (e doubtful : List EventValue) (x : EventValue) (k : Kept)
+            → Stands S.Store self.old.store k
+            → (IsHonest S.Store self.new.store → IsDecided e x k decision.entry)
+            → CrashLeaves S.Store self.old.store.conn e doubtful
+            → IfErr result (LeavesRefused S.Store self.new.store.conn e doubtful x) }
         ensures cause { IfErr result (IsEditFault S.Store decision.entry.edit.receipt
             self.old.store self.new.store) }
     {

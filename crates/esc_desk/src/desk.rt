@@ -1,44 +1,27 @@
 //! The desk: arrivals, one after another.
 
-ghost use Rattle.std.specs.Prelude.{
-  ◌≡◌,
-  ◌+◌,
-  [],
-  List,
-  None,
-  IfOk,
-  IfErr,
-  IfSome,
-  OnErr,
-};
+ghost use Rattle.std.specs.Prelude.{◌≡◌, [], List, None, IfOk, IfErr, IfSome};
 ghost use Rattle.sha2.specs.Sha256.{sha256};
 ghost use Rattle.esc_tables.specs.Reading.{reading};
-ghost use Rattle.esc_apply.specs.Registry.{saturated};
 ghost use Rattle.esc_store.specs.Faults.{IsS1OrS2, IsS1OrS2OrS4OrS5};
 ghost use Rattle.esc_store.specs.Kept.{Kept};
 ghost use Rattle.esc_store.specs.Standing.{Stands, IsHonest, IsAsBefore, LeavesOnly};
 ghost use Rattle.esc_events.specs.ArrivalValue.{an_arrival};
 ghost use Rattle.esc_events.specs.Events.{EventValue};
-ghost use Rattle.esc_events.specs.Events.EventValue.{arrived};
 ghost use Rattle.esc_events.specs.Known.{IsKnown};
 ghost use Rattle.esc_events.specs.Stands.{StandsFor};
-ghost use Rattle.esc_events.specs.Works.{IsWorkOf, IsIdle};
 ghost use Rattle.esc_desk.specs.Calls.{
   store_of,
-  writes_of,
   DeskLeaves,
   DeskLeavesTaken,
   After,
   OkAfter,
   CrashAfter,
-  WasHonest,
-  ServesStill,
-  RepeatsReply,
-  HadRoom,
-  HadPlace,
+  IsWhole,
   IsCause,
+  Answers,
 };
-ghost use Rattle.esc_desk.specs.Serving.{Serves, DeskServes, Answers};
+ghost use Rattle.esc_desk.specs.Serving.{Serves, DeskServes};
 
 use crate::answering::{Answer, answer_arrival, numbered};
 use crate::knowing::known_or;
@@ -114,25 +97,11 @@ impl<S: Alter> Desk<S> {
         body: &[u8],
     ) -> Result<(Reply, Work), SFault>
         ensures answered { OkAfter S.Store self.old self.new result
-            (λ e p. Answers S.Store self.new e (an_arrival number.now body.now) p.0) }
-        ensures repeated { OkAfter S.Store self.old self.new result
-            (λ e p. RepeatsReply e (an_arrival number.now body.now) p.0 p.1) }
-        ensures worked { OkAfter S.Store self.old self.new result
-            (λ e p. IsWorkOf e (arrived (an_arrival number.now body.now)) p.1) }
-        ensures idle { OkAfter S.Store self.old self.new result
-            (λ e p. IsIdle e (arrived (an_arrival number.now body.now)) p.1) }
-        ensures room { OkAfter S.Store self.old self.new result
-            (λ e _. HadRoom e (an_arrival number.now body.now)) }
-        ensures place { OkAfter S.Store self.old self.new result
-            (λ e _. HadPlace e (an_arrival number.now body.now)) }
+            (λ e p. Answers S.Store self.new e (an_arrival number.now body.now) p.0 p.1) }
         ensures cause { IfErr result IsS1OrS2OrS4OrS5 }
         ensures full { After S.Store self.old self.new
             (λ e. IfErr result (IsCause e (an_arrival number.now body.now))) }
-        ensures counted { IfOk result
-            (λ p. writes_of self.new ≡ saturated (writes_of self.old + p.1.writes)) }
-        ensures uncounted { OnErr result (writes_of self.new ≡ writes_of self.old) }
-        ensures honest { WasHonest S.Store self.old self.new }
-        ensures lost { OnErr result (ServesStill S.Store self.old self.new) }
+        ensures whole { IsWhole S.Store self.old self.new result (λ p. p.1) }
         ensures crash { CrashAfter S.Store self.old
             (λ e doubtful. DeskLeavesTaken S.Store self.new e doubtful
             (an_arrival number.now body.now) result) }

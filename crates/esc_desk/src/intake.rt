@@ -104,8 +104,8 @@ fn decide_unlisted<'n, 'b, S: Alter>(
     }
 }
 
-// Why a body can't be parked, since 1,024 others are: where there is no room for the receipt either,
-// it is `S4`.
+// Why a body can't be parked, since 1,024 others are: where there is no room for the receipt
+// either, it is `S4`.
 fn crowded_fault<S: Alter>(store: &mut Store<S>, receipt: &Option<Receipt<'_>>) -> SFault
     ensures same { IsAsBefore S.Store store.old store.new }
     ensures cause { ((result ≡ SFault.S5) × (IsHonest S.Store store.new → (k : Kept)

@@ -115,8 +115,7 @@ ghost use Rattle.esc_events.specs.FirstVersion.{StoodFor, events_before};
 ghost use Rattle.esc_desk.specs.Serving.{Serves};
 
 /// The definitions at a store of version 1 that was migrated. An arrival with `A2` gets that reply
-/// when it comes again. Its body is held then if a row lists it by now; else it is parked, and held
-/// once a row lists it.
+/// when it comes again, and its body is held then, if a row lists it by now.
 pub fn worked_migration()
     ensures answered { reply_to itself reads_either migrated diff_2
         ≡ Some (lost_reply 2 (codes "2")) }
@@ -126,15 +125,20 @@ pub fn worked_migration()
     ensures again { reply_to itself reads_either amended_then_again diff_2
         ≡ Some (lost_reply 2 (codes "2")) }
     ensures held { held_body itself reads_either amended_then_again 1 ≡ Some (codes "d2") }
+    ensures domains { map (tables (deposits_of reads_either
+        (held_body itself reads_either amended_then_again) (0 ∷ 1 ∷ [])))
+        (a_domain (codes "a") ∷ a_domain (codes "b") ∷ [])
+        ≡ Some (of_domain (codes "a")) ∷ Some (of_domain (codes "b")) ∷ [] }
+{}
+
+/// The same where no row lists the body yet when it comes again: it is parked, and held once a row
+/// lists it.
+pub fn worked_migration_unlisted()
     ensures parked { parked_body itself reads_either (migrated ++ arrived diff_2 ∷ [])
         (codes "d2") ≡ Some (codes "d2") }
     ensures adopted { held_body itself reads_either again_then_amended 1 ≡ Some (codes "d2") }
     ensures parked_no_more { parked_body itself reads_either again_then_amended (codes "d2")
         ≡ None }
-    ensures domains { map (tables (deposits_of reads_either
-        (held_body itself reads_either amended_then_again) (0 ∷ 1 ∷ [])))
-        (a_domain (codes "a") ∷ a_domain (codes "b") ∷ [])
-        ≡ Some (of_domain (codes "a")) ∷ Some (of_domain (codes "b")) ∷ [] }
 {}
 
 ghost use Rattle.std.specs.Prelude.{◌++◌};

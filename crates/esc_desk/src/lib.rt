@@ -26,10 +26,11 @@
 //! held now (`esc_apply`), both up to the moment that is set, if one is.
 //!
 //! What goes in is a [`Store`](esc_store::Store), then events: arrivals, further manifests, and the
-//! moment as of which the registry is to be rebuilt. A list of them goes to [`Desk::run_events`],
-//! one of arrivals alone to [`Desk::run`]; one by one they go to [`Desk::arrive`], [`Desk::amend`]
-//! and [`Desk::as_of`]. What comes out are replies, counts of added rows, the work of each move,
-//! and the reads: [`Desk::status`], [`Desk::receipts`], [`Desk::manifest`], [`Desk::held`],
+//! moment as of which the registry is to be rebuilt. One by one they go to [`Desk::arrive`],
+//! [`Desk::amend`] and [`Desk::as_of`], or, of whatever kind, to [`Desk::take`]. A list of them
+//! goes to [`Desk::run_events`], which takes one after another, and one of arrivals alone to
+//! [`Desk::run`]. What comes out are replies, counts of added rows, the work of each move, and the
+//! reads: [`Desk::status`], [`Desk::receipts`], [`Desk::manifest`], [`Desk::held`],
 //! [`Desk::parked`], [`Desk::moment`], [`Desk::tables`], [`Desk::end`] and [`Desk::writes`].
 //! [`Desk::walk`] gives the objects of the tables one at a time.
 //!
@@ -87,18 +88,18 @@
 //! of events that the desk served before it": a desk that served a list serves, after an arrival
 //! that was answered, that list with the arrival. `OkOver` is the same for every list that the
 //! desk's store stood for, even where what the desk remembers is wrong; reads have it. `Stays` says
-//! that a call changed nothing. After an `Err` the desk serves the list as it was (`ServesStill`).
-//! What one event changes is one change of the store, whole or not at all, so an arrival that was
+//! that a call changed nothing. What one event changes is one change of the store, whole or not at
+//! all (`IsWhole`): after an `Err` the desk serves the list as it was. So an arrival that was
 //! refused by `S1` (the store failed), `S2` (out of memory), `S4` (there are 1,000,000,000
-//! receipts) or `S5` (1,024 bodies are parked) is as one that never came. So runs compose, whatever
-//! came before them and however they were cut.
+//! receipts) or `S5` (1,024 bodies are parked) is as one that never came, and runs compose,
+//! whatever came before them and however they were cut.
 //!
 //! What was answered is kept through a crash. An event is *in doubt* once it was refused by `S1` or
 //! `S2`, until another changes a table: a crash may leave it taken in. The clauses `left` of
-//! [`Desk::open`] and `crash` of [`Desk::run_events`], [`Desk::run`], [`Desk::arrive`],
-//! [`Desk::amend`] and [`Desk::as_of`] say that whatever a crash leaves is a store of the events so
-//! far, or of them and one of those in doubt (`DeskLeaves`), and none is in doubt in a store that
-//! was just made or opened. `esc_kept` follows it to the next open.
+//! [`Desk::open`] and `crash` of [`Desk::arrive`], [`Desk::amend`], [`Desk::as_of`],
+//! [`Desk::take`], [`Desk::run_events`] and [`Desk::run`] say that whatever a crash leaves is a
+//! store of the events so far, or of them and one of those in doubt (`DeskLeaves`), and none is in
+//! doubt in a store that was just made or opened. `esc_kept` follows it to the next open.
 //!
 //! Each clause on a store has the premise that the store was honest, which is that the disk gave
 //! back what was written to it. What a store is said to keep holds while its connection is open; a
@@ -197,7 +198,7 @@ pub use event_laws::{
 pub use laws::{
     migrated_store_serves, new_store_stands_for_its_manifest, same_held_same_kept,
     same_rows_same_tables, stands_for_manifest_and_arrivals, tables_are_of_events,
-    worked_migration, worked_replies,
+    worked_migration, worked_migration_unlisted, worked_replies,
 };
 pub use status::{End, Status};
 pub use walk::{Pages, Walk};

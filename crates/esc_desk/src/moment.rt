@@ -1,33 +1,13 @@
 //! The moment as of which the registry is rebuilt.
 
-ghost use Rattle.std.specs.Prelude.{
-  ◌≡◌,
-  ◌+◌,
-  ◌++◌,
-  ◌∷◌,
-  [],
-  None,
-  false,
-  IfOk,
-  IfErr,
-  OnErr,
-};
-ghost use Rattle.esc_apply.specs.Registry.{saturated};
+ghost use Rattle.std.specs.Prelude.{◌≡◌, None, false, IfOk, IfErr};
 ghost use Rattle.esc_store.specs.Faults.{IsS1OrS2};
 ghost use Rattle.esc_store.specs.Standing.{IsAsBefore};
 ghost use Rattle.esc_events.specs.Events.EventValue.{moved};
-ghost use Rattle.esc_events.specs.Works.{IsWorkOf};
-ghost use Rattle.esc_desk.specs.Calls.{
-  writes_of,
-  DeskLeavesMade,
-  OkAfter,
-  CrashAfter,
-  WasHonest,
-  ServesStill,
-};
+ghost use Rattle.esc_desk.specs.Calls.{DeskLeavesMade, OkAfter, CrashAfter, IsWhole};
 ghost use Rattle.esc_desk.specs.Decisions.{Decides, IsDecided, IsSound};
 ghost use Rattle.esc_desk.specs.Edits.{is_empty};
-ghost use Rattle.esc_desk.specs.Serving.{DeskServes};
+ghost use Rattle.esc_desk.specs.Serving.{TakesIn};
 
 use crate::decision::Decision;
 use crate::desk::Desk;
@@ -47,14 +27,8 @@ impl<S: Alter> Desk<S> {
     /// set.
     pub fn as_of(&mut self, alloc: Global, moment: Option<i64>) -> Result<Work, SFault>
         ensures set { OkAfter S.Store self.old self.new result
-            (λ e _. DeskServes S.Store self.new (e ++ moved moment ∷ [])) }
-        ensures worked { OkAfter S.Store self.old self.new result
-            (λ e work. IsWorkOf e (moved moment) work) }
-        ensures counted { IfOk result
-            (λ work. writes_of self.new ≡ saturated (writes_of self.old + work.writes)) }
-        ensures uncounted { OnErr result (writes_of self.new ≡ writes_of self.old) }
-        ensures honest { WasHonest S.Store self.old self.new }
-        ensures lost { OnErr result (ServesStill S.Store self.old self.new) }
+            (λ e work. TakesIn S.Store self.new e (moved moment) work) }
+        ensures whole { IsWhole S.Store self.old self.new result (λ work. work) }
         ensures crash { CrashAfter S.Store self.old
             (λ e doubtful. DeskLeavesMade S.Store self.new e doubtful (moved moment) result) }
         ensures cause { IfErr result IsS1OrS2 }

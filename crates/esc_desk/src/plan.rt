@@ -95,8 +95,8 @@ fn step_of(rows: &[MRow], row: usize) -> Step
     }
 }
 
-/// Plans the move from the known chain to the latest chain of the known rows of which a body is held,
-/// up to a moment. The known chain is taken.
+/// Plans the move from the known chain to the latest chain of the known rows of which a body is
+/// held, up to a moment. The known chain is taken.
 pub(crate) fn plan_latest<S: Alter>(
     store: &mut Store<S>,
     alloc: Global,

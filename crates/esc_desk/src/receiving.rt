@@ -2,13 +2,11 @@
 
 ghost use Rattle.std.specs.Prelude.{
   ◌≡◌,
-  ◌<◌,
   ◌++◌,
   ◌∷◌,
   [],
   ℕ,
   List,
-  length,
   Ok,
   None,
   IfOk,

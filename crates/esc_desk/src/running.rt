@@ -6,8 +6,6 @@ ghost use Rattle.esc_desk.specs.Asked.{
   as_events,
   as_outcome,
   as_outcomes,
-  taken_by,
-  taken_in,
 };
 ghost use Rattle.esc_desk.specs.Calls.{
   After,
@@ -16,9 +14,8 @@ ghost use Rattle.esc_desk.specs.Calls.{
   WasHonest,
   DeskLeavesEvent,
   DeskLeavesRun,
-  writes_of,
 };
-ghost use Rattle.esc_desk.specs.Outcomes.{IsOutcomeOf, AreOutcomesOf, HasWorked};
+ghost use Rattle.esc_desk.specs.Outcomes.{IsOutcomeOf, AreOutcomesOf};
 ghost use Rattle.esc_desk.specs.Running.{Ran, Takes};
 
 use crate::arrival::Arrival;
@@ -54,16 +51,14 @@ impl<S: Alter> Desk<S> {
         events: &[Event<'_>],
     ) -> Result<Vec<EventOutcome>, NoMemory>
         ensures ran { OkAfter S.Store self.old self.new result
-            (λ before outcomes. Ran S.Store self.new before events.now outcomes.items) }
+            (λ before outcomes. Ran S.Store self.old self.new before events.now
+            outcomes.items) }
         ensures crash { IfOk result (λ outcomes. CrashAfter S.Store self.old
             (λ before doubtful. DeskLeavesRun S.Store self.new before doubtful
             events.now outcomes.items)) }
         ensures counted { IfOk result (λ outcomes. length outcomes.items
             ≡ length events.now) }
         ensures cause { IfOk result (λ outcomes. AreOutcomesOf events.now outcomes.items) }
-        ensures worked { OkAfter S.Store self.old self.new result
-            (λ before outcomes. HasWorked before (taken_in events.now outcomes.items)
-            (writes_of self.old) (writes_of self.new)) }
         ensures refused { OnErr result (self.new ≡ self.old) }
         ensures honest { WasHonest S.Store self.old self.new }
     {
@@ -71,7 +66,7 @@ impl<S: Alter> Desk<S> {
         let _writes = self.store.writes();
         let mut outcomes = Vec::with_capacity(alloc, events.len())?;
         for event in events {
-            let outcome = self.take_event(alloc, event);
+            let outcome = self.take(alloc, event);
             outcomes.push_reserved(outcome);
         }
         Ok(outcomes)
@@ -85,7 +80,7 @@ impl<S: Alter> Desk<S> {
     /// receipt and the first one's reply. `NoMemory` is returned before the first arrival.
     pub fn run(&mut self, alloc: Global, arrivals: &[Arrival<'_>]) -> Result<Vec<Outcome>, NoMemory>
         ensures ran { OkAfter S.Store self.old self.new result
-            (λ before outcomes. Ran S.Store self.new before
+            (λ before outcomes. Ran S.Store self.old self.new before
             (as_events arrivals.now) (as_outcomes outcomes.items)) }
         ensures crash { IfOk result (λ outcomes. CrashAfter S.Store self.old
             (λ before doubtful. DeskLeavesRun S.Store self.new before doubtful
@@ -94,10 +89,6 @@ impl<S: Alter> Desk<S> {
             ≡ length arrivals.now) }
         ensures cause { IfOk result (λ outcomes.
             AreOutcomesOf (as_events arrivals.now) (as_outcomes outcomes.items)) }
-        ensures worked { OkAfter S.Store self.old self.new result
-            (λ before outcomes. HasWorked before
-            (taken_in (as_events arrivals.now) (as_outcomes outcomes.items))
-            (writes_of self.old) (writes_of self.new)) }
         ensures refused { OnErr result (self.new ≡ self.old) }
         ensures honest { WasHonest S.Store self.old self.new }
     {
@@ -105,27 +96,26 @@ impl<S: Alter> Desk<S> {
         let _writes = self.store.writes();
         let mut outcomes = Vec::with_capacity(alloc, arrivals.len())?;
         for arrival in arrivals {
-            let outcome = self.take(alloc, arrival);
+            let outcome = self.take_arrival(alloc, arrival);
             outcomes.push_reserved(outcome);
         }
         Ok(outcomes)
     }
 
-    fn take_event(&mut self, alloc: Global, event: &Event<'_>) -> EventOutcome
+    /// Takes one event, and returns its outcome: by [`Desk::arrive`], [`Desk::amend`] or
+    /// [`Desk::as_of`]. It has the contract of [`Desk::run_events`] over this event alone.
+    pub fn take(&mut self, alloc: Global, event: &Event<'_>) -> EventOutcome
         ensures taken { After S.Store self.old self.new
-            (λ e. Takes S.Store self.new e event.now result) }
+            (λ e. Takes S.Store self.old self.new e event.now result) }
         ensures crash { CrashAfter S.Store self.old
             (λ e doubtful. DeskLeavesEvent S.Store self.new e doubtful event.now result) }
         ensures cause { IsOutcomeOf event.now result }
-        ensures worked { After S.Store self.old self.new
-            (λ e. HasWorked e (taken_by event.now result)
-            (writes_of self.old) (writes_of self.new)) }
         ensures honest { WasHonest S.Store self.old self.new }
     {
         // Read for the proof alone: it shows that the count is below 2^64.
         let _writes = self.store.writes();
         match event {
-            Event::Arrival(arrival) => EventOutcome::Arrived(self.take(alloc, arrival)),
+            Event::Arrival(arrival) => EventOutcome::Arrived(self.take_arrival(alloc, arrival)),
             Event::Amend(text) => match self.amend(alloc, text) {
                 Ok((added, _work)) => EventOutcome::Amended(Ok(added)),
                 Err(fault) => EventOutcome::Amended(Err(fault)),
@@ -137,16 +127,13 @@ impl<S: Alter> Desk<S> {
         }
     }
 
-    fn take(&mut self, alloc: Global, arrival: &Arrival<'_>) -> Outcome
+    fn take_arrival(&mut self, alloc: Global, arrival: &Arrival<'_>) -> Outcome
         ensures taken { After S.Store self.old self.new
-            (λ e. Takes S.Store self.new e (as_event arrival.now) (as_outcome result)) }
+            (λ e. Takes S.Store self.old self.new e (as_event arrival.now) (as_outcome result)) }
         ensures crash { CrashAfter S.Store self.old
             (λ e doubtful. DeskLeavesEvent S.Store self.new e doubtful
             (as_event arrival.now) (as_outcome result)) }
         ensures cause { IsOutcomeOf (as_event arrival.now) (as_outcome result) }
-        ensures worked { After S.Store self.old self.new
-            (λ e. HasWorked e (taken_by (as_event arrival.now) (as_outcome result))
-            (writes_of self.old) (writes_of self.new)) }
         ensures honest { WasHonest S.Store self.old self.new }
     {
         // Read for the proof alone: it shows that the count is below 2^64.

@@ -18,6 +18,7 @@ use Rattle.std.specs.Prelude.{
 use Rattle.std.specs.Global.{Vec}
 use Rattle.sqlite_trees.specs.declared.store.Store.{Ghosts}
 use Rattle.httparse.specs.Grammar.{RequestHead}
+use Rattle.esc_apply.specs.declared.moves.Work.{Work}
 use Rattle.esc_store.specs.declared.fault.SFault.{SFault}
 use Rattle.esc_store.specs.Faults.{IsS1OrS2, IsS1OrS2OrS4OrS5}
 use Rattle.esc_store.specs.ReplyValue.{ReplyValue}
@@ -31,11 +32,9 @@ use Rattle.esc_desk.specs.Calls.{
   DeskLeavesTaken,
   ServesStill,
   Stays,
-  HadRoom,
-  HadPlace,
+  Answers,
   IsCause,
 }
-use Rattle.esc_desk.specs.Serving.{Answers}
 use Rattle.esc_request.specs.declared.reports.Report.{Report}
 use Rattle.esc_request.specs.declared.refusal.Refusal.{Refusal}
 use Rattle.esc_request.specs.declared.refusal.Refusal.TheVariants.{BadRequest}
@@ -98,14 +97,11 @@ module _ {S : Type 0} (g : Ghosts S) (old new : Desk S) where
   abbrev pub LeavesStill : Type 0
   LeavesStill = CrashAfter g old (λ e doubtful. DeskLeaves g new e doubtful)
 
-  -- the arrival was taken, with this reply, which the text gives: the desk serves the events before
-  -- and this one; it is a duplicate, or there was room for one more receipt, and a place to park
-  -- its body if it was to be parked
+  -- the arrival was answered, with this reply, which the text gives
   pub record TakesArrival (a : ArrivalValue) (text : List ℕ) : Type 0 where
     pub reply : ReplyValue
-    pub answers : After g old new (λ e. Answers g new e a reply)
-    pub room : After g old new (λ e. HadRoom e a)
-    pub place : After g old new (λ e. HadPlace e a)
+    pub work : Work
+    pub answers : After g old new (λ e. Answers g new e a reply work)
     pub left : LeavesAfter a (Ok reply)
     pub told : IsOrMemory (reply_response reply) text
 

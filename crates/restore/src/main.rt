@@ -18,8 +18,9 @@
 //!   (`parked`), the `moment` that is set, or all `receipts`.
 //! - `restore export --store FILE KIND` prints the export of one kind of objects.
 //!
-//! Each arrival, each amendment and each moment is a run of the desk
-//! ([`esc_desk::Desk::run_events`]), whose contract says what the store stands for afterwards.
+//! Each arrival, each amendment and each moment is a call of the desk ([`esc_desk::Desk::arrive`],
+//! [`esc_desk::Desk::amend`], [`esc_desk::Desk::as_of`]), whose contract says what the store stands
+//! for afterwards.
 //!
 //! Refusals go to standard error, one a line: `E1 PATH` for a file or folder that can't be read,
 //! listed or written, `E2 NAME` for a file over 16,777,216 bytes, `E3 MOMENT` for a word that is no

@@ -8,8 +8,5 @@ returns c = record {
   not_held = refl;
   again = refl;
   held = refl;
-  parked = refl;
-  adopted = refl;
-  parked_no_more = refl;
   domains = refl;
 }

@@ -5,16 +5,15 @@ use Rattle.esc_http.proofs.answer.answer_arrival.Goals as goal
 pub returns-in-Ok-clause-answers : goal.returns-in-Ok-clause-answers
 returns-in-Ok-clause-answers g c = inl (record {
   reply = _;
+  work = _;
   answers = λ clean e serves. c.in-Ok.ensures.answered clean e serves;
-  room = λ clean e serves none. c.in-Ok.ensures.room clean e serves none;
-  place = λ clean e serves apart no. c.in-Ok.ensures.place clean e serves apart no;
   left = λ e doubtful serves left. c.in-Ok.ensures.crash e doubtful serves left;
   told = text_is _ c.reply_response.result c.reply_response.ensures;
 })
 
 pub returns-in-Err-clause-answers : goal.returns-in-Err-clause-answers
 returns-in-Err-clause-answers g c = inr (record {
-  kept = c.in-Err.ensures.lost;
+  kept = c.in-Err.ensures.whole.lost;
   fault = c.in-Err.cause;
   is_one = c.in-Err.ensures.cause;
   cause = c.in-Err.ensures.full;

@@ -9,29 +9,22 @@ use Rattle.esc_events.specs.Events.EventValue.{listed}
 use Rattle.esc_store.specs.declared.fault.SFault.TheVariants.{S2}
 use Rattle.esc_events.specs.Works.{IsWorkOf, no_work}
 use Rattle.esc_desk.specs.Asked.{amendment_of}
-use Rattle.esc_desk.specs.Amendments.{IsUnionWith, IsRefusedUnion}
+use Rattle.esc_desk.specs.Amendments.{IsUnionWith}
 use Rattle.esc_desk.specs.Serving.{DeskServes}
 use Rattle.esc_desk.specs.Crashes.{CrashLeaves, doubtful_with}
-use Rattle.esc_desk.proofs.NoRowMore.{new_count, alike_none, stands_none, works_none, amendment_is, rows_of_store, leaves_alike, leaves_before, leaves_lost}
-use Rattle.esc_desk.proofs.CrashLemmas.{if_clean, leaves_only}
+use Rattle.esc_desk.proofs.NoRowMore.{new_count, alike_none, stands_none, works_none, amendment_is, leaves_alike, leaves_before}
+use Rattle.esc_desk.proofs.CrashLemmas.{made_at, refused_at}
+use Rattle.esc_desk.proofs.Whole.{whole_as, whole_failed}
 use Rattle.esc_desk.proofs.desk.Desk.amend.Goals as goal
 
 pub returns-in-Err-NoMemory-clause-crash : goal.returns-in-Err-NoMemory-clause-crash
 returns-in-Err-NoMemory-clause-crash g c = λ e doubtful served left. leaves_before g.S.Store _ e doubtful (amendment_of c.args.text.now) S2 left
 
 pub returns-in-Err-Refused-clause-cause : goal.returns-in-Err-Refused-clause-cause
-returns-in-Err-Refused-clause-cause g c = λ clean e served.
-    let serves = served.serves in
+returns-in-Err-Refused-clause-cause g c =
     let is = c.in-Err-Refused.field-0-is in
-    let first : c.args.self.now.store.manifest ≡ union e = rows_of_store g.S.Store _ _ serves.stands ∙ serves.stands_for.books.listed in
     let refused = c.union_with.ensures.refused c.in-Err-Refused.code c.in-Err-Refused.row (c.in-Err-Refused.is ∙ ap (λ (f : MFault). Err f) is) in
-    rw is (subst (λ (m : List MRow). IsRefusedUnion m c.args.text.now c.in-Err-Refused.code c.in-Err-Refused.row) first refused)
-
-pub returns-in-Err-Refused-clause-fault : goal.returns-in-Err-Refused-clause-fault
-returns-in-Err-Refused-clause-fault g c =
-    let is = c.in-Err-Refused.field-0-is in
-    let numbers = c.union_with.ensures.numbers c.in-Err-Refused.code c.in-Err-Refused.row (c.in-Err-Refused.is ∙ ap (λ (f : MFault). Err f) is) in
-    rw is numbers
+    rw is refused
 
 pub returns-then-added-eq0-clause-amended : goal.returns-then-added-eq0-clause-amended
 returns-then-added-eq0-clause-amended g c = λ clean e served.
@@ -76,7 +69,7 @@ returns-in-Ok-list_more-clause-amended g c = λ clean e served.
     let u = subst (λ (m : List MRow). IsUnionWith m c.args.text.now c.in-Ok.union) (sym c.manifest.ensures.manifest ∙ first) c.in-Ok.ensures.united in
     let count : length c.rows.result.now - length c.rows-2.result.now ≡ length (new_rows (union e) u.rows) =
     ap₂ (λ (a b : List MRow). length a - length b) (c.rows.ensures.rows ∙ u.is_union) (c.rows-2.ensures.rows ∙ first) ∙ new_count (union e) u.rows in
-    let made = IfOk-at_ok _ c.in-Ok-list_more.is (c.list_more.ensures.made clean e k u.rows serves.stands stood served.remembers u.is_union) in
+    let made = IfOk-at_ok _ c.in-Ok-list_more.is (c.list_more.ensures.made u.rows clean e served) u.is_union in
     let is = sym (amendment_is c.args.text.now u.rows u.read) in
     record {
       adds = record { rows = u.rows; read = u.read; accepted = u.accepted ∙ ap (λ (m : List MRow). Ok m) u.is_union; count_is = count };
@@ -86,25 +79,34 @@ returns-in-Ok-list_more-clause-amended g c = λ clean e served.
     }
 
 pub returns-in-Ok-list_more-clause-crash : goal.returns-in-Ok-list_more-clause-crash
-returns-in-Ok-list_more-clause-crash g c = λ e doubtful served left. if_clean g.S.Store _ _ _ (λ clean.
+returns-in-Ok-list_more-clause-crash g c = λ e doubtful served left.
     let serves = served.serves in
-    let k = serves.kept in
-    let stood = serves.stands_for in
-    let first : c.manifest.result.now ≡ union e = c.manifest.ensures.kept k serves.stands ∙ stood.books.listed in
+    let first : c.manifest.result.now ≡ union e = c.manifest.ensures.kept serves.kept serves.stands ∙ serves.stands_for.books.listed in
     let u = subst (λ (m : List MRow). IsUnionWith m c.args.text.now c.in-Ok.union) (sym c.manifest.ensures.manifest ∙ first) c.in-Ok.ensures.united in
-    let made = IfOk-at_ok _ c.in-Ok-list_more.is (c.list_more.ensures.made clean e k u.rows serves.stands stood served.remembers u.is_union) in
+    let leaves = made_at g.S.Store _ e doubtful (listed u.rows) c.in-Ok-list_more.is (c.list_more.ensures.crash u.rows e doubtful served left u.is_union) in
     let some : ((length c.rows.result.now - length c.rows-2.result.now) == 0) ≡ false = grind (arith, nat_tests, c.if-added-eq0.false) in
     subst (λ (t : Bool). CrashLeaves g.S.Store c.list_more.new.self.store.conn (e ++ amendment_of c.args.text.now ∷ []) (cond t doubtful [])) (sym some)
-    (subst (λ (x : EventValue). CrashLeaves g.S.Store c.list_more.new.self.store.conn (e ++ x ∷ []) []) (sym (amendment_is c.args.text.now u.rows u.read))
-    (leaves_only g.S.Store c.list_more.new.self.store.conn (e ++ listed u.rows ∷ []) made.left)))
+    (subst (λ (x : EventValue). CrashLeaves g.S.Store c.list_more.new.self.store.conn (e ++ x ∷ []) []) (sym (amendment_is c.args.text.now u.rows u.read)) leaves)
 
 pub returns-in-Err-clause-crash : goal.returns-in-Err-clause-crash
-returns-in-Err-clause-crash g c = λ e doubtful served left. if_clean g.S.Store _ _ _ (λ clean.
+returns-in-Err-clause-crash g c = λ e doubtful served left.
     let serves = served.serves in
-    let k = serves.kept in
-    let stood = serves.stands_for in
-    let first : c.manifest.result.now ≡ union e = c.manifest.ensures.kept k serves.stands ∙ stood.books.listed in
+    let first : c.manifest.result.now ≡ union e = c.manifest.ensures.kept serves.kept serves.stands ∙ serves.stands_for.books.listed in
     let u = subst (λ (m : List MRow). IsUnionWith m c.args.text.now c.in-Ok.union) (sym c.manifest.ensures.manifest ∙ first) c.in-Ok.ensures.united in
-    subst (λ (x : EventValue). CrashLeaves g.S.Store c.list_more.new.self.store.conn e (doubtful_with c.in-Err.fault x doubtful)) (sym (amendment_is c.args.text.now u.rows u.read))
-    (leaves_lost g.S.Store c.args.self.now.store.conn c.list_more.new.self.store.conn e doubtful (listed u.rows) c.list_more.result c.in-Err.fault c.in-Err.is left
-    (c.list_more.ensures.crash clean e k u.rows serves.stands stood served.remembers u.is_union)))
+    let leaves = refused_at g.S.Store _ e doubtful (listed u.rows) c.in-Err.is (c.list_more.ensures.crash u.rows e doubtful served left u.is_union) in
+    subst (λ (x : EventValue). CrashLeaves g.S.Store c.list_more.new.self.store.conn e (doubtful_with c.in-Err.fault x doubtful)) (sym (amendment_is c.args.text.now u.rows u.read)) leaves
+
+pub returns-in-Err-Refused-clause-whole : goal.returns-in-Err-Refused-clause-whole
+returns-in-Err-Refused-clause-whole g c = record { honest = λ clean. clean; counted = tt; uncounted = refl; lost = λ e served. served }
+
+pub returns-in-Err-NoMemory-clause-whole : goal.returns-in-Err-NoMemory-clause-whole
+returns-in-Err-NoMemory-clause-whole g c = record { honest = λ clean. clean; counted = tt; uncounted = refl; lost = λ e served. served }
+
+pub returns-then-added-eq0-clause-whole : goal.returns-then-added-eq0-clause-whole
+returns-then-added-eq0-clause-whole g c = record { honest = λ clean. clean; counted = omega arith; uncounted = tt; lost = tt }
+
+pub returns-in-Ok-list_more-clause-whole : goal.returns-in-Ok-list_more-clause-whole
+returns-in-Ok-list_more-clause-whole g c = whole_as g.S.Store c.in-Ok-list_more.is refl c.list_more.ensures.whole
+
+pub returns-in-Err-clause-whole : goal.returns-in-Err-clause-whole
+returns-in-Err-clause-whole g c = whole_failed g.S.Store c.in-Err.is c.list_more.ensures.whole

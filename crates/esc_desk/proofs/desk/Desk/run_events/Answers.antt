@@ -2,11 +2,10 @@ use Rattle.std.proofs.Common.{◌≡◌, ◌+◌, ◌++◌, [], ◌∷◌, List,
 use Rattle.std.proofs.lemmas.List.{take_all, take_more}
 use Rattle.std.proofs.lemmas.Grind.{common_steps}
 use Rattle.esc_desk.specs.declared.event.Event.{Event}
-use Rattle.esc_desk.specs.Asked.{taken_in}
-use Rattle.esc_desk.specs.Calls.{DeskLeavesRun, writes_of}
-use Rattle.esc_desk.specs.Outcomes.{AreOutcomesOf, HasWorked}
+use Rattle.esc_desk.specs.Calls.{DeskLeavesRun}
+use Rattle.esc_desk.specs.Outcomes.{AreOutcomesOf}
 use Rattle.esc_desk.specs.Running.{Ran}
-use Rattle.esc_desk.proofs.RunLemmas.{ran_none, ran_more, left_more, outcomes_more, worked_none, worked_more, leaves_without}
+use Rattle.esc_desk.proofs.RunLemmas.{ran_none, ran_more, left_more, outcomes_more, leaves_without}
 use Rattle.esc_desk.proofs.CrashLemmas.{if_clean}
 use Rattle.esc_desk.proofs.desk.Desk.run_events.Goals as goal
 
@@ -17,9 +16,8 @@ loop-event-init g c =
       counted = rw none refl;
       room = omega (arith, c.in_ok-outcomes.ensures.capacity);
       honest = λ clean. clean;
-      ran = λ clean before served. rw none (ran_none g.S.Store c.args.self.now before served);
+      ran = λ clean before served. rw none (ran_none g.S.Store c.args.self.now before (omega arith) served);
       cause = rw none tt;
-      worked = λ clean before served. worked_none before (writes_of c.args.self.now) (omega arith);
       crash = λ before doubtful served start. leaves_without g.S.Store c.args.self.now before doubtful start;
     }
 
@@ -28,43 +26,33 @@ loop-event-preserved g c =
     let all = c.args.events.now in
     let i = c.loop-event.event-index in
     let x : Event = c.event-item.result in
-    let o = c.take_event-outcome.result in
+    let o = c.take-outcome.result in
     let xs = take i all in
     let os = c.loop-event.outcomes.items in
     let more : take (i + 1) all ≡ take i all ++ x ∷ [] = take_more all i x c.loop-event-test.true ∙ ap (λ (y : Event). take i all ++ y ∷ []) (sym c.event-item.is) in
     record {
       counted = grind (arith, common_steps);
       room = omega arith;
-      honest = λ clean. c.loop-event.invariant.honest (c.take_event-outcome.ensures.honest clean);
+      honest = λ clean. c.loop-event.invariant.honest (c.take-outcome.ensures.honest clean);
       ran = λ clean before served.
-          let past = c.take_event-outcome.ensures.honest clean in
+          let past = c.take-outcome.ensures.honest clean in
           let ran = c.loop-event.invariant.ran past before served in
-          rw (more, c.push_reserved.ensures.items) (ran_more g.S.Store c.loop-event.self c.take_event-outcome.new.self before xs os x o ran (c.take_event-outcome.ensures.taken clean));
-      cause = rw (more, c.push_reserved.ensures.items) (outcomes_more xs os x o c.loop-event.invariant.cause c.take_event-outcome.ensures.cause);
-      worked = λ clean before served.
-          let past = c.take_event-outcome.ensures.honest clean in
-          let ran = c.loop-event.invariant.ran past before served in
-          let worked = c.loop-event.invariant.worked past before served in
-          rw (more, c.push_reserved.ensures.items) (worked_more before (before ++ taken_in xs os) xs os x o _ _ _ ran.answers worked (c.take_event-outcome.ensures.worked clean _ ran.serves));
-      crash = λ before doubtful served start. rw (more, c.push_reserved.ensures.items) (if_clean g.S.Store c.take_event-outcome.new.self.store.conn _ _ (λ clean.
-          let past = c.loop-event.invariant.ran (c.take_event-outcome.ensures.honest clean) before served in
+          rw (more, c.push_reserved.ensures.items) (ran_more g.S.Store c.args.self.now c.loop-event.self c.take-outcome.new.self before xs os x o ran (c.take-outcome.ensures.taken clean));
+      cause = rw (more, c.push_reserved.ensures.items) (outcomes_more xs os x o c.loop-event.invariant.cause c.take-outcome.ensures.cause);
+      crash = λ before doubtful served start. rw (more, c.push_reserved.ensures.items) (if_clean g.S.Store c.take-outcome.new.self.store.conn _ _ (λ clean.
+          let past = c.loop-event.invariant.ran (c.take-outcome.ensures.honest clean) before served in
           let left = c.loop-event.invariant.crash before doubtful served start in
-          left_more g.S.Store c.take_event-outcome.new.self before doubtful _ xs os x o past.answers (c.take_event-outcome.ensures.crash _ _ past.serves left)));
+          left_more g.S.Store c.take-outcome.new.self before doubtful _ xs os x o past.answers (c.take-outcome.ensures.crash _ _ past.serves left)));
     }
 
 pub returns-clause-ran : goal.returns-clause-ran
 returns-clause-ran g c = λ clean before served.
-    subst (λ (xs : List Event). Ran g.S.Store c.loop-event.self before xs c.loop-event.outcomes.items)
+    subst (λ (xs : List Event). Ran g.S.Store c.args.self.now c.loop-event.self before xs c.loop-event.outcomes.items)
     (take_all _ _ (omega arith)) (c.loop-event.invariant.ran clean before served)
 
 pub returns-clause-cause : goal.returns-clause-cause
 returns-clause-cause g c =
     subst (λ (xs : List Event). AreOutcomesOf xs c.loop-event.outcomes.items) (take_all _ _ (omega arith)) c.loop-event.invariant.cause
-
-pub returns-clause-worked : goal.returns-clause-worked
-returns-clause-worked g c = λ clean before served.
-    subst (λ (xs : List Event). HasWorked before (taken_in xs c.loop-event.outcomes.items) (writes_of c.args.self.now) (writes_of c.loop-event.self))
-    (take_all _ _ (omega arith)) (c.loop-event.invariant.worked clean before served)
 
 pub returns-clause-crash : goal.returns-clause-crash
 returns-clause-crash g c = λ before doubtful served start.

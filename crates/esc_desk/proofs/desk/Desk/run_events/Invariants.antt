@@ -1,9 +1,8 @@
 use Rattle.std.proofs.Common.{◌≡◌, ◌≤◌, List, length, take, vec_capacity}
 use Rattle.esc_store.specs.Standing.{IsHonest}
 use Rattle.esc_events.specs.Events.{EventValue}
-use Rattle.esc_desk.specs.Asked.{taken_in}
-use Rattle.esc_desk.specs.Calls.{DeskLeaves, DeskLeavesRun, writes_of}
-use Rattle.esc_desk.specs.Outcomes.{AreOutcomesOf, HasWorked}
+use Rattle.esc_desk.specs.Calls.{DeskLeaves, DeskLeavesRun}
+use Rattle.esc_desk.specs.Outcomes.{AreOutcomesOf}
 use Rattle.esc_desk.specs.Running.{Ran}
 use Rattle.esc_desk.specs.Serving.{DeskServes}
 use Rattle.esc_desk.proofs.desk.Desk.run_events.Given as goal
@@ -15,10 +14,8 @@ invariant-loop-event g l = record {
   room : length l.events ≤ vec_capacity l.outcomes;
   honest : IsHonest g.S.Store l.self.store → IsHonest g.S.Store l.fn.self.store;
   ran : IsHonest g.S.Store l.self.store → (before : List EventValue) → DeskServes g.S.Store l.fn.self before
-      → Ran g.S.Store l.self before (take l.event-index l.events) l.outcomes.items;
+      → Ran g.S.Store l.fn.self l.self before (take l.event-index l.events) l.outcomes.items;
   cause : AreOutcomesOf (take l.event-index l.events) l.outcomes.items;
-  worked : IsHonest g.S.Store l.self.store → (before : List EventValue) → DeskServes g.S.Store l.fn.self before
-      → HasWorked before (taken_in (take l.event-index l.events) l.outcomes.items) (writes_of l.fn.self) (writes_of l.self);
   crash : (before doubtful : List EventValue) → DeskServes g.S.Store l.fn.self before → DeskLeaves g.S.Store l.fn.self before doubtful
       → DeskLeavesRun g.S.Store l.self before doubtful (take l.event-index l.events) l.outcomes.items;
 }
