@@ -1,11 +1,14 @@
 """The desk on a socket."""
 import contextlib, os, resource, socket, time
 
+from support.clients import export, parked, receipts, refusal
+from support.first_store import record
+from support.formats import KINDS
 from support.messages import CONTACT, get, put, response
 from support.outputs import check_narrow, run_narrow
 from support.sockets import HOST, breaks_off, free_port, received
 from support.stage import SECONDS, Failed, Got, Wanted, difference, pieces_of
-from support.steps import Copy
+from support.steps import Copy, Parked, Statements, insertion
 
 # How many ports are tried.
 PORTS = 5
@@ -163,26 +166,97 @@ def test_broken_connections(stage):
             compare_responses((AROUND, AROUND), served(stage, 'a.db', 4, responses_around_broken, told, **streams))
 
 
-# For how many seconds a client that sends nothing more is waited for.
-GRANTED = 10
+# For how many seconds a client is waited for, and the bytes that earn one second more.
+GRANTED, EARNING = 10, 65_536
+# A cell so long that no connection holds an export with it, and the response that has it.
+CELL = 2_000_000 * 'x'
+LONG = export('contact,C1,contact,0,id,C1', f'contact,C1,contact,0,clID,{CELL}')
 
 
-def responses_beside_silent(port):
-    """The response to a request, while a client that came before sends the beginning of one and then nothing more."""
-    with socket.create_connection((HOST, port), SECONDS) as silent:
-        silent.sendall(AROUND[0][:8].encode())
+def response_since(begun, port):
+    """The response to a request, and how many seconds have passed then."""
+    return responses_of(port, AROUND[:1]), time.monotonic() - begun
+
+
+def check_time(seconds, moved):
+    """Compares for how long the desk waited for a client that moved so many bytes. (Its own work comes on top.)"""
+    granted = GRANTED + moved // EARNING
+    if not granted - 1 <= seconds < granted + GRANTED:
+        raise Failed(f'a client that is granted {granted} seconds was waited for {seconds:.1f} seconds')
+
+
+def check_silent(stage, said):
+    """A client that came before sends this, and then nothing more."""
+    def ask(port):
         begun = time.monotonic()
-        responses = responses_of(port, AROUND[:1])
-        waited = time.monotonic() - begun
-    if waited < GRANTED - 1:
-        raise Failed(f'the silent client was waited for {waited:.1f} seconds')
-    return responses
+        with socket.create_connection((HOST, port), SECONDS) as silent:
+            silent.sendall(said.encode())
+            responses, seconds = response_since(begun, port)
+        check_time(seconds, len(said))
+        return responses
+
+    set_up(stage)
+    compare_responses((AROUND,), served(stage, 'a.db', 2, ask, 'read fault\n'))
 
 
 def test_silent_client(stage):
     """A client that sends nothing more is given up in time, and the next one is served."""
+    check_silent(stage, AROUND[0][:8])
+
+
+def test_client_that_sends_nothing(stage):
+    """A client that sends nothing is given up in time, and the next one is served."""
+    check_silent(stage, '')
+
+
+def responses_beside_idle(port):
+    """The response to a request, while a client that came before takes nothing of its own; and what there is of that in the end."""
+    begun = time.monotonic()
+    with socket.socket() as idle:
+        # Neither side of such a connection holds much of what isn't taken.
+        idle.setsockopt(socket.SOL_SOCKET, socket.SO_RCVBUF, 1)
+        idle.setsockopt(socket.IPPROTO_TCP, socket.TCP_MAXSEG, 536)
+        idle.settimeout(SECONDS)
+        idle.connect((HOST, port))
+        idle.sendall(get('/export/contact').encode())
+        responses, seconds = response_since(begun, port)
+        taken = received(idle)
+    check_time(seconds, len(taken))
+    return [*responses, taken]
+
+
+def test_client_that_takes_nothing(stage):
+    """A client that takes nothing of a long response is given up in time, and the next one is served."""
     set_up(stage)
-    compare_responses((AROUND,), served(stage, 'a.db', 2, responses_beside_silent, 'read fault\n'))
+    long = record([('contact', [('id', 'C1'), ('clID', CELL)])])
+    Statements('a.db', insertion('object', (KINDS.index('contact'), b'C1', long))).do(stage)
+    *responses, taken = served(stage, 'a.db', 2, responses_beside_idle, 'write fault\n')
+    compare_responses((AROUND,), responses)
+    if not taken or len(taken) == len(LONG) or not LONG.encode().startswith(taken):
+        raise Failed(f'{len(taken)} bytes that came are no beginning of the response: {taken[:400]!r}')
+    # Whoever takes it gets all of it.
+    check_responses(stage, 'a.db', [(get('/export/contact'), LONG)])
+
+
+# The last receipt that there may be, and what is put to a store that has all but this one.
+LAST = 1_000_000_000
+NO_ROOM = refusal('503 Service Unavailable', 'S4')
+AT_LAST = (
+    (put('n2', 3, 'abc'), parked(LAST, 'n2')),
+    (put('n3', 3, 'abd'), NO_ROOM),
+    (put('n1', 228, CONTACT), NO_ROOM),
+    (put('n2', 3, 'abc'), parked(LAST, 'n2')),
+    (get('/receipts'), receipts(f'{LAST - 1},0001,A5,,,,,', f'{LAST},n2,A5,,,,,')),
+)
+
+
+def test_no_room_for_another_receipt(stage):
+    """No room for another receipt."""
+    set_up(stage)
+    Parked('a.db', 1).do(stage)
+    # (The next receipt goes by the last one alone.)
+    Statements('a.db', f'UPDATE receipt SET receipt = {LAST - 1}').do(stage)
+    check_responses(stage, 'a.db', AT_LAST)
 
 
 def test_taken_port(stage):

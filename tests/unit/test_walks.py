@@ -1,0 +1,96 @@
+"""That no arrival is taken while a walk over the desk's objects lives. A walk borrows the desk, so a program that does it is refused by the
+borrow check, before any proof; and an edit of a crate that does not compile counts for nothing in `rt ci`."""
+import pathlib, shutil, subprocess, tempfile, unittest
+
+from support import TOP
+
+# How many seconds the compiler may take.
+SECONDS = 300
+ARRIVAL = '    desk.arrive(alloc, number, body)?;'
+PROGRAM = f'''//! Walks over a desk's objects, and arrivals.
+#![tactic(auto)]
+
+use esc_apply::Objects;
+use esc_desk::Desk;
+use esc_store::{{Number, SFault}};
+use sqlite::Alter;
+use std::alloc::Global;
+
+pub fn arrive_after_walk<S: Alter>(
+    alloc: Global,
+    desk: &mut Desk<S>,
+    number: &Number<'_>,
+    body: &[u8],
+) -> Result<(), SFault> {{
+    let mut walk = desk.walk(alloc, None)?;
+    walk.next()?;
+    walk.next()?;
+    drop(walk);
+{ARRIVAL}
+    Ok(())
+}}
+
+pub fn arrive_during_walk<S: Alter>(
+    alloc: Global,
+    desk: &mut Desk<S>,
+    number: &Number<'_>,
+    body: &[u8],
+) -> Result<(), SFault> {{
+    let mut walk = desk.walk(alloc, None)?;
+    walk.next()?;
+{ARRIVAL}
+    walk.next()?;
+    Ok(())
+}}
+'''
+REFUSED = 'error[borrow-e0499]: cannot borrow `*desk` as mutable more than once at a time'
+
+
+def listed_crates():
+    """The crates of this checkout, each with the libraries that it uses."""
+    lines = pathlib.Path(TOP, 'crates.txt').read_text().splitlines()
+    crates = (it.split(':') for it in lines if it and not it.startswith('#'))
+    return {head.split()[0]: uses.split() for head, uses in crates}
+
+
+def with_those_below(crates, name):
+    """A crate and those below it, the lowest first."""
+    below = [it for used in crates[name] if used in crates for it in with_those_below(crates, used)]
+    return list(dict.fromkeys([*below, name]))
+
+
+def words_over_desk(kit):
+    """The words by which the compiler reads a crate over the desk, and the sources of the crates below. It proves none of its functions."""
+    crates = listed_crates()
+    own = with_those_below(crates, 'esc_desk')
+    libraries = dict.fromkeys(['core', 'std', *(it for name in own for it in crates[name] if it not in crates)])
+    words = ['check', '--crate-name', 'walks', 'src/lib.rt', '--links', 'walks=', '--jobs', '1', '--only', '']
+    words += ['--antt-project', f'{kit}/rattle/logic/antt-project.json', '--logic-built', f'{kit}/logic_built']
+    for name in libraries:
+        words += ['--extern', f'{name}={kit}/rlibs/{name}.rlib']
+    for name in own:
+        words += ['--lib', f'{name}:{",".join(["core", "std", *crates[name]])}={TOP}/crates/{name}/src/lib.rt']
+    return [*words, '-L', f'dependency={kit}/rlibs']
+
+
+def said_of(kit, text):
+    """What the compiler says of a crate of one file over the desk, line by line, without its notes."""
+    with tempfile.TemporaryDirectory(prefix='walks-') as crate:
+        source = pathlib.Path(crate, 'src', 'lib.rt')
+        source.parent.mkdir()
+        source.write_text(text)
+        ran = subprocess.run([f'{kit}/bin/rattle', *words_over_desk(kit)], cwd=crate, stdin=subprocess.DEVNULL, stdout=subprocess.PIPE,
+                             stderr=subprocess.STDOUT, text=True, timeout=SECONDS)
+    return [it.partition(': note')[0] for it in ran.stdout.splitlines()]
+
+
+class Walks(unittest.TestCase):
+    def test_an_arrival_during_a_walk_does_not_compile(self):
+        command = shutil.which('rt')
+        self.assertIsNotNone(command, 'the Rattle toolchain is missing: no command rt on the PATH')
+        # The compiler looks at each function, and finds nothing wrong with the one whose arrival comes after the walk.
+        lines = PROGRAM.splitlines()
+        after, during = (at for at, line in enumerate(lines, 1) if line == ARRIVAL)
+        self.assertLess(after, during)
+        said = said_of(pathlib.Path(command).resolve().parents[1], PROGRAM)
+        self.assertEqual(said, [f'src/lib.rt:{during}:5: {REFUSED}'])
