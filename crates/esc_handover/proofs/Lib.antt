@@ -1,1 +1,3 @@
+pub mod Applied
 pub mod Places
+pub mod Restoring

@@ -16,11 +16,7 @@ use Rattle.esc_envelope.specs.Kinds.{is_kind}
 use Rattle.esc_tables.specs.DepositValue.{DepositValue}
 use Rattle.esc_tables.specs.Reading.{reading}
 use Rattle.esc_tables.specs.KeyName.{KeyName}
-use Rattle.esc_tables.specs.ObjectValue.{ObjectValue}
-
--- a key and its object
-abbrev pub Entry : Type 0
-Entry = KeyName × ObjectValue
+use Rattle.esc_apply.specs.ObjectStreams.{Entry}
 
 -- how many objects are of a kind
 abbrev pub count_of : List Entry → Kind → ℕ

@@ -66,6 +66,14 @@ fn is_same_key(key: &Key, other: &Key) -> bool
     key.kind == other.kind && key.text.as_str() == other.text.as_str()
 }
 
+/// Whether two keys are the same, and have the same object.
+pub(crate) fn is_same_entry(key: &Key, object: &Object, other_key: &Key, other: &Object) -> bool
+    ensures key { result ≡ true → key.now ≡ other_key.now }
+    ensures object { result ≡ true → object.now ≡ other.now }
+{
+    is_same_key(key, other_key) && is_same_object(object, other)
+}
+
 /// Whether two tables have the same objects under the same keys.
 pub(crate) fn are_same_tables(
     tables: &BTreeMap<Key, Object>,
