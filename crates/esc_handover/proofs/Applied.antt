@@ -67,9 +67,11 @@ one_removed_more keys i key old mid new lt is before removed q =
     both true false = refl
     both false true = refl
     both false false = refl
+
     alone : (b : Bool) → (b || false) ≡ b
     alone true = refl
     alone false = refl
+
     parts : list_any (key_eq q) (take (i + 1) keys) ≡ (list_any (key_eq q) (take i keys) || key_eq key q)
     parts =
         ap (list_any (key_eq q)) (take_more keys i key lt)

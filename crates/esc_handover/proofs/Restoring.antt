@@ -74,7 +74,7 @@ no_other q held =
     ]
 
 module _ (digest : List ℕ → List ℕ) (reads : List ℕ → Result DepositValue ℕ) (id : List ℕ) (w : ℤ) (es : List Entry) (body number : List ℕ)
-  (full : reads body ≡ Ok (full_of id w es)) where
+    (full : reads body ≡ Ok (full_of id w es)) where
   abbrev row : MRow
   row = record { header = full_header id w; digest = digest body }
 

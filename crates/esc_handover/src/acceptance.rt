@@ -193,5 +193,7 @@ pub fn is_accepted(seen: &Seen<'_>) -> bool
     ensures { result ≡ is_accepted seen.now }
 {
     let tests = all_tests();
-    tests.iter().all(|test| test.is_told_alone() || passes(*test, seen))
+    tests
+        .iter()
+        .all(|test| test.is_told_alone() || passes(*test, seen))
 }

@@ -87,11 +87,7 @@ fn resends_detail(alloc: Global, gaps: &[GapLine]) -> Result<String, NoMemory> {
     )?)
 }
 
-fn gaps_detail(
-    alloc: Global,
-    end: Option<Place>,
-    gaps: &[GapLine],
-) -> Result<String, NoMemory> {
+fn gaps_detail(alloc: Global, end: Option<Place>, gaps: &[GapLine]) -> Result<String, NoMemory> {
     let count = gaps.iter().filter(|line| is_passed(end, line)).count();
     let Some(first) = gaps.iter().find(|line| is_passed(end, line)) else {
         return Ok(String::new(alloc));
@@ -150,7 +146,9 @@ fn counts_detail(alloc: Global, counts: &[(Kind, u64)]) -> Result<String, NoMemo
         }
     }
     if !text.is_empty() {
-        text.push_str(" not declared by the chain's last deposit; ask the agent how many there are")?;
+        text.push_str(
+            " not declared by the chain's last deposit; ask the agent how many there are",
+        )?;
     }
     Ok(text)
 }
@@ -158,7 +156,14 @@ fn counts_detail(alloc: Global, counts: &[(Kind, u64)]) -> Result<String, NoMemo
 // The table and the field of a guide: the table's name, or its kind where the parent rows have it.
 fn push_guide(text: &mut String, guide: Guide) -> Result<(), NoMemory> {
     let table = guide.child_name();
-    push_item(text, if table.is_empty() { guide.kind().name() } else { table })?;
+    push_item(
+        text,
+        if table.is_empty() {
+            guide.kind().name()
+        } else {
+            table
+        },
+    )?;
     text.push_str(" ")?;
     text.push_str(guide.field_name())?;
     Ok(())
@@ -172,7 +177,9 @@ fn fields_detail(alloc: Global, seen: &Seen<'_>) -> Result<String, NoMemory> {
         }
     }
     if !text.is_empty() {
-        text.push_str(" declared by no deposit of the chain, and so not checked; ask the agent which fields they are")?;
+        text.push_str(
+            " declared by no deposit of the chain, and so not checked; ask the agent which fields they are",
+        )?;
     }
     Ok(text)
 }
@@ -189,7 +196,9 @@ fn names_detail(alloc: Global, seen: &Seen<'_>) -> Result<String, NoMemory> {
         }
     }
     if !text.is_empty() {
-        text.push_str(" under another name, and so not checked; have the deposits declared by these names")?;
+        text.push_str(
+            " under another name, and so not checked; have the deposits declared by these names",
+        )?;
     }
     Ok(text)
 }

@@ -77,7 +77,14 @@ impl Guide {
             Guide::RegistrarCreation => Kind::Registrar,
             Guide::ContactSponsor | Guide::ContactCreation | Guide::ContactStatus => Kind::Contact,
             Guide::HostSponsor | Guide::HostCreation | Guide::HostStatus => Kind::Host,
-            Guide::DomainSponsor | Guide::DomainRegistrant | Guide::DomainTable | Guide::DomainCreation | Guide::DomainExpiry | Guide::DomainContact | Guide::DomainHost | Guide::DomainStatus => Kind::Domain,
+            Guide::DomainSponsor
+            | Guide::DomainRegistrant
+            | Guide::DomainTable
+            | Guide::DomainCreation
+            | Guide::DomainExpiry
+            | Guide::DomainContact
+            | Guide::DomainHost
+            | Guide::DomainStatus => Kind::Domain,
             Guide::NndnTable => Kind::Nndn,
         }
     }
@@ -87,7 +94,17 @@ impl Guide {
         ensures { result.now ≡ child_name self }
     {
         match self {
-            Guide::RegistrarCreation | Guide::ContactSponsor | Guide::ContactCreation | Guide::HostSponsor | Guide::HostCreation | Guide::DomainSponsor | Guide::DomainRegistrant | Guide::DomainTable | Guide::DomainCreation | Guide::DomainExpiry | Guide::NndnTable => "",
+            Guide::RegistrarCreation
+            | Guide::ContactSponsor
+            | Guide::ContactCreation
+            | Guide::HostSponsor
+            | Guide::HostCreation
+            | Guide::DomainSponsor
+            | Guide::DomainRegistrant
+            | Guide::DomainTable
+            | Guide::DomainCreation
+            | Guide::DomainExpiry
+            | Guide::NndnTable => "",
             Guide::ContactStatus => "contactStatuses",
             Guide::HostStatus => "hostStatuses",
             Guide::DomainContact => "domainContacts",
@@ -101,7 +118,10 @@ impl Guide {
         ensures { result.now ≡ field_name self }
     {
         match self {
-            Guide::RegistrarCreation | Guide::ContactCreation | Guide::HostCreation | Guide::DomainCreation => "crDate",
+            Guide::RegistrarCreation
+            | Guide::ContactCreation
+            | Guide::HostCreation
+            | Guide::DomainCreation => "crDate",
             Guide::ContactSponsor | Guide::HostSponsor | Guide::DomainSponsor => "clID",
             Guide::ContactStatus | Guide::HostStatus | Guide::DomainStatus => "status",
             Guide::DomainRegistrant => "registrant",
@@ -117,7 +137,20 @@ impl Guide {
         ensures { result ≡ leads_to_idn self }
     {
         match self {
-            Guide::RegistrarCreation | Guide::ContactSponsor | Guide::ContactCreation | Guide::ContactStatus | Guide::HostSponsor | Guide::HostCreation | Guide::HostStatus | Guide::DomainSponsor | Guide::DomainRegistrant | Guide::DomainCreation | Guide::DomainExpiry | Guide::DomainContact | Guide::DomainHost | Guide::DomainStatus => false,
+            Guide::RegistrarCreation
+            | Guide::ContactSponsor
+            | Guide::ContactCreation
+            | Guide::ContactStatus
+            | Guide::HostSponsor
+            | Guide::HostCreation
+            | Guide::HostStatus
+            | Guide::DomainSponsor
+            | Guide::DomainRegistrant
+            | Guide::DomainCreation
+            | Guide::DomainExpiry
+            | Guide::DomainContact
+            | Guide::DomainHost
+            | Guide::DomainStatus => false,
             Guide::DomainTable | Guide::NndnTable => true,
         }
     }

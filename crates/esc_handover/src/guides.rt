@@ -69,23 +69,22 @@ fn has_field(table: &Table, field: &str) -> bool
 pub(crate) fn is_declared(tables: &[Table], guide: Guide) -> bool
     ensures { result ≡ is_declared tables.now guide }
 {
-    tables
-        .iter()
-        .any(|table| is_its_table(guide, table) && has_field(table, guide.field_name()))
+    tables.iter().any(|table| is_its_table(guide, table) && has_field(table, guide.field_name()))
 }
 
 fn has_objects(objects: &[(Kind, u64)], kind: Kind) -> bool
     ensures { result ≡ has_objects objects.now kind }
 {
-    objects.iter().any(|counted| counted.0 == kind && counted.1 > 0)
+    objects
+        .iter()
+        .any(|counted| counted.0 == kind && counted.1 > 0)
 }
 
 /// Whether a field is to be declared.
 pub(crate) fn is_wanted(objects: &[(Kind, u64)], guide: Guide) -> bool
     ensures { result ≡ is_wanted objects.now guide }
 {
-    has_objects(objects, guide.kind())
-        && (!guide.leads_to_idn() || has_objects(objects, Kind::Idn))
+    has_objects(objects, guide.kind()) && (!guide.leads_to_idn() || has_objects(objects, Kind::Idn))
 }
 
 fn is_sign(byte: u8) -> bool

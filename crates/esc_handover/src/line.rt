@@ -54,11 +54,7 @@ pub fn lines_of(alloc: Global, seen: &Seen<'_>) -> Result<Vec<Line>, NoMemory>
     lines_of_tests(alloc, &tests, seen)
 }
 
-fn lines_of_tests(
-    alloc: Global,
-    tests: &[Test],
-    seen: &Seen<'_>,
-) -> Result<Vec<Line>, NoMemory>
+fn lines_of_tests(alloc: Global, tests: &[Test], seen: &Seen<'_>) -> Result<Vec<Line>, NoMemory>
     ensures tests { IfOk result (λ lines. map (λ l. l.test) lines.items ≡ tests.now) }
     ensures passed { IfOk result (λ lines. map (λ l. l.has_passed) lines.items
         ≡ map (λ t. passes t seen.now) tests.now) }

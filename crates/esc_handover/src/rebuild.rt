@@ -33,10 +33,7 @@ fn remove_counting(tables: &mut BTreeMap<Key, Object>, kind: DepositType, delete
 
 /// Applies one more deposit to the tables of those before it: its deletes first, unless it is a
 /// Full, and then its contents. At `Err` nothing is said of the tables.
-pub fn apply_deposit(
-    tables: &mut BTreeMap<Key, Object>,
-    deposit: Deposit,
-) -> Result<(), NoMemory>
+pub fn apply_deposit(tables: &mut BTreeMap<Key, Object>, deposit: Deposit) -> Result<(), NoMemory>
     ensures { OnOk result ((c : List DepositValue) → AreTablesOf c tables.old.entries
         → AreTablesOf (c ++ deposit ∷ []) tables.new.entries) }
 {

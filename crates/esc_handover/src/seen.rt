@@ -6,6 +6,7 @@ use esc_envelope::{Kind, Place, Table};
 use std::marker::Model;
 
 /// What was seen of a store, for its acceptance.
+#[derive(Drop)]
 pub struct Seen<'a> {
     /// The moment that is set, if one is, in nanoseconds since 1970-01-01T00:00:00Z.
     pub moment: Option<i64>,

@@ -2,7 +2,7 @@
 
 use esc_bundle::Fault;
 use esc_desk::SFault;
-use esc_envelope::Table;
+use esc_envelope::{Envelope, Table};
 use esc_handover::apply_deposit;
 use esc_manifest::MRow;
 use esc_store::Store;
@@ -31,15 +31,20 @@ fn listed_digest(rows: &[MRow], row: usize) -> Option<[u8; 32]> {
     Some(listed.digest)
 }
 
+// Whether a body has this SHA-256.
+fn has_digest(body: &[u8], listed: Option<[u8; 32]>) -> bool {
+    let digest = Sha256::digest(body);
+    match listed {
+        Some(listed) => listed.as_slice() == digest.as_slice(),
+        None => false,
+    }
+}
+
 // Whether the body that a store keeps for a row has the SHA-256 that the row lists.
-fn is_as_listed<S: Alter>(
-    alloc: Global,
-    store: &mut Store<S>,
-    row: usize,
-) -> Result<bool, SFault> {
+fn is_as_listed<S: Alter>(alloc: Global, store: &mut Store<S>, row: usize) -> Result<bool, SFault> {
     let listed = listed_digest(store.manifest().rows(), row);
     match store.body_of(alloc, row)? {
-        Some(body) => Ok(listed == Some(Sha256::digest(&body))),
+        Some(body) => Ok(has_digest(&body, listed)),
         None => Ok(false),
     }
 }
@@ -68,7 +73,8 @@ pub fn read_chain<S: Alter>(alloc: Global, store: &mut Store<S>) -> Result<Chain
         orphans: 0,
         are_read: true,
     };
-    for step in &store.chain(alloc)? {
+    let steps = store.chain(alloc)?;
+    for step in &steps {
         match store.body_of(alloc, step.row)? {
             Some(body) => facts.add(alloc, &body)?,
             None => facts.are_read = false,
@@ -91,8 +97,8 @@ impl ChainFacts {
     }
 
     fn add_deposit(&mut self, alloc: Global, body: &[u8]) -> Result<(), Fault> {
-        let envelope = read_bundled_envelope(alloc, body)?;
-        for table in envelope.contents {
+        let Envelope { contents, .. } = read_bundled_envelope(alloc, body)?;
+        for table in contents {
             if !self.declares(&table) {
                 self.tables.push(table)?;
             }

@@ -128,10 +128,7 @@ fn is_rebuilt<S: Alter>(
 }
 
 // The entries of a map of numbers.
-fn entries_of(
-    alloc: Global,
-    numbers: &BTreeMap<Kind, u64>,
-) -> Result<Vec<(Kind, u64)>, SFault> {
+fn entries_of(alloc: Global, numbers: &BTreeMap<Kind, u64>) -> Result<Vec<(Kind, u64)>, SFault> {
     let mut entries = Vec::new(alloc);
     for (kind, number) in numbers.iter() {
         entries.push((*kind, *number))?;
@@ -174,7 +171,8 @@ fn made_of(
 
 fn text_of(alloc: Global, seen: &Seen<'_>) -> Result<Made, Stop> {
     let mut text = String::new(alloc);
-    for line in &lines_of(alloc, seen)? {
+    let lines = lines_of(alloc, seen)?;
+    for line in &lines {
         let words = format!(in alloc; "{line}\n")?;
         text.push_str(words.as_str())?;
     }

@@ -166,12 +166,7 @@ fn command_of<'a>(matches: &ArgMatches<'a>) -> Option<Command<'a>> {
 
 // Prints the help or the version that was asked for, or what is wrong with the words. Returns the
 // status.
-fn tell_error<O: Write, E: Write>(
-    rt: &HostRuntime,
-    error: &Error,
-    out: &mut O,
-    err: &mut E,
-) -> u8 {
+fn tell_error<O: Write, E: Write>(rt: &HostRuntime, error: &Error, out: &mut O, err: &mut E) -> u8 {
     match or_stop(rt, "-", tell_answer(rt.alloc(), error, out, err)) {
         Ok(status) => status,
         Err(stop) => tell_stop(rt, err, &Stop::from(stop)),

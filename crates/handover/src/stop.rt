@@ -30,7 +30,7 @@ pub enum Stop {
 
 impl Stop {
     /// Out of memory: `S2`.
-    pub const NO_MEMORY: Stop = Stop::Shared(esc_usage::NO_MEMORY);
+    pub const NO_MEMORY: Stop = Stop::Shared(esc_usage::Stop::Store(SFault::S2));
 
     /// The program's status.
     pub fn status(&self) -> u8 {

@@ -33,14 +33,20 @@ pub fn use_store(rt: &HostRuntime, path: &str, task: Task<'_>) -> Result<Made, S
     match Connection::open(rt, path) {
         Ok(connection) => {
             let (connection, made) = use_connection(rt.alloc(), connection, task);
-            let closed = connection.close();
+            let closed = closed_of(connection.close());
             let made = made?;
-            match closed {
-                Ok(()) => Ok(made),
-                Err(error) => Err(Stop::from(SFault::from(error))),
-            }
+            closed?;
+            Ok(made)
         }
         Err(error) => Err(why_not_opened(rt, path, error)),
+    }
+}
+
+// What comes of closing a database.
+fn closed_of(closed: Result<(), Error>) -> Result<(), Stop> {
+    match closed {
+        Ok(()) => Ok(()),
+        Err(error) => Err(Stop::from(SFault::from(error))),
     }
 }
 
