@@ -1,6 +1,6 @@
 #!/usr/bin/env python3
-"""tools/scenes.py RESTORE HARNESS PACK [NAME ..]: plays the scenes of scenes/ on the programs restore, desk_harness and pack that were
-built, or those whose file or title has one of these names. As `tools/scenes.py --as-built FOLDER` it plays all, each once the programs that
+"""tools/scenes.py RESTORE HARNESS PACK HANDOVER [NAME ..]: plays the scenes of scenes/ on the programs restore, desk_harness, pack and
+handover that were built, or those whose file or title has one of these names. As `tools/scenes.py --as-built FOLDER` it plays all, each once the programs that
 it runs are in the folder: a line on standard input names one that has come there.
 
 A scene is a folder of files, and command lines with the status, the standard output and the standard error that they must give, or
@@ -27,7 +27,7 @@ PLAYED = (faults, stops, deposits, sockets, streams, rows, walks, crowds, reques
 
 
 # The programs, in the order in which their paths are given.
-NAMES = ('restore', 'desk_harness', 'pack')
+NAMES = ('restore', 'desk_harness', 'pack', 'handover')
 
 
 @dataclass(frozen=True)
@@ -132,8 +132,8 @@ def played_by_name(paths, names):
 def main():
     if sys.argv[1:2] == ['--as-built'] and len(sys.argv) == 3:
         passed, count = played_as_built(sys.argv[2])
-    elif len(sys.argv) >= 4:
-        passed, count = played_by_name(sys.argv[1:4], sys.argv[4:])
+    elif len(sys.argv) > len(NAMES):
+        passed, count = played_by_name(sys.argv[1:len(NAMES) + 1], sys.argv[len(NAMES) + 1:])
     else:
         sys.exit(__doc__)
     print(f'{passed} passed, {count - passed} failed', flush=True)

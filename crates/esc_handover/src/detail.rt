@@ -116,8 +116,9 @@ fn findings_detail(alloc: Global, seen: &Seen<'_>) -> Result<String, NoMemory> {
     let code = first.code;
     let kind = first.kind.name();
     let (key, field) = (first.key.as_str(), first.field.as_str());
+    let gap = if key.is_empty() { "" } else { " " };
     Ok(format!(in alloc;
-        "{count}, the first V{code} {kind} {key} {field}; see `restore report links`"
+        "{count}, the first V{code} {kind}{gap}{key} {field}; see `restore report links`"
     )?)
 }
 
