@@ -1,6 +1,6 @@
 #!/usr/bin/env python3
-"""python3 tests/run.py [--restore FILE] [--harness FILE] [--pack FILE] [NAME ..]: plays the test cases on the programs `restore`,
-`desk_harness` and `pack`: all of them, or those whose file or title has one of these names in it.
+"""python3 tests/run.py [--restore FILE] [--harness FILE] [--pack FILE] [--handover FILE] [NAME ..]: plays the test cases on the programs
+`restore`, `desk_harness`, `pack` and `handover`: all of them, or those whose file or title has one of these names in it.
 
 The programs are those that `rt ci` built in this checkout (crates/restore/out/restore and so on), if no others are named.
 
@@ -19,7 +19,7 @@ from support import TESTS, arguments_of, built
 from support.stage import Failed, Stage
 from support.transcripts import Misread, read_transcripts
 
-PROGRAMS = ('restore', 'desk_harness', 'pack')
+PROGRAMS = ('restore', 'desk_harness', 'pack', 'handover')
 
 
 @dataclass(frozen=True)

@@ -15,7 +15,8 @@
     first-store PATH = FILE N:BODY ..
                                     writes the statements that make a store of version 1: of a manifest that is in the folder, with
                                     worked bodies that it took under their numbers
-    $ restore WORDS, $ pack WORDS   runs restore, or pack. Up to an empty line there follow the lines of standard output, and
+    $ restore WORDS, $ pack WORDS, $ handover WORDS
+                                    runs that program. Up to an empty line there follow the lines of standard output, and
     ~ TEXT                          .. in their place: what standard output must have somewhere
     ! TEXT                          .. a line of standard error; `! ...` is any text, but some
     ? STATUS                        .. the status, if it isn't 0
@@ -35,7 +36,7 @@ from support.steps import FILES, Bodies, Copy, FirstScript, FirstStore, Folder, 
 
 WORD = re.compile(r' *("(?:[^"\\]|\\.)*"|[^\s"]\S*)(?= |$)')
 # The programs that are run on words, and the marks below a run of them.
-RUN, MARKS = ('restore', 'pack'), '~!?'
+RUN, MARKS = ('restore', 'pack', 'handover'), '~!?'
 # The mark below a run of desk_harness, and what stands before a text that begins with a character of the format.
 TOLD, ESCAPE = '> ', '\\'
 

@@ -1,0 +1,56 @@
+-- The tables of a registry as one deposit (RFC 8909, section 2, and this project's profile).
+use Rattle.std.specs.Prelude.{◌≡◌, ℕ, ℤ, List, [], ◌∷◌, map, count_by, None, Ok}
+use Rattle.std.specs.Map.{keys_of}
+use Rattle.esc_envelope.specs.declared.kind.Kind.{Kind}
+use Rattle.esc_envelope.specs.declared.kind.Kind.TheVariants.{
+  Registrar,
+  Contact,
+  Host,
+  Domain,
+  Idn,
+  Nndn,
+}
+use Rattle.esc_envelope.specs.declared.place.DepositType.TheVariants.{Full}
+use Rattle.esc_envelope.specs.HeaderValue.{HeaderValue}
+use Rattle.esc_envelope.specs.Kinds.{is_kind}
+use Rattle.esc_tables.specs.DepositValue.{DepositValue}
+use Rattle.esc_tables.specs.Reading.{reading}
+use Rattle.esc_tables.specs.KeyName.{KeyName}
+use Rattle.esc_apply.specs.ObjectStreams.{Entry}
+
+-- how many objects are of a kind
+abbrev pub count_of : List Entry → Kind → ℕ
+count_of es kind = count_by (λ (k : KeyName). is_kind k.kind kind) (keys_of es)
+
+-- a kind with the number of its objects
+abbrev pub counted : List Entry → Kind → Kind × ℕ
+counted es kind = (kind, count_of es kind)
+
+-- each kind with the number of its objects
+abbrev pub counts_of : List Entry → List (Kind × ℕ)
+counts_of es =
+    counted es Registrar ∷ counted es Contact ∷ counted es Host ∷ counted es Domain
+    ∷ counted es Idn ∷ counted es Nndn ∷ []
+
+-- what a Full of a moment says of itself, the first time that it is generated
+abbrev pub full_header : List ℕ → ℤ → HeaderValue
+full_header id watermark = record {
+  id = id;
+  place = record { watermark = watermark; kind = Full };
+  prev = None;
+  resend = 0;
+}
+
+-- the Full of these objects, which declares how many there are of each kind
+abbrev pub full_of : List ℕ → ℤ → List Entry → DepositValue
+full_of id watermark es = record {
+  header = full_header id watermark;
+  counts = counts_of es;
+  deletes = [];
+  contents = es;
+  orphans = 0;
+}
+
+-- the body is read as the Full of these objects
+abbrev pub IsFullOf : List ℕ → ℤ → List Entry → List ℕ → Type 0
+IsFullOf id watermark es body = reading body ≡ Ok (full_of id watermark es)

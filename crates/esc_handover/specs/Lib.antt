@@ -1,0 +1,5 @@
+pub mod Acceptance
+pub mod FullBundle
+pub mod Guides
+pub mod Rebuilt
+pub mod Restored

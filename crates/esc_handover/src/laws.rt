@@ -1,0 +1,13 @@
+//! What the definitions say together.
+//!
+//! The functions here do nothing. Each has a law as its contract: a caller who needs the law calls
+//! it.
+
+ghost use Rattle.esc_handover.specs.Restored.{FullHasItsObjects, FullIsRestored};
+
+/// A registry that is rebuilt from a Full of its tables has the same tables: those of the Full
+/// alone, and so those of a store whose manifest lists that bundle alone, once it is held.
+pub fn full_bundle_restores_its_tables()
+    ensures objects { FullHasItsObjects }
+    ensures restored { FullIsRestored }
+{}

@@ -1,0 +1,131 @@
+//! What the bodies of a store say: whether they are as listed, and what those of the chain make.
+
+use esc_bundle::Fault;
+use esc_desk::SFault;
+use esc_envelope::{Envelope, Table};
+use esc_handover::apply_deposit;
+use esc_manifest::MRow;
+use esc_store::Store;
+use esc_tables::{Key, Object, read_bundled_envelope, read_deposit};
+use sha2::{Digest, Sha256};
+use sqlite::Alter;
+use std::alloc::Global;
+use std::collections::BTreeMap;
+
+/// What the deposits of the chain say.
+#[derive(Drop)]
+pub struct ChainFacts {
+    /// The tables that they make.
+    pub objects: BTreeMap<Key, Object>,
+    /// The tables of contents that they declare, each once.
+    pub tables: Vec<Table>,
+    /// How many orphans they have.
+    pub orphans: u64,
+    /// Whether the body of each is there, and is a deposit.
+    pub are_read: bool,
+}
+
+// The digest that a row lists.
+fn listed_digest(rows: &[MRow], row: usize) -> Option<[u8; 32]> {
+    let listed = rows.get(row)?;
+    Some(listed.digest)
+}
+
+// Whether a body has this SHA-256.
+fn has_digest(body: &[u8], listed: Option<[u8; 32]>) -> bool {
+    let digest = Sha256::digest(body);
+    match listed {
+        Some(listed) => listed.as_slice() == digest.as_slice(),
+        None => false,
+    }
+}
+
+// Whether the body that a store keeps for a row has the SHA-256 that the row lists.
+fn is_as_listed<S: Alter>(alloc: Global, store: &mut Store<S>, row: usize) -> Result<bool, SFault> {
+    let listed = listed_digest(store.manifest().rows(), row);
+    match store.body_of(alloc, row)? {
+        Some(body) => Ok(has_digest(&body, listed)),
+        None => Ok(false),
+    }
+}
+
+/// The rows among these whose body isn't there, or has another SHA-256 than listed. The bodies are
+/// read one at a time.
+pub fn spoiled_rows<S: Alter>(
+    alloc: Global,
+    store: &mut Store<S>,
+    held: &[usize],
+) -> Result<Vec<usize>, SFault> {
+    let mut spoiled = Vec::new(alloc);
+    for row in held {
+        if !is_as_listed(alloc, store, *row)? {
+            spoiled.push(*row)?;
+        }
+    }
+    Ok(spoiled)
+}
+
+/// What the deposits of a store's chain say. The bodies are read one at a time.
+pub fn read_chain<S: Alter>(alloc: Global, store: &mut Store<S>) -> Result<ChainFacts, SFault> {
+    let mut facts = ChainFacts {
+        objects: BTreeMap::new(alloc),
+        tables: Vec::new(alloc),
+        orphans: 0,
+        are_read: true,
+    };
+    let steps = store.chain(alloc)?;
+    for step in &steps {
+        match store.body_of(alloc, step.row)? {
+            Some(body) => facts.add(alloc, &body)?,
+            None => facts.are_read = false,
+        }
+    }
+    Ok(facts)
+}
+
+impl ChainFacts {
+    // Adds what the next body of the chain says.
+    fn add(&mut self, alloc: Global, body: &[u8]) -> Result<(), SFault> {
+        match self.add_deposit(alloc, body) {
+            Ok(()) => Ok(()),
+            Err(Fault::Refused(_)) => {
+                self.are_read = false;
+                Ok(())
+            }
+            Err(Fault::NoMemory) => Err(SFault::S2),
+        }
+    }
+
+    fn add_deposit(&mut self, alloc: Global, body: &[u8]) -> Result<(), Fault> {
+        let Envelope { contents, .. } = read_bundled_envelope(alloc, body)?;
+        for table in contents {
+            if !self.declares(&table) {
+                self.tables.push(table)?;
+            }
+        }
+        let deposit = read_deposit(alloc, body)?;
+        self.orphans = self.orphans.saturating_add(deposit.orphans);
+        apply_deposit(&mut self.objects, deposit)?;
+        Ok(())
+    }
+
+    fn declares(&self, table: &Table) -> bool {
+        self.tables.iter().any(|other| is_same_table(table, other))
+    }
+}
+
+// Whether two tables are declared alike, but for the key and the file.
+fn is_same_table(table: &Table, other: &Table) -> bool {
+    table.name.as_str() == other.name.as_str()
+        && table.kind == other.kind
+        && table.parent == other.parent
+        && are_same(&table.fields, &other.fields)
+}
+
+fn are_same(fields: &[String], others: &[String]) -> bool {
+    fields.len() == others.len()
+        && fields
+            .iter()
+            .zip(others)
+            .all(|(field, other)| field.as_str() == other.as_str())
+}

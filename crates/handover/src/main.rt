@@ -1,0 +1,57 @@
+//! `handover`: what a rebuilt registry is handed over as.
+//!
+//! - `handover bundle --store FILE --id ID OUT` writes the tables of a store as one deposit, a Full
+//!   at the watermark of the chain's end ([`esc_handover::bundle_of`], whose contract says what is
+//!   read of it).
+//! - `handover check --store FILE` prints whether the registry may be taken over as it is: one line
+//!   for each test of [`esc_handover::Test`] ([`esc_handover::lines_of`], whose contract says which
+//!   of them pass).
+//! - `handover --version`, `handover --help`.
+//!
+//! It opens a store as `restore report` does, and changes nothing in it. Refusals go to standard
+//! error, one a line, with the letters and numbers of `restore`: `E1 PATH` for a file that can't be
+//! read or written, `S1` to `S3` of the store. `U4 OUT`, `U6 OUT` and `U11 OUT` say that no deposit
+//! has these tables: they are too long or too many, the id has another form, there are too many
+//! rows. What is new is `H4 TABLE` for a table whose rows have different fields, `H5 TABLE` for one
+//! whose key is in no field, `H6 TABLE` for one whose rows begin with a byte order mark, `H7` for a
+//! store without a chain, and `H8 OUT` where the bundle that was made reads as other objects. The
+//! status is 0 where all went well; 1 for U and H, and where a test of `check` is wrong; 2 for other words; 3 for S and E1.
+//!
+//! | Module | Does |
+//! |---|---|
+//! | `command_line` | the table of the commands and its texts; from the words to the status |
+//! | `store_file` | opens the store in a file, and closes it |
+//! | `bundle` | `bundle`: the tables as one deposit |
+//! | `check` | `check`: what a desk says of its store, and the lines of the acceptance |
+//! | `chain` | `check`: what the bodies of a store say |
+//! | `files` | writes a file in one step |
+//! | `stop` | what the program stops for, its text and its status |
+//!
+//! By proof: that no call is unsafe and that each ends, whatever the words and files are.
+#![tactic(auto)]
+
+mod bundle;
+mod chain;
+mod check;
+mod command_line;
+mod files;
+mod stop;
+mod store_file;
+
+use command_line::run_words;
+use esc_console::{given_words, tell_invalid_utf8};
+use std::process::ExitCode;
+use stop::{Stop, tell_stop};
+
+fn main(rt: HostRuntime) -> ExitCode {
+    ExitCode::from(run(&rt))
+}
+
+// Runs the program on its words and its two streams.
+fn run(rt: &HostRuntime) -> u8 {
+    match given_words(rt, "handover") {
+        Ok(Some(given)) => run_words(rt, &given, &mut rt.stdout(), &mut rt.stderr()),
+        Ok(None) => tell_invalid_utf8(&mut rt.stderr()),
+        Err(_) => tell_stop(rt, &mut rt.stderr(), &Stop::NO_MEMORY),
+    }
+}
