@@ -15,7 +15,7 @@ LISTED = 'UMAV'
 
 MOST_COLUMNS = 100
 # Of all documents together. The goal is 24,000.
-MOST_WORDS = 36_000
+MOST_WORDS = 39_000
 
 # What has a letter or a digit: the bars and rules of tables are no words.
 WORD = re.compile(r'\S*[^\W_]\S*')
