@@ -1,0 +1,138 @@
+"""From an agent's deposits to the registry: `unpack_rde`, `pack` and `restore` one after the other, and the page that tells how."""
+import csv, io, os, random, re, shutil, subprocess, sys
+
+from support import TOP
+from support.escrow import KEYS, as_written, some_objects, told
+from support.stage import Failed, Wanted, compare
+from documents import document
+
+UNPACK = [sys.executable, f'{TOP}/packaging/unpack_rde']
+KINDS = ('registrar', 'contact', 'host', 'domain', 'idn', 'nndn')
+PAGE = f'{TOP}/docs/FROM_ESCROW.md'
+# Kinds whose keys are told apart without regard to case.
+LOWERED = ('host', 'domain')
+OWN_KEY = 'desk@registry.example'
+
+
+def run(stage, *words):
+    """Runs a command in the case's folder, where the programs are known by their names, and gives what it prints."""
+    # (Line ends in texts are kept as they are.)
+    ran = subprocess.run(words, cwd=stage.room.name, capture_output=True)
+    if ran.returncode or ran.stderr:
+        raise Failed(f'$ {" ".join(words)}\nstatus {ran.returncode}\n{ran.stderr.decode()}')
+    return ran.stdout.decode()
+
+
+def check_same(what, wanted, found):
+    for key in wanted.keys() | found.keys():
+        if wanted.get(key) != found.get(key):
+            raise Failed(f'{what}: {key}: wanted {wanted.get(key)}, got {found.get(key)}')
+
+
+def exported(stage, kind):
+    """The objects of a kind, by kind and key, as `export` prints them."""
+    rows = {}
+    text = run(stage, stage.programs['restore'], 'export', '--store', 'desk.db', kind)
+    for kind, key, table, row, field, value in list(csv.reader(io.StringIO(text, newline=''), strict=True))[1:]:
+        rows.setdefault((kind, key), {}).setdefault((table, row), {})[field] = value
+    return {key: told((table, cells) for (table, _), cells in its.items()) for key, its in rows.items()}
+
+
+def restored(stage, *deposits):
+    """The objects that are in a store after these deposits, each a name and its bundle's description folder."""
+    os.mkdir(stage.at('bundles'))
+    for name in deposits:
+        run(stage, stage.programs['pack'], 'bundle', '--envelope', f'{name}/envelope.json', name, f'bundles/{name}')
+    manifest = run(stage, stage.programs['pack'], 'manifest', *(f'bundles/{it}' for it in deposits))
+    stage.write('manifest.csv', manifest.encode())
+    run(stage, stage.programs['restore'], 'init', '--store', 'desk.db', '--manifest', 'manifest.csv')
+    run(stage, stage.programs['restore'], 'take', '--store', 'desk.db', 'bundles')
+    found = {}
+    for kind in KINDS:
+        found.update(exported(stage, kind))
+    return found
+
+
+def lowered(objects):
+    return {(kind, key.lower() if kind in LOWERED else key): rows for (kind, key), rows in as_written(objects).items()}
+
+
+def unpacked(stage, name, model, objects, header, deletes=None, **more):
+    """Writes a deposit in a model, and unpacks it."""
+    os.mkdir(stage.at(f'{name}-files'))
+    path = document(stage.at(f'{name}-files'), f'{name}.xml', header, objects, deletes or {}, {}, model, **more)
+    run(stage, *UNPACK, path, name)
+
+
+def test_models(stage):
+    """Objects at random are restored as they were, from deposits of both models."""
+    for seed in range(4):
+        objects = some_objects(random.Random(f'restored {seed}'))
+        for model in ('XML', 'CSV'):
+            unpacked(stage, 'F1', model, objects, {'id': 'F1', 'type': 'FULL', 'watermark': '2024-03-03T00:00:00Z'})
+            check_same(f'seed {seed}, {model}', lowered(objects), restored(stage, 'F1'))
+            for name in os.listdir(stage.room.name):
+                shutil.rmtree(stage.at(name)) if os.path.isdir(stage.at(name)) else os.remove(stage.at(name))
+
+
+def test_changes(stage):
+    """A Differential of files, on a Full of XML, changes and deletes objects."""
+    maker = random.Random('changes')
+    first = some_objects(maker, most=9)
+    hosts = {rows[0][1]['name']: rows[0][1]['roid'] for rows in first if rows[0][0] == 'host'}
+    # Of each kind the first object is deleted, and the second one is replaced by one of the same key.
+    kinds = {kind: [it for it in first if it[0][0] == kind] for kind in KINDS}
+    deletes = {kind: [its[0][0][1][KEYS[kind]]] for kind, its in kinds.items() if its}
+    changed = [[(table, {**cells, 'uName': 'new'} if table in ('domain', 'nndn') else cells) for table, cells in its[1]]
+               for kind, its in kinds.items() if len(its) > 1]
+    unpacked(stage, 'F1', 'XML', first, {'id': 'F1', 'type': 'FULL', 'watermark': '2024-03-03T00:00:00Z'})
+    os.mkdir(stage.at('D2-files'))
+    path = document(stage.at('D2-files'), 'D2.xml', {'id': 'D2', 'type': 'DIFF', 'watermark': '2024-03-04T02:00:00+02:00', 'prevId': 'F1'},
+                    changed, deletes, {}, 'CSV', roids=hosts)
+    run(stage, *UNPACK, '--known', 'F1', path, 'D2')
+    wanted = {**lowered(first), **lowered(changed)}
+    for kind, keys in deletes.items():
+        for key in keys:
+            del wanted[kind, key.lower() if kind in LOWERED else key]
+    check_same('after the Differential', wanted, restored(stage, 'F1', 'D2'))
+
+
+def environment(stage):
+    """The programs by their names, and a key that is made for this page, if there is gpg."""
+    os.mkdir(stage.at('programs'))
+    for name in ('pack', 'restore'):
+        os.symlink(stage.programs[name], stage.at(f'programs/{name}'))
+    stage.write('programs/unpack_rde', f'#!/bin/sh\nexec {" ".join(UNPACK)} "$@"\n'.encode())
+    os.chmod(stage.at('programs/unpack_rde'), 0o755)
+    os.mkdir(stage.at('keys'), 0o700)
+    return dict(os.environ, PATH=f'{stage.at("programs")}:{os.environ["PATH"]}', LC_ALL='C', GNUPGHOME=stage.at('keys'), KEY=OWN_KEY)
+
+
+def in_page(stage, given, command):
+    """What a command of the page prints."""
+    return subprocess.run(['bash', '-c', command], cwd=stage.at('work'), env=given, stdin=subprocess.DEVNULL, stdout=subprocess.PIPE,
+                          stderr=subprocess.STDOUT, encoding='utf-8').stdout
+
+
+def without_gpg(command):
+    """The command for archives that are not encrypted."""
+    return re.sub(r'gpg \S+ \S+ --decrypt (\S+)', r'cat \1', command.replace(' "$KEY"', '; for it in mail/*; do mv $it ${it%.tar}.ryde; done'))
+
+
+def test_page(stage):
+    """The commands of docs/FROM_ESCROW.md print what stands there."""
+    with open(PAGE) as file:
+        blocks = re.findall(r'```\n(\$ .*?)```', file.read(), re.S)
+    given, has_gpg = environment(stage), shutil.which('gpg') is not None
+    os.mkdir(stage.at('work'))
+    os.symlink(f'{TOP}/samples', stage.at('work/samples'))
+    if has_gpg:
+        in_page(stage, given, 'gpg --batch --quiet --passphrase "" --quick-generate-key "$KEY" default default never')
+    try:
+        for block in blocks:
+            for command, _, wanted in (it.partition('\n') for it in block.removeprefix('$ ').split('\n$ ')):
+                printed = in_page(stage, given, command if has_gpg else without_gpg(command))
+                compare(f'$ {command}', wanted.rstrip('\n'), printed.rstrip('\n'))
+    finally:
+        if has_gpg:
+            in_page(stage, given, 'gpgconf --kill all')
