@@ -29,7 +29,7 @@ class Keys:
 
     def name(self, field, value, key):
         """The object of this key has this value in a field. A value that two objects have names neither."""
-        self.store.execute('INSERT INTO alias VALUES (?, ?, ?) ON CONFLICT DO UPDATE SET key = iif(key = excluded.key, key, NULL)',
+        self.store.execute('INSERT INTO alias VALUES (?, ?, ?) ON CONFLICT DO UPDATE SET key = CASE WHEN key = excluded.key THEN key END',
                            (field, value, key))
 
     def named(self, field, value):

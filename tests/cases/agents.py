@@ -1,9 +1,9 @@
 """From an agent's deposits to the registry: `unpack_rde`, `pack` and `restore` one after the other, and the page that tells how."""
-import csv, io, os, random, re, shutil, subprocess, sys
+import csv, io, json, os, random, re, shutil, subprocess, sys
 
 from support import TOP
 from support.escrow import KEYS, as_written, some_objects, told
-from support.stage import Failed, Wanted, compare
+from support.stage import Failed, Wanted, case, compare
 from documents import document
 
 UNPACK = [sys.executable, f'{TOP}/packaging/unpack_rde']
@@ -21,6 +21,11 @@ def run(stage, *words):
     if ran.returncode or ran.stderr:
         raise Failed(f'$ {" ".join(words)}\nstatus {ran.returncode}\n{ran.stderr.decode()}')
     return ran.stdout.decode()
+
+
+def read_text(stage, path):
+    with open(stage.at(path), encoding='utf-8') as file:
+        return file.read()
 
 
 def check_same(what, wanted, found):
@@ -95,6 +100,90 @@ def test_changes(stage):
         for key in keys:
             del wanted[kind, key.lower() if kind in LOWERED else key]
     check_same('after the Differential', wanted, restored(stage, 'F1', 'D2'))
+
+
+# The table, its fields, a heading of its file, and whether that names the fields.
+HEADINGS = (
+    ('domain', 'name clID registrant idnTableId crDate exDate', 'name,fClID,fRegistrant,fIdnTableId,fCrDate,fExDate', True),
+    ('domain', 'name clID registrant', 'name,clID,fRegistrant', True),
+    ('domain', 'fName fClID', 'fName,fClID', True),
+    ('domain', 'name clID', 'fName,clID', False),
+    ('domain', 'name clID', 'name,fClId', False),
+    ('domain', 'name clID registrant', 'name,fRegistrant,fClID', False),
+    ('domain', 'name fClID', 'name,clID', False),
+    ('domain', 'name clID', 'name', False),
+    ('domain', 'name clID', 'name,fClID,more', False),
+    ('domain', 'name contactId', 'name,fId', False),
+    ('domainContacts', 'name contactId', 'name,fId', True),
+    ('domainNs', 'name hostName', 'name,fHostName', True),
+    ('domainStatuses', 'name hostName', 'name,fHostName', False),
+    ('domainStatuses', 'name status', 'name,fStatus', True),
+)
+# A folder's files by the names that RFC 9022 gives, the description that is proposed of them, and what is said of it.
+NAMED = {'domain-1.csv': 'fName,fClID,fRegistrant,fCrDate\na.example,R1,C1,2024-03-04T00:00:00Z\n',
+         'domainContacts-1.csv': 'fName,fId,fContactType\na.example,C2,admin\n', 'domainStatuses-1.csv': 'fName,fStatus\na.example,banana\n',
+         'domainNameServers-1.csv': 'fName,fHostName\na.example,ns.example\n', 'domain-2.csv': 'fName,clID,fRegistrant,fCrDate,more\n',
+         'host-1.csv': 'fName,cl_id\nns2.example,R1\n', 'contact-1.csv': 'C1,R1\n', 'notes.txt': ''}
+PROPOSED = """{"id":"ID","type":"FULL","watermark":"1970-01-01T00:00:00Z",
+"contents":[{"name":"host","kind":"host","role":"parent","key":"fName","file":"host.csv","heading":true,"fields":["fName","cl_id"],"from":["host-1.csv"]},
+{"name":"domain","kind":"domain","role":"parent","key":"fName","file":"domain.csv","heading":true,"fields":["fName","clID","registrant","crDate"],"from":["domain-1.csv"]},
+{"name":"domainContacts","kind":"domain","role":"child","key":"fName","file":"domaincontacts.csv","heading":true,"fields":["fName","contactId","fContactType"],"from":["domainContacts-1.csv"]},
+{"name":"domainNs","kind":"domain","role":"child","key":"fName","file":"domainns.csv","heading":true,"fields":["fName","hostName"],"from":["domainNameServers-1.csv"]},
+{"name":"domainStatuses","kind":"domain","role":"child","key":"fName","file":"domainstatuses.csv","heading":true,"fields":["fName","status"],"from":["domainStatuses-1.csv"]}],
+"deletes":[]}
+"""
+UNKNOWN = """unknown id
+unknown type
+unknown watermark
+unknown file "contact-1.csv": its first row is no heading with a known key
+unknown file "domain-2.csv": an earlier file of its table has another heading
+unknown file "notes.txt": no table is known by its name
+unknown field "cl_id" of table host: the desk looks for clID
+"""
+# What the desk finds of them, which it would not without the names.
+FINDINGS = """code,kind,key,field,value,other
+V1,domain,a.example,clID,R1,registrar
+V1,domain,a.example,contactId,C2,contact
+V1,domain,a.example,hostName,ns.example,host
+V1,domain,a.example,registrant,C1,contact
+V3,domain,a.example,status,banana,
+V5,domain,a.example,crDate,2024-03-04T00:00:00Z,2024-03-03T00:00:00Z
+"""
+
+
+def test_headings(stage):
+    """In a heading a field may have the name of the CSV model for the desk's, and no other."""
+    os.mkdir(stage.at('files'))
+    for at, (table, fields, heading, is_named) in enumerate(HEADINGS):
+        names = fields.split()
+        declared = {'name': table, 'kind': 'domain', 'role': 'parent' if table == 'domain' else 'child', 'key': names[0], 'fields': names,
+                    'file': 't.csv', 'heading': True}
+        row = ','.join('x' * len(names))
+        stage.write('files/t.csv', f'{heading}\n{row}\n'.encode())
+        stage.write('envelope.json', json.dumps({'id': 'F1', 'type': 'FULL', 'watermark': '2024-03-03T00:00:00Z', 'contents': [declared]}).encode())
+        with case(f'{table}: {heading}'):
+            told = 'unknown field "fClID" of table domain: the desk looks for clID\n' if is_named and 'fClID' in names else ''
+            stage.check(f'bundle --envelope envelope.json files n{at}', Wanted(err=told) if is_named else Wanted(1, '', 'H1 files/t.csv\n'),
+                        program='pack')
+            if is_named and not read_text(stage, f'n{at}').endswith(f't.csv {len(row) + 1}\n{row}\n\nend\n'):
+                raise Failed('its bundle has other rows')
+
+
+def test_findings(stage):
+    """Files with the names of RFC 9022 are proposed under the desk's, and what is wrong in them is found."""
+    os.mkdir(stage.at('files'))
+    for name, text in NAMED.items():
+        stage.write(f'files/{name}', text.encode())
+    stage.check('describe files', Wanted(0, PROPOSED, UNKNOWN), program='pack')
+    described = PROPOSED.replace('"ID"', '"F1"').replace('1970-01-01', '2024-03-03').replace('cl_id', 'other')
+    stage.write('files/host-1.csv', b'fName,other\nns2.example,R1\n')
+    stage.write('envelope.json', described.encode())
+    os.mkdir(stage.at('bundles'))
+    stage.check('bundle --envelope envelope.json files bundles/F1', Wanted(), program='pack')
+    stage.write('manifest.csv', run(stage, stage.programs['pack'], 'manifest', 'bundles/F1').encode())
+    run(stage, stage.programs['restore'], 'init', '--store', 'desk.db', '--manifest', 'manifest.csv')
+    run(stage, stage.programs['restore'], 'take', '--store', 'desk.db', 'bundles')
+    stage.check('report --store desk.db links', Wanted(0, FINDINGS))
 
 
 def environment(stage):
