@@ -5,7 +5,7 @@ use Rattle.std.specs.List.{zip, list_all, flat_map, find}
 use Rattle.std.specs.Str.{bytes_eq}
 use Rattle.std.proofs.lemmas.Bool.Decides.{nat_tests}
 use Rattle.std.proofs.lemmas.Grind.{flat_map-append}
-use Rattle.std.proofs.lemmas.List.{take_more, append_assoc, append-nil, length-take, length-map, get_or-map}
+use Rattle.std.proofs.lemmas.List.{take_more, take_all, append_assoc, append-nil, length-take, length-map, get_or-map}
 use Rattle.std.proofs.lemmas.Bool.{and_parts, false_from_ne_true}
 use Rattle.std.proofs.lemmas.Slice.Eq.{bytes_eq-Decides}
 use Rattle.std.specs.Option.{option_map_or}
@@ -84,6 +84,15 @@ abbrev rows_before : GivenTable → ℕ → List Line
 rows_before given i = flat_map (file_rows given.has_heading) (take i given.files)
 
 -- the rows of one more file
+-- all files of a table were taken
+pub all_taken : {given : GivenTable} {heading : Bool} {items slice : List (Bor (List ℕ))} {i : ℕ}
+    → record { has_heading = heading; files = map (λ f. f.now) items } ≡ given → slice ≡ items → length slice ≤ i
+    → take i given.files ≡ given.files
+all_taken {given} {heading} {items} {slice} {i} view same le =
+    let among : length items ≤ i = subst (λ (fs : List (Bor (List ℕ))). length fs ≤ i) same le in
+    let mapped : length (map (λ (f : Bor (List ℕ)). f.now) items) ≤ i = omega (arith, among, length-map items (λ f. f.now)) in
+    take_all i given.files (subst (λ (g : GivenTable). length g.files ≤ i) view mapped)
+
 more_rows : {given : GivenTable} {i : ℕ} {heading : Bool} {text : List ℕ} → IsFile given i heading text
     → rows_before given (i + 1) ≡ rows_before given i ++ file_rows heading text
 more_rows {given} {i} {heading} {text} file =

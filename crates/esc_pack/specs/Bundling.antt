@@ -17,9 +17,9 @@ section_of p = record { name = p.0.file; bytes = text_of (given_rows p.1) }
 abbrev pub sections_of : List TableValue → List GivenTable → List Named
 sections_of tables given = map section_of (zip tables given)
 
--- where the files of a table have headings, each begins with exactly the declared fields
+-- where the files of a table have headings, each begins with one
 abbrev pub AreHeaded : TableValue × GivenTable → Type 0
-AreHeaded p = p.1.has_heading ≡ true → All (IsHeaded p.0.fields) p.1.files
+AreHeaded p = p.1.has_heading ≡ true → All (IsHeaded p.0) p.1.files
 
 -- the first section
 abbrev pub description_section : List ℕ → Named
@@ -37,7 +37,7 @@ pub record AreSectionsOf (description : List ℕ) (given : List GivenTable) (sec
   pub read : All IsReadBack given
 
 -- the body is the bundle of this description and of these files, in the order in which it declares
--- its tables; a row that is dropped as a heading is just the declared fields, and what is read of
+-- its tables; a row that is dropped as a heading names just the declared fields, and what is read of
 -- it is what the others make
 pub record IsBundleOf (description : List ℕ) (given : List GivenTable) (body : List ℕ)
     : Type 0 where

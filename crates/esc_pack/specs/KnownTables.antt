@@ -1,6 +1,8 @@
 -- The tables that an agent's files are known to have, by the names that the CSV model of RFC 9022
 -- gives to files (section 4.6), and the tables of this project's profile.
-use Rattle.std.specs.Prelude.{ℕ, List, [], ◌∷◌, Bool, true, false, codes}
+use Rattle.std.specs.Prelude.{ℕ, List, [], ◌∷◌, ◌++◌, Bool, true, false, codes}
+use Rattle.std.specs.List.{list_any}
+use Rattle.std.specs.Str.{bytes_eq}
 use Rattle.esc_envelope.specs.declared.kind.Kind.{Kind}
 use Rattle.esc_envelope.specs.declared.kind.Kind.TheVariants as kind
 use Rattle.esc_pack.specs.declared.known_table.KnownTable.{KnownTable}
@@ -31,14 +33,22 @@ use Rattle.esc_pack.specs.declared.known_table.KnownTable.TheVariants.{
   Nndn,
 }
 
--- all of them; a file's name stands for one at most
-unfoldable pub known_tables : List KnownTable
-known_tables =
+-- those of deletes
+unfoldable pub deletes_tables : List KnownTable
+deletes_tables =
     RegistrarDeletes ∷ ContactDeletes ∷ HostDeletes ∷ DomainDeletes ∷ IdnLanguageDeletes ∷
-    NndnDeletes ∷ Registrar ∷ Contact ∷ ContactPostal ∷ ContactStatuses ∷ ContactTransfer ∷
-    ContactDisclose ∷ Host ∷ HostAddresses ∷ HostStatuses ∷ Domain ∷ DomainContacts ∷
-    DomainNameServers ∷ DomainNameServersAddresses ∷ DomainStatuses ∷ DomainTransfer ∷ Dnssec ∷
-    IdnLanguage ∷ Nndn ∷ []
+    NndnDeletes ∷ []
+
+-- those of contents
+unfoldable pub contents_tables : List KnownTable
+contents_tables =
+    Registrar ∷ Contact ∷ ContactPostal ∷ ContactStatuses ∷ ContactTransfer ∷ ContactDisclose ∷
+    Host ∷ HostAddresses ∷ HostStatuses ∷ Domain ∷ DomainContacts ∷ DomainNameServers ∷
+    DomainNameServersAddresses ∷ DomainStatuses ∷ DomainTransfer ∷ Dnssec ∷ IdnLanguage ∷ Nndn ∷ []
+
+-- all of them; a file's name stands for one at most
+abbrev pub known_tables : List KnownTable
+known_tables = deletes_tables ++ contents_tables
 
 -- the stem of its files' names: what they begin with, before a dash or a dot
 abbrev pub file_stem : KnownTable → List ℕ
@@ -147,3 +157,44 @@ is_of_deletes DomainTransfer = false
 is_of_deletes Dnssec = false
 is_of_deletes IdnLanguage = false
 is_of_deletes Nndn = false
+
+-- whether it is a parent table, with a row for each object or deleted key, and not a child table
+abbrev pub is_parent : KnownTable → Bool
+is_parent RegistrarDeletes = true
+is_parent ContactDeletes = true
+is_parent HostDeletes = true
+is_parent DomainDeletes = true
+is_parent IdnLanguageDeletes = true
+is_parent NndnDeletes = true
+is_parent Registrar = true
+is_parent Contact = true
+is_parent ContactPostal = false
+is_parent ContactStatuses = false
+is_parent ContactTransfer = false
+is_parent ContactDisclose = false
+is_parent Host = true
+is_parent HostAddresses = false
+is_parent HostStatuses = false
+is_parent Domain = true
+is_parent DomainContacts = false
+is_parent DomainNameServers = false
+is_parent DomainNameServersAddresses = false
+is_parent DomainStatuses = false
+is_parent DomainTransfer = false
+is_parent Dnssec = false
+is_parent IdnLanguage = true
+is_parent Nndn = true
+
+-- the names that the key of a kind's rows has in headings
+abbrev pub key_names : Kind → List (List ℕ)
+key_names kind.Registrar = codes "id" ∷ codes "fId" ∷ []
+key_names kind.Contact = codes "id" ∷ codes "fId" ∷ []
+key_names kind.Host = codes "name" ∷ codes "fName" ∷ codes "hostName" ∷ codes "fHostName" ∷ []
+key_names kind.Domain =
+    codes "name" ∷ codes "fName" ∷ codes "domainName" ∷ codes "fDomainName" ∷ []
+key_names kind.Idn = codes "id" ∷ codes "fId" ∷ codes "idnTableId" ∷ codes "fIdnTableId" ∷ []
+key_names kind.Nndn = codes "aName" ∷ codes "fAName" ∷ []
+
+-- whether a field of this name has the key of a table's rows
+abbrev pub is_key : KnownTable → List ℕ → Bool
+is_key k field = list_any (λ name. bytes_eq field name) (key_names (table_kind k))

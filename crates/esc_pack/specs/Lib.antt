@@ -1,6 +1,7 @@
 pub mod Bundling
 pub mod Describing
 pub mod GivenRows
+pub mod KnownFields
 pub mod KnownTables
 pub mod Listing
 pub mod Release

@@ -21,7 +21,7 @@ pub enum BundleFault {
     },
     /// There are files for another number of tables than the description declares.
     Unmatched,
-    /// A file with a heading begins with another row than the names of the declared fields.
+    /// A file with a heading begins with a row that does not name the declared fields.
     Heading {
         table: usize,
         file: usize,

@@ -1,52 +1,42 @@
 //! The description that is proposed of a folder's files.
 
-ghost use Rattle.std.specs.Prelude.{
-  ◌≡◌,
-  IfOk,
-  OnOk,
-  Ok,
-  length,
-  true,
-  option_map,
-  string_bytes,
-};
-ghost use Rattle.std.specs.Str.{bytes_eq};
-ghost use Rattle.std.specs.List.{list_all, list_any, find, zip};
+ghost use Rattle.std.specs.Prelude.{◌≡◌, IfOk, OnOk, Ok, true, filter_map, option_map};
+ghost use Rattle.std.specs.List.{find};
 ghost use Rattle.esc_envelope.specs.Envelope.{envelope_of};
-ghost use Rattle.esc_pack.specs.KnownTables.{known_tables, file_stem};
+ghost use Rattle.esc_pack.specs.KnownTables.{
+  known_tables,
+  contents_tables,
+  deletes_tables,
+  file_stem,
+};
 ghost use Rattle.esc_pack.specs.Describing.{
   is_file_of,
   table_named,
-  is_known_as,
-  names_file,
-  has_file,
-  is_in_table,
-  is_said,
-  is_accounted,
-  is_right,
+  draft_of,
+  are_proposed,
+  IsDescriptionOf,
   IsProposalOf,
 };
 
 use crate::bundle_fault::BundleFault;
-use crate::draft::draft;
-use crate::known_table::KnownTable;
-use crate::proposal::{FolderFile, Proposal, Unknown, Why};
-use crate::sources::{Source, Sources, read_sources};
-use esc_envelope::{Envelope, Table, read_envelope};
+use crate::draft::{Draft, are_proposed, drafts_of, unknown_files};
+use crate::known_table::{KnownTable, is_file_of};
+use crate::proposal::{FolderFile, Proposal};
+use crate::sources::{Sources, read_sources};
+use crate::text::description_of;
+use esc_bundle::NoMemory;
+use esc_envelope::{Envelope, read_envelope};
 use std::alloc::Global;
 
-// Whether a name begins with a stem and a dash or a dot after it that `delete` doesn't follow.
-fn is_file_of(stem: &[u8], name: &[u8]) -> bool
-    ensures { result ≡ is_file_of stem.now name.now }
-{
-    stem.len() < name.len()
-        && &name[..stem.len()] == stem
-        && (name[stem.len()] == b'-' || name[stem.len()] == b'.')
-        && !name[stem.len() + 1..].starts_with(b"delete")
+/// The tables that are proposed of a folder's files.
+#[derive(Drop)]
+struct Drafts {
+    contents: Vec<Draft>,
+    deletes: Vec<Draft>,
 }
 
 // All known tables.
-#[tactic(auto, unfolding(crate::specs::KnownTables::known_tables))]
+#[tactic(auto, unfolding(crate::specs::KnownTables::contents_tables, crate::specs::KnownTables::deletes_tables,))]
 fn all_known() -> [KnownTable; 24]
     ensures { result ≡ known_tables }
 {
@@ -73,144 +63,59 @@ pub fn table_named(name: &str) -> Option<KnownTable>
     }
 }
 
-fn is_among(name: &str, files: &[String]) -> bool
-    ensures { result ≡ list_any (λ n. bytes_eq (string_bytes n) name.now) files.now }
+// Those of contents.
+#[tactic(auto, unfolding(crate::specs::KnownTables::contents_tables))]
+fn contents_known() -> [KnownTable; 18]
+    ensures { result ≡ contents_tables }
 {
-    files.iter().any(|file| file.as_str() == name)
+    KnownTable::CONTENTS
 }
 
-// Whether a declared table is this one.
-fn is_known_as(known: KnownTable, table: &Table) -> bool
-    ensures { result ≡ is_known_as known table.now }
+// Those of deletes.
+#[tactic(auto, unfolding(crate::specs::KnownTables::deletes_tables))]
+fn deletes_known() -> [KnownTable; 6]
+    ensures { result ≡ deletes_tables }
 {
-    table.name.as_str() == known.table_name() && known.kind() == table.kind
+    KnownTable::DELETES
 }
 
-// Whether this file is among those of a table whose files have headings.
-fn names_file(source: &Source, name: &str) -> bool
-    ensures { result ≡ names_file source.now name.now }
+// The tables that are proposed of files.
+fn all_drafts(alloc: Global, files: &[FolderFile<'_>]) -> Result<Drafts, NoMemory>
+    ensures contents { IfOk result (λ drafts.
+        drafts.contents.items ≡ filter_map (draft_of files.now) contents_tables) }
+    ensures deletes { IfOk result (λ drafts.
+        drafts.deletes.items ≡ filter_map (draft_of files.now) deletes_tables) }
 {
-    source.has_heading && is_among(name, &source.files)
+    let contents = drafts_of(alloc, files, &contents_known())?;
+    let deletes = drafts_of(alloc, files, &deletes_known())?;
+    Ok(Drafts { contents, deletes })
 }
 
-// Whether a declared table is this one, and has this file, with a heading.
-fn has_file(known: KnownTable, name: &str, table: &Table, source: &Source) -> bool
-    ensures { result ≡ has_file known name.now (table.now, source.now) }
+// Whether a description declares these tables, and names their files.
+fn is_of_drafts(drafts: &Drafts, envelope: &Envelope, sources: &Sources) -> bool
+    ensures contents { result ≡ true → are_proposed drafts.now.contents.items
+        envelope.now.contents sources.now.contents ≡ true }
+    ensures deletes { result ≡ true → are_proposed drafts.now.deletes.items
+        envelope.now.deletes sources.now.deletes ≡ true }
 {
-    is_known_as(known, table) && names_file(source, name)
+    are_proposed(&drafts.contents, &envelope.contents, &sources.contents)
+        && are_proposed(&drafts.deletes, &envelope.deletes, &sources.deletes)
 }
 
-fn any_has_file(known: KnownTable, name: &str, tables: &[Table], sources: &[Source]) -> bool
-    ensures { result ≡ list_any (has_file known name.now) (zip tables.now sources.now) }
+// Reads a description again, and tests that it is of these tables.
+fn check_text(alloc: Global, drafts: &Drafts, text: &[u8]) -> Result<(), BundleFault>
+    ensures { OnOk result (IsDescriptionOf drafts.now.contents.items drafts.now.deletes.items
+        text.now) }
 {
-    tables
-        .iter()
-        .zip(sources)
-        .any(|(table, source)| has_file(known, name, table, source))
-}
-
-// Whether a file is named in the table that its name stands for.
-fn is_in_table(envelope: &Envelope, sources: &Sources, name: &str) -> bool
-    ensures { result ≡ is_in_table envelope.now sources.now name.now (table_named name.now) }
-{
-    match table_named(name) {
-        Some(known) => {
-            if known.is_of_deletes() {
-                any_has_file(known, name, &envelope.deletes, &sources.deletes)
-            } else {
-                any_has_file(known, name, &envelope.contents, &sources.contents)
-            }
-        }
-        None => false,
-    }
-}
-
-fn is_said(unknown: &[Unknown], name: &str) -> bool
-    ensures { result ≡ is_said unknown.now name.now }
-{
-    unknown.iter().any(|said| said.name.as_str() == name)
-}
-
-fn are_accounted(
-    envelope: &Envelope,
-    sources: &Sources,
-    unknown: &[Unknown],
-    files: &[FolderFile<'_>],
-) -> bool
-    ensures { result ≡ list_all (is_accounted envelope.now sources.now unknown.now) files.now }
-{
-    files.iter().all(|file| is_in_table(envelope, sources, file.name)
-        || is_said(unknown, file.name))
-}
-
-fn is_right(unknown: &Unknown) -> bool
-    ensures { result ≡ is_right unknown.now }
-{
-    let is_known = table_named(unknown.name.as_str()).is_some();
-    match unknown.why {
-        Why::Name => !is_known,
-        Why::Heading | Why::Other => is_known,
-    }
-}
-
-fn are_right(unknown: &[Unknown]) -> bool
-    ensures { result ≡ list_all is_right unknown.now }
-{
-    unknown.iter().all(|said| is_right(said))
-}
-
-// Whether the tables of a description are as many as those whose files it names, it accounts for
-// all files of the folder, and what it says of those that it doesn't name is right.
-fn is_proposed(
-    envelope: &Envelope,
-    sources: &Sources,
-    unknown: &[Unknown],
-    files: &[FolderFile<'_>],
-) -> bool
-    ensures contents { result ≡ true
-        → length sources.now.contents ≡ length envelope.now.contents }
-    ensures deletes { result ≡ true
-        → length sources.now.deletes ≡ length envelope.now.deletes }
-    ensures accounted { result ≡ true
-        → list_all (is_accounted envelope.now sources.now unknown.now) files.now ≡ true }
-    ensures right { result ≡ true → list_all is_right unknown.now ≡ true }
-{
-    sources.contents.len() == envelope.contents.len()
-        && sources.deletes.len() == envelope.deletes.len()
-        && are_accounted(envelope, sources, unknown, files)
-        && are_right(unknown)
-}
-
-// Tests a proposal, of which this envelope was read.
-fn check_sources(
-    alloc: Global,
-    files: &[FolderFile<'_>],
-    proposal: &Proposal,
-    envelope: &Envelope,
-) -> Result<(), BundleFault>
-    ensures { OnOk result (envelope_of proposal.now.text ≡ Ok envelope.now
-        → IsProposalOf files.now proposal.now) }
-{
-    let Some(sources) = read_sources(alloc, &proposal.text)? else {
+    let envelope = read_envelope(alloc, text)?;
+    let Some(sources) = read_sources(alloc, text)? else {
         return Err(BundleFault::Unmatched);
     };
-    if is_proposed(envelope, &sources, &proposal.unknown, files) {
+    if is_of_drafts(drafts, &envelope, &sources) {
         Ok(())
     } else {
         Err(BundleFault::Unmatched)
     }
-}
-
-// Reads a proposal again, and tests what it says.
-fn check_proposal(
-    alloc: Global,
-    files: &[FolderFile<'_>],
-    proposal: &Proposal,
-) -> Result<(), BundleFault>
-    ensures { OnOk result (IsProposalOf files.now proposal.now) }
-{
-    let envelope = read_envelope(alloc, &proposal.text)?;
-    check_sources(alloc, files, proposal, &envelope)
 }
 
 /// The description that is proposed of a folder's files, by their names and their headings, and the
@@ -219,12 +124,14 @@ fn check_proposal(
 ///
 /// # Errors
 ///
-/// `Refused`: the description that was made is no envelope. `Unmatched`: it doesn't account for
-/// these files. `NoMemory`.
+/// `Refused`: the description that was made is no envelope. `Unmatched`: it isn't read as it was
+/// made. `NoMemory`.
 pub fn describe_files(alloc: Global, files: &[FolderFile<'_>]) -> Result<Proposal, BundleFault>
     ensures { IfOk result (λ p. IsProposalOf files.now p) }
 {
-    let proposal = draft(alloc, files)?;
-    check_proposal(alloc, files, &proposal)?;
-    Ok(proposal)
+    let drafts = all_drafts(alloc, files)?;
+    let text = description_of(alloc, &drafts.contents, &drafts.deletes)?;
+    check_text(alloc, &drafts, &text)?;
+    let unknown = unknown_files(alloc, files)?;
+    Ok(Proposal { text, unknown })
 }

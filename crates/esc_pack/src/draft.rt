@@ -1,286 +1,312 @@
-//! A description is made as a text here, without a contract: what it says is tested when it is read
-//! again (`describe_files`).
+//! The tables that are proposed of a folder's files, and the files that are in none.
+
+ghost use Rattle.std.specs.Prelude.{◌≡◌, IfOk, map, filter_map, option_map, string_bytes};
+ghost use Rattle.std.specs.List.{list_all, zip};
+ghost use Rattle.std.specs.Str.{bytes_eq};
+ghost use Rattle.esc_pack.specs.Describing.{
+  heading_in,
+  fields_in,
+  are_same,
+  has_fields,
+  name_in,
+  draft_of,
+  is_known_as,
+  has_role,
+  has_key,
+  is_declared,
+  is_filed,
+  are_proposed,
+  why_apart,
+  why_of,
+  unknown_of,
+  table_named,
+};
 
 use crate::describe::table_named;
+use crate::heading::{Fields, first_heading, heading_in};
 use crate::known_table::KnownTable;
-use crate::proposal::{FolderFile, Proposal, Unknown, Why};
+use crate::proposal::{FolderFile, Unknown, Why};
+use crate::sources::Source;
 use esc_bundle::NoMemory;
-use esc_csv::{Record, Records};
-use esc_envelope::{MOST_FIELDS, is_id};
-use serde_json::json;
+use esc_envelope::Table;
 use std::alloc::Global;
+use std::marker::Model;
 
-/// Placeholders for id, type and watermark, which no file says.
-const FRONT: &str = "{\"id\":\"ID\",\"type\":\"FULL\",\"watermark\":\"1970-01-01T00:00:00Z\"";
-
-// The heading of a table: its fields, and which of them, from 0, is the key.
+/// A table that is proposed.
 #[derive(Drop)]
-struct Heading {
-    fields: Vec<String>,
-    key: usize,
+pub(crate) struct Draft {
+    pub table: KnownTable,
+    /// The fields of its first file with a heading.
+    pub fields: Fields,
+    /// The names of its files, each of which has this heading, in their order.
+    pub files: Vec<String>,
 }
 
-// What is known of a file: its name, the table that the name stands for, and its heading.
-#[derive(Drop)]
-struct Told<'a> {
-    name: &'a str,
-    table: Option<KnownTable>,
-    heading: Option<Heading>,
+impl Model for Draft {
+    ghost use Rattle.std.specs.Prelude.{map, string_bytes};
+    ghost use Rattle.esc_pack.specs.Describing.{DraftValue};
+
+    ghost Value = { DraftValue };
+
+    ghost view = { λ d. record {
+      table = d.table;
+      fields = d.fields;
+      files = map string_bytes d.files.items;
+    } };
 }
 
-fn are_fields(fields: &[String]) -> bool {
-    for (place, field) in fields.iter().enumerate() {
-        if !is_id(field.as_str()) || is_among(field, &fields[..place]) {
-            return false;
+// The fields of a table: those of its first file with a heading.
+fn fields_in(
+    alloc: Global,
+    files: &[FolderFile<'_>],
+    table: KnownTable,
+) -> Result<Option<Fields>, NoMemory>
+    ensures { IfOk result (λ fields. fields ≡ fields_in files.now table) }
+{
+    for file in files {
+        if let Some(heading) = heading_in(alloc, table, file)? {
+            return Ok(Some(heading));
         }
     }
-    true
+    Ok(None)
 }
 
-fn is_among(text: &String, others: &[String]) -> bool {
-    others.iter().any(|other| other.as_str() == text.as_str())
+fn are_equal(names: &[String], others: &[String]) -> bool
+    ensures { result ≡ list_all (λ p. bytes_eq (string_bytes p.0) (string_bytes p.1))
+        (zip names.now others.now) }
+{
+    names
+        .iter()
+        .zip(others)
+        .all(|(name, other)| name.as_str() == other.as_str())
 }
 
-fn texts_of(alloc: Global, line: &Record) -> Result<Vec<String>, NoMemory> {
-    let mut texts = Vec::new(alloc);
-    if line.len() > MOST_FIELDS || !line.is_text() {
-        return Ok(texts);
+// Whether two lists of names are the same.
+fn are_same(names: &[String], others: &[String]) -> bool
+    ensures { result ≡ are_same (map string_bytes names.now) (map string_bytes others.now) }
+{
+    names.len() == others.len() && are_equal(names, others)
+}
+
+// Whether there is a heading, of these fields.
+fn has_fields(fields: &Fields, heading: &Option<Fields>) -> bool
+    ensures { result ≡ has_fields fields.now heading.now }
+{
+    match heading {
+        Some(heading) => are_same(&heading.names, &fields.names),
+        None => false,
     }
-    for place in 0..line.len() {
-        texts.push(String::from_str(alloc, line.text(place))?)?;
-    }
-    Ok(texts)
 }
 
-// Reads the first row of a file, and returns whether there is one.
-fn read_first(alloc: Global, bytes: &[u8], line: &mut Record) -> Result<bool, NoMemory> {
-    let mut rows = Records::of(alloc, bytes);
-    rows.next(line)
-}
-
-// The texts of the first row of a file, if it has one.
-fn first_texts(alloc: Global, bytes: &[u8]) -> Result<Vec<String>, NoMemory> {
-    let mut line = Record::new(alloc);
-    if read_first(alloc, bytes, &mut line)? {
-        texts_of(alloc, &line)
+// The name of a file of a table with these fields.
+fn name_in(
+    alloc: Global,
+    table: KnownTable,
+    fields: &Fields,
+    file: &FolderFile<'_>,
+) -> Result<Option<String>, NoMemory>
+    ensures { IfOk result (λ name.
+        option_map string_bytes name ≡ name_in table fields.now file.now) }
+{
+    let heading = heading_in(alloc, table, file)?;
+    if has_fields(fields, &heading) {
+        Ok(Some(String::from_str(alloc, file.name)?))
     } else {
-        Ok(Vec::new(alloc))
+        Ok(None)
     }
 }
 
-// Which of these texts is the key, if they are the fields of this table.
-fn key_of(table: KnownTable, fields: &[String]) -> Option<usize> {
-    if !are_fields(fields) {
-        return None;
+// The names of the files of a table that have these fields.
+fn names_in(
+    alloc: Global,
+    files: &[FolderFile<'_>],
+    table: KnownTable,
+    fields: &Fields,
+) -> Result<Vec<String>, NoMemory>
+    ensures { IfOk result (λ names.
+        map string_bytes names.items ≡ filter_map (name_in table fields.now) files.now) }
+{
+    let mut names = Vec::new(alloc);
+    for file in files {
+        if let Some(name) = name_in(alloc, table, fields, file)? {
+            names.push(name)?;
+        }
     }
-    fields.iter().position(|field| table.is_key(field.as_str()))
+    Ok(names)
 }
 
-// The first row of a file, if it is a heading of this table.
-fn heading_of(alloc: Global, table: KnownTable, bytes: &[u8]) -> Result<Option<Heading>, NoMemory> {
-    let fields = first_texts(alloc, bytes)?;
-    match key_of(table, &fields) {
-        Some(key) => Ok(Some(Heading { fields, key })),
+// The table that is proposed of files, if one of them has a heading of it.
+fn draft_of(
+    alloc: Global,
+    files: &[FolderFile<'_>],
+    table: KnownTable,
+) -> Result<Option<Draft>, NoMemory>
+    ensures { IfOk result (λ draft. draft ≡ draft_of files.now table) }
+{
+    let Some(fields) = fields_in(alloc, files, table)? else {
+        return Ok(None);
+    };
+    let files = names_in(alloc, files, table, &fields)?;
+    Ok(Some(Draft {
+        table,
+        fields,
+        files,
+    }))
+}
+
+/// Those of these tables that are proposed of files.
+pub(crate) fn drafts_of(
+    alloc: Global,
+    files: &[FolderFile<'_>],
+    tables: &[KnownTable],
+) -> Result<Vec<Draft>, NoMemory>
+    ensures { IfOk result (λ drafts. drafts.items ≡ filter_map (draft_of files.now) tables.now) }
+{
+    let mut drafts = Vec::new(alloc);
+    for table in tables {
+        if let Some(draft) = draft_of(alloc, files, *table)? {
+            drafts.push(draft)?;
+        }
+    }
+    Ok(drafts)
+}
+
+// Why a file with this heading isn't in a table of these fields.
+fn why_apart(heading: Option<Fields>, fields: &Option<Fields>) -> Option<Why>
+    ensures { result ≡ why_apart heading fields.now }
+{
+    let Some(heading) = heading else {
+        return Some(Why::Heading);
+    };
+    if has_fields(&heading, fields) {
+        None
+    } else {
+        Some(Why::Other)
+    }
+}
+
+// Why a file isn't named in the table that its name stands for, or `None` if it is.
+fn why_of(
+    alloc: Global,
+    files: &[FolderFile<'_>],
+    file: &FolderFile<'_>,
+) -> Result<Option<Why>, NoMemory>
+    ensures { IfOk result (λ why.
+        why ≡ why_of files.now file.now (table_named file.now.name)) }
+{
+    let Some(table) = table_named(file.name) else {
+        return Ok(Some(Why::Name));
+    };
+    let heading = first_heading(alloc, table, file.bytes)?;
+    Ok(why_apart(heading, &fields_in(alloc, files, table)?))
+}
+
+fn unknown_of(
+    alloc: Global,
+    files: &[FolderFile<'_>],
+    file: &FolderFile<'_>,
+) -> Result<Option<Unknown>, NoMemory>
+    ensures { IfOk result (λ unknown. unknown ≡ unknown_of files.now file.now) }
+{
+    match why_of(alloc, files, file)? {
+        Some(why) => {
+            let name = String::from_str(alloc, file.name)?;
+            Ok(Some(Unknown { name, why }))
+        }
         None => Ok(None),
     }
 }
 
-fn told_of<'a>(alloc: Global, file: &FolderFile<'a>) -> Result<Told<'a>, NoMemory> {
-    let table = table_named(file.name);
-    let heading = match table {
-        Some(table) => heading_of(alloc, table, file.bytes)?,
-        None => None,
-    };
-    Ok(Told {
-        name: file.name,
-        table,
-        heading,
-    })
-}
-
-fn told_files<'a>(alloc: Global, files: &[FolderFile<'a>]) -> Result<Vec<Told<'a>>, NoMemory> {
-    let mut told = Vec::new(alloc);
-    for file in files {
-        told.push(told_of(alloc, file)?)?;
-    }
-    Ok(told)
-}
-
-// The heading of a table: that of its first file.
-fn first_heading<'a>(told: &'a [Told<'_>], table: KnownTable) -> Option<&'a Heading> {
-    for file in told {
-        if file.table == Some(table) && file.heading.is_some() {
-            return file.heading.as_ref();
-        }
-    }
-    None
-}
-
-fn are_same(fields: &[String], others: &[String]) -> bool {
-    fields.len() == others.len()
-        && fields
-            .iter()
-            .zip(others)
-            .all(|(field, other)| field.as_str() == other.as_str())
-}
-
-// Why a file isn't named in the table that its name stands for, or `None` if it is.
-fn why_not(told: &[Told<'_>], file: &Told<'_>) -> Option<Why> {
-    let Some(table) = file.table else {
-        return Some(Why::Name);
-    };
-    let Some(heading) = &file.heading else {
-        return Some(Why::Heading);
-    };
-    match first_heading(told, table) {
-        Some(first) if are_same(&first.fields, &heading.fields) => None,
-        _ => Some(Why::Other),
-    }
-}
-
-fn unknown_of(alloc: Global, told: &[Told<'_>]) -> Result<Vec<Unknown>, NoMemory> {
+/// The files that aren't named, each with the reason.
+pub(crate) fn unknown_files(
+    alloc: Global,
+    files: &[FolderFile<'_>],
+) -> Result<Vec<Unknown>, NoMemory>
+    ensures { IfOk result (λ unknown.
+        unknown.items ≡ filter_map (unknown_of files.now) files.now) }
+{
     let mut unknown = Vec::new(alloc);
-    for file in told {
-        if let Some(why) = why_not(told, file) {
-            let name = String::from_str(alloc, file.name)?;
-            unknown.push(Unknown { name, why })?;
+    for file in files {
+        if let Some(one) = unknown_of(alloc, files, file)? {
+            unknown.push(one)?;
         }
     }
     Ok(unknown)
 }
 
-// A text as JSON.
-fn push_json(alloc: Global, text: &mut String, word: &str) -> Result<(), NoMemory> {
-    let value = json!(in alloc; word)?;
-    text.push_str(value.to_string(alloc)?.as_str())?;
-    Ok(())
+// Whether a declared table has the name and the kind of this one.
+fn is_known_as(known: KnownTable, table: &Table) -> bool
+    ensures { result ≡ is_known_as known table.now }
+{
+    table.name.as_str() == known.table_name() && known.kind() == table.kind
 }
 
-// What stands between the items of a list, unless this is the first.
-fn push_comma(text: &mut String, comma: &str) -> Result<(), NoMemory> {
-    if !text.as_str().ends_with("[") {
-        text.push_str(comma)?;
-    }
-    Ok(())
-}
-
-fn push_fields(alloc: Global, text: &mut String, fields: &[String]) -> Result<(), NoMemory> {
-    text.push_str(",\"fields\":[")?;
-    for field in fields {
-        push_comma(text, ",")?;
-        push_json(alloc, text, field.as_str())?;
-    }
-    text.push_str("]")?;
-    Ok(())
-}
-
-// The names of the files of a table.
-fn push_files(
-    alloc: Global,
-    text: &mut String,
-    told: &[Told<'_>],
-    table: KnownTable,
-) -> Result<(), NoMemory> {
-    text.push_str(",\"from\":[")?;
-    for file in told {
-        if file.table == Some(table) && why_not(told, file).is_none() {
-            push_comma(text, ",")?;
-            push_json(alloc, text, file.name)?;
-        }
-    }
-    text.push_str("]")?;
-    Ok(())
-}
-
-fn push_words(
-    alloc: Global,
-    text: &mut String,
-    table: KnownTable,
-    key: &str,
-) -> Result<(), NoMemory> {
-    let (name, kind) = (table.table_name(), table.kind().name());
-    let role = if table.is_parent() { "parent" } else { "child" };
-    let words = format!(in alloc;
-        "{{\"name\":\"{name}\",\"kind\":\"{kind}\",\"role\":\"{role}\",\"key\":\"{key}\""
-    )?;
-    text.push_str(words.as_str())?;
-    Ok(())
-}
-
-// The name of the section of a table.
-fn push_section(alloc: Global, text: &mut String, table: KnownTable) -> Result<(), NoMemory> {
-    text.push_str(",\"file\":\"")?;
-    if table.is_of_deletes() {
-        text.push_str("deleted-")?;
-    }
-    let name = table.table_name().to_ascii_lowercase(alloc)?;
-    text.push_str(name.as_str())?;
-    text.push_str(".csv\",\"heading\":true")?;
-    Ok(())
-}
-
-fn key_field(heading: &Heading) -> &str {
-    match heading.fields.get(heading.key) {
-        Some(key) => key.as_str(),
-        None => "",
+// Whether it has its role.
+fn has_role(known: KnownTable, table: &Table) -> bool
+    ensures { result ≡ has_role known table.now }
+{
+    if table.parent {
+        known.is_parent()
+    } else {
+        !known.is_parent()
     }
 }
 
-// The declaration of a table, if a file with a heading is of it.
-fn push_table(
-    alloc: Global,
-    text: &mut String,
-    told: &[Told<'_>],
-    table: KnownTable,
-) -> Result<(), NoMemory> {
-    let Some(heading) = first_heading(told, table) else {
-        return Ok(());
-    };
-    push_comma(text, ",\n")?;
-    push_words(alloc, text, table, key_field(heading))?;
-    push_section(alloc, text, table)?;
-    push_fields(alloc, text, &heading.fields)?;
-    push_files(alloc, text, told, table)?;
-    text.push_str("}")?;
-    Ok(())
+// Whether its key is one of this one's.
+fn has_key(known: KnownTable, table: &Table) -> bool
+    ensures { result ≡ has_key known table.now }
+{
+    known.is_key(table.fields[table.key].as_str())
 }
 
-fn push_tables(
-    alloc: Global,
-    text: &mut String,
-    told: &[Told<'_>],
-    is_of_deletes: bool,
-) -> Result<(), NoMemory> {
-    text.push_str("[")?;
-    for table in KnownTable::ALL {
-        if table.is_of_deletes() == is_of_deletes {
-            push_table(alloc, text, told, table)?;
-        }
-    }
-    text.push_str("]")?;
-    Ok(())
+// Whether it has just these fields.
+fn have_fields(fields: &Fields, table: &Table) -> bool
+    ensures { result ≡ are_same table.now.fields fields.now }
+{
+    are_same(&table.fields, &fields.names)
 }
 
-fn push_description(alloc: Global, text: &mut String, told: &[Told<'_>]) -> Result<(), NoMemory> {
-    text.push_str(FRONT)?;
-    text.push_str(",\n\"contents\":")?;
-    push_tables(alloc, text, told, false)?;
-    text.push_str(",\n\"deletes\":")?;
-    push_tables(alloc, text, told, true)?;
-    text.push_str("}\n")?;
-    Ok(())
+// Whether a table is declared as proposed.
+fn is_declared(draft: &Draft, table: &Table) -> bool
+    ensures { result ≡ is_declared (draft.now, table.now) }
+{
+    is_known_as(draft.table, table)
+        && has_role(draft.table, table)
+        && has_key(draft.table, table)
+        && have_fields(&draft.fields, table)
 }
 
-fn description_of(alloc: Global, told: &[Told<'_>]) -> Result<Vec<u8>, NoMemory> {
-    let mut text = String::new(alloc);
-    push_description(alloc, &mut text, told)?;
-    Ok(text.into_bytes())
+// Whether the files of a table are named as proposed.
+fn is_filed(draft: &Draft, source: &Source) -> bool
+    ensures { result ≡ is_filed (draft.now, source.now) }
+{
+    source.has_heading && are_same(&source.files, &draft.files)
 }
 
-/// A description of these files, and which of them it doesn't name.
-pub(crate) fn draft(alloc: Global, files: &[FolderFile<'_>]) -> Result<Proposal, NoMemory> {
-    let told = told_files(alloc, files)?;
-    let text = description_of(alloc, &told)?;
-    let unknown = unknown_of(alloc, &told)?;
-    Ok(Proposal { text, unknown })
+fn are_declared(drafts: &[Draft], tables: &[Table]) -> bool
+    ensures { result ≡ list_all is_declared (zip drafts.now tables.now) }
+{
+    drafts
+        .iter()
+        .zip(tables)
+        .all(|(draft, table)| is_declared(draft, table))
+}
+
+fn are_filed(drafts: &[Draft], sources: &[Source]) -> bool
+    ensures { result ≡ list_all is_filed (zip drafts.now sources.now) }
+{
+    drafts
+        .iter()
+        .zip(sources)
+        .all(|(draft, source)| is_filed(draft, source))
+}
+
+/// Whether tables are declared, and their files named, as proposed.
+pub(crate) fn are_proposed(drafts: &[Draft], tables: &[Table], sources: &[Source]) -> bool
+    ensures { result ≡ are_proposed drafts.now tables.now sources.now }
+{
+    tables.len() == drafts.len()
+        && sources.len() == drafts.len()
+        && are_declared(drafts, tables)
+        && are_filed(drafts, sources)
 }

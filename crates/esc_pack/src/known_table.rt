@@ -1,5 +1,8 @@
 //! The tables that are known by the names of files.
 
+ghost use Rattle.std.specs.Prelude.{◌≡◌};
+ghost use Rattle.esc_pack.specs.Describing.{is_file_of};
+
 use esc_envelope::Kind;
 
 /// A table that an agent's file is known to have by its name: the names of files are those of the
@@ -34,7 +37,14 @@ pub enum KnownTable {
 
 impl KnownTable {
     ghost use Rattle.std.specs.Prelude.{◌≡◌};
-    ghost use Rattle.esc_pack.specs.KnownTables.{file_stem, table_name, table_kind, is_of_deletes};
+    ghost use Rattle.esc_pack.specs.KnownTables.{
+      file_stem,
+      table_name,
+      table_kind,
+      is_of_deletes,
+      is_parent,
+      is_key,
+    };
 
     /// All of them. A file's name stands for one at most.
     pub const ALL: [KnownTable; 24] = [
@@ -62,6 +72,38 @@ impl KnownTable {
         KnownTable::Dnssec,
         KnownTable::IdnLanguage,
         KnownTable::Nndn,
+    ];
+
+    /// Those of contents.
+    pub const CONTENTS: [KnownTable; 18] = [
+        KnownTable::Registrar,
+        KnownTable::Contact,
+        KnownTable::ContactPostal,
+        KnownTable::ContactStatuses,
+        KnownTable::ContactTransfer,
+        KnownTable::ContactDisclose,
+        KnownTable::Host,
+        KnownTable::HostAddresses,
+        KnownTable::HostStatuses,
+        KnownTable::Domain,
+        KnownTable::DomainContacts,
+        KnownTable::DomainNameServers,
+        KnownTable::DomainNameServersAddresses,
+        KnownTable::DomainStatuses,
+        KnownTable::DomainTransfer,
+        KnownTable::Dnssec,
+        KnownTable::IdnLanguage,
+        KnownTable::Nndn,
+    ];
+
+    /// Those of deletes.
+    pub const DELETES: [KnownTable; 6] = [
+        KnownTable::RegistrarDeletes,
+        KnownTable::ContactDeletes,
+        KnownTable::HostDeletes,
+        KnownTable::DomainDeletes,
+        KnownTable::IdnLanguageDeletes,
+        KnownTable::NndnDeletes,
     ];
 
     /// The stem of its files' names: what they begin with, before a dash or a dot.
@@ -185,7 +227,9 @@ impl KnownTable {
 
     /// Whether it is a parent table, with a row for each object or deleted key, and not a child
     /// table.
-    pub fn is_parent(self) -> bool {
+    pub fn is_parent(self) -> bool
+        ensures { result ≡ is_parent self }
+    {
         match self {
             KnownTable::RegistrarDeletes
             | KnownTable::ContactDeletes
@@ -215,13 +259,34 @@ impl KnownTable {
     }
 
     /// Whether a field of this name has the key of its rows.
-    pub fn is_key(self, field: &str) -> bool {
+    pub fn is_key(self, field: &str) -> bool
+        ensures { result ≡ is_key self field.now }
+    {
         match self.kind() {
-            Kind::Registrar | Kind::Contact => matches!(field, "id" | "fId"),
-            Kind::Host => matches!(field, "name" | "fName" | "hostName" | "fHostName"),
-            Kind::Domain => matches!(field, "name" | "fName" | "domainName" | "fDomainName"),
-            Kind::Idn => matches!(field, "id" | "fId" | "idnTableId" | "fIdnTableId"),
-            Kind::Nndn => matches!(field, "aName" | "fAName"),
+            Kind::Registrar | Kind::Contact => field == "id" || field == "fId",
+            Kind::Host => {
+                field == "name" || field == "fName" || field == "hostName" || field == "fHostName"
+            }
+            Kind::Domain => {
+                field == "name"
+                    || field == "fName"
+                    || field == "domainName"
+                    || field == "fDomainName"
+            }
+            Kind::Idn => {
+                field == "id" || field == "fId" || field == "idnTableId" || field == "fIdnTableId"
+            }
+            Kind::Nndn => field == "aName" || field == "fAName",
         }
     }
+}
+
+/// Whether a name begins with a stem and a dash or a dot after it that `delete` doesn't follow.
+pub(crate) fn is_file_of(stem: &[u8], name: &[u8]) -> bool
+    ensures { result ≡ is_file_of stem.now name.now }
+{
+    stem.len() < name.len()
+        && &name[..stem.len()] == stem
+        && (name[stem.len()] == b'-' || name[stem.len()] == b'.')
+        && !name[stem.len() + 1..].starts_with(b"delete")
 }

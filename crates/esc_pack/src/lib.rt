@@ -31,7 +31,9 @@
 //! `describe_files` takes the files of a folder, each with its name and its bytes, and proposes a
 //! description for `bundle_of_files` where an agent sent none (`Proposal`): a text with each table
 //! that is known by the name of a file (`KnownTable`), whose fields are those of the file's first
-//! row; and the files that it doesn't name (`Unknown`), each with the reason (`Why`). A name begins
+//! row; and the files that it doesn't name (`Unknown`), each with the reason (`Why`). A field by
+//! which the desk finds links, statuses or dates (`KnownField`) gets the desk's name where the row
+//! has that of RFC 9022's CSV model, and `bundle_of_files` takes the one for the other. A name begins
 //! with the stem of its table, and a dash or a dot that `delete` doesn't follow: so
 //! `domain-delete-1.csv` is a file of deletes, and `domain-deletes-1.csv` is unknown. What no file
 //! says it leaves to its reader: the id is `ID`, the type `FULL`, the watermark the beginning of
@@ -67,11 +69,12 @@
 //!
 //! `specs/KnownTables.antt` says which tables are known by names, `specs/TableFiles.antt` which
 //! files a description names (`sources_of`): `read_sources` gives just these.
+//! `specs/KnownFields.antt` says which names fields may have in headings (`is_named`).
 //! `specs/Describing.antt` says what a proposal is (`IsProposalOf`): its text is read as an envelope
-//! and, table by table, as the files that it names; each file of the folder is named in the table
-//! that its name stands for, with a heading, or is among the unknown ones; and that its name stands
-//! for no table is said of just such files. No clause says which fields are proposed, nor that the
-//! heading is the reason where it is said to be.
+//! and as files, table by table, just as the tables that are proposed (`draft_of`): each known table
+//! of which a file has a heading, with the fields of the first such file, and the names of all files
+//! that have just these, in their order. The unknown files are exactly the others, each with its
+//! reason.
 #![tactic(auto)]
 
 mod bundle;
@@ -80,11 +83,14 @@ mod describe;
 mod draft;
 mod fault;
 mod given;
+mod heading;
+mod known_field;
 mod known_table;
 mod proposal;
 mod release;
 mod sources;
 mod table_text;
+mod text;
 mod written;
 
 pub use bundle::bundle_of_files;
@@ -92,6 +98,7 @@ pub use bundle_fault::BundleFault;
 pub use describe::{describe_files, table_named};
 pub use fault::ReleaseFault;
 pub use given::TableFiles;
+pub use known_field::KnownField;
 pub use known_table::KnownTable;
 pub use proposal::{FolderFile, Proposal, Unknown, Why};
 pub use release::Release;

@@ -5,6 +5,8 @@ ghost use Rattle.std.specs.Prelude.{
   ◌++◌,
   ◌∷◌,
   ◌<◌,
+  ◌==◌,
+  ◌&&◌,
   map,
   length,
   true,
@@ -13,16 +15,18 @@ ghost use Rattle.std.specs.Prelude.{
   OnOk,
   string_bytes,
 };
-ghost use Rattle.std.specs.List.{list_all};
+ghost use Rattle.std.specs.List.{list_all, zip};
 ghost use Rattle.csv.specs.Reading.{is_bom};
-ghost use Rattle.esc_csv.specs.Lines.{line_text, text_of};
+ghost use Rattle.esc_csv.specs.Lines.{Line, line_text, text_of};
 ghost use Rattle.esc_csv.specs.Records.{IsUnmarked};
 ghost use Rattle.esc_pack.specs.GivenRows.{file_rows, given_rows, has_width};
-ghost use Rattle.esc_pack.specs.GivenRows.{IsHeaded, IsReadBack};
+ghost use Rattle.esc_pack.specs.GivenRows.{is_heading, IsHeaded, IsReadBack};
+ghost use Rattle.esc_pack.specs.KnownFields.{is_named};
 ghost use Rattle.esc_pack.specs.Bundling.{AreHeaded};
 
 use crate::bundle_fault::BundleFault;
 use crate::given::TableFiles;
+use crate::known_field::is_named;
 use esc_bundle::NoMemory;
 use esc_csv::{Lines, Record, Records, written_lines_read_back};
 use esc_envelope::Table;
@@ -79,31 +83,44 @@ fn write_rows(
     Ok(())
 }
 
-// Whether a record has just these texts.
-fn is_heading(line: &Record, fields: &[String]) -> bool
-    ensures { result ≡ true → line.now ≡ map string_bytes fields.now }
+// Whether these names are those of the declared fields, as far as there are both.
+fn are_named(table: &str, names: &[&[u8]], fields: &[String]) -> bool
+    ensures { result ≡ list_all (λ p. is_named table.now (p.0.now, string_bytes p.1))
+        (zip names.now fields.now) }
 {
-    if line.len() != fields.len() {
-        return false;
-    }
-    for (place, field) in fields.iter().enumerate() {
-        if line.field(place) != field.as_bytes() {
-            return false;
-        }
-    }
-    true
+    names
+        .iter()
+        .zip(fields)
+        .all(|(name, field)| is_named(table, name, field.as_bytes()))
 }
 
-// Reads a heading of these fields, and returns whether there was one.
-fn skip_heading(alloc: Global, rows: &mut Records<'_>, fields: &[String]) -> Result<bool, NoMemory>
-    ensures { IfOk result (λ is. is ≡ true
-        → rows.old ≡ map string_bytes fields.now ∷ rows.new) }
+// Whether there are as many, too.
+fn are_all_named(table: &str, names: &[&[u8]], fields: &[String]) -> bool
+    ensures { result ≡ ((length names.now == length fields.now)
+        && list_all (λ p. is_named table.now (p.0.now, string_bytes p.1))
+        (zip names.now fields.now)) }
+{
+    names.len() == fields.len() && are_named(table, names, fields)
+}
+
+// Whether a record is a heading of a table.
+fn is_heading(alloc: Global, table: &Table, line: &Record) -> Result<bool, NoMemory>
+    ensures { IfOk result (λ is. is ≡ is_heading table.now line.now) }
+{
+    let names = fields_of(alloc, line)?;
+    Ok(are_all_named(&table.name, &names, &table.fields))
+}
+
+// Reads a heading of a table, and returns whether there was one.
+fn skip_heading(alloc: Global, rows: &mut Records<'_>, table: &Table) -> Result<bool, NoMemory>
+    ensures { IfOk result (λ is. is ≡ true → (row : Line)
+        × (rows.old ≡ row ∷ rows.new) × (is_heading table.now row ≡ true)) }
 {
     let mut record = Record::new(alloc);
     if !rows.next(&mut record)? {
         return Ok(false);
     }
-    Ok(is_heading(&record, fields))
+    is_heading(alloc, table, &record)
 }
 
 // Writes the rows of a file.
@@ -120,10 +137,10 @@ fn write_file(
     ensures whole { OnOk result (list_all (has_width (length table.now.fields))
         (file_rows has_heading file.now) ≡ true) }
     ensures headed { OnOk result (has_heading ≡ true
-        → IsHeaded table.now.fields file.now) }
+        → IsHeaded table.now file.now) }
 {
     let mut rows = Records::of(alloc, file);
-    if has_heading && !skip_heading(alloc, &mut rows, &table.fields)? {
+    if has_heading && !skip_heading(alloc, &mut rows, table)? {
         return Err(BundleFault::Heading {
             table: place.table,
             file: place.file,

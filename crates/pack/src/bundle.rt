@@ -1,5 +1,6 @@
 //! `bundle --envelope FILE DIR OUT`: one bundle of an agent's files.
 
+use crate::fields::unseen_fields;
 use crate::files::{check_folder, place_file, read_file, read_files, slices_of};
 use crate::stop::{Refusal, Stop};
 use esc_bundle::Fault;
@@ -19,18 +20,24 @@ pub struct Bundling<'a> {
     pub target: &'a str,
 }
 
-/// Writes the bundle, or nothing.
-pub fn write_bundle(rt: &HostRuntime, words: Bundling<'_>) -> Result<(), Stop> {
-    let body = described_bundle(rt, words)?;
-    place_file(rt, words.target, &body)
+/// Writes the bundle, or nothing. Returns what the desk won't look at in it, in lines.
+pub fn write_bundle(rt: &HostRuntime, words: Bundling<'_>) -> Result<String, Stop> {
+    let description = read_file(rt, words.envelope)?;
+    let body = described_bundle(rt, words, &description)?;
+    let unseen = unseen_fields(rt, &description)?;
+    place_file(rt, words.target, &body)?;
+    Ok(unseen)
 }
 
 // The bundle of the files that the description declares.
-fn described_bundle(rt: &HostRuntime, words: Bundling<'_>) -> Result<Vec<u8>, Stop> {
-    let description = read_file(rt, words.envelope)?;
-    let sources = sources_of(rt, &description, words.envelope)?;
+fn described_bundle(
+    rt: &HostRuntime,
+    words: Bundling<'_>,
+    description: &[u8],
+) -> Result<Vec<u8>, Stop> {
+    let sources = sources_of(rt, description, words.envelope)?;
     check_folder(rt, words.folder)?;
-    bundle_of_sources(rt, words, &description, &sources)
+    bundle_of_sources(rt, words, description, &sources)
 }
 
 // The sources of the tables that a description declares, contents before deletes.

@@ -58,6 +58,11 @@ which is dropped. A name has no slash, and is there once in a description:
     {\"id\":\"F1\",\"type\":\"FULL\",\"watermark\":\"2024-03-03T00:00:00Z\",\"contents\":[
     {\"name\":\"contact\",\"kind\":\"contact\",\"role\":\"parent\",\"key\":\"id\",\"fields\":[\"id\",\"clID\"],
     \"file\":\"c.csv\",\"from\":[\"Contacts_1.csv\",\"Contacts_2.csv\"],\"heading\":true}]}
+
+In a heading a field that the desk looks for may have RFC 9022's name: fClID for clID, fRegistrant,
+fIdnTableId, fCrDate, fExDate and fStatus likewise, in domainContacts fId for contactId, and in
+domainNs fHostName for hostName. A field of another name that is like one of these is told on
+standard error: the desk doesn't look at it.
 ";
 
 const PROPOSAL: &str = "\
@@ -68,7 +73,7 @@ dnssec, host, hostAddresses, hostStatuses, contact, contactPostal, contactStatus
 contactDisclose, registrar, idnLanguage, NNDN; and of objects that are no longer there
 domain-delete, host-delete, contact-delete, registrar-delete, idnLanguage-delete, NNDN-delete. Its
 first row has to be the names of the fields, with the key among them. Files of one table with one
-heading are joined.
+heading are joined. Fields that the desk looks for get its names (pack bundle --help).
 
 What can't be told is said on standard error, a line each that begins with unknown: always the id,
 the type and the watermark, for which the description has ID, FULL and 1970-01-01T00:00:00Z, and
@@ -189,13 +194,21 @@ fn bundling_of<'a>(given: &ArgMatches<'a>) -> Option<Bundling<'a>> {
 fn run<O: Write, E: Write>(rt: &HostRuntime, task: Task<'_, '_>, out: &mut O, err: &mut E) -> u8 {
     let done = match task {
         Task::Manifest { paths } => print_manifest(rt, paths, out),
-        Task::Bundle(words) => write_bundle(rt, words),
+        Task::Bundle(words) => make_bundle(rt, words, err),
         Task::Describe { folder } => print_description(rt, folder, out, err),
     };
     match done {
         Ok(()) => DONE,
         Err(stop) => tell_stop(rt, err, &stop),
     }
+}
+
+// `bundle ..`: the bundle is written, and what the desk won't look at goes to standard error.
+fn make_bundle<E: Write>(rt: &HostRuntime, words: Bundling<'_>, err: &mut E) -> Result<(), Stop> {
+    let unseen = write_bundle(rt, words)?;
+    // A failure of standard error is ignored: there is nowhere to report it.
+    let _ = err.write_all(unseen.as_bytes());
+    Ok(())
 }
 
 // `describe DIR`: the description is printed, and what it can't tell goes to standard error.

@@ -1,5 +1,6 @@
 //! `describe DIR`: a description of a folder's files.
 
+use crate::fields::unseen_fields;
 use crate::files::read_named;
 use crate::stop::{Refusal, Stop, or_stop};
 use esc_console::plain_files;
@@ -19,7 +20,8 @@ pub struct Description {
 pub fn describe(rt: &HostRuntime, folder: &str) -> Result<Description, Stop> {
     let found = or_stop(rt, folder, plain_files(rt, folder))?;
     let proposal = proposal_of(rt, folder, &found.names)?;
-    let unknown = untold(rt, &proposal.unknown, found.unnamed)?;
+    let mut unknown = untold(rt, &proposal.unknown, found.unnamed)?;
+    unknown.push_str(unseen_fields(rt, &proposal.text)?.as_str())?;
     Ok(Description {
         text: proposal.text,
         unknown,

@@ -24,6 +24,7 @@
 //! | `manifest` | `manifest`: the manifest of bundles, or the bundles that none can list |
 //! | `bundle` | `bundle`: a description and the files of a folder, as one bundle |
 //! | `describe` | `describe`: the description of a folder |
+//! | `fields` | the fields that the desk won't look at, by names that look as if it did |
 //! | `files` | reads bundles and files, and writes a bundle in one step |
 //! | `stop` | what the program stops for, its text and its status |
 //!
@@ -36,6 +37,7 @@
 mod bundle;
 mod command_line;
 mod describe;
+mod fields;
 mod files;
 mod manifest;
 mod stop;

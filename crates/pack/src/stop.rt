@@ -21,7 +21,7 @@ pub enum Refusal {
     TooLarge,
     /// It is no deposit, by the refusal of this number.
     Unread(u8),
-    /// It begins with another row than the names of the declared fields.
+    /// It begins with a row that does not name the declared fields.
     Heading,
     /// This row has another number of fields than declared, or one that is no UTF-8.
     Row(usize),

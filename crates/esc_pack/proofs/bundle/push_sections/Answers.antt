@@ -1,10 +1,11 @@
-use Rattle.std.proofs.Common.{◌≡◌, ◌∙◌, ◌+◌, ◌++◌, ◌∷◌, [], ℕ, List, take, map, string_bytes, sym, ap, arith, rules}
+use Rattle.std.proofs.Common.{◌≡◌, ◌∙◌, ◌+◌, ◌++◌, ◌∷◌, [], ℕ, ◌≤◌, List, length, take, map, string_bytes, sym, ap, subst, arith, rules}
+use Rattle.std.specs.Prelude.{All}
 use Rattle.std.specs.List.{zip}
-use Rattle.std.proofs.lemmas.List.{append_assoc, map_push}
+use Rattle.std.proofs.lemmas.List.{append_assoc, map_push, take_all}
 use Rattle.esc_bundle.specs.Bundle.{Named}
 use Rattle.esc_bundle.specs.Writing.{named}
 use Rattle.esc_envelope.specs.EnvelopeValue.{TableValue}
-use Rattle.esc_pack.specs.GivenRows.{IsReadBack}
+use Rattle.esc_pack.specs.GivenRows.{GivenTable, IsReadBack}
 use Rattle.esc_pack.specs.Bundling.{section_of, sections_of, AreHeaded}
 use Rattle.esc_pack.proofs.SectionFacts.{taken, All_next, one_pair, sections_split}
 use Rattle.esc_pack.proofs.bundle.push_sections.Goals as goal
@@ -38,3 +39,13 @@ loop-at-preserved c =
       read = All_next IsReadBack _ files c.loop-at.invariant.read c.in_ok-text.ensures.read;
       headed = All_next AreHeaded _ pairs c.loop-at.invariant.headed c.in_ok-text.ensures.headed;
     }
+
+pub returns-clause-headed : goal.returns-clause-headed
+returns-clause-headed c =
+    let tables = c.args.tables.now in
+    let given = c.args.given.now in
+    let i : ℕ = c.loop-at.at in
+    let none_left : length given ≤ i = omega (arith, c.requires, c.loop-at-test.false) in
+    let all : zip (take i tables) (take i given) ≡ zip tables given =
+    λ k. zip (take_all i tables c.loop-at-test.false k) (take_all i given none_left k) in
+    subst (λ (ps : List (TableValue × GivenTable)). All AreHeaded ps) all c.loop-at.invariant.headed

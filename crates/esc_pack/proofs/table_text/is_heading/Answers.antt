@@ -1,13 +1,31 @@
-use Rattle.std.proofs.Common.{◌≡◌, ◌∙◌, ◌<◌, ◌++◌, ◌∷◌, [], ℕ, List, length, map, take, get_or, string_bytes, sym, ap, arith, rules}
-use Rattle.std.proofs.lemmas.List.{take_more, map_more}
+use Rattle.std.proofs.Common.{◌≡◌, ◌∙◌, ℕ, List, [], ◌∷◌, Bool, Bor, String, Global, length, map, string_bytes, refl, sym, ap}
+use Rattle.std.specs.Prelude.{◌&&◌, ◌==◌}
+use Rattle.std.specs.List.{list_all, zip}
+use Rattle.std.proofs.lemmas.List.{length-map}
+use Rattle.esc_envelope.specs.EnvelopeValue.{TableValue}
+use Rattle.esc_pack.specs.KnownFields.{is_named}
 use Rattle.esc_pack.proofs.table_text.is_heading.Goals as goal
 
-pub loop-place-preserved : goal.loop-place-preserved
-loop-place-preserved c =
-    let k : ℕ = c.loop-place.place in
-    let inside : k < length c.args.line.now = omega (arith, c.len.ensures, c.if-len-fields.false, c.loop-place-test.true) in
-    let same : get_or c.args.line.now k [] ≡ string_bytes c.index-fields-place.result = search rules in
-    take_more c.args.line.now k [] inside
-    ∙ ap (λ (l : List (List ℕ)). l ++ get_or c.args.line.now k [] ∷ []) c.loop-place.invariant
-    ∙ ap (λ (x : List ℕ). map string_bytes (take k c.args.fields.now) ++ x ∷ []) (same ∙ ap string_bytes c.index-fields-place.is)
-    ∙ sym (map_more string_bytes c.args.fields.now k c.index-fields-place.result c.loop-place-test.true)
+-- a test of pairs sees what contracts see of both
+seen : (test : List ℕ × List ℕ → Bool) (names : List (Bor (List ℕ))) (fields : List (String Global))
+    → list_all (λ p. test (p.0.now, string_bytes p.1)) (zip names fields)
+    ≡ list_all test (zip (map (λ n. n.now) names) (map string_bytes fields))
+seen test [] fields = refl
+seen test (n ∷ names) [] = refl
+seen test (n ∷ names) (f ∷ fields) = ap (λ (b : Bool). test (n.now, string_bytes f) && b) (seen test names fields)
+
+pub returns : goal.returns
+returns c =
+    let names = c.deref-2.result.now in
+    let texts = c.deref-3.result.now in
+    let test = is_named c.deref.result.now in
+    let name : c.deref.result.now ≡ c.args.table.now.name = c.deref.ensures ∙ ap (λ (t : TableValue). t.name) c.table.view_is in
+    let row : map (λ (n : Bor (List ℕ)). n.now) names ≡ c.args.line.now =
+    ap (map (λ (n : Bor (List ℕ)). n.now)) c.deref-2.ensures.value ∙ c.in_ok-names.ensures in
+    let fields : map string_bytes texts ≡ c.args.table.now.fields =
+    ap (map string_bytes) c.deref-3.ensures.value ∙ ap (λ (t : TableValue). t.fields) c.table.view_is in
+    let few : length names ≡ length (map (λ (n : Bor (List ℕ)). n.now) names) = sym (length-map names (λ (n : Bor (List ℕ)). n.now)) in
+    let many : length texts ≡ length (map string_bytes texts) = sym (length-map texts string_bytes) in
+    c.are_all_named.ensures
+    ∙ (λ k. (few k == many k) && seen test names texts k)
+    ∙ (λ k. (length (row k) == length (fields k)) && list_all (is_named (name k)) (zip (row k) (fields k)))

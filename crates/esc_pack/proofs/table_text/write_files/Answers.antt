@@ -1,6 +1,7 @@
-use Rattle.std.proofs.Common.{◌∙◌, ℕ, List, [], length, Bor}
+use Rattle.std.proofs.Common.{◌∙◌, ℕ, List, [], length, Bor, subst}
+use Rattle.std.specs.Prelude.{All}
 use Rattle.esc_pack.specs.GivenRows.{has_width, IsHeaded}
-use Rattle.esc_pack.proofs.SectionFacts.{taken, All_next, file_at, one_file, one_file_whole}
+use Rattle.esc_pack.proofs.SectionFacts.{taken, All_next, file_at, all_taken, one_file, one_file_whole}
 use Rattle.esc_pack.proofs.table_text.write_files.Goals as goal
 
 pub loop-at-preserved : goal.loop-at-preserved
@@ -8,10 +9,16 @@ loop-at-preserved c =
     let nothing : Bor (List ℕ) = record { ref_ptr = (0, 0); now = [] } in
     let file = file_at nothing c.given.view_is c.deref-file-items.ensures.value c.loop-at-test.true in
     let fields = c.args.table.now.fields in
+    let table = c.args.table.now in
     record {
       written = one_file _ file c.loop-at.invariant.written c.in_ok-write_file.ensures.written;
       whole = one_file_whole (has_width (length fields)) file c.loop-at.invariant.whole c.in_ok-write_file.ensures.whole;
       headed = λ is.
           let headed = c.in_ok-write_file.ensures.headed (file.same_heading ∙ is) in
-          All_next (IsHeaded fields) _ (taken _ [] file.inside file.is) (c.loop-at.invariant.headed is) headed;
+          All_next (IsHeaded table) _ (taken _ [] file.inside file.is) (c.loop-at.invariant.headed is) headed;
     }
+
+pub returns-clause-headed : goal.returns-clause-headed
+returns-clause-headed c =
+    let end = all_taken c.given.view_is c.deref-file-items.ensures.value c.loop-at-test.false in
+    λ is. subst (λ (fs : List (List ℕ)). All (IsHeaded c.args.table.now) fs) end (c.loop-at.invariant.headed is)

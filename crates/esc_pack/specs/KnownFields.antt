@@ -1,0 +1,86 @@
+-- The fields by which links, statuses and dates are found, by the names that the CSV model gives
+-- them (RFC 9022, sections 4.6.2.2, 5.1.2, 5.2.2 and 5.3.2), and by the desk's.
+use Rattle.std.specs.Prelude.{
+  ℕ,
+  List,
+  [],
+  ◌∷◌,
+  Bool,
+  true,
+  ◌&&◌,
+  ◌||◌,
+  codes,
+  Option,
+  Some,
+  None,
+}
+use Rattle.std.specs.List.{find}
+use Rattle.std.specs.Str.{bytes_eq}
+use Rattle.esc_pack.specs.declared.known_field.KnownField.{KnownField}
+use Rattle.esc_pack.specs.declared.known_field.KnownField.TheVariants.{
+  ClId,
+  Registrant,
+  IdnTableId,
+  CrDate,
+  ExDate,
+  Status,
+  ContactId,
+  HostName,
+}
+
+-- all of them
+unfoldable pub known_fields : List KnownField
+known_fields =
+    ClId ∷ Registrant ∷ IdnTableId ∷ CrDate ∷ ExDate ∷ Status ∷ ContactId ∷ HostName ∷ []
+
+-- the name in a heading of the CSV model
+abbrev pub model_name : KnownField → List ℕ
+model_name ClId = codes "fClID"
+model_name Registrant = codes "fRegistrant"
+model_name IdnTableId = codes "fIdnTableId"
+model_name CrDate = codes "fCrDate"
+model_name ExDate = codes "fExDate"
+model_name Status = codes "fStatus"
+model_name ContactId = codes "fId"
+model_name HostName = codes "fHostName"
+
+-- the desk's name
+abbrev pub desk_name : KnownField → List ℕ
+desk_name ClId = codes "clID"
+desk_name Registrant = codes "registrant"
+desk_name IdnTableId = codes "idnTableId"
+desk_name CrDate = codes "crDate"
+desk_name ExDate = codes "exDate"
+desk_name Status = codes "status"
+desk_name ContactId = codes "contactId"
+desk_name HostName = codes "hostName"
+
+-- whether a table of this name has the field by this name: elsewhere `fId` is a contact's own, and
+-- `fHostName` a host's
+abbrev pub is_in : KnownField → List ℕ → Bool
+is_in ClId table = true
+is_in Registrant table = true
+is_in IdnTableId table = true
+is_in CrDate table = true
+is_in ExDate table = true
+is_in Status table = true
+is_in ContactId table = bytes_eq table (codes "domainContacts")
+is_in HostName table = bytes_eq table (codes "domainNs")
+
+-- the field that a name in a heading of a table stands for
+abbrev pub known_field : List ℕ → List ℕ → Option KnownField
+known_field table name =
+    find (λ k. is_in k table && bytes_eq (model_name k) name) known_fields
+
+-- the name by which the desk knows a field, if any does
+abbrev pub desk_name_or : List ℕ → Option KnownField → List ℕ
+desk_name_or name None = name
+desk_name_or name (Some k) = desk_name k
+
+-- the desk's name of what a heading of a table names; other names stay as they are
+abbrev pub desk_field : List ℕ → List ℕ → List ℕ
+desk_field table name = desk_name_or name (known_field table name)
+
+-- whether a name in a heading of a table is that of a declared field, or stands for it
+abbrev pub is_named : List ℕ → List ℕ × List ℕ → Bool
+is_named table p = bytes_eq p.0 p.1 || bytes_eq (desk_field table p.0) p.1

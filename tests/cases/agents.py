@@ -1,0 +1,227 @@
+"""From an agent's deposits to the registry: `unpack_rde`, `pack` and `restore` one after the other, and the page that tells how."""
+import csv, io, json, os, random, re, shutil, subprocess, sys
+
+from support import TOP
+from support.escrow import KEYS, as_written, some_objects, told
+from support.stage import Failed, Wanted, case, compare
+from documents import document
+
+UNPACK = [sys.executable, f'{TOP}/packaging/unpack_rde']
+KINDS = ('registrar', 'contact', 'host', 'domain', 'idn', 'nndn')
+PAGE = f'{TOP}/docs/FROM_ESCROW.md'
+# Kinds whose keys are told apart without regard to case.
+LOWERED = ('host', 'domain')
+OWN_KEY = 'desk@registry.example'
+
+
+def run(stage, *words):
+    """Runs a command in the case's folder, where the programs are known by their names, and gives what it prints."""
+    # (Line ends in texts are kept as they are.)
+    ran = subprocess.run(words, cwd=stage.room.name, capture_output=True)
+    if ran.returncode or ran.stderr:
+        raise Failed(f'$ {" ".join(words)}\nstatus {ran.returncode}\n{ran.stderr.decode()}')
+    return ran.stdout.decode()
+
+
+def read_text(stage, path):
+    with open(stage.at(path), encoding='utf-8') as file:
+        return file.read()
+
+
+def check_same(what, wanted, found):
+    for key in wanted.keys() | found.keys():
+        if wanted.get(key) != found.get(key):
+            raise Failed(f'{what}: {key}: wanted {wanted.get(key)}, got {found.get(key)}')
+
+
+def exported(stage, kind):
+    """The objects of a kind, by kind and key, as `export` prints them."""
+    rows = {}
+    text = run(stage, stage.programs['restore'], 'export', '--store', 'desk.db', kind)
+    for kind, key, table, row, field, value in list(csv.reader(io.StringIO(text, newline=''), strict=True))[1:]:
+        rows.setdefault((kind, key), {}).setdefault((table, row), {})[field] = value
+    return {key: told((table, cells) for (table, _), cells in its.items()) for key, its in rows.items()}
+
+
+def restored(stage, *deposits):
+    """The objects that are in a store after these deposits, each a name and its bundle's description folder."""
+    os.mkdir(stage.at('bundles'))
+    for name in deposits:
+        run(stage, stage.programs['pack'], 'bundle', '--envelope', f'{name}/envelope.json', name, f'bundles/{name}')
+    manifest = run(stage, stage.programs['pack'], 'manifest', *(f'bundles/{it}' for it in deposits))
+    stage.write('manifest.csv', manifest.encode())
+    run(stage, stage.programs['restore'], 'init', '--store', 'desk.db', '--manifest', 'manifest.csv')
+    run(stage, stage.programs['restore'], 'take', '--store', 'desk.db', 'bundles')
+    found = {}
+    for kind in KINDS:
+        found.update(exported(stage, kind))
+    return found
+
+
+def lowered(objects):
+    return {(kind, key.lower() if kind in LOWERED else key): rows for (kind, key), rows in as_written(objects).items()}
+
+
+def unpacked(stage, name, model, objects, header, deletes=None, **more):
+    """Writes a deposit in a model, and unpacks it."""
+    os.mkdir(stage.at(f'{name}-files'))
+    path = document(stage.at(f'{name}-files'), f'{name}.xml', header, objects, deletes or {}, {}, model, **more)
+    run(stage, *UNPACK, path, name)
+
+
+def test_models(stage):
+    """Objects at random are restored as they were, from deposits of both models."""
+    for seed in range(4):
+        objects = some_objects(random.Random(f'restored {seed}'))
+        for model in ('XML', 'CSV'):
+            unpacked(stage, 'F1', model, objects, {'id': 'F1', 'type': 'FULL', 'watermark': '2024-03-03T00:00:00Z'})
+            check_same(f'seed {seed}, {model}', lowered(objects), restored(stage, 'F1'))
+            for name in os.listdir(stage.room.name):
+                shutil.rmtree(stage.at(name)) if os.path.isdir(stage.at(name)) else os.remove(stage.at(name))
+
+
+def test_changes(stage):
+    """A Differential of files, on a Full of XML, changes and deletes objects."""
+    maker = random.Random('changes')
+    first = some_objects(maker, most=9)
+    hosts = {rows[0][1]['name']: rows[0][1]['roid'] for rows in first if rows[0][0] == 'host'}
+    # Of each kind the first object is deleted, and the second one is replaced by one of the same key.
+    kinds = {kind: [it for it in first if it[0][0] == kind] for kind in KINDS}
+    deletes = {kind: [its[0][0][1][KEYS[kind]]] for kind, its in kinds.items() if its}
+    changed = [[(table, {**cells, 'uName': 'new'} if table in ('domain', 'nndn') else cells) for table, cells in its[1]]
+               for kind, its in kinds.items() if len(its) > 1]
+    unpacked(stage, 'F1', 'XML', first, {'id': 'F1', 'type': 'FULL', 'watermark': '2024-03-03T00:00:00Z'})
+    os.mkdir(stage.at('D2-files'))
+    path = document(stage.at('D2-files'), 'D2.xml', {'id': 'D2', 'type': 'DIFF', 'watermark': '2024-03-04T02:00:00+02:00', 'prevId': 'F1'},
+                    changed, deletes, {}, 'CSV', roids=hosts)
+    run(stage, *UNPACK, '--known', 'F1', path, 'D2')
+    wanted = {**lowered(first), **lowered(changed)}
+    for kind, keys in deletes.items():
+        for key in keys:
+            del wanted[kind, key.lower() if kind in LOWERED else key]
+    check_same('after the Differential', wanted, restored(stage, 'F1', 'D2'))
+
+
+# The table, its fields, a heading of its file, and whether that names the fields.
+HEADINGS = (
+    ('domain', 'name clID registrant idnTableId crDate exDate', 'name,fClID,fRegistrant,fIdnTableId,fCrDate,fExDate', True),
+    ('domain', 'name clID registrant', 'name,clID,fRegistrant', True),
+    ('domain', 'fName fClID', 'fName,fClID', True),
+    ('domain', 'name clID', 'fName,clID', False),
+    ('domain', 'name clID', 'name,fClId', False),
+    ('domain', 'name clID registrant', 'name,fRegistrant,fClID', False),
+    ('domain', 'name fClID', 'name,clID', False),
+    ('domain', 'name clID', 'name', False),
+    ('domain', 'name clID', 'name,fClID,more', False),
+    ('domain', 'name contactId', 'name,fId', False),
+    ('domainContacts', 'name contactId', 'name,fId', True),
+    ('domainNs', 'name hostName', 'name,fHostName', True),
+    ('domainStatuses', 'name hostName', 'name,fHostName', False),
+    ('domainStatuses', 'name status', 'name,fStatus', True),
+)
+# A folder's files by the names that RFC 9022 gives, the description that is proposed of them, and what is said of it.
+NAMED = {'domain-1.csv': 'fName,fClID,fRegistrant,fCrDate\na.example,R1,C1,2024-03-04T00:00:00Z\n',
+         'domainContacts-1.csv': 'fName,fId,fContactType\na.example,C2,admin\n', 'domainStatuses-1.csv': 'fName,fStatus\na.example,banana\n',
+         'domainNameServers-1.csv': 'fName,fHostName\na.example,ns.example\n', 'domain-2.csv': 'fName,clID,fRegistrant,fCrDate,more\n',
+         'host-1.csv': 'fName,cl_id\nns2.example,R1\n', 'contact-1.csv': 'C1,R1\n', 'notes.txt': ''}
+PROPOSED = """{"id":"ID","type":"FULL","watermark":"1970-01-01T00:00:00Z",
+"contents":[{"name":"host","kind":"host","role":"parent","key":"fName","file":"host.csv","heading":true,"fields":["fName","cl_id"],"from":["host-1.csv"]},
+{"name":"domain","kind":"domain","role":"parent","key":"fName","file":"domain.csv","heading":true,"fields":["fName","clID","registrant","crDate"],"from":["domain-1.csv"]},
+{"name":"domainContacts","kind":"domain","role":"child","key":"fName","file":"domaincontacts.csv","heading":true,"fields":["fName","contactId","fContactType"],"from":["domainContacts-1.csv"]},
+{"name":"domainNs","kind":"domain","role":"child","key":"fName","file":"domainns.csv","heading":true,"fields":["fName","hostName"],"from":["domainNameServers-1.csv"]},
+{"name":"domainStatuses","kind":"domain","role":"child","key":"fName","file":"domainstatuses.csv","heading":true,"fields":["fName","status"],"from":["domainStatuses-1.csv"]}],
+"deletes":[]}
+"""
+UNKNOWN = """unknown id
+unknown type
+unknown watermark
+unknown file "contact-1.csv": its first row is no heading with a known key
+unknown file "domain-2.csv": an earlier file of its table has another heading
+unknown file "notes.txt": no table is known by its name
+unknown field "cl_id" of table host: the desk looks for clID
+"""
+# What the desk finds of them, which it would not without the names.
+FINDINGS = """code,kind,key,field,value,other
+V1,domain,a.example,clID,R1,registrar
+V1,domain,a.example,contactId,C2,contact
+V1,domain,a.example,hostName,ns.example,host
+V1,domain,a.example,registrant,C1,contact
+V3,domain,a.example,status,banana,
+V5,domain,a.example,crDate,2024-03-04T00:00:00Z,2024-03-03T00:00:00Z
+"""
+
+
+def test_headings(stage):
+    """In a heading a field may have the name of the CSV model for the desk's, and no other."""
+    os.mkdir(stage.at('files'))
+    for at, (table, fields, heading, is_named) in enumerate(HEADINGS):
+        names = fields.split()
+        declared = {'name': table, 'kind': 'domain', 'role': 'parent' if table == 'domain' else 'child', 'key': names[0], 'fields': names,
+                    'file': 't.csv', 'heading': True}
+        row = ','.join('x' * len(names))
+        stage.write('files/t.csv', f'{heading}\n{row}\n'.encode())
+        stage.write('envelope.json', json.dumps({'id': 'F1', 'type': 'FULL', 'watermark': '2024-03-03T00:00:00Z', 'contents': [declared]}).encode())
+        with case(f'{table}: {heading}'):
+            told = 'unknown field "fClID" of table domain: the desk looks for clID\n' if is_named and 'fClID' in names else ''
+            stage.check(f'bundle --envelope envelope.json files n{at}', Wanted(err=told) if is_named else Wanted(1, '', 'H1 files/t.csv\n'),
+                        program='pack')
+            if is_named and not read_text(stage, f'n{at}').endswith(f't.csv {len(row) + 1}\n{row}\n\nend\n'):
+                raise Failed('its bundle has other rows')
+
+
+def test_findings(stage):
+    """Files with the names of RFC 9022 are proposed under the desk's, and what is wrong in them is found."""
+    os.mkdir(stage.at('files'))
+    for name, text in NAMED.items():
+        stage.write(f'files/{name}', text.encode())
+    stage.check('describe files', Wanted(0, PROPOSED, UNKNOWN), program='pack')
+    described = PROPOSED.replace('"ID"', '"F1"').replace('1970-01-01', '2024-03-03').replace('cl_id', 'other')
+    stage.write('files/host-1.csv', b'fName,other\nns2.example,R1\n')
+    stage.write('envelope.json', described.encode())
+    os.mkdir(stage.at('bundles'))
+    stage.check('bundle --envelope envelope.json files bundles/F1', Wanted(), program='pack')
+    stage.write('manifest.csv', run(stage, stage.programs['pack'], 'manifest', 'bundles/F1').encode())
+    run(stage, stage.programs['restore'], 'init', '--store', 'desk.db', '--manifest', 'manifest.csv')
+    run(stage, stage.programs['restore'], 'take', '--store', 'desk.db', 'bundles')
+    stage.check('report --store desk.db links', Wanted(0, FINDINGS))
+
+
+def environment(stage):
+    """The programs by their names, and a key that is made for this page, if there is gpg."""
+    os.mkdir(stage.at('programs'))
+    for name in ('pack', 'restore'):
+        os.symlink(stage.programs[name], stage.at(f'programs/{name}'))
+    stage.write('programs/unpack_rde', f'#!/bin/sh\nexec {" ".join(UNPACK)} "$@"\n'.encode())
+    os.chmod(stage.at('programs/unpack_rde'), 0o755)
+    os.mkdir(stage.at('keys'), 0o700)
+    return dict(os.environ, PATH=f'{stage.at("programs")}:{os.environ["PATH"]}', LC_ALL='C', GNUPGHOME=stage.at('keys'), KEY=OWN_KEY)
+
+
+def in_page(stage, given, command):
+    """What a command of the page prints."""
+    return subprocess.run(['bash', '-c', command], cwd=stage.at('work'), env=given, stdin=subprocess.DEVNULL, stdout=subprocess.PIPE,
+                          stderr=subprocess.STDOUT, encoding='utf-8').stdout
+
+
+def without_gpg(command):
+    """The command for archives that are not encrypted."""
+    return re.sub(r'gpg \S+ \S+ --decrypt (\S+)', r'cat \1', command.replace(' "$KEY"', '; for it in mail/*; do mv $it ${it%.tar}.ryde; done'))
+
+
+def test_page(stage):
+    """The commands of docs/FROM_ESCROW.md print what stands there."""
+    with open(PAGE) as file:
+        blocks = re.findall(r'```\n(\$ .*?)```', file.read(), re.S)
+    given, has_gpg = environment(stage), shutil.which('gpg') is not None
+    os.mkdir(stage.at('work'))
+    os.symlink(f'{TOP}/samples', stage.at('work/samples'))
+    if has_gpg:
+        in_page(stage, given, 'gpg --batch --quiet --passphrase "" --quick-generate-key "$KEY" default default never')
+    try:
+        for block in blocks:
+            for command, _, wanted in (it.partition('\n') for it in block.removeprefix('$ ').split('\n$ ')):
+                printed = in_page(stage, given, command if has_gpg else without_gpg(command))
+                compare(f'$ {command}', wanted.rstrip('\n'), printed.rstrip('\n'))
+    finally:
+        if has_gpg:
+            in_page(stage, given, 'gpgconf --kill all')
