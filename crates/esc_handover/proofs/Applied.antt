@@ -1,5 +1,5 @@
 -- The tables of one more deposit.
-use Rattle.std.proofs.Common.{◌≡◌, ℕ, ◌+◌, ◌<◌, Bool, true, false, cond, ◌||◌, List, [], ◌∷◌, ◌++◌, reverse, take, get_or, length, Option, None, Some, refl, sym, ap, subst, ◌∙◌, is_some, arith}
+use Rattle.std.proofs.Common.{◌≡◌, ℕ, ◌+◌, ◌<◌, Bool, true, false, cond, ◌||◌, List, [], ◌∷◌, ◌++◌, reverse, take, get_or, length, Option, None, Some, refl, sym, ap, ◌∙◌, is_some}
 use Rattle.std.specs.List.{list_any, find}
 use Rattle.std.specs.Map.{lookup, keys_of}
 use Rattle.std.specs.Option.{option_or, option_and_then}

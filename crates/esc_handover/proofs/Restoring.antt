@@ -1,5 +1,5 @@
 -- A Full of the tables, listed alone and held, leaves these tables.
-use Rattle.std.proofs.Common.{◌≡◌, ℕ, ℤ, Bool, true, false, cond, ◌≤◌, ◌||◌, List, [], ◌∷◌, Option, None, Some, Result, Ok, refl, sym, ap, subst, ◌∙◌, is_some, true≢false, arith, inl, inr}
+use Rattle.std.proofs.Common.{◌≡◌, ℕ, ℤ, Bool, true, false, cond, ◌≤◌, List, [], ◌∷◌, Option, None, Some, Result, Ok, refl, sym, ap, subst, ◌∙◌, is_some, true≢false, arith, inl, inr}
 use Rattle.std.specs.FinSet as set
 use Rattle.std.specs.Ordering.{nat_cmp, int_eq, eq_by_cmp}
 use Rattle.std.specs.List.{list_any}
@@ -18,7 +18,7 @@ use Rattle.esc_tables.specs.DepositValue.{DepositValue}
 use Rattle.esc_tables.specs.KeyName.{KeyName, key_cmp, key_eq}
 use Rattle.esc_tables.specs.Reading.{reading}
 use Rattle.esc_chain.specs.Chain.{Rows, IsHeld, IsUsed, IsLatestChainAt}
-use Rattle.esc_apply.specs.ObjectStreams.{Entry, InOrder}
+use Rattle.esc_apply.specs.ObjectStreams.{Entry}
 use Rattle.esc_apply.specs.Tables.{tables, mentions, says}
 use Rattle.esc_events.specs.declared.assessment.Assessment.{Assessment}
 use Rattle.esc_events.specs.declared.assessment.Assessment.TheVariants.{Holding}
@@ -28,7 +28,6 @@ use Rattle.esc_events.specs.Events.EventValue.{listed, arrived}
 use Rattle.esc_events.specs.Assessment.{assessment, held_row}
 use Rattle.esc_events.specs.Receipts.{holds_row}
 use Rattle.esc_events.specs.Stands.{with_some, body_of, or_no_deposit, deposit_of, held_rows, held_body}
-use Rattle.esc_events.specs.LatestTables.{AreEntries}
 use Rattle.esc_events.specs.HeldLaws.{exact}
 use Rattle.esc_handover.specs.FullBundle.{full_header, full_of}
 use Rattle.esc_handover.specs.Restored.{FullHasItsObjects, FullIsRestored}

@@ -1,5 +1,5 @@
 -- The tables of a registry as one deposit (RFC 8909, section 2, and this project's profile).
-use Rattle.std.specs.Prelude.{◌≡◌, ℕ, ℤ, List, [], ◌∷◌, map, count_by, None, Ok}
+use Rattle.std.specs.Prelude.{◌≡◌, ℕ, ℤ, List, [], ◌∷◌, count_by, None, Ok}
 use Rattle.std.specs.Map.{keys_of}
 use Rattle.esc_envelope.specs.declared.kind.Kind.{Kind}
 use Rattle.esc_envelope.specs.declared.kind.Kind.TheVariants.{

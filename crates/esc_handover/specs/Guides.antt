@@ -21,7 +21,7 @@ use Rattle.std.specs.Prelude.{
   codes,
   if◌then◌else◌,
 }
-use Rattle.std.specs.List.{list_all, list_any}
+use Rattle.std.specs.List.{list_any}
 use Rattle.std.specs.Str.{bytes_eq}
 use Rattle.std.specs.Char.{to_ascii_lowercase}
 use Rattle.esc_envelope.specs.declared.kind.Kind.{Kind}
