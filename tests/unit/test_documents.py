@@ -7,7 +7,7 @@ import re
 import unittest
 
 TOP = pathlib.Path(__file__).resolve().parents[2]
-DOCUMENTS = [TOP / 'README.md', TOP / 'CONTRIBUTING.md', *sorted(TOP.glob('docs/*.md'))]
+DOCUMENTS = [TOP / 'README.md', TOP / 'CONTRIBUTING.md', TOP / 'CHANGELOG.md', *sorted(TOP.glob('docs/*.md'))]
 
 # How many codes there are of each letter, and which of them FORMATS.md has in tables.
 CODES = {'E': 3, 'N': 1, 'M': 13, 'A': 5, 'U': 11, 'S': 5, 'V': 7}
@@ -15,7 +15,7 @@ LISTED = 'UMAV'
 
 MOST_COLUMNS = 100
 # Of all documents together. The goal is 24,000.
-MOST_WORDS = 39_000
+MOST_WORDS = 34_000
 
 # What has a letter or a digit: the bars and rules of tables are no words.
 WORD = re.compile(r'\S*[^\W_]\S*')
