@@ -153,9 +153,9 @@ class Registry:
             yield 'secDNS', [key, '604800', str(self.number(1, 65535)), '13', '2', '%064X' % self.random.getrandbits(256)]
 
 
-def deposit(header, tables, deletes, counts=None):
-    """The bundle of a deposit with these rows of tables, and these deleted keys of kinds."""
-    contents = [table(name, *TABLES[name], f'{name.lower()}.csv') for name in tables]
+def deposit(header, tables, deletes, counts=None, shapes=TABLES):
+    """The bundle of a deposit with these rows of tables, whose shapes are given, and these deleted keys of kinds."""
+    contents = [table(name, *shapes[name], f'{name.lower()}.csv') for name in tables]
     files = [(f'{name.lower()}.csv', ''.join(','.join(it) + '\n' for it in rows).encode()) for name, rows in tables.items()]
     gone = [table(kind, kind, 'parent', ['k'], f'del-{kind}.csv') for kind in deletes]
     files += [(f'del-{kind}.csv', ''.join(f'{it}\n' for it in keys).encode()) for kind, keys in deletes.items()]

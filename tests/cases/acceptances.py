@@ -1,0 +1,170 @@
+"""`handover check` over random releases, and over stores that went bad, against the plain model: the word of each test, and how its line
+begins."""
+import contextlib, os, random, sqlite3
+from collections import defaultdict
+
+from support import formats
+from support.acceptance import Kept, beginning, deposit_of, read_record, seen_of, tests_of, word_of
+from support.files import read
+from support.first_store import record
+from support.flawed import draw_release, misnamed_releases
+from support.stage import Failed, Wanted, case, compare, text_of
+
+# How many releases there are, each of a seed.
+RELEASES = 30
+# The length of a log in which nothing is.
+EMPTY_LOG = 41
+TESTS = ('end', 'resends', 'gaps', 'parked', 'findings', 'orphans', 'counts', 'fields', 'names', 'bodies', 'tables')
+
+
+# ---- a store
+
+
+def run(stage, line, program='restore', statuses=(0,)):
+    got = stage.end(stage.begin(line.split(), program))
+    if got.status not in statuses:
+        raise Failed(f'$ {program} {line}\nstatus {got.status}: {got.err!r}')
+    return got.out
+
+
+def make_store(stage, store, release):
+    """Makes the store of a release. (Not each of its bodies may be held.)"""
+    folder = f'{store}-deposits'
+    os.makedirs(stage.at(folder))
+    stage.write(f'{store}.csv', release.manifest())
+    for at, body in enumerate(release.bodies):
+        stage.write(f'{folder}/{at}', body)
+    run(stage, f'init --store {store} --manifest {store}.csv')
+    run(stage, f'take --store {store} {folder}', statuses=(0, 1))
+    if release.moment:
+        run(stage, f'as-of --store {store} {release.moment}')
+
+
+def kept_of(release):
+    moment = release.moment and formats.moment(release.moment)
+    return Kept(release.manifest(), [(f'{at}', body) for at, body in enumerate(release.bodies)], moment)
+
+
+# ---- what goes bad in it: in the file, and in what the model keeps
+
+
+def change_rows(stage, store, statement, values):
+    with contextlib.closing(sqlite3.connect(stage.at(store))) as database:
+        if database.execute(statement, values).rowcount != 1:
+            raise Failed(f'{statement}: no row')
+        database.commit()
+
+
+def write_body(stage, store, kept, row, body):
+    kept.held[row] = body
+    change_rows(stage, store, 'UPDATE held SET body = ? WHERE row = ?', (body, row))
+
+
+def change_body(stage, store, kept, chance):
+    """A name in a held body is another one."""
+    row = chance.choice(sorted(kept.held))
+    write_body(stage, store, kept, row, kept.held[row].replace(b'.example', b'.exbmple', 1))
+
+
+def cut_body(stage, store, kept, chance):
+    """A held body ends too early."""
+    row = chance.choice(sorted(kept.held))
+    write_body(stage, store, kept, row, kept.held[row][:-1])
+
+
+def changed(rows):
+    """Rows of which the last cell has another text."""
+    *before, (table, cells) = rows
+    *others, (field, text) = cells
+    return [*before, (table, [*others, (field, text + b'x')])]
+
+
+def change_object(stage, store, kept, chance):
+    key = chance.choice(sorted(kept.objects))
+    kept.objects[key] = record(changed(read_record(kept.objects[key])))
+    change_rows(stage, store, 'UPDATE object SET record = ? WHERE kind = ? AND key = ?',
+                (kept.objects[key], formats.KINDS.index(key[0]), key[1]))
+
+
+def delete_object(stage, store, kept, chance):
+    key = chance.choice(sorted(kept.objects))
+    del kept.objects[key]
+    change_rows(stage, store, 'DELETE FROM object WHERE kind = ? AND key = ?', (formats.KINDS.index(key[0]), key[1]))
+
+
+def add_object(stage, store, kept, chance):
+    kind, key = chance.choice(sorted(kept.objects))
+    kept.objects[kind, b'new-' + key] = kept.objects[kind, key]
+    change_rows(stage, store, 'INSERT INTO object (kind, key, record) VALUES (?, ?, ?)',
+                (formats.KINDS.index(kind), b'new-' + key, kept.objects[kind, key]))
+
+
+SPOILINGS = (change_body, cut_body, change_object, delete_object, add_object)
+
+
+# ---- the lines
+
+
+def wanted_of(kept):
+    """The tests with whether they pass and what is said; or none where the body of the chain's last deposit is no bundle."""
+    if kept.steps and deposit_of(kept.held[kept.steps[-1]]) is None:
+        return None
+    return list(tests_of(seen_of(kept)))
+
+
+def is_line(line, test):
+    begin = beginning(*test)
+    return line.startswith(begin) if ': ' in begin else line == begin
+
+
+def compare_lines(tests, out):
+    lines = out.decode().splitlines()
+    compare('number of lines', f'{len(tests)}', f'{len(lines)}')
+    wrong = [f'wanted {beginning(*test)} ..\ngot    {line}' for test, line in zip(tests, lines) if not is_line(line, test)]
+    if wrong:
+        raise Failed('\n'.join(wrong))
+
+
+def check_store(stage, store, kept, seen):
+    """Compares what is said of a store, which stays as it is, and notes the word of each test."""
+    before, tests = read(stage.at(store)), wanted_of(kept)
+    got = stage.end(stage.begin(['check', '--store', store], 'handover'))
+    compare('standard error', 'S1\n' if tests is None else '', got.err.decode())
+    compare_lines(tests or [], got.out)
+    accepted = all(passes or name == 'gaps' for name, passes, _ in tests or [])
+    compare('status', '3' if tests is None else '0' if accepted else '1', f'{got.status}')
+    if read(stage.at(store)) != before or len(read(stage.at(f'{store}-wal'))) > EMPTY_LOG:
+        raise Failed('the store is changed')
+    for name, passes, _ in tests or []:
+        seen[name].add(word_of(name, passes))
+
+
+def check_release(stage, seed, seen):
+    release, store = draw_release(seed), f'{seed}.db'
+    make_store(stage, store, release)
+    kept = kept_of(release)
+    check_store(stage, store, kept, seen)
+    if kept.objects:
+        spoil = SPOILINGS[seed % len(SPOILINGS)]
+        spoil(stage, store, kept, random.Random(seed))
+        with case(spoil.__name__):
+            check_store(stage, store, kept, seen)
+
+
+def test_wrong_names(stage):
+    """What is said of a Full in which all fields, or tables, have other names."""
+    for at, (name, release) in enumerate(misnamed_releases()):
+        make_store(stage, f'{at}.db', release)
+        with case(name):
+            check_store(stage, f'{at}.db', kept_of(release), defaultdict(set))
+
+
+def test_random_releases(stage):
+    """What is said of random releases, and of their stores once these went bad."""
+    seen = defaultdict(set)
+    for seed in range(RELEASES):
+        with case(f'seed {seed}'):
+            check_release(stage, seed, seen)
+    # So a word that is never told, or always, is found.
+    compare('words', text_of(f'{it} {"told" if it == "gaps" else "wrong"} ok' for it in TESTS),
+            text_of(' '.join([it, *sorted(seen[it], reverse=True)]) for it in TESTS))
