@@ -1,6 +1,6 @@
 """`handover check` over random releases, and over stores that went bad, against the plain model: the word of each test, and how its line
 begins."""
-import contextlib, os, random, sqlite3
+import random
 from collections import defaultdict
 
 from support import formats
@@ -8,7 +8,8 @@ from support.acceptance import Kept, beginning, deposit_of, read_record, seen_of
 from support.files import read
 from support.first_store import record
 from support.flawed import draw_release, misnamed_releases
-from support.stage import Failed, Wanted, case, compare, text_of
+from support.stage import Failed, case, compare, text_of
+from support.stores import change_row, make_store
 
 # How many releases there are, each of a seed.
 RELEASES = 30
@@ -20,24 +21,8 @@ TESTS = ('end', 'resends', 'gaps', 'parked', 'findings', 'orphans', 'counts', 'f
 # ---- a store
 
 
-def run(stage, line, program='restore', statuses=(0,)):
-    got = stage.end(stage.begin(line.split(), program))
-    if got.status not in statuses:
-        raise Failed(f'$ {program} {line}\nstatus {got.status}: {got.err!r}')
-    return got.out
-
-
-def make_store(stage, store, release):
-    """Makes the store of a release. (Not each of its bodies may be held.)"""
-    folder = f'{store}-deposits'
-    os.makedirs(stage.at(folder))
-    stage.write(f'{store}.csv', release.manifest())
-    for at, body in enumerate(release.bodies):
-        stage.write(f'{folder}/{at}', body)
-    run(stage, f'init --store {store} --manifest {store}.csv')
-    run(stage, f'take --store {store} {folder}', statuses=(0, 1))
-    if release.moment:
-        run(stage, f'as-of --store {store} {release.moment}')
+def make(stage, store, release):
+    make_store(stage, store, release.manifest(), release.bodies, release.moment)
 
 
 def kept_of(release):
@@ -48,16 +33,9 @@ def kept_of(release):
 # ---- what goes bad in it: in the file, and in what the model keeps
 
 
-def change_rows(stage, store, statement, values):
-    with contextlib.closing(sqlite3.connect(stage.at(store))) as database:
-        if database.execute(statement, values).rowcount != 1:
-            raise Failed(f'{statement}: no row')
-        database.commit()
-
-
 def write_body(stage, store, kept, row, body):
     kept.held[row] = body
-    change_rows(stage, store, 'UPDATE held SET body = ? WHERE row = ?', (body, row))
+    change_row(stage, store, 'UPDATE held SET body = ? WHERE row = ?', (body, row))
 
 
 def change_body(stage, store, kept, chance):
@@ -82,20 +60,20 @@ def changed(rows):
 def change_object(stage, store, kept, chance):
     key = chance.choice(sorted(kept.objects))
     kept.objects[key] = record(changed(read_record(kept.objects[key])))
-    change_rows(stage, store, 'UPDATE object SET record = ? WHERE kind = ? AND key = ?',
+    change_row(stage, store, 'UPDATE object SET record = ? WHERE kind = ? AND key = ?',
                 (kept.objects[key], formats.KINDS.index(key[0]), key[1]))
 
 
 def delete_object(stage, store, kept, chance):
     key = chance.choice(sorted(kept.objects))
     del kept.objects[key]
-    change_rows(stage, store, 'DELETE FROM object WHERE kind = ? AND key = ?', (formats.KINDS.index(key[0]), key[1]))
+    change_row(stage, store, 'DELETE FROM object WHERE kind = ? AND key = ?', (formats.KINDS.index(key[0]), key[1]))
 
 
 def add_object(stage, store, kept, chance):
     kind, key = chance.choice(sorted(kept.objects))
     kept.objects[kind, b'new-' + key] = kept.objects[kind, key]
-    change_rows(stage, store, 'INSERT INTO object (kind, key, record) VALUES (?, ?, ?)',
+    change_row(stage, store, 'INSERT INTO object (kind, key, record) VALUES (?, ?, ?)',
                 (formats.KINDS.index(kind), b'new-' + key, kept.objects[kind, key]))
 
 
@@ -141,7 +119,7 @@ def check_store(stage, store, kept, seen):
 
 def check_release(stage, seed, seen):
     release, store = draw_release(seed), f'{seed}.db'
-    make_store(stage, store, release)
+    make(stage, store, release)
     kept = kept_of(release)
     check_store(stage, store, kept, seen)
     if kept.objects:
@@ -154,7 +132,7 @@ def check_release(stage, seed, seen):
 def test_wrong_names(stage):
     """What is said of a Full in which all fields, or tables, have other names."""
     for at, (name, release) in enumerate(misnamed_releases()):
-        make_store(stage, f'{at}.db', release)
+        make(stage, f'{at}.db', release)
         with case(name):
             check_store(stage, f'{at}.db', kept_of(release), defaultdict(set))
 
