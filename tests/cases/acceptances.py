@@ -1,5 +1,5 @@
 """`handover check` over random releases, and over stores that went bad, against the plain model: the word of each test, and how its line
-begins."""
+begins. (The words of the lines are those of transcripts/handing.txt, what they name and count is the model's.)"""
 import random
 from collections import defaultdict
 
@@ -11,8 +11,9 @@ from support.flawed import draw_release, misnamed_releases
 from support.stage import Failed, case, compare, text_of
 from support.stores import change_row, make_store
 
-# How many releases there are, each of a seed.
-RELEASES = 30
+# The seeds of the releases. The last ones are rare: in these the day of the chain's end has a later place, a revision is missing below the
+# one that is used, a place is missing on the day of the end, and a deposit before the last one has orphans.
+SEEDS = (*range(26), 305, 129, 68, 28)
 # The length of a log in which nothing is.
 EMPTY_LOG = 41
 TESTS = ('end', 'resends', 'gaps', 'parked', 'findings', 'orphans', 'counts', 'fields', 'names', 'bodies', 'tables')
@@ -91,8 +92,9 @@ def wanted_of(kept):
 
 
 def is_line(line, test):
-    begin = beginning(*test)
-    return line.startswith(begin) if ': ' in begin else line == begin
+    """Whether a line is that of a test: just this where it passes, else it goes on with what to do."""
+    _, passes, _ = test
+    return line == beginning(*test) if passes else line.startswith(beginning(*test))
 
 
 def compare_lines(tests, out):
@@ -140,7 +142,7 @@ def test_wrong_names(stage):
 def test_random_releases(stage):
     """What is said of random releases, and of their stores once these went bad."""
     seen = defaultdict(set)
-    for seed in range(RELEASES):
+    for seed in SEEDS:
         with case(f'seed {seed}'):
             check_release(stage, seed, seen)
     # So a word that is never told, or always, is found.

@@ -196,7 +196,7 @@ class Agent:
                 self.add(kind, day, changed, gone)
             case 'INCR':
                 self.add(kind, day, self.all_objects(), list(self.deleted))
-        if kind == 'FULL' or self.has('same day', 0.4):
+        if kind == 'FULL' or self.has('same day', 0.6):
             self.add_full(day)
 
     def make(self):
@@ -218,28 +218,55 @@ def draw_release(seed):
     return Agent(seed, names + chance.sample(FLAWS, chance.randint(0, 6))).make()
 
 
+def empty(contents, kind, *guides):
+    """Takes the objects of a kind away, and the fields of guides."""
+    contents.rows[kind] = []
+    for it in guides:
+        contents.leave_out(it)
+
+
+def add_elsewhere(contents):
+    """Adds names that look like those of guides to tables of other kinds."""
+    for name, shape in {'domain_ns': ('host', 'child', ['name']), 'fContactStatuses': ('domain', 'child', ['domainName'])}.items():
+        contents.rows[name], contents.shapes[name] = [], shape
+    for guide in (('host', None, 'clID'), ('domain', 'domainNs', 'hostName')):
+        contents.double(guide, lambda _: 'fRegistrant')
+
+
+def full_release(change):
+    """A release of one Full without a flaw but what is changed in its contents."""
+    agent = Agent(1)
+    contents = Contents(agent.registry, agent.all_objects())
+    change(contents)
+    header = {'id': 'F1', 'type': 'FULL', 'watermark': day_text(1), 'prevId': '', 'resend': 0}
+    body = contents.body(header, [], agent.counts())
+    return Release([row_of(','.join(map(str, header.values())), body)], [body])
+
+
+def each(change, *more):
+    """What is changed of each guide's field."""
+    return lambda contents: [change(contents, it, *more) for it in GUIDES]
+
+
+def renamed_tables(names, other_name):
+    return lambda contents: [contents.rename_table(it, other_name(it)) for it in names]
+
+
 def misnamed_releases():
-    """Releases of one Full each, in which the fields of all guides are left out, or have other names, or their tables have: each with what
-    is done to it."""
-    def of(misname):
-        agent = Agent(1)
-        contents = Contents(agent.registry, agent.all_objects())
-        misname(contents)
-        header = {'id': 'F1', 'type': 'FULL', 'watermark': day_text(1), 'prevId': '', 'resend': 0}
-        body = contents.body(header, [], agent.counts())
-        agent.release.list('F1,FULL,2024-03-01T00:00:00Z,,0', body)
-        agent.release.bodies.append(body)
-        return agent.release
-
-    def each(change, *more):
-        return of(lambda it: [change(it, guide, *more) for guide in GUIDES])
-
-    yield 'left out', each(Contents.leave_out)
-    for at, other_name in enumerate(FIELD_NAMES):
-        yield f'fields as {other_name("clID")}', each(Contents.rename, other_name)
-        yield f'fields as {other_name("clID")} too', each(Contents.double, other_name)
+    """Releases of one Full each, with what is changed in it: fields of all guides are left out, or have other names, or tables have."""
     children = sorted({it[1] for it in GUIDES if it[1]})
+    yield 'nothing', full_release(lambda _: None)
+    yield 'left out', full_release(each(Contents.leave_out))
+    for other_name in FIELD_NAMES:
+        yield f'fields as {other_name("clID")}', full_release(each(Contents.rename, other_name))
+        yield f'fields as {other_name("clID")} too', full_release(each(Contents.double, other_name))
     for other_name in TABLE_NAMES:
-        yield f'tables as {other_name("domainNs")}', of(lambda it: [it.rename_table(name, other_name(name)) for name in children])
+        yield f'tables as {other_name("domainNs")}', full_release(renamed_tables(children, other_name))
     for other in ('domainNameServers', 'fdomain_nameservers', 'domainNameServer'):
-        yield f'hosts in {other}', of(lambda it: it.rename_table('domainNs', other))
+        yield f'hosts in {other}', full_release(renamed_tables(['domainNs'], lambda _, other=other: other))
+    # A parent table may have any name.
+    yield 'parent tables', full_release(renamed_tables(KINDS, lambda it: f'my_{it}'))
+    yield 'names in tables of other kinds', full_release(add_elsewhere)
+    # What no object has, or leads to, needs no field.
+    yield 'no NNDN objects', full_release(lambda it: empty(it, 'nndn', ('nndn', None, 'idnTableId')))
+    yield 'no IDN tables', full_release(lambda it: empty(it, 'idn', ('nndn', None, 'idnTableId'), ('domain', None, 'idnTableId')))
