@@ -4,18 +4,16 @@ import random
 from collections import defaultdict
 
 from support import formats
-from support.acceptance import Kept, beginning, deposit_of, read_record, seen_of, tests_of, word_of
+from support.acceptance import Kept, beginning, deposit_of, is_accepted, read_record, seen_of, tests_of, word_of
 from support.files import read
 from support.first_store import record
 from support.flawed import draw_release, misnamed_releases
 from support.stage import Failed, case, compare, text_of
-from support.stores import change_row, make_store
+from support.stores import EMPTY_LOG, change_row, make_store
 
 # The seeds of the releases. The last ones are rare: in these the day of the chain's end has a later place, a revision is missing below the
 # one that is used, a place is missing on the day of the end, and a deposit before the last one has orphans.
 SEEDS = (*range(26), 305, 129, 68, 28)
-# The length of a log in which nothing is.
-EMPTY_LOG = 41
 TESTS = ('end', 'resends', 'gaps', 'parked', 'findings', 'orphans', 'counts', 'fields', 'names', 'bodies', 'tables')
 
 
@@ -111,8 +109,7 @@ def check_store(stage, store, kept, seen):
     got = stage.end(stage.begin(['check', '--store', store], 'handover'))
     compare('standard error', 'S1\n' if tests is None else '', got.err.decode())
     compare_lines(tests or [], got.out)
-    accepted = all(passes or name == 'gaps' for name, passes, _ in tests or [])
-    compare('status', '3' if tests is None else '0' if accepted else '1', f'{got.status}')
+    compare('status', '3' if tests is None else '0' if is_accepted(tests) else '1', f'{got.status}')
     if read(stage.at(store)) != before or len(read(stage.at(f'{store}-wal'))) > EMPTY_LOG:
         raise Failed('the store is changed')
     for name, passes, _ in tests or []:

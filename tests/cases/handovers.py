@@ -13,7 +13,7 @@ from support.formats import KINDS
 from support.outputs import NarrowPipe
 from support.stage import Failed, Wanted, case, compare
 from support.steps import Copy, FirstStore, Folder, Link, Statements, Text
-from support.stores import change_row, make_store, objects_of, run
+from support.stores import EMPTY_LOG, change_row, make_store, names_of_tables, objects_of, run
 
 SAMPLES = f'{TOP}/samples'
 HEADING = 'id,type,watermark,prevId,resend,sha256\n'
@@ -43,7 +43,7 @@ def rebuild_random(stage, seed):
     make_store(stage, 'a.db', release.manifest(), release.bodies, release.moment)
 
 
-# Registries, and the watermark at which each is: that of the chain's end.
+# How stores are rebuilt that are handed over.
 REBUILT = {
     'the first sample': lambda it: rebuild_sample(it, 'first/manifest.csv', 'first/deposits'),
     'the release without a deposit': lambda it: rebuild_sample(it, 'release/manifest.csv', 'release/deposits'),
@@ -130,10 +130,10 @@ def body_of(said, tables):
     return sealed(compact(header | {'contents': contents}), [(f'c{at}', it.rows) for at, it in enumerate(tables)])
 
 
-def store_of(stage, *contents, said=(F1, D2, D2_LATER)):
-    """A store that holds deposits with these tables: a Full, and then Differentials."""
-    bodies = [body_of(*it) for it in zip(said, contents)]
-    make_store(stage, 'a.db', (HEADING + ''.join(row_of(*it) for it in zip(said, bodies))).encode(), bodies)
+def store_of(stage, *contents):
+    """A store that holds a Full, and a Differential if there are two, with these tables."""
+    bodies = [body_of(*it) for it in zip((F1, D2), contents)]
+    make_store(stage, 'a.db', (HEADING + ''.join(row_of(*it) for it in zip((F1, D2), bodies))).encode(), bodies)
     compare('held', f'held {len(bodies)}', run(stage, 'report --store a.db status').decode().splitlines()[1])
 
 
@@ -220,14 +220,14 @@ def children(key, front, count):
     return [Table(f'{front}{at}', ('id', 'text'), f'{key},x\n'.encode(), role='child') for at in range(count)]
 
 
-def take_revision(stage, at, tables):
+def take_revision(stage, tables):
     """A later revision of the Differential is listed, and arrives."""
     body = body_of(D2_LATER, tables)
     stage.write('later.csv', (HEADING + row_of(D2_LATER, body)).encode())
-    Folder(f'later{at}').do(stage)
-    stage.write(f'later{at}/n3', body)
+    Folder('later').do(stage)
+    stage.write('later/n3', body)
     run(stage, 'amend --store a.db --manifest later.csv')
-    stage.check(f'take --store a.db later{at}', Wanted(0, f'{RECEIPTS}3,n3,A1,,D2,1,new,0\n'))
+    stage.check('take --store a.db later', Wanted(0, f'{RECEIPTS}3,n3,A1,,D2,1,new,0\n'))
 
 
 def check_limit(stage, refusal, first, second, later):
@@ -235,7 +235,7 @@ def check_limit(stage, refusal, first, second, later):
     store_of(stage, first, second)
     run(stage, BUNDLE, 'handover')
     os.rename(stage.at('out'), stage.at('done'))
-    take_revision(stage, 1, later)
+    take_revision(stage, later)
     check_refused(stage, refusal)
     return read(stage.at('done'))
 
@@ -285,35 +285,37 @@ def test_other_objects(stage):
 
 # ---- stores that are none, files that can't be written, and words
 
+# What stands in a store's place, the refusal, and whether it is opened as a database.
 OTHERS = (
-    ('a file that is no database', 'S1', Copy('a.db', 'no-database.txt')),
-    ('an empty file', 'S3', Text('a.db', '')),
-    ('another database', 'S3', Statements('a.db', 'CREATE TABLE note (id INTEGER PRIMARY KEY)')),
-    ('a store of version 1', 'S3', FirstStore('a.db', 'first.csv', (('n1', 'f1.bundle'),))),
-    ('a folder', 'E1 a.db', Folder('a.db')),
-    ('a link to nothing', 'S3', Link('a.db', 'absent.db')),
-    ('nothing', 'S3', Folder('more')),
+    ('a file that is no database', Copy('a.db', 'no-database.txt'), 'S1', True),
+    ('an empty file', Text('a.db', ''), 'S3', True),
+    ('another database', Statements('a.db', 'CREATE TABLE note (id INTEGER PRIMARY KEY)'), 'S3', True),
+    ('a store of version 1', FirstStore('a.db', 'first.csv', (('n1', 'f1.bundle'),)), 'S3', True),
+    ('a folder', Folder('a.db'), 'E1 a.db', False),
+    ('a link to nothing', Link('a.db', 'absent.db'), 'S3', False),
+    ('nothing', Folder('more'), 'S3', False),
 )
 
 
-def left_by(stage, made, program, line, wanted):
-    """What a command leaves in a folder where this was made: each file with its bytes, and logs without what is in them."""
+def check_no_store(stage, line, made, refusal, is_opened):
+    """Compares a refusal of what is no store, which stays as it is. An empty log stays beside a file, and an empty file is a database then."""
     made.do(stage)
-    stage.check(line, wanted, program=program)
-    left = {it: '' if os.path.isdir(stage.at(it)) else 'log' if it.endswith('-wal') else read(stage.at(it)) for it in names_in(stage.room.name)
-            if os.path.exists(stage.at(it))}
+    names, before = {*names_in(stage.room.name), *(['a.db-wal'] if is_opened else [])}, read(stage.at('a.db')) if is_opened else b''
+    stage.check(line, Wanted(3, '', f'{refusal}\n'), program='handover')
+    compare('files', '\n'.join(sorted(names)), '\n'.join(names_in(stage.room.name)))
+    if is_opened and len(read(stage.at('a.db-wal'))) > EMPTY_LOG or before and read(stage.at('a.db')) != before:
+        raise Failed('a file is changed')
+    if is_opened and not before and names_of_tables(stage, 'a.db'):
+        raise Failed('an empty file has got tables')
     clear(stage)
-    return left
 
 
 def test_no_stores(stage):
-    """What is no store: neither command leaves more than `restore report` does."""
-    for name, refusal, made in OTHERS:
-        wanted = Wanted(3, '', f'{refusal}\n')
-        with case(name):
-            left = left_by(stage, made, 'restore', 'report --store a.db status', wanted)
-            for line in (CHECK, BUNDLE):
-                compare(f'$ handover {line}\nfiles', f'{left}', f'{left_by(stage, made, "handover", line, wanted)}')
+    """What is no store is refused, and nothing is made but a log."""
+    for name, *given in OTHERS:
+        for line in (CHECK, BUNDLE):
+            with case(f'{name}: $ handover {line}'):
+                check_no_store(stage, line, *given)
 
 
 def test_a_store_that_is_in_use(stage):
@@ -360,10 +362,25 @@ def test_where_a_bundle_is_not_written(stage):
         stage.check(CHECK, Wanted(3, '', 'E1 -\n'), program='handover', out=full)
 
 
-# Words that are no command. `{}` is a byte that is no UTF-8.
-NO_WORDS = ('', 'check', 'check --store', 'check --store a.db more', 'check --store a.db --store a.db', 'check --store a.db --id G1', 'Check --store a.db',
-            'tables --store a.db out', 'bundle --store a.db', 'bundle --store a.db --id G1', 'bundle --store a.db out', 'bundle --id G1 out',
-            'bundle --store a.db --id G1 out more', 'bundle --store a.db --id G1 --sqlite out', '--store a.db check', 'bundle --store a.db --id G1 \udcff')
+# Words that are no command. The last one has a byte that is no UTF-8.
+NO_WORDS = (
+    '',
+    'check',
+    'check --store',
+    'check --store a.db more',
+    'check --store a.db --store a.db',
+    'check --store a.db --id G1',
+    'Check --store a.db',
+    '--store a.db check',
+    'rows --store a.db out',
+    'bundle --store a.db',
+    'bundle --store a.db --id G1',
+    'bundle --store a.db out',
+    'bundle --id G1 out',
+    'bundle --store a.db --id G1 out more',
+    'bundle --store a.db --id G1 --all out',
+    'bundle --store a.db --id G1 \udcff',
+)
 
 
 def test_words(stage):

@@ -4,6 +4,9 @@ import contextlib, os, sqlite3
 from support.formats import KINDS
 from support.stage import Failed
 
+# The length of a log in which nothing is.
+EMPTY_LOG = 41
+
 
 def run(stage, line, program='restore', statuses=(0,)):
     """Runs a program, which must end with one of these statuses. Gives its standard output."""
@@ -38,3 +41,9 @@ def objects_of(stage, store):
     """The records of a store's objects, by kind and key."""
     with contextlib.closing(sqlite3.connect(stage.at(store))) as database:
         return {(KINDS[kind], key): record for kind, key, record in database.execute('SELECT kind, key, record FROM object')}
+
+
+def names_of_tables(stage, store):
+    """The names of a database's tables, views and indexes."""
+    with contextlib.closing(sqlite3.connect(stage.at(store))) as database:
+        return [name for name, in database.execute('SELECT name FROM sqlite_master')]
