@@ -4,7 +4,7 @@ import random
 from collections import defaultdict
 
 from support import formats
-from support.acceptance import Kept, beginning, deposit_of, is_accepted, read_record, seen_of, tests_of, word_of
+from support.acceptance import Kept, beginning, is_accepted, is_bundle, read_record, seen_of, tests_of, word_of
 from support.files import read
 from support.first_store import record
 from support.flawed import draw_release, misnamed_releases
@@ -37,16 +37,27 @@ def write_body(stage, store, kept, row, body):
     change_row(stage, store, 'UPDATE held SET body = ? WHERE row = ?', (body, row))
 
 
+def some_row(kept, chance):
+    """A row whose body is held: mostly one of the chain."""
+    return chance.choice(kept.steps if chance.random() < 0.7 else sorted(kept.held))
+
+
 def change_body(stage, store, kept, chance):
     """A name in a held body is another one."""
-    row = chance.choice(sorted(kept.held))
+    row = some_row(kept, chance)
     write_body(stage, store, kept, row, kept.held[row].replace(b'.example', b'.exbmple', 1))
 
 
 def cut_body(stage, store, kept, chance):
     """A held body ends too early."""
-    row = chance.choice(sorted(kept.held))
+    row = some_row(kept, chance)
     write_body(stage, store, kept, row, kept.held[row][:-1])
+
+
+def split_field(stage, store, kept, chance):
+    """A row of a held body has one field more."""
+    row = some_row(kept, chance)
+    write_body(stage, store, kept, row, kept.held[row].replace(b'.example', b',example', 1))
 
 
 def changed(rows):
@@ -76,7 +87,7 @@ def add_object(stage, store, kept, chance):
                 (formats.KINDS.index(kind), b'new-' + key, kept.objects[kind, key]))
 
 
-SPOILINGS = (change_body, cut_body, change_object, delete_object, add_object)
+SPOILINGS = (change_body, cut_body, split_field, change_object, delete_object, add_object)
 
 
 # ---- the lines
@@ -84,7 +95,7 @@ SPOILINGS = (change_body, cut_body, change_object, delete_object, add_object)
 
 def wanted_of(kept):
     """The tests with whether they pass and what is said; or none where the body of the chain's last deposit is no bundle."""
-    if kept.steps and deposit_of(kept.held[kept.steps[-1]]) is None:
+    if kept.steps and not is_bundle(kept.held[kept.steps[-1]]):
         return None
     return list(tests_of(seen_of(kept)))
 

@@ -77,6 +77,14 @@ def envelope_of(body):
     return formats.json_of(dict(formats.sections(body))[b'envelope.json'])
 
 
+def is_bundle(body):
+    """Whether a body is a bundle, whatever its rows are."""
+    try:
+        return envelope_of(body) is not None
+    except formats.Refused:
+        return False
+
+
 def deposit_of(body):
     """The deposit that a body is, if it is one."""
     try:
@@ -225,7 +233,8 @@ def made_by(deposits):
 
 
 def seen_of(kept):
-    """What is seen of a store. (The body of the chain's last deposit is a bundle.)"""
+    """What is seen of a store where the body of the chain's last deposit is a bundle. (One that went bad may have rows of which no deposit
+    is read. It still declares tables.)"""
     bodies = [kept.held[it] for it in kept.steps]
     read = [deposit_of(it) for it in bodies]
     deposits = [it for it in read if it]
@@ -239,7 +248,7 @@ def seen_of(kept):
         findings=findings(kept.objects, end[0], counts) if end else [],
         objects={kind: count_of(kept.objects, kind) for kind in KINDS},
         counts=counts,
-        tables=[it for body, deposit in zip(bodies, read) if deposit for it in envelope_of(body).get('contents', [])],
+        tables=[it for body in filter(is_bundle, bodies) for it in envelope_of(body).get('contents', [])],
         orphans=sum(it.orphans for it in deposits),
         spoiled=[at for at, body in sorted(kept.held.items()) if hashlib.sha256(body).hexdigest() != kept.listed[at][4]],
         is_rebuilt=len(deposits) == len(read) and made_by(deposits) == kept.objects)
