@@ -140,7 +140,7 @@ def check_release(stage, seed, seen):
 
 
 def test_wrong_names(stage):
-    """What is said of a Full in which all fields, or tables, have other names."""
+    """What is said of a Full whose fields or tables have other names, or aren't there."""
     for at, (name, release) in enumerate(misnamed_releases()):
         make(stage, f'{at}.db', release)
         with case(name):
@@ -153,6 +153,6 @@ def test_random_releases(stage):
     for seed in SEEDS:
         with case(f'seed {seed}'):
             check_release(stage, seed, seen)
-    # So a word that is never told, or always, is found.
+    # (The releases are such that each test passes in some of them, and not in others.)
     compare('words', text_of(f'{it} {"told" if it == "gaps" else "wrong"} ok' for it in TESTS),
             text_of(' '.join([it, *sorted(seen[it], reverse=True)]) for it in TESTS))

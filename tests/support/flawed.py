@@ -28,7 +28,7 @@ class Release:
     bodies: list = field(default_factory=list)
     moment: str | None = None
 
-    def list(self, said, body):
+    def add_row(self, said, body):
         self.rows.append(row_of(said, body))
 
     def manifest(self):
@@ -169,7 +169,7 @@ class Agent:
             return
         if is_late and self.has('damaged', 0.3):
             body = body[:-1]
-        self.release.list(said, body)
+        self.release.add_row(said, body)
         if not (is_awaited or is_late and self.has('lost', 0.4)):
             self.release.bodies.append(body)
 
